@@ -1,0 +1,12 @@
+//! Terms, limits, the trait that both engines meet, and the definitions (in `specs/`) of what a session
+//! must write, said without any engine: ISO/IEC 13211-1:1995, clauses 6 to 9, in this project's profile.
+#![tactic(auto)]
+
+pub mod engines;
+pub mod limit;
+pub mod terms;
+
+pub use engines::{AddFault, Ball, Ending, Engine, Indicator, Pause, Program, StartFault};
+pub use limit::Limits;
+pub use std::alloc::AllocError as NoMemory;
+pub use terms::{Term, copied, well_formed};
