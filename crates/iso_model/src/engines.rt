@@ -1,5 +1,6 @@
 //! The trait that both engines meet, and what they answer.
 use super::terms::Term;
+use std::alloc::AllocError;
 
 /// A procedure's name and number of arguments (7.1.6.6).
 #[derive(Debug, Drop)]
@@ -71,6 +72,12 @@ pub enum AddFault {
     /// The clause is refused with this error.
     Refused(Ball),
     NoMemory,
+}
+
+impl From<AllocError> for AddFault {
+    fn from(_refused: AllocError) -> AddFault {
+        AddFault::NoMemory
+    }
 }
 
 /// A search for the solutions of goals over a list of clauses, event by event.

@@ -1,0 +1,86 @@
+//! The error terms that the engine raises (7.12.2), each with the indicator of the procedure that raised it (own).
+use iso_model::{Ball, Term};
+use std::alloc::{AllocError, Global};
+
+/// An atom of this text.
+pub fn atom(alloc: Global, text: &str) -> Result<Term, AllocError> {
+    Ok(Term::Atom(String::from_str(alloc, text)?))
+}
+
+/// A compound of this name and these two arguments.
+pub fn compound2(alloc: Global, name: &str, first: Term, second: Term) -> Result<Term, AllocError> {
+    let mut arguments = Vec::with_capacity(alloc, 2)?;
+    arguments.push(first)?;
+    arguments.push(second)?;
+    Ok(Term::Compound(String::from_str(alloc, name)?, arguments))
+}
+
+/// The indicator as a term, `Name/Arity` (7.1.6.6).
+pub fn indicator(alloc: Global, name: &str, arity: usize) -> Result<Term, AllocError>
+    requires { arity < 256 }
+{
+    let name = atom(alloc, name)?;
+    compound2(alloc, "/", name, Term::Int(arity as i64))
+}
+
+/// `error(what, where)`, as a ball.
+fn error(alloc: Global, what: Term, place: Term) -> Result<Ball, AllocError> {
+    let term = compound2(alloc, "error", what, place)?;
+    Ok(Ball { term })
+}
+
+/// `instantiation_error`, raised by this procedure (7.12.2 a).
+pub fn instantiation(alloc: Global, name: &str, arity: usize) -> Result<Ball, AllocError>
+    requires { arity < 256 }
+{
+    let what = atom(alloc, "instantiation_error")?;
+    let place = indicator(alloc, name, arity)?;
+    error(alloc, what, place)
+}
+
+/// `type_error(callable, culprit)`, raised by this procedure (7.12.2 b).
+pub fn not_callable(alloc: Global, culprit: Term, name: &str, arity: usize) -> Result<Ball, AllocError>
+    requires { arity < 256 }
+{
+    let kind = atom(alloc, "callable")?;
+    let what = compound2(alloc, "type_error", kind, culprit)?;
+    let place = indicator(alloc, name, arity)?;
+    error(alloc, what, place)
+}
+
+/// `existence_error(procedure, PI)`, raised by the unknown procedure itself (7.7.7, 7.12.2 d).
+pub fn unknown_procedure(alloc: Global, name: &str, arity: usize) -> Result<Ball, AllocError>
+    requires { arity < 256 }
+{
+    let kind = atom(alloc, "procedure")?;
+    let culprit = indicator(alloc, name, arity)?;
+    let what = compound2(alloc, "existence_error", kind, culprit)?;
+    let place = indicator(alloc, name, arity)?;
+    error(alloc, what, place)
+}
+
+/// `permission_error(modify, static_procedure, PI)`, raised by `consult/1` (7.12.2 e).
+pub fn static_procedure(alloc: Global, name: &str, arity: usize) -> Result<Ball, AllocError>
+    requires { arity < 256 }
+{
+    let mut arguments = Vec::with_capacity(alloc, 3)?;
+    let operation = atom(alloc, "modify")?;
+    arguments.push(operation)?;
+    let kind = atom(alloc, "static_procedure")?;
+    arguments.push(kind)?;
+    let culprit = indicator(alloc, name, arity)?;
+    arguments.push(culprit)?;
+    let what = Term::Compound(String::from_str(alloc, "permission_error")?, arguments);
+    let place = indicator(alloc, "consult", 1)?;
+    error(alloc, what, place)
+}
+
+/// `representation_error(max_variables)`, raised by `consult/1` (own limit; 7.12.2 f).
+pub fn too_many_variables(alloc: Global) -> Result<Ball, AllocError> {
+    let mut arguments = Vec::with_capacity(alloc, 1)?;
+    let limit = atom(alloc, "max_variables")?;
+    arguments.push(limit)?;
+    let what = Term::Compound(String::from_str(alloc, "representation_error")?, arguments);
+    let place = indicator(alloc, "consult", 1)?;
+    error(alloc, what, place)
+}

@@ -1,0 +1,13 @@
+//! The plain engine: goals linked over copied bodies, depth first and from left to right
+//! (ISO/IEC 13211-1:1995, 7.7), over any store of terms.
+#![tactic(auto)]
+
+pub mod balls;
+pub mod bodies;
+pub mod clauses;
+pub mod entries;
+pub mod moves;
+pub mod plain;
+pub mod procedures;
+
+pub use plain::Plain;
