@@ -119,11 +119,11 @@ weight_within s (More u us) x o =
 
 -- and more, unless the term is that variable
 pub never_inside : (s : Subst) (x : ℕ) (u : Tree) → occurs x u ≡ true → u ≢ Variable x → s x ≢ apply s u
-never_inside s x (Variable n) o d = absurd (d (ap Variable (eqb-true n x o)))
-never_inside s x (Integer z) o d = cc
-never_inside s x (Name a) o d = cc
+never_inside s x (Variable n) o d e = absurd (d (ap Variable (eqb-true n x o)))
+never_inside s x (Integer z) o d e = cc
+never_inside s x (Name a) o d e = cc
 never_inside s x (Apply f ts) o d e = let inner = weight_within s ts x o in let w = ap weight e in absurd (omega arith)
-never_inside s x End o d = cc
+never_inside s x End o d e = cc
 never_inside s x (More u us) o d e =
     let w = ap weight e in
     elim (or_cases (occurs x u) (occurs x us) o) [
