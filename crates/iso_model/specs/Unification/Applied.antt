@@ -1,6 +1,6 @@
 -- How substitutions act on terms: one after another, on the variables that occur, and on how heavy a term is.
-use Rattle.std.proofs.Common.{◌≡◌, ◌≢◌, ℕ, ◌+◌, ◌≤◌, ◌<◌, ◌==◌, Bool, true, false, ◌||◌, ◌⊎◌, inl, inr, refl, sym, ap, ap₂, ◌∙◌, subst, cond, arith, if◌then◌else◌}
-use Rattle.std.proofs.lemmas.Bool.{eq-eqb, eqb-true, ne_eqb, or_cases, or_left, or_right, cases_eq, cases_Bool, false≢true, false_from_ne_true}
+use Rattle.std.proofs.Common.{◌≡◌, ◌≢◌, ℕ, ◌+◌, ◌≤◌, true, false, inl, inr, refl, sym, ap, ap₂, ◌∙◌, subst, arith}
+use Rattle.std.proofs.lemmas.Bool.{eq-eqb, eqb-true, ne_eqb, or_cases, or_left, or_right, cases_eq, false≢true}
 use Rattle.iso_model.specs.Trees.{Tree, Variable, Integer, Name, Apply, End, More}
 use Rattle.iso_model.specs.Variables.{occurs}
 use Rattle.iso_model.specs.Substitutions.{Subst, apply, compose, single}
@@ -65,8 +65,9 @@ occurs_from s (Apply f ts) y o = occurs_from s ts y o
 occurs_from s End y o = cc
 occurs_from s (More u us) y o =
     elim (or_cases (occurs y (apply s u)) (occurs y (apply s us)) o) [
-        inl here ↦ (let f = occurs_from s u y here in (f.0, or_left (occurs f.0 u) (occurs f.0 us) f.1, f.2))
-      | inr there ↦ (let f = occurs_from s us y there in (f.0, or_right (occurs f.0 u) (occurs f.0 us) f.1, f.2)) ]
+      | inl here ↦ (let f = occurs_from s u y here in (f.0, or_left (occurs f.0 u) (occurs f.0 us) f.1, f.2))
+      | inr there ↦ (let f = occurs_from s us y there in (f.0, or_right (occurs f.0 u) (occurs f.0 us) f.1, f.2))
+    ]
 
 pub occurs_in : (s : Subst) (u : Tree) (x y : ℕ) → occurs x u ≡ true → occurs y (s x) ≡ true → occurs y (apply s u) ≡ true
 occurs_in s (Variable n) x y o h = subst (λ k. occurs y (s k) ≡ true) (sym (eqb-true n x o)) h
@@ -76,8 +77,9 @@ occurs_in s (Apply f ts) x y o h = occurs_in s ts x y o h
 occurs_in s End x y o h = cc
 occurs_in s (More u us) x y o h =
     elim (or_cases (occurs x u) (occurs x us) o) [
-        inl here ↦ or_left (occurs y (apply s u)) (occurs y (apply s us)) (occurs_in s u x y here h)
-      | inr there ↦ or_right (occurs y (apply s u)) (occurs y (apply s us)) (occurs_in s us x y there h) ]
+      | inl here ↦ or_left (occurs y (apply s u)) (occurs y (apply s us)) (occurs_in s u x y here h)
+      | inr there ↦ or_right (occurs y (apply s u)) (occurs y (apply s us)) (occurs_in s us x y there h)
+    ]
 
 -- binding one variable
 pub single_at : (x n : ℕ) (r : Tree) → n ≡ x → single x r n ≡ r
@@ -114,8 +116,9 @@ weight_within s (Apply f ts) x o = let inner = weight_within s ts x o in omega a
 weight_within s End x o = cc
 weight_within s (More u us) x o =
     elim (or_cases (occurs x u) (occurs x us) o) [
-        inl here ↦ (let inner = weight_within s u x here in omega arith)
-      | inr there ↦ (let inner = weight_within s us x there in omega arith) ]
+      | inl here ↦ (let inner = weight_within s u x here in omega arith)
+      | inr there ↦ (let inner = weight_within s us x there in omega arith)
+    ]
 
 -- and more, unless the term is that variable
 pub never_inside : (s : Subst) (x : ℕ) (u : Tree) → occurs x u ≡ true → u ≢ Variable x → s x ≢ apply s u
@@ -127,5 +130,6 @@ never_inside s x End o d e = cc
 never_inside s x (More u us) o d e =
     let w = ap weight e in
     elim (or_cases (occurs x u) (occurs x us) o) [
-        inl here ↦ (let inner = weight_within s u x here in absurd (omega arith))
-      | inr there ↦ (let inner = weight_within s us x there in absurd (omega arith)) ]
+      | inl here ↦ (let inner = weight_within s u x here in absurd (omega arith))
+      | inr there ↦ (let inner = weight_within s us x there in absurd (omega arith))
+    ]

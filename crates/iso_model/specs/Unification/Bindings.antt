@@ -1,9 +1,9 @@
 -- What a unifier binds: only variables of its two terms, and to terms of those variables that it leaves alone.
-use Rattle.std.proofs.Common.{◌≡◌, ◌≢◌, ℕ, ◌≤◌, Bool, true, false, ◌==◌, ℤ, pos, inl, inr, refl, sym, ap, ◌∙◌, subst, arith, if◌then◌else◌, le_antisymm}
-use Rattle.std.proofs.lemmas.Bool.{eq-eqb, ne_eqb, cases_eq, false≢true, cases_Bool}
-use Rattle.iso_model.specs.Trees.{Tree, Variable, Integer, Name, Apply, End, More}
+use Rattle.std.proofs.Common.{◌≡◌, ◌≢◌, ℕ, true, false, ◌==◌, pos, inl, inr, refl, sym, ap, ◌∙◌, subst, if◌then◌else◌, le_antisymm}
+use Rattle.std.proofs.lemmas.Bool.{eq-eqb, ne_eqb, cases_eq, false≢true}
+use Rattle.iso_model.specs.Trees.{Tree, Variable, Integer}
 use Rattle.iso_model.specs.Variables.{occurs}
-use Rattle.iso_model.specs.Substitutions.{Subst, apply, compose, single, IsSubstitution}
+use Rattle.iso_model.specs.Substitutions.{Subst, apply}
 use Rattle.iso_model.specs.Unifiers.{Unifier}
 use Rattle.iso_model.specs.Unification.Applied.{apply_same, alone_at}
 use Rattle.iso_model.specs.Unification.Composed.{variable_from, unifier_twice}
@@ -34,19 +34,21 @@ unifier_leaves {s = s} h x no_a no_b =
     let v = variable_from (but s x (Variable x)) (s x) x e in
     let there : but s x (Variable x) v.0 ≡ Variable x = sym (ap (apply (but s x (Variable x))) v.1) ∙ e in
     elim (cases_eq v.0 x) [
-        inl same ↦ v.1 ∙ ap Variable same
+      | inl same ↦ v.1 ∙ ap Variable same
       | inr other ↦ (let back = sym (but_other s x v.0 (Variable x) other) ∙ there in
-          absurd (other (le_antisymm (h.least x v.0 v.1) (h.least v.0 x back)))) ]
+          absurd (other (le_antisymm (h.least x v.0 v.1) (h.least v.0 x back))))
+    ]
 
 -- and stands in no other variable's value
 pub unifier_brings : {a b : Tree} {s : Subst} → Unifier a b s → (x n : ℕ) → occurs x a ≡ false → occurs x b ≡ false → occurs x (s n) ≡ true → n ≡ x
 unifier_brings {s = s} h x n no_a no_b o =
     elim (cases_eq n x) [
-        inl same ↦ same
+      | inl same ↦ same
       | inr other ↦ (let fixed = but_absorbs x (Integer (pos 0)) h no_a no_b n ∙ but_other s x n (Integer (pos 0)) other in
           let alone = alone_at (but s x (Integer (pos 0))) (s n) fixed x o in
           let value = but_at s x x (Integer (pos 0)) refl in
-          cc) ]
+          cc)
+    ]
 
 -- a variable of an image is left alone
 pub unifier_fixes : {a b : Tree} {s : Subst} → Unifier a b s → (n x : ℕ) → occurs x (s n) ≡ true → s x ≡ Variable x

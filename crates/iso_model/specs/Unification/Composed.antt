@@ -1,10 +1,10 @@
 -- How the unifiers of terms come from those of their parts, and which terms are never equal.
-use Rattle.std.proofs.Common.{◌≡◌, ◌≢◌, ℕ, ◌≤◌, Bool, true, false, List, inl, inr, refl, sym, ap, ap₂, ◌∙◌, subst, arith}
+use Rattle.std.proofs.Common.{◌≡◌, ◌≢◌, ℕ, ◌≤◌, true, false, List, inl, inr, refl, sym, ap, ap₂, ◌∙◌, arith}
 use Rattle.iso_model.specs.Trees.{Tree, Variable, Integer, Name, Apply, End, More}
 use Rattle.iso_model.specs.Variables.{occurs}
 use Rattle.iso_model.specs.Substitutions.{Subst, apply, compose, single}
 use Rattle.iso_model.specs.Unifiers.{Unifier, NeverEqual}
-use Rattle.iso_model.specs.Unification.Applied.{apply_apply, apply_none, apply_absorbs, apply_single_absent, single_at, single_other, single_absorbed, never_inside}
+use Rattle.iso_model.specs.Unification.Applied.{apply_apply, apply_absorbs, apply_single_absent, single_at, single_other, single_absorbed, never_inside}
 use Rattle.std.proofs.lemmas.Bool.{cases_eq}
 
 -- a term whose image is a variable is one
@@ -43,8 +43,9 @@ unifier_bound x r absent old = record {
   equal = single_at x x r refl ∙ sym (apply_single_absent x r r absent);
   most_general = λ t e. single_absorbed x r t e;
   least = λ n m e. elim (cases_eq n x) [
-      inl same ↦ (let is : r ≡ Variable m = sym (single_at x n r same) ∙ e in let below = old m is in omega arith)
-    | inr other ↦ (let is : Variable n ≡ Variable m = sym (single_other x n r other) ∙ e in let same : n ≡ m = cc in omega arith) ];
+    | inl same ↦ (let is : r ≡ Variable m = sym (single_at x n r same) ∙ e in let below = old m is in omega arith)
+    | inr other ↦ (let is : Variable n ≡ Variable m = sym (single_other x n r other) ∙ e in let same : n ≡ m = cc in omega arith)
+  ];
 }
 
 -- first the first members, and then the other members under their unifier

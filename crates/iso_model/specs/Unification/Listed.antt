@@ -1,8 +1,8 @@
 -- Lists of variables that a term's variables are among.
-use Rattle.std.proofs.Common.{◌≡◌, ◌≢◌, ℕ, ◌+◌, ◌≤◌, ◌<◌, ◌==◌, Bool, true, false, ◌||◌, List, [], ◌∷◌, ◌++◌, length, inl, inr, refl, sym, ap, ◌∙◌, subst, cond, arith, if◌then◌else◌}
-use Rattle.std.proofs.lemmas.Bool.{eq-eqb, eqb-true, ne_eqb, or_cases, or_left, or_right, or_from, or_parts, cases_eq, cases_Bool, false≢true, cases_cond}
+use Rattle.std.proofs.Common.{◌≡◌, ◌≢◌, ℕ, ◌<◌, ◌==◌, true, false, List, [], ◌∷◌, ◌++◌, length, inl, inr, refl, sym, ◌∙◌, subst, cond, arith, if◌then◌else◌}
+use Rattle.std.proofs.lemmas.Bool.{eq-eqb, eqb-true, ne_eqb, or_cases, or_left, or_right, cases_Bool, false≢true}
 use Rattle.iso_model.specs.Trees.{Tree, Variable, Integer, Name, Apply, End, More}
-use Rattle.iso_model.specs.Variables.{occurs, is_in, distinct_from, variables}
+use Rattle.iso_model.specs.Variables.{occurs, is_in, distinct_from}
 
 -- all variables of the term are in the list
 abbrev pub Covers : List ℕ → Tree → Type 0
@@ -12,8 +12,9 @@ pub is_in-append : (x : ℕ) (vs ws : List ℕ) → is_in x vs ≡ true → is_i
 is_in-append x [] ws h = absurd (false≢true h)
 is_in-append x (v ∷ vs) ws h =
     elim (or_cases (v == x) (is_in x vs) h) [
-        inl here ↦ or_left (v == x) (is_in x (vs ++ ws)) here
-      | inr there ↦ or_right (v == x) (is_in x (vs ++ ws)) (is_in-append x vs ws there) ]
+      | inl here ↦ or_left (v == x) (is_in x (vs ++ ws)) here
+      | inr there ↦ or_right (v == x) (is_in x (vs ++ ws)) (is_in-append x vs ws there)
+    ]
 
 pub is_in-last : (x : ℕ) (vs : List ℕ) → is_in x (vs ++ x ∷ []) ≡ true
 is_in-last x [] = or_left (x == x) false (eq-eqb x x refl)
@@ -34,16 +35,18 @@ pub distinct_covers : (seen : List ℕ) (t : Tree) → Covers (distinct_from see
 distinct_covers seen (Variable n) x o =
     let e = eqb-true n x o in
     elim (cases_Bool (is_in n seen)) [
-        inl old ↦ rw old (subst (λ k. is_in k seen ≡ true) e old)
-      | inr new ↦ rw new (subst (λ k. is_in k (seen ++ n ∷ []) ≡ true) e (is_in-last n seen)) ]
+      | inl old ↦ rw old (subst (λ k. is_in k seen ≡ true) e old)
+      | inr new ↦ rw new (subst (λ k. is_in k (seen ++ n ∷ []) ≡ true) e (is_in-last n seen))
+    ]
 distinct_covers seen (Integer z) x o = absurd (false≢true o)
 distinct_covers seen (Name a) x o = absurd (false≢true o)
 distinct_covers seen (Apply f ts) x o = distinct_covers seen ts x o
 distinct_covers seen End x o = absurd (false≢true o)
 distinct_covers seen (More t ts) x o =
     elim (or_cases (occurs x t) (occurs x ts) o) [
-        inl here ↦ distinct_keeps (distinct_from seen t) ts x (distinct_covers seen t x here)
-      | inr there ↦ distinct_covers (distinct_from seen t) ts x there ]
+      | inl here ↦ distinct_keeps (distinct_from seen t) ts x (distinct_covers seen t x here)
+      | inr there ↦ distinct_covers (distinct_from seen t) ts x there
+    ]
 
 -- the list without the first x in it
 pub without : ℕ → List ℕ → List ℕ
@@ -55,18 +58,21 @@ unfolding without
 length-without x [] h = absurd (false≢true h)
 length-without x (v ∷ vs) h =
     elim (cases_Bool (v == x)) [
-        inl here ↦ rw here (omega arith)
+      | inl here ↦ rw here (omega arith)
       | inr other ↦ (let there : is_in x vs ≡ true = rw other at h in
           let shorter = length-without x vs there in
-          rw other (omega arith)) ]
+          rw other (omega arith))
+    ]
 
 pub is_in-without : (x y : ℕ) (vs : List ℕ) → is_in y vs ≡ true → y ≢ x → is_in y (without x vs) ≡ true
 unfolding without
 is_in-without x y [] h d = absurd (false≢true h)
 is_in-without x y (v ∷ vs) h d =
     elim (or_cases (v == y) (is_in y vs) h) [
-        inl here ↦ (let e = eqb-true v y here in
+      | inl here ↦ (let e = eqb-true v y here in
           rw (ne_eqb v x (λ s. d (sym e ∙ s))) (or_left (v == y) (is_in y (without x vs)) here))
       | inr there ↦ elim (cases_Bool (v == x)) [
-            inl gone ↦ rw gone there
-          | inr stays ↦ rw stays (or_right (v == y) (is_in y (without x vs)) (is_in-without x y vs there d)) ] ]
+        | inl gone ↦ rw gone there
+        | inr stays ↦ rw stays (or_right (v == y) (is_in y (without x vs)) (is_in-without x y vs there d))
+      ]
+    ]
