@@ -5,3 +5,4 @@ pub mod Variables
 pub mod Substitutions
 pub mod Unifiers
 pub mod Unification
+pub mod UnifierLaws

@@ -80,7 +80,7 @@ alone_or_not s x (Apply f ts) e = inr (λ h. cc)
 alone_or_not s x End e = inr (λ h. cc)
 alone_or_not s x (More t ts) e = inr (λ h. cc)
 
-binds_or_not : (s : Subst) (vs : List ℕ) → ((x : ℕ) → is_in x vs ≡ true → s x ≡ Variable x) ⊎ ((x : ℕ) × (is_in x vs ≡ true) × (s x ≢ Variable x))
+pub binds_or_not : (s : Subst) (vs : List ℕ) → ((x : ℕ) → is_in x vs ≡ true → s x ≡ Variable x) ⊎ ((x : ℕ) × (is_in x vs ≡ true) × (s x ≢ Variable x))
 binds_or_not s [] = inl (λ x h. absurd (false≢true h))
 binds_or_not s (v ∷ vs) =
     elim (alone_or_not s v (s v) refl) [
@@ -95,7 +95,7 @@ binds_or_not s (v ∷ vs) =
     ]
 
 -- under a unifier that binds x, the terms over a list of variables are over the list without x
-shrunk_covers : {a b : Tree} {s : Subst} → Unifier a b s → (vs : List ℕ) → Covers vs a → Covers vs b → (x : ℕ) → s x ≢ Variable x → (c : Tree) → Covers vs c → Covers (without x vs) (apply s c)
+pub shrunk_covers : {a b : Tree} {s : Subst} → Unifier a b s → (vs : List ℕ) → Covers vs a → Covers vs b → (x : ℕ) → s x ≢ Variable x → (c : Tree) → Covers vs c → Covers (without x vs) (apply s c)
 shrunk_covers {a} {b} {s} h vs in_a in_b x binds c in_c y o =
     let f = occurs_from s c y o in
     let alone = unifier_fixes h f.0 y f.2 in
