@@ -6,3 +6,6 @@ pub mod Substitutions
 pub mod Unifiers
 pub mod Unification
 pub mod UnifierLaws
+pub mod Bodies
+pub mod Databases
+pub mod Errors
