@@ -9,3 +9,8 @@ pub mod UnifierLaws
 pub mod Bodies
 pub mod Databases
 pub mod Errors
+pub mod Copies
+pub mod Additions
+pub mod Walker
+pub mod Runs
+pub mod Engines

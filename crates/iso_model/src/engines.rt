@@ -1,93 +1,49 @@
-//! The trait that both engines meet, and what they answer.
+//! The trait that both engines meet.
+ghost use Rattle.std.specs.Prelude.{◌≡◌, ◌≢◌, ℕ, true};
+ghost use Rattle.iso_model.specs.Trees.{arities_fit};
+ghost use Rattle.iso_model.specs.Terms.{term_of};
+ghost use Rattle.iso_model.specs.Additions.{addition};
+ghost use Rattle.iso_model.specs.Walker.{State};
+ghost use Rattle.iso_model.specs.Engines.{Phase, Ready, Spent, Starts, Pauses, StaysSpent, Consults, FallsAtEvent};
+
+use super::pauses::{AddFault, Pause, StartFault};
 use super::terms::Term;
-use std::alloc::AllocError;
 
-/// A procedure's name and number of arguments (7.1.6.6).
-#[derive(Debug, Drop)]
-pub struct Indicator {
-    pub name: String,
-    pub arity: usize,
-}
-
-/// A thrown term (7.8.10).
-#[derive(Debug, Drop)]
-pub struct Ball {
-    pub term: Term,
-}
-
-/// How a run ends.
-#[derive(Debug, Drop)]
-pub enum Ending {
-    /// There is no further solution.
-    NoMore,
-    /// A step was needed and none was left.
-    Budget,
-    /// A ball that nothing caught.
-    Uncaught(Ball),
-    /// The goal asked for the end, with this status.
-    Halt(u8),
-}
-
-/// Clauses in the order of their text.
-#[derive(Debug, Drop)]
-pub struct Program {
-    pub clauses: Vec<Term>,
-}
-
-/// What a call of `resume` came to.
-#[derive(Debug, Drop)]
-pub enum Pause {
-    /// The values of the goal's variables 0, 1, .. in a solution.
-    Answer(Vec<Term>),
-    /// There is no further solution.
-    NoMore,
-    /// A step was needed and none was left.
-    Budget,
-    /// A ball that nothing caught.
-    Uncaught(Ball),
-    /// The goal asked for the end, with this status.
-    Halt(u8),
-    /// The cells (or nodes) are used up; the engine is spent.
-    HeapFull,
-    /// The frames are used up; the engine is spent.
-    FramesFull,
-    /// Memory was refused; the engine is spent.
-    NoMemory,
-    /// Bytes to be written before the next `resume`.
-    Output(Vec<u8>),
-    /// The engine ended by a limit before, and does nothing more.
-    Spent,
-}
-
-/// Why a goal was not started; the engine is spent then.
-#[derive(Clone, Copy, Debug, PartialEq, Eq)]
-pub enum StartFault {
-    HeapFull,
-    NoMemory,
-}
-
-/// Why a clause was not added; the clauses are as they were.
-#[derive(Debug, Drop)]
-pub enum AddFault {
-    /// The clause is refused with this error.
-    Refused(Ball),
-    NoMemory,
-}
-
-impl From<AllocError> for AddFault {
-    fn from(_refused: AllocError) -> AddFault {
-        AddFault::NoMemory
-    }
-}
-
-/// A search for the solutions of goals over a list of clauses, event by event.
+/// A search for the solutions of goals over a list of clauses, event by event (7.7). An engine stands for a state of the
+/// standard's search; what it answers are that state's events and its ending.
 pub trait Engine {
-    /// Begins the search for the goal's solutions; its variables are numbered 0, 1, .. by first occurrence.
-    fn start(&mut self, goal: &Term, budget: u32) -> Result<(), StartFault>;
+    /// The states of the search that the engine may be in: what it doesn't keep is free.
+    ghost stands_for: { Self → State → Type 0 };
+    /// Whether a goal may be started, a run goes on, or a limit was met.
+    ghost phase: { Self → Phase };
+    /// A number that falls at each event.
+    ghost left: { Self → ℕ };
 
-    /// Goes on to the next event of the search, or to its end.
-    fn resume(&mut self) -> Pause;
+    /// Begins the search for the solutions of the goal, whose variables are numbered 0, 1, .. by first occurrence; the rest
+    /// of a run is dropped. The errors: the cells are used up, or memory was refused; the engine is spent then.
+    fn start(&mut self, goal: &Term, budget: u32) -> Result<(), StartFault>
+        requires ready { phase self.old ≡ Ready }
+        requires stands { (s : State) × stands_for self.old s }
+        requires fits { arities_fit (term_of goal.now) ≡ true }
+        ensures starts { (s : State) → stands_for self.old s
+            → Starts (term_of goal.now) budget s result (stands_for self.new) (phase self.new) };
 
-    /// Adds a clause at the end of its procedure.
-    fn consult(&mut self, clause: &Term) -> Result<(), AddFault>;
+    /// Goes on to the next event of the search, or to its end. An idle engine answers NoMore, a spent one Spent.
+    fn resume(&mut self) -> Pause
+        requires { (s : State) × stands_for self.old s }
+        ensures pauses { (s : State) → stands_for self.old s → phase self.old ≢ Spent
+            → Pauses s result (stands_for self.new) (phase self.new) }
+        ensures spent { (s : State) → stands_for self.old s → phase self.old ≡ Spent
+            → StaysSpent s result (stands_for self.new) (phase self.new) }
+        ensures left { FallsAtEvent result (left self.old) (left self.new) };
+
+    /// Adds a clause at the end of its procedure; the rest of a run is dropped. The errors: the clause is refused with its
+    /// error, or memory was refused; the database is as it was then.
+    fn consult(&mut self, clause: &Term) -> Result<(), AddFault>
+        requires ready { phase self.old ≡ Ready }
+        requires stands { (s : State) × stands_for self.old s }
+        requires fits { arities_fit (term_of clause.now) ≡ true }
+        ensures consults { (s : State) → stands_for self.old s
+            → Consults (addition (term_of clause.now) s.world.database) s result (stands_for self.new) }
+        ensures ready { phase self.new ≡ Ready };
 }

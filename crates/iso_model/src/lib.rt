@@ -5,9 +5,11 @@
 pub mod engines;
 pub mod laws_of_unifiers;
 pub mod limit;
+pub mod pauses;
 pub mod terms;
 
-pub use engines::{AddFault, Ball, Ending, Engine, Indicator, Pause, Program, StartFault};
+pub use engines::Engine;
 pub use limit::Limits;
+pub use pauses::{AddFault, Ball, Ending, Indicator, Pause, Program, StartFault};
 pub use std::alloc::AllocError as NoMemory;
 pub use terms::{Term, copied, well_formed};
