@@ -1,1 +1,3 @@
 pub mod RowLemmas
+pub mod TokenLemmas
+pub mod LexemeLemmas

@@ -1,2 +1,6 @@
 pub mod Trees
 pub mod Terms
+pub mod Characters
+pub mod Token
+pub mod Lexemes
+pub mod Tokens
