@@ -1,3 +1,5 @@
 pub mod RowLemmas
 pub mod UnifierLemmas
 pub mod Cost
+pub mod TokenLemmas
+pub mod LexemeLemmas

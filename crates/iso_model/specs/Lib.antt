@@ -14,3 +14,7 @@ pub mod Additions
 pub mod Walker
 pub mod Runs
 pub mod Engines
+pub mod Characters
+pub mod Token
+pub mod Lexemes
+pub mod Tokens
