@@ -1,1 +1,3 @@
 pub mod RowLemmas
+mod ReadingRows
+mod ReadingSound

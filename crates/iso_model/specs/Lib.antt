@@ -1,2 +1,5 @@
 pub mod Trees
 pub mod Terms
+pub mod Operators
+pub mod Grammar
+pub mod Reading
