@@ -1,3 +1,5 @@
 pub mod RowLemmas
 mod ReadingRows
 mod ReadingSound
+pub mod TokenLemmas
+pub mod LexemeLemmas

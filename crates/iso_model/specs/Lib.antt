@@ -3,3 +3,7 @@ pub mod Terms
 pub mod Operators
 pub mod Grammar
 pub mod Reading
+pub mod Characters
+pub mod Token
+pub mod Lexemes
+pub mod Tokens

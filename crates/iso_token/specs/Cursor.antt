@@ -1,0 +1,12 @@
+-- The tokens that a `Tokens` has left.
+use Rattle.std.specs.Prelude.{◌+◌, ◌^◌, ◌<◌, false, List, length}
+use Rattle.iso_model.specs.Token.{Shown}
+use Rattle.iso_model.specs.Tokens.{tokens_from}
+use Rattle.iso_token.specs.declared.cursor.Tokens.TheInside.{Inside}
+
+abbrev pub tokens_left : Inside → List Shown
+tokens_left t = tokens_from 0 t.start false t.rest.now
+
+-- each place of the text that is left has a number
+abbrev pub IsInRange : Inside → Type 0
+IsInRange t = t.start + length t.rest.now < 2 ^ 64

@@ -1,0 +1,3 @@
+pub mod Classes
+pub mod Shows
+pub mod Cursor

@@ -1,0 +1,67 @@
+//! A cursor over the tokens of a text, which cuts each as it is reached.
+ghost use Rattle.std.specs.Prelude.{◌≡◌, ◌≤◌, ◌<◌, ◌+◌, [], ◌∷◌, length, take, drop, MatchOption};
+ghost use Rattle.iso_model.specs.Lexemes.{lexeme};
+ghost use Rattle.iso_model.specs.Tokens.{tokens};
+ghost use Rattle.iso_token.specs.Shows.{shown};
+
+use crate::kinds::{Kind, Token};
+use crate::lexemes::first_lexeme;
+use std::marker::Model;
+
+/// The tokens of a text (ISO/IEC 13211-1:1995, 6.4), in order.
+#[derive(Debug, Drop)]
+pub struct Tokens<'t> {
+    rest: &'t str,
+    start: usize,
+}
+
+impl<'t> Model for Tokens<'t> {
+    ghost use Rattle.std.specs.Prelude.{List};
+    ghost use Rattle.iso_model.specs.Token.{Shown};
+
+    ghost Value = { List Shown };
+
+    ghost use Rattle.iso_token.specs.Cursor.{tokens_left, IsInRange};
+
+    ghost view = { tokens_left };
+
+    ghost invariant = { IsInRange };
+}
+
+impl<'t> Tokens<'t> {
+    /// All tokens of the text.
+    pub fn new(text: &'t str) -> Tokens<'t>
+        ensures { result ≡ tokens text.now }
+    {
+        Tokens {
+            rest: text,
+            start: 0,
+        }
+    }
+
+    /// The next token; none at the end. It takes no memory.
+    pub fn next(&mut self) -> Option<Token<'t>>
+        ensures { MatchOption result ((self.old ≡ []) × (self.new ≡ [])) (λ t. self.old ≡ shown t ∷ self.new) }
+    {
+        let mut after_layout = false;
+        while !self.rest.is_empty() {
+            let lexeme = first_lexeme(self.rest.as_bytes());
+            let start = self.start;
+            let (text, rest) = self.rest.split_at(lexeme.len);
+            self.rest = rest;
+            self.start += lexeme.len;
+            match lexeme.kind {
+                Some(kind) => {
+                    return Some(Token {
+                        kind,
+                        text,
+                        start,
+                        after_layout,
+                    });
+                }
+                None => after_layout = true,
+            }
+        }
+        None
+    }
+}
