@@ -1,5 +1,7 @@
 pub mod RowLemmas
 pub mod UnifierLemmas
 pub mod Cost
+mod ReadingRows
+mod ReadingSound
 pub mod TokenLemmas
 pub mod LexemeLemmas

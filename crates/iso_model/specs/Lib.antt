@@ -14,6 +14,9 @@ pub mod Additions
 pub mod Walker
 pub mod Runs
 pub mod Engines
+pub mod Operators
+pub mod Grammar
+pub mod Reading
 pub mod Characters
 pub mod Token
 pub mod Lexemes

@@ -1,0 +1,86 @@
+//! A clause: the tokens before the next end token, and the term that they are (6.2).
+use crate::input::Input;
+use crate::reader::read_term;
+use iso_model::Term;
+use iso_token::{Kind, Token, Tokens};
+use std::alloc::{AllocError, AllocFailed, Global};
+
+/// The greatest priority of a clause or query (6.2).
+const CLAUSE_PRIORITY: u32 = 1200;
+
+/// How deep a term may be nested; the term itself has depth 0 (own limit).
+const MAX_DEPTH: usize = 4096;
+
+/// A term that was read, with the names of its variables.
+#[derive(Debug, Drop)]
+pub struct Read {
+    /// The term; its variables are numbered 0, 1, .. by first occurrence, each `_` its own.
+    pub term: Term,
+    /// Every named variable but `_`, in the order of first occurrence, with its number.
+    pub names: Vec<(String, u64)>,
+}
+
+/// Why no term was read.
+#[derive(Clone, Copy, Debug, PartialEq, Eq)]
+pub enum ReadFault {
+    /// The grammar has no term for the tokens before the next end token, or there is no end token.
+    Syntax,
+    /// Memory was refused; the tokens are not to be used any more.
+    NoMemory,
+}
+
+impl From<AllocError> for ReadFault {
+    fn from(_fault: AllocError) -> ReadFault {
+        ReadFault::NoMemory
+    }
+}
+
+impl<T: Drop> From<AllocFailed<T>> for ReadFault {
+    fn from(_fault: AllocFailed<T>) -> ReadFault {
+        ReadFault::NoMemory
+    }
+}
+
+/// The tokens from this one to the next end token, which is taken too. None where there is none.
+fn clause_from<'t>(
+    alloc: Global,
+    first: Token<'t>,
+    tokens: &mut Tokens<'t>,
+) -> Result<Option<Vec<Token<'t>>>, AllocError> {
+    let mut clause = Vec::new(alloc);
+    let mut token = first;
+    while token.kind != Kind::End {
+        clause.push(token)?;
+        let Some(next) = tokens.next() else {
+            return Ok(None);
+        };
+        token = next;
+    }
+    Ok(Some(clause))
+}
+
+/// The term that all of these tokens are.
+fn whole(alloc: Global, clause: &[Token<'_>]) -> Result<Read, ReadFault> {
+    let mut input = Input::new(alloc, clause);
+    let node = read_term(alloc, MAX_DEPTH + 1, CLAUSE_PRIORITY, &mut input)?;
+    if !input.is_empty() {
+        return Err(ReadFault::Syntax);
+    }
+    let names = input.into_names(alloc)?;
+    Ok(Read {
+        term: node.term,
+        names,
+    })
+}
+
+/// Reads the next clause (6.2): the term that the tokens before the next end token are, at priority 1200.
+/// `None` where no token is left. After `Syntax` the tokens stand behind the next end token or at the end.
+pub fn read_clause(alloc: Global, tokens: &mut Tokens<'_>) -> Result<Option<Read>, ReadFault> {
+    let Some(first) = tokens.next() else {
+        return Ok(None);
+    };
+    let Some(clause) = clause_from(alloc, first, tokens)? else {
+        return Err(ReadFault::Syntax);
+    };
+    Ok(Some(whole(alloc, &clause)?))
+}

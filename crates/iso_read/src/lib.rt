@@ -1,0 +1,11 @@
+//! The reader: from the tokens of a text to its clauses' terms, by the grammar of ISO/IEC 13211-1:1995,
+//! 6.2 and 6.3, in this project's profile.
+#![tactic(auto)]
+
+mod clause;
+mod input;
+mod node;
+mod operators;
+mod reader;
+
+pub use clause::{Read, ReadFault, read_clause};
