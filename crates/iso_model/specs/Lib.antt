@@ -21,3 +21,8 @@ pub mod Characters
 pub mod Token
 pub mod Lexemes
 pub mod Tokens
+pub mod Items
+pub mod Texts
+pub mod Lines
+pub mod RunLaws
+pub mod Sessions

@@ -1,0 +1,93 @@
+-- The text of a term in the canonical style: functional notation and lists, atoms in quotes where they need them (ISO/IEC 13211-1:1995,
+-- 7.10.5 and 8.14.2; layout, and how variables are named, are own).
+use Rattle.std.specs.Prelude.{ℕ, ◌+◌, List, [], ◌∷◌, ◌++◌, Bool, true, false, ◌&&◌, ◌||◌, ◌==◌, not, nat_lt, Option, Some, None, codes, if◌then◌else◌, unwrap_or, position, length}
+use Rattle.std.specs.Fmt.{decimal, signed_decimal, digits}
+use Rattle.std.specs.List.{list_all}
+use Rattle.std.specs.Str.{bytes_eq}
+use Rattle.iso_model.specs.Trees.{Tree, Variable, Integer, Name, Apply, End, More}
+use Rattle.iso_model.specs.Characters.{is_small, is_alphanumeric, is_graphic}
+
+-- a text that begins with `/*`, as a comment does
+abbrev pub opens_comment : List ℕ → Bool
+opens_comment (a ∷ b ∷ z) = a == 47 && b == 42
+opens_comment _ = false
+
+-- An atom of letters, digits and `_` that begins with a small letter, or of graphic characters alone, stands bare (6.4.2).
+abbrev pub is_bare_run : List ℕ → Bool
+is_bare_run [] = false
+is_bare_run (b ∷ z) = if is_small b then list_all is_alphanumeric z
+    else (list_all is_graphic (b ∷ z) && (not (bytes_eq (b ∷ z) (codes ".")) && not (opens_comment (b ∷ z))))
+
+abbrev pub is_bare : List ℕ → Bool
+is_bare a = bytes_eq a (codes "[]") || (bytes_eq a (codes "{}") || (bytes_eq a (codes "!") || (bytes_eq a (codes ";") || is_bare_run a)))
+
+-- A byte of a quoted atom (6.4.2.1): a backslash and a quote behind a backslash, control characters as escapes, any other as it is.
+abbrev pub escaped : ℕ → List ℕ
+escaped b = 92 ∷ b ∷ []
+
+abbrev pub quoted_byte : ℕ → List ℕ
+quoted_byte b =
+    if b == 92 || b == 39 then escaped b
+    else (if b == 7 then escaped 97
+    else (if b == 8 then escaped 98
+    else (if b == 9 then escaped 116
+    else (if b == 10 then escaped 110
+    else (if b == 11 then escaped 118
+    else (if b == 12 then escaped 102
+    else (if b == 13 then escaped 114
+    else (if nat_lt b 32 || b == 127 then 92 ∷ 120 ∷ (digits 16 false b ++ 92 ∷ [])
+    else b ∷ []))))))))
+
+abbrev pub quoted_bytes : List ℕ → List ℕ
+quoted_bytes [] = []
+quoted_bytes (b ∷ z) = quoted_byte b ++ quoted_bytes z
+
+-- an atom, or a compound's name
+abbrev pub name_text : List ℕ → List ℕ
+name_text a = if is_bare a then a else 39 ∷ (quoted_bytes a ++ 39 ∷ [])
+
+-- a variable: `_k`, where it is the k-th of these
+abbrev pub variable_text : List ℕ → ℕ → List ℕ
+variable_text seen n = 95 ∷ decimal (unwrap_or (position (λ m. m == n) seen) (length seen) + 1)
+
+-- A term's text; what it adds behind a list's elements where it is the list's tail; and as further arguments, each behind a comma.
+pub record Written : Type 0 where
+  pub whole : List ℕ
+  pub tail : List ℕ
+  pub others : List ℕ
+
+-- a term that is no list's cell: as a tail it stands behind a bar
+abbrev pub plain : List ℕ → Written
+plain text = record { whole = text; tail = 124 ∷ (text ++ 93 ∷ []); others = [] }
+
+abbrev pub atom_written : List ℕ → Written
+atom_written a = if bytes_eq a (codes "[]") then record { whole = name_text a; tail = 93 ∷ []; others = [] } else plain (name_text a)
+
+-- `f(a,..)`
+abbrev pub compound_written : List ℕ → Written → List ℕ → Written
+compound_written f first others = plain (name_text f ++ 40 ∷ (first.whole ++ (others ++ 41 ∷ [])))
+
+-- `[a,..]`
+abbrev pub list_written : Written → Written → Written
+list_written first rest = record { whole = 91 ∷ (first.whole ++ rest.tail); tail = 44 ∷ (first.whole ++ rest.tail); others = [] }
+
+-- a compound of two arguments: a list's cell or any other
+abbrev pub pair_written : List ℕ → Written → Written → Written
+pair_written f first second =
+    if bytes_eq f (codes ".") then list_written first second else compound_written f first (44 ∷ second.whole)
+
+-- what is written of the term, where the variables of its line are these by first occurrence
+abbrev pub written : List ℕ → Tree → Written
+written seen (Variable n) = plain (variable_text seen n)
+written seen (Integer z) = plain (signed_decimal z)
+written seen (Name a) = atom_written a
+written seen (Apply f End) = plain (name_text f)
+written seen (Apply f (More t (More u End))) = pair_written f (written seen t) (written seen u)
+written seen (Apply f (More t ts)) = compound_written f (written seen t) (written seen ts).others
+written seen (Apply f t) = plain (name_text f)
+written seen End = record { whole = []; tail = []; others = [] }
+written seen (More t ts) = record { whole = []; tail = []; others = 44 ∷ ((written seen t).whole ++ (written seen ts).others) }
+
+-- the text of a term in a line whose variables are these by first occurrence
+abbrev pub text_in : List ℕ → Tree → List ℕ
+text_in seen t = (written seen t).whole
