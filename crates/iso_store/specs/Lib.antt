@@ -1,0 +1,2 @@
+pub mod Presents
+pub mod Lists

@@ -1,0 +1,16 @@
+//! Terms as words of a store: bindings in place, seen as one substitution that marks bring back
+//! (unification, ISO/IEC 13211-1:1995, 7.3; backtracking, 7.7).
+#![tactic(auto)]
+
+mod marks;
+mod meetings;
+mod nodes;
+mod shapes;
+mod stores;
+#[cfg(test)]
+mod tests;
+
+pub use marks::NodesMark;
+pub use nodes::Nodes;
+pub use shapes::{Shape, StoreFault};
+pub use stores::Store;
