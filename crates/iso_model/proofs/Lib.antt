@@ -1,3 +1,4 @@
 pub mod RowLemmas
 pub mod UnifierLemmas
 pub mod Cost
+pub mod SortLemmas
