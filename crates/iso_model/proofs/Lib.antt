@@ -5,3 +5,4 @@ mod ReadingRows
 mod ReadingSound
 pub mod TokenLemmas
 pub mod LexemeLemmas
+pub mod SortLemmas

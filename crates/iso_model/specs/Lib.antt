@@ -1,5 +1,6 @@
 pub mod Trees
 pub mod Terms
+pub mod Sorts
 pub mod Sizes
 pub mod Variables
 pub mod Substitutions

@@ -20,6 +20,10 @@ apply s (More t ts) = More (apply s t) (apply s ts)
 abbrev pub compose : Subst → Subst → Subst
 compose s t n = apply t (s n)
 
+-- t goes on from s: it makes of each variable what it makes of the term that s gives to the variable
+abbrev pub Extends : Subst → Subst → Type 0
+Extends s t = (n : ℕ) → apply t (s n) ≡ t n
+
 -- only variable x is bound, to t
 abbrev pub single : ℕ → Tree → Subst
 single x t n = if n == x then t else Variable n

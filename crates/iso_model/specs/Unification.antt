@@ -6,6 +6,7 @@ pub mod Listed
 pub mod Unique
 pub mod Exists
 use Rattle.std.specs.Prelude.{◌≡◌, ◌⊎◌, Option, Some, None}
+use Rattle.std.specs.Option.{option_map}
 use mathlib.Core.Logic.{inl, inr}
 use Rattle.iso_model.specs.Trees.{Tree}
 use Rattle.iso_model.specs.Substitutions.{Subst, apply, compose}
@@ -21,11 +22,6 @@ answer_of (inr never) = None
 unfoldable pub unifier_of : Tree → Tree → Option Subst
 unifier_of a b = answer_of (exists_or_not a b)
 
--- r, and then what is found
-abbrev pub composed : Subst → Option Subst → Option Subst
-composed r (Some s) = Some (compose r s)
-composed r None = None
-
 -- unifying two terms under the substitution r: the unifier of what they are under r, composed with r
 abbrev pub unify_under : Subst → Tree → Tree → Option Subst
-unify_under r a b = composed r (unifier_of (apply r a) (apply r b))
+unify_under r a b = option_map (compose r) (unifier_of (apply r a) (apply r b))

@@ -72,7 +72,7 @@ with_any x End = with_term x End (λ m e. cc)
 with_any x (More t ts) = with_term x (More t ts) (λ m e. cc)
 
 -- a substitution leaves all listed variables alone, or binds one of them
-alone_or_not : (s : Subst) (x : ℕ) (r : Tree) → s x ≡ r → (s x ≡ Variable x) ⊎ (s x ≢ Variable x)
+pub alone_or_not : (s : Subst) (x : ℕ) (r : Tree) → s x ≡ r → (s x ≡ Variable x) ⊎ (s x ≢ Variable x)
 alone_or_not s x (Variable y) e = elim (cases_eq y x) [ inl same ↦ inl (e ∙ ap Variable same) | inr other ↦ inr (λ h. other (let k : y ≡ x = cc in k)) ]
 alone_or_not s x (Integer z) e = inr (λ h. cc)
 alone_or_not s x (Name a) e = inr (λ h. cc)
