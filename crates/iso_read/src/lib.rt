@@ -9,3 +9,6 @@ mod operators;
 mod reader;
 
 pub use clause::{Read, ReadFault, read_clause};
+
+#[cfg(test)]
+mod tests;
