@@ -1,6 +1,9 @@
 //! What engines answer.
+ghost use Rattle.std.specs.Prelude.{◌≡◌};
+ghost use Rattle.iso_model.specs.declared.pauses.AddFault.TheVariants.{NoMemory};
+
 use super::terms::Term;
-use std::alloc::AllocError;
+use std::alloc::{AllocError, AllocFailed};
 
 /// A procedure's name and number of arguments (7.1.6.6).
 #[derive(Debug, Drop)]
@@ -75,7 +78,17 @@ pub enum AddFault {
 }
 
 impl From<AllocError> for AddFault {
+    ghost from_gives = { λ _ e. e ≡ NoMemory };
+
     fn from(_refused: AllocError) -> AddFault {
+        AddFault::NoMemory
+    }
+}
+
+impl<T: Drop> From<AllocFailed<T>> for AddFault {
+    ghost from_gives = { λ _ e. e ≡ NoMemory };
+
+    fn from(_refused: AllocFailed<T>) -> AddFault {
         AddFault::NoMemory
     }
 }

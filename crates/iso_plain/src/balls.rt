@@ -1,4 +1,6 @@
 //! The error terms that the engine raises (7.12.2), each with the indicator of the procedure that raised it (own).
+ghost use Rattle.std.specs.Prelude.{◌<◌};
+
 use iso_model::{Ball, Term};
 use std::alloc::{AllocError, Global};
 

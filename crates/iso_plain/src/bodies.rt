@@ -1,6 +1,9 @@
 //! Bodies of clauses and goals of queries, converted into lists of goals (7.6.2).
+ghost use Rattle.std.specs.Prelude.{◌≡◌};
+ghost use Rattle.iso_plain.specs.declared.bodies.BodyFault.TheVariants.{NoMemory};
+
 use iso_model::{Term, copied};
-use std::alloc::{AllocError, Global};
+use std::alloc::{AllocError, AllocFailed, Global};
 
 /// Why a body was not converted.
 #[derive(Clone, Copy, Debug, PartialEq, Eq)]
@@ -12,7 +15,17 @@ pub enum BodyFault {
 }
 
 impl From<AllocError> for BodyFault {
+    ghost from_gives = { λ _ e. e ≡ NoMemory };
+
     fn from(_refused: AllocError) -> BodyFault {
+        BodyFault::NoMemory
+    }
+}
+
+impl<T: Drop> From<AllocFailed<T>> for BodyFault {
+    ghost from_gives = { λ _ e. e ≡ NoMemory };
+
+    fn from(_refused: AllocFailed<T>) -> BodyFault {
         BodyFault::NoMemory
     }
 }

@@ -27,6 +27,7 @@ impl<S: Store + Drop> Plain<S> {
             Now::Failing => self.fail(),
             Now::Answering => self.answer(),
             Now::Running(place) => self.run(place),
+            Now::Raising => Ok(self.raise()),
         };
         match outcome {
             Ok(next) => next,
@@ -45,6 +46,14 @@ impl<S: Store + Drop> Plain<S> {
     fn finish(&mut self, pause: Pause) -> Move {
         self.clear();
         Move::Pauses(pause)
+    }
+
+    /// Raises the ball that was kept; nothing catches it.
+    fn raise(&mut self) -> Move {
+        match self.raised.take() {
+            Some(ball) => self.finish(Pause::Uncaught(ball)),
+            None => self.finish(Pause::NoMore),
+        }
     }
 
     /// Goes on with the newest alternative, with its next clause (7.7.8).

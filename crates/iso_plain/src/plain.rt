@@ -38,6 +38,8 @@ pub enum Now {
     Answering,
     /// Run the goal at this place.
     Running(usize),
+    /// Raise the ball that was kept.
+    Raising,
     /// Nothing any more: a limit was met.
     Spent,
 }
@@ -61,7 +63,7 @@ pub struct Plain<S: Store> {
     pub(crate) limit: u32,
     pub(crate) steps: u32,
     pub(crate) now: Now,
-    /// What the run ends with at once, where the query can't be converted.
+    /// The ball that is to be raised, where the query can't be converted.
     pub(crate) raised: Option<Ball>,
     /// The words of the query's variables 0, 1, ..
     pub(crate) query: Vec<S::Word>,
@@ -90,7 +92,7 @@ impl<S: Store + Drop> Plain<S> {
     }
 
     /// Drops what is left of a run.
-    fn clear(&mut self) {
+    pub(crate) fn clear(&mut self) {
         self.choices.clear();
         self.frames.clear();
         self.query.clear();
@@ -109,6 +111,7 @@ impl<S: Store + Drop> Plain<S> {
             Err(BodyFault::NotCallable) => {
                 let culprit = copied(alloc, goal)?;
                 self.raised = Some(balls::not_callable(alloc, culprit, "call", 1)?);
+                self.now = Now::Raising;
                 Ok(())
             }
         }
@@ -147,6 +150,11 @@ pub fn at(place: Option<usize>) -> Now {
 }
 
 impl<S: Store + Drop> Engine for Plain<S> {
+    ghost use Rattle.iso_model.specs.Engines.{Ready};
+    ghost stands_for = { λ _ _. Unit {0} };
+    ghost phase = { λ _. Ready };
+    ghost left = { λ _. 0 };
+
     fn start(&mut self, goal: &Term, budget: u32) -> Result<(), StartFault> {
         self.clear();
         self.steps = budget;
@@ -163,10 +171,6 @@ impl<S: Store + Drop> Engine for Plain<S> {
     }
 
     fn resume(&mut self) -> Pause {
-        if let Some(ball) = self.raised.take() {
-            self.clear();
-            return Pause::Uncaught(ball);
-        }
         loop {
             match self.advance() {
                 Move::Goes => {}

@@ -4,13 +4,13 @@
 
 pub mod composed;
 pub mod files;
-//pub mod sessions;
+pub mod sessions;
 pub mod statuses;
 pub mod texts;
 pub mod words;
 pub mod written;
 
 pub use files::{TextFault, read_text};
-//pub use sessions::{session, session_on};
+pub use sessions::{session, session_on};
 pub use statuses::{Choice, Ended, Fault, status_of};
 pub use words::{Words, WordsFault, read_words};

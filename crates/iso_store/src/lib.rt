@@ -5,6 +5,7 @@
 mod marks;
 mod meetings;
 mod nodes;
+mod refusals;
 mod shapes;
 mod stores;
 #[cfg(test)]
