@@ -2,3 +2,5 @@ pub mod RowLemmas
 pub mod UnifierLemmas
 pub mod Cost
 pub mod SortLemmas
+pub mod CopyLemmas
+pub mod MeaningLemmas

@@ -7,3 +7,7 @@ pub mod Substitutions
 pub mod Unifiers
 pub mod Unification
 pub mod UnifierLaws
+pub mod Clashes
+pub mod Copies
+pub mod CopyLaws
+pub mod TermLaws

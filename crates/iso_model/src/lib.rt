@@ -3,6 +3,8 @@
 #![tactic(auto)]
 
 pub mod engines;
+pub mod laws_of_copies;
+pub mod laws_of_terms;
 pub mod laws_of_unifiers;
 pub mod limit;
 pub mod terms;
