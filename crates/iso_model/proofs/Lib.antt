@@ -4,3 +4,4 @@ pub mod Cost
 pub mod SortLemmas
 pub mod CopyLemmas
 pub mod MeaningLemmas
+pub mod OrderLemmas

@@ -11,3 +11,5 @@ pub mod Clashes
 pub mod Copies
 pub mod CopyLaws
 pub mod TermLaws
+pub mod Order
+pub mod OrderLaws

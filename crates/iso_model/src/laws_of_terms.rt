@@ -1,5 +1,5 @@
 //! Laws of which trees are terms: each is the contract of a function that does nothing.
-ghost use Rattle.iso_model.specs.TermLaws.{MeaningIsTerm, ImageIsTerm, UnifierGivesTerms, CopyIsTerm, NoUnifierAtClash};
+ghost use Rattle.iso_model.specs.TermLaws.{MeaningIsTerm, ImageIsTerm, UnifierGivesTerms, UnifyingGivesTerms, CopyIsTerm, NoUnifierAtClash};
 
 /// What a Rust term means is a term exactly where each compound in it has 1 to 255 arguments.
 pub fn meaning_is_term()
@@ -14,6 +14,11 @@ pub fn image_is_term()
 /// The unifier of two terms gives terms to all variables.
 pub fn unifier_gives_terms()
     ensures { UnifierGivesTerms }
+{}
+
+/// Unifying terms under a substitution that gives terms gives terms.
+pub fn unifying_gives_terms()
+    ensures { UnifyingGivesTerms }
 {}
 
 /// A copy of a term is a term.

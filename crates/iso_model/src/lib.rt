@@ -4,6 +4,7 @@
 
 pub mod engines;
 pub mod laws_of_copies;
+pub mod laws_of_order;
 pub mod laws_of_terms;
 pub mod laws_of_unifiers;
 pub mod limit;
