@@ -6,3 +6,6 @@ mod ReadingSound
 pub mod TokenLemmas
 pub mod LexemeLemmas
 pub mod SortLemmas
+pub mod CopyLemmas
+pub mod MeaningLemmas
+pub mod OrderLemmas

@@ -1,11 +1,19 @@
 -- Substitutions keep terms and lists of terms, and so do unifiers.
-use Rattle.std.proofs.Common.{◌≡◌, ℕ, ◌+◌, true, ◌&&◌, nat_le, ◌⊎◌, inl, inr, refl, ap, ◌∙◌}
-use Rattle.std.proofs.lemmas.Bool.{and_parts, and_from, or_left, or_right, eq-eqb, false≢true, cases_eq}
-use Rattle.iso_model.specs.Trees.{Tree, Variable, Integer, Name, Apply, End, More, count}
+use Rattle.std.proofs.Common.{IfSome, false, List, sym, not, ◌==◌, ◌≡◌, ℕ, ◌+◌, true, ◌&&◌, nat_le, ◌⊎◌, inl, inr, refl, ap, ◌∙◌}
+use Rattle.std.proofs.lemmas.Bool.{and_parts, and_from, or_left, or_right, eq-eqb, false≢true, cases_eq, not_from_true, not-true, both_ways}
+use Rattle.std.proofs.lemmas.Bool.Decides.{Decides-int_eq}
+use Rattle.std.proofs.lemmas.Slice.Eq.{bytes_eq-Decides}
+use Rattle.std.specs.Ordering.{int_eq}
+use Rattle.std.specs.Str.{bytes_eq}
+use Rattle.iso_model.specs.Trees.{Tree, Variable, Integer, Name, Apply, End, More, count, arities_fit}
 use Rattle.iso_model.specs.Sorts.{is_term, is_row}
-use Rattle.iso_model.specs.Variables.{occurs}
+use Rattle.iso_model.specs.Variables.{occurs, variables}
+use Rattle.iso_model.specs.Copies.{place_of, copy_from}
+use Rattle.iso_model.specs.Clashes.{clash}
+use Rattle.iso_model.specs.Unification.{unify_under}
+use Rattle.iso_model.proofs.UnifierLemmas.{kept}
 use Rattle.iso_model.specs.Substitutions.{Subst, apply, single}
-use Rattle.iso_model.specs.Unifiers.{Unifier}
+use Rattle.iso_model.specs.Unifiers.{Unifier, NeverEqual}
 use Rattle.iso_model.specs.Unification.Applied.{single_at, single_other}
 use Rattle.iso_model.specs.Unification.Unique.{unifier_unique}
 use Rattle.iso_model.specs.Unification.Exists.{Outcome, Solved, already, bound, swapped, inside, in_turn, solved_unifier, exists_or_not}
@@ -88,3 +96,61 @@ unifier_gives_terms {a} {b} {s} h left right = found_gives a b s h (exists_or_no
 
 pub unifier_of_rows : {a b : Tree} {s : Subst} → Unifier a b s → is_row a ≡ true → is_row b ≡ true → (n : ℕ) → is_term (s n) ≡ true
 unifier_of_rows {a} {b} {s} h left right = found_gives a b s h (exists_or_not a b) (inr (left, right))
+
+pub copy_is_term : (t : Tree) (n : ℕ) → is_term t ≡ true → is_term (copy_from t n) ≡ true
+copy_is_term t n h = term_applied (λ x. Variable (n + place_of x (variables t))) t h (λ x o. refl)
+
+row_of_arguments : (f : List ℕ) (ts : Tree) → is_term (Apply f ts) ≡ true → is_row ts ≡ true
+row_of_arguments f ts h =
+    (and_parts (nat_le (count ts) 255) (is_row ts) (and_parts (nat_le 1 (count ts)) (nat_le (count ts) 255 && is_row ts) h).1).1
+
+same_tops : (f g : List ℕ) (m n : ℕ) → f ≡ g → m ≡ n → not (bytes_eq f g && m == n) ≡ false
+same_tops f g m n e d = not_from_true (bytes_eq f g && m == n) (and_from (bytes_eq f g) (m == n) ((bytes_eq-Decides f g).1 e) (eq-eqb m n d))
+
+pub clash_never : (a b : Tree) → is_term a ≡ true → is_term b ≡ true → clash a b ≡ true → NeverEqual a b
+clash_never (Variable n) u p q h t e = absurd (false≢true h)
+clash_never a (Variable n) p q h t e = absurd (false≢true h)
+clash_never (Integer y) (Integer z) p q h t e =
+    let same : y ≡ z = cc in
+    both_ways (int_eq y z) (not-true (int_eq y z) h) ((Decides-int_eq y z).1 same)
+clash_never (Name a) (Name b) p q h t e =
+    let same : a ≡ b = cc in
+    both_ways (bytes_eq a b) (not-true (bytes_eq a b) h) ((bytes_eq-Decides a b).1 same)
+clash_never (Apply f ts) (Apply g us) p q h t e =
+    let same : f ≡ g = cc in
+    let inner : apply t ts ≡ apply t us = cc in
+    let long = sym (count-apply t ts (row_of_arguments f ts p)) ∙ ap count inner ∙ count-apply t us (row_of_arguments g us q) in
+    false≢true (sym (same_tops f g (count ts) (count us) same long) ∙ h)
+clash_never End End p q h t e = absurd (false≢true h)
+clash_never (More a c) (More b d) p q h t e = absurd (false≢true h)
+clash_never _ _ p q h t e = cc
+
+pub unifying_gives_terms : (r : Subst) (a b : Tree) → is_term a ≡ true → is_term b ≡ true → ((n : ℕ) → is_term (r n) ≡ true) → IfSome (unify_under r a b) (λ u. (n : ℕ) → is_term (u n) ≡ true)
+unifying_gives_terms r a b left right given =
+    kept r a b (λ u. (n : ℕ) → is_term (u n) ≡ true) (λ s h n.
+    (let found = unifier_gives_terms h (term_applied r a left (λ m o. given m)) (term_applied r b right (λ m o. given m)) in
+    term_applied s (r n) (given n) (λ m o. found m)))
+
+mutual
+  -- each compound in a term has 1 to 255 arguments
+  pub term_fits : (t : Tree) → is_term t ≡ true → arities_fit t ≡ true
+  term_fits (Variable n) h = refl
+  term_fits (Integer z) h = refl
+  term_fits (Name a) h = refl
+  term_fits (Apply f ts) h =
+      let low = and_parts (nat_le 1 (count ts)) (nat_le (count ts) 255 && is_row ts) h in
+      let high = and_parts (nat_le (count ts) 255) (is_row ts) low.1 in
+      and_from (nat_le 1 (count ts)) (nat_le (count ts) 255 && arities_fit ts) low.0
+      (and_from (nat_le (count ts) 255) (arities_fit ts) high.0 (row_fits ts high.1))
+  term_fits End h = refl
+  term_fits (More t ts) h = absurd (false≢true h)
+
+  pub row_fits : (ts : Tree) → is_row ts ≡ true → arities_fit ts ≡ true
+  row_fits (Variable n) h = refl
+  row_fits (Integer z) h = refl
+  row_fits (Name a) h = refl
+  row_fits (Apply f ts) h = absurd (false≢true h)
+  row_fits End h = refl
+  row_fits (More t ts) h =
+      let parts = and_parts (is_term t) (is_row ts) h in
+      and_from (arities_fit t) (arities_fit ts) (term_fits t parts.0) (row_fits ts parts.1)

@@ -1,14 +1,14 @@
 -- What is known of the unifier that is found, and of unifying under a substitution.
-use Rattle.std.proofs.Common.{◌≡◌, ◌≢◌, ℕ, ◌+◌, ◌≤◌, ◌<◌, max, true, false, List, Option, Some, None, MatchOption, option_map, option_and_then, inl, inr, refl, sym, ap, ap₂, ◌∙◌, subst, arith}
-use Rattle.std.proofs.lemmas.Bool.{or_cases, eqb-true, false≢true, false_from_ne_true}
+use Rattle.std.proofs.Common.{IfSome, ◌<◌, ◌≡◌, ◌≢◌, ℕ, ◌+◌, ◌≤◌, ◌<◌, max, true, false, List, Option, Some, None, MatchOption, option_map, option_and_then, inl, inr, refl, sym, ap, ap₂, ◌∙◌, subst, arith}
+use Rattle.std.proofs.lemmas.Bool.{or_cases, eqb-true, false≢true, false_from_ne_true, cases_lt}
 use Rattle.iso_model.specs.Trees.{Tree, Variable, Integer, Name, Apply, End, More}
 use Rattle.iso_model.specs.Variables.{occurs}
-use Rattle.iso_model.specs.Substitutions.{Subst, apply, compose, Extends, IsSubstitution}
+use Rattle.iso_model.specs.Substitutions.{Subst, apply, compose, Extends, BindsToOlder, IsSubstitution}
 use Rattle.iso_model.specs.Unifiers.{Unifier, NeverEqual, IsUnifierOf}
-use Rattle.iso_model.specs.UnifierLaws.{Concerns, UnifiesUnder, NeverEqualUnder}
+use Rattle.iso_model.specs.UnifierLaws.{StaysBelow, AllBelow, Concerns, UnifiesUnder, NeverEqualUnder}
 use Rattle.iso_model.specs.Unification.{answer_of, unifier_of, unify_under}
 use Rattle.iso_model.specs.Unification.Applied.{apply_apply, apply_none, apply_alone, apply_absorbs, occurs_from}
-use Rattle.iso_model.specs.Unification.Composed.{unifier_sym, unifier_apply, unifier_more, never_sym, never_apply, never_first, never_rest}
+use Rattle.iso_model.specs.Unification.Composed.{variable_from, unifier_sym, unifier_apply, unifier_more, never_sym, never_apply, never_first, never_rest}
 use Rattle.iso_model.specs.Unification.Bindings.{unifier_leaves, unifier_brings, unifier_fixes}
 use Rattle.iso_model.specs.Unification.Unique.{unifier_unique}
 use Rattle.iso_model.specs.Unification.Exists.{Outcome, solved_unifier, exists_or_not, alone_or_not}
@@ -172,3 +172,45 @@ module _ (r : Subst) (a b c d : Tree) where
 
   pub unifying_in_turn : unify_under r (More a c) (More b d) ≡ option_and_then (λ u. unify_under u c d) (unify_under r a b)
   unifying_in_turn = in_turn_first (unifier_of (apply r a) (apply r b)) (unifier_of_is (apply r a) (apply r b))
+
+-- ---- what unifying under a substitution keeps
+
+-- what holds of r composed with each unifier holds of what is found
+pub kept : (r : Subst) (a b : Tree) (P : Subst → Type 0) → ((s : Subst) → Unifier (apply r a) (apply r b) s → P (compose r s)) → IfSome (unify_under r a b) P
+kept r a b P each = go (unifier_of (apply r a) (apply r b)) (unifier_of_is (apply r a) (apply r b))
+  where
+    go : (o : Option Subst) → IsUnifierOf (apply r a) (apply r b) o → IfSome (option_map (compose r) o) P
+    go (Some s) h = each s h
+    go None h = tt
+
+older_composed : (r s : Subst) → BindsToOlder r → BindsToOlder s → BindsToOlder (compose r s)
+older_composed r s old older n m e =
+    let v = variable_from s (r n) m e in
+    let low = old n v.0 v.1 in
+    let lower = older v.0 m (sym (ap (apply s) v.1) ∙ e) in
+    omega arith
+
+pub unifying_keeps_age : (r : Subst) (a b : Tree) → BindsToOlder r → IfSome (unify_under r a b) BindsToOlder
+unifying_keeps_age r a b old = kept r a b BindsToOlder (λ s h. older_composed r s old h.least)
+
+module _ (k : ℕ) (r : Subst) (below : StaysBelow k r) where
+  image_below : (a : Tree) → AllBelow k a → AllBelow k (apply r a)
+  image_below a h x o = let f = occurs_from r a x o in below.values f.0 x (h f.0 f.1) f.2
+
+  absent_from : (a : Tree) → AllBelow k a → (x : ℕ) → k ≤ x → occurs x (apply r a) ≡ false
+  absent_from a h x high = false_from_ne_true (occurs x (apply r a)) (λ o. (let low = image_below a h x o in absurd (omega arith)))
+
+  composed_below : (a b : Tree) → AllBelow k a → AllBelow k b → (s : Subst) → Unifier (apply r a) (apply r b) s → StaysBelow k (compose r s)
+  composed_below a b in_a in_b s h = record {
+    bound = λ n high. ap (apply s) (below.bound n high) ∙ unifier_leaves h n (absent_from a in_a n high) (absent_from b in_b n high);
+    values = λ n m low o.
+        (let f = occurs_from s (r n) m o in
+        let inner = below.values n f.0 low f.1 in
+        elim (cases_lt m k) [
+          | inl less ↦ less
+          | inr high ↦ (let same = unifier_brings h m f.0 (absent_from a in_a m high) (absent_from b in_b m high) f.2 in absurd (omega arith))
+        ]);
+  }
+
+pub unifying_stays_below : (k : ℕ) (r : Subst) (a b : Tree) → StaysBelow k r → AllBelow k a → AllBelow k b → IfSome (unify_under r a b) (StaysBelow k)
+unifying_stays_below k r a b below in_a in_b = kept r a b (StaysBelow k) (composed_below k r below a b in_a in_b)

@@ -27,3 +27,9 @@ pub mod Texts
 pub mod Lines
 pub mod RunLaws
 pub mod Sessions
+pub mod Clashes
+pub mod Copies
+pub mod CopyLaws
+pub mod TermLaws
+pub mod Order
+pub mod OrderLaws

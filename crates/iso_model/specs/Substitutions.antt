@@ -28,6 +28,10 @@ Extends s t = (n : ℕ) → apply t (s n) ≡ t n
 abbrev pub single : ℕ → Tree → Subst
 single x t n = if n == x then t else Variable n
 
+-- a variable that stands for another variable stands for an older one
+abbrev pub BindsToOlder : Subst → Type 0
+BindsToOlder s = (n m : ℕ) → s n ≡ Variable m → m ≤ n
+
 -- A substitution binds finitely many variables, and none of its terms has a variable that it binds: it is idempotent.
 pub record IsSubstitution (s : Subst) : Type 0 where
   pub finite : (k : ℕ) × ((n : ℕ) → k ≤ n → s n ≡ Variable n)

@@ -1,9 +1,9 @@
 -- Laws of unifiers, and of unifying under a substitution.
-use Rattle.std.specs.Prelude.{◌≡◌, ◌≢◌, ℕ, List, IsTrue, IsFalse, MatchOption}
+use Rattle.std.specs.Prelude.{◌≤◌, ◌<◌, ◌≡◌, ◌≢◌, ℕ, List, IsTrue, IsFalse, IfSome, MatchOption}
 use Rattle.std.specs.Option.{option_and_then}
 use Rattle.iso_model.specs.Trees.{Tree, Variable, Apply, More}
 use Rattle.iso_model.specs.Variables.{occurs}
-use Rattle.iso_model.specs.Substitutions.{Subst, apply, compose, Extends, IsSubstitution}
+use Rattle.iso_model.specs.Substitutions.{Subst, apply, compose, Extends, BindsToOlder, IsSubstitution}
 use Rattle.iso_model.specs.Unifiers.{Unifier, NeverEqual, IsUnifierOf}
 use Rattle.iso_model.specs.Unification.{unifier_of, unify_under}
 
@@ -65,3 +65,20 @@ UnifyingArguments = (r : Subst) (f : List ℕ) (a b : Tree) → unify_under r (A
 abbrev pub UnifyingInTurn : Type 0
 UnifyingInTurn =
     (r : Subst) (a b c d : Tree) → unify_under r (More a c) (More b d) ≡ option_and_then (λ u. unify_under u c d) (unify_under r a b)
+
+-- unifying keeps that variables stand for older ones
+abbrev pub UnifyingKeepsAge : Type 0
+UnifyingKeepsAge = (r : Subst) (a b : Tree) → BindsToOlder r → IfSome (unify_under r a b) BindsToOlder
+
+-- A substitution of the variables below k: it binds no other, and its terms have no other.
+pub record StaysBelow (k : ℕ) (s : Subst) : Type 0 where
+  pub bound : (n : ℕ) → k ≤ n → s n ≡ Variable n
+  pub values : (n m : ℕ) → n < k → IsTrue (occurs m (s n)) → m < k
+
+-- all variables of the term are below k
+abbrev pub AllBelow : ℕ → Tree → Type 0
+AllBelow k t = (x : ℕ) → IsTrue (occurs x t) → x < k
+
+-- unifying terms of variables below k binds only those
+abbrev pub UnifyingStaysBelow : Type 0
+UnifyingStaysBelow = (k : ℕ) (r : Subst) (a b : Tree) → StaysBelow k r → AllBelow k a → AllBelow k b → IfSome (unify_under r a b) (StaysBelow k)

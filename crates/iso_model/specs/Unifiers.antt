@@ -1,14 +1,14 @@
 -- Unifiers (ISO/IEC 13211-1:1995, 7.3.1). That no variable occurs in its own value, and which variable of a class names it, are own.
-use Rattle.std.specs.Prelude.{◌≡◌, ◌≢◌, ℕ, ◌≤◌, Option, Some, None}
-use Rattle.iso_model.specs.Trees.{Tree, Variable}
-use Rattle.iso_model.specs.Substitutions.{Subst, apply, Extends}
+use Rattle.std.specs.Prelude.{◌≡◌, ◌≢◌, Option, Some, None}
+use Rattle.iso_model.specs.Trees.{Tree}
+use Rattle.iso_model.specs.Substitutions.{Subst, apply, Extends, BindsToOlder}
 
 -- The most general unifier of two terms: it makes them equal, each substitution that makes them equal extends it,
 -- and each class of variables that it makes equal is named by its least number.
 pub record Unifier (a b : Tree) (s : Subst) : Type 0 where
   pub equal : apply s a ≡ apply s b
   pub most_general : (t : Subst) → apply t a ≡ apply t b → Extends s t
-  pub least : (n m : ℕ) → s n ≡ Variable m → m ≤ n
+  pub least : BindsToOlder s
 
 -- no substitution makes the two terms equal
 abbrev pub NeverEqual : Tree → Tree → Type 0

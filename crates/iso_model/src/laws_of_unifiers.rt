@@ -1,5 +1,5 @@
 //! Laws of unifiers: each is the contract of a function that does nothing.
-ghost use Rattle.iso_model.specs.UnifierLaws.{AtMostOneUnifier, UnifierOrNone, UnifierIsMostGeneral, UnifierIsSubstitution, UnifierConcernsItsTerms, NoUnifierInside, UnifyingUnder, UnifyingUnderNothing, UnifyingEitherWay, UnifyingArguments, UnifyingInTurn};
+ghost use Rattle.iso_model.specs.UnifierLaws.{AtMostOneUnifier, UnifierOrNone, UnifierIsMostGeneral, UnifierIsSubstitution, UnifierConcernsItsTerms, NoUnifierInside, UnifyingUnder, UnifyingUnderNothing, UnifyingEitherWay, UnifyingArguments, UnifyingKeepsAge, UnifyingStaysBelow, UnifyingInTurn};
 
 /// Two terms have at most one unifier.
 pub fn at_most_one_unifier()
@@ -49,6 +49,16 @@ pub fn unifying_either_way()
 /// Compounds of one name are unified by their arguments.
 pub fn unifying_arguments()
     ensures { UnifyingArguments }
+{}
+
+/// Unifying keeps that variables stand for older ones.
+pub fn unifying_keeps_age()
+    ensures { UnifyingKeepsAge }
+{}
+
+/// Unifying terms of variables below a number binds only those.
+pub fn unifying_stays_below()
+    ensures { UnifyingStaysBelow }
 {}
 
 /// Lists of terms are unified member by member, each pair under what came of those before.

@@ -3,6 +3,9 @@
 #![tactic(auto)]
 
 pub mod engines;
+pub mod laws_of_copies;
+pub mod laws_of_order;
+pub mod laws_of_terms;
 pub mod laws_of_unifiers;
 pub mod limit;
 pub mod pauses;
