@@ -13,6 +13,7 @@ pub mod Copies
 pub mod Additions
 pub mod Walker
 pub mod Runs
+pub mod RunLaws
 pub mod Engines
 pub mod Characters
 pub mod Token
