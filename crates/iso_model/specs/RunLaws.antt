@@ -1,95 +1,17 @@
--- Laws of runs: every state has exactly one run, and what it is of a state that steps lead to.
+-- Laws of runs: every state has exactly one run, and how it is made of what steps come to.
 pub mod Weights
 pub mod Exists
+pub mod Named
+pub mod Quiets
 pub mod Moves
-use Rattle.std.proofs.Common.{◌≡◌, ℕ, suc, ◌<◌, refl, sym, ap, ap₂, ◌∙◌, subst, arith, ◌+◌}
-use Rattle.iso_model.specs.Walker.{State, World, Event, Ending, Outcome, Goes, Gives, Ends, step}
-use Rattle.iso_model.specs.Runs.{Trace, Then, Stops, Run, goes, gives, ends, Quiet, here, onward, Comes, Finishes, Reaches}
-use Exists.{HasRun, has_run}
-
--- a state has at most one run
-pub one_run : {s : State} {r q : Trace} → Run s r → Run s q → r ≡ q
-one_run (goes {t = t} a r) (goes {t = u} {r = q} b k) =
-    let both : Goes u ≡ Goes t = sym b ∙ a in
-    let same : u ≡ t = cc in
-    one_run r (subst (λ x. Run x q) same k)
-one_run (goes {t = t} a r) (gives {t = u} {e = f} b k) = let both : Goes t ≡ Gives f u = sym a ∙ b in cc
-one_run (goes {t = t} a r) (ends {e = f} {w = v} b) = let both : Goes t ≡ Ends f v = sym a ∙ b in cc
-one_run (gives {t = t} {e = e} a r) (goes {t = u} b k) = let both : Gives e t ≡ Goes u = sym a ∙ b in cc
-one_run (gives {t = t} {e = e} a r) (gives {t = u} {e = f} {r = q} b k) =
-    let both : Gives f u ≡ Gives e t = sym b ∙ a in
-    let same : u ≡ t = cc in
-    let event : e ≡ f = cc in
-    ap₂ Then event (one_run r (subst (λ x. Run x q) same k))
-one_run (gives {t = t} {e = e} a r) (ends {e = f} {w = v} b) = let both : Gives e t ≡ Ends f v = sym a ∙ b in cc
-one_run (ends {e = e} {w = w} a) (goes {t = u} b k) = let both : Ends e w ≡ Goes u = sym a ∙ b in cc
-one_run (ends {e = e} {w = w} a) (gives {t = u} {e = f} b k) = let both : Ends e w ≡ Gives f u = sym a ∙ b in cc
-one_run (ends {e = e} {w = w} a) (ends {e = f} {w = v} b) =
-    let both : Ends e w ≡ Ends f v = sym a ∙ b in
-    let ending : e ≡ f = cc in
-    let world : w ≡ v = cc in
-    ap₂ Stops ending world
-
--- The run of a state. All that is known of it is `RunOfIsTheRun`.
-unfoldable pub run_of : State → Trace
-run_of s = (has_run s).0
-
-pub run_of_is : (s : State) → Run s (run_of s)
-unfolding run_of
-run_of_is s = (has_run s).1
-
-pub run_of_only : {s : State} {r : Trace} → Run s r → run_of s ≡ r
-run_of_only {s} run = one_run (run_of_is s) run
-
--- a step without an event keeps the run
-pub goes_run : (s : State) {t : State} → step s ≡ Goes t → run_of s ≡ run_of t
-goes_run s {t} h = run_of_only (goes h (run_of_is t))
-
-pub gives_run : (s : State) {t : State} {e : Event} → step s ≡ Gives e t → run_of s ≡ Then e (run_of t)
-gives_run s {t} h = run_of_only (gives h (run_of_is t))
-
-pub ends_run : (s : State) {e : Ending} {w : World} → step s ≡ Ends e w → run_of s ≡ Stops e w
-ends_run s h = run_of_only {s = s} (ends h)
-
-pub quiet_one : {s t : State} → step s ≡ Goes t → Quiet s t
-quiet_one h = onward here h
-
-pub quiet_trans : {s t u : State} → Quiet s t → Quiet t u → Quiet s u
-quiet_trans q here = q
-quiet_trans q (onward p h) = onward (quiet_trans q p) h
-
--- steps without an event keep the run
-pub quiet_run : {s t : State} → Quiet s t → run_of s ≡ run_of t
-quiet_run here = refl
-quiet_run (onward q h) = quiet_run q ∙ goes_run _ h
-
-pub comes_run : {s : State} {e : Event} {P : State → Type 0} → (c : Comes s e P) → run_of s ≡ Then e (run_of c.new)
-comes_run c = quiet_run c.quiet ∙ gives_run c.at c.last
-
-pub finishes_run : {s : State} {e : Ending} {P : State → Type 0} → (f : Finishes s e P) → run_of s ≡ Stops e f.world
-finishes_run f = quiet_run f.quiet ∙ ends_run f.at f.last
-
-pub reaches_run : {s : State} {P : State → Type 0} → (r : Reaches s P) → run_of s ≡ run_of r.at
-reaches_run r = quiet_run r.quiet
-
--- what comes behind steps without an event comes behind these and those before them
-pub comes_behind : {s t : State} {e : Event} {P : State → Type 0} → Quiet s t → Comes t e P → Comes s e P
-comes_behind q c = record { at = c.at; new = c.new; quiet = quiet_trans q c.quiet; last = c.last; stands = c.stands }
-
-pub finishes_behind : {s t : State} {e : Ending} {P : State → Type 0} → Quiet s t → Finishes t e P → Finishes s e P
-finishes_behind q f = record { at = f.at; world = f.world; quiet = quiet_trans q f.quiet; last = f.last; stands = f.stands }
-
-pub reaches_behind : {s t : State} {P : State → Type 0} → Quiet s t → Reaches t P → Reaches s P
-reaches_behind q r = record { at = r.at; quiet = quiet_trans q r.quiet; holds = r.holds }
-
--- how many events there are
-abbrev pub trace_length : Trace → ℕ
-trace_length (Then e r) = suc (trace_length r)
-trace_length (Stops e w) = 0
-
--- fewer events are left behind an event
-pub comes_fewer : {s : State} {e : Event} {P : State → Type 0} → (c : Comes s e P) → trace_length (run_of c.new) < trace_length (run_of s)
-comes_fewer c = let longer = ap trace_length (comes_run c) in omega arith
+pub mod Unbuilt
+use Rattle.std.specs.Prelude.{◌≡◌}
+use Rattle.iso_model.specs.Walker.{State, World, Event, Ending, Goes, Gives, Ends, step}
+use Rattle.iso_model.specs.Runs.{Trace, Then, Stops, Run, Quiet}
+use Rattle.iso_model.specs.RunLaws.Unbuilt.{Alike}
+pub use Rattle.iso_model.specs.RunLaws.Named.{one_run, run_of, run_of_is, run_of_only}
+pub use Rattle.iso_model.specs.RunLaws.Exists.{has_run}
+pub use Rattle.iso_model.specs.RunLaws.Quiets.{goes_run, gives_run, ends_run, quiet_one, quiet_trans, quiet_run, comes_run, finishes_run, reaches_run, comes_behind, finishes_behind, reaches_behind, trace_length, comes_fewer}
 
 -- every state has exactly one run; its budget is finite
 abbrev pub EveryStateHasOneRun : Type 0
@@ -110,3 +32,7 @@ EventsBeginTheRun = (s at t : State) (e : Event) → Quiet s at → step at ≡ 
 -- an ending that comes is all of the run
 abbrev pub EndingsAreTheRun : Type 0
 EndingsAreTheRun = (s at : State) (e : Ending) (w : World) → Quiet s at → step at ≡ Ends e w → run_of s ≡ Stops e w
+
+-- what was built has no part in the run
+abbrev pub BuiltIsNotInTheRun : Type 0
+BuiltIsNotInTheRun = (s t : State) → Alike s t → run_of s ≡ run_of t

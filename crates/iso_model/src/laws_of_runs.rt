@@ -1,5 +1,5 @@
 //! Laws of runs: each is the contract of a function that does nothing.
-ghost use Rattle.iso_model.specs.RunLaws.{EveryStateHasOneRun, RunOfIsTheRun, QuietStepsKeepTheRun, EventsBeginTheRun, EndingsAreTheRun};
+ghost use Rattle.iso_model.specs.RunLaws.{EveryStateHasOneRun, RunOfIsTheRun, QuietStepsKeepTheRun, EventsBeginTheRun, EndingsAreTheRun, BuiltIsNotInTheRun};
 
 /// Every state of the search has exactly one run: the search is deterministic, and its budget makes it end.
 pub fn one_run_each()
@@ -24,4 +24,9 @@ pub fn first_event()
 /// An ending that comes without an event is all of the run.
 pub fn ending_alone()
     ensures { EndingsAreTheRun }
+{}
+
+/// What was built has no part in the run.
+pub fn built_is_free()
+    ensures { BuiltIsNotInTheRun }
 {}

@@ -10,7 +10,7 @@ run_steps (goes h r) = suc (run_steps r)
 run_steps (gives h r) = suc (run_steps r)
 run_steps (ends h) = 1
 
-same_steps : {s t : State} {r q : Trace} → (a : Run s r) → (b : Run t q) → s ≡ t → run_steps a ≡ run_steps b
+pub same_steps : {s t : State} {r q : Trace} → (a : Run s r) → (b : Run t q) → s ≡ t → run_steps a ≡ run_steps b
 same_steps (goes {t = t} a r) (goes {t = u} b q) e =
     let both : Goes t ≡ Goes u = sym a ∙ ap step e ∙ b in
     let next : t ≡ u = cc in
@@ -28,7 +28,7 @@ same_steps (ends {e = f} {w = w} a) (gives {t = u} {e = g} b q) e = let both : E
 same_steps (ends a) (ends b) e = refl
 
 -- how many steps the run of a state takes
-pub moves : State → ℕ
+unfoldable pub moves : State → ℕ
 moves s = run_steps (has_run s).1
 
 pub goes_fewer : (s : State) {t : State} → step s ≡ Goes t → moves t < moves s
