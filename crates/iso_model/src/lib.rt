@@ -3,9 +3,13 @@
 #![tactic(auto)]
 
 pub mod engines;
+<<<<<<< HEAD
 pub mod laws_of_copies;
 pub mod laws_of_order;
 pub mod laws_of_terms;
+=======
+pub mod laws_of_runs;
+>>>>>>> 27b5dcbe76d409fb2dfa2137e0f74f8ca61c972a
 pub mod laws_of_unifiers;
 pub mod limit;
 pub mod pauses;
