@@ -3,3 +3,5 @@ mod ReadingRows
 mod ReadingSound
 pub mod TokenLemmas
 pub mod LexemeLemmas
+mod ReadingSteps
+mod ReadingComplete
