@@ -5,3 +5,4 @@ pub mod TokenLemmas
 pub mod LexemeLemmas
 mod ReadingSteps
 mod ReadingComplete
+pub mod ClauseLaws

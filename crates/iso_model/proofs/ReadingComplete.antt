@@ -12,7 +12,7 @@ use Rattle.iso_model.proofs.ReadingSound.{left_at, Sound, term_sound}
 use Rattle.iso_model.proofs.ReadingSteps.{further_comma, further_end, continued, continued-all, continued-step}
 
 -- the greatest priority that an operator may have whose left operand would be cut out of this term
-abbrev edge_of : Node → ℕ
+abbrev pub edge_of : Node → ℕ
 edge_of n = cond n.is_open n.priority (n.priority - 1)
 
 left_le : (s : Specifier) (p : ℕ) → cond (takes_equal s) p (p - 1) ≤ p
@@ -81,7 +81,7 @@ module _ (table : Table) (good : IsTable table) where
   infix_positive t o at = good.positive t.text o (if_some (is_name t.kind || is_mark (codes ",") t) (table t.text) o at)
 
   -- what stands next is no operator of at most this priority
-  abbrev Clear : ℕ → Left → Type 0
+  abbrev pub Clear : ℕ → Left → Type 0
   Clear m z = (o : Operator) → next_operator table z.tokens ≡ Some o → m < o.priority
 
   clear_more : (a b : ℕ) (z : Left) → a ≤ b → Clear b z → Clear a z
@@ -119,7 +119,7 @@ module _ (table : Table) (good : IsTable table) where
   operator_none most l z c = fits_none most l (next_operator table z.tokens) c
 
   -- a term is read where no operator can go on behind it
-  finish : (depth most : ℕ) (s z : Left) (n : Node) → term table (suc depth) most s ≡ continued table depth most n z → n.height ≤ depth → Clear most z → term table (suc depth) most s ≡ Some (n, z)
+  pub finish : (depth most : ℕ) (s z : Left) (n : Node) → term table (suc depth) most s ≡ continued table depth most n z → n.height ≤ depth → Clear most z → term table (suc depth) most s ≡ Some (n, z)
   finish depth most s z n read high c =
       read ∙ continued-step table depth most n z high ∙ ap (climb_by table (term table depth) depth n z (continued table depth most)) (operator_none most n z c)
 

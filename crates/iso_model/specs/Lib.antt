@@ -3,6 +3,8 @@ pub mod Terms
 pub mod Operators
 pub mod Grammar
 pub mod Reading
+pub mod Numbering
+pub mod ReadingLaws
 pub mod Characters
 pub mod Token
 pub mod Lexemes

@@ -3,6 +3,7 @@
 #![tactic(auto)]
 
 pub mod engines;
+pub mod laws_of_reading;
 pub mod limit;
 pub mod terms;
 
