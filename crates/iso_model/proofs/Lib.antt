@@ -6,3 +6,4 @@ pub mod LexemeLemmas
 mod ReadingSteps
 mod ReadingComplete
 pub mod ClauseLaws
+pub mod WellRead
