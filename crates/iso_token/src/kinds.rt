@@ -40,7 +40,7 @@ pub struct Token<'t> {
 }
 
 /// The greatest value of an integer token: the size of the least integer (own limit).
-pub const MAX_MAGNITUDE: u64 = 9_223_372_036_854_775_808;
+const MAX_MAGNITUDE: u64 = 9_223_372_036_854_775_808;
 
 /// A number with one more decimal digit; none where it doesn't fit.
 fn with_digit(value: u64, digit: u8) -> Option<u64>

@@ -9,3 +9,6 @@ mod lexemes;
 pub use cursor::Tokens;
 pub use iso_model::NoMemory;
 pub use kinds::{Kind, Token};
+
+#[cfg(test)]
+mod tests;
