@@ -9,3 +9,7 @@ pub mod SortLemmas
 pub mod CopyLemmas
 pub mod MeaningLemmas
 pub mod OrderLemmas
+mod ReadingSteps
+mod ReadingComplete
+pub mod ClauseLaws
+pub mod WellRead

@@ -19,6 +19,8 @@ pub mod Engines
 pub mod Operators
 pub mod Grammar
 pub mod Reading
+pub mod Numbering
+pub mod ReadingLaws
 pub mod Characters
 pub mod Token
 pub mod Lexemes

@@ -3,13 +3,11 @@
 #![tactic(auto)]
 
 pub mod engines;
-<<<<<<< HEAD
 pub mod laws_of_copies;
 pub mod laws_of_order;
-pub mod laws_of_terms;
-=======
+pub mod laws_of_reading;
 pub mod laws_of_runs;
->>>>>>> 27b5dcbe76d409fb2dfa2137e0f74f8ca61c972a
+pub mod laws_of_terms;
 pub mod laws_of_unifiers;
 pub mod limit;
 pub mod pauses;
@@ -19,5 +17,4 @@ pub use engines::Engine;
 pub use limit::Limits;
 pub use pauses::{AddFault, Ball, Ending, Indicator, Pause, Program, StartFault};
 pub use std::alloc::AllocError as NoMemory;
-pub use terms::MAX_ARITY;
-pub use terms::{Term, copied, well_formed};
+pub use terms::{MAX_ARITY, Term, copied, well_formed};
