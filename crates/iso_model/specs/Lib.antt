@@ -28,10 +28,8 @@ pub mod Tokens
 pub mod Items
 pub mod Texts
 pub mod Lines
-pub mod RunLaws
 pub mod Sessions
 pub mod Clashes
-pub mod Copies
 pub mod CopyLaws
 pub mod TermLaws
 pub mod Order
