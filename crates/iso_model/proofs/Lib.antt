@@ -13,3 +13,4 @@ mod ReadingSteps
 mod ReadingComplete
 pub mod ClauseLaws
 pub mod WellRead
+pub mod NumberedLemmas

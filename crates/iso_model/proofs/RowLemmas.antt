@@ -1,11 +1,11 @@
 -- How many terms a list of terms has, and what that says of a compound.
-use Rattle.std.proofs.Common.{◌≡◌, ℕ, List, [], ◌∷◌, map, length, refl, ap, arith, ◌+◌, Bool, true, false, ◌&&◌, nat_le, sym, ◌∙◌, cond, String, Vec, Global}
+use Rattle.std.proofs.Common.{◌≡◌, List, [], ◌∷◌, length, refl, ap, arith, Bool, true, false, ◌&&◌, nat_le, sym, ◌∙◌, String, Vec, Global}
 use Rattle.std.specs.String.{string_bytes}
 use Rattle.iso_model.specs.declared.terms.Term.{Term}
 use Rattle.iso_model.specs.declared.terms.Term.TheOpen.{Term-F}
 use Rattle.iso_model.specs.declared.terms.Term.TheVariants.{Compound, rolls-Compound}
 use Rattle.iso_model.specs.declared.terms.Term.TheFolds.{fold-roll-Term}
-use Rattle.iso_model.specs.Trees.{Tree, Apply, row, count, arities_fit}
+use Rattle.iso_model.specs.Trees.{Tree, Apply, count, arities_fit}
 use Rattle.iso_model.specs.Terms.{term_of, row_of, term_step}
 
 pub count_row_of : (ts : List Term) → count (row_of ts) ≡ length ts

@@ -1,11 +1,11 @@
 -- A clause of the text is added to the database, or refused (ISO/IEC 13211-1:1995, 7.4.2, 7.6, 8.9.2; which checks are made, and in
 -- which order, is own).
-use Rattle.std.specs.Prelude.{ℕ, List, [], ◌∷◌, Bool, true, false, Option, Some, None, codes, if◌then◌else◌, nat_lt}
+use Rattle.std.specs.Prelude.{ℕ, Option, Some, None, codes, if◌then◌else◌, nat_lt}
 use Rattle.std.specs.Str.{bytes_eq}
-use Rattle.iso_model.specs.Trees.{Tree, Variable, Integer, Name, Apply, End, More}
+use Rattle.iso_model.specs.Trees.{Tree, Variable, Name, Apply, End, More}
 use Rattle.iso_model.specs.Variables.{variable_count}
 use Rattle.iso_model.specs.Copies.{copy_from}
-use Rattle.iso_model.specs.Bodies.{Body, Run, converted}
+use Rattle.iso_model.specs.Bodies.{Body, converted}
 use Rattle.iso_model.specs.Databases.{Clause, Key, Database, key_of, is_built_in, with_clause}
 use Rattle.iso_model.specs.Errors.{key, instantiation_error, type_error_callable, permission_error, max_variables_error}
 

@@ -1,8 +1,8 @@
 -- The database: procedures with their clauses (ISO/IEC 13211-1:1995, 7.5).
-use Rattle.std.specs.Prelude.{ℕ, List, [], ◌∷◌, ◌++◌, ◌==◌, Bool, true, false, ◌&&◌, Option, Some, None, codes, if◌then◌else◌, option_map, ◌||◌}
+use Rattle.std.specs.Prelude.{ℕ, List, [], ◌∷◌, ◌++◌, ◌==◌, Bool, ◌&&◌, Option, Some, None, codes, if◌then◌else◌, ◌||◌}
 use Rattle.std.specs.Str.{bytes_eq}
 use Rattle.iso_model.specs.Trees.{Tree, Variable, Integer, Name, Apply, End, More, count}
-use Rattle.iso_model.specs.Bodies.{Body, Run, And}
+use Rattle.iso_model.specs.Bodies.{Body}
 
 -- A clause: its head, its converted body, and how many variables it has. They are 0, 1, .. by first occurrence.
 pub record Clause : Type 0 where

@@ -1,10 +1,10 @@
 -- What an engine promises, said by the search: it stands for a state, and what it answers are that state's events and ending.
 -- An engine keeps neither the goals as they were made nor counts, so it may stand for several states, and each promise holds of each.
-use Rattle.std.specs.Prelude.{◌≡◌, ◌<◌, ℕ, Bool, true, List, map, Result, Ok, Err}
+use Rattle.std.specs.Prelude.{◌≡◌, ◌<◌, ℕ, map, Result, Ok, Err}
 use Rattle.iso_model.specs.Trees.{Tree}
 use Rattle.iso_model.specs.Terms.{term_of}
-use Rattle.iso_model.specs.Additions.{Addition, Adds, Refuses, addition}
-use Rattle.iso_model.specs.Walker.{State, World, Answered, Wrote, NoMore, Budget, Uncaught, Halted, idle, started}
+use Rattle.iso_model.specs.Additions.{Addition, Adds, Refuses}
+use Rattle.iso_model.specs.Walker.{State, Answered, Wrote, NoMore, Budget, Uncaught, Halted, idle, started}
 use Rattle.iso_model.specs.Runs.{Comes, Finishes}
 use Rattle.iso_model.specs.declared.pauses.Pause.{Pause}
 use Rattle.iso_model.specs.declared.pauses.Pause.TheVariants as pause

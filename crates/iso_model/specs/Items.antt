@@ -1,5 +1,5 @@
 -- What a text has: terms, each up to its end token, and syntax errors (ISO/IEC 13211-1:1995, 6.2; what stands for one syntax error is own).
-use Rattle.std.specs.Prelude.{ℕ, Bool, true, false, List, [], ◌∷◌, Option, Some, None, if◌then◌else◌}
+use Rattle.std.specs.Prelude.{Bool, true, false, List, [], ◌∷◌, Option, Some, None, if◌then◌else◌}
 use Rattle.iso_model.specs.Token.{Shown, TokenKind, EndToken}
 use Rattle.iso_model.specs.Grammar.{Clause}
 use Rattle.iso_model.specs.Operators.{Table}

@@ -1,5 +1,5 @@
 -- The lines of a session (own), each without its newline.
-use Rattle.std.specs.Prelude.{ℕ, min, List, [], ◌∷◌, ◌++◌, Option, Some, None, codes, unwrap_or, map}
+use Rattle.std.specs.Prelude.{ℕ, min, List, [], ◌∷◌, ◌++◌, codes, unwrap_or, map}
 use Rattle.std.specs.List.{slice_get}
 use Rattle.std.specs.Fmt.{decimal}
 use Rattle.iso_model.specs.Trees.{Tree, Name, row}

@@ -1,5 +1,5 @@
 -- Runs of the search: what it shows, in order, and how it ends (ISO/IEC 13211-1:1995, 7.7).
-use Rattle.std.specs.Prelude.{◌≡◌, ℕ}
+use Rattle.std.specs.Prelude.{◌≡◌}
 use Rattle.iso_model.specs.Walker.{State, World, Event, Ending, Goes, Gives, Ends, step, idle}
 
 -- events in order, and then the ending with what outlives the run

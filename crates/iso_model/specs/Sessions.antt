@@ -1,13 +1,11 @@
 -- What a session writes and how it ends (own): the text is consulted term by term, then each query is run to its end.
-use Rattle.std.specs.Prelude.{ℕ, zero, suc, ◌+◌, List, [], ◌∷◌, ◌++◌, length, Bool, true, false, not, ◌==◌, Option, Some, None, codes, if◌then◌else◌, drop}
+use Rattle.std.specs.Prelude.{ℕ, zero, suc, ◌+◌, List, [], ◌∷◌, ◌++◌, length, Bool, false, not, ◌==◌, Option, Some, None, codes, if◌then◌else◌, drop}
 use Rattle.std.specs.List.{prefix_len}
 use Rattle.std.specs.Str.{bytes_eq}
-use Rattle.iso_model.specs.Trees.{Tree}
 use Rattle.iso_model.specs.Characters.{is_in_line}
 use Rattle.iso_model.specs.Token.{Shown}
 use Rattle.iso_model.specs.Tokens.{tokens}
 use Rattle.iso_model.specs.Operators.{operators}
-use Rattle.iso_model.specs.Grammar.{Clause}
 use Rattle.iso_model.specs.Items.{Item, Readable, Unreadable, Taken, next_item}
 use Rattle.iso_model.specs.Additions.{Addition, Adds, Refuses, addition}
 use Rattle.iso_model.specs.Walker.{World, Answered, Wrote, NoMore, Budget, Uncaught, Halted, started}

@@ -1,6 +1,6 @@
 -- The text of a term in the canonical style: functional notation and lists, atoms in quotes where they need them (ISO/IEC 13211-1:1995,
 -- 7.10.5 and 8.14.2; layout, and how variables are named, are own).
-use Rattle.std.specs.Prelude.{ℕ, ◌+◌, List, [], ◌∷◌, ◌++◌, Bool, true, false, ◌&&◌, ◌||◌, ◌==◌, not, nat_lt, Option, Some, None, codes, if◌then◌else◌, unwrap_or, position, length}
+use Rattle.std.specs.Prelude.{ℕ, ◌+◌, List, [], ◌∷◌, ◌++◌, Bool, false, ◌&&◌, ◌||◌, ◌==◌, not, nat_lt, codes, if◌then◌else◌, unwrap_or, position, length}
 use Rattle.std.specs.Fmt.{decimal, signed_decimal, digits}
 use Rattle.std.specs.List.{list_all}
 use Rattle.std.specs.Str.{bytes_eq}

@@ -2,6 +2,7 @@
 ghost use Rattle.std.specs.Prelude.{◌≡◌, ◌≢◌, ℕ, true};
 ghost use Rattle.iso_model.specs.Trees.{arities_fit};
 ghost use Rattle.iso_model.specs.Terms.{term_of};
+ghost use Rattle.iso_model.specs.Copies.{IsNumbered};
 ghost use Rattle.iso_model.specs.Additions.{addition};
 ghost use Rattle.iso_model.specs.Walker.{State};
 ghost use Rattle.iso_model.specs.Engines.{Phase, Ready, Spent, Starts, Pauses, StaysSpent, Consults, FallsAtEvent};
@@ -25,6 +26,7 @@ pub trait Engine {
         requires ready { phase self.old ≡ Ready }
         requires stands { (s : State) × stands_for self.old s }
         requires fits { arities_fit (term_of goal.now) ≡ true }
+        requires numbered { IsNumbered (term_of goal.now) }
         ensures starts { (s : State) → stands_for self.old s
             → Starts (term_of goal.now) budget s result (stands_for self.new) (phase self.new) };
 

@@ -1,4 +1,4 @@
-use Rattle.std.proofs.Common.{◌≡◌, refl, ap, ◌∙◌, sym, ◌&&◌}
+use Rattle.std.proofs.Common.{ap, ◌∙◌, sym, ◌&&◌}
 use Rattle.iso_model.specs.Terms.{row_of}
 use Rattle.iso_model.specs.Trees.{arities_fit}
 use Rattle.iso_model.proofs.RowLemmas.{arities_of}
