@@ -1,0 +1,13 @@
+//! Tests that cross the crates: whole sessions, writers and readers that fail, and the program's words.
+#![tactic(auto)]
+
+#[cfg(test)]
+mod readers;
+#[cfg(test)]
+mod rows;
+#[cfg(test)]
+mod sessions;
+#[cfg(test)]
+mod words;
+#[cfg(test)]
+mod writers;
