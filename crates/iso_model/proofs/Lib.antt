@@ -5,3 +5,4 @@ pub mod SortLemmas
 pub mod CopyLemmas
 pub mod MeaningLemmas
 pub mod OrderLemmas
+pub mod VariableLemmas

@@ -7,6 +7,7 @@ pub mod laws_of_copies;
 pub mod laws_of_order;
 pub mod laws_of_terms;
 pub mod laws_of_unifiers;
+pub mod laws_of_variables;
 pub mod limit;
 pub mod terms;
 
