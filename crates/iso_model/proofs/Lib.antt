@@ -14,3 +14,4 @@ mod ReadingComplete
 pub mod ClauseLaws
 pub mod WellRead
 pub mod NumberedLemmas
+pub mod VariableLemmas

@@ -4,6 +4,7 @@ pub mod Sorts
 pub mod Sizes
 pub mod Variables
 pub mod Substitutions
+pub mod VariableLaws
 pub mod Unifiers
 pub mod Unification
 pub mod UnifierLaws

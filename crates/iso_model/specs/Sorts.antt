@@ -2,7 +2,8 @@
 use Rattle.std.specs.Prelude.{Bool, true, false, ◌&&◌, nat_le}
 use Rattle.iso_model.specs.Trees.{Tree, Variable, Integer, Name, Apply, End, More, count}
 
--- A term is a variable, an integer, an atom, or a name with a list of 1 to 255 terms.
+-- A term is a variable, an integer, an atom, or a name with a list of 1 to 255 terms. The range of numbers and the coding
+-- of texts are left to the Rust types that hold them.
 abbrev mutual
   pub is_term : Tree → Bool
   is_term (Variable n) = true

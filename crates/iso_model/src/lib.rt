@@ -9,6 +9,7 @@ pub mod laws_of_reading;
 pub mod laws_of_runs;
 pub mod laws_of_terms;
 pub mod laws_of_unifiers;
+pub mod laws_of_variables;
 pub mod limit;
 pub mod pauses;
 pub mod terms;
