@@ -1,3 +1,4 @@
 pub mod RowLemmas
 pub mod TokenLemmas
 pub mod LexemeLemmas
+pub mod PlaceLemmas

@@ -4,3 +4,4 @@ pub mod Characters
 pub mod Token
 pub mod Lexemes
 pub mod Tokens
+pub mod TokenPlaces
