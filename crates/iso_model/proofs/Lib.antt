@@ -15,3 +15,4 @@ pub mod ClauseLaws
 pub mod WellRead
 pub mod NumberedLemmas
 pub mod VariableLemmas
+pub mod PlaceLemmas

@@ -35,3 +35,4 @@ pub mod CopyLaws
 pub mod TermLaws
 pub mod Order
 pub mod OrderLaws
+pub mod TokenPlaces
