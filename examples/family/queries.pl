@@ -1,0 +1,3 @@
+grandparent(anna, X).
+ancestor(X, emil).
+parent(emil, X).

@@ -1,0 +1,3 @@
+path(a, d, P).
+path(b, X, _).
+edge(X, X).
