@@ -1,6 +1,8 @@
 //! Tests that cross the crates: whole sessions, writers and readers that fail, and the program's words.
 #![tactic(auto)]
 
+pub mod quitter;
+
 #[cfg(test)]
 mod readers;
 #[cfg(test)]

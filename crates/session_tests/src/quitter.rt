@@ -1,0 +1,60 @@
+//! The smallest engine: it gives up at once. It shows that the trait can be met, and what its contract doesn't refuse before it says
+//! when the cells may be full.
+ghost use Rattle.std.specs.Prelude.{◌≡◌, false, if◌then◌else◌};
+ghost use Rattle.iso_model.specs.Engines.{Phase, Ready, Spent};
+
+use iso_model::{AddFault, Engine, Pause, StartFault, Term};
+
+/// An engine that answers a full heap to whatever it is asked, and keeps nothing.
+#[derive(Debug, Drop)]
+pub struct Quitter {
+    spent: bool,
+}
+
+impl Quitter {
+    /// An engine that has not given up yet.
+    pub fn new() -> Quitter
+        ensures { result.spent ≡ false }
+    {
+        Quitter { spent: false }
+    }
+}
+
+impl Engine for Quitter {
+    ghost stands_for = { λ _ _. Unit {0} };
+    ghost phase = { λ engine. if engine.spent then Spent else Ready };
+    ghost left = { λ _. 0 };
+
+    fn start(&mut self, _goal: &Term, _budget: u32) -> Result<(), StartFault> {
+        self.spent = true;
+        Err(StartFault::HeapFull)
+    }
+
+    fn resume(&mut self) -> Pause {
+        if self.spent {
+            return Pause::Spent;
+        }
+        self.spent = true;
+        Pause::HeapFull
+    }
+
+    fn consult(&mut self, _clause: &Term) -> Result<(), AddFault> {
+        Err(AddFault::NoMemory)
+    }
+}
+
+#[cfg(test)]
+mod tests {
+    use super::Quitter;
+    use iso_session::session_on;
+    use std::test::Fail;
+
+    #[test]
+    fn a_session_says_that_it_gave_up(rt: HostRuntime) -> Result<(), Fail> {
+        let mut engine = Quitter::new();
+        let mut out: Vec<u8> = Vec::new(rt.alloc());
+        let _ended = session_on(rt.alloc(), &mut engine, "", "p.", 1, &mut out);
+        assert!(rt; out.as_slice() == b"end: heap full\n".as_slice());
+        Ok(())
+    }
+}
