@@ -3,3 +3,6 @@ pub mod UnifierLemmas
 pub mod Cost
 pub mod TokenLemmas
 pub mod LexemeLemmas
+pub mod CallLemmas
+pub mod WorkedRows
+pub mod WorkedAppend

@@ -14,6 +14,7 @@ pub mod Additions
 pub mod Walker
 pub mod Runs
 pub mod RunLaws
+pub mod WorkedRuns
 pub mod Engines
 pub mod Characters
 pub mod Token

@@ -8,6 +8,7 @@ pub mod laws_of_unifiers;
 pub mod limit;
 pub mod pauses;
 pub mod terms;
+pub mod worked_runs;
 
 pub use engines::Engine;
 pub use limit::Limits;
