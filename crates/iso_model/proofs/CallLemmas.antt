@@ -3,7 +3,7 @@ use Rattle.std.proofs.Common.{◌≡◌, ℕ, ◌+◌, List, [], ◌∷◌, Opti
 use Rattle.iso_model.specs.Trees.{Tree, Variable}
 use Rattle.iso_model.specs.Substitutions.{Subst, apply, compose}
 use Rattle.iso_model.specs.Unifiers.{Unifier, NeverEqual, IsUnifierOf}
-use Rattle.iso_model.specs.Unification.{unifier_of, composed}
+use Rattle.iso_model.specs.Unification.{unifier_of, unify_under}
 use Rattle.iso_model.specs.Unification.Unique.{unifier_unique}
 use Rattle.iso_model.specs.Copies.{renamed}
 use Rattle.iso_model.specs.Bodies.{map_body}
@@ -19,11 +19,16 @@ answer_none : (a b : Tree) (found : Option Subst) → NeverEqual a b → IsUnifi
 answer_none a b (Some s) never k = absurd (never s k.equal)
 answer_none a b None never k = refl
 
-found_is : {a b : Tree} {u : Subst} → Unifier a b u → unifier_of a b ≡ Some u
-found_is {a} {b} {u} h = answer_same a b u (unifier_of a b) h (unifier_of_is a b)
+-- unifying finds the unifier
+unify_found : (r : Subst) (a b : Tree) {u : Subst} → Unifier (apply r a) (apply r b) u → unify_under r a b ≡ Some (compose r u)
+unify_found r a b {u} h =
+    let is = answer_same (apply r a) (apply r b) u (unifier_of (apply r a) (apply r b)) h (unifier_of_is (apply r a) (apply r b)) in
+    rw is refl
 
-none_is : (a b : Tree) → NeverEqual a b → unifier_of a b ≡ None
-none_is a b never = answer_none a b (unifier_of a b) never (unifier_of_is a b)
+unify_none : (r : Subst) (a b : Tree) → NeverEqual (apply r a) (apply r b) → unify_under r a b ≡ None
+unify_none r a b never =
+    let is = answer_none (apply r a) (apply r b) (unifier_of (apply r a) (apply r b)) never (unifier_of_is (apply r a) (apply r b)) in
+    rw is refl
 
 -- what a clause makes is counted
 abbrev counted : Clause → State → State
@@ -48,19 +53,19 @@ missed call c cs rest s =
 pub tried_found : (call : Tree) (c : Clause) (cs : List Clause) (rest : List Member) (s : State) (u : Subst) → Unifier (apply s.subst call) (apply s.subst (renamed s.next c.head)) u
     → tried call (c ∷ cs) rest s ≡ found call c cs rest s u
 tried_found call c [] rest s u h =
-    ap (λ o. entered (composed s.subst o) c s.next (length s.stack) rest (counted c s)) (found_is h)
+    ap (λ o. entered o c s.next (length s.stack) rest (counted c s)) (unify_found s.subst call (renamed s.next c.head) h)
 tried_found call c (d ∷ ds) rest s u h =
     let p = with_others call (d ∷ ds) rest s in
-    ap (λ o. entered (composed s.subst o) c s.next (length s.stack) rest (counted c p)) (found_is h)
+    ap (λ o. entered o c s.next (length s.stack) rest (counted c p)) (unify_found s.subst call (renamed s.next c.head) h)
 
 -- it is never equal to the call
 pub tried_missed : (call : Tree) (c : Clause) (cs : List Clause) (rest : List Member) (s : State) → NeverEqual (apply s.subst call) (apply s.subst (renamed s.next c.head))
     → tried call (c ∷ cs) rest s ≡ missed call c cs rest s
 tried_missed call c [] rest s never =
-    ap (λ o. entered (composed s.subst o) c s.next (length s.stack) rest (counted c s)) (none_is _ _ never)
+    ap (λ o. entered o c s.next (length s.stack) rest (counted c s)) (unify_none s.subst call (renamed s.next c.head) never)
 tried_missed call c (d ∷ ds) rest s never =
     let p = with_others call (d ∷ ds) rest s in
-    ap (λ o. entered (composed s.subst o) c s.next (length s.stack) rest (counted c p)) (none_is _ _ never)
+    ap (λ o. entered o c s.next (length s.stack) rest (counted c p)) (unify_none s.subst call (renamed s.next c.head) never)
 
 -- the state behind failure, at which the newest alternative's clauses are tried
 abbrev pub retry_from : List Alternative → State → State
