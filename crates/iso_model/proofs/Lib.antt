@@ -6,3 +6,4 @@ pub mod LexemeLemmas
 pub mod CallLemmas
 pub mod WorkedRows
 pub mod WorkedAppend
+pub mod WorkedJoin

@@ -105,3 +105,11 @@ abbrev pub EachGoalTakesAStep : Type 0
 EachGoalTakesAStep =
     ((n : ℕ) → Run (started (two (codes ",") (Name (codes "true")) (Name (codes "fail"))) (suc (suc n)) empty) (answers [] NoMore empty))
     × Run (started (two (codes ",") (Name (codes "true")) (Name (codes "fail"))) 1 empty) (answers [] Budget empty)
+
+-- `p(1). p(2). q(2). r(X) :- p(X), q(X).`
+abbrev pub joined : World
+joined = program (one (codes "p") (number 1) ∷ one (codes "p") (number 2) ∷ one (codes "q") (number 2) ∷ rule (one (codes "r") (Variable 0)) (two (codes ",") (one (codes "p") (Variable 0)) (one (codes "q") (Variable 0))) ∷ [])
+
+-- `r(X).` has the answer 2: q(1) fails, and p is tried again with what comes behind it. It takes four steps.
+abbrev pub JoinIsSearched : Type 0
+JoinIsSearched = (n : ℕ) → Run (started (one (codes "r") (Variable 0)) (suc (suc (suc (suc n)))) joined) (answers ((number 2 ∷ []) ∷ []) NoMore joined)

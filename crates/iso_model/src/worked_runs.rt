@@ -1,5 +1,5 @@
 //! Worked runs: what small programs answer by the definitions. Each is the contract of a function that does nothing.
-ghost use Rattle.iso_model.specs.WorkedRuns.{EndlessUsesItsBudget, FactsAreAnswered, NothingHoldsItself, AppendSplits, UnknownIsAnError, NumbersAreNoGoals, EachGoalTakesAStep};
+ghost use Rattle.iso_model.specs.WorkedRuns.{EndlessUsesItsBudget, FactsAreAnswered, NothingHoldsItself, AppendSplits, UnknownIsAnError, NumbersAreNoGoals, EachGoalTakesAStep, JoinIsSearched};
 
 /// `l :- l.` with the query `l` uses up its budget, however large, and shows nothing.
 pub fn endless()
@@ -34,4 +34,9 @@ pub fn uncallable()
 /// Each goal takes a step of the budget, and control constructs take none.
 pub fn two_goals()
     ensures { EachGoalTakesAStep }
+{}
+
+/// `r(X)` over `p(1). p(2). q(2). r(X) :- p(X), q(X).` has the answer 2 alone.
+pub fn join()
+    ensures { JoinIsSearched }
 {}
