@@ -16,3 +16,7 @@ pub mod WellRead
 pub mod NumberedLemmas
 pub mod VariableLemmas
 pub mod PlaceLemmas
+pub mod CallLemmas
+pub mod WorkedRows
+pub mod WorkedAppend
+pub mod WorkedJoin

@@ -27,6 +27,7 @@ pub mod Texts
 pub mod Walker
 pub mod Runs
 pub mod RunLaws
+pub mod WorkedRuns
 pub mod Engines
 pub mod Lines
 pub mod Sessions

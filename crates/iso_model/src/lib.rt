@@ -13,6 +13,7 @@ pub mod laws_of_variables;
 pub mod limit;
 pub mod pauses;
 pub mod terms;
+pub mod worked_runs;
 
 pub use engines::Engine;
 pub use limit::Limits;

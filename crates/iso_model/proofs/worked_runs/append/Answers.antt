@@ -1,0 +1,5 @@
+use Rattle.iso_model.proofs.WorkedAppend.{append_run}
+use Rattle.iso_model.proofs.worked_runs.append.Goals as goal
+
+pub returns : goal.returns
+returns c = append_run

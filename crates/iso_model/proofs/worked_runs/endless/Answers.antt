@@ -1,0 +1,5 @@
+use Rattle.iso_model.proofs.WorkedRows.{endless_run}
+use Rattle.iso_model.proofs.worked_runs.endless.Goals as goal
+
+pub returns : goal.returns
+returns c = endless_run

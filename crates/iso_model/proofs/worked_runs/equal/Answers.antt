@@ -1,0 +1,5 @@
+use Rattle.iso_model.proofs.WorkedRows.{equal_run}
+use Rattle.iso_model.proofs.worked_runs.equal.Goals as goal
+
+pub returns : goal.returns
+returns c = equal_run

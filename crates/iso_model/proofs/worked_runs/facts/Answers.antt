@@ -1,0 +1,5 @@
+use Rattle.iso_model.proofs.WorkedRows.{facts_run}
+use Rattle.iso_model.proofs.worked_runs.facts.Goals as goal
+
+pub returns : goal.returns
+returns c = facts_run
