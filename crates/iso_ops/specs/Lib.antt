@@ -1,0 +1,5 @@
+pub mod Specifiers
+pub mod Operators
+pub mod Entries
+pub mod InitialOperators
+pub mod Settings
