@@ -1,5 +1,5 @@
 //! The table of operators (6.3.4.4, 8.14.3).
-ghost use Rattle.std.specs.Prelude.{◌≡◌, ◌<◌, ◌++◌, Some, None, length, map, slice_get, position, IsSome, IfOk, IfErr, OnOk, OnErr, Ok, Err};
+ghost use Rattle.std.specs.Prelude.{◌≡◌, ◌<◌, ◌++◌, Some, None, length, map, slice_get, position, IfSome, IfOk, IfErr, OnOk, OnErr, Ok, Err};
 ghost use Rattle.std.specs.Option.{option_map};
 ghost use Rattle.iso_ops.specs.declared.specifiers.Kind.TheVariants.{Prefix, Infix, Postfix};
 ghost use Rattle.iso_ops.specs.Operators.{is_for, find_op, priority_and_spec, IsOpTable};
@@ -62,6 +62,13 @@ impl Entry {
     }
 }
 
+// The place of the operator of this kind and name.
+fn place_of(entries: &[Entry], kind: Kind, name: &str) -> Option<usize>
+    ensures { result ≡ position (λ entry. is_for kind name.now (operator_of entry)) entries.now }
+{
+    entries.iter().position(|entry| entry.is_for(kind, name))
+}
+
 impl OpTable {
     /// The prefix operator of this name: its priority, 1 to 1200, and its specifier. Takes no memory.
     pub fn prefix(&self, name: &str) -> Option<(u16, Spec)>
@@ -92,7 +99,9 @@ impl OpTable {
         ensures entry { result ≡ option_map priority_and_spec (find_op kind name.now self.now) }
         ensures table { IsOpTable self.now }
     {
-        self.entries.iter().find(|entry| entry.is_for(kind, name)).map(|entry| (entry.priority, entry.spec))
+        let place = place_of(self.entries.as_slice(), kind, name)?;
+        let entry = &self.entries[place];
+        Some((entry.priority, entry.spec))
     }
 
     /// How many operators there are. Takes no memory.
