@@ -1,13 +1,12 @@
 -- The operators before any is set (6.3.4.4), in the order of `current_op/3`. The ones marked own aren't the standard's.
-use Rattle.std.specs.Prelude.{ℕ, List, [], ◌∷◌, ◌++◌, codes}
+use Rattle.std.specs.Prelude.{ℕ, List, [], ◌∷◌, ◌++◌, map, codes}
 use Rattle.iso_ops.specs.declared.specifiers.Spec.{Spec}
 use Rattle.iso_ops.specs.declared.specifiers.Spec.TheVariants.{Xfx, Xfy, Yfx, Fx, Fy}
 use Rattle.iso_ops.specs.Operators.{Operator}
 
 -- the operators of one priority and specifier with these names
 abbrev pub row_of : ℕ → Spec → List (List ℕ) → List Operator
-row_of priority spec [] = []
-row_of priority spec (name ∷ names) = record { priority = priority; spec = spec; name = name } ∷ row_of priority spec names
+row_of priority spec names = map (λ name. record { priority = priority; spec = spec; name = name }) names
 
 unfoldable pub initial_entries : List Operator
 initial_entries =

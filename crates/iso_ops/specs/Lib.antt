@@ -2,4 +2,5 @@ pub mod Specifiers
 pub mod Operators
 pub mod Entries
 pub mod InitialOperators
+pub mod Rows
 pub mod Settings
