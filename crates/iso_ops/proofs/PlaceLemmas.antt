@@ -1,8 +1,9 @@
 -- The first place at which a test passes, and what stands there.
-use Rattle.std.proofs.Common.{◌≡◌, ℕ, zero, suc, ◌+◌, ◌<◌, ◌≤◌, Bool, true, false, not, cond, nat_lt, List, [], ◌∷◌, length, map, position, slice_get, get_or, Option, Some, None, MatchOption, refl, sym, ap, subst, ◌∙◌, true≢false, arith}
+use Rattle.std.proofs.Common.{◌≡◌, ℕ, zero, suc, ◌+◌, ◌<◌, ◌≤◌, Bool, true, false, not, cond, nat_lt, List, [], ◌∷◌, length, map, position, slice_get, get_or, Some, None, refl, sym, ap, ◌∙◌, arith}
 use Rattle.std.specs.List.{find, prefix_len, position_or_len}
 use Rattle.std.proofs.lemmas.Bool.Decides.{nat_tests}
 use Rattle.std.proofs.lemmas.List.{length-map}
+use Rattle.std.proofs.lemmas.Option.{same_Some}
 use Rattle.std.proofs.lemmas.List.Quantifiers.{position-Some}
 
 module _ {X : Type 0} (test : X → Bool) where
@@ -53,6 +54,12 @@ module _ {X : Type 0} (test : X → Bool) where
   IsFirst-within [] i h = absurd h
   IsFirst-within (x ∷ xs) zero h = omega arith
   IsFirst-within (x ∷ xs) (suc i) h = omega (arith, IsFirst-within xs i h.1)
+
+  -- what stands there passes
+  pub IsFirst-passes : (xs : List X) (i : ℕ) (x : X) → IsFirst xs i → slice_get xs i ≡ Some x → test x ≡ true
+  IsFirst-passes [] i x h at = absurd h
+  IsFirst-passes (y ∷ ys) zero x h at = ap test (sym (same_Some y x at)) ∙ h
+  IsFirst-passes (y ∷ ys) (suc i) x h at = IsFirst-passes ys i x h.1 at
 
 prefix_len-map : {X Y : Type 0} (f : X → Y) (test : Y → Bool) (xs : List X) → prefix_len test (map f xs) ≡ prefix_len (λ x. test (f x)) xs
 prefix_len-map f test [] = refl

@@ -1,21 +1,17 @@
 -- Tables of operators: what is found in a table after an operator was put in or taken out, and that it stays a table.
-use Rattle.std.proofs.Common.{◌≡◌, ◌≢◌, ℕ, zero, suc, ◌+◌, ◌<◌, ◌≤◌, Bool, true, false, ◌&&◌, not, cond, if◌then◌else◌, List, [], ◌∷◌, ◌++◌, length, map, position, slice_get, get_or, set, take, drop, Option, Some, None, is_some, codes, refl, sym, ap, subst, ◌∙◌, true≢false, arith}
-use Rattle.std.specs.List.{find, remove}
+use Rattle.std.proofs.Common.{◌≡◌, ◌≢◌, ℕ, zero, suc, ◌≤◌, Bool, true, false, ◌&&◌, if◌then◌else◌, List, [], ◌∷◌, ◌++◌, set, Option, Some, None, is_some, codes, refl, sym, ap, ◌∙◌, true≢false}
+use Rattle.std.specs.List.{remove}
 use Rattle.std.specs.Str.{bytes_eq}
 use Rattle.std.proofs.lemmas.Slice.Eq.{bytes_eq-Decides}
-use Rattle.std.proofs.lemmas.List.{length-map}
-use Rattle.std.proofs.lemmas.Option.{none-some, slice_get-map, slice_get-get_or}
-use Rattle.std.specs.Option.{option_map}
+use Rattle.std.proofs.lemmas.Option.{none-some}
 use Rattle.iso_ops.specs.declared.specifiers.Kind.{Kind}
 use Rattle.iso_ops.specs.declared.specifiers.Kind.TheVariants.{Prefix, Infix, Postfix}
-use Rattle.iso_ops.specs.declared.table.Entry.{Entry}
 use Rattle.iso_ops.specs.Specifiers.{kind_of, same_kind}
-use Rattle.iso_ops.specs.Operators.{Operator, is_for, find_op, with_op, without_op, has_rival, HasPriorities, HasEachOnce, IsOpTable, comma}
-use Rattle.iso_ops.specs.Entries.{operator_of}
-use Rattle.iso_ops.proofs.PlaceLemmas.{IsFirst, IsFirst-within, find-at, find-position_none, IsFirst-position, position-map}
+use Rattle.iso_ops.specs.Operators.{Operator, is_for, find_op, with_op, without_op, has_rival, HasPriorities, HasEachOnce, IsOpTable}
+use Rattle.iso_ops.proofs.PlaceLemmas.{IsFirst}
 
 -- a test of two parts that passes
-both_true : (a b : Bool) → a && b ≡ true → (a ≡ true) × (b ≡ true)
+pub both_true : (a b : Bool) → a && b ≡ true → (a ≡ true) × (b ≡ true)
 both_true true b h = (refl, h)
 both_true false b h = absurd (true≢false (sym h))
 
@@ -263,18 +259,3 @@ IsOpTable-with_op op ops low high differs alone table = record {
                 let parts = is_for-parts Infix text op is_infix in
                 nothing (find_op Postfix text ops) (ap (λ k. has_rival k text ops) parts.0 ∙ ap (λ n. has_rival (kind_of op.spec) n ops) parts.1 ∙ alone))
             (λ none. table.apart text other (ap (λ b. if b then Some op else find_op Infix text ops) (sym none) ∙ sym (find-with_op Infix text op ops) ∙ found))
-
--- what is found among the entries, by the place that is found
-pub find_op-entries_none : (kind : Kind) (name : List ℕ) (entries : List Entry) → position (λ entry. is_for kind name (operator_of entry)) entries ≡ None → find_op kind name (map operator_of entries) ≡ None
-find_op-entries_none kind name entries h =
-    find-position_none (is_for kind name) (map operator_of entries) (position-map operator_of (is_for kind name) entries ∙ h)
-
-pub IsFirst-entries : (kind : Kind) (name : List ℕ) (entries : List Entry) (i : ℕ) → position (λ entry. is_for kind name (operator_of entry)) entries ≡ Some i → IsFirst (is_for kind name) (map operator_of entries) i
-IsFirst-entries kind name entries i h =
-    IsFirst-position (is_for kind name) (map operator_of entries) i (position-map operator_of (is_for kind name) entries ∙ h)
-
-pub find_op-entries_at : (kind : Kind) (name : List ℕ) (entries : List Entry) (i : ℕ) (entry : Entry) → position (λ entry. is_for kind name (operator_of entry)) entries ≡ Some i → entry ≡ get_or entries i entry → find_op kind name (map operator_of entries) ≡ Some (operator_of entry)
-find_op-entries_at kind name entries i entry h at =
-    let first = IsFirst-entries kind name entries i h in
-    let within : i < length entries = subst (λ n. i < n) (length-map entries operator_of) (IsFirst-within (is_for kind name) (map operator_of entries) i first) in
-    find-at (is_for kind name) (map operator_of entries) i first ∙ slice_get-map operator_of entries i ∙ ap (option_map operator_of) (slice_get-get_or entries i entry within ∙ ap Some (sym at))

@@ -2,11 +2,11 @@
 use Rattle.std.specs.Prelude.{ℕ, List, [], ◌∷◌, ◌++◌, map, codes}
 use Rattle.iso_ops.specs.declared.specifiers.Spec.{Spec}
 use Rattle.iso_ops.specs.declared.specifiers.Spec.TheVariants.{Xfx, Xfy, Yfx, Fx, Fy}
-use Rattle.iso_ops.specs.Operators.{Operator}
+use Rattle.iso_ops.specs.Operators.{Operator, operator}
 
 -- the operators of one priority and specifier with these names
 abbrev pub row_of : ℕ → Spec → List (List ℕ) → List Operator
-row_of priority spec names = map (λ name. record { priority = priority; spec = spec; name = name }) names
+row_of priority spec names = map (operator priority spec) names
 
 unfoldable pub initial_entries : List Operator
 initial_entries =

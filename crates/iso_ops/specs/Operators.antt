@@ -1,9 +1,7 @@
 -- A table of operators (ISO/IEC 13211-1:1995, 6.3.4 and 8.14.3): the list of its entries, in the order of `current_op/3`.
 use Rattle.std.specs.Prelude.{◌≡◌, ℕ, ℤ, pos, negsuc, ◌≤◌, Bool, false, ◌&&◌, ◌==◌, nat_le, nat_lt, List, [], ◌∷◌, Option, Some, None, is_some, Result, Ok, Err, codes, if◌then◌else◌, ⊤}
 use Rattle.std.specs.List.{find, list_any}
-use Rattle.std.specs.Option.{option_map}
 use Rattle.std.specs.Str.{bytes_eq}
-use Rattle.std.specs.String.{string_bytes}
 use Rattle.iso_ops.specs.declared.specifiers.Spec.{Spec}
 use Rattle.iso_ops.specs.declared.specifiers.Spec.TheVariants.{Xfy}
 use Rattle.iso_ops.specs.declared.specifiers.Kind.{Kind}
@@ -17,6 +15,10 @@ pub record Operator : Type 0 where
   pub priority : ℕ
   pub spec : Spec
   pub name : List ℕ
+
+-- the operator of this priority, specifier and name
+abbrev pub operator : ℕ → Spec → List ℕ → Operator
+operator priority spec name = record { priority = priority; spec = spec; name = name }
 
 -- whether an operator is of this kind and has this name
 abbrev pub is_for : Kind → List ℕ → Operator → Bool
@@ -44,6 +46,10 @@ without_op kind name (first ∷ others) = if is_for kind name first then others 
 abbrev pub set_op : Operator → List Operator → List Operator
 set_op op ops = if op.priority == 0 then without_op (kind_of op.spec) op.name ops else with_op op ops
 
+-- whether setting the operator makes a new entry
+abbrev pub AddsEntry : Operator → List Operator → Type 0
+AddsEntry op ops = (1 ≤ op.priority) × (find_op (kind_of op.spec) op.name ops ≡ None)
+
 -- the names that no call may make or change an operator of (own: `{}`)
 abbrev pub protected_names : List (List ℕ)
 protected_names = codes "," ∷ codes "[]" ∷ codes "{}" ∷ codes "|" ∷ []
@@ -60,7 +66,7 @@ allowed_op priority None name ops = Err Specifier
 allowed_op priority (Some spec) name ops =
     if list_any (bytes_eq name) protected_names then Err Protected
     else if nat_lt 0 priority && has_rival (kind_of spec) name ops then Err Clash
-    else Ok (record { priority = priority; spec = spec; name = name })
+    else Ok (operator priority spec name)
 
 -- the operator that a call asks for, or the first fault of the call (8.14.3.3; the order of the checks is own)
 abbrev pub asked_op : ℤ → List ℕ → List ℕ → List Operator → Result Operator OpFault
@@ -79,7 +85,7 @@ HasEachOnce (op ∷ ops) = (find_op (kind_of op.spec) op.name ops ≡ None) × H
 
 -- the comma, which is always an operator
 abbrev pub comma : Operator
-comma = record { priority = 1000; spec = Xfy; name = codes "," }
+comma = operator 1000 Xfy (codes ",")
 
 -- What is true of every table.
 pub record IsOpTable (ops : List Operator) : Type 0 where

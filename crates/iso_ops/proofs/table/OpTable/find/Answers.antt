@@ -1,18 +1,17 @@
-use Rattle.std.proofs.Common.{◌≡◌, sym, ap, ◌∙◌, None, Some, position}
+use Rattle.std.proofs.Common.{◌≡◌, sym, ap, ◌∙◌, None, Some}
 use Rattle.std.specs.Option.{option_map}
-use Rattle.iso_ops.specs.Entries.{operator_of}
-use Rattle.iso_ops.specs.Operators.{is_for, find_op, priority_and_spec}
-use Rattle.iso_ops.proofs.TableLemmas.{find_op-entries_none, find_op-entries_at}
+use Rattle.iso_ops.specs.Operators.{find_op, priority_and_spec}
+use Rattle.iso_ops.proofs.EntryLemmas.{entry_place, find_op-nowhere, find_op-entry}
 use Rattle.iso_ops.proofs.table.OpTable.find.Goals as goal
 
 pub returns-in_err-place-clause-entry : goal.returns-in_err-place-clause-entry
 returns-in_err-place-clause-entry c =
-    let nowhere : position (λ entry. is_for c.args.kind c.args.name.now (operator_of entry)) c.self.inside.entries.items ≡ None = rw (← c.as_slice.ensures.value) (sym c.in_err-place.ensures) in
-    let none = find_op-entries_none c.args.kind c.args.name.now c.self.inside.entries.items nowhere in
+    let nowhere : entry_place c.args.kind c.args.name.now c.self.inside.entries.items ≡ None = rw (← c.as_slice.ensures.value) (sym c.in_err-place.ensures) in
+    let none = find_op-nowhere c.args.kind c.args.name.now c.self.inside.entries.items nowhere in
     c.from_residual.ensures ∙ ap (option_map priority_and_spec) (sym none ∙ ap (find_op c.args.kind c.args.name.now) c.self.view_is)
 
 pub returns-clause-entry : goal.returns-clause-entry
 returns-clause-entry c =
-    let here : position (λ entry. is_for c.args.kind c.args.name.now (operator_of entry)) c.self.inside.entries.items ≡ Some c.in_ok-place.place = rw (← c.as_slice.ensures.value) (sym c.in_ok-place.ensures) in
-    let found = find_op-entries_at c.args.kind c.args.name.now c.self.inside.entries.items c.in_ok-place.place c.index-entry.result.now here c.index-entry.ensures in
+    let here : entry_place c.args.kind c.args.name.now c.self.inside.entries.items ≡ Some c.in_ok-place.place = rw (← c.as_slice.ensures.value) (sym c.in_ok-place.ensures) in
+    let found = find_op-entry c.args.kind c.args.name.now c.self.inside.entries.items c.in_ok-place.place c.index-entry.result.now here c.index-entry.ensures in
     ap (option_map priority_and_spec) (sym found ∙ ap (find_op c.args.kind c.args.name.now) c.self.view_is)
