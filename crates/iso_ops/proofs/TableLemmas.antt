@@ -1,9 +1,9 @@
 -- Tables of operators: what is found in a table after an operator was put in or taken out, and that it stays a table.
-use Rattle.std.proofs.Common.{◌≡◌, ◌≢◌, ℕ, zero, suc, ◌≤◌, Bool, true, false, ◌&&◌, if◌then◌else◌, List, [], ◌∷◌, ◌++◌, set, Option, Some, None, is_some, codes, refl, sym, ap, ◌∙◌, true≢false}
+use Rattle.std.proofs.Common.{subst, ◌≡◌, ◌≢◌, ℕ, zero, suc, ◌≤◌, Bool, true, false, ◌&&◌, if◌then◌else◌, List, [], ◌∷◌, ◌++◌, set, Option, Some, None, is_some, codes, refl, sym, ap, ◌∙◌, true≢false}
 use Rattle.std.specs.List.{remove}
 use Rattle.std.specs.Str.{bytes_eq}
 use Rattle.std.proofs.lemmas.Slice.Eq.{bytes_eq-Decides}
-use Rattle.std.proofs.lemmas.Option.{none-some}
+use Rattle.std.proofs.lemmas.Option.{none-some, same_Some}
 use Rattle.iso_ops.specs.declared.specifiers.Kind.{Kind}
 use Rattle.iso_ops.specs.declared.specifiers.Kind.TheVariants.{Prefix, Infix, Postfix}
 use Rattle.iso_ops.specs.Specifiers.{kind_of, same_kind}
@@ -259,3 +259,37 @@ IsOpTable-with_op op ops low high differs alone table = record {
                 let parts = is_for-parts Infix text op is_infix in
                 nothing (find_op Postfix text ops) (ap (λ k. has_rival k text ops) parts.0 ∙ ap (λ n. has_rival (kind_of op.spec) n ops) parts.1 ∙ alone))
             (λ none. table.apart text other (ap (λ b. if b then Some op else find_op Infix text ops) (sym none) ∙ sym (find-with_op Infix text op ops) ∙ found))
+
+-- the operator that is found is of the kind and name
+pub find_op-parts : (kind : Kind) (name : List ℕ) (ops : List Operator) (op : Operator) → find_op kind name ops ≡ Some op → (kind ≡ kind_of op.spec) × (name ≡ op.name)
+find_op-parts kind name [] op h = absurd (none-some op h)
+find_op-parts kind name (first ∷ others) op h =
+    by_test (is_for kind name first)
+        (λ passes.
+            let same : first ≡ op = same_Some first op (sym (ap (λ b. if b then Some first else find_op kind name others) passes) ∙ h) in
+            is_for-parts kind name op (subst (λ o. is_for kind name o ≡ true) same passes))
+        (found (find_op-parts kind name others op))
+  where
+    found : (find_op kind name others ≡ Some op → (kind ≡ kind_of op.spec) × (name ≡ op.name)) → is_for kind name first ≡ false → (kind ≡ kind_of op.spec) × (name ≡ op.name)
+    found rest fails = rest (sym (ap (λ b. if b then Some first else find_op kind name others) fails) ∙ h)
+
+-- its priority is from 1 to 1200
+pub find_op-priority : (kind : Kind) (name : List ℕ) (ops : List Operator) (op : Operator) → HasPriorities ops → find_op kind name ops ≡ Some op → (1 ≤ op.priority) × (op.priority ≤ 1200)
+find_op-priority kind name [] op ranges h = absurd (none-some op h)
+find_op-priority kind name (first ∷ others) op ranges h =
+    by_test (is_for kind name first)
+        (λ passes.
+            let same : first ≡ op = same_Some first op (sym (ap (λ b. if b then Some first else find_op kind name others) passes) ∙ h) in
+            subst (λ o. (1 ≤ o.priority) × (o.priority ≤ 1200)) same (ranges.0, ranges.1))
+        (found (find_op-priority kind name others op ranges.2))
+  where
+    found : (find_op kind name others ≡ Some op → (1 ≤ op.priority) × (op.priority ≤ 1200)) → is_for kind name first ≡ false → (1 ≤ op.priority) × (op.priority ≤ 1200)
+    found rest fails = rest (sym (ap (λ b. if b then Some first else find_op kind name others) fails) ∙ h)
+
+-- a postfix name is no infix one
+pub apart-postfix : (ops : List Operator) (name : List ℕ) (op : Operator) → IsOpTable ops → find_op Postfix name ops ≡ Some op → find_op Infix name ops ≡ None
+apart-postfix ops name op table h = by (find_op Infix name ops) refl
+  where
+    by : (found : Option Operator) → find_op Infix name ops ≡ found → found ≡ None
+    by None is = refl
+    by (Some other) is = absurd (none-some op (sym (table.apart name other is) ∙ h))

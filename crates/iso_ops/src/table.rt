@@ -1,5 +1,5 @@
 //! The table of operators (6.3.4.4, 8.14.3).
-ghost use Rattle.std.specs.Prelude.{◌≡◌, ◌≢◌, ◌<◌, ◌≤◌, ◌++◌, codes, Some, None, false, length, map, slice_get, position, IfSome, IfOk, IfErr, OnOk, OnErr, Ok, Err, MatchResult};
+ghost use Rattle.std.specs.Prelude.{◌≡◌, ◌≢◌, ◌<◌, ◌≤◌, ◌++◌, codes, Some, None, false, length, map, slice_get, position, IfSome, IfOk, IfErr, OnOk, OnErr, Ok, Err, MatchResult, IsOkAnd};
 ghost use Rattle.std.specs.List.{list_any};
 ghost use Rattle.std.specs.Option.{option_map};
 ghost use Rattle.std.specs.Str.{bytes_eq};
@@ -204,7 +204,7 @@ impl OpTable {
     /// it away. The faults are found in the order of `OpFault`, and nothing changes after any. Memory is refused only where
     /// an operator is new.
     pub fn add_op(&mut self, priority: i64, spec: &str, name: &str) -> Result<(), OpFault>
-        ensures set { OnOk result (IfOk (asked_op priority spec.now name.now self.old) (λ op. self.new ≡ set_op op self.old)) }
+        ensures set { OnOk result (IsOkAnd (asked_op priority spec.now name.now self.old) (λ op. self.new ≡ set_op op self.old)) }
         ensures fault { IfErr (asked_op priority spec.now name.now self.old) (λ fault. result ≡ Err fault) }
         ensures unchanged { OnErr result (self.new ≡ self.old) }
 
