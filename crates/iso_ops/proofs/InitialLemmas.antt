@@ -43,8 +43,8 @@ HasEachOnce-tested (op ∷ ops) h =
 pub IsOpTable-initial_entries : IsOpTable initial_entries
 unfolding initial_entries
 IsOpTable-initial_entries = record {
-    priorities = HasPriorities-tested initial_entries refl;
-    each_once = HasEachOnce-tested initial_entries refl;
-    has_comma = refl;
-    apart = λ name op found. refl
-  }
+  priorities = HasPriorities-tested initial_entries refl;
+  each_once = HasEachOnce-tested initial_entries refl;
+  has_comma = refl;
+  apart = λ name op found. refl;
+}

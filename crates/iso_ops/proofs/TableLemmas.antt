@@ -63,8 +63,8 @@ one_test op other kind name h k =
 is_for-other : (op other : Operator) → is_for (kind_of op.spec) op.name other ≡ false → is_for (kind_of other.spec) other.name op ≡ false
 is_for-other op other h =
     by_test (is_for (kind_of other.spec) other.name op)
-        (λ passes. absurd (true≢false (sym (one_test op other (kind_of other.spec) other.name passes (is_for-self other)) ∙ h)))
-        (λ fails. fails)
+    (λ passes. absurd (true≢false (sym (one_test op other (kind_of other.spec) other.name passes (is_for-self other)) ∙ h)))
+    (λ fails. fails)
 
 -- what is found once an operator was put in
 pub find-with_op : (kind : Kind) (name : List ℕ) (op : Operator) (ops : List Operator) → find_op kind name (with_op op ops) ≡ (if is_for kind name op then Some op else find_op kind name ops)
@@ -75,31 +75,32 @@ find-with_op kind name op (first ∷ others) = by_test (is_for (kind_of op.spec)
     replaced same =
         ap (λ b. find_op kind name (if b then op ∷ others else first ∷ with_op op others)) same
         ∙ by_test (is_for kind name op)
-            (λ passes. rw passes refl)
-            (λ fails. rw (fails, sym (same_tests op first same kind name) ∙ fails) refl)
+        (λ passes. rw passes refl)
+        (λ fails. rw (fails, sym (same_tests op first same kind name) ∙ fails) refl)
+
     kept : find_op kind name (with_op op others) ≡ (if is_for kind name op then Some op else find_op kind name others) → is_for (kind_of op.spec) op.name first ≡ false → find_op kind name (with_op op (first ∷ others)) ≡ (if is_for kind name op then Some op else find_op kind name (first ∷ others))
     kept rest differs =
         ap (λ b. find_op kind name (if b then op ∷ others else first ∷ with_op op others)) differs
         ∙ by_test (is_for kind name first)
-            (λ passes. by_test (is_for kind name op)
-                (λ both. absurd (true≢false (sym (one_test op first kind name both passes) ∙ differs)))
-                (λ fails. rw (passes, fails) refl))
-            (λ fails. rw (fails, rest) refl)
+        (λ passes. by_test (is_for kind name op)
+        (λ both. absurd (true≢false (sym (one_test op first kind name both passes) ∙ differs)))
+        (λ fails. rw (passes, fails) refl))
+        (λ fails. rw (fails, rest) refl)
 
 -- what isn't found isn't found either once an operator was taken out
 pub find-without_op_none : (kind : Kind) (name : List ℕ) (gone : Kind) (text : List ℕ) (ops : List Operator) → find_op kind name ops ≡ None → find_op kind name (without_op gone text ops) ≡ None
 find-without_op_none kind name gone text [] h = refl
 find-without_op_none kind name gone text (first ∷ others) h =
     by_test (is_for kind name first)
-        (λ passes. absurd (none-some first (sym h ∙ ap (λ b. if b then Some first else find_op kind name others) passes)))
-        (passed (find-without_op_none kind name gone text others))
+    (λ passes. absurd (none-some first (sym h ∙ ap (λ b. if b then Some first else find_op kind name others) passes)))
+    (passed (find-without_op_none kind name gone text others))
   where
     passed : (find_op kind name others ≡ None → find_op kind name (without_op gone text others) ≡ None) → is_for kind name first ≡ false → find_op kind name (without_op gone text (first ∷ others)) ≡ None
     passed rest fails =
         let none : find_op kind name others ≡ None = sym (ap (λ b. if b then Some first else find_op kind name others) fails) ∙ h in
         by_test (is_for gone text first)
-            (λ passes. rw passes none)
-            (λ differs. rw (differs, fails) (rest none))
+        (λ passes. rw passes none)
+        (λ differs. rw (differs, fails) (rest none))
 
 -- an operator of another kind or name is found as before
 pub find-without_op_other : (kind : Kind) (name : List ℕ) (gone : Kind) (text : List ℕ) → ((op : Operator) → is_for kind name op ≡ true → is_for gone text op ≡ false) → (ops : List Operator) → find_op kind name (without_op gone text ops) ≡ find_op kind name ops
@@ -110,8 +111,9 @@ find-without_op_other kind name gone text apart (first ∷ others) =
     taken : is_for gone text first ≡ true → find_op kind name (without_op gone text (first ∷ others)) ≡ find_op kind name (first ∷ others)
     taken passes =
         by_test (is_for kind name first)
-            (λ both. absurd (true≢false (sym passes ∙ apart first both)))
-            (λ fails. rw (passes, fails) refl)
+        (λ both. absurd (true≢false (sym passes ∙ apart first both)))
+        (λ fails. rw (passes, fails) refl)
+
     left : find_op kind name (without_op gone text others) ≡ find_op kind name others → is_for gone text first ≡ false → find_op kind name (without_op gone text (first ∷ others)) ≡ find_op kind name (first ∷ others)
     left rest fails = rw (fails, rest) refl
 
@@ -137,8 +139,8 @@ pub with_op-new : (op : Operator) (ops : List Operator) → find_op (kind_of op.
 with_op-new op [] h = refl
 with_op-new op (first ∷ others) h =
     by_test (is_for (kind_of op.spec) op.name first)
-        (λ passes. absurd (none-some first (sym h ∙ ap (λ b. if b then Some first else find_op (kind_of op.spec) op.name others) passes)))
-        (passed (with_op-new op others))
+    (λ passes. absurd (none-some first (sym h ∙ ap (λ b. if b then Some first else find_op (kind_of op.spec) op.name others) passes)))
+    (passed (with_op-new op others))
   where
     passed : (find_op (kind_of op.spec) op.name others ≡ None → with_op op others ≡ others ++ op ∷ []) → is_for (kind_of op.spec) op.name first ≡ false → with_op op (first ∷ others) ≡ (first ∷ others) ++ op ∷ []
     passed rest fails =
@@ -155,8 +157,8 @@ pub without_op-none : (kind : Kind) (name : List ℕ) (ops : List Operator) → 
 without_op-none kind name [] h = refl
 without_op-none kind name (first ∷ others) h =
     by_test (is_for kind name first)
-        (λ passes. absurd (none-some first (sym h ∙ ap (λ b. if b then Some first else find_op kind name others) passes)))
-        (passed (without_op-none kind name others))
+    (λ passes. absurd (none-some first (sym h ∙ ap (λ b. if b then Some first else find_op kind name others) passes)))
+    (passed (without_op-none kind name others))
   where
     passed : (find_op kind name others ≡ None → without_op kind name others ≡ others) → is_for kind name first ≡ false → without_op kind name (first ∷ others) ≡ first ∷ others
     passed rest fails =
@@ -168,8 +170,8 @@ pub HasEachOnce-without_op : (kind : Kind) (name : List ℕ) (ops : List Operato
 HasEachOnce-without_op kind name [] h = tt
 HasEachOnce-without_op kind name (first ∷ others) h =
     by_test (is_for kind name first)
-        (λ passes. rw passes h.1)
-        (λ fails. rw fails (find-without_op_none (kind_of first.spec) first.name kind name others h.0, HasEachOnce-without_op kind name others h.1))
+    (λ passes. rw passes h.1)
+    (λ fails. rw fails (find-without_op_none (kind_of first.spec) first.name kind name others h.0, HasEachOnce-without_op kind name others h.1))
 
 pub HasEachOnce-with_op : (op : Operator) (ops : List Operator) → HasEachOnce ops → HasEachOnce (with_op op ops)
 HasEachOnce-with_op op [] h = (refl, tt)
@@ -181,49 +183,51 @@ HasEachOnce-with_op op (first ∷ others) h =
         let parts = is_for-parts (kind_of op.spec) op.name first same in
         let none : find_op (kind_of op.spec) op.name others ≡ None = ap (λ k. find_op k op.name others) parts.0 ∙ ap (λ n. find_op (kind_of first.spec) n others) parts.1 ∙ h.0 in
         rw same (none, h.1)
+
     kept : HasEachOnce (with_op op others) → is_for (kind_of op.spec) op.name first ≡ false → HasEachOnce (with_op op (first ∷ others))
     kept rest differs =
         let none : find_op (kind_of first.spec) first.name (with_op op others) ≡ None =
-            find-with_op (kind_of first.spec) first.name op others
-            ∙ ap (λ b. if b then Some op else find_op (kind_of first.spec) first.name others) (is_for-other op first differs)
-            ∙ h.0 in
+        find-with_op (kind_of first.spec) first.name op others
+        ∙ ap (λ b. if b then Some op else find_op (kind_of first.spec) first.name others) (is_for-other op first differs)
+        ∙ h.0 in
         rw differs (none, rest)
 
 pub HasPriorities-without_op : (kind : Kind) (name : List ℕ) (ops : List Operator) → HasPriorities ops → HasPriorities (without_op kind name ops)
 HasPriorities-without_op kind name [] h = tt
 HasPriorities-without_op kind name (first ∷ others) h =
     by_test (is_for kind name first)
-        (λ passes. rw passes h.2)
-        (λ fails. rw fails (h.0, h.1, HasPriorities-without_op kind name others h.2))
+    (λ passes. rw passes h.2)
+    (λ fails. rw fails (h.0, h.1, HasPriorities-without_op kind name others h.2))
 
 pub HasPriorities-with_op : (op : Operator) (ops : List Operator) → 1 ≤ op.priority → op.priority ≤ 1200 → HasPriorities ops → HasPriorities (with_op op ops)
 HasPriorities-with_op op [] low high h = (low, high, tt)
 HasPriorities-with_op op (first ∷ others) low high h =
     by_test (is_for (kind_of op.spec) op.name first)
-        (λ passes. rw passes (low, high, h.2))
-        (λ fails. rw fails (h.0, h.1, HasPriorities-with_op op others low high h.2))
+    (λ passes. rw passes (low, high, h.2))
+    (λ fails. rw fails (h.0, h.1, HasPriorities-with_op op others low high h.2))
 
 -- no test for the comma is passed by an operator of another name
 not_comma : (op : Operator) → op.name ≢ codes "," → is_for Infix (codes ",") op ≡ false
 not_comma op differs =
     by_test (is_for Infix (codes ",") op)
-        (λ passes. absurd (differs (sym (is_for-parts Infix (codes ",") op passes).1)))
-        (λ fails. fails)
+    (λ passes. absurd (differs (sym (is_for-parts Infix (codes ",") op passes).1)))
+    (λ fails. fails)
 
 -- a table stays a table where an operator but the comma is taken out
 pub IsOpTable-without_op : (kind : Kind) (name : List ℕ) (ops : List Operator) → name ≢ codes "," → IsOpTable ops → IsOpTable (without_op kind name ops)
 IsOpTable-without_op kind name ops differs table = record {
-    priorities = HasPriorities-without_op kind name ops table.priorities;
-    each_once = HasEachOnce-without_op kind name ops table.each_once;
-    has_comma = find-without_op_other Infix (codes ",") kind name other ops ∙ table.has_comma;
-    apart = λ text op found. find-without_op_none Postfix text kind name ops (still text op found (find_op Infix text ops) refl)
-  }
+  priorities = HasPriorities-without_op kind name ops table.priorities;
+  each_once = HasEachOnce-without_op kind name ops table.each_once;
+  has_comma = find-without_op_other Infix (codes ",") kind name other ops ∙ table.has_comma;
+  apart = λ text op found. find-without_op_none Postfix text kind name ops (still text op found (find_op Infix text ops) refl);
+}
   where
     other : (op : Operator) → is_for Infix (codes ",") op ≡ true → is_for kind name op ≡ false
     other op passes =
         by_test (is_for kind name op)
-            (λ both. absurd (differs ((is_for-parts kind name op both).1 ∙ sym (is_for-parts Infix (codes ",") op passes).1)))
-            (λ fails. fails)
+        (λ both. absurd (differs ((is_for-parts kind name op both).1 ∙ sym (is_for-parts Infix (codes ",") op passes).1)))
+        (λ fails. fails)
+
     still : (text : List ℕ) (op : Operator) → find_op Infix text (without_op kind name ops) ≡ Some op → (found : Option Operator) → find_op Infix text ops ≡ found → find_op Postfix text ops ≡ None
     still text op found None is = absurd (none-some op (sym (find-without_op_none Infix text kind name ops is) ∙ found))
     still text op found (Some before) is = table.apart text before is
@@ -231,44 +235,46 @@ IsOpTable-without_op kind name ops differs table = record {
 -- and where one is put in that isn't the comma and has no rival
 pub IsOpTable-with_op : (op : Operator) (ops : List Operator) → 1 ≤ op.priority → op.priority ≤ 1200 → op.name ≢ codes "," → has_rival (kind_of op.spec) op.name ops ≡ false → IsOpTable ops → IsOpTable (with_op op ops)
 IsOpTable-with_op op ops low high differs alone table = record {
-    priorities = HasPriorities-with_op op ops low high table.priorities;
-    each_once = HasEachOnce-with_op op ops table.each_once;
-    has_comma =
-        find-with_op Infix (codes ",") op ops
-        ∙ ap (λ b. if b then Some op else find_op Infix (codes ",") ops) (not_comma op differs)
-        ∙ table.has_comma;
-    apart = λ text other found. by_test (is_for Postfix text op) (postfix text other found) (others text other found)
-  }
+  priorities = HasPriorities-with_op op ops low high table.priorities;
+  each_once = HasEachOnce-with_op op ops table.each_once;
+  has_comma =
+      find-with_op Infix (codes ",") op ops
+      ∙ ap (λ b. if b then Some op else find_op Infix (codes ",") ops) (not_comma op differs)
+      ∙ table.has_comma;
+  apart = λ text other found. by_test (is_for Postfix text op) (postfix text other found) (others text other found);
+}
   where
     nothing : (found : Option Operator) → is_some found ≡ false → found ≡ None
     nothing None h = refl
     nothing (Some x) h = absurd (true≢false h)
+
     postfix : (text : List ℕ) (other : Operator) → find_op Infix text (with_op op ops) ≡ Some other → is_for Postfix text op ≡ true → find_op Postfix text (with_op op ops) ≡ None
     postfix text other found passes =
         let parts = is_for-parts Postfix text op passes in
         let no_infix : find_op Infix text ops ≡ None =
-            nothing (find_op Infix text ops) (ap (λ k. has_rival k text ops) parts.0 ∙ ap (λ n. has_rival (kind_of op.spec) n ops) parts.1 ∙ alone) in
+        nothing (find_op Infix text ops) (ap (λ k. has_rival k text ops) parts.0 ∙ ap (λ n. has_rival (kind_of op.spec) n ops) parts.1 ∙ alone) in
         let not_infix : is_for Infix text op ≡ false = ap (λ k. same_kind Infix k && bytes_eq text op.name) (sym parts.0) in
         absurd (none-some other (sym no_infix ∙ ap (λ b. if b then Some op else find_op Infix text ops) (sym not_infix) ∙ sym (find-with_op Infix text op ops) ∙ found))
+
     others : (text : List ℕ) (other : Operator) → find_op Infix text (with_op op ops) ≡ Some other → is_for Postfix text op ≡ false → find_op Postfix text (with_op op ops) ≡ None
     others text other found fails =
         find-with_op Postfix text op ops
         ∙ ap (λ b. if b then Some op else find_op Postfix text ops) fails
         ∙ by_test (is_for Infix text op)
-            (λ is_infix.
-                let parts = is_for-parts Infix text op is_infix in
-                nothing (find_op Postfix text ops) (ap (λ k. has_rival k text ops) parts.0 ∙ ap (λ n. has_rival (kind_of op.spec) n ops) parts.1 ∙ alone))
-            (λ none. table.apart text other (ap (λ b. if b then Some op else find_op Infix text ops) (sym none) ∙ sym (find-with_op Infix text op ops) ∙ found))
+        (λ is_infix.
+        let parts = is_for-parts Infix text op is_infix in
+        nothing (find_op Postfix text ops) (ap (λ k. has_rival k text ops) parts.0 ∙ ap (λ n. has_rival (kind_of op.spec) n ops) parts.1 ∙ alone))
+        (λ none. table.apart text other (ap (λ b. if b then Some op else find_op Infix text ops) (sym none) ∙ sym (find-with_op Infix text op ops) ∙ found))
 
 -- the operator that is found is of the kind and name
 pub find_op-parts : (kind : Kind) (name : List ℕ) (ops : List Operator) (op : Operator) → find_op kind name ops ≡ Some op → (kind ≡ kind_of op.spec) × (name ≡ op.name)
 find_op-parts kind name [] op h = absurd (none-some op h)
 find_op-parts kind name (first ∷ others) op h =
     by_test (is_for kind name first)
-        (λ passes.
-            let same : first ≡ op = same_Some first op (sym (ap (λ b. if b then Some first else find_op kind name others) passes) ∙ h) in
-            is_for-parts kind name op (subst (λ o. is_for kind name o ≡ true) same passes))
-        (found (find_op-parts kind name others op))
+    (λ passes.
+    let same : first ≡ op = same_Some first op (sym (ap (λ b. if b then Some first else find_op kind name others) passes) ∙ h) in
+    is_for-parts kind name op (subst (λ o. is_for kind name o ≡ true) same passes))
+    (found (find_op-parts kind name others op))
   where
     found : (find_op kind name others ≡ Some op → (kind ≡ kind_of op.spec) × (name ≡ op.name)) → is_for kind name first ≡ false → (kind ≡ kind_of op.spec) × (name ≡ op.name)
     found rest fails = rest (sym (ap (λ b. if b then Some first else find_op kind name others) fails) ∙ h)
@@ -278,10 +284,10 @@ pub find_op-priority : (kind : Kind) (name : List ℕ) (ops : List Operator) (op
 find_op-priority kind name [] op ranges h = absurd (none-some op h)
 find_op-priority kind name (first ∷ others) op ranges h =
     by_test (is_for kind name first)
-        (λ passes.
-            let same : first ≡ op = same_Some first op (sym (ap (λ b. if b then Some first else find_op kind name others) passes) ∙ h) in
-            subst (λ o. (1 ≤ o.priority) × (o.priority ≤ 1200)) same (ranges.0, ranges.1))
-        (found (find_op-priority kind name others op ranges.2))
+    (λ passes.
+    let same : first ≡ op = same_Some first op (sym (ap (λ b. if b then Some first else find_op kind name others) passes) ∙ h) in
+    subst (λ o. (1 ≤ o.priority) × (o.priority ≤ 1200)) same (ranges.0, ranges.1))
+    (found (find_op-priority kind name others op ranges.2))
   where
     found : (find_op kind name others ≡ Some op → (1 ≤ op.priority) × (op.priority ≤ 1200)) → is_for kind name first ≡ false → (1 ≤ op.priority) × (op.priority ≤ 1200)
     found rest fails = rest (sym (ap (λ b. if b then Some first else find_op kind name others) fails) ∙ h)

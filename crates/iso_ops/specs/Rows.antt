@@ -7,4 +7,4 @@ use Rattle.iso_ops.specs.InitialOperators.{row_of}
 use Rattle.iso_ops.specs.Operators.{Operator}
 
 abbrev pub operators_of : List Row → List Operator
-operators_of rows = flat_map (λ row. row_of row.priority row.spec (map text_of row.names.now)) rows
+operators_of rows = flat_map (λ row. row_of row.0 row.1 (map text_of row.2.now)) rows

@@ -8,54 +8,66 @@ use crate::specifiers::Spec;
 use crate::table::Entry;
 use std::alloc::{AllocError, Global};
 
-// Operators of one priority and specifier.
-pub(crate) struct Row {
-    priority: u16,
-    spec: Spec,
-    names: &'static [&'static str],
-}
+// Operators of one priority and specifier: both, and the names.
+#[derive(Clone, Copy)]
+pub(crate) struct Row(u16, Spec, &'static [&'static str]);
 
 // The rows of the standard's table, and two of this project's own.
 const ROWS: [Row; 14] = [
-    Row { priority: 1200, spec: Spec::Xfx, names: &[":-", "-->"] },
-    Row { priority: 1200, spec: Spec::Fx, names: &[":-", "?-"] },
-    Row { priority: 1150, spec: Spec::Fx, names: &["dynamic", "discontiguous", "multifile", "initialization"] },
-    Row { priority: 1100, spec: Spec::Xfy, names: &[";"] },
-    Row { priority: 1050, spec: Spec::Xfy, names: &["->"] },
-    Row { priority: 1000, spec: Spec::Xfy, names: &[","] },
-    Row { priority: 900, spec: Spec::Fy, names: &["\\+"] },
-    Row {
-        priority: 700,
-        spec: Spec::Xfx,
-        names: &[
-            "=", "\\=", "==", "\\==", "@<", "@=<", "@>", "@>=", "=..", "is", "=:=", "=\\=", "<", "=<", ">", ">=",
+    Row(1200, Spec::Xfx, &[":-", "-->"]),
+    Row(1200, Spec::Fx, &[":-", "?-"]),
+    Row(
+        1150,
+        Spec::Fx,
+        &["dynamic", "discontiguous", "multifile", "initialization"],
+    ),
+    Row(1100, Spec::Xfy, &[";"]),
+    Row(1050, Spec::Xfy, &["->"]),
+    Row(1000, Spec::Xfy, &[","]),
+    Row(900, Spec::Fy, &["\\+"]),
+    Row(
+        700,
+        Spec::Xfx,
+        &[
+            "=", "\\=", "==", "\\==", "@<", "@=<", "@>", "@>=", "=..", "is", "=:=", "=\\=", "<",
+            "=<", ">", ">=",
         ],
-    },
-    Row { priority: 500, spec: Spec::Yfx, names: &["+", "-", "/\\", "\\/"] },
-    Row { priority: 400, spec: Spec::Yfx, names: &["*", "/", "//", "rem", "mod", "<<", ">>"] },
-    Row { priority: 400, spec: Spec::Yfx, names: &["div"] },
-    Row { priority: 200, spec: Spec::Xfx, names: &["**"] },
-    Row { priority: 200, spec: Spec::Xfy, names: &["^"] },
-    Row { priority: 200, spec: Spec::Fy, names: &["-", "\\"] },
+    ),
+    Row(500, Spec::Yfx, &["+", "-", "/\\", "\\/"]),
+    Row(400, Spec::Yfx, &["*", "/", "//", "rem", "mod", "<<", ">>"]),
+    Row(400, Spec::Yfx, &["div"]),
+    Row(200, Spec::Xfx, &["**"]),
+    Row(200, Spec::Xfy, &["^"]),
+    Row(200, Spec::Fy, &["-", "\\"]),
 ];
 
 // Puts an operator behind the others. The error is that memory was refused; then nothing changed.
-pub(crate) fn push_entry(entries: &mut Vec<Entry>, priority: u16, spec: Spec, name: &str) -> Result<(), AllocError>
+pub(crate) fn push_entry(
+    entries: &mut Vec<Entry>,
+    priority: u16,
+    spec: Spec,
+    name: &str,
+) -> Result<(), AllocError>
     ensures ok { OnOk result (map operator_of entries.new.items ≡ map operator_of entries.old.items ++ row_of priority spec (name.now ∷ [])) }
     ensures err { OnErr result (entries.new.items ≡ entries.old.items) }
 {
     let name = String::from_str(*entries.allocator(), name)?;
-    entries.push(Entry { priority, spec, name })?;
+    entries.push(Entry {
+        priority,
+        spec,
+        name,
+    })?;
     Ok(())
 }
 
 impl Row {
     // Puts the row's operators behind the others.
     fn push_to(&self, entries: &mut Vec<Entry>) -> Result<(), AllocError>
-        ensures { OnOk result (map operator_of entries.new.items ≡ map operator_of entries.old.items ++ row_of self.now.priority self.now.spec (map text_of self.now.names.now)) }
+        ensures { OnOk result (map operator_of entries.new.items ≡ map operator_of entries.old.items ++ row_of self.now.0 self.now.1 (map text_of self.now.2.now)) }
     {
-        for name in self.names {
-            push_entry(entries, self.priority, self.spec, name)?;
+        let Row(priority, spec, names) = *self;
+        for name in names {
+            push_entry(entries, priority, spec, name)?;
         }
         Ok(())
     }

@@ -129,8 +129,8 @@ impl OpTable {
         ensures entry { result ≡ option_map priority_and_spec (find_op kind name.now self.now) }
         ensures table { IsOpTable self.now }
     {
-        let place = place_of(self.entries.as_slice(), kind, name)?;
-        let entry = &self.entries[place];
+        let found = place_of(self.entries.as_slice(), kind, name)?;
+        let entry = &self.entries[found];
         Some((entry.priority, entry.spec))
     }
 

@@ -7,12 +7,20 @@ use std::test::Fail;
 const INITIAL: [(u16, Spec, &str); 14] = [
     (1200, Spec::Xfx, ":- -->"),
     (1200, Spec::Fx, ":- ?-"),
-    (1150, Spec::Fx, "dynamic discontiguous multifile initialization"),
+    (
+        1150,
+        Spec::Fx,
+        "dynamic discontiguous multifile initialization",
+    ),
     (1100, Spec::Xfy, ";"),
     (1050, Spec::Xfy, "->"),
     (1000, Spec::Xfy, ","),
     (900, Spec::Fy, "\\+"),
-    (700, Spec::Xfx, "= \\= == \\== @< @=< @> @>= =.. is =:= =\\= < =< > >="),
+    (
+        700,
+        Spec::Xfx,
+        "= \\= == \\== @< @=< @> @>= =.. is =:= =\\= < =< > >=",
+    ),
     (500, Spec::Yfx, "+ - /\\ \\/"),
     (400, Spec::Yfx, "* / // rem mod << >>"),
     (400, Spec::Yfx, "div"),
@@ -30,7 +38,13 @@ fn initial_at_last(alloc: Global) -> Result<OpTable, NoMemory> {
 }
 
 // Sets an operator; where memory is refused, the table is as long as before, and it is set once more.
-fn set_at_last(rt: &impl Abort, table: &mut OpTable, priority: i64, spec: &str, name: &str) -> Result<(), OpFault> {
+fn set_at_last(
+    rt: &impl Abort,
+    table: &mut OpTable,
+    priority: i64,
+    spec: &str,
+    name: &str,
+) -> Result<(), OpFault> {
     let len = table.len();
     match table.add_op(priority, spec, name) {
         Err(OpFault::NoMemory) => {
@@ -89,7 +103,10 @@ fn operators_are_set_and_refused(rt: HostRuntime) -> Result<(), Fail> {
     assert_eq!(rt; set_at_last(&rt, &mut table, 0, "xf", "+"), Ok(()));
     assert_eq!(rt; set_at_last(&rt, &mut table, 300, "yf", "!!"), Ok(()));
     assert_eq!(rt; table.postfix("!!"), Some((300, Spec::Yf)));
-    assert_eq!(rt; set_at_last(&rt, &mut table, 300, "xfx", "!!"), Err(OpFault::Clash));
+    assert_eq!(rt;
+        set_at_last(&rt, &mut table, 300, "xfx", "!!"),
+        Err(OpFault::Clash)
+    );
     assert_eq!(rt; table.len(), 45);
     Ok(())
 }
@@ -114,7 +131,13 @@ fn flags_have_their_values(rt: HostRuntime) {
     assert!(rt; !flags.set("unknown", "warning"));
     assert!(rt; !flags.set("bounded", "true"));
     assert!(rt; !flags.set("debug", "on"));
-    assert_eq!(rt; flags, Flags { double_quotes: DoubleQuotes::Atom, unknown: Unknown::Fail });
+    assert_eq!(rt;
+        flags,
+        Flags {
+            double_quotes: DoubleQuotes::Atom,
+            unknown: Unknown::Fail
+        }
+    );
 }
 
 #[test]

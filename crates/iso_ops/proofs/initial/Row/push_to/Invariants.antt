@@ -5,4 +5,4 @@ use Rattle.iso_ops.specs.Entries.{operator_of, text_of}
 use Rattle.iso_ops.proofs.initial.Row.push_to.Given as goal
 
 abbrev pub invariant-loop-name : goal.invariant-loop-name
-invariant-loop-name l = map operator_of l.entries.items ≡ map operator_of l.initial.entries.items ++ row_of l.self.priority l.self.spec (map text_of (take l.name-index l.name-items))
+invariant-loop-name l = map operator_of l.entries.items ≡ map operator_of l.initial.entries.items ++ row_of l.priority l.spec (map text_of (take l.name-index l.names))

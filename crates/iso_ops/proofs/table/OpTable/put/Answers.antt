@@ -28,7 +28,7 @@ pub returns-in-Some-clause-table : goal.returns-in-Some-clause-table
 returns-in-Some-clause-table c =
     let table : IsOpTable c.args.self.now = subst IsOpTable c.self.view_is c.self.invariant in
     subst IsOpTable (sym (returns-in-Some-clause-ok c))
-        (IsOpTable-with_op (operator c.args.priority c.args.spec c.args.name.now) c.args.self.now c.requires.low c.requires.high c.requires.other c.requires.alone table)
+    (IsOpTable-with_op (operator c.args.priority c.args.spec c.args.name.now) c.args.self.now c.requires.low c.requires.high c.requires.other c.requires.alone table)
 
 pub invariant_of-self : goal.invariant_of-self
 invariant_of-self c = returns-in-Some-clause-table c
@@ -39,19 +39,19 @@ nowhere c = rw (← c.as_slice.ensures.value, ← c.kind.ensures) (sym c.in-None
 pub returns-in-None-clause-ok : goal.returns-in-None-clause-ok
 returns-in-None-clause-ok c =
     on_ok_weaker c.push_entry.result
-        (λ e.
-            e
-            ∙ with_op-last c.args.priority c.args.spec c.args.name.now c.self.inside.entries.items (nowhere c)
-            ∙ ap (with_op (operator c.args.priority c.args.spec c.args.name.now)) c.self.view_is)
-        c.push_entry.ensures.ok
+    (λ e.
+    e
+    ∙ with_op-last c.args.priority c.args.spec c.args.name.now c.self.inside.entries.items (nowhere c)
+    ∙ ap (with_op (operator c.args.priority c.args.spec c.args.name.now)) c.self.view_is)
+    c.push_entry.ensures.ok
 
 pub returns-in-None-clause-table : goal.returns-in-None-clause-table
 returns-in-None-clause-table c =
     let table : IsOpTable c.args.self.now = subst IsOpTable c.self.view_is c.self.invariant in
     either_way c.push_entry.result (returns-in-None-clause-ok c) c.push_entry.ensures.err
-        (λ e. subst IsOpTable (sym e)
-            (IsOpTable-with_op (operator c.args.priority c.args.spec c.args.name.now) c.args.self.now c.requires.low c.requires.high c.requires.other c.requires.alone table))
-        (λ e. subst IsOpTable (sym (ap (map operator_of) e)) c.self.invariant)
+    (λ e. subst IsOpTable (sym e)
+    (IsOpTable-with_op (operator c.args.priority c.args.spec c.args.name.now) c.args.self.now c.requires.low c.requires.high c.requires.other c.requires.alone table))
+    (λ e. subst IsOpTable (sym (ap (map operator_of) e)) c.self.invariant)
 
 pub invariant_of-self-in-None : goal.invariant_of-self-in-None
 invariant_of-self-in-None c = returns-in-None-clause-table c

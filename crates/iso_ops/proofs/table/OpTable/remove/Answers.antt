@@ -16,7 +16,7 @@ returns-in-Some-clause-removed c =
 pub returns-in-Some-clause-table : goal.returns-in-Some-clause-table
 returns-in-Some-clause-table c =
     subst IsOpTable (sym (returns-in-Some-clause-removed c))
-        (IsOpTable-without_op c.args.kind c.args.name.now c.args.self.now c.requires (subst IsOpTable c.self.view_is c.self.invariant))
+    (IsOpTable-without_op c.args.kind c.args.name.now c.args.self.now c.requires (subst IsOpTable c.self.view_is c.self.invariant))
 
 pub invariant_of-self : goal.invariant_of-self
 invariant_of-self c = returns-in-Some-clause-table c
