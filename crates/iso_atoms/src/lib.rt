@@ -1,7 +1,7 @@
 //! Atoms: names as numbers (ISO/IEC 13211-1:1995, 6.1.2 and 7.1.4). Each name has one number, which stands for it for good.
 #![tactic(auto)]
 
-ghost use Rattle.std.specs.Prelude.{◌≡◌, ◌≤◌, ◌+◌, ◌<◌, List, [], ◌∷◌, ◌++◌, length, false, slice_get, IsTrue, IsOk, IfOk, OnOk, OnErr};
+ghost use Rattle.std.specs.Prelude.{◌≡◌, ◌≤◌, ◌<◌, [], length, slice_get, IsTrue, IsOk, IfOk, OnOk, OnErr};
 ghost use Rattle.std.specs.Cmp.Lexicographic.{slice_cmp};
 ghost use Rattle.std.specs.Ordering.{nat_cmp};
 ghost use Rattle.iso_atoms.specs.Texts.{has_text, numbered, text_at, EachOnce, KeepsTexts};

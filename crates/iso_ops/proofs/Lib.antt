@@ -1,0 +1,4 @@
+pub mod PlaceLemmas
+pub mod TableLemmas
+pub mod EntryLemmas
+pub mod InitialLemmas

@@ -1,0 +1,38 @@
+-- Specifiers of operators (ISO/IEC 13211-1:1995, 6.3.4.1).
+use Rattle.std.specs.Prelude.{ℕ, Bool, true, false, List, [], ◌∷◌, Option, codes}
+use Rattle.std.specs.List.{find}
+use Rattle.std.specs.Str.{bytes_eq}
+use Rattle.iso_ops.specs.declared.specifiers.Spec.{Spec}
+use Rattle.iso_ops.specs.declared.specifiers.Spec.TheVariants.{Xfx, Xfy, Yfx, Fx, Fy, Xf, Yf}
+use Rattle.iso_ops.specs.declared.specifiers.Kind.{Kind}
+use Rattle.iso_ops.specs.declared.specifiers.Kind.TheVariants.{Prefix, Infix, Postfix}
+
+-- how a specifier is written
+abbrev pub spec_text : Spec → List ℕ
+spec_text Xfx = codes "xfx"
+spec_text Xfy = codes "xfy"
+spec_text Yfx = codes "yfx"
+spec_text Fx = codes "fx"
+spec_text Fy = codes "fy"
+spec_text Xf = codes "xf"
+spec_text Yf = codes "yf"
+
+-- the specifier that is written so
+abbrev pub spec_named : List ℕ → Option Spec
+spec_named text = find (λ spec. bytes_eq text (spec_text spec)) (Xfx ∷ Xfy ∷ Yfx ∷ Fx ∷ Fy ∷ Xf ∷ Yf ∷ [])
+
+-- where an operator of the specifier stands
+abbrev pub kind_of : Spec → Kind
+kind_of Xfx = Infix
+kind_of Xfy = Infix
+kind_of Yfx = Infix
+kind_of Fx = Prefix
+kind_of Fy = Prefix
+kind_of Xf = Postfix
+kind_of Yf = Postfix
+
+abbrev pub same_kind : Kind → Kind → Bool
+same_kind Prefix Prefix = true
+same_kind Infix Infix = true
+same_kind Postfix Postfix = true
+same_kind _ _ = false
