@@ -4,7 +4,7 @@ use Rattle.std.proofs.lemmas.Bool.{cond_both, leb-true, ltb-true}
 use Rattle.iso_model.specs.Operators.{Operator, Table, right_of}
 use Rattle.iso_model.specs.Token.{Shown}
 use Rattle.iso_model.specs.Grammar.{Left, before, Node, Row, joined, no_terms, with_first, is_mark, next_is}
-use Rattle.iso_model.specs.Reading.{Outcome, ◌>>=◌, Reader, rest, further, elements, operator_behind, extended, climb_by, climb, term}
+use Rattle.iso_model.specs.Reading.{Outcome, ◌>>=◌, Reader, rest, further, elements, operator_behind, extended, climb_by, climb, continued, term}
 use Rattle.iso_model.proofs.ReadingSound.{bind_if, if_either, guard_if, left_at, IsSound, Sound, term_sound}
 
 -- two ways to go on from what was read are one where they are one at all that can be read
@@ -67,18 +67,10 @@ module _ (table : Table) where
       climb_by_same sub depth sound l s (climb table sub depth most a) (climb table sub depth most b)
         (λ x p. climb_enough sub depth most sound a b x.0 x.1 p.within (omega (arith, p.above)) (omega (arith, p.above))) (operator_behind table most l s)
 
-  -- what goes on behind a term that was read
-  pub continued : ℕ → ℕ → Node → Left → Outcome Node
-  continued depth most l s = climb table (term table depth) depth most (suc depth - l.height) l s
-
-  pub continued-all : (depth most : ℕ) (l : Node) (s : Left) → l.height ≤ depth → climb table (term table depth) depth most (suc depth) l s ≡ continued depth most l s
-  unfolding continued
-  continued-all depth most l s h = climb_enough (term table depth) depth most (term_sound table depth) (suc depth) (suc depth - l.height) l s h (omega arith) (omega arith)
-
   -- it goes on by one operator, or not at all
-  pub continued-step : (depth most : ℕ) (l : Node) (s : Left) → l.height ≤ depth → continued depth most l s ≡ climb_by table (term table depth) depth l s (continued depth most) (operator_behind table most l s)
+  pub continued-step : (depth most : ℕ) (l : Node) (s : Left) → l.height ≤ depth → continued table (term table depth) depth most l s ≡ climb_by table (term table depth) depth l s (continued table (term table depth) depth most) (operator_behind table most l s)
   unfolding continued climb
   continued-step depth most l s h =
       climb_enough (term table depth) depth most (term_sound table depth) (suc depth - l.height) (suc depth) l s h (omega arith) (omega arith)
-      ∙ climb_by_same (term table depth) depth (term_sound table depth) l s (climb table (term table depth) depth most depth) (continued depth most)
+      ∙ climb_by_same (term table depth) depth (term_sound table depth) l s (climb table (term table depth) depth most depth) (continued table (term table depth) depth most)
           (λ x p. climb_enough (term table depth) depth most (term_sound table depth) depth (suc depth - x.0.height) x.0 x.1 p.within (omega (arith, p.above)) (omega (arith, p.within))) (operator_behind table most l s)

@@ -1,0 +1,3 @@
+pub mod Views
+pub mod Cursor
+pub mod Gives

@@ -20,13 +20,13 @@ abbrev pub decreases-read_term : goal.decreases-read_term
 decreases-read_term l = 5 * l.depth
 
 abbrev pub invariant-climb-loop-operator : goal.invariant-climb-loop-operator
-invariant-climb-loop-operator l = (l.left.height ≤ l.depth) × (length l.input.tokens.now ≤ length l.initial.input.tokens.now)
+invariant-climb-loop-operator l = (l.left.height ≤ l.depth) × (length l.input.tokens ≤ length l.initial.input.tokens)
 
 abbrev pub decreases-climb-loop-operator : goal.decreases-climb-loop-operator
 decreases-climb-loop-operator l = l.depth - l.left.height
 
 abbrev pub invariant-elements-loop-alloc : goal.invariant-elements-loop-alloc
-invariant-elements-loop-alloc l = (l.height + 1 ≤ l.depth) × (length l.input.tokens.now ≤ length l.fn.input.tokens.now)
+invariant-elements-loop-alloc l = (l.height + 1 ≤ l.depth) × (length l.input.tokens ≤ length l.fn.input.tokens)
 
 abbrev pub decreases-elements-loop-alloc : goal.decreases-elements-loop-alloc
-decreases-elements-loop-alloc l = length l.input.tokens.now
+decreases-elements-loop-alloc l = length l.input.tokens
