@@ -1,9 +1,9 @@
 pub mod RowLemmas
 mod ReadingRows
-mod ReadingSound
+pub mod ReadingSound
 pub mod TokenLemmas
 pub mod LexemeLemmas
-mod ReadingSteps
+pub mod ReadingSteps
 mod ReadingComplete
 pub mod ClauseLaws
 pub mod WellRead

@@ -1,1 +1,3 @@
 mod Names
+mod Rows
+mod Climbs

@@ -1,4 +1,7 @@
 //! A clause: the tokens before the next end token, and the term that they are (6.2).
+ghost use Rattle.std.specs.Prelude.{◌≡◌};
+ghost use Rattle.iso_read.specs.declared.clause.ReadFault.TheVariants.{NoMemory};
+
 use crate::input::Input;
 use crate::reader::read_term;
 use iso_model::Term;
@@ -30,12 +33,16 @@ pub enum ReadFault {
 }
 
 impl From<AllocError> for ReadFault {
+    ghost from_gives = { λ _ fault. fault ≡ NoMemory };
+
     fn from(_fault: AllocError) -> ReadFault {
         ReadFault::NoMemory
     }
 }
 
 impl<T: Drop> From<AllocFailed<T>> for ReadFault {
+    ghost from_gives = { λ _ fault. fault ≡ NoMemory };
+
     fn from(_fault: AllocFailed<T>) -> ReadFault {
         ReadFault::NoMemory
     }

@@ -1,5 +1,5 @@
 //! What is left of a clause while it is read.
-ghost use Rattle.std.specs.Prelude.{◌≡◌, ◌<◌, ◌++◌, [], ◌∷◌, length, map, not, position, nat_lt, option_map, if◌then◌else◌, IfOk, MatchOption};
+ghost use Rattle.std.specs.Prelude.{◌≡◌, ◌<◌, ◌++◌, [], ◌∷◌, length, map, not, position, nat_lt, if◌then◌else◌, IfOk, MatchOption};
 ghost use Rattle.std.specs.Str.{bytes_eq};
 ghost use Rattle.std.specs.String.{string_bytes};
 ghost use Rattle.iso_model.specs.Grammar as model;
@@ -36,10 +36,22 @@ fn is_mark(token: &Token<'_>, mark: &str) -> bool
 }
 
 /// The place of a name among these.
-fn place_of(names: &[String], name: &str) -> Option<usize>
+fn position_of(names: &[String], name: &str) -> Option<usize>
     ensures { result ≡ position (λ other. bytes_eq (string_bytes other) name.now) names.now }
 {
     names.iter().position(|other| other.as_str() == name)
+}
+
+/// The place of a variable's name among these; `_` has none.
+#[tactic(auto, using(crate::proofs::Names::position_map))]
+fn place_of(names: &[String], name: &str) -> Option<usize>
+    ensures { result ≡ model.place_of name.now (map string_bytes names.now) }
+{
+    if name == "_" {
+        None
+    } else {
+        position_of(names, name)
+    }
 }
 
 impl<'c> Input<'c> {
@@ -65,7 +77,8 @@ impl<'c> Input<'c> {
 
     /// The next token.
     pub fn next(&mut self) -> Option<Token<'c>>
-        ensures { MatchOption result ((self.old.tokens ≡ []) × (self.new ≡ self.old)) (λ t. self.old ≡ model.before (shown t) self.new) }
+        ensures token { MatchOption result (self.old.tokens ≡ []) (λ t. self.old ≡ model.before (shown t) self.new) }
+        ensures after { self.new ≡ rest self.old }
     {
         match self.tokens {
             [] => None,
@@ -105,10 +118,8 @@ impl<'c> Input<'c> {
     pub fn variable(&mut self, alloc: Global, name: &str) -> Result<u64, AllocError>
         ensures { IfOk result (λ number. (number ≡ model.number_of name.now self.old.names) × (self.new ≡ model.with_name name.now self.old)) }
     {
-        if name != "_" {
-            if let Some(place) = place_of(&self.names, name) {
-                return Ok(place as u64);
-            }
+        if let Some(place) = place_of(&self.names, name) {
+            return Ok(place as u64);
         }
         let number = self.names.len() as u64;
         self.names.push(String::from_str(alloc, name)?)?;

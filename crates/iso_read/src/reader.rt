@@ -1,5 +1,5 @@
 //! Terms from tokens: an operand, and then the operators that go on from it, by precedence (6.3).
-ghost use Rattle.std.specs.Prelude.{◌≡◌, ◌<◌, ◌≤◌, ◌+◌, option_map};
+ghost use Rattle.std.specs.Prelude.{◌≡◌, ◌<◌, ◌≤◌, ◌+◌, length, option_map, IfOk, OnOk};
 ghost use Rattle.std.specs.String.{string_bytes};
 ghost use Rattle.iso_model.specs.Grammar as grammar;
 ghost use Rattle.iso_model.specs.Operators.{operators};
@@ -32,7 +32,9 @@ pub fn read_term(
     most: u32,
     input: &mut Input<'_>,
 ) -> Result<Node, ReadFault>
-    ensures { Gives node_of (reading.term operators depth most input.old) result input.new }
+    ensures read { Gives node_of (reading.term operators depth most input.old) result input.new }
+    ensures height { IfOk result (λ node. node.height < depth) }
+    ensures shorter { OnOk result (length input.new.tokens ≤ length input.old.tokens) }
 {
     if depth == 0 {
         return Err(ReadFault::Syntax);
@@ -48,7 +50,9 @@ pub fn read_term(
 #[cycle(reader)]
 #[tactic(auto, unfolding(iso_model::specs::Reading::operand))]
 fn operand(alloc: Global, depth: usize, input: &mut Input<'_>) -> Result<Node, ReadFault>
-    ensures { Gives node_of (reading.operand (reading.term operators depth) input.old) result input.new }
+    ensures read { Gives node_of (reading.operand (reading.term operators depth) input.old) result input.new }
+    ensures height { IfOk result (λ node. node.height ≤ depth) }
+    ensures shorter { OnOk result (length input.new.tokens ≤ length input.old.tokens) }
 {
     let Some(token) = input.next() else {
         return Err(ReadFault::Syntax);
@@ -94,7 +98,9 @@ fn named(
     name: &str,
     input: &mut Input<'_>,
 ) -> Result<Node, ReadFault>
-    ensures { Gives node_of (reading.named (reading.term operators depth) name.now input.old) result input.new }
+    ensures read { Gives node_of (reading.named (reading.term operators depth) name.now input.old) result input.new }
+    ensures height { IfOk result (λ node. node.height ≤ depth) }
+    ensures shorter { OnOk result (length input.new.tokens ≤ length input.old.tokens) }
 {
     if !begins_small(name) {
         return Err(ReadFault::Syntax);
@@ -116,7 +122,9 @@ fn compound(
     name: String,
     input: &mut Input<'_>,
 ) -> Result<Node, ReadFault>
-    ensures { Gives node_of (reading.compound (reading.term operators depth) (string_bytes name) input.old) result input.new }
+    ensures read { Gives node_of (reading.compound (reading.term operators depth) (string_bytes name) input.old) result input.new }
+    ensures height { IfOk result (λ node. node.height ≤ depth) }
+    ensures shorter { OnOk result (length input.new.tokens ≤ length input.old.tokens) }
 {
     let row = elements(alloc, depth, input)?;
     if !input.takes(")") || row.terms.len() > MAX_ARITY {
@@ -129,7 +137,9 @@ fn compound(
 #[cycle(reader)]
 #[tactic(auto, unfolding(iso_model::specs::Reading::elements))]
 fn elements(alloc: Global, depth: usize, input: &mut Input<'_>) -> Result<Row, ReadFault>
-    ensures { Gives row_of (reading.elements (reading.term operators depth) input.old) result input.new }
+    ensures read { Gives row_of (reading.elements (reading.term operators depth) input.old) result input.new }
+    ensures height { IfOk result (λ row. row.height < depth) }
+    ensures shorter { OnOk result (length input.new.tokens ≤ length input.old.tokens) }
 {
     let first = read_term(alloc, depth, ARGUMENT_PRIORITY, input)?;
     let mut height = first.height;
@@ -166,7 +176,9 @@ fn climb(
     input: &mut Input<'_>,
 ) -> Result<Node, ReadFault>
     requires { first.height ≤ depth }
-    ensures { Gives node_of (continued operators depth most (node_of first) input.old) result input.new }
+    ensures read { Gives node_of (reading.continued operators (reading.term operators depth) depth most (node_of first) input.old) result input.new }
+    ensures height { IfOk result (λ node. node.height ≤ depth) }
+    ensures shorter { OnOk result (length input.new.tokens ≤ length input.old.tokens) }
 {
     let mut left = first;
     while let Some(operator) = operator_behind(most, &left, input) {
@@ -186,7 +198,9 @@ fn extended(
     operator: &Infix<'_>,
     input: &mut Input<'_>,
 ) -> Result<Node, ReadFault>
-    ensures { Gives node_of (reading.extended operators (reading.term operators depth) depth (node_of left) (operator_of operator.now) input.old) result input.new }
+    ensures read { Gives node_of (reading.extended operators (reading.term operators depth) depth (node_of left) (operator_of operator.now) input.old) result input.new }
+    ensures height { IfOk result (λ node. (left.height < node.height) × (node.height ≤ depth)) }
+    ensures shorter { OnOk result (length input.new.tokens ≤ length input.old.tokens) }
 {
     if left.height >= depth {
         return Err(ReadFault::Syntax);
