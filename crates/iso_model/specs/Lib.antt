@@ -3,6 +3,7 @@ pub mod Terms
 pub mod Operators
 pub mod Grammar
 pub mod Reading
+pub mod Clauses
 pub mod Numbering
 pub mod ReadingLaws
 pub mod Characters

@@ -1,6 +1,6 @@
 //! Laws of the definitions of reading. Each is the contract of a function that does nothing.
 ghost use Rattle.iso_model.specs.Operators.{IsTable, operators};
-ghost use Rattle.iso_model.specs.ReadingLaws.{AtMostOneClause, ReadsTheClause, ClausesAreWellRead};
+ghost use Rattle.iso_model.specs.ReadingLaws.{AtMostOneClause, ReadsTheClause, ReadsTheNextClause, ClausesAreWellRead};
 
 /// The language's operators are a table that the other laws speak of.
 pub fn operators_are_a_table()
@@ -17,6 +17,12 @@ pub fn at_most_one_clause()
 /// Reading by precedence gives a clause exactly where the grammar does, and that one (6.2, 6.3).
 pub fn reads_the_clause()
     ensures { ReadsTheClause }
+{
+}
+
+/// So it does for the next clause of a text's tokens.
+pub fn reads_the_next_clause()
+    ensures { ReadsTheNextClause }
 {
 }
 
