@@ -1,10 +1,11 @@
 -- Clauses by the grammar and by precedence.
-use Rattle.std.proofs.Common.{◌≡◌, ℕ, suc, ◌+◌, ◌<◌, ◌≤◌, Bool, true, false, cond, nat_lt, List, [], ◌∷◌, length, Option, Some, None, IfSome, refl, sym, ◌∙◌, ap, arith}
+use Rattle.std.proofs.Common.{◌≡◌, ℕ, suc, ◌+◌, ◌<◌, ◌≤◌, Bool, true, false, cond, nat_lt, List, [], ◌∷◌, length, Option, Some, None, IfSome, refl, sym, ◌∙◌, ap, arith, rules}
 use Rattle.std.proofs.lemmas.Bool.Decides.{nat_tests}
-use Rattle.iso_model.specs.Operators.{Operator, Table, IsTable}
+use Rattle.iso_model.specs.Operators.{Operator, Table, IsTable, operators}
 use Rattle.iso_model.specs.Token.{Shown}
 use Rattle.iso_model.specs.Grammar.{Left, Node, Clause, IsClause, start_of, numbered, max_depth}
 use Rattle.iso_model.specs.Reading.{◌>>=◌, next_operator, term, clause_by, clause_of}
+use Rattle.iso_model.specs.Clauses.{split_clause, next_clause, IsNextClause}
 use Rattle.iso_model.proofs.ReadingSound.{bind_if, if_either, left_at, IsSound, term_sound}
 use Rattle.iso_model.proofs.ReadingComplete.{reads_complete, finish, edge_of}
 
@@ -36,3 +37,17 @@ module _ (table : Table) where
 
   pub clause_given : (ts : List Shown) (c : Clause) → clause_of table ts ≡ Some c → IsClause table ts c
   clause_given ts c h = some_if (clause_of table ts) (IsClause table ts) c (clause_sound ts) h
+
+  pub next_complete : IsTable table → (ts : List Shown) (c : Clause) → IsNextClause table ts c → next_clause table ts ≡ Some c
+  next_complete good ts c k = rw k.splits (clause_complete good k.before c k.clause)
+
+  next_given_by : (ts : List Shown) (c : Clause) (o : Option (List Shown × List Shown)) → split_clause ts ≡ o → (o >>= (λ x. clause_of table x.0)) ≡ Some c → IsNextClause table ts c
+  next_given_by ts c None is h = cc
+  next_given_by ts c (Some x) is h = record { before = x.0; others = x.1; splits = is; clause = clause_given x.0 c h }
+
+  pub next_given : (ts : List Shown) (c : Clause) → next_clause table ts ≡ Some c → IsNextClause table ts c
+  next_given ts c h = next_given_by ts c (split_clause ts) refl h
+
+-- the language's operators are a table
+pub operators_table : IsTable operators
+operators_table = search rules

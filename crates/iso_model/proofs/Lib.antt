@@ -2,7 +2,7 @@ pub mod RowLemmas
 pub mod UnifierLemmas
 pub mod Cost
 mod ReadingRows
-mod ReadingSound
+pub mod ReadingSound
 pub mod TokenLemmas
 pub mod LexemeLemmas
 pub mod SortLemmas
@@ -10,6 +10,7 @@ pub mod CopyLemmas
 pub mod MeaningLemmas
 pub mod OrderLemmas
 mod ReadingSteps
+pub mod ReadingSteps
 mod ReadingComplete
 pub mod ClauseLaws
 pub mod WellRead

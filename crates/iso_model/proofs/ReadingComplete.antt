@@ -7,9 +7,9 @@ use Rattle.iso_model.specs.Operators.{Operator, Specifier, Xfx, Xfy, Yfx, Table,
 use Rattle.iso_model.specs.Token.{Shown, TokenKind, NameToken, QuotedToken, DoubleToken, VariableToken, IntegerToken, PunctToken, EndToken, BadToken, magnitude, magnitude_by, digits_value}
 use Rattle.iso_model.specs.Trees.{Variable, Integer, Name, Apply, row}
 use Rattle.iso_model.specs.Grammar.{Left, before, Node, Row, closed, joined, no_terms, with_first, with_name, number_of, is_name, is_punct, is_mark, opens_arguments, next_is, begins_small, max_integer, infix_at, TakesLeft, Reads, Operand, Elements, alone, between, variable_at, integer_at, atom_at, compound_at, last_of, more_of}
-use Rattle.iso_model.specs.Reading.{Outcome, ◌>>=◌, Reader, rest, further, elements, compound, named, integer, operand_by, operand_from, operand, fits, if_fits, next_operator, operator_behind, extended, climb_by, climb, term}
+use Rattle.iso_model.specs.Reading.{Outcome, ◌>>=◌, Reader, rest, further, elements, compound, named, integer, operand_by, operand_from, operand, fits, if_fits, next_operator, operator_behind, extended, climb_by, climb, continued, term}
 use Rattle.iso_model.proofs.ReadingSound.{left_at, Sound, term_sound}
-use Rattle.iso_model.proofs.ReadingSteps.{further_comma, further_end, continued, continued-all, continued-step}
+use Rattle.iso_model.proofs.ReadingSteps.{further_comma, further_end, continued-step}
 
 -- the greatest priority that an operator may have whose left operand would be cut out of this term
 abbrev pub edge_of : Node → ℕ
@@ -119,24 +119,24 @@ module _ (table : Table) (good : IsTable table) where
   operator_none most l z c = fits_none most l (next_operator table z.tokens) c
 
   -- a term is read where no operator can go on behind it
-  pub finish : (depth most : ℕ) (s z : Left) (n : Node) → term table (suc depth) most s ≡ continued table depth most n z → n.height ≤ depth → Clear most z → term table (suc depth) most s ≡ Some (n, z)
+  pub finish : (depth most : ℕ) (s z : Left) (n : Node) → term table (suc depth) most s ≡ continued table (term table depth) depth most n z → n.height ≤ depth → Clear most z → term table (suc depth) most s ≡ Some (n, z)
   finish depth most s z n read high c =
-      read ∙ continued-step table depth most n z high ∙ ap (climb_by table (term table depth) depth n z (continued table depth most)) (operator_none most n z c)
+      read ∙ continued-step table depth most n z high ∙ ap (climb_by table (term table depth) depth n z (continued table (term table depth) depth most)) (operator_none most n z c)
 
-  operand_step : (depth most : ℕ) (s z : Left) (n : Node) → operand (term table depth) s ≡ Some (n, z) → n.height ≤ depth → n.priority ≤ most → term table (suc depth) most s ≡ continued table depth most n z
+  operand_step : (depth most : ℕ) (s z : Left) (n : Node) → operand (term table depth) s ≡ Some (n, z) → n.height ≤ depth → n.priority ≤ most → term table (suc depth) most s ≡ continued table (term table depth) depth most n z
   unfolding term
-  operand_step depth most s z n read high le = rw (read, le-leb n.priority most le) (continued-all table depth most n z high)
+  operand_step depth most s z n read high le = rw (read, le-leb n.priority most le) refl
 
   extended_read : (sub : Reader) (depth : ℕ) (l r : Node) (o : Operator) (m z : Left) → l.height < depth → sub (right_of o) m ≡ Some (r, z) → extended table sub depth l o m ≡ Some (joined l o r, z)
   unfolding extended
   extended_read sub depth l r o m z high read = rw (read, le-leb (suc l.height) depth high) refl
 
   between_step : (depth most : ℕ) (l r : Node) (o : Operator) (t : Shown) (m z : Left) → infix_at table t ≡ Some o → TakesLeft l o → o.priority ≤ most → l.height < depth → term table depth (right_of o) m ≡ Some (r, z)
-      → continued table depth most l (before t m) ≡ continued table depth most (joined l o r) z
+      → continued table (term table depth) depth most l (before t m) ≡ continued table (term table depth) depth most (joined l o r) z
   between_step depth most l r o t m z at left le high read =
       continued-step table depth most l (before t m) (omega arith)
-      ∙ ap (climb_by table (term table depth) depth l (before t m) (continued table depth most)) (operator_taken most l t m o at left le)
-      ∙ ap (λ (x : Outcome Node). x >>= (λ y. continued table depth most y.0 y.1)) (extended_read (term table depth) depth l r o m z high read)
+      ∙ ap (climb_by table (term table depth) depth l (before t m) (continued table (term table depth) depth most)) (operator_taken most l t m o at left le)
+      ∙ ap (λ (x : Outcome Node). x >>= (λ y. continued table (term table depth) depth most y.0 y.1)) (extended_read (term table depth) depth l r o m z high read)
 
   -- the parts of an operand
   variable_read : (sub : Reader) (t : Shown) (s : Left) → t.kind ≡ VariableToken → operand sub (before t s) ≡ Some (closed (Variable (number_of t.text s.names)) 0, with_name t.text s)
@@ -170,7 +170,7 @@ module _ (table : Table) (good : IsTable table) where
   elements_read sub s m n o read more = rw (read, more) refl
 
   mutual
-    pub reads_complete : {s z : Left} {n : Node} → Reads table s n z → (depth most : ℕ) → n.height ≤ depth → n.priority ≤ most → Clear (edge_of n) z → term table (suc depth) most s ≡ continued table depth most n z
+    pub reads_complete : {s z : Left} {n : Node} → Reads table s n z → (depth most : ℕ) → n.height ≤ depth → n.priority ≤ most → Clear (edge_of n) z → term table (suc depth) most s ≡ continued table (term table depth) depth most n z
     reads_complete (alone {s} {z} {n} a) depth most high le c = operand_step depth most s z n (operand_complete a depth high) high le
     reads_complete (between {s} {m} {z} {l} {r} {t} {o} a at left b within) zero most high le c = absurd (omega arith)
     reads_complete (between {s} {m} {z} {l} {r} {t} {o} a at left b within) (suc d) most high le c =

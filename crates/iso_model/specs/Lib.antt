@@ -33,6 +33,7 @@ pub mod Lines
 pub mod Sessions
 pub mod VariableLaws
 pub mod UnifierLaws
+pub mod Clauses
 pub mod ReadingLaws
 pub mod CopyLaws
 pub mod TermLaws

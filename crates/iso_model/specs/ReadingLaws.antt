@@ -6,6 +6,7 @@ use Rattle.iso_model.specs.Trees.{arities_fit}
 use Rattle.iso_model.specs.Numbering.{is_numbered}
 use Rattle.iso_model.specs.Grammar.{Clause, IsClause}
 use Rattle.iso_model.specs.Reading.{clause_of}
+use Rattle.iso_model.specs.Clauses.{IsNextClause, next_clause}
 
 -- Tokens are at most one clause.
 abbrev pub AtMostOneClause : Type 0
@@ -14,6 +15,10 @@ AtMostOneClause = (table : Table) → IsTable table → (ts : List Shown) (c d :
 -- Reading by precedence gives the clause that the tokens are, and gives none where they are none.
 abbrev pub ReadsTheClause : Type 0
 ReadsTheClause = (table : Table) → IsTable table → (ts : List Shown) (c : Clause) → (clause_of table ts ≡ Some c) ↔ IsClause table ts c
+
+-- So it is with the next clause of a text's tokens.
+abbrev pub ReadsTheNextClause : Type 0
+ReadsTheNextClause = (table : Table) → IsTable table → (ts : List Shown) (c : Clause) → (next_clause table ts ≡ Some c) ↔ IsNextClause table ts c
 
 -- A clause's term is well formed, and its variables are numbered in the order of their first occurrence.
 pub record IsWellRead (c : Clause) : Type 0 where
