@@ -9,7 +9,6 @@ pub mod SortLemmas
 pub mod CopyLemmas
 pub mod MeaningLemmas
 pub mod OrderLemmas
-mod ReadingSteps
 pub mod ReadingSteps
 mod ReadingComplete
 pub mod ClauseLaws
