@@ -7,3 +7,4 @@ pub mod ReadingSteps
 mod ReadingComplete
 pub mod ClauseLaws
 pub mod WellRead
+pub mod PlaceLemmas

@@ -10,3 +10,4 @@ pub mod Characters
 pub mod Token
 pub mod Lexemes
 pub mod Tokens
+pub mod TokenPlaces
