@@ -1,5 +1,5 @@
 -- Clauses by the grammar and by precedence.
-use Rattle.std.proofs.Common.{◌≡◌, ℕ, suc, ◌+◌, ◌<◌, ◌≤◌, Bool, true, false, cond, nat_lt, List, [], ◌∷◌, length, Option, Some, None, IfSome, refl, sym, ◌∙◌, ap, arith, rules}
+use Rattle.std.proofs.Common.{◌≡◌, ℕ, ◌+◌, ◌<◌, nat_lt, List, [], ◌∷◌, length, Option, Some, None, IfSome, refl, sym, ◌∙◌, ap, arith, rules}
 use Rattle.std.proofs.lemmas.Bool.Decides.{nat_tests}
 use Rattle.iso_model.specs.Operators.{Operator, Table, IsTable, operators}
 use Rattle.iso_model.specs.Token.{Shown}
@@ -20,7 +20,7 @@ module _ (table : Table) where
   unfolding clause_of
   clause_sound ts =
       bind_if (term table (max_depth + 1) 1200 (start_of ts)) (clause_by table) (IsSound table 1200 (max_depth + 1) (start_of ts)) (IsClause table ts) (term_sound table (max_depth + 1) 1200 (start_of ts))
-        (λ x a. whole_sound ts x.0 x.1.tokens x.1.names a)
+      (λ x a. whole_sound ts x.0 x.1.tokens x.1.names a)
 
   -- a clause of the grammar is read
   pub clause_complete : IsTable table → (ts : List Shown) (c : Clause) → IsClause table ts c → clause_of table ts ≡ Some c

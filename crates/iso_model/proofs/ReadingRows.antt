@@ -9,8 +9,9 @@ use Rattle.iso_model.specs.Clauses.{next_clause}
 
 clause_row : next_clause operators (tokens (codes "p(Y, _) :- q, r(1, Y)."))
     ≡ Some (record {
-        term = Apply (codes ":-") (row (Apply (codes "p") (row (Variable 0 ∷ Variable 1 ∷ [])) ∷ Apply (codes ",") (row (Name (codes "q") ∷ Apply (codes "r") (row (Integer (pos 1) ∷ Variable 0 ∷ [])) ∷ [])) ∷ []));
-        names = (codes "Y", 0) ∷ [] })
+      term = Apply (codes ":-") (row (Apply (codes "p") (row (Variable 0 ∷ Variable 1 ∷ [])) ∷ Apply (codes ",") (row (Name (codes "q") ∷ Apply (codes "r") (row (Integer (pos 1) ∷ Variable 0 ∷ [])) ∷ [])) ∷ []));
+      names = (codes "Y", 0) ∷ [];
+    })
 unfolding tokens_from lexeme clause_of term continued climb extended operator_behind operand named compound elements further
 clause_row = refl
 

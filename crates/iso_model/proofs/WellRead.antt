@@ -1,5 +1,5 @@
 -- What is read is well formed, with its variables numbered in the order of their first occurrence.
-use Rattle.std.proofs.Common.{◌≡◌, ℕ, zero, suc, ◌+◌, ◌<◌, ◌≤◌, Bool, true, false, ◌&&◌, cond, nat_le, nat_lt, List, [], ◌∷◌, ◌++◌, length, Option, Some, None, unwrap_or, option_and_then, codes, refl, sym, ◌∙◌, ap, arith, length-append}
+use Rattle.std.proofs.Common.{◌≡◌, ℕ, suc, ◌<◌, ◌≤◌, Bool, true, false, cond, nat_lt, List, [], ◌∷◌, length, Option, Some, None, unwrap_or, codes, refl, arith, length-append}
 use Rattle.std.specs.Prelude.{position}
 use Rattle.std.specs.List.{position_or_len}
 use Rattle.std.specs.Str.{bytes_eq}
@@ -7,9 +7,9 @@ use Rattle.std.proofs.lemmas.Bool.{le-leb, ltb-true}
 use Rattle.std.proofs.lemmas.Bool.Decides.{nat_tests}
 use Rattle.std.proofs.lemmas.Option.{cond_some}
 use Rattle.iso_model.specs.Operators.{Table}
-use Rattle.iso_model.specs.Trees.{Tree, Variable, Apply, End, More, row, count, arities_fit}
+use Rattle.iso_model.specs.Trees.{Tree, Variable, row, count, arities_fit}
 use Rattle.iso_model.specs.Numbering.{next_number}
-use Rattle.iso_model.specs.Grammar.{Left, Node, Row, place_of, number_of, with_name, with_name_by, Reads, Operand, Elements, alone, between, variable_at, integer_at, atom_at, compound_at, last_of, more_of}
+use Rattle.iso_model.specs.Grammar.{Left, Node, Row, place_of, with_name_by, Reads, Operand, Elements, alone, between, variable_at, integer_at, atom_at, compound_at, last_of, more_of}
 
 count_row : (ts : List Tree) → count (row ts) ≡ length ts
 count_row [] = refl

@@ -1,9 +1,9 @@
 -- Reading by precedence: the grammar as a function of the tokens. An operand is read first; then the operators behind
 -- it are taken as long as they may stand there.
-use Rattle.std.specs.Prelude.{ℕ, zero, suc, ◌+◌, ◌-◌, Bool, true, false, not, ◌&&◌, ◌==◌, if◌then◌else◌, nat_le, nat_lt, List, [], ◌∷◌, length, drop, Option, Some, None, pos, codes}
+use Rattle.std.specs.Prelude.{ℕ, zero, suc, ◌+◌, ◌-◌, Bool, not, ◌&&◌, ◌==◌, if◌then◌else◌, nat_le, nat_lt, List, [], ◌∷◌, length, drop, Option, Some, None, pos, codes}
 use Rattle.iso_model.specs.Operators.{Operator, Table, left_of, right_of, takes_equal}
-use Rattle.iso_model.specs.Token.{Shown, TokenKind, NameToken, QuotedToken, DoubleToken, VariableToken, IntegerToken, PunctToken, EndToken, BadToken, magnitude}
-use Rattle.iso_model.specs.Grammar.{Left, Node, Row, Clause, place_of, number_of, with_name, closed, joined, no_terms, with_first, is_mark, opens_arguments, next_is, begins_small, max_integer, max_depth, infix_at, numbered, start_of}
+use Rattle.iso_model.specs.Token.{Shown, TokenKind, NameToken, VariableToken, IntegerToken, magnitude}
+use Rattle.iso_model.specs.Grammar.{Left, Node, Row, Clause, number_of, with_name, closed, joined, no_terms, with_first, is_mark, opens_arguments, next_is, begins_small, max_integer, max_depth, infix_at, numbered, start_of}
 use Rattle.iso_model.specs.Trees.{Variable, Integer, Name, Apply, row}
 
 -- what was read, and what is left behind it; nothing where the grammar has no case
@@ -44,8 +44,8 @@ unfoldable pub compound : Reader → List ℕ → Left → Outcome Node
 compound sub name s = do
   x ← elements sub s
   if next_is (is_mark (codes ")")) x.1.tokens && nat_le (length x.0.terms) 255
-    then Some (closed (Apply name (row x.0.terms)) (x.0.height + 1), rest x.1)
-    else None
+      then Some (closed (Apply name (row x.0.terms)) (x.0.height + 1), rest x.1)
+      else None
 
 -- what a name stands for
 unfoldable pub named : Reader → List ℕ → Left → Outcome Node

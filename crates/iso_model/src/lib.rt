@@ -10,5 +10,4 @@ pub mod terms;
 pub use engines::{AddFault, Ball, Ending, Engine, Indicator, Pause, Program, StartFault};
 pub use limit::Limits;
 pub use std::alloc::AllocError as NoMemory;
-pub use terms::MAX_ARITY;
-pub use terms::{Term, copied, well_formed};
+pub use terms::{MAX_ARITY, Term, copied, well_formed};

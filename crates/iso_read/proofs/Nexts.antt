@@ -1,5 +1,5 @@
 -- What is read by precedence, said by the grammar.
-use Rattle.std.proofs.Common.{◌≡◌, true, ℕ, List, [], Option, Some, None, Result, Err, map, refl, ap, sym, ◌∙◌}
+use Rattle.std.proofs.Common.{◌≡◌, true, List, Some, None, Err, refl, ap, sym, ◌∙◌}
 use Rattle.iso_model.specs.Operators.{operators}
 use Rattle.iso_model.specs.Token.{Shown}
 use Rattle.iso_model.specs.Trees.{arities_fit}
@@ -7,7 +7,6 @@ use Rattle.iso_model.specs.Numbering.{is_numbered}
 use Rattle.iso_model.specs.Grammar.{Clause}
 use Rattle.iso_model.specs.Reading.{clause_of}
 use Rattle.iso_model.specs.Clauses.{IsNextClause, split_clause, next_clause}
-use Rattle.iso_read.specs.declared.clause.Read.{Read}
 use Rattle.iso_read.specs.declared.clause.ReadFault.{ReadFault}
 use Rattle.iso_read.specs.declared.clause.ReadFault.TheVariants as fault
 use Rattle.iso_read.specs.Answers.{IsWhole, ReadsNext}

@@ -6,7 +6,6 @@ use Rattle.iso_model.specs.Token.{Shown}
 use Rattle.iso_model.specs.Grammar.{Clause}
 use Rattle.iso_model.specs.Clauses.{IsNextClause, next_clause, behind_clause}
 use Rattle.iso_model.specs.Numbering.{is_numbered}
-use Rattle.iso_model.specs.Reading.{clause_of}
 use Rattle.iso_model.specs.Terms.{term_of}
 use Rattle.iso_model.specs.Trees.{arities_fit}
 use Rattle.iso_read.specs.declared.clause.Read.{Read}

@@ -1,7 +1,5 @@
-use Rattle.std.proofs.Common.{rules, ◌≡◌, Some, map, ap, ◌∙◌, sym}
+use Rattle.std.proofs.Common.{rules, map, ap}
 use Rattle.iso_token.specs.Shows.{shown}
-use Rattle.iso_model.specs.Operators.{operators}
-use Rattle.iso_model.specs.Reading.{clause_of}
 use Rattle.iso_read.specs.Answers.{clause_read}
 use Rattle.iso_read.proofs.Nexts.{next_read, next_error, clause_well}
 use Rattle.iso_read.proofs.clause.read_clause.Goals as goal

@@ -1,8 +1,8 @@
-use Rattle.std.proofs.Common.{rules, ◌≡◌, ◌<◌, ◌≤◌, ◌+◌, length, option_map, ℕ, List, [], ◌∷◌, ◌++◌, map, ap, sym, ◌∙◌, arith}
+use Rattle.std.proofs.Common.{rules, length, [], ◌∷◌, map, ap, sym, ◌∙◌, arith}
 use Rattle.iso_model.specs.Operators.{operators}
 use Rattle.std.proofs.lemmas.List.{map-append}
 use Rattle.iso_model.specs.Terms.{term_of}
-use Rattle.iso_model.specs.Reading.{continued, term, extended, further, rest}
+use Rattle.iso_model.specs.Reading.{term, further}
 use Rattle.iso_read.specs.Views.{node_of, row_of, operator_of}
 use Rattle.iso_read.proofs.Rows.{row_goes, row_longer, row_stops}
 use Rattle.iso_read.proofs.Climbs.{fails_with, continued_goes, continued_stops, rest_shorter, term_goes}
