@@ -1,14 +1,14 @@
 -- What the grammar gives, the reading by precedence gives too.
-use Rattle.std.proofs.Common.{◌≡◌, ℕ, zero, suc, ◌+◌, ◌-◌, ◌<◌, ◌≤◌, max, Bool, true, false, not, ◌&&◌, ◌||◌, ◌==◌, cond, nat_le, nat_lt, List, [], ◌∷◌, length, Option, Some, None, IfSome, pos, codes, refl, sym, ◌∙◌, ap, arith}
-use Rattle.std.proofs.lemmas.Bool.{and_parts, cond_both, leb-true, ltb-true, le-leb, ltb-false}
+use Rattle.std.proofs.Common.{◌≡◌, ℕ, zero, suc, ◌+◌, ◌-◌, ◌<◌, ◌≤◌, Bool, true, false, ◌&&◌, ◌||◌, ◌==◌, cond, nat_le, List, length, Option, Some, None, pos, codes, refl, sym, ◌∙◌, ap, arith}
+use Rattle.std.proofs.lemmas.Bool.{and_parts, le-leb}
 use Rattle.std.proofs.lemmas.Bool.Decides.{nat_tests}
 use Rattle.std.proofs.lemmas.Slice.Eq.{bytes_eq-Decides}
-use Rattle.iso_model.specs.Operators.{Operator, Specifier, Xfx, Xfy, Yfx, Table, IsTable, left_of, right_of, takes_equal, is_right_open}
-use Rattle.iso_model.specs.Token.{Shown, TokenKind, NameToken, QuotedToken, DoubleToken, VariableToken, IntegerToken, PunctToken, EndToken, BadToken, magnitude, magnitude_by, digits_value}
+use Rattle.iso_model.specs.Operators.{Operator, Specifier, Xfx, Xfy, Yfx, Table, IsTable, left_of, right_of, takes_equal}
+use Rattle.iso_model.specs.Token.{Shown, TokenKind, NameToken, QuotedToken, DoubleToken, VariableToken, IntegerToken, PunctToken, EndToken, BadToken, magnitude, magnitude_by}
 use Rattle.iso_model.specs.Trees.{Variable, Integer, Name, Apply, row}
 use Rattle.iso_model.specs.Grammar.{Left, before, Node, Row, closed, joined, no_terms, with_first, with_name, number_of, is_name, is_punct, is_mark, opens_arguments, next_is, begins_small, max_integer, infix_at, TakesLeft, Reads, Operand, Elements, alone, between, variable_at, integer_at, atom_at, compound_at, last_of, more_of}
-use Rattle.iso_model.specs.Reading.{Outcome, ◌>>=◌, Reader, rest, further, elements, compound, named, integer, operand_by, operand_from, operand, fits, if_fits, next_operator, operator_behind, extended, climb_by, climb, continued, term}
-use Rattle.iso_model.proofs.ReadingSound.{left_at, Sound, term_sound}
+use Rattle.iso_model.specs.Reading.{Outcome, ◌>>=◌, Reader, further, elements, compound, named, integer, operand_by, operand, fits, if_fits, next_operator, operator_behind, extended, climb_by, continued, term}
+use Rattle.iso_model.proofs.ReadingSound.{term_sound}
 use Rattle.iso_model.proofs.ReadingSteps.{further_comma, further_end, continued-step}
 
 -- the greatest priority that an operator may have whose left operand would be cut out of this term

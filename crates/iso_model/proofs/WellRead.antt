@@ -1,15 +1,18 @@
 -- What is read is well formed, with its variables numbered in the order of their first occurrence.
-use Rattle.std.proofs.Common.{◌≡◌, ℕ, zero, suc, ◌+◌, ◌<◌, ◌≤◌, Bool, true, false, ◌&&◌, cond, nat_le, nat_lt, List, [], ◌∷◌, ◌++◌, length, Option, Some, None, unwrap_or, option_and_then, codes, refl, sym, ◌∙◌, ap, arith, length-append}
+use Rattle.std.proofs.Common.{◌≡◌, ℕ, suc, ◌+◌, ◌<◌, ◌≤◌, Bool, true, false, cond, nat_lt, List, [], ◌∷◌, length, Option, Some, None, unwrap_or, codes, refl, arith, length-append}
 use Rattle.std.specs.Prelude.{position}
-use Rattle.std.specs.List.{position_or_len}
+use Rattle.std.specs.List.{All, position_or_len}
+use Rattle.std.proofs.lemmas.List.Elements.{All-cons, All-nil}
 use Rattle.std.specs.Str.{bytes_eq}
 use Rattle.std.proofs.lemmas.Bool.{le-leb, ltb-true}
 use Rattle.std.proofs.lemmas.Bool.Decides.{nat_tests}
 use Rattle.std.proofs.lemmas.Option.{cond_some}
 use Rattle.iso_model.specs.Operators.{Table}
-use Rattle.iso_model.specs.Trees.{Tree, Variable, Apply, End, More, row, count, arities_fit}
+use Rattle.iso_model.specs.ReadingLaws.{IsWellRead}
+use Rattle.iso_model.specs.Token.{Shown}
+use Rattle.iso_model.specs.Trees.{Tree, Variable, row, count, arities_fit}
 use Rattle.iso_model.specs.Numbering.{next_number}
-use Rattle.iso_model.specs.Grammar.{Left, Node, Row, place_of, number_of, with_name, with_name_by, Reads, Operand, Elements, alone, between, variable_at, integer_at, atom_at, compound_at, last_of, more_of}
+use Rattle.iso_model.specs.Grammar.{Clause, IsClause, numbered, Left, Node, Row, place_of, with_name_by, Reads, Operand, Elements, alone, between, variable_at, integer_at, atom_at, compound_at, last_of, more_of}
 
 count_row : (ts : List Tree) → count (row ts) ≡ length ts
 count_row [] = refl
@@ -29,6 +32,18 @@ variable_numbered : (name : List ℕ) (names : List (List ℕ)) (place : Option 
     → next_number (Variable (unwrap_or place (length names))) (length names) ≡ Some (length (with_name_by name names place))
 variable_numbered name names None below = grind (arith, nat_tests, length-append {A = List ℕ})
 variable_numbered name names (Some at) below = let h = below at refl in rw (le-leb (suc at) (length names) h) refl
+
+abbrev Below : ℕ → List ℕ × ℕ → Type 0
+Below count entry = entry.1 < count
+
+names_below_by : (b : Bool) (entry : List ℕ × ℕ) (count : ℕ) (others : List (List ℕ × ℕ)) → entry.1 < count → All (Below count) others → All (Below count) (cond b others (entry ∷ others))
+names_below_by true entry count others h all = all
+names_below_by false entry count others h all = All-cons (Below count) entry others h all
+
+names_below : (names : List (List ℕ)) (place count : ℕ) → place + length names ≤ count → All (Below count) (numbered place names)
+names_below [] place count h = All-nil (Below count)
+names_below (name ∷ names) place count h =
+    names_below_by (bytes_eq name (codes "_")) (name, place) count (numbered (place + 1) names) (omega arith) (names_below names (place + 1) count (omega arith))
 
 module _ (table : Table) where
   -- what was read, with so many variables before it and behind it
@@ -60,3 +75,8 @@ module _ (table : Table) where
         let x = reads_well a in
         let y = elements_well b in
         (omega arith, record { arities = rw (x.arities, y.1.arities) refl; numbered = rw (x.numbered, y.1.numbered) refl })
+
+  pub clause_well_read : (ts : List Shown) (c : Clause) → IsClause table ts c → IsWellRead c
+  clause_well_read ts c k =
+      let x = reads_well k.reads in
+      rw k.is (record { arities = x.arities; count = length k.names; numbered = x.numbered; named = names_below k.names 0 (length k.names) (omega arith) })

@@ -1,7 +1,7 @@
 -- The clauses of a text, one after the other (ISO/IEC 13211-1:1995, 6.2): each goes up to an end token.
 use Rattle.std.specs.Prelude.{◌≡◌, Bool, true, false, if◌then◌else◌, List, [], ◌∷◌, Option, Some, None, option_map}
 use Rattle.iso_model.specs.Operators.{Table}
-use Rattle.iso_model.specs.Token.{Shown, TokenKind, NameToken, QuotedToken, DoubleToken, VariableToken, IntegerToken, PunctToken, EndToken, BadToken}
+use Rattle.iso_model.specs.Token.{Shown, TokenKind, EndToken}
 use Rattle.iso_model.specs.Grammar.{Clause, IsClause}
 use Rattle.iso_model.specs.Reading.{◌>>=◌, clause_of}
 

@@ -1,9 +1,9 @@
 -- Reading by precedence: the grammar as a function of the tokens. An operand is read first; then the operators behind
 -- it are taken as long as they may stand there.
-use Rattle.std.specs.Prelude.{ℕ, zero, suc, ◌+◌, ◌-◌, Bool, true, false, not, ◌&&◌, ◌==◌, if◌then◌else◌, nat_le, nat_lt, List, [], ◌∷◌, length, drop, Option, Some, None, pos, codes}
+use Rattle.std.specs.Prelude.{ℕ, zero, suc, ◌+◌, ◌-◌, Bool, not, ◌&&◌, ◌==◌, if◌then◌else◌, nat_le, nat_lt, List, [], ◌∷◌, length, drop, Option, Some, None, pos, codes}
 use Rattle.iso_model.specs.Operators.{Operator, Table, left_of, right_of, takes_equal}
-use Rattle.iso_model.specs.Token.{Shown, TokenKind, NameToken, QuotedToken, DoubleToken, VariableToken, IntegerToken, PunctToken, EndToken, BadToken, magnitude}
-use Rattle.iso_model.specs.Grammar.{Left, Node, Row, Clause, place_of, number_of, with_name, closed, joined, no_terms, with_first, is_mark, opens_arguments, next_is, begins_small, max_integer, max_depth, infix_at, numbered, start_of}
+use Rattle.iso_model.specs.Token.{Shown, TokenKind, NameToken, VariableToken, IntegerToken, magnitude}
+use Rattle.iso_model.specs.Grammar.{Left, Node, Row, Clause, number_of, with_name, closed, joined, no_terms, with_first, is_mark, opens_arguments, next_is, begins_small, max_integer, max_depth, infix_at, numbered, start_of}
 use Rattle.iso_model.specs.Trees.{Variable, Integer, Name, Apply, row}
 
 -- what was read, and what is left behind it; nothing where the grammar has no case

@@ -20,8 +20,7 @@ pub fn reads_the_clause()
 /// So it does for the next clause of a text's tokens.
 pub fn reads_the_next_clause()
     ensures { ReadsTheNextClause }
-{
-}
+{}
 
 /// What is read is well formed, and its variables are numbered in the order of their first occurrence.
 pub fn clauses_are_well_read()

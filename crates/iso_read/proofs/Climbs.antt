@@ -1,5 +1,5 @@
 -- What a turn of the loop over operators does.
-use Rattle.std.proofs.Common.{◌≡◌, ℕ, zero, suc, ◌-◌, ◌<◌, ◌≤◌, Option, Some, None, Err, refl, ap, ◌∙◌, sym, length, length-drop, arith}
+use Rattle.std.proofs.Common.{◌≡◌, ℕ, zero, suc, ◌-◌, ◌<◌, ◌≤◌, Some, None, Err, refl, ap, ◌∙◌, sym, length, length-drop, arith}
 use Rattle.std.proofs.lemmas.Bool.{le-leb}
 use Rattle.iso_model.specs.Operators.{Operator, operators}
 use Rattle.iso_model.specs.Grammar.{Left, Node}

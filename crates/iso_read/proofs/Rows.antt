@@ -1,10 +1,10 @@
 -- What a turn of the loop over arguments does.
-use Rattle.std.proofs.Common.{◌≡◌, ℕ, ◌+◌, ◌≤◌, max, Bool, true, false, List, [], ◌∷◌, ◌++◌, map, length, drop, Option, Some, None, codes, refl, ap, sym, ◌∙◌, append-nil, append_assoc, arith}
+use Rattle.std.proofs.Common.{◌≡◌, ℕ, max, true, false, List, [], ◌∷◌, ◌++◌, length, Option, Some, None, codes, refl, ap, sym, ◌∙◌, append-nil, append_assoc, arith}
 use Rattle.iso_model.specs.Trees.{Tree}
 use Rattle.iso_model.specs.Operators.{operators}
 use Rattle.iso_model.specs.Token.{Shown}
-use Rattle.iso_model.specs.Grammar.{Left, Node, Row, no_terms, with_first, is_mark, next_is}
-use Rattle.iso_model.specs.Reading.{Outcome, ◌>>=◌, Reader, rest, further, elements, term}
+use Rattle.iso_model.specs.Grammar.{Left, Node, Row, with_first, is_mark, next_is}
+use Rattle.iso_model.specs.Reading.{Outcome, ◌>>=◌, rest, further, elements, term}
 use Rattle.iso_model.proofs.ReadingSound.{left_at, term_sound}
 use Rattle.iso_model.proofs.ReadingSteps.{further_comma, further_end}
 

@@ -1,7 +1,6 @@
 -- What a turn of the loop over a clause's tokens does.
-use Rattle.std.proofs.Common.{◌≡◌, ℕ, Bool, true, false, List, [], ◌∷◌, ◌++◌, map, Option, Some, None, option_map, refl, ap, sym, ◌∙◌, append-nil, append_assoc}
+use Rattle.std.proofs.Common.{List, ◌++◌, Option, Some, None}
 use Rattle.iso_model.specs.Token.{Shown}
-use Rattle.iso_model.specs.Clauses.{is_end, behind_token, split_clause}
 
 -- what was split off, with these tokens before it
 abbrev pub behind_tokens : List Shown → Option (List Shown × List Shown) → Option (List Shown × List Shown)

@@ -1,14 +1,12 @@
 -- What an answer of the reader says of the tokens.
-use Rattle.std.specs.Prelude.{◌≡◌, ◌≢◌, ◌<◌, true, map, length, List, [], Option, Some, None, Result, Ok, Err}
+use Rattle.std.specs.Prelude.{◌≡◌, ◌≢◌, ◌<◌, map, length, List, [], Option, Some, None, Result, Ok, Err}
 use Rattle.std.specs.String.{string_bytes}
 use Rattle.iso_model.specs.Operators.{operators}
 use Rattle.iso_model.specs.Token.{Shown}
 use Rattle.iso_model.specs.Grammar.{Clause}
 use Rattle.iso_model.specs.Clauses.{IsNextClause, next_clause, behind_clause}
-use Rattle.iso_model.specs.Numbering.{is_numbered}
-use Rattle.iso_model.specs.Reading.{clause_of}
+use Rattle.iso_model.specs.ReadingLaws.{IsWellRead}
 use Rattle.iso_model.specs.Terms.{term_of}
-use Rattle.iso_model.specs.Trees.{arities_fit}
 use Rattle.iso_read.specs.declared.clause.Read.{Read}
 use Rattle.iso_read.specs.declared.clause.ReadFault.{ReadFault}
 use Rattle.iso_read.specs.declared.clause.ReadFault.TheVariants as fault
@@ -49,7 +47,8 @@ abbrev pub TakesSome : Result (Option Read) ReadFault → List Shown → List Sh
 TakesSome (Ok None) old left = Unit {0}
 TakesSome _ old left = length left < length old
 
--- A term that was read is well formed, and its variables are numbered in the order of their first occurrence.
+-- A term that was read is well formed, its variables are numbered in the order of their first occurrence, and each name
+-- is that of one of them.
 abbrev pub IsWellFormed : Option Read → Type 0
 IsWellFormed None = Unit {0}
-IsWellFormed (Some r) = (arities_fit (term_of r.term) ≡ true) × (is_numbered (term_of r.term) ≡ true)
+IsWellFormed (Some r) = IsWellRead (clause_read r)

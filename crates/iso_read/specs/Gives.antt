@@ -1,5 +1,5 @@
 -- What a step of the reader gives.
-use Rattle.std.specs.Prelude.{◌≡◌, Option, Some, None, Result, Ok, Err}
+use Rattle.std.specs.Prelude.{◌≡◌, Some, None, Result, Ok, Err}
 use Rattle.iso_model.specs.Grammar.{Left}
 use Rattle.iso_model.specs.Reading.{Outcome}
 use Rattle.iso_read.specs.declared.clause.ReadFault.{ReadFault}

@@ -92,12 +92,7 @@ fn begins_small(name: &str) -> bool
 /// What a name stands for: a compound where its arguments follow directly, else an atom (6.3.1.3, 6.3.3).
 #[cycle(reader)]
 #[tactic(auto, unfolding(iso_model::specs::Reading::named))]
-fn named(
-    alloc: Global,
-    depth: usize,
-    name: &str,
-    input: &mut Input<'_>,
-) -> Result<Node, ReadFault>
+fn named(alloc: Global, depth: usize, name: &str, input: &mut Input<'_>) -> Result<Node, ReadFault>
     ensures read { Gives node_of (reading.named (reading.term operators depth) name.now input.old) result input.new }
     ensures height { IfOk result (λ node. node.height ≤ depth) }
     ensures shorter { OnOk result (length input.new.tokens ≤ length input.old.tokens) }

@@ -1,6 +1,6 @@
 -- Each call goes less deep, or is of a function that stands further up in the order: an operand, a name, a compound,
 -- its arguments; or the operators behind an operand.
-use Rattle.std.proofs.Common.{◌≡◌, ℕ, ◌+◌, ◌-◌, ◌*◌, ◌<◌, ◌≤◌, length, map, option_map}
+use Rattle.std.proofs.Common.{◌≡◌, ◌+◌, ◌-◌, ◌*◌, ◌<◌, ◌≤◌, length, map}
 use Rattle.iso_model.specs.Operators.{operators}
 use Rattle.iso_model.specs.Reading.{continued, term, elements, further}
 use Rattle.iso_model.specs.Terms.{term_of}
