@@ -50,11 +50,11 @@ set_op op ops = if op.priority == 0 then without_op (kind_of op.spec) op.name op
 abbrev pub AddsEntry : Operator → List Operator → Type 0
 AddsEntry op ops = (1 ≤ op.priority) × (find_op (kind_of op.spec) op.name ops ≡ None)
 
--- the names that no call may make or change an operator of (own: `{}`)
+-- the names that no call may make or change an operator of (own but for the comma)
 abbrev pub protected_names : List (List ℕ)
 protected_names = codes "," ∷ codes "[]" ∷ codes "{}" ∷ codes "|" ∷ []
 
--- whether the name is an operator of the kind that an operator of this kind can't be beside: infix and postfix
+-- whether the name is an operator of the kind that an operator of this kind can't be beside: infix and postfix (6.3.4.3)
 abbrev pub has_rival : Kind → List ℕ → List Operator → Bool
 has_rival Prefix name ops = false
 has_rival Infix name ops = is_some (find_op Postfix name ops)
