@@ -7,33 +7,12 @@ use Rattle.iso_model.specs.Lexemes.{lexeme}
 use Rattle.iso_model.specs.Reading.{further, elements, compound, named, operand, operator_behind, extended, climb, continued, term, clause_of}
 use Rattle.iso_model.specs.Clauses.{next_clause}
 
-<<<<<<< HEAD
-abbrev token_at : TokenKind → List ℕ → Shown
-token_at k z = record { kind = k; text = z; start = 0; after_layout = false }
-
-abbrev name_at : List ℕ → Shown
-name_at = token_at NameToken
-
-abbrev mark_at : List ℕ → Shown
-mark_at = token_at PunctToken
-
-abbrev variable_at : List ℕ → Shown
-variable_at = token_at VariableToken
-
--- p(Y, _, Y) :- q, r.
-clause_row : clause_of operators
-    (name_at (codes "p") ∷ mark_at (codes "(") ∷ variable_at (codes "Y") ∷ mark_at (codes ",") ∷ variable_at (codes "_") ∷ mark_at (codes ",") ∷ variable_at (codes "Y") ∷ mark_at (codes ")") ∷ name_at (codes ":-") ∷ name_at (codes "q")
-    ∷ mark_at (codes ",") ∷ name_at (codes "r") ∷ [])
-    ≡ Some (record { term = Apply (codes ":-") (row (Apply (codes "p") (row (Variable 0 ∷ Variable 1 ∷ Variable 0 ∷ [])) ∷ Apply (codes ",") (row (Name (codes "q") ∷ Name (codes "r") ∷ [])) ∷ [])); names = (codes "Y", 0) ∷ [] })
-unfolding clause_of term continued climb extended operator_behind operand named compound elements further
-=======
 clause_row : next_clause operators (tokens (codes "p(Y, _) :- q, r(1, Y)."))
     ≡ Some (record {
       term = Apply (codes ":-") (row (Apply (codes "p") (row (Variable 0 ∷ Variable 1 ∷ [])) ∷ Apply (codes ",") (row (Name (codes "q") ∷ Apply (codes "r") (row (Integer (pos 1) ∷ Variable 0 ∷ [])) ∷ [])) ∷ []));
       names = (codes "Y", 0) ∷ [];
     })
 unfolding tokens_from lexeme clause_of term continued climb extended operator_behind operand named compound elements further
->>>>>>> a29c29072b6362a966df8054fc0c0715f87fa5b8
 clause_row = refl
 
 argument_row : next_clause operators (tokens (codes "p(a :- b).")) ≡ None
