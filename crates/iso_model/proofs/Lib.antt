@@ -1,1 +1,8 @@
 pub mod RowLemmas
+pub mod UnifierLemmas
+pub mod Cost
+pub mod SortLemmas
+pub mod CopyLemmas
+pub mod MeaningLemmas
+pub mod OrderLemmas
+pub mod VariableLemmas

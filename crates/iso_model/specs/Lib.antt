@@ -1,2 +1,16 @@
 pub mod Trees
 pub mod Terms
+pub mod Sorts
+pub mod Sizes
+pub mod Variables
+pub mod Substitutions
+pub mod VariableLaws
+pub mod Unifiers
+pub mod Unification
+pub mod UnifierLaws
+pub mod Clashes
+pub mod Copies
+pub mod CopyLaws
+pub mod TermLaws
+pub mod Order
+pub mod OrderLaws

@@ -3,6 +3,11 @@
 #![tactic(auto)]
 
 pub mod engines;
+pub mod laws_of_copies;
+pub mod laws_of_order;
+pub mod laws_of_terms;
+pub mod laws_of_unifiers;
+pub mod laws_of_variables;
 pub mod limit;
 pub mod terms;
 

@@ -1,0 +1,5 @@
+use Rattle.iso_model.proofs.MeaningLemmas.{meaning_is_term}
+use Rattle.iso_model.proofs.laws_of_terms.meaning_is_term.Goals as goal
+
+pub returns : goal.returns
+returns c = meaning_is_term
