@@ -1,11 +1,10 @@
 -- Taking bindings back: what it leaves alone, and what a mark brings back after each change of the store.
-use Rattle.std.proofs.Common.{◌≡◌, ◌≢◌, ℕ, zero, suc, ◌+◌, ◌<◌, ◌≤◌, List, [], ◌∷◌, ◌++◌, length, take, drop, set, get_or, refl, ap, sym, ◌∙◌, arith, length-append, Some, None}
-use Rattle.std.specs.List.{slice_get}
-use Rattle.std.proofs.lemmas.List.{drop-append-le, take-append-le, take-take, drop-drop}
+use Rattle.std.proofs.Common.{◌≡◌, ◌≢◌, ℕ, zero, suc, ◌+◌, ◌<◌, ◌≤◌, List, [], ◌∷◌, ◌++◌, length, take, drop, set, get_or, refl, ap, sym, ◌∙◌, arith, length-append, None}
+use Rattle.std.proofs.lemmas.List.{drop-append-le, take-take}
 use Rattle.std.proofs.Math.Seq.{take-append_seam}
 use Rattle.iso_store.specs.declared.nodes.Node.{Node}
 use Rattle.iso_store.specs.declared.nodes.Node.TheVariants.{Var, Int, Atom, Compound}
-use Rattle.iso_store.specs.Lists.{unbound, unbound_at, reset}
+use Rattle.iso_store.specs.NodeStores.{unbound, unbound_at, reset}
 
 pub unbound_at-set : (cs : List Node) (e : ℕ) (d : Node) → e < length cs → unbound_at cs e ≡ set cs e (unbound (get_or cs e d))
 unbound_at-set [] e d h = absurd (omega arith)

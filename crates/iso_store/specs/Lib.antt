@@ -1,2 +1,7 @@
 pub mod Presents
-pub mod Lists
+pub mod Arguments
+pub mod Shapes
+pub mod Places
+pub mod Copying
+pub mod NodeTerms
+pub mod NodeStores

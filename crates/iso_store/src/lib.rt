@@ -2,14 +2,20 @@
 //! (unification, ISO/IEC 13211-1:1995, 7.3; backtracking, 7.7).
 #![tactic(auto)]
 
+mod cells;
+mod copies;
+#[cfg(test)]
+mod counting;
 mod marks;
 mod meetings;
 mod nodes;
+mod numbering;
 mod refusals;
 mod shapes;
 mod stores;
 #[cfg(test)]
 mod tests;
+mod unify;
 
 pub use marks::NodesMark;
 pub use nodes::Nodes;

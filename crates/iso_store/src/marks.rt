@@ -1,6 +1,6 @@
 //! Marks on a list of nodes, and taking bindings back.
 ghost use Rattle.std.specs.Prelude.{◌≡◌, ◌≤◌, vec_len, take, drop};
-ghost use Rattle.iso_store.specs.Lists.{unbound_at, reset};
+ghost use Rattle.iso_store.specs.NodeStores.{unbound_at, reset};
 
 use super::nodes::Node;
 

@@ -1,118 +1,156 @@
-//! The contract that both engines and every built-in stand on.
-ghost use Rattle.std.specs.Prelude.{◌≡◌, ℕ, ◌+◌, ◌<◌, ◌≤◌, ◌^◌, IfOk, length};
+//! The contract that both engines and every built-in stand on: terms under one substitution, which marks bring back.
+ghost use Rattle.std.specs.Prelude.{◌≡◌, ℕ, ◌+◌, ◌*◌, ◌<◌, ◌≤◌, ◌^◌, IfOk, OnOk, length, map, true, false};
 ghost use Rattle.std.specs.List.{All};
-ghost use Rattle.iso_store.specs.Presents.{Present, Holds, Keeps, KeepsMarks};
+ghost use Rattle.iso_model.specs.Trees.{Integer, Name, Apply, Variable, row, arities_fit};
+ghost use Rattle.iso_model.specs.Terms.{term_of};
+ghost use Rattle.iso_model.specs.Sorts.{is_term};
+ghost use Rattle.iso_model.specs.Sizes.{size};
+ghost use Rattle.iso_model.specs.Variables.{variable_count};
+ghost use Rattle.iso_model.specs.Substitutions.{IsSubstitution};
+ghost use Rattle.iso_model.specs.Copies.{copy_from};
+ghost use Rattle.iso_store.specs.Presents.{Present, Holds, meaning, KeepsWords, Makes, KeepsNumbers, TakesNumber, MovesOn, Grows, IsUnification, KeepsMarks};
+ghost use Rattle.iso_store.specs.Arguments.{arity, argument};
+ghost use Rattle.iso_store.specs.Shapes.{IsShape};
 
 use super::shapes::{Shape, StoreFault};
 use iso_model::{NoMemory, Term};
 
-/// Terms under one substitution, which marks bring back.
+/// Words that stand for terms. A word has the term that it was made with, and stands for what the bindings make of it.
+/// After an error, and after `unify` answers false, the caller goes back to a mark.
 pub trait Store {
-    /// A word stands for a term.
+    /// What stands for a term.
     type Word: Copy;
-    /// A mark stands for what the store was when it was made.
+    /// What stands for the store as it was.
     type Mark: Copy;
 
+    // the store as it is
     ghost present: { Self → Present Self.Word };
-
+    // what a mark brings back
     ghost stands: { Self → Self.Mark → Present Self.Word → Type 0 };
-
+    // the first mark is older than the second
     ghost older: { Self.Mark → Self.Mark → Type 0 };
+    // no cell is left
+    ghost full: { Self → Type 0 };
 
-    /// What the word stands for, seen through bindings.
+    /// What the word stands for.
     fn shape(&self, word: Self::Word) -> Shape<'_>
-        requires { Holds (present self.now) word };
-
-    /// An argument of the compound that the word stands for, from 0 on, below the arity.
-    fn arg(&self, word: Self::Word, index: usize) -> Self::Word
         requires { Holds (present self.now) word }
-        ensures { Holds (present self.now) result };
+        ensures shape { IsShape result (meaning (present self.now) word) }
+        ensures term { is_term (meaning (present self.now) word) ≡ true };
 
-    /// The next variable number, which moves on by `count`.
+    /// The argument at this place, from 0 on, of the compound that the word stands for.
+    fn arg(&self, word: Self::Word, index: usize) -> Self::Word
+        requires word { Holds (present self.now) word }
+        requires index { index < arity (meaning (present self.now) word) }
+        ensures holds { Holds (present self.now) result }
+        ensures value { meaning (present self.now) result ≡ argument index (meaning (present self.now) word) };
+
+    /// The next variable number, which moves on by `count`. The caller keeps it below 2^63.
     fn reserve(&mut self, count: u64) -> u64
         requires count { count < 2 ^ 32 }
         requires next { (present self.old).next < 2 ^ 63 }
         ensures number { result ≡ (present self.old).next }
-        ensures next { (present self.new).next ≡ result + count }
-        ensures words { Keeps (present self.old) (present self.new) }
+        ensures words { KeepsWords (present self.old) (present self.new) }
+        ensures substitution { (present self.new).substitution ≡ (present self.old).substitution }
+        ensures numbers { MovesOn (present self.old) (present self.new) count }
+        ensures free { (n : ℕ) → result ≤ n → (present self.new).taken n ≡ false }
+        ensures cells { Grows (present self.old) (present self.new) 0 }
         ensures marks { KeepsMarks (stands self.old) (stands self.new) };
 
     /// An integer.
     fn int(&mut self, value: i64) -> Result<Self::Word, StoreFault>
-        ensures made { IfOk result (λ w. Holds (present self.new) w) }
-        ensures next { (present self.new).next ≡ (present self.old).next }
-        ensures words { Keeps (present self.old) (present self.new) }
+        ensures made { IfOk result (λ w. Makes (present self.old) (present self.new) w (Integer value)) }
+        ensures numbers { OnOk result (KeepsNumbers (present self.old) (present self.new)) }
+        ensures cells { Grows (present self.old) (present self.new) 1 }
+        ensures full { result ≡ Err StoreFault.Full → full self.new }
         ensures marks { KeepsMarks (stands self.old) (stands self.new) };
 
     /// An atom.
     fn atom(&mut self, name: &str) -> Result<Self::Word, StoreFault>
-        ensures made { IfOk result (λ w. Holds (present self.new) w) }
-        ensures next { (present self.new).next ≡ (present self.old).next }
-        ensures words { Keeps (present self.old) (present self.new) }
+        ensures made { IfOk result (λ w. Makes (present self.old) (present self.new) w (Name name.now)) }
+        ensures numbers { OnOk result (KeepsNumbers (present self.old) (present self.new)) }
+        ensures cells { Grows (present self.old) (present self.new) 1 }
+        ensures full { result ≡ Err StoreFault.Full → full self.new }
         ensures marks { KeepsMarks (stands self.old) (stands self.new) };
 
     /// A compound of 1 to 255 arguments.
     fn compound(&mut self, name: &str, arguments: &[Self::Word]) -> Result<Self::Word, StoreFault>
         requires some { 0 < length arguments.now }
-        requires arity { length arguments.now < 256 }
+        requires few { length arguments.now < 256 }
         requires arguments { All (λ w. Holds (present self.old) w) arguments.now }
-        ensures made { IfOk result (λ w. Holds (present self.new) w) }
-        ensures next { (present self.new).next ≡ (present self.old).next }
-        ensures words { Keeps (present self.old) (present self.new) }
+        ensures made { IfOk result (λ w. Makes (present self.old) (present self.new) w (Apply name.now (row (map (present self.old).term arguments.now)))) }
+        ensures numbers { OnOk result (KeepsNumbers (present self.old) (present self.new)) }
+        ensures cells { Grows (present self.old) (present self.new) (length arguments.now + 1) }
+        ensures full { result ≡ Err StoreFault.Full → full self.new }
         ensures marks { KeepsMarks (stands self.old) (stands self.new) };
 
     /// The variable of a reserved number that has none yet.
     fn variable(&mut self, number: u64) -> Result<Self::Word, StoreFault>
-        requires { number < (present self.old).next }
-        ensures made { IfOk result (λ w. Holds (present self.new) w) }
-        ensures next { (present self.new).next ≡ (present self.old).next }
-        ensures words { Keeps (present self.old) (present self.new) }
+        requires reserved { number < (present self.old).next }
+        requires free { (present self.old).taken number ≡ false }
+        ensures made { IfOk result (λ w. Makes (present self.old) (present self.new) w (Variable number)) }
+        ensures numbers { OnOk result (TakesNumber (present self.old) (present self.new) number) }
+        ensures cells { Grows (present self.old) (present self.new) 1 }
+        ensures full { result ≡ Err StoreFault.Full → full self.new }
         ensures marks { KeepsMarks (stands self.old) (stands self.new) };
 
-    /// A variable of the next number.
+    /// A variable of the next number, which the caller keeps below 2^63.
     fn fresh(&mut self) -> Result<Self::Word, StoreFault>
         requires { (present self.old).next < 2 ^ 63 }
-        ensures made { IfOk result (λ w. Holds (present self.new) w) }
-        ensures next { (present self.new).next ≡ (present self.old).next + 1 }
-        ensures words { Keeps (present self.old) (present self.new) }
+        ensures made { IfOk result (λ w. Makes (present self.old) (present self.new) w (Variable (present self.old).next)) }
+        ensures numbers { OnOk result (MovesOn (present self.old) (present self.new) 1) }
+        ensures cells { Grows (present self.old) (present self.new) 1 }
+        ensures full { result ≡ Err StoreFault.Full → full self.new }
         ensures marks { KeepsMarks (stands self.old) (stands self.new) };
 
     /// The copy of a well-formed term, with its variables numbered from the next number on by first occurrence.
+    /// The caller keeps the next number below 2^63.
     fn build(&mut self, term: &Term) -> Result<Self::Word, StoreFault>
-        requires { (present self.old).next < 2 ^ 63 }
-        ensures made { IfOk result (λ w. Holds (present self.new) w) }
-        ensures words { Keeps (present self.old) (present self.new) }
+        requires well_formed { arities_fit (term_of term.now) ≡ true }
+        requires next { (present self.old).next < 2 ^ 63 }
+        ensures made { IfOk result (λ w. Makes (present self.old) (present self.new) w (copy_from (term_of term.now) (present self.old).next)) }
+        ensures numbers { OnOk result (MovesOn (present self.old) (present self.new) (variable_count (term_of term.now))) }
+        ensures cells { Grows (present self.old) (present self.new) (size (term_of term.now)) }
+        ensures full { result ≡ Err StoreFault.Full → full self.new }
         ensures marks { KeepsMarks (stands self.old) (stands self.new) };
 
-    /// Whether the two terms unify, which then are bound.
+    /// Whether the two terms unify (7.3.4; no variable may occur in its own value, own); then their unifier is bound.
+    /// False leaves it open what is bound.
     fn unify(&mut self, first: Self::Word, second: Self::Word) -> Result<bool, StoreFault>
         requires first { Holds (present self.old) first }
         requires second { Holds (present self.old) second }
-        ensures next { (present self.new).next ≡ (present self.old).next }
-        ensures words { Keeps (present self.old) (present self.new) }
+        ensures unified { IfOk result (IsUnification (present self.old) (present self.new) (meaning (present self.old) first) (meaning (present self.old) second)) }
+        ensures cells { Grows (present self.old) (present self.new) 0 }
+        ensures full { result ≡ Err StoreFault.Full → full self.new }
         ensures marks { KeepsMarks (stands self.old) (stands self.new) };
 
-    /// A mark, which stands for what the store is now.
+    /// A mark, which stands for the store as it is.
     fn mark(&mut self) -> Self::Mark
         ensures present { present self.new ≡ present self.old }
+        ensures substitution { IsSubstitution (present self.old).substitution }
         ensures stands { stands self.new result (present self.old) }
         ensures older { (m : Self.Mark) (p : Present Self.Word) → stands self.old m p → older m result }
         ensures marks { KeepsMarks (stands self.old) (stands self.new) };
 
-    /// Brings back what the mark stands for; marks made after it fall.
+    /// Brings back what a standing mark stands for. It stands on; those made after it fall.
     fn undo(&mut self, mark: Self::Mark)
         requires { (p : Present Self.Word) × stands self.old mark p }
         ensures back { (p : Present Self.Word) → stands self.old mark p → present self.new ≡ p }
         ensures stands { (p : Present Self.Word) → stands self.old mark p → stands self.new mark p }
         ensures marks { (m : Self.Mark) (p : Present Self.Word) → older m mark → stands self.old m p → stands self.new m p };
 
-    /// Gives up the mark and those made after it; nothing else changes.
+    /// Gives up a standing mark and those made after it; the bindings stay.
     fn forget(&mut self, mark: Self::Mark)
         requires { (p : Present Self.Word) × stands self.old mark p }
         ensures present { present self.new ≡ present self.old }
         ensures marks { (m : Self.Mark) (p : Present Self.Word) → older m mark → stands self.old m p → stands self.new m p };
 
-    /// The term that the word stands for.
+    /// The term that the word stands for. The error is that memory was refused.
     fn copy_out(&self, word: Self::Word) -> Result<Term, NoMemory>
-        requires { Holds (present self.now) word };
+        requires { Holds (present self.now) word }
+        ensures value { IfOk result (λ t. term_of t ≡ meaning (present self.now) word) }
+        ensures well_formed { IfOk result (λ t. arities_fit (term_of t) ≡ true) };
+
+    // it is full only where that many cells were made: each other cell that is used is a binding of one of these
+    ghost full_used: { (s : Self) → full s → (present s).limit ≤ 2 * (present s).cells };
 }

@@ -1,17 +1,33 @@
-use super::{Nodes, Shape, Store};
-use iso_model::Term;
+//! Calls with ample memory, and how many nodes are made and looked at.
+ghost use Rattle.std.specs.Prelude.{◌≡◌, true};
+
+use super::counting::Counting;
+use super::unify::unify;
+use super::{Nodes, Shape, Store, StoreFault};
+use iso_model::{Term, well_formed};
 use std::alloc::{AllocError, Global};
+use std::cell::Cell;
 use std::test::Fail;
 
 fn compound(alloc: Global, name: &str, arguments: Vec<Term>) -> Result<Term, AllocError> {
     Ok(Term::Compound(String::from_str(alloc, name)?, arguments))
 }
 
+/// The list of the integers from `length` - 1 down to 0.
+fn list(alloc: Global, length: i64) -> Result<Term, AllocError> {
+    let mut whole = Term::Atom(String::from_str(alloc, "[]")?);
+    for value in 0..length {
+        let pair = vec![in alloc; Term::Int(value), whole]?;
+        whole = compound(alloc, ".", pair)?;
+    }
+    Ok(whole)
+}
+
 #[test]
 fn unifies_and_takes_back(rt: HostRuntime) -> Result<(), Fail> {
     let alloc = rt.alloc();
     let mut store = Nodes::new(alloc, 100)?;
-    // f(X, Y, X) and f(a, Z, W)
+    // f(X, Y, X) = f(a, Z, W)
     let left = compound(
         alloc,
         "f",
@@ -23,11 +39,14 @@ fn unifies_and_takes_back(rt: HostRuntime) -> Result<(), Fail> {
         "f",
         vec![in alloc; atom, Term::Var(0), Term::Var(1)]?,
     )?;
-    let first = store.build(&left).ok().expect(&rt, "built");
-    let second = store.build(&right).ok().expect(&rt, "built");
+    let both = compound(alloc, "=", vec![in alloc; left, right]?)?;
+    assert!(rt; well_formed(&both));
+    let equation = store.build(&both).ok().expect(&rt, "room and memory");
+    assert_eq!(rt; store.shape(equation), Shape::Compound("=", 2));
+    let first = store.arg(equation, 0);
+    let second = store.arg(equation, 1);
     let before = store.mark();
-    let answer = store.unify(first, second).ok().expect(&rt, "unified");
-    assert!(rt; answer);
+    assert!(rt; store.unify(first, second).ok().expect(&rt, "memory"));
     let shown = format!(in alloc; "{:?}", store.copy_out(first)?)?;
     assert_eq!(rt;
         shown.as_str(),
@@ -36,5 +55,88 @@ fn unifies_and_takes_back(rt: HostRuntime) -> Result<(), Fail> {
     store.undo(before);
     let shown = format!(in alloc; "{:?}", store.copy_out(first)?)?;
     assert_eq!(rt; shown.as_str(), "Compound(\"f\", [Var(0), Var(1), Var(0)])");
+    Ok(())
+}
+
+#[test]
+fn makes_each_kind(rt: HostRuntime) -> Result<(), Fail> {
+    let alloc = rt.alloc();
+    let mut store = Nodes::new(alloc, 5)?;
+    let integer = store.int(-3).ok().expect(&rt, "room and memory");
+    assert_eq!(rt; store.shape(integer), Shape::Int(-3));
+    let name = store.atom("[]").ok().expect(&rt, "room and memory");
+    assert_eq!(rt; store.shape(name), Shape::Atom("[]"));
+    let number = store.reserve(2);
+    assert_eq!(rt; number, 0);
+    let variable = store.variable(1).ok().expect(&rt, "room and memory");
+    assert_eq!(rt; store.shape(variable), Shape::Var(1));
+    let next = store.fresh().ok().expect(&rt, "room and memory");
+    assert_eq!(rt; store.shape(next), Shape::Var(2));
+    let whole = store
+        .compound("f", &[variable, next])
+        .ok()
+        .expect(&rt, "room and memory");
+    assert_eq!(rt; store.shape(whole), Shape::Compound("f", 2));
+    assert_eq!(rt; store.int(7), Err(StoreFault::Full));
+    let mark = store.mark();
+    store.forget(mark);
+    Ok(())
+}
+
+#[test]
+fn checks_occurrence(rt: HostRuntime) -> Result<(), Fail> {
+    let alloc = rt.alloc();
+    let mut store = Nodes::new(alloc, 9)?;
+    let variable = store.fresh().ok().expect(&rt, "room and memory");
+    let inside = store
+        .compound("f", &[variable])
+        .ok()
+        .expect(&rt, "room and memory");
+    assert_eq!(rt; store.unify(variable, inside), Ok(false));
+    Ok(())
+}
+
+/// A list of n elements takes 2 n + 1 nodes and no more: with one node less the store is full.
+#[test]
+fn makes_as_many_nodes_as_a_term_has_parts(rt: HostRuntime) -> Result<(), Fail> {
+    let alloc = rt.alloc();
+    for length in [1i64, 10, 100, 1_000, 10_000] {
+        let term = list(alloc, length)?;
+        assert!(rt; well_formed(&term));
+        let parts = 2 * length as u32 + 1;
+        let mut store = Nodes::new(alloc, parts)?;
+        let built = store.build(&term).is_ok();
+        assert!(rt; built);
+        let mut short = Nodes::new(alloc, parts - 1)?;
+        assert_eq!(rt; short.build(&term), Err(StoreFault::Full));
+    }
+    Ok(())
+}
+
+/// Unifying two lists of n elements takes 8 n + 2 looks: for each element the shapes of two pairs and of two integers,
+/// and two arguments of each pair; then the shapes of the two ends.
+#[test]
+fn looks_at_each_part_once(rt: HostRuntime) -> Result<(), Fail> {
+    let alloc = rt.alloc();
+    for length in [1i64, 10, 100, 1_000, 10_000] {
+        let lists = vec![in alloc; list(alloc, length)?, list(alloc, length)?]?;
+        let both = compound(alloc, "=", lists)?;
+        assert!(rt; well_formed(&both));
+        let mut store = Nodes::new(alloc, 50_000)?;
+        let equation = store.build(&both).ok().expect(&rt, "room and memory");
+        assert_eq!(rt; Store::shape(&store, equation), Shape::Compound("=", 2));
+        let first = Store::arg(&store, equation, 0);
+        let second = Store::arg(&store, equation, 1);
+        let mut counting = Counting {
+            nodes: store,
+            looks: Cell::new(0),
+        };
+        assert!(rt;
+            unify(&mut counting, first, second)
+                .ok()
+                .expect(&rt, "memory")
+        );
+        assert_eq!(rt; counting.looks.get(), 8 * length as u64 + 2);
+    }
     Ok(())
 }

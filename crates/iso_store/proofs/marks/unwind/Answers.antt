@@ -1,5 +1,5 @@
-use Rattle.std.proofs.Common.{◌≡◌, ◌<◌, ◌≤◌, ◌+◌, ◌∷◌, [], ap, sym, ◌∙◌, length, length-append, vec_len, drop, arith}
-use Rattle.iso_store.specs.Lists.{reset}
+use Rattle.std.proofs.Common.{◌≤◌, ◌∷◌, [], ap, sym, ◌∙◌, length, length-append, drop, arith}
+use Rattle.iso_store.specs.NodeStores.{reset}
 use Rattle.iso_store.proofs.Resets.{unwind-step, prefix-shorter}
 use Rattle.iso_store.proofs.marks.unwind.Goals as goal
 

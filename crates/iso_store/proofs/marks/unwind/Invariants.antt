@@ -1,6 +1,6 @@
 -- The bindings that are left are those of the trail that is left.
 use Rattle.std.proofs.Common.{◌≡◌, ◌≤◌, vec_len, take, drop, length}
-use Rattle.iso_store.specs.Lists.{reset}
+use Rattle.iso_store.specs.NodeStores.{reset}
 use Rattle.iso_store.proofs.marks.unwind.Given as goal
 
 abbrev pub invariant-loop-trail : goal.invariant-loop-trail

@@ -1,0 +1,178 @@
+-- Words that are made one after another, and the terms that they were made with.
+use Rattle.std.proofs.Common.{◌≡◌, ℕ, zero, suc, ◌+◌, ◌<◌, ◌≤◌, List, [], ◌∷◌, ◌++◌, length, map, take, get_or, true, false, refl, ap, ap₂, sym, ◌∙◌, subst, arith, IfOk, OnOk, Result, Ok, Err, Some}
+use Rattle.std.proofs.lemmas.List.{length-map, map-append, take_all, get_or-map}
+use Rattle.std.proofs.Math.Seq.{take-suc}
+use Rattle.iso_model.specs.Trees.{Tree, Variable, Apply, End, row}
+use Rattle.iso_model.specs.Variables.{occurs, variables, variable_count}
+use Rattle.iso_model.specs.Copies.{place_of, copy_from, numbers_from}
+use Rattle.iso_model.specs.Unification.Applied.{apply_same}
+use Rattle.iso_model.specs.Unification.Listed.{distinct_covers}
+use Rattle.iso_model.specs.Substitutions.{apply}
+use Rattle.iso_store.specs.Places.{place_in}
+use Rattle.iso_store.specs.Copying.{placed_terms}
+use Rattle.iso_store.proofs.Parts.{place-found, place-within}
+use Rattle.iso_store.specs.Presents.{Present, Gathers, KeepsWords, KeepsNumbers, TakesNumber, TakesFrom, MovesOn, Makes, Grows}
+
+pub keeps-none : {W : Type 0} (p : Present W) → KeepsWords p p
+keeps-none p = record { stand = λ w h. h; terms = λ w h. refl }
+
+pub keeps-then : {W : Type 0} {p q r : Present W} → KeepsWords p q → KeepsWords q r → KeepsWords p r
+keeps-then first second = record {
+  stand = λ w h. second.stand w (first.stand w h);
+  terms = λ w h. second.terms w (first.stand w h) ∙ first.terms w h;
+}
+
+pub gathers-none : {W : Type 0} (p : Present W) → Gathers p p [] []
+gathers-none p = record { words = keeps-none p; substitution = refl; hold = λ k d h. absurd (omega arith); terms = refl }
+
+-- words that stood have their terms still
+pub terms-kept : {W : Type 0} {p q : Present W} → KeepsWords p q → (ws : List W) → ((k : ℕ) (d : W) → k < length ws → p.holds (get_or ws k d) ≡ true) → map q.term ws ≡ map p.term ws
+terms-kept keeps [] hold = refl
+terms-kept keeps (w ∷ ws) hold = ap₂ ◌∷◌ (keeps.terms w (hold 0 w (omega arith))) (terms-kept keeps ws (λ k d h. hold (suc k) d (omega arith)))
+
+hold-push : {W : Type 0} (p : Present W) (ws : List W) (w : W) → ((k : ℕ) (d : W) → k < length ws → p.holds (get_or ws k d) ≡ true) → p.holds w ≡ true → (k : ℕ) (d : W) → k < length (ws ++ w ∷ []) → p.holds (get_or (ws ++ w ∷ []) k d) ≡ true
+hold-push p [] w hold here zero d h = here
+hold-push p [] w hold here (suc k) d h = absurd (omega arith)
+hold-push p (v ∷ ws) w hold here zero d h = hold 0 d (omega arith)
+hold-push p (v ∷ ws) w hold here (suc k) d h = hold-push p ws w (λ i e below. hold (suc i) e (omega arith)) here k d (omega arith)
+
+pub gathers-more : {W : Type 0} {p q r : Present W} {ws : List W} {ts : List Tree} {w : W} {t : Tree} → Gathers p q ws ts → Makes q r w t → Gathers p r (ws ++ w ∷ []) (ts ++ t ∷ [])
+gathers-more {W} {p} {q} {r} {ws} {ts} {w} {t} so made = record {
+  words = keeps-then so.words made.words;
+  substitution = made.substitution ∙ so.substitution;
+  hold = hold-push r ws w (λ k d h. made.words.stand (get_or ws k d) (so.hold k d h)) made.holds;
+  terms =
+      let before = terms-kept made.words ws so.hold ∙ so.terms in
+      map-append r.term ws (w ∷ []) ∙ ap₂ ◌++◌ before (ap (λ u. u ∷ []) made.term);
+}
+
+pub numbers-then : {W : Type 0} {p q r : Present W} → KeepsNumbers p q → KeepsNumbers q r → KeepsNumbers p r
+numbers-then first second = record { next = second.next ∙ first.next; taken = λ n. second.taken n ∙ first.taken n }
+
+pub grows-on : {W : Type 0} {p q r : Present W} {m n : ℕ} (k : ℕ) → Grows p q m → Grows q r n → m + n ≤ k → Grows p r k
+grows-on k first second within = record {
+  cells = let a = first.cells in let b = second.cells in omega arith;
+  limit = second.limit ∙ first.limit;
+}
+
+-- a compound of the words
+pub gathers-compound : {W : Type 0} {p q r : Present W} {ws : List W} {ts : List Tree} {w : W} (f : List ℕ) (t : Tree) → Gathers p q ws ts → Makes q r w (Apply f (row (map q.term ws))) → Apply f (row ts) ≡ t → Makes p r w t
+gathers-compound {W} {p} {q} {r} {ws} {ts} {w} f t so made is = record {
+  words = keeps-then so.words made.words;
+  substitution = made.substitution ∙ so.substitution;
+  holds = made.holds;
+  term = made.term ∙ ap (λ us. Apply f (row us)) so.terms ∙ is;
+}
+
+pub gathers-length : {W : Type 0} {p q : Present W} {ws : List W} {ts : List Tree} → Gathers p q ws ts → length ws ≡ length ts
+gathers-length {W} {p} {q} {ws} {ts} so = sym (length-map ws q.term) ∙ ap length so.terms
+
+-- one more word, for the next item of a list
+pub gathers-next : {W X : Type 0} {p q r : Present W} {ws : List W} (f : X → Tree) (items : List X) (i : ℕ) (x : X) {w : W} → i < length items → x ≡ get_or items i x → Gathers p q ws (map f (take i items)) → Makes q r w (f x) → Gathers p r (ws ++ w ∷ []) (map f (take (suc i) items))
+gathers-next {W} {X} {p} {q} {r} {ws} f items i x {w} below is so made =
+    let next : take (suc i) items ≡ take i items ++ x ∷ [] = take-suc items i x below ∙ ap (λ y. take i items ++ y ∷ []) (sym is) in
+    let terms : map f (take i items) ++ f x ∷ [] ≡ map f (take (suc i) items) = sym (ap (map f) next ∙ map-append f (take i items) (x ∷ [])) in
+    subst (Gathers p r (ws ++ w ∷ [])) terms (gathers-more so made)
+
+-- all words, at the end of the list
+pub gathers-all : {W X : Type 0} {p q : Present W} {ws : List W} (f : X → Tree) (items : List X) (i : ℕ) → length items ≤ i → Gathers p q ws (map f (take i items)) → Gathers p q ws (map f items)
+gathers-all {W} {X} {p} {q} {ws} f items i past so = subst (Gathers p q ws) (ap (map f) (take_all i items past)) so
+
+-- a word for a variable
+pub makes-placed : {W : Type 0} (p : Present W) (ws : List W) (vs : List ℕ) (x k : ℕ) (w : W) → place_in x vs ≡ Some k → length ws ≡ length vs → ((i : ℕ) (d : W) → i < length ws → p.holds (get_or ws i d) ≡ true) → w ≡ get_or ws k w → Makes p p w (placed_terms (map p.term ws) vs x)
+makes-placed p ws vs x k w found same hold is =
+    let place = place-found vs x k found in
+    let below : k < length ws = let b = place.1 in omega arith in
+    record {
+      words = keeps-none p;
+      substitution = refl;
+      holds = ap p.holds is ∙ hold k w below;
+      term = sym (ap (λ i. get_or (map p.term ws) i End) (sym place.0) ∙ get_or-map p.term ws k w End below ∙ ap p.term (sym is));
+    }
+
+-- the variables stand for what they stood for
+pub placed-kept : {W : Type 0} {p q : Present W} → KeepsWords p q → (ws : List W) (vs : List ℕ) → ((k : ℕ) (d : W) → k < length ws → p.holds (get_or ws k d) ≡ true) → placed_terms (map q.term ws) vs ≡ placed_terms (map p.term ws) vs
+placed-kept keeps ws vs hold = ap (λ ts. placed_terms ts vs) (terms-kept keeps ws hold)
+
+-- the result of making the compound
+pub compound-made : {W E : Type 0} {p q : Present W} (r : Present W) {ws : List W} {ts : List Tree} (f : List ℕ) (t : Tree) (result : Result W E) → Gathers p q ws ts → Apply f (row ts) ≡ t → IfOk result (λ w. Makes q r w (Apply f (row (map q.term ws)))) → IfOk result (λ w. Makes p r w t)
+compound-made r f t (Ok w) so is made = gathers-compound f t so made is
+compound-made r f t (Err e) so is made = made
+
+pub numbers-made : {W E : Type 0} {p q : Present W} (r : Present W) (result : Result W E) → KeepsNumbers p q → OnOk result (KeepsNumbers q r) → OnOk result (KeepsNumbers p r)
+numbers-made r (Ok w) first second = numbers-then first second
+numbers-made r (Err e) first second = second
+
+pub gathers-size : {W X : Type 0} {p q : Present W} {ws : List W} (f : X → Tree) (items : List X) (i : ℕ) → length items ≤ i → Gathers p q ws (map f (take i items)) → length ws ≡ length items
+gathers-size f items i past so = gathers-length (gathers-all f items i past so) ∙ length-map items f
+
+numbers_from-more : (n k : ℕ) → numbers_from n (suc k) ≡ numbers_from n k ++ (n + k) ∷ []
+numbers_from-more n zero = ap (λ m. m ∷ []) (omega arith)
+numbers_from-more n (suc k) =
+    let here : n + 1 + k ≡ n + suc k = omega arith in
+    ap (λ ms. n ∷ ms) (numbers_from-more (n + 1) k ∙ ap (λ m. numbers_from (n + 1) k ++ m ∷ []) here)
+
+-- one more variable, of the next number
+pub gathers-variable : {W : Type 0} {p q r : Present W} {ws : List W} {w : W} (first k : ℕ) → Gathers p q ws (map Variable (numbers_from first k)) → Makes q r w (Variable (first + k)) → Gathers p r (ws ++ w ∷ []) (map Variable (numbers_from first (suc k)))
+gathers-variable {W} {p} {q} {r} {ws} {w} first k so made =
+    let terms : map Variable (numbers_from first k) ++ Variable (first + k) ∷ [] ≡ map Variable (numbers_from first (suc k)) =
+    sym (ap (map Variable) (numbers_from-more first k) ∙ map-append Variable (numbers_from first k) ((first + k) ∷ [])) in
+    subst (Gathers p r (ws ++ w ∷ [])) terms (gathers-more so made)
+
+pub takes-more : {W : Type 0} {p q r : Present W} (first k : ℕ) → TakesFrom p q first → TakesNumber q r (first + k) → TakesFrom p r first
+takes-more first k so taken = record {
+  next = taken.next ∙ so.next;
+  others = λ n below. taken.others n (λ e. omega arith) ∙ so.others n below;
+}
+
+-- the numbers above stay free
+pub free-more : {W : Type 0} {q r : Present W} (first k : ℕ) → TakesNumber q r (first + k) → ((n : ℕ) → first + k ≤ n → q.taken n ≡ false) → (n : ℕ) → first + suc k ≤ n → r.taken n ≡ false
+free-more first k taken free n above = taken.others n (λ e. omega arith) ∙ free n (omega arith)
+
+numbers-at : (n k i : ℕ) → i < k → get_or (map Variable (numbers_from n k)) i End ≡ Variable (n + i)
+numbers-at n zero i below = absurd (omega arith)
+numbers-at n (suc k) zero below = ap Variable (omega arith)
+numbers-at n (suc k) (suc i) below =
+    let here : n + 1 + i ≡ n + suc i = omega arith in
+    numbers-at (n + 1) k i (omega arith) ∙ ap Variable here
+
+-- with variables numbered from n on at the places, a term is its copy from n
+pub copied-from : (t : Tree) (n k : ℕ) → k ≡ variable_count t → apply (placed_terms (map Variable (numbers_from n k)) (variables t)) t ≡ copy_from t n
+copied-from t n k same = apply_same (placed_terms (map Variable (numbers_from n k)) (variables t)) (λ x. Variable (n + place_of x (variables t))) t at
+  where
+    at : (x : ℕ) → occurs x t ≡ true → placed_terms (map Variable (numbers_from n k)) (variables t) x ≡ Variable (n + place_of x (variables t))
+    at x o =
+        let inside = distinct_covers [] t x o in
+        let below = place-within (variables t) x inside in
+        numbers-at n k (place_of x (variables t)) (omega arith)
+
+-- what building comes to: numbers reserved, variables made, and then the term
+pub built-made : {W E : Type 0} {p q r : Present W} (u : Present W) {ws : List W} (first k : ℕ) (vs : List ℕ) (t : Tree) → KeepsWords p q → q.substitution ≡ p.substitution → first ≡ p.next → Gathers q r ws (map Variable (numbers_from first k)) → vs ≡ variables t → k ≡ length vs →
+    (result : Result W E) → IfOk result (λ w. Makes r u w (apply (placed_terms (map r.term ws) vs) t)) → IfOk result (λ w. Makes p u w (copy_from t p.next))
+built-made {W} {E} {p} {q} {r} u {ws} first k vs t words same number so list size (Ok w) made = record {
+  words = keeps-then (keeps-then words so.words) made.words;
+  substitution = made.substitution ∙ so.substitution ∙ same;
+  holds = made.holds;
+  term =
+      made.term ∙ ap (λ ts. apply (placed_terms ts vs) t) so.terms ∙ ap (λ xs. apply (placed_terms (map Variable (numbers_from first k)) xs) t) list
+      ∙ copied-from t first k (size ∙ ap length list) ∙ ap (copy_from t) number;
+}
+built-made u first k vs t words same number so list size (Err e) made = made
+
+pub length-numbers_from : (n k : ℕ) → length (numbers_from n k) ≡ k
+length-numbers_from n zero = refl
+length-numbers_from n (suc k) = let inner = length-numbers_from (n + 1) k in omega arith
+
+pub variables-count : {W : Type 0} {p q : Present W} {ws : List W} (first k : ℕ) → Gathers p q ws (map Variable (numbers_from first k)) → length ws ≡ k
+variables-count first k so = gathers-length so ∙ length-map (numbers_from first k) Variable ∙ length-numbers_from first k
+
+-- a number reserved, and its variable made
+pub moved-on : {W E : Type 0} {p q : Present W} (r : Present W) (number : ℕ) (result : Result W E) → number ≡ p.next → MovesOn p q 1 → OnOk result (TakesNumber q r number) → OnOk result (MovesOn p r 1)
+moved-on r number (Ok w) is moved taken = record {
+  next = taken.next ∙ moved.next;
+  taken = λ n below. taken.others n (λ e. omega arith) ∙ moved.taken n below;
+}
+moved-on r number (Err e) is moved taken = taken
+
+pub grows-within : {W : Type 0} {p q : Present W} {m : ℕ} (k : ℕ) → Grows p q m → m ≤ k → Grows p q k
+grows-within k grows within = record { cells = let a = grows.cells in omega arith; limit = grows.limit }

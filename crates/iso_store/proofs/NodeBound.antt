@@ -1,0 +1,53 @@
+-- A binding in a store of nodes: the variable and its target are at the ends of their bindings.
+use Rattle.std.proofs.Common.{◌≡◌, ℕ, zero, suc, ◌<◌, ◌||◌, List, [], ◌∷◌, ◌++◌, length, set, false, refl, ap, sym, ◌∙◌, arith, length-set, Some, None}
+use Rattle.std.specs.List.{slice_get, list_any}
+use Rattle.std.proofs.lemmas.Bool.{lt-ltb, ltb-true}
+use Rattle.iso_model.specs.Trees.{Variable}
+use Rattle.iso_model.specs.Variables.{occurs}
+use Rattle.iso_model.specs.Substitutions.{apply, compose, single}
+use Rattle.iso_store.specs.declared.nodes.Node.{Node}
+use Rattle.iso_store.specs.declared.nodes.Node.TheVariants.{Var}
+use Rattle.iso_store.specs.Presents.{Binds}
+use Rattle.iso_store.specs.Shapes.{IsYounger}
+use Rattle.iso_store.specs.NodeTerms.{term_at, substitution_of}
+use Rattle.iso_store.specs.NodeStores.{is_bound, has_number, IsStore, present_of, KeepsNodesMarks}
+use Rattle.iso_store.proofs.NodeReads.{end_variable, end_is_variable}
+use Rattle.iso_store.proofs.NodeChanges.{bound-substitution, bound-terms, store-bound}
+use Rattle.iso_store.proofs.Marked.{bound-keeps}
+
+-- the same numbers
+numbers-same : (cs : List Node) (e n m : ℕ) (b d : _) → slice_get cs e ≡ Some (Var n d) → list_any (has_number m) (set cs e (Var n b)) ≡ list_any (has_number m) cs
+numbers-same [] e n m b d h = refl
+numbers-same (c ∷ cs) zero n m b d h =
+    let is : Var n d ≡ c = cc in
+    ap (λ x. list_any (has_number m) (x ∷ cs)) is
+numbers-same (c ∷ cs) (suc e) n m b d h = ap (λ q. has_number m c || q) (numbers-same cs e n m b d h)
+
+module _ (cs : List Node) (es : List ℕ) (next limit : ℕ) (store : IsStore cs es next) (v w e j n : ℕ)
+    (place_within : e < length cs) (place_end : is_bound (slice_get cs e) ≡ false) (place_same : apply (substitution_of cs es) (term_at cs e) ≡ apply (substitution_of cs es) (term_at cs v))
+    (target_within : j < length cs) (target_end : is_bound (slice_get cs j) ≡ false) (target_same : apply (substitution_of cs es) (term_at cs j) ≡ apply (substitution_of cs es) (term_at cs w))
+    (is : apply (substitution_of cs es) (term_at cs v) ≡ Variable n) (absent : occurs n (apply (substitution_of cs es) (term_at cs w)) ≡ false) (younger : IsYounger n (apply (substitution_of cs es) (term_at cs w))) where
+  free : slice_get cs e ≡ Some (Var n None)
+  free = end_is_variable cs es next store e place_end n place_within (place_same ∙ is)
+
+  not-inside : occurs n (apply (substitution_of cs es) (term_at cs j)) ≡ false
+  not-inside = ap (occurs n) target_same ∙ absent
+
+  lower : (m : ℕ) (b : _) → slice_get cs j ≡ Some (Var m b) → m < n
+  lower m b h = younger m (sym target_same ∙ end_variable cs es next store j target_end m b h)
+
+  pub binding-store : (fs : List ℕ) → fs ≡ es ++ e ∷ [] → IsStore (set cs e (Var n (Some j))) fs next
+  binding-store fs grown = rw grown (store-bound cs es next store e n j free target_within not-inside lower)
+
+  pub binding-marks : (fs : List ℕ) → fs ≡ es ++ e ∷ [] → KeepsNodesMarks limit cs es (set cs e (Var n (Some j))) fs
+  binding-marks fs grown = rw grown (bound-keeps limit cs es e n (Some j) free)
+
+  pub binding-binds : (fs : List ℕ) → fs ≡ es ++ e ∷ [] → Binds (present_of cs es next limit) (present_of (set cs e (Var n (Some j))) fs next limit) (single n (apply (substitution_of cs es) (term_at cs w)))
+  binding-binds fs grown = rw grown (record {
+    words = record {
+      stand = λ u h. let below = ltb-true u (length cs) h in lt-ltb u (length (set cs e (Var n (Some j)))) (omega (arith, length-set cs e (Var n (Some j))));
+      terms = λ u h. ap (λ t. t u) (bound-terms cs es next store e n j free target_within not-inside lower);
+    };
+    numbers = record { next = refl; taken = λ m. numbers-same cs e n m (Some j) None free };
+    substitution = bound-substitution cs es next store e n j free target_within not-inside lower ∙ ap (λ t. compose (substitution_of cs es) (single n t)) target_same;
+  })

@@ -1,0 +1,23 @@
+use Rattle.std.proofs.Common.{[], length, ap, ◌∙◌}
+use Rattle.iso_model.specs.Terms.{term_of}
+use Rattle.iso_model.specs.Variables.{distinct_from}
+use Rattle.iso_model.specs.Unification.Listed.{distinct_covers}
+use Rattle.iso_store.proofs.Gathering.{built-made, variables-count}
+use Rattle.iso_store.proofs.copies.build.Goals as goal
+
+pub make-requires-clause-covered : goal.make-requires-clause-covered
+make-requires-clause-covered g c =
+    let list = c.in-Ok.ensures.numbers ∙ ap (λ vs. distinct_from vs (term_of c.args.term.now)) c.new-variables.ensures.numbers in
+    rw list (distinct_covers [] (term_of c.args.term.now))
+
+pub make-requires-clause-count : goal.make-requires-clause-count
+make-requires-clause-count g c =
+    let count = variables-count _ _ c.in_ok-words.ensures.made in
+    ap length c.as_slice.ensures.value ∙ count ∙ c.len-2.ensures ∙ c.note_all.new.self.numbers.ok.0
+
+pub returns-clause-made : goal.returns-clause-made
+returns-clause-made g c =
+    let list = c.in-Ok.ensures.numbers ∙ ap (λ vs. distinct_from vs (term_of c.args.term.now)) c.new-variables.ensures.numbers in
+    let made = rw c.as_slice.ensures.value at c.make.ensures.made in
+    built-made _ c.reserve-first.result c.len-2.result c.note_all.new.self.numbers.items (term_of c.args.term.now) c.reserve-first.ensures.words c.reserve-first.ensures.substitution c.reserve-first.ensures.number
+    c.in_ok-words.ensures.made list (c.len-2.ensures ∙ c.note_all.new.self.numbers.ok.0) c.make.result made

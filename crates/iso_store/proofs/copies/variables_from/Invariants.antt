@@ -1,0 +1,15 @@
+-- The words so far are those of the first numbers.
+use Rattle.std.proofs.Common.{◌≡◌, ◌≤◌, ◌+◌, ℕ, map, false}
+use Rattle.iso_model.specs.Trees.{Variable}
+use Rattle.iso_model.specs.Copies.{numbers_from}
+use Rattle.iso_store.specs.Presents.{Gathers, TakesFrom, Grows, KeepsMarks}
+use Rattle.iso_store.proofs.copies.variables_from.Given as goal
+
+abbrev pub invariant-loop-place : goal.invariant-loop-place
+invariant-loop-place g l = record {
+  gathers : Gathers (g.C.Cells.present l.fn.store) (g.C.Cells.present l.store) l.words.items (map Variable (numbers_from l.first l.place));
+  numbers : TakesFrom (g.C.Cells.present l.fn.store) (g.C.Cells.present l.store) l.first;
+  free : (n : ℕ) → l.first + l.place ≤ n → (g.C.Cells.present l.store).taken n ≡ false;
+  cells : Grows (g.C.Cells.present l.fn.store) (g.C.Cells.present l.store) l.place;
+  marks : KeepsMarks (g.C.Cells.stands l.fn.store) (g.C.Cells.stands l.store);
+}

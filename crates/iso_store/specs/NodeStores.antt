@@ -1,0 +1,108 @@
+-- When a list of nodes, a trail and a next number are a store, and what marks stand for.
+use Rattle.std.specs.Prelude.{◌≡◌, ℕ, zero, suc, ◌<◌, ◌≤◌, ◌==◌, List, [], ◌∷◌, length, take, drop, Option, Some, None, Bool, true, false, nat_lt}
+use Rattle.std.specs.List.{slice_get, slice_index_or, list_any}
+use Rattle.iso_model.specs.Trees.{Variable, End}
+use Rattle.iso_model.specs.Variables.{is_in}
+use Rattle.iso_store.specs.declared.nodes.Node.{Node}
+use Rattle.iso_store.specs.declared.nodes.Node.TheVariants.{Var, Int, Atom, Compound}
+use Rattle.iso_store.specs.declared.marks.NodesMark.{NodesMark}
+use Rattle.iso_store.specs.Presents.{Present}
+use Rattle.iso_store.specs.NodeTerms.{term_at, substitution_of, bindings, all_may_bind}
+
+-- whether the node is a bound variable
+abbrev pub is_bound : Option Node → Bool
+is_bound None = false
+is_bound (Some (Var n None)) = false
+is_bound (Some (Var n (Some j))) = true
+is_bound (Some (Int z)) = false
+is_bound (Some (Atom a)) = false
+is_bound (Some (Compound f ws)) = false
+
+-- whether the node is the variable of this number
+abbrev pub has_number : ℕ → Node → Bool
+has_number x (Var n b) = n == x
+has_number x (Int z) = false
+has_number x (Atom a) = false
+has_number x (Compound f ws) = false
+
+-- What is true of the nodes, the trail and the next number of a store. An argument stands before its compound, and a variable
+-- is bound to none that is younger, so that neither arguments nor bindings lead back.
+pub record IsStore (cs : List Node) (es : List ℕ) (next : ℕ) : Type 0 where
+  pub arguments : (w : ℕ) (f : _) (ws : _) → slice_get cs w ≡ Some (Compound f ws) → (k : ℕ) → k < length ws.items → slice_index_or ws.items k 0 < w
+  pub arity : (w : ℕ) (f : _) (ws : _) → slice_get cs w ≡ Some (Compound f ws) → (0 < length ws.items) × (length ws.items < 256)
+  pub target : (w n j : ℕ) → slice_get cs w ≡ Some (Var n (Some j)) → j < length cs
+  pub older : (w n j m : ℕ) (b : _) → slice_get cs w ≡ Some (Var n (Some j)) → slice_get cs j ≡ Some (Var m b) → m < n
+  pub one_node : (v w n : ℕ) (b d : _) → slice_get cs v ≡ Some (Var n b) → slice_get cs w ≡ Some (Var n d) → v ≡ w
+  pub numbered : (w n : ℕ) (b : _) → slice_get cs w ≡ Some (Var n b) → n < next
+  pub trailed : (w n j : ℕ) → slice_get cs w ≡ Some (Var n (Some j)) → is_in w es ≡ true
+  pub bound : (w : ℕ) → is_in w es ≡ true → is_bound (slice_get cs w) ≡ true
+  pub may_bind : all_may_bind Variable (bindings cs es) ≡ true
+
+-- the node may come behind these nodes
+abbrev pub MayPush : List Node → ℕ → Node → Type 0
+MayPush cs next (Var n b) = (b ≡ None) × (n < next) × (list_any (has_number n) cs ≡ false)
+MayPush cs next (Int z) = Unit {0}
+MayPush cs next (Atom a) = Unit {0}
+MayPush cs next (Compound f ws) = (0 < length ws.items) × (length ws.items < 256) × ((k : ℕ) → k < length ws.items → slice_index_or ws.items k 0 < length cs)
+
+-- the store that has these nodes, this trail, this next number and this limit
+abbrev pub present_of : List Node → List ℕ → ℕ → ℕ → Present ℕ
+present_of cs es next limit = record {
+  substitution = substitution_of cs es;
+  next = next;
+  cells = length cs;
+  limit = limit;
+  holds = λ w. nat_lt w (length cs);
+  term = term_at cs;
+  taken = λ n. list_any (has_number n) cs;
+}
+
+-- a store of no nodes
+abbrev pub empty : ℕ → Present ℕ
+empty limit = record {
+  substitution = Variable;
+  next = 0;
+  cells = 0;
+  limit = limit;
+  holds = λ w. false;
+  term = λ w. End;
+  taken = λ n. false;
+}
+
+-- the node, with no binding
+abbrev pub unbound : Node → Node
+unbound (Var n b) = Var n None
+unbound (Int z) = Int z
+unbound (Atom a) = Atom a
+unbound (Compound f ws) = Compound f ws
+
+-- the nodes, with no binding at this place
+abbrev pub unbound_at : List Node → ℕ → List Node
+unbound_at [] e = []
+unbound_at (c ∷ cs) zero = unbound c ∷ cs
+unbound_at (c ∷ cs) (suc e) = c ∷ unbound_at cs e
+
+-- the nodes, with the bindings of these places taken back, the newest (last) first
+abbrev pub reset : List ℕ → List Node → List Node
+reset [] cs = cs
+reset (e ∷ es) cs = unbound_at (reset es cs) e
+
+-- the nodes that the mark brings back
+abbrev pub restored : List Node → List ℕ → NodesMark → List Node
+restored cs es m = reset (drop m.trail es) (take m.nodes cs)
+
+-- The mark stands for p, in a store of these nodes, this trail and this limit.
+pub record StandsFor (limit : ℕ) (cs : List Node) (es : List ℕ) (m : NodesMark) (p : Present ℕ) : Type 0 where
+  pub nodes_top : m.nodes ≤ length cs
+  pub trail_top : m.trail ≤ length es
+  pub is_store : IsStore (restored cs es m) (take m.trail es) m.next
+  pub present : p ≡ present_of (restored cs es m) (take m.trail es) m.next limit
+
+-- the first mark is no younger than the second
+pub record IsOlder (k m : NodesMark) : Type 0 where
+  pub nodes_top : k.nodes ≤ m.nodes
+  pub trail_top : k.trail ≤ m.trail
+
+-- marks stand on, for what they stood for
+abbrev pub KeepsNodesMarks : ℕ → List Node → List ℕ → List Node → List ℕ → Type 0
+KeepsNodesMarks limit cs es ds fs = (m : NodesMark) (p : Present ℕ) → StandsFor limit cs es m p → StandsFor limit ds fs m p

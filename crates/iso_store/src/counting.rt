@@ -1,0 +1,70 @@
+//! A store for tests, which counts how often a word is looked at.
+ghost use Rattle.std.specs.Prelude.{◌≡◌, ℕ};
+
+use super::cells::Cells;
+use super::marks::NodesMark;
+use super::nodes::Nodes;
+use super::shapes::{Shape, StoreFault};
+use std::cell::Cell;
+
+/// Nodes, and how many shapes and arguments were asked for.
+#[derive(Drop)]
+pub(crate) struct Counting {
+    pub(crate) nodes: Nodes,
+    pub(crate) looks: Cell<u64>,
+}
+
+impl Counting {
+    fn look(&self) {
+        let looks: u64 = self.looks.get();
+        self.looks.set(looks.wrapping_add(1));
+    }
+}
+
+impl Cells for Counting {
+    type Word = usize;
+
+    type Mark = NodesMark;
+
+    ghost present = { λ s. ⟦<Nodes as Cells>⟧.present s.nodes };
+
+    ghost stands = { λ s. ⟦<Nodes as Cells>⟧.stands s.nodes };
+
+    ghost full = { λ s. ⟦<Nodes as Cells>⟧.full s.nodes };
+
+    ghost width = { ⟦<Nodes as Cells>⟧.width };
+
+    fn shape(&self, word: usize) -> Shape<'_> {
+        self.look();
+        self.nodes.shape(word)
+    }
+
+    fn arg(&self, word: usize, index: usize) -> usize {
+        self.look();
+        self.nodes.arg(word, index)
+    }
+
+    fn bind(&mut self, number: u64, variable: usize, word: usize) -> Result<(), StoreFault> {
+        self.nodes.bind(number, variable, word)
+    }
+
+    fn reserve(&mut self, count: u64) -> u64 {
+        self.nodes.reserve(count)
+    }
+
+    fn int(&mut self, value: i64) -> Result<usize, StoreFault> {
+        self.nodes.int(value)
+    }
+
+    fn atom(&mut self, name: &str) -> Result<usize, StoreFault> {
+        self.nodes.atom(name)
+    }
+
+    fn compound(&mut self, name: &str, arguments: &[usize]) -> Result<usize, StoreFault> {
+        self.nodes.compound(name, arguments)
+    }
+
+    fn variable(&mut self, number: u64) -> Result<usize, StoreFault> {
+        self.nodes.variable(number)
+    }
+}
