@@ -14,6 +14,7 @@ pub mod Copies
 pub mod Additions
 pub mod Walker
 pub mod Runs
+pub mod RunLaws
 pub mod Engines
 pub mod Operators
 pub mod Grammar

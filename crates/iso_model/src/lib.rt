@@ -3,6 +3,7 @@
 #![tactic(auto)]
 
 pub mod engines;
+pub mod laws_of_runs;
 pub mod laws_of_unifiers;
 pub mod limit;
 pub mod pauses;

@@ -1,0 +1,32 @@
+//! Laws of runs: each is the contract of a function that does nothing.
+ghost use Rattle.iso_model.specs.RunLaws.{EveryStateHasOneRun, RunOfIsTheRun, QuietStepsKeepTheRun, EventsBeginTheRun, EndingsAreTheRun, BuiltIsNotInTheRun};
+
+/// Every state of the search has exactly one run: the search is deterministic, and its budget makes it end.
+pub fn one_run_each()
+    ensures { EveryStateHasOneRun }
+{}
+
+/// The run that the definitions name is the state's run.
+pub fn run_of_a_state()
+    ensures { RunOfIsTheRun }
+{}
+
+/// Steps without an event keep the run.
+pub fn quiet_steps()
+    ensures { QuietStepsKeepTheRun }
+{}
+
+/// An event that comes is the run's first, and the run behind it is that of the state there.
+pub fn first_event()
+    ensures { EventsBeginTheRun }
+{}
+
+/// An ending that comes without an event is all of the run.
+pub fn ending_alone()
+    ensures { EndingsAreTheRun }
+{}
+
+/// What was built has no part in the run.
+pub fn built_is_free()
+    ensures { BuiltIsNotInTheRun }
+{}
