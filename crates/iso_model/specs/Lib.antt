@@ -26,5 +26,4 @@ pub mod Tokens
 pub mod Items
 pub mod Texts
 pub mod Lines
-pub mod RunLaws
 pub mod Sessions
