@@ -20,8 +20,8 @@ variable_at = token_at VariableToken
 
 -- p(Y, _, Y) :- q, r.
 clause_row : clause_of operators
-      (name_at (codes "p") ∷ mark_at (codes "(") ∷ variable_at (codes "Y") ∷ mark_at (codes ",") ∷ variable_at (codes "_") ∷ mark_at (codes ",") ∷ variable_at (codes "Y") ∷ mark_at (codes ")") ∷ name_at (codes ":-") ∷ name_at (codes "q")
-      ∷ mark_at (codes ",") ∷ name_at (codes "r") ∷ [])
+    (name_at (codes "p") ∷ mark_at (codes "(") ∷ variable_at (codes "Y") ∷ mark_at (codes ",") ∷ variable_at (codes "_") ∷ mark_at (codes ",") ∷ variable_at (codes "Y") ∷ mark_at (codes ")") ∷ name_at (codes ":-") ∷ name_at (codes "q")
+    ∷ mark_at (codes ",") ∷ name_at (codes "r") ∷ [])
     ≡ Some (record { term = Apply (codes ":-") (row (Apply (codes "p") (row (Variable 0 ∷ Variable 1 ∷ Variable 0 ∷ [])) ∷ Apply (codes ",") (row (Name (codes "q") ∷ Name (codes "r") ∷ [])) ∷ [])); names = (codes "Y", 0) ∷ [] })
 unfolding clause_of term climb extended operator_behind operand named compound elements further
 clause_row = refl

@@ -18,8 +18,6 @@ if_either b o p Q holds fails = cond_both b o p (λ x. IfSome x Q) holds fails
 pub guard_if : {B : Type 0} (b : Bool) (o : Option B) (Q : B → Type 0) → (b ≡ true → IfSome o Q) → IfSome (cond b o None) Q
 guard_if b o Q holds = if_either b o None Q holds (λ _. tt)
 
-
-
 not_true : (a : Bool) → not a ≡ true → a ≡ false
 not_true true h = cc
 not_true false h = refl
@@ -53,14 +51,15 @@ module _ (table : Table) where
   further_sound sub depth sound h (suc turns) [] names = nothing_further depth _ h
   further_sound sub depth sound h (suc turns) (t ∷ ts) names =
       if_either (is_mark (codes ",") t) _ _ _
-        (λ comma.
-          bind_if (sub 999 (record { tokens = ts; names = names })) _ _ _ (sound 999 (record { tokens = ts; names = names }))
-            (λ x a. bind_if (further sub turns x.1) _ _ _ (further_sound sub depth sound h turns x.1.tokens x.1.names)
-              (λ r b. record {
-                reads = λ z n reads le. more_of reads le comma (b.reads (record { tokens = ts; names = names }) x.0 a.reads a.priority);
-                height = omega (arith, a.height, b.height);
-                shorter = omega (arith, a.shorter, b.shorter) })))
-        (λ na. nothing_further depth _ h)
+      (λ comma.
+      bind_if (sub 999 (record { tokens = ts; names = names })) _ _ _ (sound 999 (record { tokens = ts; names = names }))
+      (λ x a. bind_if (further sub turns x.1) _ _ _ (further_sound sub depth sound h turns x.1.tokens x.1.names)
+      (λ r b. record {
+        reads = λ z n reads le. more_of reads le comma (b.reads (record { tokens = ts; names = names }) x.0 a.reads a.priority);
+        height = omega (arith, a.height, b.height);
+        shorter = omega (arith, a.shorter, b.shorter);
+      })))
+      (λ na. nothing_further depth _ h)
 
   -- what `elements` gives
   record IsElements (depth : ℕ) (s : Left) (x : Row × Left) : Type 0 where
@@ -72,11 +71,12 @@ module _ (table : Table) where
   unfolding elements
   elements_sound sub depth sound s =
       bind_if (sub 999 s) _ _ _ (sound 999 s)
-        (λ x a. bind_if (further sub (length x.1.tokens) x.1) _ _ _ (further_sound sub depth sound (omega (arith, a.height)) (length x.1.tokens) x.1.tokens x.1.names)
-          (λ r b. record {
-            reads = b.reads s x.0 a.reads a.priority;
-            height = omega (arith, a.height, b.height);
-            shorter = omega (arith, a.shorter, b.shorter) }))
+      (λ x a. bind_if (further sub (length x.1.tokens) x.1) _ _ _ (further_sound sub depth sound (omega (arith, a.height)) (length x.1.tokens) x.1.tokens x.1.names)
+      (λ r b. record {
+        reads = b.reads s x.0 a.reads a.priority;
+        height = omega (arith, a.height, b.height);
+        shorter = omega (arith, a.shorter, b.shorter);
+      }))
 
   -- what `operand` gives
   record IsOperand (depth : ℕ) (s : Left) (x : Node × Left) : Type 0 where
@@ -94,13 +94,14 @@ module _ (table : Table) where
       record {
         reads = compound_at {v = v} name small opens a.reads parts.0 (leb-true (length r.terms) 255 parts.1);
         height = omega (arith, a.height);
-        shorter = omega (arith, a.shorter) }
+        shorter = omega (arith, a.shorter);
+      }
 
   compound_sound : (sub : Reader) (depth : ℕ) → Sound sub depth → (t u : Shown) (s : Left) → t.kind ≡ NameToken → begins_small t.text ≡ true → opens_arguments u ≡ true → IfSome (compound sub t.text s) (IsOperand depth (before t (before u s)))
   unfolding compound
   compound_sound sub depth sound t u s name small opens =
       bind_if (elements sub s) _ _ _ (elements_sound sub depth sound s)
-        (λ x a. guard_if _ _ _ (closed_sound depth t u s x.0 x.1.tokens x.1.names name small opens a))
+      (λ x a. guard_if _ _ _ (closed_sound depth t u s x.0 x.1.tokens x.1.names name small opens a))
 
   named_sound : (sub : Reader) (depth : ℕ) → Sound sub depth → (t : Shown) (ts : List Shown) (names : List (List ℕ)) → t.kind ≡ NameToken → IfSome (named sub t.text (left_at ts names)) (IsOperand depth (before t (left_at ts names)))
   unfolding named
@@ -108,9 +109,9 @@ module _ (table : Table) where
       guard_if (begins_small t.text) _ _ (λ small. record { reads = atom_at name small refl; height = omega arith; shorter = omega arith })
   named_sound sub depth sound t (u ∷ ts) names name =
       guard_if (begins_small t.text) _ _ (λ small.
-        if_either (opens_arguments u) _ _ _
-          (compound_sound sub depth sound t u (left_at ts names) name small)
-          (λ na. record { reads = atom_at name small na; height = omega arith; shorter = omega arith }))
+      if_either (opens_arguments u) _ _ _
+      (compound_sound sub depth sound t u (left_at ts names) name small)
+      (λ na. record { reads = atom_at name small na; height = omega arith; shorter = omega arith }))
 
   integer_sound : (depth : ℕ) (t : Shown) (s : Left) (m : Option ℕ) → magnitude t ≡ m → IfSome (integer m) (λ n. IsOperand depth (before t s) (n, s))
   integer_sound depth t s None is = tt
@@ -137,15 +138,16 @@ module _ (table : Table) where
   unfolding extended
   extended_sound sub depth sound most s m l t o a at h =
       guard_if (nat_lt l.height depth) _ _ (λ lower.
-        bind_if (sub (right_of o) m) _ _ _ (sound (right_of o) m) (λ x b.
-          let outer = and_parts (nat_le o.priority most && nat_le l.priority (left_of o)) _ h in
-          let inner = and_parts (nat_le o.priority most) (nat_le l.priority (left_of o)) outer.0 in
-          let high : l.height < depth = ltb-true l.height depth lower in
-          record {
-            reads = between a.reads at (record { within = leb-true l.priority (left_of o) inner.1; bracketed = not_true _ outer.1 }) b.reads b.priority;
-            height = omega (arith, b.height, high);
-            priority = leb-true o.priority most inner.0;
-            shorter = omega (arith, a.shorter, b.shorter) }))
+      bind_if (sub (right_of o) m) _ _ _ (sound (right_of o) m) (λ x b.
+      let outer = and_parts (nat_le o.priority most && nat_le l.priority (left_of o)) _ h in
+      let inner = and_parts (nat_le o.priority most) (nat_le l.priority (left_of o)) outer.0 in
+      let high : l.height < depth = ltb-true l.height depth lower in
+      record {
+        reads = between a.reads at (record { within = leb-true l.priority (left_of o) inner.1; bracketed = not_true _ outer.1 }) b.reads b.priority;
+        height = omega (arith, b.height, high);
+        priority = leb-true o.priority most inner.0;
+        shorter = omega (arith, a.shorter, b.shorter);
+      }))
 
   -- what goes on from a term is a term
   abbrev Goes : ℕ → ℕ → Left → (Node → Left → Outcome Node) → Type 0
@@ -156,8 +158,8 @@ module _ (table : Table) where
   climb_by_sound sub depth sound most s m l t go goes a None at = a
   climb_by_sound sub depth sound most s m l t go goes a (Some o) at =
       cond_both (fits most l o) (Some o) None (λ x. IfSome (climb_by table sub depth l (before t m) go x) (IsSound most (suc depth) s))
-        (λ h. bind_if (extended table sub depth l o m) _ _ _ (extended_sound sub depth sound most s m l t o a at h) (λ x b. goes x.0 x.1 b))
-        (λ na. a)
+      (λ h. bind_if (extended table sub depth l o m) _ _ _ (extended_sound sub depth sound most s m l t o a at h) (λ x b. goes x.0 x.1 b))
+      (λ na. a)
 
   climb_sound : (sub : Reader) (depth : ℕ) → Sound sub depth → (most : ℕ) (s : Left) (turns : ℕ) (l : Node) (ts : List Shown) (names : List (List ℕ)) → IsSound most (suc depth) s (l, left_at ts names)
       → IfSome (climb table sub depth most turns l (left_at ts names)) (IsSound most (suc depth) s)
@@ -173,6 +175,6 @@ module _ (table : Table) where
   term_sound zero most s = tt
   term_sound (suc depth) most s =
       bind_if (operand (term table depth) s) _ _ _ (operand_sound (term table depth) depth (term_sound depth) s.tokens s.names)
-        (λ x a. guard_if (nat_le x.0.priority most) _ _ (λ le.
-          climb_sound (term table depth) depth (term_sound depth) most s (suc depth) x.0 x.1.tokens x.1.names
-            (record { reads = alone a.reads; height = omega (arith, a.height); priority = leb-true x.0.priority most le; shorter = a.shorter })))
+      (λ x a. guard_if (nat_le x.0.priority most) _ _ (λ le.
+      climb_sound (term table depth) depth (term_sound depth) most s (suc depth) x.0 x.1.tokens x.1.names
+      (record { reads = alone a.reads; height = omega (arith, a.height); priority = leb-true x.0.priority most le; shorter = a.shorter })))

@@ -27,3 +27,4 @@ pub mod Items
 pub mod Texts
 pub mod Lines
 pub mod Sessions
+pub mod Beginnings

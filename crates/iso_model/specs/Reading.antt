@@ -44,8 +44,8 @@ unfoldable pub compound : Reader → List ℕ → Left → Outcome Node
 compound sub name s = do
   x ← elements sub s
   if next_is (is_mark (codes ")")) x.1.tokens && nat_le (length x.0.terms) 255
-    then Some (closed (Apply name (row x.0.terms)) (x.0.height + 1), rest x.1)
-    else None
+      then Some (closed (Apply name (row x.0.terms)) (x.0.height + 1), rest x.1)
+      else None
 
 -- what a name stands for
 unfoldable pub named : Reader → List ℕ → Left → Outcome Node

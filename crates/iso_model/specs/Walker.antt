@@ -198,7 +198,7 @@ started goal budget w = record {
   query = shown_query goal (converted goal);
   stack = [];
   world = w;
-  steps = budget
+  steps = budget;
 }
 
 -- how much stands in the store at most: what was built, the query and its variables (own)

@@ -13,5 +13,4 @@ pub use engines::Engine;
 pub use limit::Limits;
 pub use pauses::{AddFault, Ball, Ending, Indicator, Pause, Program, StartFault};
 pub use std::alloc::AllocError as NoMemory;
-pub use terms::MAX_ARITY;
-pub use terms::{Term, copied, well_formed};
+pub use terms::{MAX_ARITY, Term, copied, well_formed};

@@ -11,6 +11,6 @@ pub mod words;
 pub mod written;
 
 pub use files::{TextFault, read_text};
-pub use sessions::{session, session_on};
+pub use sessions::session_on;
 pub use statuses::{Choice, Ended, Fault, status_of};
 pub use words::{Words, WordsFault, read_words};

@@ -1,18 +1,16 @@
 //! A session: the text is consulted, then each query is run to its end.
 use super::composed;
-use super::statuses::{Choice, Ended, Fault};
+use super::statuses::{Ended, Fault};
 use super::written::{write_line, write_output};
-use iso_model::{AddFault, Engine, Limits, Pause, StartFault};
-use iso_plain::Plain;
+use iso_model::{AddFault, Engine, Pause, StartFault};
 use iso_read::{Read, ReadFault, read_clause};
-use iso_store::Nodes;
 use iso_token::Tokens;
 use std::alloc::{AllocError, Global};
 use std::io::Write;
 
 /// Whether the session goes on.
 #[derive(Clone, Copy, Debug, PartialEq, Eq)]
-enum Flow {
+pub enum Flow {
     On,
     Ends(Ended),
 }
@@ -191,7 +189,7 @@ fn run_queries<E: Engine, W: Write>(
 }
 
 /// Writes the line of a limit that ended the session; it takes no memory.
-fn close<W: Write>(flow: Flow, out: &mut W, within_line: &mut bool) -> Result<Ended, Fault> {
+pub fn close<W: Write>(flow: Flow, out: &mut W, within_line: &mut bool) -> Result<Ended, Fault> {
     let ended = match flow {
         Flow::On => return Ok(Ended::Done),
         Flow::Ends(ended) => ended,
@@ -222,36 +220,4 @@ pub fn session_on<E: Engine, W: Write>(
         Flow::Ends(_) => consulted,
     };
     close(flow, out, &mut within_line)
-}
-
-/// A session with the engine of this choice, within these limits. The error is that of `session_on`.
-pub fn session<W: Write>(
-    alloc: Global,
-    text: &str,
-    queries: &str,
-    limits: &Limits,
-    choice: Choice,
-    out: &mut W,
-) -> Result<Ended, Fault> {
-    match choice {
-        Choice::Plain => plain_session(alloc, text, queries, limits, out),
-    }
-}
-
-/// A session with the plain engine over nodes.
-fn plain_session<W: Write>(
-    alloc: Global,
-    text: &str,
-    queries: &str,
-    limits: &Limits,
-    out: &mut W,
-) -> Result<Ended, Fault> {
-    let no_memory = Flow::Ends(Ended::NoMemory);
-    let Ok(store) = Nodes::new(alloc, limits.cells) else {
-        return close(no_memory, out, &mut false);
-    };
-    let Ok(mut engine) = Plain::new(alloc, store, limits.frames) else {
-        return close(no_memory, out, &mut false);
-    };
-    session_on(alloc, &mut engine, text, queries, limits.budget, out)
 }

@@ -8,7 +8,22 @@ use std::fmt::Write;
 fn is_graphic(byte: u8) -> bool {
     matches!(
         byte,
-        b'#' | b'$' | b'&' | b'*' | b'+' | b'-' | b'.' | b'/' | b':' | b'<' | b'=' | b'>' | b'?' | b'@' | b'^' | b'~' | b'\\'
+        b'#' | b'$'
+            | b'&'
+            | b'*'
+            | b'+'
+            | b'-'
+            | b'.'
+            | b'/'
+            | b':'
+            | b'<'
+            | b'='
+            | b'>'
+            | b'?'
+            | b'@'
+            | b'^'
+            | b'~'
+            | b'\\'
     )
 }
 
@@ -24,7 +39,9 @@ fn is_bare(text: &str) -> bool {
         b"[]" | b"{}" | b"!" | b";" => true,
         b"." => false,
         [b'/', b'*', ..] => false,
-        [first, ..] if first.is_ascii_lowercase() => bytes.iter().all(|byte| is_alphanumeric(*byte)),
+        [first, ..] if first.is_ascii_lowercase() => bytes
+            .iter()
+            .all(|byte| is_alphanumeric(*byte)),
         [_, ..] => bytes.iter().all(|byte| is_graphic(*byte)),
         [] => false,
     }
@@ -100,7 +117,11 @@ fn append_tail(line: &mut String, tail: &Term, seen: &mut Vec<u64>) -> Result<()
 
 /// Appends the arguments of a compound, in parentheses.
 #[cycle(append)]
-fn append_arguments(line: &mut String, arguments: &[Term], seen: &mut Vec<u64>) -> Result<(), AllocError> {
+fn append_arguments(
+    line: &mut String,
+    arguments: &[Term],
+    seen: &mut Vec<u64>,
+) -> Result<(), AllocError> {
     let mut before = '(';
     for argument in arguments {
         line.push(before)?;

@@ -51,7 +51,9 @@ fn option<'a>(alloc: Global, name: &'a str) -> Arg<'a> {
 
 /// The command as `clap` sees it; the first word is no program's name.
 fn command<'a>(alloc: Global) -> Result<Command<'a>, AllocError> {
-    let file = Arg::new(alloc, "FILE").required(true).action(ArgAction::Set);
+    let file = Arg::new(alloc, "FILE")
+        .required(true)
+        .action(ArgAction::Set);
     Command::new(alloc, "prolog")
         .no_binary_name(true)
         .arg(option(alloc, "budget"))?
@@ -104,8 +106,18 @@ pub fn read_words<'a>(alloc: Global, words: &'a [&'a str]) -> Result<Words, Word
     };
     let standard = Limits::DEFAULT;
     let budget = number(matches.get_str("budget"), standard.budget, 0, u32::MAX)?;
-    let cells = number(matches.get_str("cells"), standard.cells, 1, Limits::MOST_CELLS)?;
-    let frames = number(matches.get_str("frames"), standard.frames, 1, Limits::MOST_FRAMES)?;
+    let cells = number(
+        matches.get_str("cells"),
+        standard.cells,
+        1,
+        Limits::MOST_CELLS,
+    )?;
+    let frames = number(
+        matches.get_str("frames"),
+        standard.frames,
+        1,
+        Limits::MOST_FRAMES,
+    )?;
     let choice = engine(matches.get_str("engine"))?;
     let Some(file) = matches.get_str("FILE") else {
         return Err(WordsFault::Usage);
