@@ -4,6 +4,8 @@
 
 pub mod composed;
 pub mod files;
+mod names;
+mod places;
 pub mod sessions;
 pub mod statuses;
 pub mod texts;

@@ -34,13 +34,13 @@ fn without_shebang(text: &str) -> &str {
 fn put_line<W: Write>(
     out: &mut W,
     within_line: &mut bool,
-    line: Result<String, AllocError>,
+    line: Result<Vec<u8>, AllocError>,
     then: Flow,
 ) -> Result<Flow, Fault> {
     let Ok(line) = line else {
         return Ok(Flow::Ends(Ended::NoMemory));
     };
-    write_line(out, within_line, line.as_bytes())?;
+    write_line(out, within_line, line.as_slice())?;
     Ok(then)
 }
 
