@@ -1,3 +1,4 @@
 pub mod WrittenLemmas
 pub mod PlaceLemmas
 pub mod TextLemmas
+pub mod SolutionLemmas

@@ -193,7 +193,7 @@ no_cell_from (layer.Compound f v) other = absurd (other f _ (rolls-Compound f _)
 pub other_no_cell : (t : Term) → ((f : String Global) (v : Vec Term Global) → t ≡ Compound f v → ⊥) → is_cell (term_of t) ≡ false
 other_no_cell t = ind-Term NoCell (λ x y e. subst (λ z. NoCell (roll-Term z)) e (no_cell_from y)) t
 
-drop_item : {X : Type 0} (xs : List X) (i : ℕ) (x : X) → i < length xs → x ≡ get_or xs i x → drop i xs ≡ x ∷ drop (i + 1) xs
+pub drop_item : {X : Type 0} (xs : List X) (i : ℕ) (x : X) → i < length xs → x ≡ get_or xs i x → drop i xs ≡ x ∷ drop (i + 1) xs
 drop_item xs i x low e = rw add-one (drop-cons xs i x low ∙ ap (λ y. y ∷ drop (suc i) xs) (sym e))
 
 -- one more argument was appended

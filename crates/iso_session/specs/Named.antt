@@ -1,5 +1,6 @@
 -- The named variables of a term that was read.
-use Rattle.std.specs.Prelude.{ℕ, List, map, String, Global}
+use Rattle.std.specs.Prelude.{ℕ, List, map, String}
+use Rattle.std.specs.Global.{Global}
 use Rattle.std.specs.String.{string_bytes}
 
 -- the names, as bytes, each with its variable's number

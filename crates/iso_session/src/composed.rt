@@ -1,5 +1,5 @@
 //! The lines of a session; each is composed whole, with its newline, before any of it is written (own).
-ghost use Rattle.std.specs.Prelude.{◌≡◌, ℕ, List, [], ◌∷◌, ◌++◌, map, IfOk, OnOk};
+ghost use Rattle.std.specs.Prelude.{◌≡◌, ℕ, List, [], ◌∷◌, ◌++◌, codes, map, IfOk, OnOk};
 ghost use Rattle.iso_model.specs.Terms.{term_of};
 ghost use Rattle.iso_model.specs.Lines as lines;
 ghost use Rattle.iso_model.specs.Texts.{text_in};
@@ -78,38 +78,42 @@ fn append_solution(
     names: &[(String, u64)],
     values: &[Term],
 ) -> Result<(), AllocError>
-    ensures { OnOk result (line.new.items ≡ line.old.items ++ lines.solution_text (names_of names.now) (map term_of values.now)) }
+    ensures { OnOk result (line.new.items
+        ≡ line.old.items ++ lines.solution_text (names_of names.now) (map term_of values.now)) }
 {
     if names.is_empty() {
         return line.extend_from_slice(b" true");
     }
     let mut seen = Vec::new(alloc);
-    let mut before = " ";
+    let mut before: &[u8] = b" ";
     for (name, number) in names {
-        line.extend_from_slice(before.as_bytes())?;
-        line.extend_from_slice(name.as_bytes())?;
-        line.extend_from_slice(b" = ")?;
-        append_value(alloc, line, *number, values, &mut seen)?;
-        before = ", ";
+        line.extend_from_slice(before)?;
+        append_equation(alloc, line, name.as_str(), *number, values, &mut seen)?;
+        before = b", ";
     }
     Ok(())
 }
 
-/// Appends the value of the variable of this number.
-fn append_value(
+/// Appends `X = t`, with the value of the variable of this number.
+fn append_equation(
     alloc: Global,
     line: &mut Vec<u8>,
+    name: &str,
     number: u64,
     values: &[Term],
     seen: &mut Vec<u64>,
 ) -> Result<(), AllocError>
-    ensures seen { OnOk result (seen.new.items ≡ distinct_from seen.old.items (lines.value_at (map term_of values.now) number)) }
+    ensures seen { OnOk result (seen.new.items
+        ≡ distinct_from seen.old.items (lines.value_at (map term_of values.now) number)) }
     ensures text { OnOk result ((all : List ℕ) → Extends all seen.new.items
-        → line.new.items ≡ line.old.items ++ text_in all (lines.value_at (map term_of values.now) number)) }
+        → line.new.items ≡ line.old.items
+        ++ (name.now ++ (codes " = " ++ text_in all (lines.value_at (map term_of values.now) number)))) }
 {
+    line.extend_from_slice(name.as_bytes())?;
+    line.extend_from_slice(b" = ")?;
     match values.get(number as usize) {
         Some(value) => append_term(alloc, line, value, seen),
-        // No answer is without a value.
+        // No answer lacks a value.
         None => append_name(alloc, line, ""),
     }
 }

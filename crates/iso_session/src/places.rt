@@ -30,7 +30,12 @@ fn placed(seen: &mut Vec<u64>, number: u64) -> Result<usize, AllocError>
 }
 
 /// Appends `_k` for a variable: k is its place among those seen so far, from 1. The error is that memory was refused.
-pub fn append_variable(alloc: Global, line: &mut Vec<u8>, number: u64, seen: &mut Vec<u64>) -> Result<(), AllocError>
+pub fn append_variable(
+    alloc: Global,
+    line: &mut Vec<u8>,
+    number: u64,
+    seen: &mut Vec<u64>,
+) -> Result<(), AllocError>
     ensures seen { OnOk result (seen.new.items ≡ distinct_from seen.old.items (Variable number)) }
     ensures text { OnOk result ((all : List ℕ) → Extends all seen.new.items
         → line.new.items ≡ line.old.items ++ variable_text all number) }

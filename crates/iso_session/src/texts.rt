@@ -31,7 +31,12 @@ fn is_cell(name: &str, arguments: &[Term]) -> bool
 
 /// Appends what stands behind a list's first element (6.3.5).
 #[cycle(append)]
-fn append_tail(alloc: Global, line: &mut Vec<u8>, tail: &Term, seen: &mut Vec<u64>) -> Result<(), AllocError>
+fn append_tail(
+    alloc: Global,
+    line: &mut Vec<u8>,
+    tail: &Term,
+    seen: &mut Vec<u64>,
+) -> Result<(), AllocError>
     ensures seen { OnOk result (seen.new.items ≡ distinct_from seen.old.items (term_of tail.now)) }
     ensures text { OnOk result ((all : List ℕ) → Extends all seen.new.items
         → line.new.items ≡ line.old.items ++ (written all (term_of tail.now)).tail) }
@@ -56,7 +61,12 @@ fn append_tail(alloc: Global, line: &mut Vec<u8>, tail: &Term, seen: &mut Vec<u6
 
 /// Appends the arguments of a compound in brackets; nothing where there is none.
 #[cycle(append)]
-fn append_arguments(alloc: Global, line: &mut Vec<u8>, arguments: &[Term], seen: &mut Vec<u64>) -> Result<(), AllocError>
+fn append_arguments(
+    alloc: Global,
+    line: &mut Vec<u8>,
+    arguments: &[Term],
+    seen: &mut Vec<u64>,
+) -> Result<(), AllocError>
     ensures seen { OnOk result (seen.new.items ≡ distinct_from seen.old.items (row_of arguments.now)) }
     ensures text { OnOk result ((all : List ℕ) → Extends all seen.new.items
         → line.new.items ≡ line.old.items ++ arguments_text all (map term_of arguments.now)) }
@@ -76,7 +86,12 @@ fn append_arguments(alloc: Global, line: &mut Vec<u8>, arguments: &[Term], seen:
 
 /// Appends the term; a variable is `_k`, k its place among `seen`, which grows. The error is that memory was refused.
 #[cycle(append)]
-pub fn append_term(alloc: Global, line: &mut Vec<u8>, term: &Term, seen: &mut Vec<u64>) -> Result<(), AllocError>
+pub fn append_term(
+    alloc: Global,
+    line: &mut Vec<u8>,
+    term: &Term,
+    seen: &mut Vec<u64>,
+) -> Result<(), AllocError>
     ensures seen { OnOk result (seen.new.items ≡ distinct_from seen.old.items (term_of term.now)) }
     ensures text { OnOk result ((all : List ℕ) → Extends all seen.new.items
         → line.new.items ≡ line.old.items ++ text_in all (term_of term.now)) }
