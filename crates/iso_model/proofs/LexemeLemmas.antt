@@ -3,10 +3,11 @@ use Rattle.std.proofs.Common.{◌≡◌, ℕ, zero, suc, ◌+◌, ◌-◌, ◌<�
 use Rattle.std.proofs.lemmas.Bool.{cond_both}
 use Rattle.std.proofs.lemmas.Bool.Decides.{nat_tests}
 use Rattle.std.proofs.lemmas.List.Sums.{prefix_len_passes, prefix_len_stops, prefix_len-le-length}
-use Rattle.std.proofs.lemmas.List.{get_or-drop, get_or_past}
+use Rattle.std.proofs.lemmas.List.{get_or-drop, get_or_past, length-drop}
 use Rattle.std.specs.Option.{option_map_or}
 use Rattle.std.proofs.lemmas.Str.{IsCharBoundary-start, IsCharBoundary-after_ascii}
 use Rattle.iso_model.specs.Characters.{is_layout, is_small, is_digit, is_alphanumeric, begins_variable, is_graphic, is_punctuation, is_in_line, is_continuation, run}
+use Rattle.iso_model.specs.Token.{TokenKind, NameToken}
 use Rattle.iso_model.specs.Lexemes.{Lexeme, bad_character, comment_len, commented, stops_clause, graphic, lexeme}
 
 layout-ascii : (b : ℕ) → is_layout b ≡ true → b < 128
@@ -132,3 +133,53 @@ lexeme-ends z utf8 some =
 -- the lexeme at the front of a text ends where a character does
 pub lexeme-cut : (z : List ℕ) → IsUtf8 z → 0 < length z → IsCharBoundary z (lexeme z).1
 lexeme-cut z utf8 some = (lexeme-ends z utf8 some).cut
+
+-- the lexeme has a byte or more, and no more than the text has
+record IsWithin (z : List ℕ) (l : Lexeme) : Type 0 where
+  some : 1 ≤ l.1
+  all : l.1 ≤ length z
+
+within_if : (z : List ℕ) (b : Bool) (x y : Lexeme) → (b ≡ true → IsWithin z x) → (b ≡ false → IsWithin z y) → IsWithin z (if b then x else y)
+within_if z b x y h g = cond_both b x y (IsWithin z) h g
+
+run-within : (class : ℕ → Bool) (k : Option TokenKind) (z : List ℕ) → 0 < length z → class (slice_index z 0) ≡ true → IsWithin z (k, run class z)
+run-within class k [] some first = absurd (omega arith)
+run-within class k (b ∷ z) some first = record { some = rw first (omega arith); all = prefix_len-le-length class (b ∷ z) }
+
+character-within : (z : List ℕ) → 0 < length z → IsWithin z (bad_character z)
+character-within [] some = absurd (omega arith)
+character-within (b ∷ z) some = record { some = omega arith; all = omega (arith, prefix_len-le-length is_continuation z) }
+
+commented-within : (z : List ℕ) (o : Option ℕ) → 2 ≤ length z → EndInSlash (drop 2 z) o → IsWithin z (option_map_or (λ n. (None, 2 + n)) o (bad_character z))
+commented-within z None long h = character-within z (omega arith)
+commented-within z (Some n) long h = record { some = omega arith; all = omega (arith, h.ends, length-drop 2 z) }
+
+graphic-within : (z : List ℕ) → 0 < length z → is_graphic (slice_index z 0) ≡ true → IsWithin z (graphic z)
+graphic-within z some first =
+    within_if z (run is_graphic z == 1 && (slice_index z 0 == 46 && stops_clause (drop 1 z))) _ _
+    (λ _. record { some = omega arith; all = omega arith })
+    (λ _. run-within is_graphic (Some NameToken) z some first)
+
+small_word : (b : ℕ) → is_small b ≡ true → is_alphanumeric b ≡ true
+small_word b h = grind (arith, nat_tests)
+
+variable_word : (b : ℕ) → begins_variable b ≡ true → is_alphanumeric b ≡ true
+variable_word b h = grind (arith, nat_tests)
+
+percent_in_line : (b : ℕ) → (b == 37) ≡ true → is_in_line b ≡ true
+percent_in_line b h = grind (arith, nat_tests)
+
+pub lexeme-within : (z : List ℕ) → 0 < length z → (1 ≤ (lexeme z).1) × ((lexeme z).1 ≤ length z)
+unfolding lexeme
+lexeme-within z some =
+    let b = slice_index z 0 in
+    let h : IsWithin z (lexeme z) =
+    within_if z (is_layout b) _ _ (λ _. record { some = omega arith; all = omega arith }) (λ _.
+    within_if z (b == 37) _ _ (λ e. run-within is_in_line None z some (percent_in_line b e)) (λ _.
+    within_if z (is_small b) _ _ (λ e. run-within is_alphanumeric _ z some (small_word b e)) (λ _.
+    within_if z (begins_variable b) _ _ (λ e. run-within is_alphanumeric _ z some (variable_word b e)) (λ _.
+    within_if z (is_digit b) _ _ (λ e. run-within is_digit _ z some e) (λ _.
+    within_if z (b == 47 && slice_index z 1 == 42) _ _ (λ e. commented-within z (comment_len (drop 2 z)) (byte_within z 1 42 (star_of _ _ e) (omega arith)) (comment-ends (drop 2 z))) (λ _.
+    within_if z (is_graphic b) _ _ (λ e. graphic-within z some e) (λ _.
+    within_if z (is_punctuation b) _ _ (λ _. record { some = omega arith; all = omega arith }) (λ _. character-within z some)))))))) in
+    (h.some, h.all)

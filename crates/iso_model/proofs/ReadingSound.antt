@@ -1,12 +1,11 @@
 -- What the reading by precedence gives, the grammar gives too.
-use Rattle.std.proofs.Common.{◌≡◌, ℕ, zero, suc, ◌+◌, ◌-◌, ◌<◌, ◌≤◌, max, Bool, true, false, not, ◌&&◌, ◌==◌, cond, nat_le, nat_lt, List, [], ◌∷◌, length, drop, Option, Some, None, IfSome, pos, codes, refl, sym, ◌∙◌, ap, arith, rules}
+use Rattle.std.proofs.Common.{◌≡◌, ℕ, zero, suc, ◌+◌, ◌-◌, ◌<◌, ◌≤◌, Bool, true, false, not, ◌&&◌, cond, nat_le, nat_lt, List, [], ◌∷◌, length, drop, Option, Some, None, IfSome, codes, refl, arith}
 use Rattle.std.proofs.lemmas.Bool.{and_parts, cond_both, leb-true, ltb-true}
-use Rattle.std.proofs.lemmas.Bool.Decides.{nat_tests}
-use Rattle.iso_model.specs.Operators.{Operator, Table, left_of, right_of, takes_equal}
+use Rattle.iso_model.specs.Operators.{Operator, Table, left_of, right_of}
 use Rattle.iso_model.specs.Token.{Shown, TokenKind, NameToken, QuotedToken, DoubleToken, VariableToken, IntegerToken, PunctToken, EndToken, BadToken, magnitude}
-use Rattle.iso_model.specs.Trees.{Variable, Integer, Name, Apply, row}
-use Rattle.iso_model.specs.Grammar.{Left, before, Node, Row, closed, joined, no_terms, with_first, with_name, number_of, is_mark, opens_arguments, next_is, begins_small, max_integer, infix_at, TakesLeft, Reads, Operand, Elements, alone, between, variable_at, integer_at, atom_at, compound_at, last_of, more_of}
-use Rattle.iso_model.specs.Reading.{Outcome, ◌>>=◌, Reader, rest, further, elements, compound, named, integer, operand_by, operand_from, operand, fits, if_fits, next_operator, operator_behind, extended, climb_by, climb, term}
+use Rattle.iso_model.specs.Trees.{Apply, row}
+use Rattle.iso_model.specs.Grammar.{Left, before, Node, Row, closed, no_terms, with_first, is_mark, opens_arguments, next_is, begins_small, max_integer, infix_at, Reads, Operand, Elements, alone, between, variable_at, integer_at, atom_at, compound_at, last_of, more_of}
+use Rattle.iso_model.specs.Reading.{Outcome, ◌>>=◌, Reader, further, elements, compound, named, integer, operand_by, operand, fits, if_fits, operator_behind, extended, climb_by, climb, continued, term}
 
 pub bind_if : {A B : Type 0} (o : Option A) (f : A → Option B) (P : A → Type 0) (Q : B → Type 0) → IfSome o P → ((x : A) → P x → IfSome (f x) Q) → IfSome (o >>= f) Q
 bind_if None f P Q a b = tt
@@ -171,10 +170,10 @@ module _ (table : Table) where
 
   -- what is read by precedence is a term of the grammar
   pub term_sound : (depth : ℕ) → Sound (term table depth) depth
-  unfolding term
+  unfolding term continued
   term_sound zero most s = tt
   term_sound (suc depth) most s =
       bind_if (operand (term table depth) s) _ _ _ (operand_sound (term table depth) depth (term_sound depth) s.tokens s.names)
       (λ x a. guard_if (nat_le x.0.priority most) _ _ (λ le.
-      climb_sound (term table depth) depth (term_sound depth) most s (suc depth) x.0 x.1.tokens x.1.names
+      climb_sound (term table depth) depth (term_sound depth) most s (suc depth - x.0.height) x.0 x.1.tokens x.1.names
       (record { reads = alone a.reads; height = omega (arith, a.height); priority = leb-true x.0.priority most le; shorter = a.shorter })))

@@ -1,11 +1,11 @@
 -- The grammar of terms (ISO/IEC 13211-1:1995, 6.3), as a relation between tokens and terms. Nothing in it says that
 -- an operand extends as far as it may: the rule on what stands unbracketed on the left of an operator leaves one
 -- reading (own).
-use Rattle.std.specs.Prelude.{◌≡◌, ◌≢◌, ℕ, ◌+◌, ◌-◌, ◌≤◌, max, Bool, true, false, not, ◌&&◌, ◌||◌, ◌==◌, if◌then◌else◌, List, [], ◌∷◌, ◌++◌, length, position, Option, Some, None, unwrap_or, pos, codes}
+use Rattle.std.specs.Prelude.{◌≡◌, ℕ, ◌+◌, ◌≤◌, max, Bool, true, false, not, ◌&&◌, ◌||◌, ◌==◌, if◌then◌else◌, List, [], ◌∷◌, ◌++◌, length, position, Option, Some, None, unwrap_or, pos, codes}
 use Rattle.std.specs.Str.{bytes_eq}
 use Rattle.iso_model.specs.Characters.{is_small}
 use Rattle.iso_model.specs.Operators.{Operator, Table, left_of, right_of, takes_equal, is_right_open}
-use Rattle.iso_model.specs.Token.{Shown, TokenKind, NameToken, QuotedToken, DoubleToken, VariableToken, IntegerToken, PunctToken, EndToken, BadToken, magnitude}
+use Rattle.iso_model.specs.Token.{Shown, TokenKind, NameToken, VariableToken, PunctToken, magnitude}
 use Rattle.iso_model.specs.Trees.{Tree, Variable, Integer, Name, Apply, row}
 
 -- What is left of a clause while it is read: its tokens, and the names of the variables before them, in the order of

@@ -19,6 +19,9 @@ pub mod Engines
 pub mod Operators
 pub mod Grammar
 pub mod Reading
+pub mod Clauses
+pub mod Numbering
+pub mod ReadingLaws
 pub mod Characters
 pub mod Token
 pub mod Lexemes
@@ -28,3 +31,4 @@ pub mod Texts
 pub mod Lines
 pub mod Sessions
 pub mod Beginnings
+pub mod TokenPlaces

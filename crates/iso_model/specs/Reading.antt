@@ -1,9 +1,9 @@
 -- Reading by precedence: the grammar as a function of the tokens. An operand is read first; then the operators behind
 -- it are taken as long as they may stand there.
-use Rattle.std.specs.Prelude.{ℕ, zero, suc, ◌+◌, Bool, true, false, not, ◌&&◌, ◌==◌, if◌then◌else◌, nat_le, nat_lt, List, [], ◌∷◌, length, drop, Option, Some, None, pos, codes}
+use Rattle.std.specs.Prelude.{ℕ, zero, suc, ◌+◌, ◌-◌, Bool, not, ◌&&◌, ◌==◌, if◌then◌else◌, nat_le, nat_lt, List, [], ◌∷◌, length, drop, Option, Some, None, pos, codes}
 use Rattle.iso_model.specs.Operators.{Operator, Table, left_of, right_of, takes_equal}
-use Rattle.iso_model.specs.Token.{Shown, TokenKind, NameToken, QuotedToken, DoubleToken, VariableToken, IntegerToken, PunctToken, EndToken, BadToken, magnitude}
-use Rattle.iso_model.specs.Grammar.{Left, Node, Row, Clause, place_of, number_of, with_name, closed, joined, no_terms, with_first, is_mark, opens_arguments, next_is, begins_small, max_integer, max_depth, infix_at, numbered, start_of}
+use Rattle.iso_model.specs.Token.{Shown, TokenKind, NameToken, VariableToken, IntegerToken, magnitude}
+use Rattle.iso_model.specs.Grammar.{Left, Node, Row, Clause, number_of, with_name, closed, joined, no_terms, with_first, is_mark, opens_arguments, next_is, begins_small, max_integer, max_depth, infix_at, numbered, start_of}
 use Rattle.iso_model.specs.Trees.{Variable, Integer, Name, Apply, row}
 
 -- what was read, and what is left behind it; nothing where the grammar has no case
@@ -108,13 +108,17 @@ module _ (table : Table) where
   climb sub depth most zero l s = Some (l, s)
   climb sub depth most (suc turns) l s = climb_by sub depth l s (climb sub depth most turns) (operator_behind most l s)
 
-  -- A term of at most this priority, in which no part stands as deep as the first number. Each operator makes the term
-  -- higher, so there are no more of them than that.
+  -- All operators that go on behind an operand. Each makes the term higher, and nothing stands as deep as one more
+  -- than the first number, so there are no more of them.
+  unfoldable pub continued : Reader → ℕ → ℕ → Node → Left → Outcome Node
+  continued sub depth most l s = climb sub depth most (suc depth - l.height) l s
+
+  -- a term of at most this priority, in which nothing stands as deep as the first number
   unfoldable pub term : ℕ → Reader
   term zero most s = None
   term (suc depth) most s = do
     x ← operand (term depth) s
-    if nat_le x.0.priority most then climb (term depth) depth most (suc depth) x.0 x.1 else None
+    if nat_le x.0.priority most then continued (term depth) depth most x.0 x.1 else None
 
   abbrev pub clause_by : Node × Left → Option Clause
   clause_by (n, s) = if nat_lt 0 (length s.tokens) then None else Some (record { term = n.term; names = numbered 0 s.names })

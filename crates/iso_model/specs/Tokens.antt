@@ -6,16 +6,16 @@ use Rattle.iso_model.specs.Lexemes.{Lexeme, lexeme}
 -- The tokens of a text with this lexeme at its front, which begins at this place, behind layout or not. `others`
 -- gives those behind so many further bytes.
 abbrev pub tokens_by : ℕ → Bool → List ℕ → Lexeme → (ℕ → Bool → List Shown) → List Shown
-tokens_by at after z (None, n) others = others (n - 1) true
-tokens_by at after z (Some k, n) others = record { kind = k; text = take n z; start = at; after_layout = after } ∷ others (n - 1) false
+tokens_by at after text (None, n) others = others (n - 1) true
+tokens_by at after text (Some k, n) others = record { kind = k; text = take n text; start = at; after_layout = after } ∷ others (n - 1) false
 
 -- The tokens of a text that begins at this place, behind layout or not, where so many of its first bytes are
 -- still part of the lexeme before.
 unfoldable pub tokens_from : ℕ → ℕ → Bool → List ℕ → List Shown
 tokens_from left at after [] = []
-tokens_from (suc left) at after (b ∷ z) = tokens_from left (at + 1) after z
-tokens_from zero at after (b ∷ z) = tokens_by at after (b ∷ z) (lexeme (b ∷ z)) (λ left now. tokens_from left (at + 1) now z)
+tokens_from (suc left) at after (byte ∷ text) = tokens_from left (at + 1) after text
+tokens_from zero at after (byte ∷ text) = tokens_by at after (byte ∷ text) (lexeme (byte ∷ text)) (λ left now. tokens_from left (at + 1) now text)
 
 -- the tokens of a text
 abbrev pub tokens : List ℕ → List Shown
-tokens z = tokens_from 0 0 false z
+tokens text = tokens_from 0 0 false text

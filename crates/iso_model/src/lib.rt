@@ -5,6 +5,7 @@
 pub mod engines;
 pub mod laws_of_runs;
 pub mod laws_of_unifiers;
+pub mod laws_of_reading;
 pub mod limit;
 pub mod pauses;
 pub mod terms;

@@ -1,0 +1,5 @@
+mod Names
+mod Rows
+mod Climbs
+mod Splits
+mod Nexts

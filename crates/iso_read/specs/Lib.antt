@@ -1,0 +1,4 @@
+pub mod Views
+pub mod Cursor
+pub mod Gives
+pub mod Answers

@@ -1,4 +1,12 @@
 //! A clause: the tokens before the next end token, and the term that they are (6.2).
+ghost use Rattle.std.specs.Prelude.{◌≡◌, ◌≤◌, [], ◌∷◌, map, length, Some, None, IfOk, MatchOption};
+ghost use Rattle.iso_model.specs.Clauses.{split_clause};
+ghost use Rattle.iso_model.specs.Operators.{operators};
+ghost use Rattle.iso_model.specs.Reading.{clause_of};
+ghost use Rattle.iso_read.specs.Answers.{IsWhole, ReadsNext, GivesNext, StandsBehind, TakesSome, IsWellFormed};
+ghost use Rattle.iso_token.specs.Shows.{shown};
+ghost use Rattle.iso_read.specs.declared.clause.ReadFault.TheVariants.{NoMemory};
+
 use crate::input::Input;
 use crate::reader::read_term;
 use iso_model::Term;
@@ -30,12 +38,16 @@ pub enum ReadFault {
 }
 
 impl From<AllocError> for ReadFault {
+    ghost from_gives = { λ _ fault. fault ≡ NoMemory };
+
     fn from(_fault: AllocError) -> ReadFault {
         ReadFault::NoMemory
     }
 }
 
 impl<T: Drop> From<AllocFailed<T>> for ReadFault {
+    ghost from_gives = { λ _ fault. fault ≡ NoMemory };
+
     fn from(_fault: AllocFailed<T>) -> ReadFault {
         ReadFault::NoMemory
     }
@@ -46,7 +58,10 @@ fn clause_from<'t>(
     alloc: Global,
     first: Token<'t>,
     tokens: &mut Tokens<'t>,
-) -> Result<Option<Vec<Token<'t>>>, AllocError> {
+) -> Result<Option<Vec<Token<'t>>>, AllocError>
+    ensures split { IfOk result (λ found. MatchOption found ((split_clause (shown first.entry ∷ tokens.old) ≡ None) × (tokens.new ≡ [])) (λ clause. split_clause (shown first.entry ∷ tokens.old) ≡ Some (map shown clause.items, tokens.new))) }
+    ensures shorter { length tokens.new ≤ length tokens.old }
+{
     let mut clause = Vec::new(alloc);
     let mut token = first;
     while token.kind != Kind::End {
@@ -60,7 +75,10 @@ fn clause_from<'t>(
 }
 
 /// The term that all of these tokens are.
-fn whole(alloc: Global, clause: &[Token<'_>]) -> Result<Read, ReadFault> {
+#[tactic(auto, unfolding(iso_model::specs::Reading::clause_of))]
+fn whole(alloc: Global, clause: &[Token<'_>]) -> Result<Read, ReadFault>
+    ensures { IsWhole (clause_of operators (map shown clause.now)) result }
+{
     let mut input = Input::new(alloc, clause);
     let node = read_term(alloc, MAX_DEPTH + 1, CLAUSE_PRIORITY, &mut input)?;
     if !input.is_empty() {
@@ -75,7 +93,13 @@ fn whole(alloc: Global, clause: &[Token<'_>]) -> Result<Read, ReadFault> {
 
 /// Reads the next clause (6.2): the term that the tokens before the next end token are, at priority 1200.
 /// `None` where no token is left. After `Syntax` the tokens stand behind the next end token or at the end.
-pub fn read_clause(alloc: Global, tokens: &mut Tokens<'_>) -> Result<Option<Read>, ReadFault> {
+pub fn read_clause(alloc: Global, tokens: &mut Tokens<'_>) -> Result<Option<Read>, ReadFault>
+    ensures reads { ReadsNext result tokens.old }
+    ensures gives { GivesNext result tokens.old }
+    ensures behind { StandsBehind result tokens.old tokens.new }
+    ensures takes { TakesSome result tokens.old tokens.new }
+    ensures well_formed { IfOk result IsWellFormed }
+{
     let Some(first) = tokens.next() else {
         return Ok(None);
     };

@@ -1,35 +1,64 @@
 //! What is left of a clause while it is read.
-ghost use Rattle.std.specs.Prelude.{◌≡◌, ◌<◌, ◌≤◌, ◌+◌, length, MatchOption, MatchBool};
+ghost use Rattle.std.specs.Prelude.{◌≡◌, ◌<◌, ◌++◌, [], ◌∷◌, length, map, not, position, nat_lt, if◌then◌else◌, IfOk, MatchOption};
+ghost use Rattle.std.specs.Str.{bytes_eq};
+ghost use Rattle.std.specs.String.{string_bytes};
+ghost use Rattle.iso_model.specs.Grammar as model;
+ghost use Rattle.iso_model.specs.Reading.{rest};
+ghost use Rattle.iso_token.specs.Shows.{shown};
 
 use iso_token::{Kind, Token};
 use std::alloc::{AllocError, Global};
+use std::marker::Model;
 
 /// The tokens that are left of a clause, and the names of the variables so far, in the order of their first
 /// occurrence: a variable's number is the place of its name. Each `_` has a place of its own.
 #[derive(Drop)]
 pub struct Input<'c> {
-    pub tokens: &'c [Token<'c>],
+    tokens: &'c [Token<'c>],
     names: Vec<String>,
 }
 
+impl<'c> Model for Input<'c> {
+    ghost use Rattle.iso_model.specs.Grammar.{Left};
+
+    ghost Value = { Left };
+
+    ghost use Rattle.iso_read.specs.Cursor.{left_of};
+
+    ghost view = { left_of };
+}
+
 /// Whether the token is this mark of punctuation.
-fn is_mark(token: &Token<'_>, mark: &str) -> bool {
+fn is_mark(token: &Token<'_>, mark: &str) -> bool
+    ensures { result ≡ model.is_mark mark.now (shown token.now) }
+{
     token.kind == Kind::Punct && token.text == mark
 }
 
 /// The place of a name among these.
-fn place_of(names: &[String], name: &str) -> Option<usize> {
-    for (place, other) in names.iter().enumerate() {
-        if other.as_str() == name {
-            return Some(place);
-        }
+fn position_of(names: &[String], name: &str) -> Option<usize>
+    ensures { result ≡ position (λ other. bytes_eq (string_bytes other) name.now) names.now }
+{
+    names.iter().position(|other| other.as_str() == name)
+}
+
+/// The place of a variable's name among these; `_` has none.
+#[tactic(auto, using(crate::proofs::Names::position_map))]
+fn place_of(names: &[String], name: &str) -> Option<usize>
+    ensures { result ≡ model.place_of name.now (map string_bytes names.now) }
+{
+    if name == "_" {
+        None
+    } else {
+        position_of(names, name)
     }
-    None
 }
 
 impl<'c> Input<'c> {
     /// These tokens, and no variable so far.
-    pub fn new(alloc: Global, tokens: &'c [Token<'c>]) -> Input<'c> {
+    pub fn new(alloc: Global, tokens: &'c [Token<'c>]) -> Input<'c>
+        ensures { result ≡ model.start_of (map shown tokens.now) }
+    {
         Input {
             tokens,
             names: Vec::new(alloc),
@@ -37,7 +66,9 @@ impl<'c> Input<'c> {
     }
 
     /// The next token, which is left where it is.
-    pub fn peek(&self) -> Option<Token<'c>> {
+    pub fn peek(&self) -> Option<Token<'c>>
+        ensures { MatchOption result (self.now.tokens ≡ []) (λ t. self.now ≡ model.before (shown t) (rest self.now)) }
+    {
         match self.tokens {
             [] => None,
             [first, ..] => Some(*first),
@@ -46,7 +77,8 @@ impl<'c> Input<'c> {
 
     /// The next token.
     pub fn next(&mut self) -> Option<Token<'c>>
-        ensures { MatchOption result (length self.new.tokens.now ≡ length self.old.tokens.now) (λ _. length self.new.tokens.now < length self.old.tokens.now) }
+        ensures token { MatchOption result (self.old.tokens ≡ []) (λ t. self.old ≡ model.before (shown t) self.new) }
+        ensures after { self.new ≡ rest self.old }
     {
         match self.tokens {
             [] => None,
@@ -59,7 +91,8 @@ impl<'c> Input<'c> {
 
     /// Whether the next token is this mark; it is taken then.
     pub fn takes(&mut self, mark: &str) -> bool
-        ensures { MatchBool result (length self.new.tokens.now < length self.old.tokens.now) (length self.new.tokens.now ≡ length self.old.tokens.now) }
+        ensures taken { result ≡ model.next_is (model.is_mark mark.now) self.old.tokens }
+        ensures after { self.new ≡ (if result then rest self.old else self.old) }
     {
         match self.tokens {
             [first, rest @ ..] if is_mark(first, mark) => {
@@ -72,7 +105,8 @@ impl<'c> Input<'c> {
 
     /// Whether the next token is the `(` of an argument list, one with no layout before it; it is taken then.
     pub fn opens_arguments(&mut self) -> bool
-        ensures { length self.new.tokens.now ≤ length self.old.tokens.now }
+        ensures taken { result ≡ model.next_is model.opens_arguments self.old.tokens }
+        ensures after { self.new ≡ (if result then rest self.old else self.old) }
     {
         match self.peek() {
             Some(token) if !token.after_layout => self.takes("("),
@@ -82,12 +116,10 @@ impl<'c> Input<'c> {
 
     /// The number of the variable of this name, at one more occurrence.
     pub fn variable(&mut self, alloc: Global, name: &str) -> Result<u64, AllocError>
-        ensures { self.new.tokens.now ≡ self.old.tokens.now }
+        ensures { IfOk result (λ number. (number ≡ model.number_of name.now self.old.names) × (self.new ≡ model.with_name name.now self.old)) }
     {
-        if name != "_" {
-            if let Some(place) = place_of(&self.names, name) {
-                return Ok(place as u64);
-            }
+        if let Some(place) = place_of(&self.names, name) {
+            return Ok(place as u64);
         }
         let number = self.names.len() as u64;
         self.names.push(String::from_str(alloc, name)?)?;
@@ -95,12 +127,16 @@ impl<'c> Input<'c> {
     }
 
     /// Whether no token is left.
-    pub fn is_empty(&self) -> bool {
+    pub fn is_empty(&self) -> bool
+        ensures { result ≡ not (nat_lt 0 (length self.now.tokens)) }
+    {
         self.tokens.is_empty()
     }
 
     /// The named variables but `_`, in the order of their first occurrence, each with its number.
-    pub fn into_names(self, alloc: Global) -> Result<Vec<(String, u64)>, AllocError> {
+    pub fn into_names(self, alloc: Global) -> Result<Vec<(String, u64)>, AllocError>
+        ensures { IfOk result (λ numbered. map (λ entry. (string_bytes entry.0, entry.1)) numbered.items ≡ model.numbered 0 self.entry.names) }
+    {
         let Input { tokens: _, names } = self;
         let mut numbered = Vec::new(alloc);
         for (number, name) in names.into_iter().enumerate() {

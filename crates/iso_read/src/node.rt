@@ -1,5 +1,10 @@
 //! Terms as they are read, and which of them an operator takes as its operands.
-ghost use Rattle.std.specs.Prelude.{◌≡◌, ◌<◌, ◌≤◌, ◌+◌, ◌^◌, IfOk, max};
+ghost use Rattle.std.specs.Prelude.{◌≡◌, ◌<◌, ◌+◌, ◌^◌, IfOk, max};
+ghost use Rattle.iso_model.specs.Grammar as model;
+ghost use Rattle.iso_model.specs.Operators as operators;
+ghost use Rattle.iso_model.specs.Reading as reading;
+ghost use Rattle.iso_model.specs.Terms.{term_of};
+ghost use Rattle.iso_read.specs.Views.{node_of, operator_of};
 
 use crate::operators::{Infix, Specifier};
 use iso_model::Term;
@@ -26,7 +31,7 @@ pub struct Row {
 
 /// A term of priority 0.
 pub fn closed(term: Term, height: usize) -> Node
-    ensures { result.height ≡ height }
+    ensures { node_of result ≡ model.closed (term_of term) height }
 {
     Node {
         term,
@@ -37,14 +42,18 @@ pub fn closed(term: Term, height: usize) -> Node
 }
 
 /// The greatest priority of the operator's left operand.
-fn left_of(operator: &Infix<'_>) -> u32 {
+fn left_of(operator: &Infix<'_>) -> u32
+    ensures { result ≡ operators.left_of (operator_of operator.now) }
+{
     match operator.specifier {
         Specifier::Xfx | Specifier::Xfy => operator.priority.saturating_sub(1),
     }
 }
 
 /// The greatest priority of the operator's right operand.
-pub fn right_of(operator: &Infix<'_>) -> u32 {
+pub fn right_of(operator: &Infix<'_>) -> u32
+    ensures { result ≡ operators.right_of (operator_of operator.now) }
+{
     match operator.specifier {
         Specifier::Xfx => operator.priority.saturating_sub(1),
         Specifier::Xfy => operator.priority,
@@ -52,7 +61,9 @@ pub fn right_of(operator: &Infix<'_>) -> u32 {
 }
 
 /// Whether the node may be the operator's left operand, in a place of at most this priority.
-pub fn fits(most: u32, left: &Node, operator: &Infix<'_>) -> bool {
+pub fn fits(most: u32, left: &Node, operator: &Infix<'_>) -> bool
+    ensures { result ≡ reading.fits most (node_of left.now) (operator_of operator.now) }
+{
     operator.priority <= most && left.priority <= left_of(operator)
 }
 
@@ -64,7 +75,7 @@ pub fn joined(
     right: Node,
 ) -> Result<Node, AllocError>
     requires { max left.height right.height + 1 < 2 ^ 64 }
-    ensures { IfOk result (λ n. n.height ≡ max left.height right.height + 1) }
+    ensures { IfOk result (λ node. node_of node ≡ model.joined (node_of left) (operator_of operator.now) (node_of right)) }
 {
     let is_open = match operator.specifier {
         Specifier::Xfx => false,

@@ -1,4 +1,10 @@
 //! The infix operators (6.3.4) that the language has.
+ghost use Rattle.std.specs.Prelude.{◌≡◌, option_map};
+ghost use Rattle.iso_model.specs.Grammar.{infix_at};
+ghost use Rattle.iso_model.specs.Operators as model;
+ghost use Rattle.iso_read.specs.Views.{operator_of};
+ghost use Rattle.iso_token.specs.Shows.{shown};
+
 use iso_token::{Kind, Token};
 
 /// The specifiers of infix operators (6.3.4, table 4).
@@ -19,16 +25,40 @@ pub struct Infix<'c> {
     pub specifier: Specifier,
 }
 
+/// The infix operator of this name.
+fn infix_named(name: &str) -> Option<Infix<'_>>
+    ensures { option_map operator_of result ≡ model.operators name.now }
+{
+    if name == ":-" {
+        return Some(Infix {
+            name,
+            priority: 1200,
+            specifier: Specifier::Xfx,
+        });
+    }
+    if name == "," {
+        return Some(Infix {
+            name,
+            priority: 1000,
+            specifier: Specifier::Xfy,
+        });
+    }
+    None
+}
+
 /// The infix operator that the token is.
-pub fn infix_of<'c>(token: &Token<'c>) -> Option<Infix<'c>> {
-    let (priority, specifier) = match token.kind {
-        Kind::Name if token.text == ":-" => (1200, Specifier::Xfx),
-        Kind::Punct if token.text == "," => (1000, Specifier::Xfy),
-        _ => return None,
-    };
-    Some(Infix {
-        name: token.text,
-        priority,
-        specifier,
-    })
+pub fn infix_of<'c>(token: &Token<'c>) -> Option<Infix<'c>>
+    ensures { option_map operator_of result ≡ infix_at model.operators (shown token.now) }
+{
+    match token.kind {
+        Kind::Name => infix_named(token.text),
+        Kind::Punct => {
+            if token.text == "," {
+                infix_named(token.text)
+            } else {
+                None
+            }
+        }
+        _ => None,
+    }
 }

@@ -23,25 +23,11 @@ pub fn is_layout(b: u8) -> bool
     b == b' ' || (9 <= b && b <= 13)
 }
 
-/// Whether a byte begins a variable (6.4.3).
-pub fn begins_variable(b: u8) -> bool
-    ensures { result ≡ characters.begins_variable b }
-{
-    b.is_ascii_uppercase() || b == b'_'
-}
-
 /// Whether a byte is a graphic character or the backslash (6.5.1, 6.4.2).
 fn is_graphic(b: u8) -> bool
     ensures { result ≡ characters.is_graphic b }
 {
     b"#$&*+-./:<=>?@^~\\".contains(&b)
-}
-
-/// Whether a byte is a token of its own (6.4.8).
-pub fn is_punctuation(b: u8) -> bool
-    ensures { result ≡ characters.is_punctuation b }
-{
-    b == b'(' || b == b')' || b == b','
 }
 
 /// Whether a byte is of the class.
@@ -58,12 +44,12 @@ pub fn is_in(class: Class, b: u8) -> bool
 }
 
 /// How many bytes of the class the text begins with.
-pub fn run(class: Class, z: &[u8]) -> usize
-    ensures value { result ≡ characters.run (classes.is_of class) z.now }
-    ensures within { result ≤ length z.now }
+pub fn run(class: Class, bytes: &[u8]) -> usize
+    ensures value { result ≡ characters.run (classes.is_of class) bytes.now }
+    ensures within { result ≤ length bytes.now }
 {
     let mut end = 0;
-    while end < z.len() && is_in(class, z[end]) {
+    while end < bytes.len() && is_in(class, bytes[end]) {
         end += 1;
     }
     end

@@ -1,10 +1,10 @@
 //! A cursor over the tokens of a text, which cuts each as it is reached.
-ghost use Rattle.std.specs.Prelude.{◌≡◌, ◌≤◌, ◌<◌, ◌+◌, [], ◌∷◌, length, take, drop, MatchOption};
-ghost use Rattle.iso_model.specs.Lexemes.{lexeme};
+ghost use Rattle.std.specs.Prelude.{◌≡◌, [], ◌∷◌, MatchOption};
 ghost use Rattle.iso_model.specs.Tokens.{tokens};
+ghost use Rattle.iso_model.specs.TokenPlaces.{StandInOrder};
 ghost use Rattle.iso_token.specs.Shows.{shown};
 
-use crate::kinds::{Kind, Token};
+use crate::kinds::Token;
 use crate::lexemes::first_lexeme;
 use std::marker::Model;
 
@@ -29,9 +29,11 @@ impl<'t> Model for Tokens<'t> {
 }
 
 impl<'t> Tokens<'t> {
-    /// All tokens of the text.
+    /// All tokens of the text. It takes no memory.
+    #[tactic(auto, using(iso_model::proofs::PlaceLemmas::tokens_stand))]
     pub fn new(text: &'t str) -> Tokens<'t>
-        ensures { result ≡ tokens text.now }
+        ensures all { result ≡ tokens text.now }
+        ensures places { StandInOrder text.now 0 result }
     {
         Tokens {
             rest: text,

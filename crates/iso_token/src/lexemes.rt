@@ -1,5 +1,5 @@
 //! What stands at the front of a text: the longest token, or layout (ISO/IEC 13211-1:1995, 6.4).
-ghost use Rattle.std.specs.Prelude.{◌≡◌, ◌+◌, ◌<◌, ◌≤◌, true, length, slice_index, IfSome};
+ghost use Rattle.std.specs.Prelude.{◌≡◌, ◌<◌, ◌≤◌, true, length, slice_index, IfSome};
 ghost use Rattle.iso_model.specs.Characters as characters;
 ghost use Rattle.iso_model.specs.Characters.{is_graphic};
 ghost use Rattle.iso_model.specs.Lexemes as spec;
@@ -17,32 +17,32 @@ pub struct Lexeme {
 }
 
 /// The byte at a place, or 0 behind the end.
-fn byte(z: &[u8], at: usize) -> u8
-    ensures value { result ≡ slice_index z.now at }
-    ensures within { 0 < result → at < length z.now }
+fn byte(bytes: &[u8], at: usize) -> u8
+    ensures value { result ≡ slice_index bytes.now at }
+    ensures within { 0 < result → at < length bytes.now }
 {
-    if at < z.len() { z[at] } else { 0 }
+    if at < bytes.len() { bytes[at] } else { 0 }
 }
 
 /// One character that begins no token.
-fn bad_character(z: &[u8]) -> Lexeme
-    requires { 0 < length z.now }
-    ensures value { lexeme_of result ≡ spec.bad_character z.now }
-    ensures within { (1 ≤ result.len) × (result.len ≤ length z.now) }
+fn bad_character(bytes: &[u8]) -> Lexeme
+    requires { 0 < length bytes.now }
+    ensures value { lexeme_of result ≡ spec.bad_character bytes.now }
+    ensures within { (1 ≤ result.len) × (result.len ≤ length bytes.now) }
 {
     Lexeme {
         kind: Some(Kind::Bad),
-        len: 1 + run(Class::Continuation, &z[1..]),
+        len: 1 + run(Class::Continuation, &bytes[1..]),
     }
 }
 
 /// How far a bracketed comment goes on, with its first `*/` (6.4.1); none where it has no end.
-fn comment_len(z: &[u8]) -> Option<usize>
-    ensures value { result ≡ spec.comment_len z.now }
-    ensures within { IfSome result (λ n. n ≤ length z.now) }
+fn comment_len(bytes: &[u8]) -> Option<usize>
+    ensures value { result ≡ spec.comment_len bytes.now }
+    ensures within { IfSome result (λ n. n ≤ length bytes.now) }
 {
-    for (at, b) in z.iter().enumerate() {
-        if *b == b'*' && byte(z, at + 1) == b'/' {
+    for (at, b) in bytes.iter().enumerate() {
+        if *b == b'*' && byte(bytes, at + 1) == b'/' {
             return Some(at + 2);
         }
     }
@@ -50,13 +50,13 @@ fn comment_len(z: &[u8]) -> Option<usize>
 }
 
 /// What begins with `/*`: a bracketed comment, or a bad character where it has no end.
-fn commented(z: &[u8]) -> Lexeme
-    requires { 2 ≤ length z.now }
-    ensures value { lexeme_of result ≡ spec.commented z.now }
-    ensures within { (1 ≤ result.len) × (result.len ≤ length z.now) }
+fn commented(bytes: &[u8]) -> Lexeme
+    requires { 2 ≤ length bytes.now }
+    ensures value { lexeme_of result ≡ spec.commented bytes.now }
+    ensures within { (1 ≤ result.len) × (result.len ≤ length bytes.now) }
 {
-    match comment_len(&z[2..]) {
-        None => bad_character(z),
+    match comment_len(&bytes[2..]) {
+        None => bad_character(bytes),
         Some(n) => Lexeme {
             kind: None,
             len: 2 + n,
@@ -65,23 +65,23 @@ fn commented(z: &[u8]) -> Lexeme
 }
 
 /// Whether what stands behind a full stop lets it end a clause (6.4.8): layout, `%` or nothing.
-fn stops_clause(z: &[u8]) -> bool
-    ensures { result ≡ spec.stops_clause z.now }
+fn stops_clause(bytes: &[u8]) -> bool
+    ensures { result ≡ spec.stops_clause bytes.now }
 {
-    match z {
+    match bytes {
         [] => true,
         [b, ..] => is_layout(*b) || *b == b'%',
     }
 }
 
 /// A run of graphic characters: a name (6.4.2), or the end token (6.4.8).
-fn graphic(z: &[u8]) -> Lexeme
-    requires { is_graphic (slice_index z.now 0) ≡ true }
-    ensures value { lexeme_of result ≡ spec.graphic z.now }
-    ensures within { (1 ≤ result.len) × (result.len ≤ length z.now) }
+fn graphic(bytes: &[u8]) -> Lexeme
+    requires { is_graphic (slice_index bytes.now 0) ≡ true }
+    ensures value { lexeme_of result ≡ spec.graphic bytes.now }
+    ensures within { (1 ≤ result.len) × (result.len ≤ length bytes.now) }
 {
-    let len = run(Class::Graphic, z);
-    if len == 1 && z[0] == b'.' && stops_clause(&z[1..]) {
+    let len = run(Class::Graphic, bytes);
+    if len == 1 && bytes[0] == b'.' && stops_clause(&bytes[1..]) {
         Lexeme {
             kind: Some(Kind::End),
             len: 1,
@@ -95,40 +95,40 @@ fn graphic(z: &[u8]) -> Lexeme
 }
 
 /// A lexeme that is a run of bytes of the class.
-fn run_of(kind: Kind, class: Class, z: &[u8]) -> Lexeme
-    requires nonempty { 0 < length z.now }
-    requires begins { is_of class (slice_index z.now 0) ≡ true }
-    ensures value { lexeme_of result ≡ (Some (kind_of kind), characters.run (is_of class) z.now) }
-    ensures within { (1 ≤ result.len) × (result.len ≤ length z.now) }
+fn run_of(kind: Kind, class: Class, bytes: &[u8]) -> Lexeme
+    requires nonempty { 0 < length bytes.now }
+    requires begins { is_of class (slice_index bytes.now 0) ≡ true }
+    ensures value { lexeme_of result ≡ (Some (kind_of kind), characters.run (is_of class) bytes.now) }
+    ensures within { (1 ≤ result.len) × (result.len ≤ length bytes.now) }
 {
     Lexeme {
         kind: Some(kind),
-        len: run(class, z),
+        len: run(class, bytes),
     }
 }
 
 /// The lexeme at the front of a text that isn't empty.
 #[tactic(auto, unfolding(iso_model::specs::Lexemes::lexeme))]
-pub fn first_lexeme(z: &[u8]) -> Lexeme
-    requires { 0 < length z.now }
-    ensures value { lexeme_of result ≡ spec.lexeme z.now }
-    ensures within { (1 ≤ result.len) × (result.len ≤ length z.now) }
+pub fn first_lexeme(bytes: &[u8]) -> Lexeme
+    requires { 0 < length bytes.now }
+    ensures value { lexeme_of result ≡ spec.lexeme bytes.now }
+    ensures within { (1 ≤ result.len) × (result.len ≤ length bytes.now) }
 {
-    match z[0] {
+    match bytes[0] {
         b if is_layout(b) => Lexeme { kind: None, len: 1 },
         b'%' => Lexeme {
             kind: None,
-            len: run(Class::InLine, z),
+            len: run(Class::InLine, bytes),
         },
-        b'a'..=b'z' => run_of(Kind::Name, Class::Alphanumeric, z),
-        b'A'..=b'Z' | b'_' => run_of(Kind::Variable, Class::Alphanumeric, z),
-        b'0'..=b'9' => run_of(Kind::Integer, Class::Digit, z),
-        b'/' if byte(z, 1) == b'*' => commented(z),
+        b'a'..=b'z' => run_of(Kind::Name, Class::Alphanumeric, bytes),
+        b'A'..=b'Z' | b'_' => run_of(Kind::Variable, Class::Alphanumeric, bytes),
+        b'0'..=b'9' => run_of(Kind::Integer, Class::Digit, bytes),
+        b'/' if byte(bytes, 1) == b'*' => commented(bytes),
         b'(' | b')' | b',' => Lexeme {
             kind: Some(Kind::Punct),
             len: 1,
         },
-        b if is_in(Class::Graphic, b) => graphic(z),
-        _ => bad_character(z),
+        b if is_in(Class::Graphic, b) => graphic(bytes),
+        _ => bad_character(bytes),
     }
 }

@@ -14,16 +14,17 @@ fn listed(alloc: Global, text: &str) -> Result<String, Fail> {
     Ok(list)
 }
 
-const ROWS: [(&str, &str); 16] = [
+const ROWS: [(&str, &str); 18] = [
     (
         "foo(X, _y1) :- b.",
         " Name foo 0 Punct ( 3 Variable X 4 Punct , 5 ~Variable _y1 7 Punct ) 10 ~Name :- 12 ~Name b 15 End . 16",
     ),
     (
-        "aB_9-Ab 07",
-        " Name aB_9 0 Name - 4 Variable Ab 5 ~Integer 07 8",
+        "azAZ09_-AZaz09_ 07",
+        " Name azAZ09_ 0 Name - 7 Variable AZaz09_ 8 ~Integer 07 16",
     ),
     ("0x1F", " Integer 0 0 Name x1F 1"),
+    ("#$&*+-./:<=>?@^~\\", " Name #$&*+-./:<=>?@^~\\ 0"),
     (
         "a.b. c.%d\n.",
         " Name a 0 Name . 1 Name b 2 End . 3 ~Name c 5 End . 6 ~End . 10",
@@ -42,7 +43,8 @@ const ROWS: [(&str, &str); 16] = [
         "[a|{}];\"`",
         " Bad [ 0 Name a 1 Bad | 2 Bad { 3 Bad } 4 Bad ] 5 Bad ; 6 Bad \" 7 Bad ` 8",
     ),
-    (" \t\n", ""),
+    ("\u{8}\u{e}\u{7f}", " Bad \u{8} 0 Bad \u{e} 1 Bad \u{7f} 2"),
+    (" \t\n\u{b}\u{c}\r", ""),
 ];
 
 #[test]

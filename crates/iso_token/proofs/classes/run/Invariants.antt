@@ -5,7 +5,7 @@ use Rattle.iso_token.specs.Classes.{is_of}
 use Rattle.iso_token.proofs.classes.run.Given as goal
 
 abbrev pub invariant-loop-end : goal.invariant-loop-end
-invariant-loop-end l = (l.end + characters.run (is_of l.class) (drop l.end l.z) ≡ characters.run (is_of l.class) l.z) × (l.end ≤ length l.z)
+invariant-loop-end l = (l.end + characters.run (is_of l.class) (drop l.end l.bytes) ≡ characters.run (is_of l.class) l.bytes) × (l.end ≤ length l.bytes)
 
 abbrev pub decreases-loop-end : goal.decreases-loop-end
-decreases-loop-end l = length l.z - l.end
+decreases-loop-end l = length l.bytes - l.end

@@ -4,4 +4,4 @@ use Rattle.iso_model.specs.Lexemes.{comment_len}
 use Rattle.iso_token.proofs.lexemes.comment_len.Given as goal
 
 abbrev pub invariant-loop-at : goal.invariant-loop-at
-invariant-loop-at l = option_map (λ n. l.at + n) (comment_len (drop l.at l.z)) ≡ comment_len l.z
+invariant-loop-at l = option_map (λ n. l.at + n) (comment_len (drop l.at l.bytes)) ≡ comment_len l.bytes
