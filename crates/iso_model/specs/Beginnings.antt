@@ -4,6 +4,7 @@ use Rattle.std.specs.Io.KnownBytes.{Appends}
 use Rattle.iso_model.specs.Grammar.{Clause}
 use Rattle.iso_model.specs.Items.{Readable}
 use Rattle.iso_model.specs.Walker.{World, State}
+use Rattle.iso_model.specs.Engines.{Phase, Spent}
 use Rattle.iso_model.specs.RunLaws.{run_of}
 use Rattle.iso_model.specs.Sessions.{Piece, Line, Script, SessionEnd, prepend, pieces_bytes, script_bytes, script_end, run_script, query_script, session_script}
 
@@ -71,6 +72,12 @@ pub record StopsIn (P : State → Type 0) (rest : Script) : Type 0 where
   pub at : State
   pub stands : P at
   pub stops : StopsAt at rest
+
+-- Heap and frames stop an engine; memory may also be refused to the session itself.
+abbrev pub EngineStops : (State → Type 0) → Phase → Limit → Script → Type 0
+EngineStops Stands now Heap rest = StopsIn Stands rest
+EngineStops Stands now Frames rest = StopsIn Stands rest
+EngineStops Stands now Memory rest = now ≡ Spent → StopsIn Stands rest
 
 -- For every program text, every list of queries and every budget, the bytes that a session writes are those of the standard's search, walked
 -- depth first and left to right: each output, answer and error, in order, with repetitions; a session that heap, frames or memory end has

@@ -1,2 +1,4 @@
 pub mod Places
 pub mod Named
+pub mod Read
+pub mod Progress
