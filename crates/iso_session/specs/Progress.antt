@@ -1,11 +1,15 @@
 -- How far a part of a session comes in its script.
-use Rattle.std.specs.Prelude.{◌≡◌, ℕ, Bool, List, [], ◌∷◌, ◌++◌, Option, Result, Ok, Err, ◌⊎◌, false}
+use Rattle.std.specs.Prelude.{◌≡◌, ℕ, min, Bool, List, [], ◌∷◌, ◌++◌, Option, Result, Ok, Err, ◌⊎◌, false, codes}
 use Rattle.std.specs.Io.KnownBytes.{Appends}
 use Rattle.iso_model.specs.Engines.{Phase, Ready}
 use Rattle.iso_model.specs.Walker.{World, State}
 use Rattle.iso_model.specs.Sessions.{Piece, Line, Script, Closes, Done, Halts, SessionEnd, prepend, piece_bytes, within_behind, pieces_bytes, script_bytes}
 use Rattle.iso_model.specs.Beginnings as session
 use Rattle.iso_model.specs.Beginnings.{Begins, EngineStops, Outcome, Closed, Limited, Broken}
+use Rattle.iso_model.specs.Terms.{term_of}
+use Rattle.iso_model.specs.Lines.{error_line, halt_line}
+use Rattle.iso_model.specs.declared.pauses.Pause.{Pause}
+use Rattle.iso_model.specs.declared.pauses.Pause.TheVariants as pause
 use Rattle.iso_session.specs.declared.flows.Limit.{Limit}
 use Rattle.iso_session.specs.declared.flows.Limit.TheVariants as limit
 use Rattle.iso_session.specs.declared.flows.Flow.{Flow}
@@ -84,3 +88,18 @@ ended_of (flow.Stops limit.Memory) = ended.NoMemory
 abbrev pub closing_bytes : Bool → Flow → List ℕ
 closing_bytes within (flow.Stops limit) = piece_bytes within (Line (session.limit_line (limit_of limit)))
 closing_bytes within other = []
+
+-- a count of 64 bits, which stays at the greatest number
+abbrev pub IsCount : ℕ → ℕ → Type 0
+IsCount count k = count ≡ min k 18446744073709551615
+
+-- What a pause that ends its query comes to: a line, or a limit. Answers and outputs end no query, and a query that runs is not spent.
+abbrev pub EndsQuery : Pause → Place → Place → Result Flow Fault → Type 0
+EndsQuery pause.NoMore old new r = PutsLine (codes "end: no more") flow.On old new r
+EndsQuery pause.Budget old new r = PutsLine (codes "end: budget") flow.On old new r
+EndsQuery (pause.Uncaught ball) old new r = PutsLine (error_line (term_of ball.term)) flow.On old new r
+EndsQuery (pause.Halt status) old new r = PutsLine (halt_line status) (flow.Halts status) old new r
+EndsQuery pause.HeapFull old new r = (r ≡ Ok (flow.Stops limit.Heap)) × (new ≡ old)
+EndsQuery pause.FramesFull old new r = (r ≡ Ok (flow.Stops limit.Frames)) × (new ≡ old)
+EndsQuery pause.NoMemory old new r = (r ≡ Ok (flow.Stops limit.Memory)) × (new ≡ old)
+EndsQuery other old new r = Unit {0}

@@ -1,4 +1,10 @@
 //! A session: the text is consulted, then each query is run to its end.
+ghost use Rattle.std.specs.Prelude.{◌≡◌, []};
+ghost use Rattle.iso_model.specs.Engines.{Ready};
+ghost use Rattle.iso_model.specs.Walker.{idle};
+ghost use Rattle.iso_model.specs.Beginnings.{SessionWrites, EngineStops};
+ghost use Rattle.iso_session.specs.Progress.{outcome_of};
+
 use super::bodies::body_of_text;
 use super::consulting::consult_text;
 use super::flows::{Flow, close};
@@ -17,7 +23,12 @@ pub fn session_on<E: Engine, W: Write>(
     queries: &str,
     budget: u32,
     out: &mut W,
-) -> Result<Ended, Fault> {
+) -> Result<Ended, Fault>
+    requires ready { E.phase engine.old ≡ Ready }
+    requires new { E.stands_for engine.old (idle (record { database = [] })) }
+    ensures { SessionWrites text.now queries.now budget (EngineStops (E.stands_for engine.new) (E.phase engine.new))
+        (W.contents out.old) (W.contents out.new) (outcome_of result) }
+{
     let mut within_line = false;
     let consulted = consult_text(alloc, engine, body_of_text(text), out, &mut within_line)?;
     let flow = match consulted {
