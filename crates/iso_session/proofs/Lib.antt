@@ -4,3 +4,4 @@ pub mod TextLemmas
 pub mod SolutionLemmas
 pub mod ProgressLemmas
 pub mod ConsultLemmas
+pub mod QueryLemmas

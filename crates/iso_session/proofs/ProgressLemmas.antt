@@ -2,7 +2,7 @@
 use Rattle.std.proofs.Common.{◌≡◌, ◌≢◌, ℕ, Bool, true, false, List, [], ◌∷◌, ◌++◌, Option, Result, Ok, Err, ◌⊎◌, inl, inr, refl, sym, ap, subst, ◌∙◌, append_assoc, append-nil}
 use Rattle.std.specs.Io.KnownBytes.{Appends}
 use Rattle.std.specs.Result.{IsErr}
-use Rattle.iso_model.specs.Engines.{Phase, Ready, Spent}
+use Rattle.iso_model.specs.Engines.{Phase, Ready, Midway, Spent}
 use Rattle.iso_model.specs.Walker.{World, State}
 use Rattle.iso_model.specs.Sessions.{Piece, Output, Line, Script, Shows, Closes, Halts, prepend, piece_bytes, within_behind, pieces_bytes, script_bytes}
 use Rattle.iso_model.specs.Beginnings as session
@@ -123,3 +123,9 @@ pub breaks_after : (Stands : State → Type 0) (now : Phase) (old mid new : Plac
     → Advances old mid s t → IsErr r → Begins mid.0 new.0 (script_bytes mid.1 t) → Does Stands now old new s behind r
 breaks_after Stands now old mid new s t behind (Ok f) h failed b = cc
 breaks_after Stands now old mid new s t behind (Err e) h failed b = begins_on new.0 h b
+
+pub ready_awake : (now : Phase) → now ≡ Ready → now ≢ Spent
+ready_awake now ready spent = awake now ready spent
+
+pub midway_awake : (now : Phase) → now ≡ Midway → now ≢ Spent
+midway_awake now midway spent = let same : Midway ≡ Spent = sym midway ∙ spent in cc
