@@ -76,7 +76,7 @@ unfolding text_script
 text_over zero k w next = refl
 text_over (suc turns) k w next = refl
 
-empty_by : (ts : List Shown) → next_item operators ts ≡ None → ts ≡ []
+pub empty_by : (ts : List Shown) → next_item operators ts ≡ None → ts ≡ []
 empty_by [] h = refl
 empty_by (t ∷ ts) h = cc
 
@@ -86,10 +86,6 @@ pub text_ends : (Stands : State → Type 0) (now : Phase) (count : ℕ) (ts : Li
 text_ends Stands now count ts old new script next p ready none =
     let over = ap (λ z. text_script p.turns (p.done + 1) z p.at.world next) (empty_by ts none) ∙ text_over p.turns (p.done + 1) p.at.world next in
     record { at = p.at; stands = p.stands; ready = ready; advances = subst (λ z. Advances old new script z) over p.advances }
-
-shorter_item : (ts : List Shown) (x : Taken) → next_item operators ts ≡ Some x → 0 < length ts
-shorter_item [] x h = cc
-shorter_item (t ∷ ts) x h = omega arith
 
 item_script : (turns k : ℕ) (ts : List Shown) (x : Taken) (w : World) (next : World → Script) → next_item operators ts ≡ Some x
     → text_script (suc turns) k ts w next ≡ term_script k x.item w (λ v. text_script turns (k + 1) x.behind v next)

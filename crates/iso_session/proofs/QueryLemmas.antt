@@ -14,7 +14,7 @@ use Rattle.iso_model.specs.Walker.{World, State, Ending, Answered, Wrote, NoMore
 use Rattle.iso_model.specs.Runs as runs
 use Rattle.iso_model.specs.Runs.{Trace, Then, Comes, Finishes}
 use Rattle.iso_model.specs.RunLaws.{run_of, comes_run, finishes_run}
-use Rattle.iso_model.specs.Sessions.{ends_within, piece_bytes, script_bytes, Script, Shows, Closes, Line, Output, Done, Halts, run_script, query_script, queries_script}
+use Rattle.iso_model.specs.Sessions.{ends_within, piece_bytes, script_bytes, Script, Shows, Closes, Line, Output, Done, Halts, run_script, query_script, queries_by, queries_script}
 use Rattle.iso_model.specs.Beginnings as session
 use Rattle.iso_model.specs.Beginnings.{Begins, EngineStops, StopsIn, StopsAt, within_run, before_run}
 use Rattle.iso_model.specs.declared.terms.Term.{Term}
@@ -29,13 +29,13 @@ use Rattle.iso_session.specs.declared.statuses.Fault.{Fault}
 use Rattle.iso_session.specs.Progress.{Place, limit_of, Advances, GoesOn, Stops, Does, PutsLine, EndsQuery, IsCount}
 use Rattle.iso_session.specs.Read.{item_read, found}
 use Rattle.iso_session.proofs.WrittenLemmas.{begins_before}
-use Rattle.iso_session.proofs.ConsultLemmas.{counted_same}
+use Rattle.iso_session.proofs.ConsultLemmas.{counted_same, empty_by}
 use Rattle.iso_session.proofs.ProgressLemmas.{advance_none, advance_on, advance_piece, puts_on, puts_halt, breaks_after}
 
 -- a limit stopped the engine, and nothing was written
-stopped : (Stands : State → Type 0) (now : Phase) (names : List (List ℕ × ℕ)) (k : ℕ) (s : State) (next : World → Script) → Stands s
+stopped : (Stands : State → Type 0) (names : List (List ℕ × ℕ)) (k : ℕ) (s : State) (next : World → Script) → Stands s
     → StopsIn Stands (run_script names k (run_of s) next)
-stopped Stands now names k s next stands = record { at = s; stands = stands; stops = within_run names k next }
+stopped Stands names k s next stands = record { at = s; stands = stands; stops = within_run names k next }
 
 limit_ends : (Stands : State → Type 0) (now : Phase) (l : Limit) (old new : Place) (script : Script) (behind : World → Script) (r : Result Flow Fault)
     → r ≡ Ok (flow.Stops l) → new ≡ old → EngineStops Stands now (limit_of l) script → Does Stands now old new script behind r
@@ -64,11 +64,11 @@ query_ends Stands now old new names k s (pause.Halt n) next r p e answer output 
     let whole = ap (λ z. run_script names k z next) (finishes_run p.0) in
     rw whole (puts_halt Stands now old new (halt_line n) n next r e p.1)
 query_ends Stands now old new names k s pause.HeapFull next r p e answer output =
-    limit_ends Stands now limit.Heap old new (run_script names k (run_of s) next) next r e.0 e.1 (stopped Stands now names k s next p.0)
+    limit_ends Stands now limit.Heap old new (run_script names k (run_of s) next) next r e.0 e.1 (stopped Stands names k s next p.0)
 query_ends Stands now old new names k s pause.FramesFull next r p e answer output =
-    limit_ends Stands now limit.Frames old new (run_script names k (run_of s) next) next r e.0 e.1 (stopped Stands now names k s next p.0)
+    limit_ends Stands now limit.Frames old new (run_script names k (run_of s) next) next r e.0 e.1 (stopped Stands names k s next p.0)
 query_ends Stands now old new names k s pause.NoMemory next r p e answer output =
-    limit_ends Stands now limit.Memory old new (run_script names k (run_of s) next) next r e.0 e.1 (λ spent. stopped Stands now names k s next p.0)
+    limit_ends Stands now limit.Memory old new (run_script names k (run_of s) next) next r e.0 e.1 (λ spent. stopped Stands names k s next p.0)
 query_ends Stands now old new names k s pause.Spent next r p e answer output = absurd p
 
 -- How far a run has come: the state, how many answers it gave, and where its script is.
@@ -183,9 +183,77 @@ module _ {Later : State → Type 0} {count : ℕ} {names : List (List ℕ × ℕ
   }
 
 -- a query was not started
-pub start_refused : (Stands : State → Type 0) (now : Phase) (old : Place) (query : Clause) (budget : ℕ) (s : State) (next : World → Script) → Stands s
+pub start_refused : (Stands : State → Type 0) (query : Clause) (budget : ℕ) (s : State) (next : World → Script) → Stands s
     → StopsIn Stands (query_script budget (Readable query) s.world next)
-start_refused Stands now old query budget s next stands = record { at = s; stands = stands; stops = before_run query budget next }
+start_refused Stands query budget s next stands = record { at = s; stands = stands; stops = before_run query budget next }
 
 pub stops_before : (Stands : State → Type 0) (now : Phase) (l : session.Limit) (old : Place) (script : Script) → EngineStops Stands now l script → Stops Stands now l old old script
 stops_before Stands now l old script stops = record { rest = script; advances = advance_none old script; stops = stops }
+
+-- How far the queries were run: what is left of them, and where their script is.
+pub record QueriesPlace (Stands : State → Type 0) (budget : ℕ) (ts : List Shown) (old new : Place) (script : Script) : Type 0 where
+  pub at : State
+  pub stands : Stands at
+  pub turns : ℕ
+  pub enough : length ts ≤ turns
+  pub advances : Advances old new script (queries_script turns budget ts at.world)
+
+pub queries_begin : (Stands : State → Type 0) (s : State) (budget : ℕ) (ts : List Shown) (old : Place) → Stands s
+    → QueriesPlace Stands budget ts old old (queries_script (length ts) budget ts s.world)
+queries_begin Stands s budget ts old stands = record {
+  at = s;
+  stands = stands;
+  turns = length ts;
+  enough = omega arith;
+  advances = advance_none old (queries_script (length ts) budget ts s.world);
+}
+
+queries_over : (turns budget : ℕ) (w : World) → queries_script turns budget [] w ≡ Closes Done
+unfolding queries_script
+queries_over zero budget w = refl
+queries_over (suc turns) budget w = refl
+
+-- no query is left
+pub queries_end : (Stands : State → Type 0) (now : Phase) (budget : ℕ) (ts : List Shown) (old new : Place) (script : Script)
+    → QueriesPlace Stands budget ts old new script → now ≡ Ready → next_item operators ts ≡ None → GoesOn Stands now old new script (λ _. Closes Done)
+queries_end Stands now budget ts old new script p ready none =
+    let over = ap (λ z. queries_script p.turns budget z p.at.world) (empty_by ts none) ∙ queries_over p.turns budget p.at.world in
+    record { at = p.at; stands = p.stands; ready = ready; advances = subst (λ z. Advances old new script z) over p.advances }
+
+query_turn : (turns budget : ℕ) (ts : List Shown) (x : Taken) (w : World) → next_item operators ts ≡ Some x
+    → queries_script (suc turns) budget ts w ≡ query_script budget x.item w (queries_script turns budget x.behind)
+unfolding queries_script
+query_turn turns budget ts x w h = ap (λ o. queries_by budget w o (queries_script turns budget)) h
+
+-- the next query, and the script behind it
+pub record QueryTurn (Stands : State → Type 0) (budget : ℕ) (i : Item) (behind : List Shown) (old mid : Place) (script : Script) : Type 0 where
+  pub at : State
+  pub stands : Stands at
+  pub turns : ℕ
+  pub enough : length behind ≤ turns
+  pub advances : Advances old mid script (query_script budget i at.world (queries_script turns budget behind))
+
+queries_turn : (Stands : State → Type 0) (budget : ℕ) (ts : List Shown) (x : Taken) (old mid : Place) (script : Script)
+    → QueriesPlace Stands budget ts old mid script → next_item operators ts ≡ Some x → length x.behind < length ts → QueryTurn Stands budget x.item x.behind old mid script
+queries_turn Stands budget ts x old mid script p item shorter =
+    let some = p.turns - 1 in
+    let turn : p.turns ≡ suc some = omega (arith, p.enough, shorter) in
+    let whole = ap (λ n. queries_script n budget ts p.at.world) turn ∙ query_turn some budget ts x p.at.world item in
+    record { at = p.at; stands = p.stands; turns = some; enough = omega (arith, p.enough, shorter); advances = subst (λ z. Advances old mid script z) whole p.advances }
+
+-- the turn of the query that was found
+pub query_found : (Stands : State → Type 0) (budget : ℕ) (ts behind : List Shown) (o : Option RustItem) (i : RustItem) (old mid : Place) (script : Script)
+    → QueriesPlace Stands budget ts old mid script → next_item operators ts ≡ found o behind → o ≡ Some i → IfSome o (λ _. length behind < length ts)
+    → QueryTurn Stands budget (item_read i) behind old mid script
+query_found Stands budget ts behind o i old mid script p item some shorter =
+    let here = rw some at item in
+    let less = rw some at shorter in
+    queries_turn Stands budget ts (record { item = item_read i; behind = behind }) old mid script p here less
+
+-- the query was run, and the session goes on
+pub query_goes : (Stands Later : State → Type 0) (now : Phase) (budget : ℕ) (i : Item) (behind : List Shown) (old mid new : Place) (script : Script)
+    → (t : QueryTurn Stands budget i behind old mid script)
+    → GoesOn Later now mid new (query_script budget i t.at.world (queries_script t.turns budget behind)) (queries_script t.turns budget behind)
+    → (now ≡ Ready) × QueriesPlace Later budget behind old new script
+query_goes Stands Later now budget i behind old mid new script t g =
+    (g.ready, record { at = g.at; stands = g.stands; turns = t.turns; enough = t.enough; advances = advance_on t.advances g.advances })

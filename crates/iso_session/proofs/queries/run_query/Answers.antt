@@ -12,8 +12,8 @@ returns-in-Ok g c = λ s stands next.
 
 pub returns-in-Err-HeapFull : goal.returns-in-Err-HeapFull
 returns-in-Err-HeapFull g c = λ s stands next.
-    stops_before _ _ Heap _ _ (start_refused _ (g.E.Engine.phase c.start.new.self) (g.W.Write.contents c.args.out.now, c.args.within_line.now) (clause_read c.args.read.now) c.args.budget s next (c.in-Err-HeapFull.ensures.starts s stands).0)
+    stops_before _ _ Heap _ _ (start_refused _ (clause_read c.args.read.now) c.args.budget s next (c.in-Err-HeapFull.ensures.starts s stands).0)
 
 pub returns-in-Err-NoMemory : goal.returns-in-Err-NoMemory
 returns-in-Err-NoMemory g c = λ s stands next.
-    stops_before _ _ Memory _ _ (λ spent. start_refused _ (g.E.Engine.phase c.start.new.self) (g.W.Write.contents c.args.out.now, c.args.within_line.now) (clause_read c.args.read.now) c.args.budget s next (c.in-Err-NoMemory.ensures.starts s stands).0)
+    stops_before _ _ Memory _ _ (λ spent. start_refused _ (clause_read c.args.read.now) c.args.budget s next (c.in-Err-NoMemory.ensures.starts s stands).0)
