@@ -124,15 +124,18 @@ pub text_goes : (Stands Later : State → Type 0) (now : Phase) (count : ℕ) (i
     → (t : TextTurn Stands count i behind old mid script next)
     → GoesOn Later now mid new (term_script t.k i t.at.world (λ v. text_script t.turns (t.k + 1) behind v next)) (λ v. text_script t.turns (t.k + 1) behind v next)
     → (now ≡ Ready) × TextPlace Later count behind old new script next
-text_goes Stands Later now count i behind old mid new script next t g = (g.ready, record {
-  at = g.at;
-  stands = g.stands;
-  done = t.k;
-  turns = t.turns;
-  counts = t.counts;
-  enough = t.enough;
-  advances = advance_on t.advances g.advances;
-})
+text_goes Stands Later now count i behind old mid new script next t g = (
+  g.ready,
+  record {
+    at = g.at;
+    stands = g.stands;
+    done = t.k;
+    turns = t.turns;
+    counts = t.counts;
+    enough = t.enough;
+    advances = advance_on t.advances g.advances;
+  },
+)
 
 nothing_by : (o : Option RustItem) (later : List Shown) → ((x : RustItem) → o ≡ Some x → ⊥) → found o later ≡ None
 nothing_by None later none = refl

@@ -5,3 +5,4 @@ pub mod SolutionLemmas
 pub mod ProgressLemmas
 pub mod ConsultLemmas
 pub mod QueryLemmas
+pub mod EndLemmas

@@ -113,7 +113,7 @@ pub output_breaks : {Later : State → Type 0} {count : ℕ} {names : List (List
 output_breaks {names = names} {bytes = bytes} {old = old} {mid = mid} {script = script} {next = next} Stands now new behind r t failed b =
     let rest = run_script names (t.done + 1) (run_of t.at) next in
     breaks_after Stands now old mid new script (Shows (Output bytes) rest) behind r t.advances failed
-        (begins_before mid.0 new.0 bytes (script_bytes (ends_within mid.1 bytes) rest) b)
+    (begins_before mid.0 new.0 bytes (script_bytes (ends_within mid.1 bytes) rest) b)
 
 pub output_goes : {Later : State → Type 0} {count : ℕ} {names : List (List ℕ × ℕ)} {bytes : List ℕ} {old mid : Place} {script : Script} {next : World → Script}
     → (new : Place) → OutputTurn Later count names bytes old mid script next → Appends mid.0 new.0 bytes → new.1 ≡ ends_within mid.1 bytes
@@ -170,7 +170,7 @@ module _ {Later : State → Type 0} {count : ℕ} {names : List (List ℕ × ℕ
   answer_breaks now new r t failed b =
       let line = subst (λ z. Begins mid.0 new.0 (piece_bytes mid.1 (Line z))) (answer_same count t.k names values t.counts) b in
       breaks_after Later now old mid new script (Shows (Line (answer_line t.k names values)) (rest_of t)) next r t.advances failed
-          (begins_before mid.0 new.0 (piece_bytes mid.1 (Line (answer_line t.k names values))) (script_bytes false (rest_of t)) line)
+      (begins_before mid.0 new.0 (piece_bytes mid.1 (Line (answer_line t.k names values))) (script_bytes false (rest_of t)) line)
 
   pub answer_goes : (now : Phase) (new : Place) (t : AnswerTurn Later count names values old mid script next) → AnswerDoes now new t (Ok flow.On)
       → RunPlace Later count names old new script next

@@ -33,8 +33,8 @@ fn consult_term<E: Engine, W: Write>(
     requires fits { arities_fit (term_of term.now) ≡ true }
     ensures { (s : State) → E.stands_for engine.old s → (k : ℕ) → IsCount count k → (next : World → Script)
         → Does (E.stands_for engine.new) (E.phase engine.new)
-            (W.contents out.old, within_line.old) (W.contents out.new, within_line.new)
-            (added_script k (addition (term_of term.now) s.world.database) s.world next) next result }
+        (W.contents out.old, within_line.old) (W.contents out.new, within_line.new)
+        (added_script k (addition (term_of term.now) s.world.database) s.world next) next result }
 {
     match engine.consult(term) {
         Ok(()) => Ok(Flow::On),
@@ -60,8 +60,8 @@ fn consult_item<E: Engine, W: Write>(
     requires fits { Fits item }
     ensures { (s : State) → E.stands_for engine.old s → (k : ℕ) → IsCount count k → (next : World → Script)
         → Does (E.stands_for engine.new) (E.phase engine.new)
-            (W.contents out.old, within_line.old) (W.contents out.new, within_line.new)
-            (term_script k (item_read item) s.world next) next result }
+        (W.contents out.old, within_line.old) (W.contents out.new, within_line.new)
+        (term_script k (item_read item) s.world next) next result }
 {
     match item {
         Item::Readable(read) => consult_term(alloc, engine, count, &read.term, out, within_line),
@@ -84,8 +84,8 @@ pub fn consult_text<E: Engine, W: Write>(
     requires stands { (s : State) × E.stands_for engine.old s }
     ensures { (s : State) → E.stands_for engine.old s → (next : World → Script)
         → Does (E.stands_for engine.new) (E.phase engine.new)
-            (W.contents out.old, within_line.old) (W.contents out.new, within_line.new)
-            (text_script (length (tokens text.now)) 1 (tokens text.now) s.world next) next result }
+        (W.contents out.old, within_line.old) (W.contents out.new, within_line.new)
+        (text_script (length (tokens text.now)) 1 (tokens text.now) s.world next) next result }
 {
     let mut tokens = Tokens::new(text);
     let mut count: u64 = 0;

@@ -64,8 +64,8 @@ fn run_pauses<E: Engine, W: Write>(
     requires stands { (s : State) × E.stands_for engine.old s }
     ensures { (s : State) → E.stands_for engine.old s → (next : World → Script)
         → Does (E.stands_for engine.new) (E.phase engine.new)
-            (W.contents out.old, within_line.old) (W.contents out.new, within_line.new)
-            (run_script (names_of names.now) 1 (run_of s) next) next result }
+        (W.contents out.old, within_line.old) (W.contents out.new, within_line.new)
+        (run_script (names_of names.now) 1 (run_of s) next) next result }
 {
     let mut count: u64 = 0;
     loop {
@@ -98,8 +98,8 @@ fn run_query<E: Engine, W: Write>(
     requires fits { arities_fit (term_of read.now.term) ≡ true }
     ensures { (s : State) → E.stands_for engine.old s → (next : World → Script)
         → Does (E.stands_for engine.new) (E.phase engine.new)
-            (W.contents out.old, within_line.old) (W.contents out.new, within_line.new)
-            (query_script budget (Readable (clause_read read.now)) s.world next) next result }
+        (W.contents out.old, within_line.old) (W.contents out.new, within_line.new)
+        (query_script budget (Readable (clause_read read.now)) s.world next) next result }
 {
     match engine.start(&read.term, budget) {
         Ok(()) => run_pauses(alloc, engine, read.names.as_slice(), out, within_line),
@@ -122,8 +122,8 @@ fn run_item<E: Engine, W: Write>(
     requires fits { Fits item }
     ensures { (s : State) → E.stands_for engine.old s → (next : World → Script)
         → Does (E.stands_for engine.new) (E.phase engine.new)
-            (W.contents out.old, within_line.old) (W.contents out.new, within_line.new)
-            (query_script budget (item_read item) s.world next) next result }
+        (W.contents out.old, within_line.old) (W.contents out.new, within_line.new)
+        (query_script budget (item_read item) s.world next) next result }
 {
     match item {
         Item::Readable(read) => run_query(alloc, engine, &read, budget, out, within_line),
@@ -144,8 +144,8 @@ pub fn run_queries<E: Engine, W: Write>(
     requires stands { (s : State) × E.stands_for engine.old s }
     ensures { (s : State) → E.stands_for engine.old s
         → Does (E.stands_for engine.new) (E.phase engine.new)
-            (W.contents out.old, within_line.old) (W.contents out.new, within_line.new)
-            (queries_script (length (tokens queries.now)) budget (tokens queries.now) s.world) (λ _. Closes Done) result }
+        (W.contents out.old, within_line.old) (W.contents out.new, within_line.new)
+        (queries_script (length (tokens queries.now)) budget (tokens queries.now) s.world) (λ _. Closes Done) result }
 {
     let mut tokens = Tokens::new(queries);
     loop {

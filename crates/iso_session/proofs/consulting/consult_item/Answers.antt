@@ -9,4 +9,4 @@ returns-in-Readable g c = λ s stands k counts next.
 pub returns-in-Unreadable : goal.returns-in-Unreadable
 returns-in-Unreadable g c = λ s stands k counts next.
     rw c.in-Unreadable.is (unreadable _ _ _ _ c.args.count k s next c.put_line.result stands c.requires.ready counts
-        (c.put_line.ensures (syntax_error_line c.args.count) c.syntax_error_line-line.ensures))
+    (c.put_line.ensures (syntax_error_line c.args.count) c.syntax_error_line-line.ensures))

@@ -13,7 +13,7 @@ invariant-loop-next g l = record {
   stands : (t : State) × g.E.Engine.stands_for l.engine t;
   place : (s : State) → g.E.Engine.stands_for l.fn.engine s → (next : World → Script)
       → TextPlace (g.E.Engine.stands_for l.engine) l.count l.tokens (g.W.Write.contents l.fn.out, l.fn.within_line) (g.W.Write.contents l.out, l.within_line)
-          (text_script (length (tokens l.text)) 1 (tokens l.text) s.world next) next;
+      (text_script (length (tokens l.text)) 1 (tokens l.text) s.world next) next;
 }
 
 abbrev pub decreases-loop-next : goal.decreases-loop-next

@@ -14,7 +14,7 @@ invariant-loop-bytes g l = record {
   stands : (t : State) × g.E.Engine.stands_for l.engine t;
   place : (s : State) → g.E.Engine.stands_for l.fn.engine s → (next : World → Script)
       → RunPlace (g.E.Engine.stands_for l.engine) l.count (names_of l.names) (g.W.Write.contents l.fn.out, l.fn.within_line) (g.W.Write.contents l.out, l.within_line)
-          (run_script (names_of l.names) 1 (run_of s) next) next;
+      (run_script (names_of l.names) 1 (run_of s) next) next;
 }
 
 abbrev pub decreases-loop-bytes : goal.decreases-loop-bytes

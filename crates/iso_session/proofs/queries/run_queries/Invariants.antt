@@ -13,7 +13,7 @@ invariant-loop-next g l = record {
   stands : (t : State) × g.E.Engine.stands_for l.engine t;
   place : (s : State) → g.E.Engine.stands_for l.fn.engine s
       → QueriesPlace (g.E.Engine.stands_for l.engine) l.budget l.tokens (g.W.Write.contents l.fn.out, l.fn.within_line) (g.W.Write.contents l.out, l.within_line)
-          (queries_script (length (tokens l.queries)) l.budget (tokens l.queries) s.world);
+      (queries_script (length (tokens l.queries)) l.budget (tokens l.queries) s.world);
 }
 
 abbrev pub decreases-loop-next : goal.decreases-loop-next
