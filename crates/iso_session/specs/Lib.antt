@@ -2,3 +2,4 @@ pub mod Places
 pub mod Named
 pub mod Read
 pub mod Progress
+pub mod Statuses
