@@ -6,3 +6,4 @@ pub mod ProgressLemmas
 pub mod ConsultLemmas
 pub mod QueryLemmas
 pub mod EndLemmas
+pub mod WordsLemmas

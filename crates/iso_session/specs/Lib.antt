@@ -3,3 +3,4 @@ pub mod Named
 pub mod Read
 pub mod Progress
 pub mod Statuses
+pub mod Words
