@@ -1,0 +1,6 @@
+pub mod Places
+pub mod Named
+pub mod Read
+pub mod Progress
+pub mod Statuses
+pub mod Words

@@ -1,38 +1,58 @@
 //! The lines of a session; each is composed whole, with its newline, before any of it is written (own).
+ghost use Rattle.std.specs.Prelude.{◌≡◌, ℕ, List, [], ◌∷◌, ◌++◌, codes, map, IfOk, OnOk};
+ghost use Rattle.iso_model.specs.Terms.{term_of};
+ghost use Rattle.iso_model.specs.Lines as lines;
+ghost use Rattle.iso_model.specs.Texts.{text_in};
+ghost use Rattle.iso_model.specs.Variables.{distinct_from};
+ghost use Rattle.iso_session.specs.Named.{names_of};
+ghost use Rattle.iso_session.specs.Places.{Extends};
+
+use super::names::append_name;
 use super::texts::append_term;
 use iso_model::Term;
 use std::alloc::{AllocError, Global};
-use std::fmt::Write;
 
 /// `syntax error in clause K`
-pub fn syntax_error_line(alloc: Global, clause: u64) -> Result<String, AllocError> {
-    format!(in alloc; "syntax error in clause {clause}\n")
+pub fn syntax_error_line(alloc: Global, clause: u64) -> Result<Vec<u8>, AllocError>
+    ensures { IfOk result (λ line. line.items ≡ lines.syntax_error_line clause ++ 10 ∷ []) }
+{
+    Ok(format!(in alloc; "syntax error in clause {clause}\n")?.into_bytes())
 }
 
 /// `clause K refused: E`
-pub fn refused_line(alloc: Global, clause: u64, error: &Term) -> Result<String, AllocError> {
-    let mut line = format!(in alloc; "clause {clause} refused: ")?;
+pub fn refused_line(alloc: Global, clause: u64, error: &Term) -> Result<Vec<u8>, AllocError>
+    ensures { IfOk result (λ line. line.items ≡ lines.refused_line clause (term_of error.now) ++ 10 ∷ []) }
+{
+    let mut line = format!(in alloc; "clause {clause} refused: ")?.into_bytes();
     finish_with_term(alloc, &mut line, error)?;
     Ok(line)
 }
 
 /// `end: error BALL`
-pub fn error_line(alloc: Global, ball: &Term) -> Result<String, AllocError> {
-    let mut line = String::from_str(alloc, "end: error ")?;
+pub fn error_line(alloc: Global, ball: &Term) -> Result<Vec<u8>, AllocError>
+    ensures { IfOk result (λ line. line.items ≡ lines.error_line (term_of ball.now) ++ 10 ∷ []) }
+{
+    let mut line = Vec::new(alloc);
+    line.extend_from_slice(b"end: error ")?;
     finish_with_term(alloc, &mut line, ball)?;
     Ok(line)
 }
 
 /// `end: halt N`
-pub fn halt_line(alloc: Global, status: u8) -> Result<String, AllocError> {
-    format!(in alloc; "end: halt {status}\n")
+pub fn halt_line(alloc: Global, status: u8) -> Result<Vec<u8>, AllocError>
+    ensures { IfOk result (λ line. line.items ≡ lines.halt_line status ++ 10 ∷ []) }
+{
+    Ok(format!(in alloc; "end: halt {status}\n")?.into_bytes())
 }
 
 /// Appends the line's only term and its newline.
-fn finish_with_term(alloc: Global, line: &mut String, term: &Term) -> Result<(), AllocError> {
+fn finish_with_term(alloc: Global, line: &mut Vec<u8>, term: &Term) -> Result<(), AllocError>
+    ensures { OnOk result (line.new.items ≡ line.old.items ++ (lines.text_of (term_of term.now) ++ 10 ∷ [])) }
+{
     let mut seen = Vec::new(alloc);
-    append_term(line, term, &mut seen)?;
-    line.push('\n')
+    append_term(alloc, line, term, &mut seen)?;
+    line.push(b'\n')?;
+    Ok(())
 }
 
 /// `answer K: X = t, Y = u` with the value of each of these variables, or `answer K: true` where there is none.
@@ -41,34 +61,59 @@ pub fn answer_line(
     answer: u64,
     names: &[(String, u64)],
     values: &[Term],
-) -> Result<String, AllocError> {
-    let mut line = format!(in alloc; "answer {answer}:")?;
-    if names.is_empty() {
-        line.push_str(" true")?;
-    }
-    let mut seen = Vec::new(alloc);
-    let mut before = " ";
-    for (name, number) in names {
-        line.push_str(before)?;
-        append_equation(&mut line, name.as_str(), *number, values, &mut seen)?;
-        before = ", ";
-    }
-    line.push('\n')?;
+) -> Result<Vec<u8>, AllocError>
+    ensures { IfOk result (λ line.
+        line.items ≡ lines.answer_line answer (names_of names.now) (map term_of values.now) ++ 10 ∷ []) }
+{
+    let mut line = format!(in alloc; "answer {answer}:")?.into_bytes();
+    append_solution(alloc, &mut line, names, values)?;
+    line.push(b'\n')?;
     Ok(line)
 }
 
-/// Appends `X = t`.
+/// Appends the values of these variables as equations, or `true` where there is none.
+fn append_solution(
+    alloc: Global,
+    line: &mut Vec<u8>,
+    names: &[(String, u64)],
+    values: &[Term],
+) -> Result<(), AllocError>
+    ensures { OnOk result (line.new.items
+        ≡ line.old.items ++ lines.solution_text (names_of names.now) (map term_of values.now)) }
+{
+    if names.is_empty() {
+        return line.extend_from_slice(b" true");
+    }
+    let mut seen = Vec::new(alloc);
+    let mut before: &[u8] = b" ";
+    for (name, number) in names {
+        line.extend_from_slice(before)?;
+        append_equation(alloc, line, name.as_str(), *number, values, &mut seen)?;
+        before = b", ";
+    }
+    Ok(())
+}
+
+/// Appends `X = t`, with the value of the variable of this number.
 fn append_equation(
-    line: &mut String,
+    alloc: Global,
+    line: &mut Vec<u8>,
     name: &str,
     number: u64,
     values: &[Term],
     seen: &mut Vec<u64>,
-) -> Result<(), AllocError> {
-    line.push_str(name)?;
-    line.push_str(" = ")?;
+) -> Result<(), AllocError>
+    ensures seen { OnOk result (seen.new.items
+        ≡ distinct_from seen.old.items (lines.value_at (map term_of values.now) number)) }
+    ensures text { OnOk result ((all : List ℕ) → Extends all seen.new.items
+        → line.new.items ≡ line.old.items
+        ++ (name.now ++ (codes " = " ++ text_in all (lines.value_at (map term_of values.now) number)))) }
+{
+    line.extend_from_slice(name.as_bytes())?;
+    line.extend_from_slice(b" = ")?;
     match values.get(number as usize) {
-        Some(value) => append_term(line, value, seen),
-        None => Ok(()),
+        Some(value) => append_term(alloc, line, value, seen),
+        // No answer lacks a value.
+        None => append_name(alloc, line, ""),
     }
 }

@@ -1,4 +1,8 @@
 //! The program's reading of a file or of standard input, whole.
+ghost use Rattle.std.specs.Prelude.{◌≡◌, IfOk, IfSome, MatchResult, string_bytes};
+ghost use Rattle.std.specs.Str.{IsUtf8};
+ghost use Rattle.iso_session.specs.declared.files.TextFault.TheVariants.{Unreadable};
+
 use std::alloc::Global;
 use std::io::Read;
 
@@ -15,7 +19,9 @@ pub enum TextFault {
 const PIECE: usize = 8192;
 
 /// The bytes that the reader has left, as text, in at most 4,294,967,295 reads.
-pub fn read_text<R: Read>(alloc: Global, reader: &mut R) -> Result<String, TextFault> {
+pub fn read_text<R: Read>(alloc: Global, reader: &mut R) -> Result<String, TextFault>
+    ensures { IfOk result (λ text. IfSome (R.remaining reader.old) (λ bytes. string_bytes text ≡ bytes)) }
+{
     let mut bytes = Vec::new(alloc);
     let mut piece = [0u8; PIECE];
     for _ in 0..u32::MAX {
@@ -32,8 +38,10 @@ pub fn read_text<R: Read>(alloc: Global, reader: &mut R) -> Result<String, TextF
     Err(TextFault::Unreadable)
 }
 
-/// The bytes as text.
-fn text_of(bytes: Vec<u8>) -> Result<String, TextFault> {
+/// The bytes as text. The error: they aren't UTF-8.
+fn text_of(bytes: Vec<u8>) -> Result<String, TextFault>
+    ensures { MatchResult result (λ text. string_bytes text ≡ bytes.items) (λ fault. (fault ≡ Unreadable) × ¬ IsUtf8 bytes.items) }
+{
     match String::from_utf8(bytes) {
         Ok(text) => Ok(text),
         Err(_) => Err(TextFault::Unreadable),

@@ -2,15 +2,22 @@
 //! Also the program's words, its reading and its statuses.
 #![tactic(auto)]
 
-pub mod composed;
-pub mod files;
-pub mod sessions;
-pub mod statuses;
-pub mod texts;
+mod bodies;
+mod composed;
+mod consulting;
+mod files;
+mod flows;
+mod items;
+mod names;
+mod places;
+mod queries;
+mod sessions;
+mod statuses;
+mod texts;
 pub mod words;
-pub mod written;
+mod written;
 
 pub use files::{TextFault, read_text};
-pub use sessions::{session, session_on};
+pub use sessions::session_on;
 pub use statuses::{Choice, Ended, Fault, status_of};
 pub use words::{Words, WordsFault, read_words};

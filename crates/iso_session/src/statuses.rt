@@ -1,4 +1,7 @@
 //! How a session ends, and the program's statuses.
+ghost use Rattle.std.specs.Prelude.{◌≡◌};
+ghost use Rattle.iso_session.specs.Statuses.{status};
+
 use thiserror::Error;
 
 /// The engine of a session.
@@ -32,7 +35,9 @@ pub enum Fault {
 }
 
 /// The program's status: 0 for `Done`, N for `Halt(N)`, 3 for the limits, 4 for an output that can't be written.
-pub fn status_of(outcome: &Result<Ended, Fault>) -> u8 {
+pub fn status_of(outcome: &Result<Ended, Fault>) -> u8
+    ensures { result ≡ status outcome.now }
+{
     match outcome {
         Ok(Ended::Done) => 0,
         Ok(Ended::Halt(status)) => *status,

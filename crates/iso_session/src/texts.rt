@@ -1,133 +1,114 @@
-//! The text of a term in the canonical style: functional notation, atoms in quotes where they need them
-//! (7.10.5, 8.14.2 with the options of `write_canonical/1`; layout and brackets are own).
+//! The text of a term in the canonical style: functional notation, lists, and atoms in quotes where they need them
+//! (ISO/IEC 13211-1:1995, 7.10.5 and 8.14.2; layout, and how variables are named, are own).
+ghost use Rattle.std.specs.Prelude.{◌≡◌, ℕ, List, ◌++◌, ◌&&◌, ◌==◌, length, OnOk, map, codes};
+ghost use Rattle.std.specs.Str.{bytes_eq};
+ghost use Rattle.iso_model.specs.Terms.{term_of, row_of};
+ghost use Rattle.iso_model.specs.Variables.{distinct_from};
+ghost use Rattle.iso_model.specs.Texts.{text_in, written};
+ghost use Rattle.iso_session.specs.Places.{Extends, arguments_text, is_empty_list};
+
+use super::names::append_name;
+use super::places::append_variable;
 use iso_model::Term;
-use std::alloc::AllocError;
-use std::fmt::Write;
-
-/// Whether the byte is one of the graphic characters (6.5.1).
-fn is_graphic(byte: u8) -> bool {
-    matches!(
-        byte,
-        b'#' | b'$' | b'&' | b'*' | b'+' | b'-' | b'.' | b'/' | b':' | b'<' | b'=' | b'>' | b'?' | b'@' | b'^' | b'~' | b'\\'
-    )
-}
-
-/// Whether the byte is a letter, a digit or an underscore (6.5.2).
-fn is_alphanumeric(byte: u8) -> bool {
-    byte.is_ascii_alphanumeric() || byte == b'_'
-}
-
-/// Whether an atom of this text is written without quotes (6.4.2).
-fn is_bare(text: &str) -> bool {
-    let bytes = text.as_bytes();
-    match bytes {
-        b"[]" | b"{}" | b"!" | b";" => true,
-        b"." => false,
-        [b'/', b'*', ..] => false,
-        [first, ..] if first.is_ascii_lowercase() => bytes.iter().all(|byte| is_alphanumeric(*byte)),
-        [_, ..] => bytes.iter().all(|byte| is_graphic(*byte)),
-        [] => false,
-    }
-}
-
-/// Appends a character of a quoted atom (6.4.2.1).
-fn append_quoted_character(line: &mut String, character: char) -> Result<(), AllocError> {
-    match character {
-        '\\' => line.push_str("\\\\"),
-        '\'' => line.push_str("\\'"),
-        '\u{7}' => line.push_str("\\a"),
-        '\u{8}' => line.push_str("\\b"),
-        '\t' => line.push_str("\\t"),
-        '\n' => line.push_str("\\n"),
-        '\u{b}' => line.push_str("\\v"),
-        '\u{c}' => line.push_str("\\f"),
-        '\r' => line.push_str("\\r"),
-        '\0'..='\u{1f}' | '\u{7f}' => write!(line, "\\x{:x}\\", u32::from(character)),
-        _ => line.push(character),
-    }
-}
-
-/// Appends an atom, or a compound's name.
-pub fn append_atom(line: &mut String, text: &str) -> Result<(), AllocError> {
-    if is_bare(text) {
-        return line.push_str(text);
-    }
-    line.push('\'')?;
-    for character in text.chars() {
-        append_quoted_character(line, character)?;
-    }
-    line.push('\'')
-}
-
-/// Appends `_k` for a variable: k is its place among those seen so far, from 1.
-fn append_variable(line: &mut String, number: u64, seen: &mut Vec<u64>) -> Result<(), AllocError> {
-    let place = match seen.iter().position(|known| *known == number) {
-        Some(place) => place,
-        None => {
-            seen.push(number)?;
-            seen.len() - 1
-        }
-    };
-    write!(line, "_{}", place + 1)
-}
+use std::alloc::{AllocError, Global};
 
 /// Whether the term is the empty list.
-fn is_nil(term: &Term) -> bool {
+fn is_nil(term: &Term) -> bool
+    ensures { result ≡ is_empty_list (term_of term.now) }
+{
     match term {
         Term::Atom(text) => text.as_str() == "[]",
         _ => false,
     }
 }
 
+/// Whether a compound of this name and these arguments is a list's cell (6.3.5).
+fn is_cell(name: &str, arguments: &[Term]) -> bool
+    ensures { result ≡ (bytes_eq name.now (codes ".") && length arguments.now == 2) }
+{
+    name == "." && arguments.len() == 2
+}
+
 /// Appends what stands behind a list's first element (6.3.5).
 #[cycle(append)]
-fn append_tail(line: &mut String, tail: &Term, seen: &mut Vec<u64>) -> Result<(), AllocError> {
+fn append_tail(
+    alloc: Global,
+    line: &mut Vec<u8>,
+    tail: &Term,
+    seen: &mut Vec<u64>,
+) -> Result<(), AllocError>
+    ensures seen { OnOk result (seen.new.items ≡ distinct_from seen.old.items (term_of tail.now)) }
+    ensures text { OnOk result ((all : List ℕ) → Extends all seen.new.items
+        → line.new.items ≡ line.old.items ++ (written all (term_of tail.now)).tail) }
+{
     if let Term::Compound(name, arguments) = tail {
-        if name.as_str() == "." {
-            if let [element, rest] = arguments.as_slice() {
-                line.push(',')?;
-                append_term(line, element, seen)?;
-                return append_tail(line, rest, seen);
-            }
+        let arguments = arguments.as_slice();
+        if is_cell(name.as_str(), arguments) {
+            line.push(b',')?;
+            append_term(alloc, line, &arguments[0], seen)?;
+            return append_tail(alloc, line, &arguments[1], seen);
         }
     }
-    if !is_nil(tail) {
-        line.push('|')?;
-        append_term(line, tail, seen)?;
+    if is_nil(tail) {
+        line.push(b']')?;
+        return Ok(());
     }
-    line.push(']')
+    line.push(b'|')?;
+    append_term(alloc, line, tail, seen)?;
+    line.push(b']')?;
+    Ok(())
 }
 
-/// Appends the arguments of a compound, in parentheses.
+/// Appends the arguments of a compound in brackets; nothing where there is none.
 #[cycle(append)]
-fn append_arguments(line: &mut String, arguments: &[Term], seen: &mut Vec<u64>) -> Result<(), AllocError> {
-    let mut before = '(';
+fn append_arguments(
+    alloc: Global,
+    line: &mut Vec<u8>,
+    arguments: &[Term],
+    seen: &mut Vec<u64>,
+) -> Result<(), AllocError>
+    ensures seen { OnOk result (seen.new.items ≡ distinct_from seen.old.items (row_of arguments.now)) }
+    ensures text { OnOk result ((all : List ℕ) → Extends all seen.new.items
+        → line.new.items ≡ line.old.items ++ arguments_text all (map term_of arguments.now)) }
+{
+    if arguments.is_empty() {
+        return Ok(());
+    }
+    let mut before = b'(';
     for argument in arguments {
         line.push(before)?;
-        append_term(line, argument, seen)?;
-        before = ',';
+        append_term(alloc, line, argument, seen)?;
+        before = b',';
     }
-    line.push(')')
+    line.push(b')')?;
+    Ok(())
 }
 
-/// Appends the term in the canonical style; a variable is `_k`, k its place among `seen`, which grows.
-/// The error is that memory was refused; what was appended by then is a beginning.
+/// Appends the term; a variable is `_k`, k its place among `seen`, which grows. The error is that memory was refused.
 #[cycle(append)]
-pub fn append_term(line: &mut String, term: &Term, seen: &mut Vec<u64>) -> Result<(), AllocError> {
+pub fn append_term(
+    alloc: Global,
+    line: &mut Vec<u8>,
+    term: &Term,
+    seen: &mut Vec<u64>,
+) -> Result<(), AllocError>
+    ensures seen { OnOk result (seen.new.items ≡ distinct_from seen.old.items (term_of term.now)) }
+    ensures text { OnOk result ((all : List ℕ) → Extends all seen.new.items
+        → line.new.items ≡ line.old.items ++ text_in all (term_of term.now)) }
+{
     match term {
-        Term::Var(number) => append_variable(line, *number, seen),
-        Term::Int(value) => write!(line, "{value}"),
-        Term::Atom(text) => append_atom(line, text.as_str()),
+        Term::Var(number) => append_variable(alloc, line, *number, seen),
+        Term::Int(value) => line.extend_from_slice(format!(in alloc; "{value}")?.as_bytes()),
+        Term::Atom(text) => append_name(alloc, line, text.as_str()),
         Term::Compound(name, arguments) => {
-            if name.as_str() == "." {
-                if let [element, tail] = arguments.as_slice() {
-                    line.push('[')?;
-                    append_term(line, element, seen)?;
-                    return append_tail(line, tail, seen);
-                }
+            let arguments = arguments.as_slice();
+            if is_cell(name.as_str(), arguments) {
+                line.push(b'[')?;
+                append_term(alloc, line, &arguments[0], seen)?;
+                return append_tail(alloc, line, &arguments[1], seen);
             }
-            append_atom(line, name.as_str())?;
-            append_arguments(line, arguments.as_slice(), seen)
+            append_name(alloc, line, name.as_str())?;
+            append_arguments(alloc, line, arguments, seen)
         }
     }
 }

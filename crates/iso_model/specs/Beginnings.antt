@@ -1,0 +1,86 @@
+-- What a session has written when it ends (own): all of its text, or a beginning of it where a limit or the writer ends it.
+use Rattle.std.specs.Prelude.{◌≡◌, ℕ, Bool, false, List, [], ◌∷◌, ◌++◌, Option, codes}
+use Rattle.std.specs.Io.KnownBytes.{Appends}
+use Rattle.iso_model.specs.Grammar.{Clause}
+use Rattle.iso_model.specs.Items.{Readable}
+use Rattle.iso_model.specs.Walker.{World, State}
+use Rattle.iso_model.specs.Engines.{Phase, Spent}
+use Rattle.iso_model.specs.RunLaws.{run_of}
+use Rattle.iso_model.specs.Sessions.{Piece, Line, Script, SessionEnd, prepend, pieces_bytes, script_bytes, script_end, run_script, query_script, session_script}
+
+-- a writer's bytes, where they are known, grew by a beginning of these
+pub record Begins (old new : Option (List ℕ)) (whole : List ℕ) : Type 0 where
+  pub front : List ℕ
+  pub back : List ℕ
+  pub is : front ++ back ≡ whole
+  pub bytes : Appends old new front
+
+-- what ends a session before its script does
+pub data Limit : Type 0 where
+  Heap : Limit
+  Frames : Limit
+  Memory : Limit
+
+-- the last line of a session that a limit ends
+abbrev pub limit_line : Limit → List ℕ
+limit_line Heap = codes "end: heap full"
+limit_line Frames = codes "end: frames full"
+limit_line Memory = codes "end: no memory"
+
+-- the bytes of a session that a limit ends behind these pieces; its line begins at the start of a line
+abbrev pub cut_text : List Piece → Limit → List ℕ
+cut_text gave limit = pieces_bytes false (gave ++ Line (limit_line limit) ∷ [])
+
+-- A limit ended the session behind some pieces of its script, of whose rest P holds.
+pub record IsCut (script : Script) (limit : Limit) (P : Script → Type 0) (old new : Option (List ℕ)) : Type 0 where
+  pub gave : List Piece
+  pub rest : Script
+  pub is : script ≡ prepend gave rest
+  pub bytes : Appends old new (cut_text gave limit)
+  pub stands : P rest
+
+-- what a session with this script writes where no write fails: all of its text, or a beginning and a limit's line
+pub data IsWritten (script : Script) : List ℕ → Type 0 where
+  whole : IsWritten script (script_bytes false script)
+  cut : (gave : List Piece) (rest : Script) → script ≡ prepend gave rest → (limit : Limit) → IsWritten script (cut_text gave limit)
+
+-- A failed write ended the session behind a beginning of what would else have been written.
+pub record IsBroken (script : Script) (old new : Option (List ℕ)) : Type 0 where
+  pub text : List ℕ
+  pub would : IsWritten script text
+  pub begins : Begins old new text
+
+-- how a session ends: as its script does, by a limit, or by a write that failed
+pub data Outcome : Type 0 where
+  Closed : (ending : SessionEnd) → Outcome
+  Limited : (limit : Limit) → Outcome
+  Broken : Outcome
+
+-- A session with this script ended so, and wrote this. Of the rest of a script that a limit ended, `Stops` holds.
+abbrev pub Writes : Script → (Limit → Script → Type 0) → Option (List ℕ) → Option (List ℕ) → Outcome → Type 0
+Writes script Stops old new (Closed ending) = Appends old new (script_bytes false script) × (ending ≡ script_end script)
+Writes script Stops old new (Limited limit) = IsCut script limit (Stops limit) old new
+Writes script Stops old new Broken = IsBroken script old new
+
+-- What the rest of a script begins with where an engine stopped in this state: the rest of the state's run, or a query that was not started.
+pub data StopsAt (s : State) : Script → Type 0 where
+  within_run : (names : List (List ℕ × ℕ)) (k : ℕ) (next : World → Script) → StopsAt s (run_script names k (run_of s) next)
+  before_run : (query : Clause) (budget : ℕ) (next : World → Script) → StopsAt s (query_script budget (Readable query) s.world next)
+
+-- the rest of a script begins where an engine stopped that stands for states of which P holds
+pub record StopsIn (P : State → Type 0) (rest : Script) : Type 0 where
+  pub at : State
+  pub stands : P at
+  pub stops : StopsAt at rest
+
+-- Heap and frames stop an engine; memory may also be refused to the session itself.
+abbrev pub EngineStops : (State → Type 0) → Phase → Limit → Script → Type 0
+EngineStops Stands now Heap rest = StopsIn Stands rest
+EngineStops Stands now Frames rest = StopsIn Stands rest
+EngineStops Stands now Memory rest = now ≡ Spent → StopsIn Stands rest
+
+-- For every program text, every list of queries and every budget, the bytes that a session writes are those of the standard's search, walked
+-- depth first and left to right: each output, answer and error, in order, with repetitions; a session that heap, frames or memory end has
+-- written a beginning of them and says which.
+abbrev pub SessionWrites : List ℕ → List ℕ → ℕ → (Limit → Script → Type 0) → Option (List ℕ) → Option (List ℕ) → Outcome → Type 0
+SessionWrites text queries budget Stops old new outcome = Writes (session_script text queries budget) Stops old new outcome

@@ -1,0 +1,91 @@
+-- How a session ends.
+use Rattle.std.proofs.Common.{◌≡◌, ℕ, Bool, false, List, [], ◌∷◌, ◌++◌, Option, Result, Ok, Err, IfOk, OnOk, OnErr, refl, sym, ap, subst, ◌∙◌, append-nil}
+use Rattle.std.specs.Io.KnownBytes.{Appends}
+use Rattle.std.specs.Result.{IsErr}
+use Rattle.iso_model.specs.Engines.{Phase}
+use Rattle.iso_model.specs.Walker.{World, State}
+use Rattle.iso_model.specs.Sessions.{Piece, Line, Script, Closes, Done, Halts, SessionEnd, prepend, piece_bytes, pieces_bytes, script_bytes, script_end}
+use Rattle.iso_model.specs.Beginnings as session
+use Rattle.iso_model.specs.Beginnings.{Begins, IsWritten, whole, cut, cut_text, limit_line, IsCut, IsBroken, Writes, EngineStops}
+use Rattle.iso_session.specs.declared.flows.Limit.{Limit}
+use Rattle.iso_session.specs.declared.flows.Limit.TheVariants as limit
+use Rattle.iso_session.specs.declared.flows.Flow.{Flow}
+use Rattle.iso_session.specs.declared.flows.Flow.TheVariants as flow
+use Rattle.iso_session.specs.declared.statuses.Ended.{Ended}
+use Rattle.iso_session.specs.declared.statuses.Ended.TheVariants as ended
+use Rattle.iso_session.specs.declared.statuses.Fault.{Fault}
+use Rattle.iso_session.specs.Progress.{Place, limit_of, outcome_of, within_after, Advances, Does, ended_of, closing_bytes}
+use Rattle.iso_session.proofs.WrittenLemmas.{appends_more, begins_behind}
+use Rattle.iso_session.proofs.ProgressLemmas.{pieces_bytes-append, script_bytes-prepend}
+
+script_end-prepend : (ps : List Piece) (s : Script) → script_end (prepend ps s) ≡ script_end s
+script_end-prepend [] s = refl
+script_end-prepend (p ∷ ps) s = script_end-prepend ps s
+
+-- all pieces of a script that is at its end
+whole_bytes : (within : Bool) (ps : List Piece) (ending : SessionEnd) (s : Script) → s ≡ prepend ps (Closes ending) → script_bytes within s ≡ pieces_bytes within ps
+whole_bytes within ps ending s is = ap (script_bytes within) is ∙ script_bytes-prepend within ps (Closes ending) ∙ append-nil (pieces_bytes within ps)
+
+-- the session wrote its text
+all_written : (old : Option (List ℕ)) (mid : Place) (new : Option (List ℕ)) (script : Script) (ending : SessionEnd)
+    → Advances (old, false) mid script (Closes ending) → Appends mid.0 new [] → Appends old new (script_bytes false script) × (ending ≡ script_end script)
+all_written old mid new script ending h none =
+    let bytes = appends_more old mid.0 new (pieces_bytes false h.gave) [] h.bytes none in
+    let same = whole_bytes false h.gave ending script h.is ∙ sym (append-nil (pieces_bytes false h.gave)) in
+    (rw same bytes, sym (ap script_end h.is ∙ script_end-prepend h.gave (Closes ending)))
+
+cut_bytes : (gave : List Piece) (l : session.Limit) → cut_text gave l ≡ pieces_bytes false gave ++ piece_bytes (within_after false gave) (Line (limit_line l))
+cut_bytes gave l =
+    pieces_bytes-append false gave (Line (limit_line l) ∷ [])
+    ∙ ap (λ z. pieces_bytes false gave ++ z) (append-nil (piece_bytes (within_after false gave) (Line (limit_line l))))
+
+-- a limit's line was written behind what was given
+cut_written : (old : Option (List ℕ)) (mid : Place) (new : Option (List ℕ)) (script rest : Script) (l : session.Limit)
+    → (h : Advances (old, false) mid script rest) → Appends mid.0 new (piece_bytes mid.1 (Line (limit_line l))) → Appends old new (cut_text h.gave l)
+cut_written old mid new script rest l h line =
+    let there = subst (λ w. Appends mid.0 new (piece_bytes w (Line (limit_line l)))) h.within line in
+    rw (cut_bytes h.gave l) (appends_more old mid.0 new (pieces_bytes false h.gave) (piece_bytes (within_after false h.gave) (Line (limit_line l))) h.bytes there)
+
+cut_begun : (old : Option (List ℕ)) (mid : Place) (new : Option (List ℕ)) (script rest : Script) (l : session.Limit)
+    → (h : Advances (old, false) mid script rest) → Begins mid.0 new (piece_bytes mid.1 (Line (limit_line l))) → IsBroken script old new
+cut_begun old mid new script rest l h line =
+    let there = subst (λ w. Begins mid.0 new (piece_bytes w (Line (limit_line l)))) h.within line in
+    record {
+      text = cut_text h.gave l;
+      would = cut h.gave rest h.is l;
+      begins = rw (cut_bytes h.gave l) (begins_behind old mid.0 new (pieces_bytes false h.gave) (piece_bytes (within_after false h.gave) (Line (limit_line l))) h.bytes there);
+    }
+
+pub all_broken : (old new : Option (List ℕ)) (script : Script) → Begins old new (script_bytes false script) → IsBroken script old new
+all_broken old new script b = record { text = script_bytes false script; would = whole; begins = b }
+
+all_begun : (old : Option (List ℕ)) (mid : Place) (new : Option (List ℕ)) (script : Script) (ending : SessionEnd)
+    → Advances (old, false) mid script (Closes ending) → Begins mid.0 new [] → IsBroken script old new
+all_begun old mid new script ending h none =
+    let same = whole_bytes false h.gave ending script h.is ∙ sym (append-nil (pieces_bytes false h.gave)) in
+    all_broken old new script (rw same (begins_behind old mid.0 new (pieces_bytes false h.gave) [] h.bytes none))
+
+-- the session was closed behind its last part
+pub closes : (Stands : State → Type 0) (now : Phase) (old : Option (List ℕ)) (mid : Place) (new : Option (List ℕ)) (script : Script) (f : Flow) (r : Result Ended Fault)
+    → Does Stands now (old, false) mid script (λ _. Closes Done) (Ok f) → IfOk r (λ e. e ≡ ended_of f)
+    → OnOk r (Appends mid.0 new (closing_bytes mid.1 f)) → OnErr r (Begins mid.0 new (closing_bytes mid.1 f))
+    → Writes script (EngineStops Stands now) old new (outcome_of r)
+closes Stands now old mid new script flow.On (Ok e) d is ok err = rw is (all_written old mid new script Done d.advances ok)
+closes Stands now old mid new script (flow.Halts n) (Ok e) d is ok err = rw is (all_written old mid new script (Halts n) d ok)
+closes Stands now old mid new script (flow.Stops limit.Heap) (Ok e) d is ok err =
+    rw is (record { gave = d.advances.gave; rest = d.rest; is = d.advances.is; bytes = cut_written old mid new script d.rest session.Heap d.advances ok; stands = d.stops })
+closes Stands now old mid new script (flow.Stops limit.Frames) (Ok e) d is ok err =
+    rw is (record { gave = d.advances.gave; rest = d.rest; is = d.advances.is; bytes = cut_written old mid new script d.rest session.Frames d.advances ok; stands = d.stops })
+closes Stands now old mid new script (flow.Stops limit.Memory) (Ok e) d is ok err =
+    rw is (record { gave = d.advances.gave; rest = d.rest; is = d.advances.is; bytes = cut_written old mid new script d.rest session.Memory d.advances ok; stands = d.stops })
+closes Stands now old mid new script flow.On (Err e) d is ok err = all_begun old mid new script Done d.advances err
+closes Stands now old mid new script (flow.Halts n) (Err e) d is ok err = all_begun old mid new script (Halts n) d err
+closes Stands now old mid new script (flow.Stops limit.Heap) (Err e) d is ok err = cut_begun old mid new script d.rest session.Heap d.advances err
+closes Stands now old mid new script (flow.Stops limit.Frames) (Err e) d is ok err = cut_begun old mid new script d.rest session.Frames d.advances err
+closes Stands now old mid new script (flow.Stops limit.Memory) (Err e) d is ok err = cut_begun old mid new script d.rest session.Memory d.advances err
+
+-- a write failed before the session was closed
+pub breaks : (Stands : State → Type 0) (now : Phase) (old new : Option (List ℕ)) (script : Script) (r : Result Ended Fault)
+    → IsErr r → Begins old new (script_bytes false script) → Writes script (EngineStops Stands now) old new (outcome_of r)
+breaks Stands now old new script (Ok e) failed b = cc
+breaks Stands now old new script (Err e) failed b = all_broken old new script b

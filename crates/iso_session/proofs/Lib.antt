@@ -1,0 +1,9 @@
+pub mod WrittenLemmas
+pub mod PlaceLemmas
+pub mod TextLemmas
+pub mod SolutionLemmas
+pub mod ProgressLemmas
+pub mod ConsultLemmas
+pub mod QueryLemmas
+pub mod EndLemmas
+pub mod WordsLemmas

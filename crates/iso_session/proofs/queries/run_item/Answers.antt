@@ -1,0 +1,10 @@
+use Rattle.std.proofs.Common.{codes, refl}
+use Rattle.iso_session.proofs.ProgressLemmas.{puts_on}
+use Rattle.iso_session.proofs.queries.run_item.Goals as goal
+
+pub returns-in-Readable : goal.returns-in-Readable
+returns-in-Readable g c = λ s stands next. rw c.in-Readable.is (c.run_query.ensures s stands next)
+
+pub returns-in-Unreadable : goal.returns-in-Unreadable
+returns-in-Unreadable g c = λ s stands next.
+    rw c.in-Unreadable.is (puts_on _ _ _ _ (codes "end: syntax error") s next c.put_fixed.result (c.put_fixed.ensures (codes "end: syntax error") refl) stands c.requires.ready)

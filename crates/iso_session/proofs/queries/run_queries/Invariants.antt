@@ -1,0 +1,20 @@
+-- The script is left where the queries are, and the engine stands for what they are run over.
+use Rattle.std.proofs.Common.{◌≡◌, length}
+use Rattle.iso_model.specs.Engines.{Ready}
+use Rattle.iso_model.specs.Sessions.{queries_script}
+use Rattle.iso_model.specs.Tokens.{tokens}
+use Rattle.iso_model.specs.Walker.{State}
+use Rattle.iso_session.proofs.QueryLemmas.{QueriesPlace}
+use Rattle.iso_session.proofs.queries.run_queries.Given as goal
+
+abbrev pub invariant-loop-next : goal.invariant-loop-next
+invariant-loop-next g l = record {
+  ready : g.E.Engine.phase l.engine ≡ Ready;
+  stands : (t : State) × g.E.Engine.stands_for l.engine t;
+  place : (s : State) → g.E.Engine.stands_for l.fn.engine s
+      → QueriesPlace (g.E.Engine.stands_for l.engine) l.budget l.tokens (g.W.Write.contents l.fn.out, l.fn.within_line) (g.W.Write.contents l.out, l.within_line)
+      (queries_script (length (tokens l.queries)) l.budget (tokens l.queries) s.world);
+}
+
+abbrev pub decreases-loop-next : goal.decreases-loop-next
+decreases-loop-next g l = length l.tokens

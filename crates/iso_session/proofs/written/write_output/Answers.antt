@@ -1,0 +1,8 @@
+use Rattle.std.proofs.Common.{sym, ap, ◌∙◌}
+use Rattle.std.specs.Option.{option_copied}
+use Rattle.iso_session.proofs.WrittenLemmas.{ends_within-last}
+use Rattle.iso_session.proofs.written.write_output.Goals as goal
+
+pub returns-in-Some-clause-within : goal.returns-in-Some-clause-within
+returns-in-Some-clause-within g c =
+    sym (ends_within-last c.args.within_line.now c.args.bytes.now c.in-Some.last.now (sym c.in-Some.ensures.value))

@@ -1,0 +1,105 @@
+-- How far a part of a session comes in its script.
+use Rattle.std.specs.Prelude.{◌≡◌, ℕ, min, Bool, List, [], ◌∷◌, ◌++◌, Option, Result, Ok, Err, ◌⊎◌, false, codes}
+use Rattle.std.specs.Io.KnownBytes.{Appends}
+use Rattle.iso_model.specs.Engines.{Phase, Ready}
+use Rattle.iso_model.specs.Walker.{World, State}
+use Rattle.iso_model.specs.Sessions.{Piece, Line, Script, Closes, Done, Halts, SessionEnd, prepend, piece_bytes, within_behind, pieces_bytes, script_bytes}
+use Rattle.iso_model.specs.Beginnings as session
+use Rattle.iso_model.specs.Beginnings.{Begins, EngineStops, Outcome, Closed, Limited, Broken}
+use Rattle.iso_model.specs.Terms.{term_of}
+use Rattle.iso_model.specs.Lines.{error_line, halt_line}
+use Rattle.iso_model.specs.declared.pauses.Pause.{Pause}
+use Rattle.iso_model.specs.declared.pauses.Pause.TheVariants as pause
+use Rattle.iso_session.specs.declared.flows.Limit.{Limit}
+use Rattle.iso_session.specs.declared.flows.Limit.TheVariants as limit
+use Rattle.iso_session.specs.declared.flows.Flow.{Flow}
+use Rattle.iso_session.specs.declared.flows.Flow.TheVariants as flow
+use Rattle.iso_session.specs.declared.statuses.Ended.{Ended}
+use Rattle.iso_session.specs.declared.statuses.Ended.TheVariants as ended
+use Rattle.iso_session.specs.declared.statuses.Fault.{Fault}
+
+-- the limit that a Rust limit is
+abbrev pub limit_of : Limit → session.Limit
+limit_of limit.Heap = session.Heap
+limit_of limit.Frames = session.Frames
+limit_of limit.Memory = session.Memory
+
+-- how a session ends that answers so
+abbrev pub outcome_of : Result Ended Fault → Outcome
+outcome_of (Ok ended.Done) = Closed Done
+outcome_of (Ok (ended.Halt status)) = Closed (Halts status)
+outcome_of (Ok ended.HeapFull) = Limited session.Heap
+outcome_of (Ok ended.FramesFull) = Limited session.Frames
+outcome_of (Ok ended.NoMemory) = Limited session.Memory
+outcome_of (Err fault) = Broken
+
+-- Where a session's writing stands: the writer's bytes, where they are known, and whether the last of them is no newline.
+abbrev pub Place : Type 0
+Place = Option (List ℕ) × Bool
+
+-- whether bytes end within a line behind these pieces
+abbrev pub within_after : Bool → List Piece → Bool
+within_after within [] = within
+within_after within (p ∷ ps) = within_after (within_behind within p) ps
+
+-- From one place to another some pieces were written, which lead from one script to what is left of it.
+pub record Advances (old new : Place) (before after : Script) : Type 0 where
+  pub gave : List Piece
+  pub bytes : Appends old.0 new.0 (pieces_bytes old.1 gave)
+  pub within : new.1 ≡ within_after old.1 gave
+  pub is : before ≡ prepend gave after
+
+-- The part was done: the session goes on behind it over what world its engine stands for.
+pub record GoesOn (Stands : State → Type 0) (now : Phase) (old new : Place) (script : Script) (behind : World → Script) : Type 0 where
+  pub at : State
+  pub stands : Stands at
+  pub ready : now ≡ Ready
+  pub advances : Advances old new script (behind at.world)
+
+-- A limit stopped the session within the part.
+pub record Stops (Stands : State → Type 0) (now : Phase) (limit : session.Limit) (old new : Place) (script : Script) : Type 0 where
+  pub rest : Script
+  pub advances : Advances old new script rest
+  pub stops : EngineStops Stands now limit rest
+
+-- What a part of a session with this script has done that answers so, where `behind` is the script of what follows it: it goes on, ends the
+-- script, or stops within it; a failed write leaves a beginning.
+abbrev pub Does : (State → Type 0) → Phase → Place → Place → Script → (World → Script) → Result Flow Fault → Type 0
+Does Stands now old new script behind (Ok flow.On) = GoesOn Stands now old new script behind
+Does Stands now old new script behind (Ok (flow.Halts status)) = Advances old new script (Closes (Halts status))
+Does Stands now old new script behind (Ok (flow.Stops limit)) = Stops Stands now (limit_of limit) old new script
+Does Stands now old new script behind (Err fault) = Begins old.0 new.0 (script_bytes old.1 script)
+
+-- A line was written, and the session goes on so; or memory for it was refused, and nothing was written.
+abbrev pub PutsLine : List ℕ → Flow → Place → Place → Result Flow Fault → Type 0
+PutsLine text then old new (Ok now) =
+    ((now ≡ then) × Appends old.0 new.0 (piece_bytes old.1 (Line text)) × (new.1 ≡ false)) ⊎ ((now ≡ flow.Stops limit.Memory) × (new ≡ old))
+PutsLine text then old new (Err fault) = Begins old.0 new.0 (piece_bytes old.1 (Line text))
+
+-- how a session ends behind its last part
+abbrev pub ended_of : Flow → Ended
+ended_of flow.On = ended.Done
+ended_of (flow.Halts status) = ended.Halt status
+ended_of (flow.Stops limit.Heap) = ended.HeapFull
+ended_of (flow.Stops limit.Frames) = ended.FramesFull
+ended_of (flow.Stops limit.Memory) = ended.NoMemory
+
+-- what is written at the end: the line of a limit
+abbrev pub closing_bytes : Bool → Flow → List ℕ
+closing_bytes within (flow.Stops limit) = piece_bytes within (Line (session.limit_line (limit_of limit)))
+closing_bytes within other = []
+
+-- a count of 64 bits, which stays at the greatest number
+abbrev pub IsCount : ℕ → ℕ → Type 0
+IsCount count k = count ≡ min k 18446744073709551615
+
+-- What a pause that ends its query comes to: a line, or a limit. Answers and outputs end no query, and a query that runs is not spent.
+abbrev pub EndsQuery : Pause → Place → Place → Result Flow Fault → Type 0
+EndsQuery pause.NoMore old new r = PutsLine (codes "end: no more") flow.On old new r
+EndsQuery pause.Budget old new r = PutsLine (codes "end: budget") flow.On old new r
+EndsQuery (pause.Uncaught ball) old new r = PutsLine (error_line (term_of ball.term)) flow.On old new r
+EndsQuery (pause.Halt status) old new r = PutsLine (halt_line status) (flow.Halts status) old new r
+EndsQuery pause.HeapFull old new r = (r ≡ Ok (flow.Stops limit.Heap)) × (new ≡ old)
+EndsQuery pause.FramesFull old new r = (r ≡ Ok (flow.Stops limit.Frames)) × (new ≡ old)
+EndsQuery pause.NoMemory old new r = (r ≡ Ok (flow.Stops limit.Memory)) × (new ≡ old)
+EndsQuery other old new r = Unit {0}

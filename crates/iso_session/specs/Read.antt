@@ -1,0 +1,24 @@
+-- What was read.
+use Rattle.std.specs.Prelude.{◌≡◌, true, List, Option, Some, None}
+use Rattle.iso_model.specs.Trees.{arities_fit}
+use Rattle.iso_model.specs.Terms.{term_of}
+use Rattle.iso_model.specs.Token.{Shown}
+use Rattle.iso_model.specs.Items as model
+use Rattle.iso_read.specs.Answers.{clause_read}
+use Rattle.iso_session.specs.declared.items.Item.{Item}
+use Rattle.iso_session.specs.declared.items.Item.TheVariants as item
+
+-- the item that a Rust item is
+abbrev pub item_read : Item → model.Item
+item_read (item.Readable read) = model.Readable (clause_read read)
+item_read item.Unreadable = model.Unreadable
+
+-- what was found before these tokens
+abbrev pub found : Option Item → List Shown → Option model.Taken
+found None behind = None
+found (Some i) behind = Some (record { item = item_read i; behind = behind })
+
+-- a term that was read is well formed
+abbrev pub Fits : Item → Type 0
+Fits (item.Readable read) = arities_fit (term_of read.term) ≡ true
+Fits item.Unreadable = Unit {0}

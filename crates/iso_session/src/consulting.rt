@@ -1,0 +1,105 @@
+//! Consulting the program text (7.4).
+ghost use Rattle.std.specs.Prelude.{◌≡◌, ℕ, true, length};
+ghost use Rattle.iso_model.specs.Additions.{addition};
+ghost use Rattle.iso_model.specs.Engines.{Ready};
+ghost use Rattle.iso_model.specs.Sessions.{Script, added_script, term_script, text_script};
+ghost use Rattle.iso_model.specs.Terms.{term_of};
+ghost use Rattle.iso_model.specs.Tokens.{tokens};
+ghost use Rattle.iso_model.specs.Trees.{arities_fit};
+ghost use Rattle.iso_model.specs.Walker.{State, World};
+ghost use Rattle.iso_session.specs.Progress.{Does, IsCount};
+ghost use Rattle.iso_session.specs.Read.{item_read, Fits};
+
+use super::composed;
+use super::flows::{Flow, Limit, put_line};
+use super::items::{Item, take_item};
+use super::statuses::Fault;
+use iso_model::{AddFault, Engine, Term};
+use iso_token::Tokens;
+use std::alloc::Global;
+use std::io::Write;
+
+/// Adds the K-th term of the text as a clause, or says that it is refused.
+fn consult_term<E: Engine, W: Write>(
+    alloc: Global,
+    engine: &mut E,
+    count: u64,
+    term: &Term,
+    out: &mut W,
+    within_line: &mut bool,
+) -> Result<Flow, Fault>
+    requires ready { E.phase engine.old ≡ Ready }
+    requires stands { (s : State) × E.stands_for engine.old s }
+    requires fits { arities_fit (term_of term.now) ≡ true }
+    ensures { (s : State) → E.stands_for engine.old s → (k : ℕ) → IsCount count k → (next : World → Script)
+        → Does (E.stands_for engine.new) (E.phase engine.new)
+        (W.contents out.old, within_line.old) (W.contents out.new, within_line.new)
+        (added_script k (addition (term_of term.now) s.world.database) s.world next) next result }
+{
+    match engine.consult(term) {
+        Ok(()) => Ok(Flow::On),
+        Err(AddFault::NoMemory) => Ok(Flow::Stops(Limit::Memory)),
+        Err(AddFault::Refused(ball)) => {
+            let line = composed::refused_line(alloc, count, &ball.term);
+            put_line(out, within_line, line, Flow::On)
+        }
+    }
+}
+
+/// Consults the K-th item of the text.
+fn consult_item<E: Engine, W: Write>(
+    alloc: Global,
+    engine: &mut E,
+    count: u64,
+    item: Item,
+    out: &mut W,
+    within_line: &mut bool,
+) -> Result<Flow, Fault>
+    requires ready { E.phase engine.old ≡ Ready }
+    requires stands { (s : State) × E.stands_for engine.old s }
+    requires fits { Fits item }
+    ensures { (s : State) → E.stands_for engine.old s → (k : ℕ) → IsCount count k → (next : World → Script)
+        → Does (E.stands_for engine.new) (E.phase engine.new)
+        (W.contents out.old, within_line.old) (W.contents out.new, within_line.new)
+        (term_script k (item_read item) s.world next) next result }
+{
+    match item {
+        Item::Readable(read) => consult_term(alloc, engine, count, &read.term, out, within_line),
+        Item::Unreadable => {
+            let line = composed::syntax_error_line(alloc, count);
+            put_line(out, within_line, line, Flow::On)
+        }
+    }
+}
+
+/// Consults the text, item by item.
+pub fn consult_text<E: Engine, W: Write>(
+    alloc: Global,
+    engine: &mut E,
+    text: &str,
+    out: &mut W,
+    within_line: &mut bool,
+) -> Result<Flow, Fault>
+    requires ready { E.phase engine.old ≡ Ready }
+    requires stands { (s : State) × E.stands_for engine.old s }
+    ensures { (s : State) → E.stands_for engine.old s → (next : World → Script)
+        → Does (E.stands_for engine.new) (E.phase engine.new)
+        (W.contents out.old, within_line.old) (W.contents out.new, within_line.new)
+        (text_script (length (tokens text.now)) 1 (tokens text.now) s.world next) next result }
+{
+    let mut tokens = Tokens::new(text);
+    let mut count: u64 = 0;
+    loop {
+        let Ok(next) = take_item(alloc, &mut tokens) else {
+            return Ok(Flow::Stops(Limit::Memory));
+        };
+        let Some(item) = next else {
+            return Ok(Flow::On);
+        };
+        count = count.saturating_add(1);
+        match consult_item(alloc, engine, count, item, out, within_line)? {
+            Flow::On => {}
+            flow => return Ok(flow),
+        }
+    }
+}

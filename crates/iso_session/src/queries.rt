@@ -1,0 +1,163 @@
+//! Running the queries, each to its end.
+ghost use Rattle.std.specs.Prelude.{◌≡◌, ◌≢◌, true, length};
+ghost use Rattle.iso_model.specs.Engines.{Ready, Spent};
+ghost use Rattle.iso_model.specs.Items.{Readable};
+ghost use Rattle.iso_model.specs.RunLaws.{run_of};
+ghost use Rattle.iso_model.specs.Sessions.{Script, Closes, Done, run_script, query_script, queries_script};
+ghost use Rattle.iso_model.specs.Terms.{term_of};
+ghost use Rattle.iso_model.specs.Tokens.{tokens};
+ghost use Rattle.iso_model.specs.Trees.{arities_fit};
+ghost use Rattle.iso_model.specs.Walker.{State, World};
+ghost use Rattle.iso_read.specs.Answers.{clause_read};
+ghost use Rattle.iso_session.specs.Named.{names_of};
+ghost use Rattle.iso_session.specs.Progress.{Does, EndsQuery};
+ghost use Rattle.iso_session.specs.Read.{item_read, Fits};
+
+use super::composed;
+use super::flows::{Flow, Limit, put_fixed, put_line};
+use super::items::{Item, take_item};
+use super::statuses::Fault;
+use super::written::write_output;
+use iso_model::{Engine, Pause, StartFault};
+use iso_read::Read;
+use iso_token::Tokens;
+use std::alloc::Global;
+use std::io::Write;
+
+/// Writes what a pause ends its query with, and says how the session goes on. Answers and outputs end no query, and a
+/// query that runs is not spent.
+fn end_query<W: Write>(
+    alloc: Global,
+    pause: Pause,
+    out: &mut W,
+    within_line: &mut bool,
+) -> Result<Flow, Fault>
+    ensures { EndsQuery pause (W.contents out.old, within_line.old) (W.contents out.new, within_line.new) result }
+{
+    match pause {
+        Pause::NoMore => put_fixed(out, within_line, b"end: no more\n", Flow::On),
+        Pause::Budget => put_fixed(out, within_line, b"end: budget\n", Flow::On),
+        Pause::Uncaught(ball) => {
+            let line = composed::error_line(alloc, &ball.term);
+            put_line(out, within_line, line, Flow::On)
+        }
+        Pause::Halt(status) => {
+            let line = composed::halt_line(alloc, status);
+            put_line(out, within_line, line, Flow::Halts(status))
+        }
+        Pause::HeapFull => Ok(Flow::Stops(Limit::Heap)),
+        Pause::FramesFull => Ok(Flow::Stops(Limit::Frames)),
+        Pause::NoMemory => Ok(Flow::Stops(Limit::Memory)),
+        Pause::Answer(_) | Pause::Output(_) | Pause::Spent => Ok(Flow::On),
+    }
+}
+
+/// Runs the query that was started to its end; each output and answer is written before the search goes on.
+fn run_pauses<E: Engine, W: Write>(
+    alloc: Global,
+    engine: &mut E,
+    names: &[(String, u64)],
+    out: &mut W,
+    within_line: &mut bool,
+) -> Result<Flow, Fault>
+    requires awake { E.phase engine.old ≢ Spent }
+    requires stands { (s : State) × E.stands_for engine.old s }
+    ensures { (s : State) → E.stands_for engine.old s → (next : World → Script)
+        → Does (E.stands_for engine.new) (E.phase engine.new)
+        (W.contents out.old, within_line.old) (W.contents out.new, within_line.new)
+        (run_script (names_of names.now) 1 (run_of s) next) next result }
+{
+    let mut count: u64 = 0;
+    loop {
+        match engine.resume() {
+            Pause::Output(bytes) => write_output(out, within_line, bytes.as_slice())?,
+            Pause::Answer(values) => {
+                count = count.saturating_add(1);
+                let line = composed::answer_line(alloc, count, names, values.as_slice());
+                match put_line(out, within_line, line, Flow::On)? {
+                    Flow::On => {}
+                    flow => return Ok(flow),
+                }
+            }
+            pause => return end_query(alloc, pause, out, within_line),
+        }
+    }
+}
+
+/// Runs one query.
+fn run_query<E: Engine, W: Write>(
+    alloc: Global,
+    engine: &mut E,
+    read: &Read,
+    budget: u32,
+    out: &mut W,
+    within_line: &mut bool,
+) -> Result<Flow, Fault>
+    requires ready { E.phase engine.old ≡ Ready }
+    requires stands { (s : State) × E.stands_for engine.old s }
+    requires fits { arities_fit (term_of read.now.term) ≡ true }
+    ensures { (s : State) → E.stands_for engine.old s → (next : World → Script)
+        → Does (E.stands_for engine.new) (E.phase engine.new)
+        (W.contents out.old, within_line.old) (W.contents out.new, within_line.new)
+        (query_script budget (Readable (clause_read read.now)) s.world next) next result }
+{
+    match engine.start(&read.term, budget) {
+        Ok(()) => run_pauses(alloc, engine, read.names.as_slice(), out, within_line),
+        Err(StartFault::HeapFull) => Ok(Flow::Stops(Limit::Heap)),
+        Err(StartFault::NoMemory) => Ok(Flow::Stops(Limit::Memory)),
+    }
+}
+
+/// Runs a query, or says that it can't be read.
+fn run_item<E: Engine, W: Write>(
+    alloc: Global,
+    engine: &mut E,
+    item: Item,
+    budget: u32,
+    out: &mut W,
+    within_line: &mut bool,
+) -> Result<Flow, Fault>
+    requires ready { E.phase engine.old ≡ Ready }
+    requires stands { (s : State) × E.stands_for engine.old s }
+    requires fits { Fits item }
+    ensures { (s : State) → E.stands_for engine.old s → (next : World → Script)
+        → Does (E.stands_for engine.new) (E.phase engine.new)
+        (W.contents out.old, within_line.old) (W.contents out.new, within_line.new)
+        (query_script budget (item_read item) s.world next) next result }
+{
+    match item {
+        Item::Readable(read) => run_query(alloc, engine, &read, budget, out, within_line),
+        Item::Unreadable => put_fixed(out, within_line, b"end: syntax error\n", Flow::On),
+    }
+}
+
+/// Runs the queries, one after the other.
+pub fn run_queries<E: Engine, W: Write>(
+    alloc: Global,
+    engine: &mut E,
+    queries: &str,
+    budget: u32,
+    out: &mut W,
+    within_line: &mut bool,
+) -> Result<Flow, Fault>
+    requires ready { E.phase engine.old ≡ Ready }
+    requires stands { (s : State) × E.stands_for engine.old s }
+    ensures { (s : State) → E.stands_for engine.old s
+        → Does (E.stands_for engine.new) (E.phase engine.new)
+        (W.contents out.old, within_line.old) (W.contents out.new, within_line.new)
+        (queries_script (length (tokens queries.now)) budget (tokens queries.now) s.world) (λ _. Closes Done) result }
+{
+    let mut tokens = Tokens::new(queries);
+    loop {
+        let Ok(next) = take_item(alloc, &mut tokens) else {
+            return Ok(Flow::Stops(Limit::Memory));
+        };
+        let Some(item) = next else {
+            return Ok(Flow::On);
+        };
+        match run_item(alloc, engine, item, budget, out, within_line)? {
+            Flow::On => {}
+            flow => return Ok(flow),
+        }
+    }
+}
