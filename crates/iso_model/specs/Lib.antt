@@ -38,7 +38,4 @@ pub mod ReadingLaws
 pub mod CopyLaws
 pub mod TermLaws
 pub mod OrderLaws
-pub mod Lines
-pub mod Sessions
 pub mod Beginnings
-pub mod TokenPlaces

@@ -1,16 +1,26 @@
 //! The error terms that the engine raises (7.12.2), each with the indicator of the procedure that raised it (own).
-ghost use Rattle.std.specs.Prelude.{◌<◌};
+ghost use Rattle.std.specs.Prelude.{◌≡◌, ◌<◌, IfOk, codes};
+ghost use Rattle.iso_model.specs.Trees.{Name};
+ghost use Rattle.iso_model.specs.Terms.{term_of};
+ghost use Rattle.iso_model.specs.Bodies.{two};
+ghost use Rattle.iso_model.specs.Errors.{key};
+ghost use Rattle.iso_model.specs.Errors as errors;
+ghost use Rattle.iso_model.specs.Additions.{consult_key};
 
 use iso_model::{Ball, Term};
 use std::alloc::{AllocError, Global};
 
 /// An atom of this text.
-pub fn atom(alloc: Global, text: &str) -> Result<Term, AllocError> {
+pub fn atom(alloc: Global, text: &str) -> Result<Term, AllocError>
+    ensures { IfOk result (λ t. term_of t ≡ Name text.now) }
+{
     Ok(Term::Atom(String::from_str(alloc, text)?))
 }
 
 /// A compound of this name and these two arguments.
-pub fn compound2(alloc: Global, name: &str, first: Term, second: Term) -> Result<Term, AllocError> {
+pub fn compound2(alloc: Global, name: &str, first: Term, second: Term) -> Result<Term, AllocError>
+    ensures { IfOk result (λ t. term_of t ≡ two name.now (term_of first) (term_of second)) }
+{
     let mut arguments = Vec::with_capacity(alloc, 2)?;
     arguments.push(first)?;
     arguments.push(second)?;
@@ -20,13 +30,16 @@ pub fn compound2(alloc: Global, name: &str, first: Term, second: Term) -> Result
 /// The indicator as a term, `Name/Arity` (7.1.6.6).
 pub fn indicator(alloc: Global, name: &str, arity: usize) -> Result<Term, AllocError>
     requires { arity < 256 }
+    ensures { IfOk result (λ t. term_of t ≡ errors.indicator (key name.now arity)) }
 {
     let name = atom(alloc, name)?;
     compound2(alloc, "/", name, Term::Int(arity as i64))
 }
 
 /// `error(what, where)`, as a ball.
-fn error(alloc: Global, what: Term, place: Term) -> Result<Ball, AllocError> {
+fn error(alloc: Global, what: Term, place: Term) -> Result<Ball, AllocError>
+    ensures { IfOk result (λ b. term_of b.term ≡ two (codes "error") (term_of what) (term_of place)) }
+{
     let term = compound2(alloc, "error", what, place)?;
     Ok(Ball { term })
 }
@@ -34,6 +47,7 @@ fn error(alloc: Global, what: Term, place: Term) -> Result<Ball, AllocError> {
 /// `instantiation_error`, raised by this procedure (7.12.2 a).
 pub fn instantiation(alloc: Global, name: &str, arity: usize) -> Result<Ball, AllocError>
     requires { arity < 256 }
+    ensures { IfOk result (λ b. term_of b.term ≡ errors.instantiation_error (key name.now arity)) }
 {
     let what = atom(alloc, "instantiation_error")?;
     let place = indicator(alloc, name, arity)?;
@@ -41,8 +55,14 @@ pub fn instantiation(alloc: Global, name: &str, arity: usize) -> Result<Ball, Al
 }
 
 /// `type_error(callable, culprit)`, raised by this procedure (7.12.2 b).
-pub fn not_callable(alloc: Global, culprit: Term, name: &str, arity: usize) -> Result<Ball, AllocError>
+pub fn not_callable(
+    alloc: Global,
+    culprit: Term,
+    name: &str,
+    arity: usize,
+) -> Result<Ball, AllocError>
     requires { arity < 256 }
+    ensures { IfOk result (λ b. term_of b.term ≡ errors.type_error_callable (term_of culprit) (key name.now arity)) }
 {
     let kind = atom(alloc, "callable")?;
     let what = compound2(alloc, "type_error", kind, culprit)?;
@@ -53,6 +73,7 @@ pub fn not_callable(alloc: Global, culprit: Term, name: &str, arity: usize) -> R
 /// `existence_error(procedure, PI)`, raised by the unknown procedure itself (7.7.7, 7.12.2 d).
 pub fn unknown_procedure(alloc: Global, name: &str, arity: usize) -> Result<Ball, AllocError>
     requires { arity < 256 }
+    ensures { IfOk result (λ b. term_of b.term ≡ errors.existence_error (key name.now arity)) }
 {
     let kind = atom(alloc, "procedure")?;
     let culprit = indicator(alloc, name, arity)?;
@@ -64,6 +85,7 @@ pub fn unknown_procedure(alloc: Global, name: &str, arity: usize) -> Result<Ball
 /// `permission_error(modify, static_procedure, PI)`, raised by `consult/1` (7.12.2 e).
 pub fn static_procedure(alloc: Global, name: &str, arity: usize) -> Result<Ball, AllocError>
     requires { arity < 256 }
+    ensures { IfOk result (λ b. term_of b.term ≡ errors.permission_error (key name.now arity) consult_key) }
 {
     let mut arguments = Vec::with_capacity(alloc, 3)?;
     let operation = atom(alloc, "modify")?;
@@ -78,7 +100,9 @@ pub fn static_procedure(alloc: Global, name: &str, arity: usize) -> Result<Ball,
 }
 
 /// `representation_error(max_variables)`, raised by `consult/1` (own limit; 7.12.2 f).
-pub fn too_many_variables(alloc: Global) -> Result<Ball, AllocError> {
+pub fn too_many_variables(alloc: Global) -> Result<Ball, AllocError>
+    ensures { IfOk result (λ b. term_of b.term ≡ errors.max_variables_error consult_key) }
+{
     let mut arguments = Vec::with_capacity(alloc, 1)?;
     let limit = atom(alloc, "max_variables")?;
     arguments.push(limit)?;

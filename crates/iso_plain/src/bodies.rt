@@ -1,6 +1,10 @@
 //! Bodies of clauses and goals of queries, converted into lists of goals (7.6.2).
-ghost use Rattle.std.specs.Prelude.{◌≡◌};
+ghost use Rattle.std.specs.Prelude.{◌≡◌, ◌++◌, ◌∷◌, [], IfOk, OnOk, OnErr, codes};
+ghost use Rattle.iso_model.specs.Trees.{Variable};
+ghost use Rattle.iso_model.specs.Terms.{term_of};
+ghost use Rattle.iso_model.specs.Bodies.{one, converted};
 ghost use Rattle.iso_plain.specs.declared.bodies.BodyFault.TheVariants.{NoMemory};
+ghost use Rattle.iso_plain.specs.Goals.{terms_of, AppendsGoals};
 
 use iso_model::{Term, copied};
 use std::alloc::{AllocError, AllocFailed, Global};
@@ -31,37 +35,38 @@ impl<T: Drop> From<AllocFailed<T>> for BodyFault {
 }
 
 /// The goal `call(X)` that a variable stands for in a body.
-fn call_of(alloc: Global, number: u64) -> Result<Term, AllocError> {
+fn call_of(alloc: Global, number: u64) -> Result<Term, AllocError>
+    ensures { IfOk result (λ t. term_of t ≡ one (codes "call") (Variable number)) }
+{
     let mut arguments = Vec::with_capacity(alloc, 1)?;
     arguments.push(Term::Var(number))?;
     Ok(Term::Compound(String::from_str(alloc, "call")?, arguments))
 }
 
-/// The two operands of a conjunction, where the term is one.
-pub fn conjunction(term: &Term) -> Option<(&Term, &Term)> {
-    let Term::Compound(name, arguments) = term else {
-        return None;
-    };
-    if name.as_str() != "," {
-        return None;
-    }
-    let [first, second] = arguments.as_slice() else {
-        return None;
-    };
-    Some((first, second))
-}
-
-/// Appends the goals of the body from the left; a variable `X` becomes `call(X)`.
-pub fn append_goals(alloc: Global, body: &Term, goals: &mut Vec<Term>) -> Result<(), BodyFault> {
-    if let Some((first, second)) = conjunction(body) {
-        append_goals(alloc, first, goals)?;
-        return append_goals(alloc, second, goals);
-    }
-    let goal = match body {
-        Term::Int(_) => return Err(BodyFault::NotCallable),
-        Term::Var(number) => call_of(alloc, *number)?,
-        Term::Atom(_) | Term::Compound(_, _) => copied(alloc, body)?,
-    };
+/// Appends the goal.
+fn push_goal(goals: &mut Vec<Term>, goal: Term) -> Result<(), BodyFault>
+    ensures ok { OnOk result (terms_of goals.new.items ≡ terms_of goals.old.items ++ term_of goal ∷ []) }
+    ensures err { OnErr result (result ≡ Err NoMemory) }
+{
     goals.push(goal)?;
     Ok(())
+}
+
+/// Appends the goals of the body from the left; a variable `X` becomes `call(X)`. The errors: a part is a number, or
+/// memory was refused; some of the goals may have been appended then.
+pub fn append_goals(alloc: Global, body: &Term, goals: &mut Vec<Term>) -> Result<(), BodyFault>
+    ensures { AppendsGoals (converted (term_of body.now)) (terms_of goals.old.items) result (terms_of goals.new.items) }
+{
+    match body {
+        Term::Int(_) => Err(BodyFault::NotCallable),
+        Term::Var(number) => push_goal(goals, call_of(alloc, *number)?),
+        Term::Atom(_) => push_goal(goals, copied(alloc, body)?),
+        Term::Compound(name, arguments) => match arguments.as_slice() {
+            [first, second] if name.as_str() == "," => {
+                append_goals(alloc, first, goals)?;
+                append_goals(alloc, second, goals)
+            }
+            _ => push_goal(goals, copied(alloc, body)?),
+        },
+    }
 }

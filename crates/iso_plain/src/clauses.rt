@@ -1,4 +1,19 @@
 //! Clauses as the engine keeps them: checked, converted, with their variables numbered 0, 1, .. (7.4, 7.6).
+ghost use Rattle.std.specs.Prelude.{◌≡◌, ◌<◌, ◌↔◌, IsTrue, IfOk, IfErr, OnOk, MatchOption, codes, true, option_map, ◌==◌, position};
+ghost use Rattle.std.specs.Option.{option_copied};
+ghost use Rattle.std.specs.Str.{bytes_eq};
+ghost use Rattle.iso_model.specs.Trees.{Variable, Name, arities_fit};
+ghost use Rattle.iso_model.specs.Terms.{term_of, row_of};
+ghost use Rattle.iso_model.specs.Variables.{distinct_from};
+ghost use Rattle.iso_model.specs.Substitutions.{apply};
+ghost use Rattle.iso_model.specs.Copies as copies;
+ghost use Rattle.iso_model.specs.Databases.{key_of};
+ghost use Rattle.iso_model.specs.Databases as databases;
+ghost use Rattle.iso_model.specs.Errors.{key};
+ghost use Rattle.iso_model.specs.Additions as additions;
+ghost use Rattle.iso_plain.specs.Goals.{terms_of};
+ghost use Rattle.iso_plain.specs.Kept.{numbers, IsRenamed, Splits, GoalsOf, RefusesHead, ChecksUser, Prepares};
+
 use super::balls;
 use super::bodies::{self, BodyFault};
 use iso_model::{AddFault, Term, copied};
@@ -16,24 +31,22 @@ pub struct Clause {
 }
 
 /// A clause taken apart into its head and, where it has one, its body (7.4.2).
-fn parts(clause: &Term) -> (&Term, Option<&Term>) {
-    if let Term::Compound(name, arguments) = clause {
-        if name.as_str() == ":-" {
-            if let [head, body] = arguments.as_slice() {
-                return (head, Some(body));
-            }
-        }
+fn parts(clause: &Term) -> (&Term, Option<&Term>)
+    ensures { Splits (term_of clause.now) (term_of result.0.now) (option_map (λ b. term_of b.now) result.1) }
+{
+    match clause {
+        Term::Compound(name, arguments) => match arguments.as_slice() {
+            [head, body] if name.as_str() == ":-" => (head, Some(body)),
+            _ => (clause, None),
+        },
+        Term::Var(_) | Term::Int(_) | Term::Atom(_) => (clause, None),
     }
-    (clause, None)
-}
-
-/// The head of a clause.
-pub fn head_of(clause: &Term) -> &Term {
-    parts(clause).0
 }
 
 /// Whether the body is `true`, as a fact's is.
-fn is_true(body: &Term) -> bool {
+fn is_true(body: &Term) -> bool
+    ensures { IsTrue result ↔ (term_of body.now ≡ Name (codes "true")) }
+{
     match body {
         Term::Atom(name) => name.as_str() == "true",
         _ => false,
@@ -41,7 +54,10 @@ fn is_true(body: &Term) -> bool {
 }
 
 /// The name and the number of arguments of a callable term.
-pub fn indicator_of(term: &Term) -> Option<(&str, usize)> {
+pub fn indicator_of(term: &Term) -> Option<(&str, usize)>
+    ensures { MatchOption result (key_of (term_of term.now) ≡ None)
+        (λ p. key_of (term_of term.now) ≡ Some (key p.0.now p.1)) }
+{
     match term {
         Term::Atom(name) => Some((name.as_str(), 0)),
         Term::Compound(name, arguments) => Some((name.as_str(), arguments.len())),
@@ -50,7 +66,9 @@ pub fn indicator_of(term: &Term) -> Option<(&str, usize)> {
 }
 
 /// Whether a procedure of this name and arity is a built-in or a control construct.
-pub fn is_built_in(name: &str, arity: usize) -> bool {
+pub fn is_built_in(name: &str, arity: usize) -> bool
+    ensures { result ≡ databases.is_built_in (key name.now arity) }
+{
     match arity {
         0 => name == "true" || name == "fail",
         2 => name == ",",
@@ -58,9 +76,19 @@ pub fn is_built_in(name: &str, arity: usize) -> bool {
     }
 }
 
+/// The place of the number, if it is among those seen so far.
+fn known_place(seen: &[u64], number: u64) -> Option<usize>
+    ensures { result ≡ position (λ m. m == number) seen.now }
+{
+    seen.iter().position(|known| *known == number)
+}
+
 /// The place of the number among those seen so far; where it isn't seen, it is the next.
-fn place_of(seen: &mut Vec<u64>, number: u64) -> Result<u64, AllocError> {
-    if let Some(place) = seen.iter().position(|known| *known == number) {
+fn place_of(seen: &mut Vec<u64>, number: u64) -> Result<u64, AllocError>
+    ensures place { IfOk result (λ p. p ≡ copies.place_of number seen.new.items) }
+    ensures seen { OnOk result (seen.new.items ≡ distinct_from seen.old.items (Variable number)) }
+{
+    if let Some(place) = known_place(seen.as_slice(), number) {
         return Ok(place as u64);
     }
     let place = seen.len();
@@ -69,28 +97,46 @@ fn place_of(seen: &mut Vec<u64>, number: u64) -> Result<u64, AllocError> {
 }
 
 /// The term with each variable's number replaced by its place among those seen so far.
-pub fn numbered(alloc: Global, term: &Term, seen: &mut Vec<u64>) -> Result<Term, AllocError> {
+#[cycle(numbering)]
+pub fn numbered(alloc: Global, term: &Term, seen: &mut Vec<u64>) -> Result<Term, AllocError>
+    ensures term { IfOk result (λ t. term_of t ≡ apply (numbers seen.new.items) (term_of term.now)) }
+    ensures seen { OnOk result (seen.new.items ≡ distinct_from seen.old.items (term_of term.now)) }
+{
     match term {
         Term::Var(number) => Ok(Term::Var(place_of(seen, *number)?)),
-        Term::Int(_) | Term::Atom(_) => copied(alloc, term),
+        Term::Int(value) => Ok(Term::Int(*value)),
+        Term::Atom(text) => Ok(Term::Atom(text.clone()?)),
         Term::Compound(name, arguments) => {
             let name = name.clone()?;
-            let mut terms = Vec::new(alloc);
-            for argument in arguments {
-                let term = numbered(alloc, argument, seen)?;
-                terms.push(term)?;
-            }
-            Ok(Term::Compound(name, terms))
+            let arguments = numbered_all(alloc, arguments.as_slice(), seen)?;
+            Ok(Term::Compound(name, arguments))
         }
     }
 }
 
+/// The terms with each variable's number replaced by its place among those seen so far.
+#[cycle(numbering)]
+pub fn numbered_all(
+    alloc: Global,
+    terms: &[Term],
+    seen: &mut Vec<u64>,
+) -> Result<Vec<Term>, AllocError>
+    ensures terms { IfOk result (λ ts. row_of ts.items ≡ apply (numbers seen.new.items) (row_of terms.now)) }
+    ensures seen { OnOk result (seen.new.items ≡ distinct_from seen.old.items (row_of terms.now)) }
+{
+    let mut renamed = Vec::new(alloc);
+    for term in terms {
+        let term = numbered(alloc, term, seen)?;
+        renamed.push(term)?;
+    }
+    Ok(renamed)
+}
+
 /// The goals of a clause's body, or the error that refuses it.
-fn goals_of(alloc: Global, body: Option<&Term>) -> Result<Vec<Term>, AddFault> {
+fn goals_of(alloc: Global, body: &Term) -> Result<Vec<Term>, AddFault>
+    ensures { GoalsOf (term_of body.now) result }
+{
     let mut goals = Vec::new(alloc);
-    let Some(body) = body else {
-        return Ok(goals);
-    };
     if is_true(body) {
         return Ok(goals);
     }
@@ -104,26 +150,62 @@ fn goals_of(alloc: Global, body: Option<&Term>) -> Result<Vec<Term>, AddFault> {
     }
 }
 
-/// That the head is an atom or a compound.
-fn check_head(alloc: Global, head: &Term) -> Result<(), AddFault> {
+/// The name and the number of arguments of a head that is an atom or a compound.
+fn checked_head<'a>(alloc: Global, head: &'a Term) -> Result<(&'a str, usize), AddFault>
+    ensures ok { IfOk result (λ p. key_of (term_of head.now) ≡ Some (key p.0.now p.1)) }
+    ensures err { IfErr result (RefusesHead (term_of head.now)) }
+{
     match head {
         Term::Var(_) => Err(AddFault::Refused(balls::instantiation(alloc, "consult", 1)?)),
         Term::Int(value) => {
             let culprit = Term::Int(*value);
             Err(AddFault::Refused(balls::not_callable(alloc, culprit, "consult", 1)?))
         }
-        Term::Atom(_) | Term::Compound(_, _) => Ok(()),
+        Term::Atom(name) => Ok((name.as_str(), 0)),
+        Term::Compound(name, arguments) => Ok((name.as_str(), arguments.len())),
     }
 }
 
-/// That the head is that of no built-in and of no control construct.
-fn check_user(alloc: Global, head: &Term) -> Result<(), AddFault> {
-    match indicator_of(head) {
-        Some((name, arity)) if is_built_in(name, arity) => {
-            Err(AddFault::Refused(balls::static_procedure(alloc, name, arity)?))
-        }
-        _ => Ok(()),
+/// The head of a clause.
+fn head_of(clause: &Term) -> &Term
+    ensures { term_of result.now ≡ additions.head_of (term_of clause.now) }
+{
+    parts(clause).0
+}
+
+/// The goals of a clause, or the error that refuses it.
+fn clause_goals(alloc: Global, clause: &Term) -> Result<Vec<Term>, AddFault>
+    ensures { GoalsOf (additions.body_of (term_of clause.now)) result }
+{
+    match parts(clause).1 {
+        Some(body) => goals_of(alloc, body),
+        None => Ok(Vec::new(alloc)),
     }
+}
+
+/// The clause with this head and these goals, with its variables numbered 0, 1, .. by first occurrence.
+fn with_numbers(alloc: Global, head: &Term, goals: &[Term]) -> Result<Clause, AllocError>
+    ensures { IfOk result (IsRenamed (term_of head.now) (terms_of goals.now)) }
+{
+    let mut seen = Vec::new(alloc);
+    let head = numbered(alloc, head, &mut seen)?;
+    let goals = numbered_all(alloc, goals, &mut seen)?;
+    Ok(Clause {
+        head,
+        goals,
+        variables: seen.len(),
+    })
+}
+
+/// That the head is that of no built-in and of no control construct.
+fn check_user(alloc: Global, name: &str, arity: usize) -> Result<(), AddFault>
+    requires { arity < 256 }
+    ensures { ChecksUser (key name.now arity) result }
+{
+    if is_built_in(name, arity) {
+        return Err(AddFault::Refused(balls::static_procedure(alloc, name, arity)?));
+    }
+    Ok(())
 }
 
 /// The clause ready to be tried (8.9.2, with Info `consult/1`). Refused where the head is a variable
@@ -131,24 +213,17 @@ fn check_user(alloc: Global, head: &Term) -> Result<(), AddFault> {
 /// (`type_error(callable, Body)`), where there are more than 65,535 distinct variables
 /// (`representation_error(max_variables)`), or where the head is that of a built-in
 /// (`permission_error(modify, static_procedure, PI)`), checked in this order.
-pub fn prepare(alloc: Global, clause: &Term) -> Result<Clause, AddFault> {
-    let (head, body) = parts(clause);
-    check_head(alloc, head)?;
-    let raw_goals = goals_of(alloc, body)?;
-    let mut seen = Vec::new(alloc);
-    let numbered_head = numbered(alloc, head, &mut seen)?;
-    let mut goals = Vec::new(alloc);
-    for goal in &raw_goals {
-        let goal = numbered(alloc, goal, &mut seen)?;
-        goals.push(goal)?;
-    }
-    if seen.len() > MOST_VARIABLES {
+pub fn prepare(alloc: Global, clause: &Term) -> Result<Clause, AddFault>
+    requires { arities_fit (term_of clause.now) ≡ true }
+    ensures { Prepares (term_of clause.now) result }
+{
+    let head = head_of(clause);
+    let (name, arity) = checked_head(alloc, head)?;
+    let goals = clause_goals(alloc, clause)?;
+    let kept = with_numbers(alloc, head, goals.as_slice())?;
+    if kept.variables > MOST_VARIABLES {
         return Err(AddFault::Refused(balls::too_many_variables(alloc)?));
     }
-    check_user(alloc, head)?;
-    Ok(Clause {
-        head: numbered_head,
-        goals,
-        variables: seen.len(),
-    })
+    check_user(alloc, name, arity)?;
+    Ok(kept)
 }

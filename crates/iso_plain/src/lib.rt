@@ -7,7 +7,6 @@ pub mod bodies;
 pub mod clauses;
 pub mod entries;
 pub mod moves;
+pub mod parts;
 pub mod plain;
 pub mod procedures;
-
-pub use plain::Plain;

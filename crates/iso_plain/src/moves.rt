@@ -1,83 +1,51 @@
-//! The engine's moves: each is a step of the standard's search, or a part of one (7.7).
+//! The engine's moves: each is some steps of the standard's search (7.7).
+ghost use Rattle.std.specs.Prelude.{◌≡◌, ◌≢◌, ◌<◌, ◌≤◌, ◌+◌, ℕ, IfOk, OnOk, Ok, List, ◌∷◌, length};
+ghost use Rattle.iso_model.specs.Trees.{Tree};
+ghost use Rattle.iso_model.specs.Databases as databases;
+ghost use Rattle.iso_model.specs.Databases.{Database};
+ghost use Rattle.iso_plain.specs.Kept.{IsClause};
+ghost use Rattle.iso_plain.specs.Programs.{IsDatabase};
+ghost use Rattle.iso_plain.specs.EngineStates.{left_at, clauses_at_place};
+ghost use Rattle.iso_model.specs.Walker.{State};
+
 use super::balls;
 use super::entries;
-use super::plain::{Attempt, Choice, Move, Now, Plain, at};
-use super::procedures;
+use super::parts::{Attempt, Choice, Now, at, behind};
+use super::plain::{Move, Plain};
+use super::clauses::Clause;
+use super::procedures::{self, Procedure};
 use iso_model::{Ball, Pause};
 use iso_store::{Shape, Store, StoreFault};
 use std::alloc::AllocError;
 
-/// What a goal calls.
-#[derive(Drop)]
-pub enum Called {
-    True,
-    Fail,
-    /// The procedure at this place.
-    User(usize),
-    /// No procedure; the ball is the error.
-    Unknown(Ball),
+/// The clause at this place of the procedure at this place.
+fn clause_at(procedures: &[Procedure], place: usize, index: usize) -> &Clause
+    requires within { place < length procedures.now }
+    requires found { (db : Database) × (c : databases.Clause) × (cs : List databases.Clause) × IsDatabase procedures.now db × (left_at db place index ≡ c ∷ cs) }
+    ensures { (db : Database) (c : databases.Clause) (cs : List databases.Clause) → IsDatabase procedures.now db
+        → left_at db place index ≡ c ∷ cs → IsClause result.now c }
+{
+    let procedure = &procedures[place];
+    &procedure.clauses[index]
 }
 
 impl<S: Store + Drop> Plain<S> {
-    /// One move.
-    pub(crate) fn advance(&mut self) -> Move {
-        let outcome = match self.now {
-            Now::Idle => Ok(Move::Pauses(Pause::NoMore)),
-            Now::Spent => Ok(Move::Pauses(Pause::Spent)),
-            Now::Failing => self.fail(),
-            Now::Answering => self.answer(),
-            Now::Running(place) => self.run(place),
-            Now::Raising => Ok(self.raise()),
-        };
-        match outcome {
-            Ok(next) => next,
-            Err(StoreFault::Full) => self.stop(Pause::HeapFull),
-            Err(StoreFault::NoMemory) => self.stop(Pause::NoMemory),
-        }
-    }
-
-    /// Ends at a limit: the engine is spent.
-    fn stop(&mut self, pause: Pause) -> Move {
-        self.now = Now::Spent;
-        Move::Pauses(pause)
-    }
-
-    /// Ends the run: the engine is idle.
-    fn finish(&mut self, pause: Pause) -> Move {
-        self.clear();
-        Move::Pauses(pause)
-    }
-
-    /// Raises the ball that was kept; nothing catches it.
-    fn raise(&mut self) -> Move {
-        match self.raised.take() {
-            Some(ball) => self.finish(Pause::Uncaught(ball)),
-            None => self.finish(Pause::NoMore),
-        }
-    }
-
-    /// Goes on with the newest alternative, with its next clause (7.7.8).
-    fn fail(&mut self) -> Result<Move, StoreFault> {
-        let count = self.choices.len();
-        if count == 0 {
-            return Ok(self.finish(Pause::NoMore));
-        }
-        let choice = self.choices[count - 1];
-        let attempt = choice.attempt;
-        self.store.undo(choice.mark);
-        self.frames.truncate(choice.frames);
-        if attempt.clause + 1 < self.procedures[attempt.procedure].clauses.len() {
-            self.choices[count - 1].attempt.clause = attempt.clause + 1;
-        } else {
-            self.choices.truncate(count - 1);
-            self.store.forget(choice.mark);
-        }
-        self.enter(attempt)
-    }
+    ghost use Rattle.iso_plain.specs.Linked.{Linked};
+    ghost use Rattle.iso_plain.specs.Linked as search;
+    ghost use Rattle.iso_plain.specs.EngineStates.{IsEngine, Tries, Tried, WentBack, clauses_left, weight};
 
     /// Enters the clause; where its head doesn't unify with the goal the engine fails next (7.7.10).
-    fn enter(&mut self, attempt: Attempt<S::Word>) -> Result<Move, StoreFault> {
-        let clause = &self.procedures[attempt.procedure].clauses[attempt.clause];
+    pub(crate) fn enter(&mut self, attempt: Attempt<S::Word>) -> Result<(), StoreFault>
+        requires { (l : Linked) × (call : Tree) × (c : databases.Clause) × (cs : List databases.Clause) × (behind : List Tree)
+            × Tries S.present S.stands S.older self.old attempt l call c cs behind }
+        ensures tried { (l : Linked) (call : Tree) (c : databases.Clause) (cs : List databases.Clause) (behind : List Tree)
+            → Tries S.present S.stands S.older self.old attempt l call c cs behind
+            → OnOk result (Tried S.present S.stands S.older self.new l call c cs behind) }
+        ensures steps { self.new.steps ≡ self.old.steps }
+        ensures procedures { self.new.procedures ≡ self.old.procedures }
+        ensures choices { self.new.choices ≡ self.old.choices }
+    {
+        let clause = clause_at(self.procedures.as_slice(), attempt.procedure, attempt.clause);
         let entered = entries::enter(
             self.alloc,
             &mut self.store,
@@ -86,89 +54,23 @@ impl<S: Store + Drop> Plain<S> {
             attempt.goal,
             attempt.rest,
         )?;
-        self.now = match entered {
-            Some(first) => at(first),
-            None => Now::Failing,
-        };
-        Ok(Move::Goes)
+        self.now = behind(entered);
+        Ok(())
     }
 
-    /// The values of the query's variables.
-    fn answer(&mut self) -> Result<Move, StoreFault> {
-        let mut values = Vec::new(self.alloc);
-        for word in &self.query {
-            let value = self.store.copy_out(*word)?;
-            values.push(value)?;
-        }
-        self.now = Now::Failing;
-        Ok(Move::Pauses(Pause::Answer(values)))
-    }
-
-    /// What a goal of this name and arity calls.
-    fn named(&self, name: &str, arity: usize) -> Result<Called, AllocError> {
-        if arity == 0 && name == "true" {
-            return Ok(Called::True);
-        }
-        if arity == 0 && name == "fail" {
-            return Ok(Called::Fail);
-        }
-        match procedures::position(self.procedures.as_slice(), name, arity) {
-            Some(place) => Ok(Called::User(place)),
-            None => Ok(Called::Unknown(balls::unknown_procedure(self.alloc, name, arity)?)),
-        }
-    }
-
-    /// What the goal calls.
-    fn called(&self, goal: S::Word) -> Result<Called, AllocError> {
-        match self.store.shape(goal) {
-            Shape::Atom(name) => self.named(name, 0),
-            Shape::Compound(name, arity) => self.named(name, arity),
-            Shape::Var(_) | Shape::Int(_) => Ok(Called::Fail),
-        }
-    }
-
-    /// Runs the goal at this place, which takes a step.
-    fn run(&mut self, place: usize) -> Result<Move, StoreFault> {
-        if self.steps == 0 {
-            return Ok(self.finish(Pause::Budget));
-        }
-        self.steps -= 1;
-        let frame = self.frames[place];
-        match self.called(frame.goal)? {
-            Called::True => {
-                self.now = at(frame.next);
-                Ok(Move::Goes)
-            }
-            Called::Fail => {
-                self.now = Now::Failing;
-                Ok(Move::Goes)
-            }
-            Called::Unknown(ball) => Ok(self.finish(Pause::Uncaught(ball))),
-            Called::User(procedure) => self.call(procedure, frame.goal, frame.next),
-        }
-    }
-
-    /// Calls the procedure: its first clause is entered, those behind it are one alternative (7.7.7).
-    fn call(&mut self, procedure: usize, goal: S::Word, rest: Option<usize>) -> Result<Move, StoreFault> {
-        let first = Attempt {
-            procedure,
-            clause: 0,
-            goal,
-            rest,
-        };
-        if self.procedures[procedure].clauses.len() > 1 {
-            if self.choices.len() >= self.limit as usize {
-                return Ok(self.stop(Pause::FramesFull));
-            }
-            let mark = self.store.mark();
-            let frames = self.frames.len();
-            let attempt = Attempt { clause: 1, ..first };
-            self.choices.push(Choice {
-                mark,
-                frames,
-                attempt,
-            })?;
-        }
-        self.enter(first)
+    /// Goes back to the newest choice, which stays: the store and the frames are as they were when it was made (7.7.8).
+    pub(crate) fn go_back(&mut self) -> Choice<S::Word, S::Mark>
+        requires some { 0 < length self.old.choices.items }
+        requires failing { (l : Linked) × IsEngine S.present S.stands S.older self.old l }
+        ensures back { (l : Linked) → IsEngine S.present S.stands S.older self.old l → (k : search.Choice) × (below : List search.Choice)
+            × (l.stack ≡ k ∷ below) × WentBack S.present S.stands S.older self.new result l k below }
+        ensures steps { self.new.steps ≡ self.old.steps }
+        ensures procedures { self.new.procedures ≡ self.old.procedures }
+        ensures choices { self.new.choices ≡ self.old.choices }
+    {
+        let choice = self.choices[self.choices.len() - 1];
+        self.store.undo(choice.mark);
+        self.frames.truncate(choice.frames);
+        choice
     }
 }

@@ -2,6 +2,7 @@
 use Rattle.std.specs.Prelude.{◌≡◌, true, List, Option, Some, None}
 use Rattle.iso_model.specs.Trees.{arities_fit}
 use Rattle.iso_model.specs.Terms.{term_of}
+use Rattle.iso_model.specs.Copies.{IsNumbered}
 use Rattle.iso_model.specs.Token.{Shown}
 use Rattle.iso_model.specs.Items as model
 use Rattle.iso_read.specs.Answers.{clause_read}
@@ -18,7 +19,7 @@ abbrev pub found : Option Item → List Shown → Option model.Taken
 found None behind = None
 found (Some i) behind = Some (record { item = item_read i; behind = behind })
 
--- a term that was read is well formed
+-- A term that was read is well formed, and its variables are numbered in the order of their first occurrence.
 abbrev pub Fits : Item → Type 0
-Fits (item.Readable read) = arities_fit (term_of read.term) ≡ true
+Fits (item.Readable read) = (arities_fit (term_of read.term) ≡ true) × IsNumbered (term_of read.term)
 Fits item.Unreadable = Unit {0}

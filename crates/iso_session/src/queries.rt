@@ -5,6 +5,7 @@ ghost use Rattle.iso_model.specs.Items.{Readable};
 ghost use Rattle.iso_model.specs.RunLaws.{run_of};
 ghost use Rattle.iso_model.specs.Sessions.{Script, Closes, Done, run_script, query_script, queries_script};
 ghost use Rattle.iso_model.specs.Terms.{term_of};
+ghost use Rattle.iso_model.specs.Copies.{IsNumbered};
 ghost use Rattle.iso_model.specs.Tokens.{tokens};
 ghost use Rattle.iso_model.specs.Trees.{arities_fit};
 ghost use Rattle.iso_model.specs.Walker.{State, World};
@@ -96,6 +97,7 @@ fn run_query<E: Engine, W: Write>(
     requires ready { E.phase engine.old ≡ Ready }
     requires stands { (s : State) × E.stands_for engine.old s }
     requires fits { arities_fit (term_of read.now.term) ≡ true }
+    requires numbered { IsNumbered (term_of read.now.term) }
     ensures { (s : State) → E.stands_for engine.old s → (next : World → Script)
         → Does (E.stands_for engine.new) (E.phase engine.new)
         (W.contents out.old, within_line.old) (W.contents out.new, within_line.new)

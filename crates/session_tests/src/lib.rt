@@ -6,10 +6,6 @@ pub mod quitter;
 #[cfg(test)]
 mod readers;
 #[cfg(test)]
-mod rows;
-#[cfg(test)]
-mod sessions;
-#[cfg(test)]
 mod words;
 #[cfg(test)]
 mod writers;

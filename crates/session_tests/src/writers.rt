@@ -1,6 +1,6 @@
 //! Writers that fail, that take little, and that take nothing.
-use iso_model::Limits;
-use iso_session::{Choice, Fault, session, status_of};
+use super::quitter::Quitter;
+use iso_session::{Fault, session_on, status_of};
 use std::alloc::Global;
 use std::io;
 use std::io::ErrorKind;
@@ -33,9 +33,10 @@ impl io::Write for Sink {
     }
 }
 
-const TEXT: &str = "p(1). p(2). p(1).\n";
-const QUERIES: &str = "p(X).";
-const OUTPUT: &str = "answer 1: X = 1\nanswer 2: X = 2\nanswer 3: X = 1\nend: no more\n";
+/// A text and queries whose syntax errors are written, and a last query at which the engine gives up.
+const TEXT: &str = "p q.\nr s.\n";
+const QUERIES: &str = "p q. r.";
+const OUTPUT: &str = "syntax error in clause 1\nsyntax error in clause 2\nend: syntax error\nend: heap full\n";
 
 /// The bytes that this writer has, and the status, after a session.
 fn written(alloc: Global, step: usize, room: usize, fails: bool) -> (Vec<u8>, u8) {
@@ -45,7 +46,8 @@ fn written(alloc: Global, step: usize, room: usize, fails: bool) -> (Vec<u8>, u8
         room,
         fails,
     };
-    let outcome = session(alloc, TEXT, QUERIES, &Limits::DEFAULT, Choice::Plain, &mut sink);
+    let mut engine = Quitter::new();
+    let outcome = session_on(alloc, &mut engine, TEXT, QUERIES, 100, &mut sink);
     let status = status_of(&outcome);
     (sink.bytes, status)
 }
@@ -66,7 +68,7 @@ fn a_failed_write_leaves_a_beginning(rt: HostRuntime) -> Result<(), Fail> {
 #[test]
 fn a_writer_that_takes_a_byte_a_call_gets_all(rt: HostRuntime) -> Result<(), Fail> {
     let (bytes, status) = written(rt.alloc(), 1, usize::MAX, true);
-    assert_eq!(rt; status, 0);
+    assert_eq!(rt; status, 3);
     assert!(rt; bytes.as_slice() == OUTPUT.as_bytes());
     Ok(())
 }
@@ -79,7 +81,8 @@ fn the_fault_says_so(rt: HostRuntime) -> Result<(), Fail> {
         room: 0,
         fails: true,
     };
-    let outcome = session(rt.alloc(), TEXT, QUERIES, &Limits::DEFAULT, Choice::Plain, &mut sink);
+    let mut engine = Quitter::new();
+    let outcome = session_on(rt.alloc(), &mut engine, TEXT, QUERIES, 100, &mut sink);
     assert!(rt; matches!(&outcome, Err(Fault::Output)));
     Ok(())
 }

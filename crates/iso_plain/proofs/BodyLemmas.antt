@@ -1,0 +1,66 @@
+-- Conversion of bodies, by the arguments of a compound.
+use Rattle.std.proofs.Common.{◌≡◌, ◌≢◌, ◌<◌, ◌≤◌, ℕ, zero, suc, List, [], ◌∷◌, ◌++◌, map, length, refl, sym, ap, ap₂, ◌∙◌, arith, append_assoc, Bool, true, false, Option, Some, None, Result, Ok, Err, codes, String, Vec, Global, get_or, IsErrAnd}
+use Rattle.std.specs.String.{string_bytes}
+use Rattle.std.specs.Str.{bytes_eq}
+use Rattle.iso_model.specs.declared.terms.Term.{Term}
+use Rattle.iso_model.specs.declared.terms.Term.TheVariants.{Compound}
+use Rattle.iso_model.specs.Trees.{Tree, Apply, End, More, row}
+use Rattle.iso_model.specs.Terms.{term_of, row_of}
+use Rattle.iso_model.specs.Bodies.{Body, Run, And, both, two, converted}
+use Rattle.iso_model.proofs.RowLemmas.{term_of_compound}
+use Rattle.iso_plain.specs.declared.bodies.BodyFault.{BodyFault}
+use Rattle.iso_plain.specs.declared.bodies.BodyFault.TheVariants.{NotCallable, NoMemory}
+use Rattle.iso_plain.specs.Goals.{leaves, AppendsGoals}
+
+-- a compound that is no conjunction is a goal
+pub converted_other : (f : List ℕ) (ts : List Tree) → (length ts ≡ 2 → bytes_eq f (codes ",") ≡ false) → converted (Apply f (row ts)) ≡ Some (Run (Apply f (row ts)))
+converted_other f [] h = refl
+converted_other f (a ∷ []) h = refl
+converted_other f (a ∷ b ∷ []) h = rw (h refl) refl
+converted_other f (a ∷ b ∷ c ∷ ts) h = refl
+
+-- a conjunction is converted part by part
+pub converted_and : (f : List ℕ) (a b : Tree) → bytes_eq f (codes ",") ≡ true → converted (two f a b) ≡ both (converted a) (converted b)
+converted_and f a b h = rw h refl
+
+pub length-row_of : (ts : List Term) → length (map term_of ts) ≡ length ts
+length-row_of [] = refl
+length-row_of (t ∷ ts) = ap suc (length-row_of ts)
+
+pub goal_of_compound : (t : Term) (f : String Global) (v : Vec Term Global) → t ≡ Compound f v → (length v.items ≡ 2 → bytes_eq (string_bytes f) (codes ",") ≡ false) → converted (term_of t) ≡ Some (Run (term_of t))
+goal_of_compound t f v is h =
+    rw (is, term_of_compound f v) (converted_other (string_bytes f) (map term_of v.items) (λ e. h (sym (length-row_of v.items) ∙ e)))
+
+pub conjunction_of_compound : (t : Term) (f : String Global) (v : Vec Term Global) (a b : Term) → t ≡ Compound f v → v.items ≡ a ∷ b ∷ [] → bytes_eq (string_bytes f) (codes ",") ≡ true
+    → converted (term_of t) ≡ both (converted (term_of a)) (converted (term_of b))
+conjunction_of_compound t f v a b is items h =
+    rw (is, term_of_compound f v, items) (converted_and (string_bytes f) (term_of a) (term_of b) h)
+
+appends_err : (a b : Option Body) (old new last : List Tree) (e : BodyFault) → AppendsGoals a old (Err e) new → AppendsGoals (both a b) old (Err e) last
+appends_err (Some a) b old new last NotCallable h = absurd h
+appends_err (Some a) (Some b) old new last NoMemory h = tt
+appends_err (Some a) None old new last NoMemory h = tt
+appends_err None b old new last NotCallable h = tt
+appends_err None b old new last NoMemory h = tt
+
+-- the first part can't be converted
+pub appends_first : (a b : Option Body) (old new last : List Tree) (e : BodyFault) (r : Result Unit BodyFault) → IsErrAnd r (λ x. x ≡ e) → AppendsGoals a old (Err e) new → AppendsGoals (both a b) old r last
+appends_first a b old new last e (Ok u) h k = absurd h
+appends_first a b old new last e (Err x) h k = rw h (appends_err a b old new last e k)
+
+-- a list of two items, by what is read of it
+pub two_items : {X : Type 0} (xs : List X) (a b : X) → 2 ≤ length xs → length xs < 3 → a ≡ get_or xs 0 a → b ≡ get_or xs 1 b → xs ≡ a ∷ b ∷ []
+two_items [] a b h k i j = absurd (omega arith)
+two_items (x ∷ []) a b h k i j = absurd (omega arith)
+two_items (x ∷ y ∷ []) a b h k i j = ap₂ (λ v w. v ∷ w ∷ []) (sym i) (sym j)
+two_items (x ∷ y ∷ z ∷ xs) a b h k i j = absurd (omega arith)
+
+-- the goals of the first part come, and then those of the second
+pub appends_both : (a b : Option Body) (old mid new : List Tree) (r : Result Unit BodyFault) → AppendsGoals a old (Ok tt) mid → AppendsGoals b mid r new → AppendsGoals (both a b) old r new
+appends_both None b old mid new r h k = absurd h
+appends_both (Some a) None old mid new (Ok u) h k = absurd k
+appends_both (Some a) None old mid new (Err NotCallable) h k = tt
+appends_both (Some a) None old mid new (Err NoMemory) h k = tt
+appends_both (Some a) (Some b) old mid new (Ok u) h k = k ∙ ap (λ z. z ++ leaves b) h ∙ append_assoc old (leaves a) (leaves b)
+appends_both (Some a) (Some b) old mid new (Err NotCallable) h k = absurd k
+appends_both (Some a) (Some b) old mid new (Err NoMemory) h k = tt

@@ -1,0 +1,13 @@
+pub mod LinkedMoves
+pub mod LinkedStarts
+pub mod StandingLemmas
+pub mod EnteringLemmas
+pub mod BodyLemmas
+pub mod NumberLemmas
+pub mod ClauseLemmas
+pub mod RenamingLemmas
+pub mod PrepareLemmas
+pub mod ProgramLemmas
+pub mod KeptLemmas
+pub mod EngineLemmas
+pub mod BackLemmas

@@ -1,0 +1,72 @@
+-- A goal that is started, as a search with its goals linked.
+use Rattle.std.proofs.Common.{◌≡◌, ℕ, List, [], ◌++◌, Bool, true, false, cond, Option, Some, None, refl, ap, sym, ◌∙◌, codes, append-nil}
+use Rattle.std.specs.Str.{bytes_eq}
+use Rattle.iso_model.specs.Trees.{Tree, Variable, Integer, Name, Apply, End, More}
+use Rattle.iso_model.specs.Variables.{distinct_from, variables, variable_count}
+use Rattle.iso_model.specs.Bodies.{Body, Run, And, converted, both, body_term, one, two}
+use Rattle.iso_model.specs.Databases.{Database}
+use Rattle.iso_model.specs.Errors.{key, type_error_callable}
+use Rattle.iso_model.specs.Walker.{World, started, opening, shown_query}
+use Rattle.iso_plain.specs.Goals.{leaves}
+use Rattle.iso_plain.specs.Linked.{Links, nothing, linked, no_choice, Running, Raising, IsState}
+
+-- ---- a converted body has the variables of the term, in the same order
+
+same_body : (a b : Body) → Some a ≡ Some b → a ≡ b
+same_body a b h = cc
+
+run_same : (t : Tree) (b : Body) (seen : List ℕ) → Some (Run t) ≡ Some b → distinct_from seen (body_term b) ≡ distinct_from seen t
+run_same t b seen h = ap (λ (x : Body). distinct_from seen (body_term x)) (sym (same_body (Run t) b h))
+
+-- both parts of a conjunction
+both_same : (f : List ℕ) (s t : Tree) (o p : Option Body) (b : Body) (seen : List ℕ)
+    → ((x : Body) (seen : List ℕ) → o ≡ Some x → distinct_from seen (body_term x) ≡ distinct_from seen s)
+    → ((x : Body) (seen : List ℕ) → p ≡ Some x → distinct_from seen (body_term x) ≡ distinct_from seen t)
+    → both o p ≡ Some b → distinct_from seen (body_term b) ≡ distinct_from seen (two f s t)
+both_same f s t None p b seen first second h = absurd (cc)
+both_same f s t (Some x) None b seen first second h = absurd (cc)
+both_same f s t (Some x) (Some y) b seen first second h =
+    ap (λ (z : Body). distinct_from seen (body_term z)) (sym (same_body (And x y) b h))
+        ∙ (second y (distinct_from seen (body_term x)) refl ∙ ap (λ (vs : List ℕ). distinct_from vs t) (first x seen refl))
+
+two_same : (f : List ℕ) (s t : Tree) (comma : Bool) (o p : Option Body) (b : Body) (seen : List ℕ)
+    → ((x : Body) (seen : List ℕ) → o ≡ Some x → distinct_from seen (body_term x) ≡ distinct_from seen s)
+    → ((x : Body) (seen : List ℕ) → p ≡ Some x → distinct_from seen (body_term x) ≡ distinct_from seen t)
+    → cond comma (both o p) (Some (Run (two f s t))) ≡ Some b → distinct_from seen (body_term b) ≡ distinct_from seen (two f s t)
+two_same f s t true o p b seen first second h = both_same f s t o p b seen first second h
+two_same f s t false o p b seen first second h = run_same (two f s t) b seen h
+
+pub converted_same : (t : Tree) (b : Body) (seen : List ℕ) → converted t ≡ Some b → distinct_from seen (body_term b) ≡ distinct_from seen t
+converted_same (Variable n) b seen h = run_same (one (codes "call") (Variable n)) b seen h
+converted_same (Integer z) b seen h = absurd (cc)
+converted_same (Name a) b seen h = run_same (Name a) b seen h
+converted_same (Apply f (More s (More t End))) b seen h =
+    two_same f s t (bytes_eq f (codes ",")) (converted s) (converted t) b seen (λ x vs e. converted_same s x vs e) (λ x vs e. converted_same t x vs e) h
+converted_same (Apply f ts) b seen h = run_same (Apply f ts) b seen h
+converted_same End b seen h = absurd (cc)
+converted_same (More t ts) b seen h = absurd (cc)
+
+-- ---- the state at the start
+
+leaves_alone : (b : Body) → leaves b ≡ leaves b ++ []
+leaves_alone b = sym (append-nil (leaves b))
+
+-- a goal that can be converted
+pub starts_goals : (goal : Tree) (budget : ℕ) (w : World) (db : Database) (b : Body) → converted goal ≡ Some b → w.database ≡ db
+    → IsState (record { doing = Running (leaves b); subst = Variable; next = variable_count goal; query = variables goal; stack = []; database = db; steps = budget }) (started goal budget w)
+starts_goals goal budget w db b is database =
+    let list : Links (leaves b) (opening goal (converted goal)) = rw is (linked {mark = 0} (leaves_alone b) nothing) in
+    let query : variables (shown_query goal (converted goal)) ≡ variables goal = rw is (converted_same goal b [] is) in
+    record {
+      list = list;
+      around = record { subst = refl; next = refl; query = query; stack = no_choice; database = database; steps = refl }
+    }
+
+-- a goal that can't be converted is raised as an error
+pub starts_error : (goal : Tree) (budget : ℕ) (w : World) (db : Database) → converted goal ≡ None → w.database ≡ db
+    → IsState (record { doing = Raising (type_error_callable goal (key (codes "call") 1)); subst = Variable; next = variable_count goal; query = variables goal; stack = []; database = db; steps = budget }) (started goal budget w)
+starts_error goal budget w db is database =
+    record {
+      list = ([], ap (opening goal) is);
+      around = record { subst = refl; next = refl; query = rw is refl; stack = no_choice; database = database; steps = refl }
+    }

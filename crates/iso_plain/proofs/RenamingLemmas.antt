@@ -1,0 +1,111 @@
+-- What renaming the variables of a term keeps.
+use Rattle.std.proofs.Common.{◌≡◌, ◌<◌, ℕ, suc, ◌+◌, List, [], ◌∷◌, ◌++◌, map, length, refl, sym, ap, ap₂, ◌∙◌, subst, arith, Bool, true, false, ◌&&◌, ◌||◌, inl, inr, Option, Some, None, option_map, codes, nat_le, zero-add}
+use Rattle.std.specs.Str.{bytes_eq}
+use Rattle.std.specs.List.{All}
+use Rattle.std.proofs.lemmas.Bool.{cases_Bool, eqb-true, and_left, and_right, and_from, false≢true}
+use Rattle.iso_model.specs.Trees.{Tree, Variable, Integer, Name, Apply, End, More, row, count}
+use Rattle.iso_model.specs.Sorts.{is_term, is_row}
+use Rattle.iso_model.specs.Variables.{occurs, is_in, distinct_from, variables}
+use Rattle.iso_model.specs.Substitutions.{Subst, apply}
+use Rattle.iso_model.specs.Unification.Applied.{apply_same, occurs_from}
+use Rattle.iso_model.specs.Unification.Listed.{Covers, distinct_covers}
+use Rattle.iso_model.specs.Copies.{place_of, copy_from}
+use Rattle.iso_model.specs.Bodies.{Body, Run, And, converted, both, map_body, is_true}
+use Rattle.iso_model.specs.Databases.{Key, key_of}
+use Rattle.iso_model.specs.Additions.{head_of, body_of}
+use Rattle.iso_plain.specs.Goals.{leaves}
+use Rattle.iso_plain.specs.Linked.{goals_of}
+use Rattle.iso_plain.specs.Kept.{numbers, IsTemplate}
+use Rattle.iso_plain.proofs.NumberLemmas.{place_known}
+
+-- each variable by another
+abbrev pub renaming : (ℕ → ℕ) → Subst
+renaming f x = Variable (f x)
+
+count-renamed : (f : ℕ → ℕ) (t : Tree) → count (apply (renaming f) t) ≡ count t
+count-renamed f (Variable n) = refl
+count-renamed f (Integer z) = refl
+count-renamed f (Name a) = refl
+count-renamed f (Apply g ts) = refl
+count-renamed f End = refl
+count-renamed f (More t ts) = ap (λ n. n + 1) (count-renamed f ts)
+
+mutual
+  pub is_term-renamed : (f : ℕ → ℕ) (t : Tree) → is_term (apply (renaming f) t) ≡ is_term t
+  is_term-renamed f (Variable n) = refl
+  is_term-renamed f (Integer z) = refl
+  is_term-renamed f (Name a) = refl
+  is_term-renamed f (Apply g ts) = ap₂ (λ n b. nat_le 1 n && (nat_le n 255 && b)) (count-renamed f ts) (is_row-renamed f ts)
+  is_term-renamed f End = refl
+  is_term-renamed f (More t ts) = refl
+
+  pub is_row-renamed : (f : ℕ → ℕ) (t : Tree) → is_row (apply (renaming f) t) ≡ is_row t
+  is_row-renamed f (Variable n) = refl
+  is_row-renamed f (Integer z) = refl
+  is_row-renamed f (Name a) = refl
+  is_row-renamed f (Apply g ts) = refl
+  is_row-renamed f End = refl
+  is_row-renamed f (More t ts) = ap₂ ◌&&◌ (is_term-renamed f t) (is_row-renamed f ts)
+
+pub key-renamed : (f : ℕ → ℕ) (t : Tree) → key_of (apply (renaming f) t) ≡ key_of t
+key-renamed f (Variable n) = refl
+key-renamed f (Integer z) = refl
+key-renamed f (Name a) = refl
+key-renamed f (Apply g ts) = ap (λ n. Some (record { name = g; arity = n })) (count-renamed f ts)
+key-renamed f End = refl
+key-renamed f (More t ts) = refl
+
+both-mapped : (f : ℕ → ℕ) (a b : Option Body) → both (option_map (map_body (renaming f)) a) (option_map (map_body (renaming f)) b) ≡ option_map (map_body (renaming f)) (both a b)
+both-mapped f (Some a) (Some b) = refl
+both-mapped f (Some a) None = refl
+both-mapped f None (Some b) = refl
+both-mapped f None None = refl
+
+pub converted-renamed : (f : ℕ → ℕ) (t : Tree) → converted (apply (renaming f) t) ≡ option_map (map_body (renaming f)) (converted t)
+converted-renamed f (Variable n) = refl
+converted-renamed f (Integer z) = refl
+converted-renamed f (Name a) = refl
+converted-renamed f (Apply g (More a (More b End))) =
+    elim (cases_Bool (bytes_eq g (codes ","))) [
+      | inl same ↦ rw same (ap₂ both (converted-renamed f a) (converted-renamed f b) ∙ both-mapped f (converted a) (converted b))
+      | inr other ↦ rw other refl
+    ]
+converted-renamed f (Apply g t) = refl
+converted-renamed f End = refl
+converted-renamed f (More t ts) = refl
+
+pub head-renamed : (f : ℕ → ℕ) (t : Tree) → head_of (apply (renaming f) t) ≡ apply (renaming f) (head_of t)
+head-renamed f (Apply g (More h (More b End))) =
+    elim (cases_Bool (bytes_eq g (codes ":-"))) [ inl same ↦ rw same refl | inr other ↦ rw other refl ]
+head-renamed f t = refl
+
+pub body-renamed : (f : ℕ → ℕ) (t : Tree) → body_of (apply (renaming f) t) ≡ apply (renaming f) (body_of t)
+body-renamed f (Apply g (More h (More b End))) =
+    elim (cases_Bool (bytes_eq g (codes ":-"))) [ inl same ↦ rw same refl | inr other ↦ rw other refl ]
+body-renamed f t = refl
+
+map-append : (s : Subst) (xs ys : List Tree) → map (apply s) (xs ++ ys) ≡ map (apply s) xs ++ map (apply s) ys
+map-append s [] ys = refl
+map-append s (x ∷ xs) ys = ap (λ z. apply s x ∷ z) (map-append s xs ys)
+
+pub leaves-mapped : (s : Subst) (b : Body) → leaves (map_body s b) ≡ map (apply s) (leaves b)
+leaves-mapped s (Run t) = refl
+leaves-mapped s (And a b) = ap₂ ◌++◌ (leaves-mapped s a) (leaves-mapped s b) ∙ sym (map-append s (leaves a) (leaves b))
+
+pub is_true-renamed : (f : ℕ → ℕ) (b : Body) → is_true (map_body (renaming f) b) ≡ is_true b
+is_true-renamed f (Run t) = true_leaf t where
+  true_leaf : (t : Tree) → is_true (Run (apply (renaming f) t)) ≡ is_true (Run t)
+  true_leaf (Variable n) = refl
+  true_leaf (Integer z) = refl
+  true_leaf (Name a) = refl
+  true_leaf (Apply g ts) = refl
+  true_leaf End = refl
+  true_leaf (More t ts) = refl
+is_true-renamed f (And a b) = refl
+
+pub goals-renamed : (f : ℕ → ℕ) (b : Body) → goals_of (map_body (renaming f) b) ≡ map (apply (renaming f)) (goals_of b)
+goals-renamed f b =
+    elim (cases_Bool (is_true b)) [
+      | inl alone ↦ rw (is_true-renamed f b, alone) refl
+      | inr other ↦ rw (is_true-renamed f b, other) (leaves-mapped (renaming f) b)
+    ]

@@ -1,0 +1,17 @@
+use borrow.Author.Tests.{ltb-true, ltb-false}
+use Rattle.std.proofs.Common.{rules, arith, refl, ◌≡◌, false, codes, length}
+use Rattle.std.specs.Str.{bytes_eq}
+use Rattle.std.specs.String.{string_bytes}
+use Rattle.iso_plain.proofs.ClauseLemmas.{fact_of_compound}
+use Rattle.iso_plain.proofs.clauses.parts.Goals.{in_default-via-then-as_slice-lt2, in_default-via-in-len2+else-eq, in_default-via-else-as_slice-lt2+else-this-lt3}
+use Rattle.iso_plain.proofs.clauses.parts.Goals as goal
+
+pub returns-in_default : goal.returns-in_default
+returns-in_default c =
+    let other : length c.in-Compound.arguments.items ≡ 2 → bytes_eq (string_bytes c.in-Compound.name) (codes ":-") ≡ false = λ two. elim c.in_default.branch [
+      | in_default-via-then-as_slice-lt2 w ↦ absurd (omega (arith, ltb-true, ltb-false))
+      | in_default-via-in-len2+else-eq w ↦ search rules
+      | in_default-via-else-as_slice-lt2+else-this-lt3 w ↦ absurd (omega (arith, ltb-true, ltb-false))
+    ] in
+    let fact = fact_of_compound c.args.clause.now c.in-Compound.name c.in-Compound.arguments c.in-Compound.is other in
+    (refl, fact.0, fact.1)

@@ -1,0 +1,179 @@
+-- Which states of the search the engine stands for, what its moves come to, and by what they fall.
+use Rattle.std.specs.Prelude.{◌≡◌, ◌≢◌, ℕ, zero, suc, ◌+◌, ◌*◌, ◌-◌, ◌<◌, ◌≤◌, List, [], ◌∷◌, length, take, drop, sum, map, Option, Some, None, option_map, true, ◌⊎◌}
+use Rattle.std.specs.List.{slice_get}
+use Rattle.iso_model.specs.Trees.{Tree, Variable}
+use Rattle.iso_model.specs.Terms.{term_of}
+use Rattle.iso_model.specs.Substitutions.{Subst, apply, compose}
+use Rattle.iso_model.specs.Unifiers.{Unifier, NeverEqual}
+use Rattle.iso_model.specs.Copies.{renamed}
+use Rattle.iso_model.specs.Databases.{Clause, Database}
+use Rattle.iso_model.specs.Walker.{State}
+use Rattle.iso_model.specs.Runs.{Quiet}
+use Rattle.iso_model.specs.Engines as engines
+use Rattle.iso_model.specs.Engines.{Phase, Ready, Midway}
+use Rattle.iso_model.specs.declared.pauses.Pause.{Pause}
+use Rattle.iso_model.specs.declared.pauses.Pause.TheVariants as pause
+use Rattle.iso_store.specs.Presents.{Present}
+use Rattle.iso_plain.specs.Linked.{Linked, Choice, IsState, idle_linked, with_choice, linked_missed, linked_entered}
+use Rattle.iso_plain.specs.Standing.{Among, Chain, AreVariables, StandsForChoices, HaveRoom, DoesNext, most_numbers, numbers_a_step}
+use Rattle.iso_plain.specs.Programs.{IsDatabase}
+use Rattle.iso_plain.specs.declared.procedures.Procedure.{Procedure}
+use Rattle.iso_plain.specs.declared.parts.Attempt.{Attempt}
+use Rattle.iso_plain.specs.declared.parts.Choice as kept
+use Rattle.iso_plain.specs.declared.parts.Now.{Now}
+use Rattle.iso_plain.specs.declared.parts.Now.TheVariants as now
+use Rattle.iso_plain.specs.declared.plain.Move.{Move}
+use Rattle.iso_plain.specs.declared.plain.Move.TheVariants as move
+use Rattle.iso_plain.specs.declared.plain.Plain.{Plain}
+
+-- the clauses of the procedure at a place of the database, from a clause on
+abbrev pub left_at : Database → ℕ → ℕ → List Clause
+left_at [] i j = []
+left_at (p ∷ ps) zero j = drop j p.clauses
+left_at (p ∷ ps) (suc i) j = left_at ps i j
+
+-- The mark brings back an empty store.
+pub record IsBase {W M : Type 0} (stands : M → Present W → Type 0) (base : M) : Type 0 where
+  pub present : Present W
+  pub stands_for : stands base present
+  pub substitution : present.substitution ≡ Variable
+  pub next : present.next ≡ 0
+
+-- the phase of an engine
+abbrev pub phase_of : Now → Phase
+phase_of now.Idle = Ready
+phase_of now.Failing = Ready
+phase_of now.Answering = Midway
+phase_of (now.Running place) = Midway
+phase_of now.Raising = Midway
+phase_of now.Spent = engines.Spent
+
+module _ {S W M : Type 0} (present : S → Present W) (stands : S → M → Present W → Type 0) (older : M → M → Type 0) where
+  -- The engine's parts are this search with its goals linked.
+  pub record IsEngine (e : Plain S W M) (l : Linked) : Type 0 where
+    pub database : IsDatabase e.procedures.items l.database
+    pub steps : l.steps ≡ e.steps
+    pub base : IsBase (stands e.store) e.base
+    pub choices : StandsForChoices (stands e.store) older e.base (left_at l.database) e.query.items l.query e.frames.items e.choices.items l.stack
+    pub room : HaveRoom e.steps l.stack
+    pub next : DoesNext (present e.store) e.frames.items e.query.items e.now (option_map (λ b. term_of b.term) e.raised) l
+
+  -- The engine is awake and is this state of the search.
+  pub record Represents (e : Plain S W M) (s : State) : Type 0 where
+    pub search : Linked
+    pub engine : IsEngine e search
+    pub state : IsState search s
+
+  -- A spent engine may be any state, so also the one behind the last event.
+  abbrev pub StandsBy : Now → Plain S W M → State → Type 0
+  StandsBy now.Spent e s = Unit {0}
+  StandsBy now.Idle e s = Represents e s
+  StandsBy now.Failing e s = Represents e s
+  StandsBy now.Answering e s = Represents e s
+  StandsBy (now.Running place) e s = Represents e s
+  StandsBy now.Raising e s = Represents e s
+
+  -- the states that the engine stands for
+  abbrev pub StandsFor : Plain S W M → State → Type 0
+  StandsFor e s = StandsBy e.now e s
+
+  -- The engine is about to try the first of these clauses for a call, with these goals behind it; `l` is what the search was at the call.
+  pub record Tries (e : Plain S W M) (attempt : Attempt W) (l : Linked) (call : Tree) (c : Clause) (cs : List Clause) (behind : List Tree) : Type 0 where
+    pub database : IsDatabase e.procedures.items l.database
+    pub steps : l.steps ≡ e.steps
+    pub base : IsBase (stands e.store) e.base
+    pub choices : StandsForChoices (stands e.store) older e.base (left_at l.database) e.query.items l.query e.frames.items e.choices.items (with_choice call cs behind l.subst l.next l.stack)
+    pub room : HaveRoom e.steps (with_choice call cs behind l.subst l.next l.stack)
+    pub space : l.next + numbers_a_step * (e.steps + 1) ≤ most_numbers
+    pub subst : (present e.store).substitution ≡ l.subst
+    pub next : (present e.store).next ≡ l.next
+    pub holds : (present e.store).holds attempt.goal ≡ true
+    pub call_is : (present e.store).term attempt.goal ≡ call
+    pub links : Chain (present e.store) e.frames.items attempt.rest behind
+    pub variables : AreVariables (present e.store) e.query.items l.query
+    pub clauses : left_at l.database attempt.procedure attempt.clause ≡ c ∷ cs
+
+  -- The clause was tried: its head had no unifier with the call, or the engine goes on behind it.
+  abbrev pub Tried : Plain S W M → Linked → Tree → Clause → List Clause → List Tree → Type 0
+  Tried e l call c cs behind =
+      (NeverEqual (apply l.subst call) (apply l.subst (renamed l.next c.head)) × IsEngine e (linked_missed call c cs behind l))
+      ⊎ ((u : Subst) × Unifier (apply l.subst call) (apply l.subst (renamed l.next c.head)) u × IsEngine e (linked_entered call c cs behind l (compose l.subst u)))
+
+  -- what a move comes to, from a state of the search
+  abbrev pub Moves : Move → State → Plain S W M → Type 0
+  Moves move.Goes s e = (t : State) × Quiet s t × Represents e t × (e.now ≢ now.Spent)
+  Moves (move.Pauses p) s e = engines.Pauses s p (StandsFor e) (phase_of e.now)
+
+-- ---- what falls
+
+-- how many clauses the procedures have
+abbrev pub most_clauses : List Procedure → ℕ
+most_clauses [] = 0
+most_clauses (p ∷ ps) = length p.clauses.items + most_clauses ps
+
+-- how many clauses the procedure at this place has
+abbrev pub clauses_at_place : List Procedure → ℕ → ℕ
+clauses_at_place [] i = 0
+clauses_at_place (p ∷ ps) zero = length p.clauses.items
+clauses_at_place (p ∷ ps) (suc i) = clauses_at_place ps i
+
+-- how many clauses are left at the choices
+abbrev pub clauses_left : {W M : Type 0} → List Procedure → List (kept.Choice W M) → ℕ
+clauses_left ps [] = 0
+clauses_left ps (c ∷ cs) = (clauses_at_place ps c.attempt.procedure - c.attempt.clause) + clauses_left ps cs
+
+-- whether a goal is to be run, an answer given or a ball raised
+abbrev pub runs : Now → ℕ
+runs now.Idle = 0
+runs now.Failing = 0
+runs now.Answering = 1
+runs (now.Running place) = 1
+runs now.Raising = 1
+runs now.Spent = 0
+
+-- A number that falls at each move: a step that is left weighs more than all clauses of a procedure.
+abbrev pub weight : {S W M : Type 0} → Plain S W M → ℕ
+weight e = e.steps * (2 * most_clauses e.procedures.items + 2) + (2 * clauses_left e.procedures.items e.choices.items + runs e.now)
+
+-- a move that goes on, and one that gives an event, make it fall
+abbrev pub Falls : Move → ℕ → ℕ → Type 0
+Falls move.Goes old new = new < old
+Falls (move.Pauses p) old new = engines.FallsAtEvent p old new
+
+module _ {S W M : Type 0} (present : S → Present W) (stands : S → M → Present W → Type 0) (older : M → M → Type 0) where
+  -- The engine is at a call, and its procedure has these clauses, the first of which is at the attempt.
+  pub record Calls (e : Plain S W M) (attempt : Attempt W) (l : Linked) (call : Tree) (c : Clause) (cs : List Clause) (behind : List Tree) : Type 0 where
+    pub database : IsDatabase e.procedures.items l.database
+    pub steps : l.steps ≡ e.steps
+    pub base : IsBase (stands e.store) e.base
+    pub choices : StandsForChoices (stands e.store) older e.base (left_at l.database) e.query.items l.query e.frames.items e.choices.items l.stack
+    pub room : HaveRoom e.steps l.stack
+    pub space : l.next + numbers_a_step * (e.steps + 1) ≤ most_numbers
+    pub subst : (present e.store).substitution ≡ l.subst
+    pub next : (present e.store).next ≡ l.next
+    pub holds : (present e.store).holds attempt.goal ≡ true
+    pub call_is : (present e.store).term attempt.goal ≡ call
+    pub links : Chain (present e.store) e.frames.items attempt.rest behind
+    pub variables : AreVariables (present e.store) e.query.items l.query
+    pub clauses : left_at l.database attempt.procedure attempt.clause ≡ c ∷ cs
+
+  -- The engine went back to its newest choice, which is still there.
+  pub record WentBack (e : Plain S W M) (c : kept.Choice W M) (l : Linked) (k : Choice) (below : List Choice) : Type 0 where
+    pub database : IsDatabase e.procedures.items l.database
+    pub steps : l.steps ≡ e.steps
+    pub base : IsBase (stands e.store) e.base
+    pub mark : stands e.store c.mark (present e.store)
+    pub newest : slice_get e.choices.items (length e.choices.items - 1) ≡ Some c
+    pub kept_frames : c.frames ≡ length e.frames.items
+    pub subst : (present e.store).substitution ≡ k.subst
+    pub next : (present e.store).next ≡ k.next
+    pub holds : (present e.store).holds c.attempt.goal ≡ true
+    pub call_is : k.call ≡ (present e.store).term c.attempt.goal
+    pub links : Chain (present e.store) e.frames.items c.attempt.rest k.behind
+    pub clauses : k.clauses ≡ left_at l.database c.attempt.procedure c.attempt.clause
+    pub some : 0 < length k.clauses
+    pub variables : AreVariables (present e.store) e.query.items l.query
+    pub newer_base : older e.base c.mark
+    pub newer : (d : kept.Choice W M) → Among d (take (length e.choices.items - 1) e.choices.items) → older d.mark c.mark
+    pub stands_below : StandsForChoices (stands e.store) older e.base (left_at l.database) e.query.items l.query e.frames.items (take (length e.choices.items - 1) e.choices.items) below
+    pub room : HaveRoom e.steps (k ∷ below)

@@ -1,0 +1,86 @@
+-- Clauses as the engine keeps them, and the checks by which they come.
+use Rattle.std.specs.Prelude.{◌≡◌, ℕ, ◌<◌, ◌≤◌, List, [], ◌∷◌, Option, Some, None, Result, Ok, Err, Bool, true, false, codes, if◌then◌else◌}
+use Rattle.iso_model.specs.Trees.{Tree, Variable, Name, More, row}
+use Rattle.iso_model.specs.Sorts.{is_term}
+use Rattle.iso_model.specs.Terms.{term_of, row_of}
+use Rattle.iso_model.specs.Variables.{occurs, variables, variable_count}
+use Rattle.iso_model.specs.Substitutions.{Subst, apply}
+use Rattle.iso_model.specs.Copies.{place_of}
+use Rattle.iso_model.specs.Bodies.{Body, two, is_true, converted}
+use Rattle.iso_model.specs.Databases as databases
+use Rattle.iso_model.specs.Databases.{Key, Database, key_of, is_built_in, with_clause}
+use Rattle.iso_model.specs.Errors.{type_error_callable, permission_error}
+use Rattle.iso_model.specs.Additions.{head_of, body_of, most_variables, consult_key, Adds, Refuses, addition, added_callable, clause_of}
+use Rattle.iso_model.specs.declared.terms.Term.{Term}
+use Rattle.iso_model.specs.declared.pauses.AddFault.{AddFault}
+use Rattle.iso_model.specs.declared.pauses.AddFault.TheVariants as add
+use Rattle.std.specs.declared.vec.Vec.{Vec}
+use Rattle.std.specs.declared.alloc.Global.{Global}
+use Rattle.iso_plain.specs.declared.clauses.Clause.{Clause}
+use Rattle.iso_plain.specs.Goals.{terms_of}
+use Rattle.iso_plain.specs.Linked.{goals_of}
+
+-- each variable by its place in the list
+abbrev pub numbers : List ℕ → Subst
+numbers vs x = Variable (place_of x vs)
+
+-- A clause by its head and, where it has one, its body.
+abbrev pub Splits : Tree → Tree → Option Tree → Type 0
+Splits t head (Some body) = t ≡ two (codes ":-") head body
+Splits t head None = (head ≡ t) × (head_of t ≡ t) × (body_of t ≡ Name (codes "true"))
+
+-- A callable term whose variables are below n.
+pub record IsTemplate (n : ℕ) (t : Tree) : Type 0 where
+  pub is : is_term t ≡ true
+  pub key : (k : Key) × (key_of t ≡ Some k)
+  pub below : (x : ℕ) → occurs x t ≡ true → x < n
+
+-- each of them is one
+abbrev pub AreTemplates : ℕ → List Tree → Type 0
+AreTemplates n [] = Unit {0}
+AreTemplates n (t ∷ ts) = IsTemplate n t × AreTemplates n ts
+
+-- The variables of the head and of the goals are numbered 0, 1, .. by first occurrence.
+pub record IsRenamed (head : Tree) (goals : List Tree) (kept : Clause) : Type 0 where
+  pub head_is : term_of kept.head ≡ apply (numbers (variables (More head (row goals)))) head
+  pub goals_are : row_of kept.goals.items ≡ apply (numbers (variables (More head (row goals)))) (row goals)
+  pub variables_are : kept.variables ≡ variable_count (More head (row goals))
+
+-- The engine keeps the clause of the database so.
+pub record IsClause (kept : Clause) (c : databases.Clause) : Type 0 where
+  pub head : term_of kept.head ≡ c.head
+  pub goals : terms_of kept.goals.items ≡ goals_of c.body
+  pub variables : kept.variables ≡ c.variables
+  pub few : c.variables ≤ most_variables
+  pub templates : AreTemplates c.variables (c.head ∷ goals_of c.body)
+
+-- The goals of a body come, or the body can't be converted.
+abbrev pub GoalsOf : Tree → Result (Vec Term Global) AddFault → Type 0
+GoalsOf body (Ok goals) = (b : Body) × (converted body ≡ Some b) × (terms_of goals.items ≡ goals_of b)
+GoalsOf body (Err (add.Refused ball)) = (converted body ≡ None) × (term_of ball.term ≡ type_error_callable body consult_key)
+GoalsOf body (Err add.NoMemory) = Unit {0}
+
+-- The head is not callable, and the clause is refused.
+abbrev pub RefusesHead : Tree → AddFault → Type 0
+RefusesHead head (add.Refused ball) = (t : Tree) (db : Database) → added_callable t head (key_of head) db ≡ Refuses (term_of ball.term)
+RefusesHead head add.NoMemory = Unit {0}
+
+-- The head is that of no built-in, or the clause is refused.
+abbrev pub ChecksUser : Key → Result Unit AddFault → Type 0
+ChecksUser k (Ok u) = is_built_in k ≡ false
+ChecksUser k (Err (add.Refused ball)) = (is_built_in k ≡ true) × (term_of ball.term ≡ permission_error k consult_key)
+ChecksUser k (Err add.NoMemory) = Unit {0}
+
+-- The clause is added at the end of its procedure.
+pub record IsAddition (t : Tree) (kept : Clause) : Type 0 where
+  pub body : Body
+  pub key : Key
+  pub clause : IsClause kept (clause_of t body)
+  pub named : key_of (term_of kept.head) ≡ Some key
+  pub adds : (db : Database) → addition t db ≡ Adds (with_clause db key (clause_of t body))
+
+-- The clause is to be added, or refused with its error.
+abbrev pub Prepares : Tree → Result Clause AddFault → Type 0
+Prepares t (Ok kept) = IsAddition t kept
+Prepares t (Err (add.Refused ball)) = (db : Database) → addition t db ≡ Refuses (term_of ball.term)
+Prepares t (Err add.NoMemory) = Unit {0}

@@ -1,0 +1,34 @@
+-- The database as the engine keeps it.
+use Rattle.std.specs.Prelude.{◌≡◌, ℕ, ◌<◌, List, [], ◌∷◌, Bool, ◌&&◌, ◌==◌, length, position, Option}
+use Rattle.std.specs.String.{string_bytes}
+use Rattle.std.specs.Str.{bytes_eq}
+use Rattle.iso_model.specs.Databases as databases
+use Rattle.iso_model.specs.Databases.{Key, Database}
+use Rattle.iso_plain.specs.declared.clauses.Clause.{Clause}
+use Rattle.iso_plain.specs.declared.procedures.Procedure.{Procedure}
+use Rattle.iso_plain.specs.Kept.{IsClause}
+
+-- the clauses are kept in their order
+pub data AreClauses : List Clause → List databases.Clause → Type 0 where
+  no_clauses : AreClauses [] []
+  more_clauses : {kept : Clause} {c : databases.Clause} {ks : List Clause} {cs : List databases.Clause} → IsClause kept c → AreClauses ks cs → AreClauses (kept ∷ ks) (c ∷ cs)
+
+-- the procedure is kept so, and has a clause
+pub record IsProcedure (kept : Procedure) (p : databases.Procedure) : Type 0 where
+  pub name : string_bytes kept.name ≡ p.key.name
+  pub arity : kept.arity ≡ p.key.arity
+  pub clauses : AreClauses kept.clauses.items p.clauses
+  pub some : 0 < length kept.clauses.items
+
+-- the procedures are kept in their order
+pub data IsDatabase : List Procedure → Database → Type 0 where
+  no_procedures : IsDatabase [] []
+  more_procedures : {kept : Procedure} {p : databases.Procedure} {ks : List Procedure} {ps : Database} → IsProcedure kept p → IsDatabase ks ps → IsDatabase (kept ∷ ks) (p ∷ ps)
+
+-- whether this is the procedure with the key
+abbrev pub has_key : Key → Procedure → Bool
+has_key k p = p.arity == k.arity && bytes_eq (string_bytes p.name) k.name
+
+-- the place of the procedure with this key
+abbrev pub place_at : List Procedure → Key → Option ℕ
+place_at ps k = position (has_key k) ps

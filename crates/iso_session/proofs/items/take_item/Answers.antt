@@ -1,0 +1,9 @@
+use Rattle.std.proofs.Common.{refl}
+use Rattle.iso_model.specs.Terms.{term_of}
+use Rattle.iso_model.proofs.NumberedLemmas.{is_numbered_IsNumbered}
+use Rattle.iso_session.proofs.items.take_item.Goals as goal
+
+pub returns-in-Ok-Some-clause-fits : goal.returns-in-Ok-Some-clause-fits
+returns-in-Ok-Some-clause-fits c =
+    let read = c.in-Ok-Some.ensures.well_formed in
+    (read.arities, is_numbered_IsNumbered (term_of c.in-Ok-Some.read.term) (rw read.numbered refl))
