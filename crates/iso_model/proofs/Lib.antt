@@ -1,7 +1,7 @@
 pub mod RowLemmas
 pub mod UnifierLemmas
 pub mod Cost
-mod ReadingRows
+pub mod WorkedReading
 pub mod ReadingSound
 pub mod TokenLemmas
 pub mod LexemeLemmas

@@ -32,6 +32,7 @@ pub mod Engines
 pub mod Lines
 pub mod Sessions
 pub mod WorkedRuns
+pub mod WorkedTexts
 pub mod VariableLaws
 pub mod UnifierLaws
 pub mod ReadingLaws

@@ -1,0 +1,93 @@
+-- Worked texts: the tokens of three short clauses, the clauses that they are, and the text of three terms. A literal stands for its bytes, by `codes`.
+use Rattle.std.specs.Prelude.{◌≡◌, ℕ, true, false, List, [], ◌∷◌, pos, neg_ℤ, codes}
+use Rattle.iso_model.specs.Trees.{Variable, Integer, Name, Apply, row}
+use Rattle.iso_model.specs.Bodies.{two}
+use Rattle.iso_model.specs.Token.{Shown, TokenKind, NameToken, VariableToken, IntegerToken, PunctToken, EndToken}
+use Rattle.iso_model.specs.Tokens.{tokens}
+use Rattle.iso_model.specs.Operators.{operators}
+use Rattle.iso_model.specs.Grammar.{Clause}
+use Rattle.iso_model.specs.Clauses.{IsNextClause}
+use Rattle.iso_model.specs.Lines.{text_of}
+use Rattle.iso_model.specs.WorkedRuns.{rule, number}
+
+-- a fact: a name directly before its arguments, and a variable twice
+abbrev pub equal_text : List ℕ
+equal_text = codes "eq(X, X)."
+
+-- a rule: an infix operator, a body of two goals, a named variable, and one without a name
+abbrev pub rule_text : List ℕ
+rule_text = codes "p(Y, _) :- q, r(1, Y)."
+
+-- a rule without layout, and a comment behind it
+abbrev pub loop_text : List ℕ
+loop_text = codes "l:-l. % again"
+
+-- the token of this kind with this text, which begins at this place
+abbrev pub token : TokenKind → List ℕ → ℕ → Shown
+token k text at = record { kind = k; text = text; start = at; after_layout = false }
+
+-- such a token, directly behind layout
+abbrev pub spaced : TokenKind → List ℕ → ℕ → Shown
+spaced k text at = record { kind = k; text = text; start = at; after_layout = true }
+
+-- The tokens of the first clause (6.4): a `.` before layout (6.4.8) or at the end of the text (own) is an end token.
+abbrev pub TokensOfEqual : Type 0
+TokensOfEqual =
+    tokens equal_text
+    ≡ (token NameToken (codes "eq") 0 ∷ token PunctToken (codes "(") 2 ∷ token VariableToken (codes "X") 3 ∷ token PunctToken (codes ",") 4
+    ∷ spaced VariableToken (codes "X") 6 ∷ token PunctToken (codes ")") 7 ∷ token EndToken (codes ".") 8 ∷ [])
+
+-- The tokens of the second: `:-` is a name of graphic characters (6.4.2), and `_` a variable (6.4.3).
+abbrev pub TokensOfRule : Type 0
+TokensOfRule =
+    tokens rule_text
+    ≡ (token NameToken (codes "p") 0 ∷ token PunctToken (codes "(") 1 ∷ token VariableToken (codes "Y") 2 ∷ token PunctToken (codes ",") 3
+    ∷ spaced VariableToken (codes "_") 5 ∷ token PunctToken (codes ")") 6 ∷ spaced NameToken (codes ":-") 8
+    ∷ spaced NameToken (codes "q") 11 ∷ token PunctToken (codes ",") 12
+    ∷ spaced NameToken (codes "r") 14 ∷ token PunctToken (codes "(") 15 ∷ token IntegerToken (codes "1") 16 ∷ token PunctToken (codes ",") 17
+    ∷ spaced VariableToken (codes "Y") 19 ∷ token PunctToken (codes ")") 20 ∷ token EndToken (codes ".") 21 ∷ [])
+
+-- The tokens of the third: each is the longest that fits, and a comment is none (6.4.1).
+abbrev pub TokensOfLoop : Type 0
+TokensOfLoop = tokens loop_text ≡ (token NameToken (codes "l") 0 ∷ token NameToken (codes ":-") 1 ∷ token NameToken (codes "l") 3 ∷ token EndToken (codes ".") 4 ∷ [])
+
+-- Those are the tokens of the three clauses.
+abbrev pub TokensOfThreeClauses : Type 0
+TokensOfThreeClauses = TokensOfEqual × TokensOfRule × TokensOfLoop
+
+-- `eq(X, X)`: both are variable 0, and its name is X.
+abbrev pub equal_clause : Clause
+equal_clause = record { term = two (codes "eq") (Variable 0) (Variable 0); names = (codes "X", 0) ∷ [] }
+
+-- `p(Y, _) :- q, r(1, Y)`: Y is variable 0, `_` is variable 1 and has no name, and the comma joins the goals of the body.
+abbrev pub rule_clause : Clause
+rule_clause = record {
+  term = rule (two (codes "p") (Variable 0) (Variable 1)) (two (codes ",") (Name (codes "q")) (two (codes "r") (number 1) (Variable 0)));
+  names = (codes "Y", 0) ∷ [];
+}
+
+-- `l :- l`
+abbrev pub loop_clause : Clause
+loop_clause = record { term = rule (Name (codes "l")) (Name (codes "l")); names = [] }
+
+-- Those are the three clauses by the grammar (6.2, 6.3).
+abbrev pub ReadingOfThreeClauses : Type 0
+ReadingOfThreeClauses =
+    IsNextClause operators (tokens equal_text) equal_clause × IsNextClause operators (tokens rule_text) rule_clause
+    × IsNextClause operators (tokens loop_text) loop_clause
+
+-- The tokens of this text up to its end token are no clause.
+abbrev pub IsNoClause : List ℕ → Type 0
+IsNoClause text = (c : Clause) → IsNextClause operators (tokens text) c → ⊥
+
+-- Three texts that are no clauses: an argument has a priority of at most 999 and `:-` has 1200 (6.3.3.1), an infix
+-- operator takes an operand on its right (6.3.4.2), and a `(` behind layout opens no arguments (6.3.3).
+abbrev pub NoClauses : Type 0
+NoClauses = IsNoClause (codes "p(a :- b).") × IsNoClause (codes "p :- .") × IsNoClause (codes "p (a).")
+
+-- The text of three terms in the canonical style (7.10.5): an integer below 0; an atom that stands in quotes; and
+-- f(X, g(a, 1), Y, X), where X is variable 3 and Y variable 0: they are `_k` by first occurrence (own).
+abbrev pub TextOfThreeTerms : Type 0
+TextOfThreeTerms =
+    (text_of (Integer (neg_ℤ (pos 5))) ≡ codes "-5") × (text_of (Name (codes "it's")) ≡ codes "'it\\'s'")
+    × (text_of (Apply (codes "f") (row (Variable 3 ∷ two (codes "g") (Name (codes "a")) (number 1) ∷ Variable 0 ∷ Variable 3 ∷ []))) ≡ codes "f(_1,g(a,1),_2,_1)")
