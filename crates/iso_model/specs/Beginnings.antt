@@ -1,5 +1,5 @@
 -- What a session has written when it ends (own): all of its text, or a beginning of it where a limit or the writer ends it.
-use Rattle.std.specs.Prelude.{◌≡◌, ℕ, Bool, false, List, [], ◌∷◌, ◌++◌, Option, codes}
+use Rattle.std.specs.Prelude.{◌≡◌, ℕ, false, List, [], ◌∷◌, ◌++◌, Option, codes}
 use Rattle.std.specs.Io.KnownBytes.{Appends}
 use Rattle.iso_model.specs.Grammar.{Clause}
 use Rattle.iso_model.specs.Items.{Readable}

@@ -1,14 +1,13 @@
 -- The engine goes back to its newest choice, and enters the next clause there.
-use Rattle.std.proofs.Common.{◌≡◌, ◌≢◌, ℕ, zero, suc, ◌+◌, ◌-◌, ◌*◌, ◌<◌, ◌≤◌, List, [], ◌∷◌, ◌++◌, length, take, drop, get_or, Option, Some, None, true, refl, ap, sym, ◌∙◌, subst, arith, Vec, Global}
+use Rattle.std.proofs.Common.{◌≡◌, ℕ, zero, suc, ◌-◌, ◌<◌, ◌≤◌, List, [], ◌∷◌, length, take, get_or, Some, true, refl, ap, sym, ◌∙◌, subst, arith, Vec, Global}
 use Rattle.std.specs.List.{slice_get}
-use Rattle.iso_model.specs.Databases as databases
-use Rattle.iso_store.specs.Presents.{Present, KeepsMarks}
+use Rattle.iso_store.specs.Presents.{Present}
 use Rattle.iso_plain.specs.declared.parts.Frame.{Frame}
 use Rattle.iso_plain.specs.declared.parts.Choice as kept
 use Rattle.iso_plain.specs.declared.plain.Plain.{Plain}
 use Rattle.iso_plain.specs.Linked.{Linked, Choice}
-use Rattle.iso_plain.specs.Standing.{Among, Chain, AreVariables, StandsForChoice, StandsForChoices, HaveRoom}
-use Rattle.iso_plain.specs.EngineStates.{IsBase, IsEngine, WentBack, left_at}
+use Rattle.iso_plain.specs.Standing.{Chain, AreVariables, StandsForChoices, HaveRoom}
+use Rattle.iso_plain.specs.EngineStates.{IsEngine, WentBack, left_at}
 use Rattle.iso_plain.proofs.StandingLemmas.{newest, choices_keep}
 
 pub get_at : {X : Type 0} (xs : List X) (i : ℕ) (x : X) → i < length xs → x ≡ get_or xs i x → slice_get xs i ≡ Some x
@@ -38,7 +37,7 @@ module _ {S W M : Type 0} (present : S → Present W) (stands : S → M → Pres
       let h = n.here in
       let at : h.present ≡ present store = sym (back h.present h.mark) in
       let below : StandsForChoices (stands store) older e.base (left_at l.database) e.query.items l.query (take c.frames e.frames.items) (take (length e.choices.items - 1) e.choices.items) n.below =
-          choices_keep (λ d p among stood. marks d.mark p (n.newer d among) stood) n.stands_below in
+      choices_keep (λ d p among stood. marks d.mark p (n.newer d among) stood) n.stands_below in
       let b = is.base in
       let fs = sym kept_frames in
       record {
@@ -63,6 +62,6 @@ module _ {S W M : Type 0} (present : S → Present W) (stands : S → M → Pres
           newer_base = h.newer;
           newer = n.newer;
           stands_below = subst (λ (xs : List (Frame W)). StandsForChoices (stands store) older e.base (left_at l.database) e.query.items l.query xs (take (length e.choices.items - 1) e.choices.items) n.below) fs below;
-          room = subst (λ (ks : List Choice). HaveRoom e.steps ks) n.is is.room
-        }
+          room = subst (λ (ks : List Choice). HaveRoom e.steps ks) n.is is.room;
+        };
       }

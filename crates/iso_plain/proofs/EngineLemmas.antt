@@ -1,7 +1,7 @@
 -- The engine's parts behind a clause that was tried.
-use Rattle.std.proofs.Common.{◌≡◌, ◌≢◌, ℕ, zero, suc, ◌+◌, ◌*◌, ◌<◌, ◌≤◌, List, [], ◌∷◌, ◌++◌, length, Option, Some, None, refl, ap, sym, ◌∙◌, subst, arith, inl, inr, ◌⊎◌, Vec, Global}
+use Rattle.std.proofs.Common.{◌≡◌, ℕ, ◌+◌, List, [], ◌++◌, Option, Some, None, refl, ap, ◌∙◌, arith, inl, inr, Vec, Global}
 use Rattle.std.specs.Prelude.{option_map}
-use Rattle.iso_model.specs.Trees.{Tree, Variable}
+use Rattle.iso_model.specs.Trees.{Tree}
 use Rattle.iso_model.specs.Terms.{term_of}
 use Rattle.iso_model.specs.Substitutions.{Subst, apply, compose}
 use Rattle.iso_model.specs.Unifiers.{Unifier, NeverEqual}
@@ -14,8 +14,8 @@ use Rattle.iso_plain.specs.declared.parts.Attempt.{Attempt}
 use Rattle.iso_plain.specs.declared.parts.Now.{Now}
 use Rattle.iso_plain.specs.declared.parts.Now.TheVariants as now
 use Rattle.iso_plain.specs.declared.plain.Plain.{Plain}
-use Rattle.iso_plain.specs.Linked.{Linked, Running, Failing, clause_goals, with_choice, linked_missed, linked_entered}
-use Rattle.iso_plain.specs.Standing.{Chain, ends, leads, StandsForChoices, Goes, DoesNext}
+use Rattle.iso_plain.specs.Linked.{Linked, Running, clause_goals, with_choice, linked_missed, linked_entered}
+use Rattle.iso_plain.specs.Standing.{Chain, ends, StandsForChoices, Goes, DoesNext}
 use Rattle.iso_plain.specs.Kept.{IsClause}
 use Rattle.iso_plain.specs.Entering.{Enters, AddsFrames, renamed_terms}
 use Rattle.iso_plain.specs.Next.{now_behind, now_entered}
@@ -50,7 +50,7 @@ module _ {S W M : Type 0} (present : S → Present W) (stands : S → M → Pres
     base = base_kept (stands e.store) (stands store) e.base keeps t.base;
     choices = choices_on e attempt l call c cs behind store frames t keeps adds;
     room = t.room;
-    next = refl
+    next = refl;
   }
 
   -- what comes next behind a head that was unified
@@ -77,7 +77,7 @@ module _ {S W M : Type 0} (present : S → Present W) (stands : S → M → Pres
         choices = choices_on e attempt l call c cs behind store frames t keeps adds;
         room = t.room;
         next = next_entered (present store) frames.items e.query.items (option_map (λ b. term_of b.term) e.raised) (linked_entered call c cs behind l (compose l.subst u)) place (clause_goals l.next c ++ behind) refl here
-            (record { subst = subst_is; next = next_is; room = (let few = is.few in let space = t.space in let steps = t.steps in omega (arith, few, space, steps)); words = variables_more words t.variables })
+            (record { subst = subst_is; next = next_is; room = (let few = is.few in let space = t.space in let steps = t.steps in omega (arith, few, space, steps)); words = variables_more words t.variables });
       }
 
   -- what an entry comes to

@@ -38,14 +38,14 @@ pub extends_new : {W : Type 0} {p q r : Present W} {w : W} {t : Tree} {n : ℕ} 
 extends_new {p = p} {q = q} {r = r} {n = n} e m k = record {
   words = words_on e.words m.words;
   substitution = m.substitution ∙ e.substitution;
-  next = (let a = k.next in let b = e.next in omega arith)
+  next = (let a = k.next in let b = e.next in omega arith);
 }
 
 pub extends_on : {W : Type 0} {p q r : Present W} {m n : ℕ} → Extends p q m → Extends q r n → Extends p r (m + n)
 extends_on {p = p} {q = q} {r = r} {m = m} {n = n} a b = record {
   words = words_on a.words b.words;
   substitution = b.substitution ∙ a.substitution;
-  next = (let x = a.next in let y = b.next in omega arith)
+  next = (let x = a.next in let y = b.next in omega arith);
 }
 
 -- a variable more, of the next number
@@ -187,8 +187,8 @@ met {p = p} {q = q} {r = r} {call = call} {head = head} {t = t} P e m held h =
     let same : r.substitution ≡ p.substitution = m.substitution ∙ e.substitution in
     let call_is : r.term call ≡ p.term call = m.words.terms call (e.words.stand call held) ∙ e.words.terms call held in
     subst (λ (x : Tree). P (apply p.substitution (p.term call)) (apply p.substitution x)) m.term
-        (subst (λ (x : Tree). P (apply p.substitution x) (apply p.substitution (r.term head))) call_is
-            (subst (λ (s : Subst). P (apply s (r.term call)) (apply s (r.term head))) same h))
+    (subst (λ (x : Tree). P (apply p.substitution x) (apply p.substitution (r.term head))) call_is
+    (subst (λ (s : Subst). P (apply s (r.term call)) (apply s (r.term head))) same h))
 
 -- the head is never equal to the call
 pub enters_none : {W : Type 0} {p q r : Present W} {call head : W} {t : Tree} {n : ℕ} (s : Present W) (answer : Bool) → Extends p q n → Makes q r head t → p.holds call ≡ true
@@ -216,6 +216,11 @@ enters_some {p = p} {q = q} {r = r} {s = s} {v = v} {count = count} goals e m k 
     let b = h.2 in
     let same : r.substitution ≡ p.substitution = m.substitution ∙ e.substitution in
     let words = words_on e.words (words_on m.words b.words) in
-    let next : v.next ≡ p.next + count = (let n1 = x.next in let n2 = b.numbers.next in let n3 = k.next in let n4 = e.next in omega arith) in
-    (u, met (λ a b. Unifier a b u) e m held h.1, x.substitution ∙ (b.substitution ∙ ap (λ (y : Subst). compose y u) same), next, words_on words x.words,
-        λ gs chain. links gs (chain_keep words chain))
+    let next : v.next ≡ p.next + count = (let n1 = x.next in let n2 = b.numbers.next in let n3 = k.next in let n4 = e.next in omega arith) in (
+      u,
+      met (λ a b. Unifier a b u) e m held h.1,
+      x.substitution ∙ (b.substitution ∙ ap (λ (y : Subst). compose y u) same),
+      next,
+      words_on words x.words,
+      λ gs chain. links gs (chain_keep words chain),
+    )

@@ -1,12 +1,11 @@
 -- Clauses as the engine keeps them: where they are, and that they can be entered.
-use Rattle.std.proofs.Common.{◌≡◌, ℕ, zero, suc, ◌+◌, ◌<◌, ◌≤◌, List, [], ◌∷◌, ◌++◌, length, take, drop, get_or, map, Bool, true, false, ◌&&◌, nat_lt, cond, refl, ap, ap₂, sym, ◌∙◌, subst, arith}
+use Rattle.std.proofs.Common.{◌≡◌, ℕ, zero, suc, ◌+◌, ◌<◌, List, [], ◌∷◌, ◌++◌, length, drop, get_or, map, Bool, true, false, ◌&&◌, cond, refl, ap, ap₂, sym, ◌∙◌, subst, arith}
 use Rattle.std.proofs.lemmas.Bool.{lt-ltb, eq-eqb, or_left, or_right}
 use Rattle.std.proofs.lemmas.List.{map-append}
 use Rattle.iso_model.proofs.SortLemmas.{term_fits}
 use Rattle.iso_model.specs.declared.terms.Term.{Term}
 use Rattle.iso_model.specs.Trees.{Tree, Variable, Integer, Name, Apply, End, More, row, arities_fit}
 use Rattle.iso_model.specs.Terms.{term_of, row_of}
-use Rattle.iso_model.specs.Sorts.{is_term}
 use Rattle.iso_model.specs.Variables.{occurs}
 use Rattle.iso_model.specs.Copies.{renamed}
 use Rattle.iso_model.specs.Bodies.{Body, Run, And, map_body, is_true}
@@ -16,8 +15,8 @@ use Rattle.iso_plain.specs.declared.clauses.Clause.{Clause}
 use Rattle.iso_plain.specs.declared.procedures.Procedure.{Procedure}
 use Rattle.iso_plain.specs.Goals.{leaves, terms_of}
 use Rattle.iso_plain.specs.Linked.{goals_of, clause_goals}
-use Rattle.iso_plain.specs.Kept.{IsClause, IsTemplate, AreTemplates}
-use Rattle.iso_plain.specs.Programs.{AreClauses, no_clauses, more_clauses, IsProcedure, IsDatabase, no_procedures, more_procedures}
+use Rattle.iso_plain.specs.Kept.{IsClause, AreTemplates}
+use Rattle.iso_plain.specs.Programs.{AreClauses, no_clauses, more_clauses, IsDatabase, no_procedures, more_procedures}
 use Rattle.iso_plain.specs.Entering.{is_below, renamed_terms}
 use Rattle.iso_plain.specs.EngineStates.{left_at}
 
@@ -48,7 +47,7 @@ pub kept_at : (ps : List Procedure) (db : Database) (i j : ℕ) (c : databases.C
 kept_at ps db i j c others no_procedures h = absurd (cc)
 kept_at ps db zero j c others (more_procedures {kept = p} {p = q} {ks = ps'} {ps = db'} is more) h = record {
   within = omega arith;
-  clause = λ x e. subst (λ (y : Procedure). ClauseAt y.clauses.items j c) (sym e) (clause_at p.clauses.items q.clauses j c others is.clauses h)
+  clause = λ x e. subst (λ (y : Procedure). ClauseAt y.clauses.items j c) (sym e) (clause_at p.clauses.items q.clauses j c others is.clauses h);
 }
 kept_at ps db (suc i) j c others (more_procedures {kept = p} {p = q} {ks = ps'} {ps = db'} is more) h =
     let there = kept_at ps' db' i j c others more h in
@@ -119,5 +118,5 @@ can_be_entered k c is =
       head_fits = rw is.head (term_fits c.head head.is);
       goals_fit = rw is.goals (templates_fit c.variables (goals_of c.body) goals);
       head_below = rw (is.head, is.variables) (below_from c.variables c.head head.below);
-      goals_below = rw (is.goals, is.variables) (templates_below c.variables (goals_of c.body) goals)
+      goals_below = rw (is.goals, is.variables) (templates_below c.variables (goals_of c.body) goals);
     }

@@ -43,7 +43,7 @@ opens_body s (Run t) mark ms gs g hs links e =
       mark = mark;
       others = ms;
       links = subst (λ (xs : List Tree). Links xs ms) (others_same t g gs hs e) links;
-      quiet = subst (λ (x : Tree). Quiet (at_list s (Goal (Run t) mark ∷ ms)) (at_list s (Goal (Run x) mark ∷ ms))) same here
+      quiet = subst (λ (x : Tree). Quiet (at_list s (Goal (Run t) mark ∷ ms)) (at_list s (Goal (Run x) mark ∷ ms))) same here;
     }
 opens_body s (And a b) mark ms gs g hs links e =
     let inner = opens_body s a mark (Goal b mark ∷ ms) (leaves b ++ gs) g hs (linked refl links) (sym (append_assoc (leaves a) (leaves b) gs) ∙ e) in
@@ -51,7 +51,7 @@ opens_body s (And a b) mark ms gs g hs links e =
       mark = inner.mark;
       others = inner.others;
       links = inner.links;
-      quiet = quiet_trans (quiet_one (conjunction_step s a b mark ms)) inner.quiet
+      quiet = quiet_trans (quiet_one (conjunction_step s a b mark ms)) inner.quiet;
     }
 
 leaves_some : (b : Body) (gs : List Tree) → [] ≡ leaves b ++ gs → ⊥
@@ -86,8 +86,8 @@ choices_kept : (call : Tree) (cs : List Clause) (gs : List Tree) (ms : List Memb
     → AreChoices (with_choice call cs gs l.subst l.next l.stack) (with_others call cs ms s).stack
 choices_kept call cs gs ms l s links at =
     subst (λ (r : Subst). AreChoices (with_choice call cs gs r l.next l.stack) (with_others call cs ms s).stack) at.subst
-        (subst (λ (n : ℕ). AreChoices (with_choice call cs gs s.subst n l.stack) (with_others call cs ms s).stack) at.next
-            (choices_with call cs gs ms s l.stack links at.stack))
+    (subst (λ (n : ℕ). AreChoices (with_choice call cs gs s.subst n l.stack) (with_others call cs ms s).stack) at.next
+    (choices_with call cs gs ms s l.stack links at.stack))
 
 -- The clause's head is never equal to the call: what comes next is failure.
 pub is_missed : (call : Tree) (c : Clause) (cs : List Clause) (gs : List Tree) (ms : List Member) (l : Linked) (s : State) → Links gs ms → IsAround l s
@@ -103,8 +103,8 @@ is_missed call c cs gs ms l s links at never =
         query = at.query;
         stack = choices_kept call cs gs ms l s links at;
         database = at.database;
-        steps = at.steps
-      }
+        steps = at.steps;
+      };
     })
 
 -- The clause's head has this unifier with the call: its goals come before those behind the call.
@@ -122,8 +122,8 @@ is_entered call c cs gs ms l s u links at unifies =
         query = at.query;
         stack = choices_kept call cs gs ms l s links at;
         database = at.database;
-        steps = at.steps
-      }
+        steps = at.steps;
+      };
     })
 
 -- ---- failure
@@ -139,7 +139,7 @@ world_is w db e = ap (λ (d : Database). idle (record { database = d })) e
 pub is_idle : (w : World) (db : Database) → w.database ≡ db → IsState (idle_linked db) (idle w)
 is_idle w db e = record {
   list = ([], refl);
-  around = record { subst = refl; next = refl; query = refl; stack = no_choice; database = e; steps = refl }
+  around = record { subst = refl; next = refl; query = refl; stack = no_choice; database = e; steps = refl };
 }
 
 fail_step : (s : State) (others : List Member) → s.list ≡ Fail ∷ others → step s ≡ backtracked s.stack s
@@ -155,7 +155,7 @@ fails_last l s at doing e =
       world = s.world;
       quiet = here;
       last = fail_step s doing.0 doing.1 ∙ ap (λ (alternatives : List Alternative). backtracked alternatives s) none;
-      stands = is_idle s.world l.database at.database
+      stands = is_idle s.world l.database at.database;
     }
 
 -- The clauses left at the newest choice are tried, with everything as it was then.
@@ -173,7 +173,7 @@ retries_from l c below s others alternatives at list is (one_choice {c = c'} {cs
   from = record s { list = ms; subst = c.subst; next = c.next; built = b; stack = as' };
   links = links;
   around = record { subst = refl; next = refl; query = at.query; stack = stack; database = at.database; steps = at.steps };
-  goes = fail_step s others list ∙ ap (λ (alternatives : List Alternative). backtracked alternatives s) is
+  goes = fail_step s others list ∙ ap (λ (alternatives : List Alternative). backtracked alternatives s) is;
 }
 
 pub retries : (l : Linked) (c : Choice) (below : List Choice) (s : State) → IsAround l s → Does Failing s.list → l.stack ≡ c ∷ below → Retried l c below s
@@ -194,7 +194,7 @@ answers l s at links =
       new = fails s;
       quiet = here;
       last = rw (← shown) (answer_step s (no_members s.list links));
-      stands = record { list = ([], refl); around = record { subst = at.subst; next = at.next; query = at.query; stack = at.stack; database = at.database; steps = at.steps } }
+      stands = record { list = ([], refl); around = record { subst = at.subst; next = at.next; query = at.query; stack = at.stack; database = at.database; steps = at.steps } };
     }
 
 raise_step : (s : State) (ball : Tree) (others : List Member) → s.list ≡ Raise ball ∷ others → step s ≡ Ends (Uncaught ball) s.world
@@ -208,7 +208,7 @@ raises l s ball at doing = record {
   world = s.world;
   quiet = here;
   last = raise_step s ball doing.0 doing.1;
-  stands = is_idle s.world l.database at.database
+  stands = is_idle s.world l.database at.database;
 }
 
 -- ---- the first goal is run
@@ -233,7 +233,7 @@ fronted l s g gs at links =
       list = refl;
       links = o.links;
       around = record { subst = at.subst; next = at.next; query = at.query; stack = at.stack; database = at.database; steps = at.steps };
-      quiet = o.quiet
+      quiet = o.quiet;
     }
 
 goal_step : (s : State) (g : Tree) (mark : ℕ) (others : List Member) → s.list ≡ Goal (Run g) mark ∷ others → step s ≡ paid s.steps s (Goes (run_goal (selected g) g others s))
@@ -249,7 +249,7 @@ spends_all l s g gs at links none =
       world = f.from.world;
       quiet = f.quiet;
       last = goal_step f.from g f.mark f.others f.list ∙ ap (λ (n : ℕ). paid n f.from (Goes (run_goal (selected g) g f.others f.from))) (f.around.steps ∙ none);
-      stands = is_idle f.from.world l.database f.around.database
+      stands = is_idle f.from.world l.database f.around.database;
     }
 
 -- what a goal that takes a step goes to
@@ -257,7 +257,7 @@ goal_goes : (l : Linked) (s : State) (g : Tree) (gs : List Tree) (n : ℕ) (f : 
     → step f.from ≡ Goes (record t { steps = n })
 goal_goes l s g gs n f t left is =
     goal_step f.from g f.mark f.others f.list
-        ∙ (ap (λ (k : ℕ). paid k f.from (Goes (run_goal (selected g) g f.others f.from))) (f.around.steps ∙ left) ∙ ap (λ (x : State). Goes (record x { steps = n })) is)
+    ∙ (ap (λ (k : ℕ). paid k f.from (Goes (run_goal (selected g) g f.others f.from))) (f.around.steps ∙ left) ∙ ap (λ (x : State). Goes (record x { steps = n })) is)
 
 -- The search goes on, without an event, to a state that is this one.
 pub record Onward (l : Linked) (s : State) : Type 0 where
@@ -269,7 +269,7 @@ pub record Onward (l : Linked) (s : State) : Type 0 where
 fewer_steps : (l : Linked) (t : State) (n : ℕ) → IsState l t → IsState (record l { steps = n }) (record t { steps = n })
 fewer_steps l t n h = record {
   list = h.list;
-  around = record { subst = h.around.subst; next = h.around.next; query = h.around.query; stack = h.around.stack; database = h.around.database; steps = refl }
+  around = record { subst = h.around.subst; next = h.around.next; query = h.around.query; stack = h.around.stack; database = h.around.database; steps = refl };
 }
 
 goes_onward : (l m : Linked) (s : State) (g : Tree) (gs : List Tree) (n : ℕ) (f : Fronted l g gs s) (t : State) → l.steps ≡ suc n → run_goal (selected g) g f.others f.from ≡ t
@@ -277,7 +277,7 @@ goes_onward : (l m : Linked) (s : State) (g : Tree) (gs : List Tree) (n : ℕ) (
 goes_onward l m s g gs n f t left is h = record {
   new = record t { steps = n };
   quiet = onward f.quiet (goal_goes l s g gs n f t left is);
-  is = fewer_steps m t n h
+  is = fewer_steps m t n h;
 }
 
 -- `true`
@@ -287,7 +287,7 @@ succeeds l s g gs n at links left is =
     let f = fronted l s g gs at links in
     let a = f.around in
     goes_onward l (record l { doing = Running gs }) s g gs n f (record f.from { list = f.others }) left (ap (λ (x : Selected). run_goal x g f.others f.from) is)
-        (record { list = f.links; around = record { subst = a.subst; next = a.next; query = a.query; stack = a.stack; database = a.database; steps = a.steps } })
+    (record { list = f.links; around = record { subst = a.subst; next = a.next; query = a.query; stack = a.stack; database = a.database; steps = a.steps } })
 
 -- `fail`
 pub fails_at_once : (l : Linked) (s : State) (g : Tree) (gs : List Tree) (n : ℕ) → IsAround l s → Links (g ∷ gs) s.list → l.steps ≡ suc n → selected g ≡ Fails
@@ -296,14 +296,14 @@ fails_at_once l s g gs n at links left is =
     let f = fronted l s g gs at links in
     let a = f.around in
     goes_onward l (record l { doing = Failing }) s g gs n f (fails f.from) left (ap (λ (x : Selected). run_goal x g f.others f.from) is)
-        (record { list = ([], refl); around = record { subst = a.subst; next = a.next; query = a.query; stack = a.stack; database = a.database; steps = a.steps } })
+    (record { list = ([], refl); around = record { subst = a.subst; next = a.next; query = a.query; stack = a.stack; database = a.database; steps = a.steps } })
 
 -- what a goal of a user procedure is run as
 user_goal : (l : Linked) (s : State) (g : Tree) (gs : List Tree) (f : Fronted l g gs s) (clauses : Option (List Clause)) → selected g ≡ User → clauses_for (key_of g) l.database ≡ clauses
     → run_goal (selected g) g f.others f.from ≡ called clauses g f.others f.from
 user_goal l s g gs f clauses is found =
     ap (λ (x : Selected). run_goal x g f.others f.from) is
-        ∙ ap (λ (x : Option (List Clause)). called x g f.others f.from) (ap (λ (db : Database). clauses_for (key_of g) db) f.around.database ∙ found)
+    ∙ ap (λ (x : Option (List Clause)). called x g f.others f.from) (ap (λ (db : Database). clauses_for (key_of g) db) f.around.database ∙ found)
 
 -- an unknown procedure
 pub raises_unknown : (l : Linked) (s : State) (g : Tree) (gs : List Tree) (n : ℕ) → IsAround l s → Links (g ∷ gs) s.list → l.steps ≡ suc n → selected g ≡ User
@@ -319,7 +319,7 @@ raises_unknown l s g gs n at links left is none =
       world = f.from.world;
       quiet = onward f.quiet goes;
       last = raise_step (record t { steps = n }) ball f.others refl;
-      stands = is_idle f.from.world l.database a.database
+      stands = is_idle f.from.world l.database a.database;
     }
 
 -- a procedure without clauses
@@ -329,7 +329,7 @@ fails_without_clauses l s g gs n at links left is none =
     let f = fronted l s g gs at links in
     let a = f.around in
     goes_onward l (record l { doing = Failing }) s g gs n f (fails f.from) left (user_goal l s g gs f (Some []) is none)
-        (record { list = ([], refl); around = record { subst = a.subst; next = a.next; query = a.query; stack = a.stack; database = a.database; steps = a.steps } })
+    (record { list = ([], refl); around = record { subst = a.subst; next = a.next; query = a.query; stack = a.stack; database = a.database; steps = a.steps } })
 
 -- a call whose first clause isn't entered
 pub calls_missed : (l : Linked) (s : State) (g : Tree) (gs : List Tree) (n : ℕ) (c : Clause) (cs : List Clause) → IsAround l s → Links (g ∷ gs) s.list → l.steps ≡ suc n → selected g ≡ User
@@ -337,7 +337,7 @@ pub calls_missed : (l : Linked) (s : State) (g : Tree) (gs : List Tree) (n : ℕ
 calls_missed l s g gs n c cs at links left is found never =
     let f = fronted l s g gs at links in
     goes_onward l (linked_missed g c cs gs l) s g gs n f (tried g (c ∷ cs) f.others f.from) left (user_goal l s g gs f (Some (c ∷ cs)) is found)
-        (is_missed g c cs gs f.others l f.from f.links f.around never)
+    (is_missed g c cs gs f.others l f.from f.links f.around never)
 
 -- a call whose first clause is entered
 pub calls_entered : (l : Linked) (s : State) (g : Tree) (gs : List Tree) (n : ℕ) (c : Clause) (cs : List Clause) (u : Subst) → IsAround l s → Links (g ∷ gs) s.list → l.steps ≡ suc n
@@ -346,7 +346,7 @@ pub calls_entered : (l : Linked) (s : State) (g : Tree) (gs : List Tree) (n : �
 calls_entered l s g gs n c cs u at links left is found unifies =
     let f = fronted l s g gs at links in
     goes_onward l (linked_entered g c cs gs l (compose l.subst u)) s g gs n f (tried g (c ∷ cs) f.others f.from) left (user_goal l s g gs f (Some (c ∷ cs)) is found)
-        (is_entered g c cs gs f.others l f.from u f.links f.around unifies)
+    (is_entered g c cs gs f.others l f.from u f.links f.around unifies)
 
 -- ---- the clauses of the newest choice
 
@@ -359,7 +359,7 @@ retries_missed l s k below c cs at doing e clauses never =
     record {
       new = tried k.call (c ∷ cs) r.members r.from;
       quiet = quiet_one goes;
-      is = is_missed k.call c cs k.behind r.members (record l { subst = k.subst; next = k.next; stack = below }) r.from r.links r.around never
+      is = is_missed k.call c cs k.behind r.members (record l { subst = k.subst; next = k.next; stack = below }) r.from r.links r.around never;
     }
 
 pub retries_entered : (l : Linked) (s : State) (k : Choice) (below : List Choice) (c : Clause) (cs : List Clause) (u : Subst) → IsAround l s → Does Failing s.list → l.stack ≡ k ∷ below
@@ -371,5 +371,5 @@ retries_entered l s k below c cs u at doing e clauses unifies =
     record {
       new = tried k.call (c ∷ cs) r.members r.from;
       quiet = quiet_one goes;
-      is = is_entered k.call c cs k.behind r.members (record l { subst = k.subst; next = k.next; stack = below }) r.from u r.links r.around unifies
+      is = is_entered k.call c cs k.behind r.members (record l { subst = k.subst; next = k.next; stack = below }) r.from u r.links r.around unifies;
     }

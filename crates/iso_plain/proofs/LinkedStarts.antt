@@ -27,7 +27,7 @@ both_same f s t None p b seen first second h = absurd (cc)
 both_same f s t (Some x) None b seen first second h = absurd (cc)
 both_same f s t (Some x) (Some y) b seen first second h =
     ap (λ (z : Body). distinct_from seen (body_term z)) (sym (same_body (And x y) b h))
-        ∙ (second y (distinct_from seen (body_term x)) refl ∙ ap (λ (vs : List ℕ). distinct_from vs t) (first x seen refl))
+    ∙ (second y (distinct_from seen (body_term x)) refl ∙ ap (λ (vs : List ℕ). distinct_from vs t) (first x seen refl))
 
 two_same : (f : List ℕ) (s t : Tree) (comma : Bool) (o p : Option Body) (b : Body) (seen : List ℕ)
     → ((x : Body) (seen : List ℕ) → o ≡ Some x → distinct_from seen (body_term x) ≡ distinct_from seen s)
@@ -59,7 +59,7 @@ starts_goals goal budget w db b is database =
     let query : variables (shown_query goal (converted goal)) ≡ variables goal = rw is (converted_same goal b [] is) in
     record {
       list = list;
-      around = record { subst = refl; next = refl; query = query; stack = no_choice; database = database; steps = refl }
+      around = record { subst = refl; next = refl; query = query; stack = no_choice; database = database; steps = refl };
     }
 
 -- a goal that can't be converted is raised as an error
@@ -68,5 +68,5 @@ pub starts_error : (goal : Tree) (budget : ℕ) (w : World) (db : Database) → 
 starts_error goal budget w db is database =
     record {
       list = ([], ap (opening goal) is);
-      around = record { subst = refl; next = refl; query = rw is refl; stack = no_choice; database = database; steps = refl }
+      around = record { subst = refl; next = refl; query = rw is refl; stack = no_choice; database = database; steps = refl };
     }

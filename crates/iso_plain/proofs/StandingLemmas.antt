@@ -88,8 +88,8 @@ module _ {W M : Type 0} {older : M → M → Type 0} {base : M} {left_at : ℕ �
   choices_more {stands = stands} {frames = frames} more (one_kept {before = before} {c = c} {k = k} {ks = ks} is within here newer below) =
       let same : take c.frames (frames ++ more) ≡ take c.frames frames = take-append-le c.frames frames more within in
       one_kept is (omega (arith, length-append frames more))
-          (subst (λ (fs : List (Frame W)). StandsForChoice stands older base left_at query named fs c k) (sym same) here) newer
-          (subst (λ (fs : List (Frame W)). StandsForChoices stands older base left_at query named fs before ks) (sym same) below)
+      (subst (λ (fs : List (Frame W)). StandsForChoice stands older base left_at query named fs c k) (sym same) here) newer
+      (subst (λ (fs : List (Frame W)). StandsForChoices stands older base left_at query named fs before ks) (sym same) below)
 
   -- marks that stand on
   pub choices_keep : {stands stands' : M → Present W → Type 0} {frames : List (Frame W)} {cs : List (kept.Choice W M)} {ks : List Choice}
@@ -98,21 +98,21 @@ module _ {W M : Type 0} {older : M → M → Type 0} {base : M} {left_at : ℕ �
   choices_keep keeps none_kept = none_kept
   choices_keep {stands = stands} {stands' = stands'} {cs = cs} keeps (one_kept {before = before} {c = c} {k = k} is within here newer below) =
       one_kept is within
-          (record {
-            present = here.present;
-            mark = keeps c here.present (subst (λ (ds : List (kept.Choice W M)). Among c ds) (sym is) (among_last before c)) here.mark;
-            newer = here.newer;
-            subst = here.subst;
-            next = here.next;
-            goal = here.goal;
-            call = here.call;
-            behind = here.behind;
-            clauses = here.clauses;
-            some = here.some;
-            words = here.words
-          })
-          newer
-          (choices_keep (λ d p among stood. keeps d p (subst (λ (ds : List (kept.Choice W M)). Among d ds) (sym is) (among_front d before c among)) stood) below)
+      (record {
+        present = here.present;
+        mark = keeps c here.present (subst (λ (ds : List (kept.Choice W M)). Among c ds) (sym is) (among_last before c)) here.mark;
+        newer = here.newer;
+        subst = here.subst;
+        next = here.next;
+        goal = here.goal;
+        call = here.call;
+        behind = here.behind;
+        clauses = here.clauses;
+        some = here.some;
+        words = here.words;
+      })
+      newer
+      (choices_keep (λ d p among stood. keeps d p (subst (λ (ds : List (kept.Choice W M)). Among d ds) (sym is) (among_front d before c among)) stood) below)
 
   -- as many choices
   pub choices_length : {stands : M → Present W → Type 0} {frames : List (Frame W)} {cs : List (kept.Choice W M)} {ks : List Choice}
@@ -133,7 +133,7 @@ module _ {W M : Type 0} {older : M → M → Type 0} {base : M} {left_at : ℕ �
         within = within;
         here = here;
         newer = λ d among. newer d (subst (λ (ds : List (kept.Choice W M)). Among d ds) front among);
-        stands_below = subst (λ (ds : List (kept.Choice W M)). StandsForChoices stands older base left_at query named (take c.frames frames) ds ks) (sym front) below
+        stands_below = subst (λ (ds : List (kept.Choice W M)). StandsForChoices stands older base left_at query named (take c.frames frames) ds ks) (sym front) below;
       }
 
   pub newest : {stands : M → Present W → Type 0} {frames : List (Frame W)} {cs : List (kept.Choice W M)} {ks : List Choice} (c : kept.Choice W M)
@@ -144,7 +144,7 @@ module _ {W M : Type 0} {older : M → M → Type 0} {base : M} {left_at : ℕ �
       let there : slice_get (before ++ d ∷ []) (length (before ++ d ∷ []) - 1) ≡ Some c = subst (λ (ds : List (kept.Choice W M)). slice_get ds (length ds - 1) ≡ Some c) is last in
       let same : d ≡ c = some_same (sym (last_is before d) ∙ (ap (slice_get (before ++ d ∷ [])) (sym place) ∙ there)) in
       subst (λ (e : kept.Choice W M). Newest stands older base left_at query named frames cs e (k ∷ ks)) same
-          (subst (λ (ds : List (kept.Choice W M)). Newest stands older base left_at query named frames ds d (k ∷ ks)) (sym is) (newest_of within here newer below))
+      (subst (λ (ds : List (kept.Choice W M)). Newest stands older base left_at query named frames ds d (k ∷ ks)) (sym is) (newest_of within here newer below))
 
   -- A choice that keeps all frames, newer than all others.
   pub choices_push : {stands : M → Present W → Type 0} {frames : List (Frame W)} {cs : List (kept.Choice W M)} {ks : List Choice} (c : kept.Choice W M) (k : Choice) → c.frames ≡ length frames
@@ -153,8 +153,8 @@ module _ {W M : Type 0} {older : M → M → Type 0} {base : M} {left_at : ℕ �
   choices_push {stands = stands} {frames = frames} {cs = cs} {ks = ks} c k all here newer below =
       let whole : take c.frames frames ≡ frames = rw all (take_whole frames) in
       one_kept refl (omega (arith, all))
-          (subst (λ (fs : List (Frame W)). StandsForChoice stands older base left_at query named fs c k) (sym whole) here) newer
-          (subst (λ (fs : List (Frame W)). StandsForChoices stands older base left_at query named fs cs ks) (sym whole) below)
+      (subst (λ (fs : List (Frame W)). StandsForChoice stands older base left_at query named fs c k) (sym whole) here) newer
+      (subst (λ (fs : List (Frame W)). StandsForChoices stands older base left_at query named fs cs ks) (sym whole) below)
 
   -- the newest choice at its next clause
   pub choices_next : {stands : M → Present W → Type 0} (frames : List (Frame W)) {ks : List Choice} (c d : kept.Choice W M) (k : Choice) (front : List (kept.Choice W M))

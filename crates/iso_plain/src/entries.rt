@@ -121,6 +121,13 @@ pub fn enter<S: Store>(
     if !store.unify(goal, head)? {
         return Ok(None);
     }
-    let first = link(alloc, store, frames, clause.goals.as_slice(), variables.as_slice(), rest)?;
+    let first = link(
+        alloc,
+        store,
+        frames,
+        clause.goals.as_slice(),
+        variables.as_slice(),
+        rest,
+    )?;
     Ok(Some(first))
 }

@@ -8,12 +8,11 @@ ghost use Rattle.iso_plain.specs.Programs.{IsDatabase};
 ghost use Rattle.iso_plain.specs.EngineStates.{left_at, clauses_at_place};
 ghost use Rattle.iso_model.specs.Walker.{State};
 
-use super::balls;
-use super::entries;
+use super::clauses::Clause;
 use super::parts::{Attempt, Choice, Now, at, behind};
 use super::plain::{Move, Plain};
-use super::clauses::Clause;
 use super::procedures::{self, Procedure};
+use super::{balls, entries};
 use iso_model::{Ball, Pause};
 use iso_store::{Shape, Store, StoreFault};
 use std::alloc::AllocError;
@@ -45,7 +44,11 @@ impl<S: Store + Drop> Plain<S> {
         ensures procedures { self.new.procedures ≡ self.old.procedures }
         ensures choices { self.new.choices ≡ self.old.choices }
     {
-        let clause = clause_at(self.procedures.as_slice(), attempt.procedure, attempt.clause);
+        let clause = clause_at(
+            self.procedures.as_slice(),
+            attempt.procedure,
+            attempt.clause,
+        );
         let entered = entries::enter(
             self.alloc,
             &mut self.store,

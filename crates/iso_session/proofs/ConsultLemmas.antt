@@ -1,5 +1,5 @@
 -- What consulting a term comes to.
-use Rattle.std.proofs.Common.{◌≡◌, ℕ, zero, suc, ◌+◌, ◌-◌, ◌≤◌, ◌<◌, min, List, [], ◌∷◌, ◌++◌, length, codes, Option, Some, None, Result, Ok, Err, IfSome, refl, sym, ap, subst, ◌∙◌, arith}
+use Rattle.std.proofs.Common.{◌≡◌, ℕ, zero, suc, ◌+◌, ◌-◌, ◌≤◌, ◌<◌, min, List, [], ◌∷◌, ◌++◌, length, codes, Option, Some, None, Result, Err, IfSome, refl, ap, subst, ◌∙◌, arith}
 use Rattle.std.specs.Fmt.{decimal}
 use Rattle.iso_model.specs.Trees.{Tree}
 use Rattle.iso_model.specs.Terms.{term_of}
@@ -10,7 +10,7 @@ use Rattle.iso_model.specs.Lines.{counted, text_of, refused_line, syntax_error_l
 use Rattle.iso_model.specs.Token.{Shown}
 use Rattle.iso_model.specs.Operators.{operators}
 use Rattle.iso_model.specs.Items.{Item, Unreadable, Taken, next_item}
-use Rattle.iso_model.specs.Sessions.{Script, Shows, Line, added_script, term_script, text_by, text_script}
+use Rattle.iso_model.specs.Sessions.{Script, added_script, term_script, text_by, text_script}
 use Rattle.iso_model.specs.declared.pauses.Ball.{Ball}
 use Rattle.iso_model.specs.declared.pauses.AddFault.TheVariants as add
 use Rattle.iso_session.specs.declared.items.Item.{Item as RustItem}

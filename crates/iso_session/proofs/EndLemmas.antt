@@ -3,18 +3,16 @@ use Rattle.std.proofs.Common.{◌≡◌, ℕ, Bool, false, List, [], ◌∷◌, 
 use Rattle.std.specs.Io.KnownBytes.{Appends}
 use Rattle.std.specs.Result.{IsErr}
 use Rattle.iso_model.specs.Engines.{Phase}
-use Rattle.iso_model.specs.Walker.{World, State}
+use Rattle.iso_model.specs.Walker.{State}
 use Rattle.iso_model.specs.Sessions.{Piece, Line, Script, Closes, Done, Halts, SessionEnd, prepend, piece_bytes, pieces_bytes, script_bytes, script_end}
 use Rattle.iso_model.specs.Beginnings as session
 use Rattle.iso_model.specs.Beginnings.{Begins, IsWritten, whole, cut, cut_text, limit_line, IsCut, IsBroken, Writes, EngineStops}
-use Rattle.iso_session.specs.declared.flows.Limit.{Limit}
 use Rattle.iso_session.specs.declared.flows.Limit.TheVariants as limit
 use Rattle.iso_session.specs.declared.flows.Flow.{Flow}
 use Rattle.iso_session.specs.declared.flows.Flow.TheVariants as flow
 use Rattle.iso_session.specs.declared.statuses.Ended.{Ended}
-use Rattle.iso_session.specs.declared.statuses.Ended.TheVariants as ended
 use Rattle.iso_session.specs.declared.statuses.Fault.{Fault}
-use Rattle.iso_session.specs.Progress.{Place, limit_of, outcome_of, within_after, Advances, Does, ended_of, closing_bytes}
+use Rattle.iso_session.specs.Progress.{Place, outcome_of, within_after, Advances, Does, ended_of, closing_bytes}
 use Rattle.iso_session.proofs.WrittenLemmas.{appends_more, begins_behind}
 use Rattle.iso_session.proofs.ProgressLemmas.{pieces_bytes-append, script_bytes-prepend}
 

@@ -1,12 +1,11 @@
 -- Where a variable stands among those of its line.
-use Rattle.std.proofs.Common.{◌≡◌, ℕ, suc, ◌+◌, ◌<◌, ◌≤◌, Bool, true, false, not, ◌==◌, ◌||◌, cond, nat_lt, List, [], ◌∷◌, ◌++◌, length, Option, Some, None, unwrap_or, IfSome, IfNone, refl, sym, ap, ◌∙◌, arith, append_assoc, length-append}
+use Rattle.std.proofs.Common.{◌≡◌, ℕ, ◌+◌, ◌<◌, ◌≤◌, true, false, ◌==◌, cond, nat_lt, List, [], ◌∷◌, ◌++◌, length, Option, Some, None, unwrap_or, IfSome, IfNone, refl, ap, ◌∙◌, arith, append_assoc, length-append}
 use Rattle.std.specs.Fmt.{decimal}
 use Rattle.std.proofs.lemmas.Bool.Decides.{nat_tests}
-use Rattle.std.specs.List.{position, position_or_len, prefix_len, list_any}
-use Rattle.iso_model.specs.Trees.{Tree, Variable, Integer, Name, Apply, End, More}
-use Rattle.iso_model.specs.Variables.{is_in, distinct_from}
+use Rattle.std.specs.List.{position, position_or_len}
+use Rattle.iso_model.specs.Variables.{is_in}
 use Rattle.iso_model.specs.Texts.{variable_text}
-use Rattle.iso_session.specs.Places.{Extends, HasPlace}
+use Rattle.iso_session.specs.Places.{HasPlace}
 
 abbrev pub place : ℕ → List ℕ → ℕ
 place n seen = position_or_len (λ m. m == n) seen

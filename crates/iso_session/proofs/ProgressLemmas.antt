@@ -1,17 +1,17 @@
 -- How parts of a session follow each other in its script.
-use Rattle.std.proofs.Common.{◌≡◌, ◌≢◌, ℕ, Bool, true, false, List, [], ◌∷◌, ◌++◌, Option, Result, Ok, Err, ◌⊎◌, inl, inr, refl, sym, ap, subst, ◌∙◌, append_assoc, append-nil}
+use Rattle.std.proofs.Common.{◌≡◌, ◌≢◌, ℕ, Bool, false, List, [], ◌∷◌, ◌++◌, Option, Result, Ok, Err, inl, inr, refl, sym, ap, ◌∙◌, append_assoc, append-nil}
 use Rattle.std.specs.Io.KnownBytes.{Appends}
 use Rattle.std.specs.Result.{IsErr}
 use Rattle.iso_model.specs.Engines.{Phase, Ready, Midway, Spent}
 use Rattle.iso_model.specs.Walker.{World, State}
-use Rattle.iso_model.specs.Sessions.{Piece, Output, Line, Script, Shows, Closes, Halts, prepend, piece_bytes, within_behind, pieces_bytes, script_bytes}
+use Rattle.iso_model.specs.Sessions.{Piece, Line, Script, Shows, Closes, Halts, prepend, piece_bytes, within_behind, pieces_bytes, script_bytes}
 use Rattle.iso_model.specs.Beginnings as session
 use Rattle.iso_model.specs.Beginnings.{Begins, EngineStops}
 use Rattle.iso_session.specs.declared.flows.Limit.TheVariants as limit
 use Rattle.iso_session.specs.declared.flows.Flow.{Flow}
 use Rattle.iso_session.specs.declared.flows.Flow.TheVariants as flow
 use Rattle.iso_session.specs.declared.statuses.Fault.{Fault}
-use Rattle.iso_session.specs.Progress.{Place, within_after, Advances, GoesOn, Stops, Does, PutsLine}
+use Rattle.iso_session.specs.Progress.{Place, within_after, Advances, Stops, Does, PutsLine}
 use Rattle.iso_session.proofs.WrittenLemmas.{appends_none, appends_more, begins_behind, begins_before}
 
 pub pieces_bytes-append : (within : Bool) (ps qs : List Piece) → pieces_bytes within (ps ++ qs) ≡ pieces_bytes within ps ++ pieces_bytes (within_after within ps) qs

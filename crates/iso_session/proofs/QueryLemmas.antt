@@ -1,20 +1,20 @@
 -- What runs of queries come to.
-use Rattle.std.proofs.Common.{◌≡◌, ◌≢◌, ℕ, zero, suc, ◌+◌, ◌-◌, ◌≤◌, ◌<◌, min, false, List, [], ◌∷◌, ◌++◌, length, map, codes, Option, Some, None, Result, Ok, Err, IfSome, Vec, Global, refl, sym, ap, subst, ◌∙◌, arith}
+use Rattle.std.proofs.Common.{◌≡◌, ℕ, zero, suc, ◌+◌, ◌-◌, ◌≤◌, ◌<◌, min, false, List, [], ◌++◌, length, codes, Option, Some, None, Result, Ok, IfSome, Vec, Global, refl, ap, subst, ◌∙◌, arith}
 use Rattle.std.specs.Result.{IsErr}
 use Rattle.std.specs.Io.KnownBytes.{Appends}
 use Rattle.iso_model.specs.Trees.{Tree}
 use Rattle.iso_model.specs.Terms.{term_of}
-use Rattle.iso_model.specs.Engines.{Phase, Ready, Midway, Spent, Pauses, Starts}
+use Rattle.iso_model.specs.Engines.{Phase, Ready, Pauses}
 use Rattle.iso_model.specs.Grammar.{Clause}
 use Rattle.iso_model.specs.Token.{Shown}
 use Rattle.iso_model.specs.Operators.{operators}
-use Rattle.iso_model.specs.Items.{Item, Readable, Unreadable, Taken, next_item}
+use Rattle.iso_model.specs.Items.{Item, Readable, Taken, next_item}
 use Rattle.iso_model.specs.Lines.{answer_line, solution_text, error_line, halt_line}
-use Rattle.iso_model.specs.Walker.{World, State, Ending, Answered, Wrote, NoMore, Budget, Uncaught, Halted, idle, started}
+use Rattle.iso_model.specs.Walker.{World, State, Ending, Answered, Wrote, NoMore, Budget, Uncaught, idle}
 use Rattle.iso_model.specs.Runs as runs
 use Rattle.iso_model.specs.Runs.{Trace, Then, Comes, Finishes}
 use Rattle.iso_model.specs.RunLaws.{run_of, comes_run, finishes_run}
-use Rattle.iso_model.specs.Sessions.{ends_within, piece_bytes, script_bytes, Script, Shows, Closes, Line, Output, Done, Halts, run_script, query_script, queries_by, queries_script}
+use Rattle.iso_model.specs.Sessions.{ends_within, piece_bytes, script_bytes, Script, Shows, Closes, Line, Output, Done, run_script, query_script, queries_by, queries_script}
 use Rattle.iso_model.specs.Beginnings as session
 use Rattle.iso_model.specs.Beginnings.{Begins, EngineStops, StopsIn, StopsAt, within_run, before_run}
 use Rattle.iso_model.specs.declared.terms.Term.{Term}

@@ -13,7 +13,7 @@ use Rattle.iso_model.specs.declared.terms.Term.TheFolds.{fold_out-Term, fold-rol
 use Rattle.iso_model.specs.Trees.{Tree, Variable, Integer, Name, Apply, End, More, row}
 use Rattle.iso_model.specs.Terms.{term_of, row_of, term_step}
 use Rattle.iso_model.specs.Variables.{distinct_from, is_in}
-use Rattle.iso_model.specs.Texts.{Written, text_in, written, name_text, list_written, pair_written, compound_written, plain}
+use Rattle.iso_model.specs.Texts.{Written, text_in, written, name_text, list_written, compound_written, plain}
 use Rattle.iso_model.proofs.RowLemmas.{term_of_compound}
 use Rattle.iso_session.specs.Places.{Extends, arguments_from, arguments_text, is_empty_list}
 

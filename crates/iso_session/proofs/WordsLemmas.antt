@@ -1,5 +1,5 @@
 -- Numbers and options among the program's words.
-use Rattle.std.proofs.Common.{◌≡◌, ℕ, ◌+◌, ◌-◌, ◌*◌, ◌<◌, ◌≤◌, ◌^◌, Bool, true, false, List, [], ◌∷◌, length, fold, Option, Some, None, Result, Ok, Err, MatchOption, ◌⊎◌, inl, inr, refl, sym, ap, ap₂, subst, ◌∙◌, arith, rules, codes}
+use Rattle.std.proofs.Common.{◌≡◌, ℕ, ◌+◌, ◌-◌, ◌*◌, ◌<◌, ◌≤◌, ◌^◌, Bool, true, false, List, [], ◌∷◌, length, fold, Option, Result, Ok, Err, MatchOption, ◌⊎◌, inl, inr, refl, sym, ap, subst, ◌∙◌, arith, rules}
 use Rattle.std.specs.Result.{OkIff, result_ok}
 use Rattle.std.specs.List.{list_all}
 use Rattle.std.proofs.lemmas.Bool.Decides.{nat_tests}
@@ -16,7 +16,7 @@ use Rattle.clap.proofs.WalkLemmas.{first_value-rows}
 use Rattle.iso_session.specs.declared.words.Words.{Words}
 use Rattle.iso_session.specs.declared.words.WordsFault.{WordsFault}
 use Rattle.iso_session.specs.declared.words.WordsFault.TheVariants as fault
-use Rattle.iso_session.specs.Words.{Values, program, given, is_number, FieldsSay, WordsSay, IsMisuse, refused, misused, fault_by}
+use Rattle.iso_session.specs.Words.{Values, program, given, is_number, FieldsSay, WordsSay, refused, misused, fault_by}
 
 abbrev IsDecimal : List ℕ → Type 0
 IsDecimal text = list_all is_digit text ≡ true

@@ -1,9 +1,9 @@
 -- How far a part of a session comes in its script.
-use Rattle.std.specs.Prelude.{◌≡◌, ℕ, min, Bool, List, [], ◌∷◌, ◌++◌, Option, Result, Ok, Err, ◌⊎◌, false, codes}
+use Rattle.std.specs.Prelude.{◌≡◌, ℕ, min, Bool, List, [], ◌∷◌, Option, Result, Ok, Err, ◌⊎◌, false, codes}
 use Rattle.std.specs.Io.KnownBytes.{Appends}
 use Rattle.iso_model.specs.Engines.{Phase, Ready}
 use Rattle.iso_model.specs.Walker.{World, State}
-use Rattle.iso_model.specs.Sessions.{Piece, Line, Script, Closes, Done, Halts, SessionEnd, prepend, piece_bytes, within_behind, pieces_bytes, script_bytes}
+use Rattle.iso_model.specs.Sessions.{Piece, Line, Script, Closes, Done, Halts, prepend, piece_bytes, within_behind, pieces_bytes, script_bytes}
 use Rattle.iso_model.specs.Beginnings as session
 use Rattle.iso_model.specs.Beginnings.{Begins, EngineStops, Outcome, Closed, Limited, Broken}
 use Rattle.iso_model.specs.Terms.{term_of}

@@ -2,7 +2,6 @@
 #![tactic(auto)]
 
 pub mod quitter;
-
 #[cfg(test)]
 mod readers;
 #[cfg(test)]

@@ -22,7 +22,9 @@ impl Quitter {
 
 impl Engine for Quitter {
     ghost stands_for = { λ _ _. Unit {0} };
+
     ghost phase = { λ engine. if engine.spent then Spent else Ready };
+
     ghost left = { λ _. 0 };
 
     fn start(&mut self, _goal: &Term, _budget: u32) -> Result<(), StartFault> {

@@ -51,13 +51,23 @@ fn all_bytes_are_read(rt: HostRuntime) -> Result<(), Fail> {
 #[test]
 fn a_read_that_fails_is_no_text(rt: HostRuntime) -> Result<(), Fail> {
     let mut reader = make_source(b"p(1). p(2).", 4, 8);
-    assert!(rt; matches!(&read_text(rt.alloc(), &mut reader), Err(TextFault::Unreadable)));
+    assert!(rt;
+        matches!(
+            &read_text(rt.alloc(), &mut reader),
+            Err(TextFault::Unreadable)
+        )
+    );
     Ok(())
 }
 
 #[test]
 fn bytes_that_are_no_text_are_refused(rt: HostRuntime) -> Result<(), Fail> {
     let mut reader = make_source(b"p(\xff).", 100, usize::MAX);
-    assert!(rt; matches!(&read_text(rt.alloc(), &mut reader), Err(TextFault::Unreadable)));
+    assert!(rt;
+        matches!(
+            &read_text(rt.alloc(), &mut reader),
+            Err(TextFault::Unreadable)
+        )
+    );
     Ok(())
 }

@@ -9,7 +9,14 @@ fn limits_are_read(rt: HostRuntime) -> Result<(), Fail> {
     let read = read_words(rt.alloc(), &words);
     assert!(rt; matches!(&read, Ok(_)));
     if let Ok(read) = read {
-        assert_eq!(rt; read.limits, Limits { budget: 7, cells: 8, frames: 9 });
+        assert_eq!(rt;
+            read.limits,
+            Limits {
+                budget: 7,
+                cells: 8,
+                frames: 9
+            }
+        );
         assert_eq!(rt; read.choice, Choice::Plain);
         assert_eq!(rt; read.file.as_str(), "x.pl");
     }
@@ -18,7 +25,11 @@ fn limits_are_read(rt: HostRuntime) -> Result<(), Fail> {
 
 #[test]
 fn defaults_stand_where_nothing_is_said(rt: HostRuntime) -> Result<(), Fail> {
-    for words in [&["x.pl"].as_slice(), &["--engine", "plain", "x.pl"].as_slice(), &["x.pl", "--engine=plain"].as_slice()] {
+    for words in [
+        &["x.pl"].as_slice(),
+        &["--engine", "plain", "x.pl"].as_slice(),
+        &["x.pl", "--engine=plain"].as_slice(),
+    ] {
         let read = read_words(rt.alloc(), words);
         assert!(rt; matches!(&read, Ok(_)));
         if let Ok(read) = read {
@@ -30,11 +41,22 @@ fn defaults_stand_where_nothing_is_said(rt: HostRuntime) -> Result<(), Fail> {
 
 #[test]
 fn bounds_and_zeros(rt: HostRuntime) -> Result<(), Fail> {
-    let words = ["--budget", "4294967295", "--cells=268435456", "--frames", "0016777216", "x.pl"];
+    let words = [
+        "--budget",
+        "4294967295",
+        "--cells=268435456",
+        "--frames",
+        "0016777216",
+        "x.pl",
+    ];
     let read = read_words(rt.alloc(), &words);
     assert!(rt; matches!(&read, Ok(_)));
     if let Ok(read) = read {
-        let most = Limits { budget: 4_294_967_295, cells: 268_435_456, frames: 16_777_216 };
+        let most = Limits {
+            budget: 4_294_967_295,
+            cells: 268_435_456,
+            frames: 16_777_216,
+        };
         assert_eq!(rt; read.limits, most);
     }
     Ok(())
@@ -61,7 +83,10 @@ fn usage_faults(rt: HostRuntime) -> Result<(), Fail> {
         &[],
     ];
     for words in faults {
-        assert!(rt; matches!(&read_words(rt.alloc(), words), Err(WordsFault::Usage)), "{words:?}");
+        assert!(rt;
+            matches!(&read_words(rt.alloc(), words), Err(WordsFault::Usage)),
+            "{words:?}"
+        );
     }
     Ok(())
 }

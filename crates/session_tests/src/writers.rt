@@ -35,8 +35,11 @@ impl io::Write for Sink {
 
 /// A text and queries whose syntax errors are written, and a last query at which the engine gives up.
 const TEXT: &str = "p q.\nr s.\n";
+
 const QUERIES: &str = "p q. r.";
-const OUTPUT: &str = "syntax error in clause 1\nsyntax error in clause 2\nend: syntax error\nend: heap full\n";
+
+const OUTPUT: &str =
+    "syntax error in clause 1\nsyntax error in clause 2\nend: syntax error\nend: heap full\n";
 
 /// The bytes that this writer has, and the status, after a session.
 fn written(alloc: Global, step: usize, room: usize, fails: bool) -> (Vec<u8>, u8) {

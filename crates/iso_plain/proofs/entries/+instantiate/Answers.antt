@@ -21,7 +21,7 @@ loop-argument-init g t c =
       numbers = record { next = refl; taken = λ n. refl };
       marks = λ m p h. h;
       fits = rw items (arguments_fit (string_bytes c.in-Compound.name) c.in-Compound.arguments.items (rw whole at c.requires.fits));
-      below = rw items (rw whole at c.requires.below)
+      below = rw items (rw whole at c.requires.below);
     }
 
 pub instantiate-requires : goal.instantiate-requires
@@ -32,7 +32,7 @@ instantiate-requires g t c =
     let fits_here = fits.0 in
     let below_here = below.0 in
     let variables : (first : ℕ) × AreVariables (g.S.Store.present c.loop-argument.store) c.args.variables.now (numbers_from first (length c.args.variables.now)) =
-        (c.requires.variables.0, variables_more c.loop-argument.invariant.extends.words c.requires.variables.1) in
+    (c.requires.variables.0, variables_more c.loop-argument.invariant.extends.words c.requires.variables.1) in
     search (rules, the_lemmas)
 
 pub loop-argument-preserved : goal.loop-argument-preserved
@@ -51,7 +51,7 @@ loop-argument-preserved g t c =
       numbers = record { next = numbers.next ∙ before.numbers.next; taken = λ n. numbers.taken n ∙ before.numbers.taken n };
       marks = λ m p h. c.in_ok-word-in-Compound.ensures.marks m p (before.marks m p h);
       fits = (both_true (arities_fit (term_of c.argument-item.result)) (arities_fit (row_of (drop (i + 1) items))) (rw at at before.fits)).1;
-      below = (both_true (is_below (length c.args.variables.now) (term_of c.argument-item.result)) (is_below (length c.args.variables.now) (row_of (drop (i + 1) items))) (rw at at before.below)).1
+      below = (both_true (is_below (length c.args.variables.now) (term_of c.argument-item.result)) (is_below (length c.args.variables.now) (row_of (drop (i + 1) items))) (rw at at before.below)).1;
     }
 
 -- how many words there are
@@ -90,20 +90,20 @@ compound-requires-clause-arguments g t c =
 pub returns-in-Var-clause-made : goal.returns-in-Var-clause-made
 returns-in-Var-clause-made g t c = λ first h.
     (let name : term_of c.args.term.now ≡ Variable c.in-Var.number = ap term_of c.in-Var.is ∙ term_of_variable c.in-Var.number in
-        let within : c.in-Var.number < length c.args.variables.now = ltb-true c.in-Var.number (length c.args.variables.now) (rw name at c.requires.below) in
-        let there = variable_at c.args.variables.now first (length c.args.variables.now) c.in-Var.number c.index-variables-number.result h within c.index-variables-number.is in
-        rw name (record { words = words_same _; substitution = refl; holds = there.0; term = there.1 }))
+    let within : c.in-Var.number < length c.args.variables.now = ltb-true c.in-Var.number (length c.args.variables.now) (rw name at c.requires.below) in
+    let there = variable_at c.args.variables.now first (length c.args.variables.now) c.in-Var.number c.index-variables-number.result h within c.index-variables-number.is in
+    rw name (record { words = words_same _; substitution = refl; holds = there.0; term = there.1 }))
 
 pub returns-after-loop-argument-clause-made : goal.returns-after-loop-argument-clause-made
 returns-after-loop-argument-clause-made g t c = λ first h.
     (let whole : term_of c.args.term.now ≡ Apply (string_bytes c.in-Compound.name) (row_of c.in-Compound.arguments.items) = ap term_of c.in-Compound.is ∙ term_of_compound c.in-Compound.name c.in-Compound.arguments in
-        let items = c.deref-argument-items.result.now in
-        let all : take c.loop-argument.argument-index items ≡ c.in-Compound.arguments.items =
-            take_all items c.loop-argument.argument-index c.loop-argument-test.false ∙ c.deref-argument-items.ensures.value in
-        let row_is = rw all at (terms_row (c.loop-argument.invariant.terms first h)) in
-        let same : Apply c.as_str-in-Compound.result.now (row (map (g.S.Store.present c.loop-argument.store).term c.as_slice.result.now)) ≡ renamed first (term_of c.args.term.now) =
-            rw (whole, c.as_str-in-Compound.ensures.value, c.as_slice.ensures.value) (ap (Apply (string_bytes c.in-Compound.name)) row_is) in
-        if_ok c.compound.result _ _ (λ w made. made_behind c.loop-argument.invariant.extends same made) c.compound.ensures.made)
+    let items = c.deref-argument-items.result.now in
+    let all : take c.loop-argument.argument-index items ≡ c.in-Compound.arguments.items =
+    take_all items c.loop-argument.argument-index c.loop-argument-test.false ∙ c.deref-argument-items.ensures.value in
+    let row_is = rw all at (terms_row (c.loop-argument.invariant.terms first h)) in
+    let same : Apply c.as_str-in-Compound.result.now (row (map (g.S.Store.present c.loop-argument.store).term c.as_slice.result.now)) ≡ renamed first (term_of c.args.term.now) =
+    rw (whole, c.as_str-in-Compound.ensures.value, c.as_slice.ensures.value) (ap (Apply (string_bytes c.in-Compound.name)) row_is) in
+    if_ok c.compound.result _ _ (λ w made. made_behind c.loop-argument.invariant.extends same made) c.compound.ensures.made)
 
 pub returns-after-loop-argument-clause-numbers : goal.returns-after-loop-argument-clause-numbers
 returns-after-loop-argument-clause-numbers g t c =

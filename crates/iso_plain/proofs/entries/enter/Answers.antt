@@ -66,6 +66,6 @@ returns-clause-enters g c =
     let made = c.in_ok-head.ensures.made first (rw (c.as_slice.ensures.value, many) vs) in
     let found = unifier_there _ _ _ _ c.in_ok-unify.field-0 c.if-not-branch.false c.in_ok-unify.ensures.unified in
     let here : AreVariables (g.S.Store.present c.unify.new.self) c.as_slice-3.result.now (numbers_from first (length c.as_slice-3.result.now)) =
-        rw (c.as_slice-3.ensures.value, many) (variables_more (words_on made.words found.2.words) vs) in
+    rw (c.as_slice-3.ensures.value, many) (variables_more (words_on made.words found.2.words) vs) in
     let links = rw c.as_slice-2.ensures.value at (c.in_ok-first.ensures.links first here) in
     enters_some c.args.clause.now.goals.items c.in_ok-variables.ensures.extends made c.in_ok-head.ensures.numbers c.requires.goal found c.in_ok-first.ensures.extends links

@@ -36,9 +36,9 @@ loop-left-preserved g c =
       within = omega (arith, before.within);
       links = λ first h. (let m = made first (variables_more before.extends.words h) in
           let all : renamed_terms first (drop (left - 1) goals) ≡ renamed first (term_of c.index-goals-left.result) ∷ renamed_terms first (drop left goals) =
-              rw next at (renamed_at first goals (left - 1) c.index-goals-left.result within c.index-goals-left.is) in
+          rw next at (renamed_at first goals (left - 1) c.index-goals-left.result within c.index-goals-left.is) in
           rw (all, items, place) (links_push (renamed_terms first (drop left goals)) _ _ m.words m.holds m.term (before.links first h)));
       extends = extends_made before.extends (made c.requires.variables.0 (variables_more before.extends.words c.requires.variables.1)) c.in_ok-goal.ensures.numbers;
       frames = rw items (frames_push c.args.frames.now.items c.loop-left.frames.items _ before.frames);
-      marks = λ m p h. c.in_ok-goal.ensures.marks m p (before.marks m p h)
+      marks = λ m p h. c.in_ok-goal.ensures.marks m p (before.marks m p h);
     }

@@ -17,5 +17,5 @@ loop-made-preserved g c =
     record {
       variables = rw c.in_ok-push.ensures.items (variables_push _ _ _ _ (variables_more made.words before.variables) made.holds (made.term ∙ ap Variable number));
       extends = extends_new before.extends made next;
-      marks = λ m p h. c.in_ok-word.ensures.marks m p (before.marks m p h)
+      marks = λ m p h. c.in_ok-word.ensures.marks m p (before.marks m p h);
     }

@@ -1,4 +1,4 @@
-use Rattle.std.proofs.Common.{◌≡◌, ◌<◌, length, arith}
+use Rattle.std.proofs.Common.{arith}
 use Rattle.iso_plain.proofs.KeptLemmas.{kept_at}
 use Rattle.iso_plain.proofs.moves.clause_at.Goals as goal
 
@@ -12,5 +12,5 @@ index-requires c =
 pub returns : goal.returns
 returns c = λ db k ks is found.
     (let there = kept_at c.args.procedures.now db c.args.place c.args.index k ks is found in
-        let at = there.clause c.index-procedures-place.result c.index-procedures-place.is in
-        at.kept c.index.result.now c.index.ensures)
+    let at = there.clause c.index-procedures-place.result c.index-procedures-place.is in
+    at.kept c.index.result.now c.index.ensures)

@@ -1,4 +1,4 @@
-use Rattle.std.proofs.Common.{ℕ, ◌+◌, ◌≡◌, length, drop, map, refl, arith}
+use Rattle.std.proofs.Common.{◌+◌, ◌≡◌, length, drop, map, refl, arith}
 use Rattle.std.proofs.lemmas.Bool.Decides.{nat_tests}
 use Rattle.iso_model.specs.Terms.{term_of}
 use Rattle.iso_model.specs.Trees.{row}

@@ -1,8 +1,8 @@
-use Rattle.std.proofs.Common.{◌≡◌, ◌+◌, ◌∙◌, sym}
+use Rattle.std.proofs.Common.{◌+◌}
 use Rattle.iso_model.specs.Sessions.{Script, Closes, Done, text_script}
 use Rattle.iso_model.specs.Walker.{State, World}
 use Rattle.iso_session.proofs.ProgressLemmas.{stops_after, breaks_after}
-use Rattle.iso_session.proofs.ConsultLemmas.{text_begins, text_ends, text_found, text_goes, nothing_found}
+use Rattle.iso_session.proofs.ConsultLemmas.{text_ends, text_found, text_goes, nothing_found}
 use Rattle.iso_session.proofs.consulting.consult_text.Goals as goal
 
 pub returns-in_default-next : goal.returns-in_default-next

@@ -1,8 +1,7 @@
 use Rattle.std.proofs.Common.{refl}
 use Rattle.std.specs.Prelude.{Some}
 use Rattle.iso_model.specs.Terms.{term_of}
-use Rattle.iso_model.specs.ReadingLaws.{IsWellRead}
-use Rattle.iso_read.specs.Answers.{IsWellFormed, clause_read}
+use Rattle.iso_read.specs.Answers.{IsWellFormed}
 use Rattle.iso_model.proofs.NumberedLemmas.{is_numbered_IsNumbered}
 use Rattle.iso_session.proofs.items.take_item.Goals as goal
 

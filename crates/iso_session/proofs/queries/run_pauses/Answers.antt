@@ -1,7 +1,7 @@
-use Rattle.std.proofs.Common.{◌≡◌, map, sym, ◌∙◌}
+use Rattle.std.proofs.Common.{map}
 use Rattle.iso_model.specs.Terms.{term_of}
 use Rattle.iso_model.specs.Lines.{answer_line}
-use Rattle.iso_model.specs.Sessions.{Script, Closes, Done}
+use Rattle.iso_model.specs.Sessions.{Script}
 use Rattle.iso_model.specs.Walker.{State, World}
 use Rattle.iso_session.specs.Named.{names_of}
 use Rattle.iso_session.proofs.ProgressLemmas.{does_after, stops_after, ready_awake, midway_awake}

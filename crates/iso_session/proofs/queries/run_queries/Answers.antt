@@ -1,4 +1,3 @@
-use Rattle.std.proofs.Common.{◌≡◌}
 use Rattle.iso_model.specs.Sessions.{Closes, Done, queries_script}
 use Rattle.iso_model.specs.Walker.{State}
 use Rattle.iso_session.proofs.ProgressLemmas.{stops_after, breaks_after}

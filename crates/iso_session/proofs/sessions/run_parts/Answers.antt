@@ -1,7 +1,7 @@
 use Rattle.std.proofs.Common.{[]}
 use Rattle.iso_model.specs.Sessions.{Closes, Done, whole_queries}
 use Rattle.iso_model.specs.Tokens.{tokens}
-use Rattle.iso_model.specs.Walker.{World, idle}
+use Rattle.iso_model.specs.Walker.{idle}
 use Rattle.iso_session.proofs.ProgressLemmas.{advance_none, does_after, stops_after, breaks_after}
 use Rattle.iso_session.proofs.sessions.run_parts.Goals as goal
 

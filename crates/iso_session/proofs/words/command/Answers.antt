@@ -1,8 +1,8 @@
-use Rattle.std.proofs.Common.{rules, ap, ap₂, ◌∙◌, ◌≡◌, false, codes}
+use Rattle.std.proofs.Common.{rules, ap, ap₂, ◌∙◌, ◌≡◌, false}
 use Rattle.std.proofs.lemmas.Result.{IfOk-weaker}
-use Rattle.clap.specs.Words.{App, app_of, rule_of, new_app, with_rule}
+use Rattle.clap.specs.Words.{rule_of, with_rule}
 use Rattle.clap.specs.Simple.{app_of_fields}
-use Rattle.iso_session.specs.Words.{option_rule, file_rule, no_name, program}
+use Rattle.iso_session.specs.Words.{file_rule, no_name}
 use Rattle.iso_session.proofs.words.command.Goals as goal
 
 pub returns : goal.returns

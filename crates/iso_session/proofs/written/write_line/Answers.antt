@@ -1,5 +1,5 @@
-use Rattle.std.proofs.Common.{ℕ, List, [], ◌∷◌}
-use Rattle.iso_session.proofs.WrittenLemmas.{begins_behind, begins_before, appends_none, on_err}
+use Rattle.std.proofs.Common.{[], ◌∷◌}
+use Rattle.iso_session.proofs.WrittenLemmas.{begins_behind, begins_before, on_err}
 use Rattle.iso_session.proofs.written.write_line.Goals.{then-within_line+in_ok-write_whole, else-within_line}
 use Rattle.iso_session.proofs.written.write_line.Goals as goal
 

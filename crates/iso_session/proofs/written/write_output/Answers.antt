@@ -1,5 +1,4 @@
-use Rattle.std.proofs.Common.{sym, ap, ◌∙◌}
-use Rattle.std.specs.Option.{option_copied}
+use Rattle.std.proofs.Common.{sym}
 use Rattle.iso_session.proofs.WrittenLemmas.{ends_within-last}
 use Rattle.iso_session.proofs.written.write_output.Goals as goal
 

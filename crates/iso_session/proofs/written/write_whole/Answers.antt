@@ -1,4 +1,4 @@
-use Rattle.std.proofs.Common.{arith, take, drop, length, ◌-◌}
+use Rattle.std.proofs.Common.{arith}
 use Rattle.iso_session.proofs.WrittenLemmas.{begins_stopped, takes_more, keeps_none}
 use Rattle.iso_session.proofs.written.write_whole.Goals as goal
 

@@ -1,4 +1,4 @@
-use Rattle.std.proofs.Common.{◌≡◌, refl}
+use Rattle.std.proofs.Common.{refl}
 use Rattle.iso_plain.specs.Standing.{none_kept}
 use Rattle.iso_plain.proofs.plain.Plain.clear.Goals as goal
 
@@ -9,5 +9,5 @@ returns-clause-idle g c = λ db h. record {
   base = record { present = c.requires.present; stands_for = c.undo.ensures.stands c.requires.present c.requires.stands_for; substitution = c.requires.substitution; next = c.requires.next };
   choices = rw c.clear.ensures.items none_kept;
   room = tt;
-  next = refl
+  next = refl;
 }

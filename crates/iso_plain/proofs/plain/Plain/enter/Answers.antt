@@ -1,5 +1,4 @@
-use Rattle.std.proofs.Common.{◌≡◌, ◌<◌, ◌+◌, length, arith, sym, subst}
-use Rattle.iso_plain.specs.Programs.{IsDatabase}
+use Rattle.std.proofs.Common.{arith}
 use Rattle.iso_plain.proofs.KeptLemmas.{kept_at, can_be_entered}
 use Rattle.iso_plain.proofs.EngineLemmas.{tried_engine}
 use Rattle.iso_plain.proofs.plain.Plain.enter.Goals as goal
@@ -43,5 +42,5 @@ enter-requires-clause-goals_below g c =
 pub returns-clause-tried : goal.returns-clause-tried
 returns-clause-tried g c = λ l call k ks gs t.
     (let is = c.clause_at-clause.ensures l.database k ks (rw c.as_slice.ensures.value t.database) t.clauses in
-        rw c.behind-self.ensures (tried_engine g.S.Store.present g.S.Store.stands g.S.Store.older c.args.self.now c.args.attempt l call k ks gs c.enter.new.store c.enter.new.frames
-            c.in_ok-entered.entered c.clause_at-clause.result.now t c.in_ok-entered.ensures.marks c.in_ok-entered.ensures.frames is c.in_ok-entered.ensures.enters))
+    rw c.behind-self.ensures (tried_engine g.S.Store.present g.S.Store.stands g.S.Store.older c.args.self.now c.args.attempt l call k ks gs c.enter.new.store c.enter.new.frames
+    c.in_ok-entered.entered c.clause_at-clause.result.now t c.in_ok-entered.ensures.marks c.in_ok-entered.ensures.frames is c.in_ok-entered.ensures.enters))
