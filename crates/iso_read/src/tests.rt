@@ -38,8 +38,8 @@ fn repeated(alloc: Global, text: &str, count: usize) -> Result<String, AllocErro
     Ok(all)
 }
 
-/// Atoms, integers and variables (6.3.1, 6.3.2, 6.4): a name of graphic characters, a quoted one, a sign and
-/// a number of another base are no terms of this profile.
+/// Atoms, integers and variables (6.3.1, 6.3.2, 6.4). In this profile a name of graphic characters or in quotes is
+/// no atom, and a number has neither a sign nor a base.
 const SIMPLE: [(&str, &[&str]); 27] = [
     ("", &[]),
     (" \t\n% b.\n/* c. */ ", &[]),
@@ -70,8 +70,8 @@ const SIMPLE: [(&str, &[&str]); 27] = [
     ("a\0. a.", &["Syntax", "Atom(\"a\") []"]),
 ];
 
-/// Compounds (6.3.3): the `(` directly behind the name, and arguments of priority 999 at most; a term in
-/// brackets is none of this profile.
+/// Compounds (6.3.3): the `(` stands directly behind the name, and arguments have priority 999 at most. This profile
+/// has no term in brackets.
 const COMPOUNDS: [(&str, &[&str]); 24] = [
     ("p(a).", &["Compound(\"p\", [Atom(\"a\")]) []"]),
     (
@@ -119,7 +119,7 @@ const COMPOUNDS: [(&str, &[&str]); 24] = [
     ("p([a]). a.", &["Syntax", "Atom(\"a\") []"]),
 ];
 
-/// Operators (6.3.4): `:-` is xfx 1200, `,` is xfy 1000, and nothing else is an operator.
+/// Operators (6.3.4): `:-` is xfx of priority 1200, `,` is xfy of priority 1000, and there are no others.
 const OPERATIONS: [(&str, &[&str]); 20] = [
     (
         "a :- b.",
