@@ -6,6 +6,7 @@ use std::alloc::{AllocError, AllocFailed};
 
 impl From<AllocError> for StoreFault {
     ghost use Rattle.iso_store.specs.declared.shapes.StoreFault.TheVariants.{NoMemory};
+
     ghost from_gives = { λ _ e. e ≡ NoMemory };
 
     fn from(_refused: AllocError) -> StoreFault {
@@ -15,6 +16,7 @@ impl From<AllocError> for StoreFault {
 
 impl<T: Drop> From<AllocFailed<T>> for StoreFault {
     ghost use Rattle.iso_store.specs.declared.shapes.StoreFault.TheVariants.{NoMemory};
+
     ghost from_gives = { λ _ e. e ≡ NoMemory };
 
     fn from(_refused: AllocFailed<T>) -> StoreFault {
