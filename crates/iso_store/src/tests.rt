@@ -1,10 +1,11 @@
 //! Calls with ample memory, full stores, and how many nodes are made and looked at. A refused allocation is passed on, so that
-//! a test that meets one ends in that error; this refuses each allocation in turn, 1, 2 and so on:
+//! a test that meets one ends in that error. This refuses the first allocation of each test, and so on with 2, 3 up to 38:
 //!
 //!     ulimit -s unlimited; rt try --test --fail-alloc 1
 //!
 //! Each test then passes or fails with the text `error: AllocError`, `error: AllocFailed { .. }` or `error: NoMemory`, and none
-//! fails in an assertion. (`rt try` needs the deep stack for the lists of 10 000 elements.)
+//! fails in an assertion. At 38 all pass but the two of long lists: the others make 37 allocations at most. The lists of 10 000
+//! elements need the deep stack under `rt try`.
 ghost use Rattle.std.specs.Prelude.{◌≡◌, true};
 
 use super::counting::Counting;
