@@ -1,4 +1,11 @@
-//! Calls with ample memory, and how many nodes are made and looked at.
+//! Calls with ample memory, full stores, and how many nodes are made and looked at. A refused allocation is passed on, so that
+//! a test that meets one ends in that error. This refuses the first allocation of each test, and so on with 2, 3 up to 38:
+//!
+//!     ulimit -s unlimited; rt try --test --fail-alloc 1
+//!
+//! Each test then passes or fails with the text `error: AllocError`, `error: AllocFailed { .. }` or `error: NoMemory`, and none
+//! fails in an assertion. At 38 all pass but the two of long lists: the others make 37 allocations at most. The lists of 10 000
+//! elements need the deep stack under `rt try`.
 ghost use Rattle.std.specs.Prelude.{◌≡◌, true};
 
 use super::counting::Counting;
@@ -23,6 +30,15 @@ fn list(alloc: Global, length: i64) -> Result<Term, AllocError> {
     Ok(whole)
 }
 
+/// Whether there was no room. The error is that memory was refused.
+fn is_full(made: Result<usize, StoreFault>) -> Result<bool, StoreFault> {
+    match made {
+        Err(StoreFault::NoMemory) => Err(StoreFault::NoMemory),
+        Err(StoreFault::Full) => Ok(true),
+        Ok(_) => Ok(false),
+    }
+}
+
 #[test]
 fn unifies_and_takes_back(rt: HostRuntime) -> Result<(), Fail> {
     let alloc = rt.alloc();
@@ -41,12 +57,12 @@ fn unifies_and_takes_back(rt: HostRuntime) -> Result<(), Fail> {
     )?;
     let both = compound(alloc, "=", vec![in alloc; left, right]?)?;
     assert!(rt; well_formed(&both));
-    let equation = store.build(&both).ok().expect(&rt, "room and memory");
+    let equation = store.build(&both)?;
     assert_eq!(rt; store.shape(equation), Shape::Compound("=", 2));
     let first = store.arg(equation, 0);
     let second = store.arg(equation, 1);
     let before = store.mark();
-    assert!(rt; store.unify(first, second).ok().expect(&rt, "memory"));
+    assert!(rt; store.unify(first, second)?);
     let shown = format!(in alloc; "{:?}", store.copy_out(first)?)?;
     assert_eq!(rt;
         shown.as_str(),
@@ -62,24 +78,62 @@ fn unifies_and_takes_back(rt: HostRuntime) -> Result<(), Fail> {
 fn makes_each_kind(rt: HostRuntime) -> Result<(), Fail> {
     let alloc = rt.alloc();
     let mut store = Nodes::new(alloc, 5)?;
-    let integer = store.int(-3).ok().expect(&rt, "room and memory");
+    let integer = store.int(-3)?;
     assert_eq!(rt; store.shape(integer), Shape::Int(-3));
-    let name = store.atom("[]").ok().expect(&rt, "room and memory");
+    let name = store.atom("[]")?;
     assert_eq!(rt; store.shape(name), Shape::Atom("[]"));
     let number = store.reserve(2);
     assert_eq!(rt; number, 0);
-    let variable = store.variable(1).ok().expect(&rt, "room and memory");
+    let variable = store.variable(1)?;
     assert_eq!(rt; store.shape(variable), Shape::Var(1));
-    let next = store.fresh().ok().expect(&rt, "room and memory");
+    let next = store.fresh()?;
     assert_eq!(rt; store.shape(next), Shape::Var(2));
-    let whole = store
-        .compound("f", &[variable, next])
-        .ok()
-        .expect(&rt, "room and memory");
+    let whole = store.compound("f", &[variable, next])?;
     assert_eq!(rt; store.shape(whole), Shape::Compound("f", 2));
-    assert_eq!(rt; store.int(7), Err(StoreFault::Full));
-    let mark = store.mark();
-    store.forget(mark);
+    let second = store.arg(whole, 1);
+    assert_eq!(rt; store.shape(second), Shape::Var(2));
+    let shown = format!(in alloc; "{:?}", store.copy_out(whole)?)?;
+    assert_eq!(rt; shown.as_str(), "Compound(\"f\", [Var(1), Var(2)])");
+    Ok(())
+}
+
+/// A mark that is given up leaves what was bound since. An older one still takes it back, and the numbers given since.
+#[test]
+fn forgets_and_takes_back(rt: HostRuntime) -> Result<(), Fail> {
+    let alloc = rt.alloc();
+    let mut store = Nodes::new(alloc, 4)?;
+    let variable = store.fresh()?;
+    let five = store.int(5)?;
+    let six = store.int(6)?;
+    let older = store.mark();
+    let newer = store.mark();
+    assert!(rt; store.unify(variable, five)?);
+    store.forget(newer);
+    assert_eq!(rt; store.shape(variable), Shape::Int(5));
+    assert!(rt; !store.unify(variable, six)?);
+    store.undo(older);
+    assert_eq!(rt; store.shape(variable), Shape::Var(0));
+    let next = store.fresh()?;
+    assert_eq!(rt; store.shape(next), Shape::Var(1));
+    Ok(())
+}
+
+/// Each maker finds the store full where its node would be one too many.
+#[test]
+fn is_full_at_its_limit(rt: HostRuntime) -> Result<(), Fail> {
+    let alloc = rt.alloc();
+    let mut store = Nodes::new(alloc, 0)?;
+    assert!(rt; is_full(store.int(7))?);
+    let mut store = Nodes::new(alloc, 0)?;
+    assert!(rt; is_full(store.atom("a"))?);
+    let mut store = Nodes::new(alloc, 0)?;
+    let number = store.reserve(1);
+    assert!(rt; is_full(store.variable(number))?);
+    let mut store = Nodes::new(alloc, 0)?;
+    assert!(rt; is_full(store.fresh())?);
+    let mut store = Nodes::new(alloc, 1)?;
+    let argument = store.int(7)?;
+    assert!(rt; is_full(store.compound("f", &[argument]))?);
     Ok(())
 }
 
@@ -87,12 +141,9 @@ fn makes_each_kind(rt: HostRuntime) -> Result<(), Fail> {
 fn checks_occurrence(rt: HostRuntime) -> Result<(), Fail> {
     let alloc = rt.alloc();
     let mut store = Nodes::new(alloc, 9)?;
-    let variable = store.fresh().ok().expect(&rt, "room and memory");
-    let inside = store
-        .compound("f", &[variable])
-        .ok()
-        .expect(&rt, "room and memory");
-    assert_eq!(rt; store.unify(variable, inside), Ok(false));
+    let variable = store.fresh()?;
+    let inside = store.compound("f", &[variable])?;
+    assert!(rt; !store.unify(variable, inside)?);
     Ok(())
 }
 
@@ -105,10 +156,9 @@ fn makes_as_many_nodes_as_a_term_has_parts(rt: HostRuntime) -> Result<(), Fail> 
         assert!(rt; well_formed(&term));
         let parts = 2 * length as u32 + 1;
         let mut store = Nodes::new(alloc, parts)?;
-        let built = store.build(&term).is_ok();
-        assert!(rt; built);
+        let _ = store.build(&term)?;
         let mut short = Nodes::new(alloc, parts - 1)?;
-        assert_eq!(rt; short.build(&term), Err(StoreFault::Full));
+        assert!(rt; is_full(short.build(&term))?);
     }
     Ok(())
 }
@@ -123,7 +173,7 @@ fn looks_at_each_part_once(rt: HostRuntime) -> Result<(), Fail> {
         let both = compound(alloc, "=", lists)?;
         assert!(rt; well_formed(&both));
         let mut store = Nodes::new(alloc, 50_000)?;
-        let equation = store.build(&both).ok().expect(&rt, "room and memory");
+        let equation = store.build(&both)?;
         assert_eq!(rt; Store::shape(&store, equation), Shape::Compound("=", 2));
         let first = Store::arg(&store, equation, 0);
         let second = Store::arg(&store, equation, 1);
@@ -131,11 +181,7 @@ fn looks_at_each_part_once(rt: HostRuntime) -> Result<(), Fail> {
             nodes: store,
             looks: Cell::new(0),
         };
-        assert!(rt;
-            unify(&mut counting, first, second)
-                .ok()
-                .expect(&rt, "memory")
-        );
+        assert!(rt; unify(&mut counting, first, second)?);
         assert_eq!(rt; counting.looks.get(), 8 * length as u64 + 2);
     }
     Ok(())
