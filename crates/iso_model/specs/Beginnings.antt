@@ -84,3 +84,7 @@ EngineStops Stands now Memory rest = now ≡ Spent → StopsIn Stands rest
 -- written a beginning of them and says which.
 abbrev pub SessionWrites : List ℕ → List ℕ → ℕ → (Limit → Script → Type 0) → Option (List ℕ) → Option (List ℕ) → Outcome → Type 0
 SessionWrites text queries budget Stops old new outcome = Writes (session_script text queries budget) Stops old new outcome
+
+-- nothing is said of the rest of a script that a limit ended
+abbrev pub AnyRest : Limit → Script → Type 0
+AnyRest limit rest = Unit {0}

@@ -1,7 +1,7 @@
 -- The engine's parts behind a clause that was tried.
-use Rattle.std.proofs.Common.{◌≡◌, ℕ, ◌+◌, List, [], ◌++◌, Option, Some, None, refl, ap, ◌∙◌, arith, inl, inr, Vec, Global}
+use Rattle.std.proofs.Common.{◌≡◌, ◌≢◌, ℕ, zero, suc, ◌+◌, ◌*◌, ◌<◌, ◌≤◌, List, [], ◌∷◌, ◌++◌, length, Option, Some, None, refl, ap, sym, ◌∙◌, subst, arith, inl, inr, ◌⊎◌, Vec, Global}
 use Rattle.std.specs.Prelude.{option_map}
-use Rattle.iso_model.specs.Trees.{Tree}
+use Rattle.iso_model.specs.Trees.{Tree, Variable}
 use Rattle.iso_model.specs.Terms.{term_of}
 use Rattle.iso_model.specs.Substitutions.{Subst, apply, compose}
 use Rattle.iso_model.specs.Unifiers.{Unifier, NeverEqual}
@@ -14,14 +14,15 @@ use Rattle.iso_plain.specs.declared.parts.Attempt.{Attempt}
 use Rattle.iso_plain.specs.declared.parts.Now.{Now}
 use Rattle.iso_plain.specs.declared.parts.Now.TheVariants as now
 use Rattle.iso_plain.specs.declared.plain.Plain.{Plain}
-use Rattle.iso_plain.specs.Linked.{Linked, Running, clause_goals, with_choice, linked_missed, linked_entered}
-use Rattle.iso_plain.specs.Standing.{Chain, ends, StandsForChoices, Goes, DoesNext}
+use Rattle.iso_plain.specs.Linked.{Linked, Running, Failing, clause_goals, with_choice, linked_missed, linked_entered}
+use Rattle.iso_plain.specs.Standing.{Chain, ends, leads, StandsForChoices, Goes, DoesNext}
 use Rattle.iso_plain.specs.Kept.{IsClause}
 use Rattle.iso_plain.specs.Entering.{Enters, AddsFrames, renamed_terms}
 use Rattle.iso_plain.specs.Next.{now_behind, now_entered}
 use Rattle.iso_plain.specs.EngineStates.{IsBase, IsEngine, Tries, Tried, left_at}
 use Rattle.iso_plain.proofs.StandingLemmas.{choices_more, choices_keep, variables_more}
 use Rattle.iso_plain.proofs.KeptLemmas.{kept_goals}
+use Rattle.iso_plain.proofs.CallableLemmas.{goals_entered}
 
 no_chain : {W : Type 0} {p : Present W} {frames : List (Frame W)} (gs : List Tree) → Chain p frames None gs → gs ≡ []
 no_chain gs ends = refl
@@ -94,4 +95,4 @@ module _ {S W M : Type 0} (present : S → Present W) (stands : S → M → Pres
       let u = h.0 in
       let P : Subst → ℕ → Tree → Tree → Type 0 = λ r n a x. Unifier (apply r a) (apply r (renamed n x)) u in
       let here : P l.subst l.next call c.head = rw (← t.subst, ← t.next, ← t.call_is, ← is.head) h.1 in
-      inr (u, here, entered_engine e attempt l call c cs behind store frames place k u t keeps adds is h.2 h.3 h.4 (h.5 behind t.links))
+      inr (u, here, entered_engine e attempt l call c cs behind store frames place k u t keeps adds is h.2 h.3 h.4 (h.5 behind t.links (goals_entered (present e.store).next k c is)))

@@ -164,7 +164,7 @@ below_at n (y ∷ ys) (suc i) x within is h = below_at n ys i x (omega arith) is
 -- one goal more is linked, before those that are
 pub links_push : {W : Type 0} {p q r : Present W} {frames old : List (Frame W)} {rest : Option ℕ} (ts : List Tree) (f : Frame W) (t : Tree) → KeepsWords q r → r.holds f.goal ≡ true → r.term f.goal ≡ t
     → Links p old rest q frames f.next ts → Links p old rest r (frames ++ f ∷ []) (Some (length frames)) (t ∷ ts)
-links_push {frames = frames} ts f t keeps holds is links gs chain = chain_push frames f t holds (sym is) (chain_more (f ∷ []) keeps (links gs chain))
+links_push {frames = frames} ts f t keeps holds is links gs chain goals = chain_push frames f t holds (sym is) goals.0 (chain_more (f ∷ []) keeps (links gs chain goals.1))
 
 pub frames_push : {W : Type 0} (old new : List (Frame W)) (f : Frame W) → AddsFrames old new → AddsFrames old (new ++ f ∷ [])
 frames_push old new f h = (h.0 ++ f ∷ [], ap (λ (xs : List _). xs ++ f ∷ []) h.1 ∙ append_assoc old h.0 (f ∷ []))
@@ -203,7 +203,7 @@ unifier_there p q a b answer positive h = subst (λ (x : Bool). IsUnification p 
 -- a store that keeps its words
 pub chain_keep : {W : Type 0} {p q : Present W} {frames : List (Frame W)} {place : Option ℕ} {gs : List Tree} → KeepsWords p q → Chain p frames place gs → Chain q frames place gs
 chain_keep keeps ends = ends
-chain_keep keeps (leads {f = f} at holds is others) = leads at (keeps.stand f.goal holds) (is ∙ sym (keeps.terms f.goal holds)) (chain_keep keeps others)
+chain_keep keeps (leads {f = f} at holds is goal others) = leads at (keeps.stand f.goal holds) (is ∙ sym (keeps.terms f.goal holds)) goal (chain_keep keeps others)
 
 -- The head has a unifier with the call, and the goals are linked.
 pub enters_some : {W : Type 0} {p q r s v : Present W} {call head : W} {t : Tree} {count : ℕ} {frames new : List (Frame W)} {rest place : Option ℕ} (goals : List Term)

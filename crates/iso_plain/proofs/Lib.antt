@@ -11,3 +11,13 @@ pub mod ProgramLemmas
 pub mod KeptLemmas
 pub mod EngineLemmas
 pub mod BackLemmas
+pub mod StartLemmas
+pub mod EndLemmas
+pub mod CalledLemmas
+pub mod CallableLemmas
+pub mod RunLemmas
+pub mod CallLemmas
+pub mod ChoiceLemmas
+pub mod FailLemmas
+pub mod EngineMoves
+pub mod RunMoves

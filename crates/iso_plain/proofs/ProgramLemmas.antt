@@ -1,5 +1,5 @@
 -- The database as the engine keeps it: how a procedure is found, and how a clause comes to it.
-use Rattle.std.proofs.Common.{◌≡◌, ◌<◌, ◌≤◌, ◌+◌, ◌==◌, ◌⊎◌, ℕ, zero, suc, List, [], ◌∷◌, ◌++◌, length, get_or, set, refl, sym, ap, ap₂, ◌∙◌, arith, Bool, true, false, ◌&&◌, Some, None, inl, inr, position, nat_lt, length-append}
+use Rattle.std.proofs.Common.{◌≡◌, ◌<◌, ◌≤◌, ◌+◌, ◌==◌, ◌⊎◌, ℕ, zero, suc, List, [], ◌∷◌, ◌++◌, length, get_or, set, slice_set, refl, sym, ap, ap₂, ◌∙◌, arith, Bool, true, false, ◌&&◌, Option, Some, None, option_map, inl, inr, position, cond, nat_lt, length-append}
 use Rattle.std.specs.String.{string_bytes}
 use Rattle.std.specs.Str.{bytes_eq}
 use Rattle.std.specs.List.{position_or_len}
@@ -71,7 +71,7 @@ not_found_cases p x xs h =
 
 -- ---- a procedure by its key
 
-same_test : (kept : Procedure) (p : databases.Procedure) (k : Key) → IsProcedure kept p → has_key k kept ≡ same_key p.key k
+pub same_test : (kept : Procedure) (p : databases.Procedure) (k : Key) → IsProcedure kept p → has_key k kept ≡ same_key p.key k
 same_test kept p k h = ap₂ (λ n a. n == k.arity && bytes_eq a k.name) h.arity h.name
 
 -- the procedure at the place is kept for one of the database, whose clauses these are

@@ -5,6 +5,7 @@ use Rattle.std.proofs.lemmas.List.{take-append-le}
 use Rattle.iso_model.specs.Trees.{Tree}
 use Rattle.iso_model.specs.Databases.{Clause}
 use Rattle.iso_store.specs.Presents.{Present, KeepsWords}
+use Rattle.iso_plain.specs.Callable.{IsGoal}
 use Rattle.iso_plain.specs.Linked.{Choice}
 use Rattle.iso_plain.specs.declared.parts.Frame.{Frame}
 use Rattle.iso_plain.specs.declared.parts.Choice as kept
@@ -31,13 +32,13 @@ at_within (y ∷ xs) (suc i) x h = omega (arith, at_within xs i x (record { is =
 -- more frames, and a store that keeps its words
 pub chain_more : {W : Type 0} {p q : Present W} {frames : List (Frame W)} {place : Option ℕ} {gs : List Tree} (more : List (Frame W)) → KeepsWords p q → Chain p frames place gs → Chain q (frames ++ more) place gs
 chain_more more keeps ends = ends
-chain_more {frames = frames} more keeps (leads {i = i} {f = f} at holds is others) =
-    leads (at_more frames more i f at) (keeps.stand f.goal holds) (is ∙ sym (keeps.terms f.goal holds)) (chain_more more keeps others)
+chain_more {frames = frames} more keeps (leads {i = i} {f = f} at holds is goal others) =
+    leads (at_more frames more i f at) (keeps.stand f.goal holds) (is ∙ sym (keeps.terms f.goal holds)) goal (chain_more more keeps others)
 
 -- one goal more
-pub chain_push : {W : Type 0} {p : Present W} (frames : List (Frame W)) (f : Frame W) {gs : List Tree} (t : Tree) → p.holds f.goal ≡ true → t ≡ p.term f.goal → Chain p (frames ++ f ∷ []) f.next gs
+pub chain_push : {W : Type 0} {p : Present W} (frames : List (Frame W)) (f : Frame W) {gs : List Tree} (t : Tree) → p.holds f.goal ≡ true → t ≡ p.term f.goal → IsGoal t → Chain p (frames ++ f ∷ []) f.next gs
     → Chain p (frames ++ f ∷ []) (Some (length frames)) (t ∷ gs)
-chain_push frames f t holds is others = leads (at_last frames f) holds is others
+chain_push frames f t holds is goal others = leads (at_last frames f) holds is goal others
 
 -- ---- lists that end in an item
 

@@ -1,5 +1,5 @@
 -- Which states of the search the engine stands for, what its moves come to, and by what they fall.
-use Rattle.std.specs.Prelude.{◌≡◌, ◌≢◌, ℕ, zero, suc, ◌+◌, ◌*◌, ◌-◌, ◌<◌, ◌≤◌, List, [], ◌∷◌, length, take, drop, Some, option_map, true, ◌⊎◌}
+use Rattle.std.specs.Prelude.{◌≡◌, ◌≢◌, ℕ, zero, suc, ◌+◌, ◌*◌, ◌-◌, ◌<◌, ◌≤◌, List, [], ◌∷◌, length, take, drop, sum, map, Option, Some, None, option_map, true, ◌⊎◌}
 use Rattle.std.specs.List.{slice_get}
 use Rattle.iso_model.specs.Trees.{Tree, Variable}
 use Rattle.iso_model.specs.Terms.{term_of}
@@ -11,8 +11,10 @@ use Rattle.iso_model.specs.Walker.{State}
 use Rattle.iso_model.specs.Runs.{Quiet}
 use Rattle.iso_model.specs.Engines as engines
 use Rattle.iso_model.specs.Engines.{Phase, Ready, Midway}
+use Rattle.iso_model.specs.declared.pauses.Pause.{Pause}
+use Rattle.iso_model.specs.declared.pauses.Pause.TheVariants as pause
 use Rattle.iso_store.specs.Presents.{Present}
-use Rattle.iso_plain.specs.Linked.{Linked, Choice, IsState, with_choice, linked_missed, linked_entered}
+use Rattle.iso_plain.specs.Linked.{Linked, Choice, IsState, idle_linked, with_choice, linked_missed, linked_entered}
 use Rattle.iso_plain.specs.Standing.{Among, Chain, AreVariables, StandsForChoices, HaveRoom, DoesNext, most_numbers, numbers_a_step}
 use Rattle.iso_plain.specs.Programs.{IsDatabase}
 use Rattle.iso_plain.specs.declared.procedures.Procedure.{Procedure}
@@ -175,3 +177,8 @@ module _ {S W M : Type 0} (present : S → Present W) (stands : S → M → Pres
     pub newer : (d : kept.Choice W M) → Among d (take (length e.choices.items - 1) e.choices.items) → older d.mark c.mark
     pub stands_below : StandsForChoices (stands e.store) older e.base (left_at l.database) e.query.items l.query e.frames.items (take (length e.choices.items - 1) e.choices.items) below
     pub room : HaveRoom e.steps (k ∷ below)
+
+  -- what a call comes to: the first clause was tried, or the engine is spent since no choice may be made any more
+  abbrev pub WasCalled : Move → Plain S W M → Linked → Tree → Clause → List Clause → List Tree → Type 0
+  WasCalled move.Goes e l call c cs behind = Tried present stands older e l call c cs behind × (e.now ≢ now.Spent)
+  WasCalled (move.Pauses p) e l call c cs behind = (p ≡ pause.FramesFull) × (e.now ≡ now.Spent)

@@ -7,6 +7,7 @@ use Rattle.iso_model.specs.Copies.{renamed}
 use Rattle.iso_store.specs.Presents.{Present, KeepsWords}
 use Rattle.iso_model.specs.declared.terms.Term.{Term}
 use Rattle.iso_model.specs.Terms.{term_of}
+use Rattle.iso_plain.specs.Callable.{AreGoals}
 use Rattle.iso_plain.specs.Standing.{Chain}
 use Rattle.iso_plain.specs.declared.parts.Frame.{Frame}
 
@@ -34,9 +35,9 @@ pub data AreTerms {W : Type 0} (p : Present W) : List W → Tree → Type 0 wher
 abbrev pub renamed_terms : ℕ → List Term → List Tree
 renamed_terms n ts = map (λ t. renamed n (term_of t)) ts
 
--- The frames that are linked to some goals from `rest` on are linked to these terms before them from the place on.
+-- The frames that are linked to some goals from `rest` on are linked to these terms before them from the place on, where each can be run.
 abbrev pub Links : {W : Type 0} → Present W → List (Frame W) → Option ℕ → Present W → List (Frame W) → Option ℕ → List Tree → Type 0
-Links p frames rest q new place ts = (gs : List Tree) → Chain p frames rest gs → Chain q new place (ts ++ gs)
+Links p frames rest q new place ts = (gs : List Tree) → Chain p frames rest gs → AreGoals ts → Chain q new place (ts ++ gs)
 
 -- frames that were added at the end
 abbrev pub AddsFrames : {W : Type 0} → List (Frame W) → List (Frame W) → Type 0

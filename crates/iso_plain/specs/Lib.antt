@@ -6,3 +6,6 @@ pub mod Kept
 pub mod Programs
 pub mod Next
 pub mod EngineStates
+pub mod Starts
+pub mod Callable
+pub mod Called

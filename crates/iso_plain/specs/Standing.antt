@@ -4,6 +4,7 @@ use Rattle.std.specs.List.{slice_get}
 use Rattle.iso_model.specs.Trees.{Tree, Variable}
 use Rattle.iso_model.specs.Databases.{Clause}
 use Rattle.iso_store.specs.Presents.{Present}
+use Rattle.iso_plain.specs.Callable.{IsGoal}
 use Rattle.iso_plain.specs.Linked.{Choice, Linked, idle_linked, Running, Failing, Raising}
 use Rattle.iso_plain.specs.declared.parts.Frame.{Frame}
 use Rattle.iso_plain.specs.declared.parts.Choice as kept
@@ -19,10 +20,10 @@ abbrev pub Among : {X : Type 0} → X → List X → Type 0
 Among x [] = ⊥
 Among x (y ∷ ys) = (x ≡ y) ⊎ Among x ys
 
--- The frames from this place on are linked to these goals.
+-- The frames from this place on are linked to these goals, each of which can be run.
 pub data Chain {W : Type 0} (p : Present W) (frames : List (Frame W)) : Option ℕ → List Tree → Type 0 where
   ends : Chain p frames None []
-  leads : {i : ℕ} {f : Frame W} {t : Tree} {gs : List Tree} → At frames i f → p.holds f.goal ≡ true → t ≡ p.term f.goal → Chain p frames f.next gs → Chain p frames (Some i) (t ∷ gs)
+  leads : {i : ℕ} {f : Frame W} {t : Tree} {gs : List Tree} → At frames i f → p.holds f.goal ≡ true → t ≡ p.term f.goal → IsGoal t → Chain p frames f.next gs → Chain p frames (Some i) (t ∷ gs)
 
 -- These words are the variables of these numbers.
 pub data AreVariables {W : Type 0} (p : Present W) : List W → List ℕ → Type 0 where

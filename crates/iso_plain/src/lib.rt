@@ -4,9 +4,14 @@
 
 pub mod balls;
 pub mod bodies;
+pub mod calls;
 pub mod clauses;
+pub mod ends;
+pub mod engine;
 pub mod entries;
 pub mod moves;
 pub mod parts;
 pub mod plain;
 pub mod procedures;
+pub mod runs;
+pub mod starts;

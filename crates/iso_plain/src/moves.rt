@@ -1,5 +1,5 @@
 //! The engine's moves: each is some steps of the standard's search (7.7).
-ghost use Rattle.std.specs.Prelude.{◌≡◌, ◌≢◌, ◌<◌, ◌≤◌, ◌+◌, ℕ, IfOk, OnOk, Ok, List, ◌∷◌, length};
+ghost use Rattle.std.specs.Prelude.{◌≡◌, ◌≢◌, ◌<◌, ◌≤◌, ◌+◌, true, false, IfOk, OnOk, Ok, List, ◌∷◌, length};
 ghost use Rattle.iso_model.specs.Trees.{Tree};
 ghost use Rattle.iso_model.specs.Databases as databases;
 ghost use Rattle.iso_model.specs.Databases.{Database};
@@ -28,10 +28,19 @@ fn clause_at(procedures: &[Procedure], place: usize, index: usize) -> &Clause
     &procedure.clauses[index]
 }
 
+/// How many clauses the procedure at this place has.
+fn clause_count(procedures: &[Procedure], place: usize) -> usize
+    requires { place < length procedures.now }
+    ensures { result ≡ clauses_at_place procedures.now place }
+{
+    procedures[place].clauses.len()
+}
+
 impl<S: Store + Drop> Plain<S> {
     ghost use Rattle.iso_plain.specs.Linked.{Linked};
     ghost use Rattle.iso_plain.specs.Linked as search;
-    ghost use Rattle.iso_plain.specs.EngineStates.{IsEngine, Tries, Tried, WentBack, clauses_left, weight};
+    ghost use Rattle.iso_plain.specs.EngineStates.{IsBase, IsEngine, Represents, Tries, Tried, Calls, WentBack, Moves, Falls, clauses_left, most_clauses, weight};
+    ghost use Rattle.iso_plain.specs.declared.parts.Now.TheVariants as now;
 
     /// Enters the clause; where its head doesn't unify with the goal the engine fails next (7.7.10).
     pub(crate) fn enter(&mut self, attempt: Attempt<S::Word>) -> Result<(), StoreFault>
@@ -41,6 +50,8 @@ impl<S: Store + Drop> Plain<S> {
             → Tries S.present S.stands S.older self.old attempt l call c cs behind
             → OnOk result (Tried S.present S.stands S.older self.new l call c cs behind) }
         ensures steps { self.new.steps ≡ self.old.steps }
+        ensures awake { OnOk result (self.new.now ≢ now.Spent) }
+        ensures base { IsBase (S.stands self.old.store) self.old.base → IsBase (S.stands self.new.store) self.new.base }
         ensures procedures { self.new.procedures ≡ self.old.procedures }
         ensures choices { self.new.choices ≡ self.old.choices }
     {
@@ -75,5 +86,116 @@ impl<S: Store + Drop> Plain<S> {
         self.store.undo(choice.mark);
         self.frames.truncate(choice.frames);
         choice
+    }
+
+    /// Keeps the clauses behind the attempt's as a choice (7.7.8). The error is that memory was refused.
+    fn push_later(&mut self, attempt: Attempt<S::Word>) -> Result<(), AllocError>
+        requires { (l : Linked) × (call : Tree) × (c : databases.Clause) × (cs : List databases.Clause) × (behind : List Tree)
+            × (0 < length cs) × Calls S.present S.stands S.older self.old attempt l call c cs behind }
+        ensures tries { (l : Linked) (call : Tree) (c : databases.Clause) (cs : List databases.Clause) (behind : List Tree)
+            → Calls S.present S.stands S.older self.old attempt l call c cs behind → 0 < length cs
+            → OnOk result (Tries S.present S.stands S.older self.new attempt l call c cs behind) }
+        ensures steps { self.new.steps ≡ self.old.steps }
+        ensures base { IsBase (S.stands self.old.store) self.old.base → IsBase (S.stands self.new.store) self.new.base }
+        ensures procedures { self.new.procedures ≡ self.old.procedures }
+        ensures fewer { clauses_left self.old.procedures.items self.new.choices.items + 1
+            ≤ clauses_left self.old.procedures.items self.old.choices.items + most_clauses self.old.procedures.items }
+    {
+        let mark = self.store.mark();
+        let frames = self.frames.len();
+        let clause = attempt.clause + 1;
+        self.choices.push(Choice {
+            mark,
+            frames,
+            attempt: Attempt { clause, ..attempt },
+        })?;
+        Ok(())
+    }
+
+    /// Leaves the newest choice at its next clause, or takes it away where this is its last one.
+    pub(crate) fn leave_choice(&mut self, choice: Choice<S::Word, S::Mark>)
+        requires some { 0 < length self.old.choices.items }
+        requires back { (l : Linked) × (k : search.Choice) × (below : List search.Choice) × WentBack S.present S.stands S.older self.old choice l k below }
+        ensures tries { (l : Linked) (k : search.Choice) (below : List search.Choice) (c : databases.Clause) (cs : List databases.Clause)
+            → WentBack S.present S.stands S.older self.old choice l k below → k.clauses ≡ c ∷ cs
+            → Tries S.present S.stands S.older self.new choice.attempt (record l { subst = k.subst; next = k.next; stack = below }) k.call c cs k.behind }
+        ensures steps { self.new.steps ≡ self.old.steps }
+        ensures procedures { self.new.procedures ≡ self.old.procedures }
+        ensures fewer { clauses_left self.old.procedures.items self.new.choices.items + 1 ≤ clauses_left self.old.procedures.items self.old.choices.items }
+    {
+        let newest = self.choices.len() - 1;
+        let next = choice.attempt.clause + 1;
+        if next < clause_count(self.procedures.as_slice(), choice.attempt.procedure) {
+            self.choices[newest].attempt.clause = next;
+        } else {
+            self.choices.truncate(newest);
+            self.store.forget(choice.mark);
+        }
+    }
+
+    /// Goes on with the newest choice's next clause; where there is no choice the run ends (7.7.8).
+    pub(crate) fn fail(&mut self) -> Result<Move, StoreFault>
+        requires represents { (s : State) × Represents S.present S.stands S.older self.old s }
+        requires failing { self.old.now ≡ now.Failing }
+        ensures moves { (s : State) → Represents S.present S.stands S.older self.old s → IfOk result (λ m. Moves S.present S.stands S.older m s self.new) }
+        ensures falls { IfOk result (λ m. Falls m (weight self.old) (weight self.new)) }
+    {
+        if self.choices.is_empty() {
+            self.clear();
+            return Ok(Move::Pauses(Pause::NoMore));
+        }
+        let choice = self.go_back();
+        self.leave_choice(choice);
+        self.enter(choice.attempt)?;
+        Ok(Move::Goes)
+    }
+
+    /// Keeps the call's later clauses as a choice where there are any (7.7.8); false where no choice may be made any more.
+    /// The error is that memory was refused.
+    fn push_choice(&mut self, attempt: Attempt<S::Word>) -> Result<bool, AllocError>
+        requires { (l : Linked) × (call : Tree) × (c : databases.Clause) × (cs : List databases.Clause) × (behind : List Tree)
+            × Calls S.present S.stands S.older self.old attempt l call c cs behind }
+        ensures tries { (l : Linked) (call : Tree) (c : databases.Clause) (cs : List databases.Clause) (behind : List Tree)
+            → Calls S.present S.stands S.older self.old attempt l call c cs behind → result ≡ Ok true
+            → Tries S.present S.stands S.older self.new attempt l call c cs behind }
+        ensures full { result ≡ Ok false → self.new ≡ self.old }
+        ensures steps { self.new.steps ≡ self.old.steps }
+        ensures base { IsBase (S.stands self.old.store) self.old.base → IsBase (S.stands self.new.store) self.new.base }
+        ensures procedures { self.new.procedures ≡ self.old.procedures }
+        ensures fewer { clauses_left self.old.procedures.items self.new.choices.items + 1
+            ≤ clauses_left self.old.procedures.items self.old.choices.items + most_clauses self.old.procedures.items }
+    {
+        let count = clause_count(self.procedures.as_slice(), attempt.procedure);
+        if attempt.clause + 1 >= count {
+            return Ok(true);
+        }
+        if self.choices.len() >= self.limit as usize {
+            return Ok(false);
+        }
+        self.push_later(attempt)?;
+        Ok(true)
+    }
+
+    /// Calls the procedure at the attempt's place: its first clause is entered, those behind it are one choice (7.7.7). False
+    /// where no choice may be made any more; the engine is as it was then.
+    pub(crate) fn call(&mut self, attempt: Attempt<S::Word>) -> Result<bool, StoreFault>
+        requires { (l : Linked) × (call : Tree) × (c : databases.Clause) × (cs : List databases.Clause) × (behind : List Tree)
+            × Calls S.present S.stands S.older self.old attempt l call c cs behind }
+        ensures tried { (l : Linked) (call : Tree) (c : databases.Clause) (cs : List databases.Clause) (behind : List Tree)
+            → Calls S.present S.stands S.older self.old attempt l call c cs behind → result ≡ Ok true
+            → Tried S.present S.stands S.older self.new l call c cs behind }
+        ensures awake { result ≡ Ok true → self.new.now ≢ now.Spent }
+        ensures full { result ≡ Ok false → self.new ≡ self.old }
+        ensures steps { self.new.steps ≡ self.old.steps }
+        ensures base { IsBase (S.stands self.old.store) self.old.base → IsBase (S.stands self.new.store) self.new.base }
+        ensures procedures { self.new.procedures ≡ self.old.procedures }
+        ensures fewer { clauses_left self.old.procedures.items self.new.choices.items + 1
+            ≤ clauses_left self.old.procedures.items self.old.choices.items + most_clauses self.old.procedures.items }
+    {
+        if !self.push_choice(attempt)? {
+            return Ok(false);
+        }
+        self.enter(attempt)?;
+        Ok(true)
     }
 }

@@ -36,6 +36,7 @@ pub struct Plain<S: Store> {
 }
 
 impl<S: Store + Drop> Plain<S> {
+    ghost use Rattle.iso_model.specs.Trees.{Variable};
     ghost use Rattle.iso_model.specs.Databases.{Database};
     ghost use Rattle.iso_plain.specs.Linked.{idle_linked};
     ghost use Rattle.iso_plain.specs.Programs.{IsDatabase};
@@ -48,6 +49,8 @@ impl<S: Store + Drop> Plain<S> {
         ensures idle { (db : Database) → IsDatabase self.old.procedures.items db
             → IsEngine S.present S.stands S.older self.new (idle_linked db) }
         ensures now { self.new.now ≡ Idle }
+        ensures substitution { (S.present self.new.store).substitution ≡ Variable }
+        ensures next { (S.present self.new.store).next ≡ 0 }
         ensures procedures { self.new.procedures ≡ self.old.procedures }
         ensures base { IsBase (S.stands self.new.store) self.new.base }
     {

@@ -2,11 +2,11 @@
 use Rattle.std.proofs.Common.{◌≡◌, ℕ, Bool, false, List, [], ◌∷◌, ◌++◌, Option, Result, Ok, Err, IfOk, OnOk, OnErr, refl, sym, ap, subst, ◌∙◌, append-nil}
 use Rattle.std.specs.Io.KnownBytes.{Appends}
 use Rattle.std.specs.Result.{IsErr}
-use Rattle.iso_model.specs.Engines.{Phase}
+use Rattle.iso_model.specs.Engines.{Phase, Ready}
 use Rattle.iso_model.specs.Walker.{State}
 use Rattle.iso_model.specs.Sessions.{Piece, Line, Script, Closes, Done, Halts, SessionEnd, prepend, piece_bytes, pieces_bytes, script_bytes, script_end}
 use Rattle.iso_model.specs.Beginnings as session
-use Rattle.iso_model.specs.Beginnings.{Begins, IsWritten, whole, cut, cut_text, limit_line, IsCut, IsBroken, Writes, EngineStops}
+use Rattle.iso_model.specs.Beginnings.{Begins, IsWritten, whole, cut, cut_text, limit_line, IsCut, IsBroken, Writes, EngineStops, Limit, Outcome, Closed, Limited, Broken, AnyRest, Memory}
 use Rattle.iso_session.specs.declared.flows.Limit.TheVariants as limit
 use Rattle.iso_session.specs.declared.flows.Flow.{Flow}
 use Rattle.iso_session.specs.declared.flows.Flow.TheVariants as flow
@@ -14,6 +14,7 @@ use Rattle.iso_session.specs.declared.statuses.Ended.{Ended}
 use Rattle.iso_session.specs.declared.statuses.Fault.{Fault}
 use Rattle.iso_session.specs.Progress.{Place, outcome_of, within_after, Advances, Does, ended_of, closing_bytes}
 use Rattle.iso_session.proofs.WrittenLemmas.{appends_more, begins_behind}
+use Rattle.iso_session.proofs.QueryLemmas.{stops_before}
 use Rattle.iso_session.proofs.ProgressLemmas.{pieces_bytes-append, script_bytes-prepend}
 
 script_end-prepend : (ps : List Piece) (s : Script) → script_end (prepend ps s) ≡ script_end s
@@ -87,3 +88,18 @@ pub breaks : (Stands : State → Type 0) (now : Phase) (old new : Option (List �
     → IsErr r → Begins old new (script_bytes false script) → Writes script (EngineStops Stands now) old new (outcome_of r)
 breaks Stands now old new script (Ok e) failed b = cc
 breaks Stands now old new script (Err e) failed b = all_broken old new script b
+
+-- what is said of the rest of a script that a limit ended may be left out
+pub any_rest : (script : Script) (Stands : Limit → Script → Type 0) (old new : Option (List ℕ)) (outcome : Outcome) → Writes script Stands old new outcome → Writes script AnyRest old new outcome
+any_rest script Stands old new (Closed ending) h = h
+any_rest script Stands old new (Limited limit) h = record { gave = h.gave; rest = h.rest; is = h.is; bytes = h.bytes; stands = tt }
+any_rest script Stands old new Broken h = h
+
+-- memory was refused before a session began
+pub refused_session : (script : Script) (old new : Option (List ℕ)) (r : Result Ended Fault) → IfOk r (λ e. e ≡ ended_of (flow.Stops limit.Memory))
+    → OnOk r (Appends old new (closing_bytes false (flow.Stops limit.Memory))) → OnErr r (Begins old new (closing_bytes false (flow.Stops limit.Memory)))
+    → Writes script AnyRest old new (outcome_of r)
+refused_session script old new r is ok err =
+    let stops : Does (λ s. ⊥) Ready (old, false) (old, false) script (λ w. Closes Done) (Ok (flow.Stops limit.Memory)) =
+    stops_before (λ s. ⊥) Ready Memory (old, false) script (λ spent. absurd (cc)) in
+    any_rest script (EngineStops (λ s. ⊥) Ready) old new (outcome_of r) (closes (λ s. ⊥) Ready old (old, false) new script (flow.Stops limit.Memory) r stops is ok err)

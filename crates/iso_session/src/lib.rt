@@ -10,6 +10,7 @@ mod flows;
 mod items;
 mod names;
 mod places;
+mod plain_sessions;
 mod queries;
 mod sessions;
 mod statuses;
@@ -18,6 +19,7 @@ pub mod words;
 mod written;
 
 pub use files::{TextFault, read_text};
+pub use plain_sessions::session;
 pub use sessions::session_on;
 pub use statuses::{Choice, Ended, Fault, status_of};
 pub use words::{Words, WordsFault, read_words};

@@ -5,6 +5,10 @@ pub mod quitter;
 #[cfg(test)]
 mod readers;
 #[cfg(test)]
+mod rows;
+#[cfg(test)]
+mod sessions;
+#[cfg(test)]
 mod words;
 #[cfg(test)]
 mod writers;

@@ -1,6 +1,6 @@
 //! Writers that fail, that take little, and that take nothing.
-use super::quitter::Quitter;
-use iso_session::{Fault, session_on, status_of};
+use iso_model::Limits;
+use iso_session::{Choice, Fault, session, status_of};
 use std::alloc::Global;
 use std::io;
 use std::io::ErrorKind;
@@ -33,13 +33,11 @@ impl io::Write for Sink {
     }
 }
 
-/// A text and queries whose syntax errors are written, and a last query at which the engine gives up.
-const TEXT: &str = "p q.\nr s.\n";
+const TEXT: &str = "p(1). p(2). p(1).\n";
 
-const QUERIES: &str = "p q. r.";
+const QUERIES: &str = "p(X).";
 
-const OUTPUT: &str =
-    "syntax error in clause 1\nsyntax error in clause 2\nend: syntax error\nend: heap full\n";
+const OUTPUT: &str = "answer 1: X = 1\nanswer 2: X = 2\nanswer 3: X = 1\nend: no more\n";
 
 /// The bytes that this writer has, and the status, after a session.
 fn written(alloc: Global, step: usize, room: usize, fails: bool) -> (Vec<u8>, u8) {
@@ -49,8 +47,14 @@ fn written(alloc: Global, step: usize, room: usize, fails: bool) -> (Vec<u8>, u8
         room,
         fails,
     };
-    let mut engine = Quitter::new();
-    let outcome = session_on(alloc, &mut engine, TEXT, QUERIES, 100, &mut sink);
+    let outcome = session(
+        alloc,
+        TEXT,
+        QUERIES,
+        &Limits::DEFAULT,
+        Choice::Plain,
+        &mut sink,
+    );
     let status = status_of(&outcome);
     (sink.bytes, status)
 }
@@ -71,7 +75,7 @@ fn a_failed_write_leaves_a_beginning(rt: HostRuntime) -> Result<(), Fail> {
 #[test]
 fn a_writer_that_takes_a_byte_a_call_gets_all(rt: HostRuntime) -> Result<(), Fail> {
     let (bytes, status) = written(rt.alloc(), 1, usize::MAX, true);
-    assert_eq!(rt; status, 3);
+    assert_eq!(rt; status, 0);
     assert!(rt; bytes.as_slice() == OUTPUT.as_bytes());
     Ok(())
 }
@@ -84,8 +88,14 @@ fn the_fault_says_so(rt: HostRuntime) -> Result<(), Fail> {
         room: 0,
         fails: true,
     };
-    let mut engine = Quitter::new();
-    let outcome = session_on(rt.alloc(), &mut engine, TEXT, QUERIES, 100, &mut sink);
+    let outcome = session(
+        rt.alloc(),
+        TEXT,
+        QUERIES,
+        &Limits::DEFAULT,
+        Choice::Plain,
+        &mut sink,
+    );
     assert!(rt; matches!(&outcome, Err(Fault::Output)));
     Ok(())
 }

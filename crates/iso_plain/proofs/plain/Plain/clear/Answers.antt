@@ -1,4 +1,4 @@
-use Rattle.std.proofs.Common.{refl}
+use Rattle.std.proofs.Common.{◌≡◌, refl, ap, ◌∙◌}
 use Rattle.iso_plain.specs.Standing.{none_kept}
 use Rattle.iso_plain.proofs.plain.Plain.clear.Goals as goal
 
@@ -11,3 +11,9 @@ returns-clause-idle g c = λ db h. record {
   room = tt;
   next = refl;
 }
+
+pub returns-clause-substitution : goal.returns-clause-substitution
+returns-clause-substitution g c = ap (λ p. p.substitution) (c.undo.ensures.back c.requires.present c.requires.stands_for) ∙ c.requires.substitution
+
+pub returns-clause-next : goal.returns-clause-next
+returns-clause-next g c = ap (λ p. p.next) (c.undo.ensures.back c.requires.present c.requires.stands_for) ∙ c.requires.next

@@ -1,6 +1,7 @@
 use Rattle.std.proofs.Common.{arith}
 use Rattle.iso_plain.proofs.KeptLemmas.{kept_at, can_be_entered}
 use Rattle.iso_plain.proofs.EngineLemmas.{tried_engine}
+use Rattle.iso_plain.proofs.FailLemmas.{awake_entered}
 use Rattle.iso_plain.proofs.plain.Plain.enter.Goals as goal
 
 pub clause_at-clause-requires-clause-within : goal.clause_at-clause-requires-clause-within
@@ -44,3 +45,6 @@ returns-clause-tried g c = λ l call k ks gs t.
     (let is = c.clause_at-clause.ensures l.database k ks (rw c.as_slice.ensures.value t.database) t.clauses in
     rw c.behind-self.ensures (tried_engine g.S.Store.present g.S.Store.stands g.S.Store.older c.args.self.now c.args.attempt l call k ks gs c.enter.new.store c.enter.new.frames
     c.in_ok-entered.entered c.clause_at-clause.result.now t c.in_ok-entered.ensures.marks c.in_ok-entered.ensures.frames is c.in_ok-entered.ensures.enters))
+
+pub returns-clause-awake : goal.returns-clause-awake
+returns-clause-awake g c = rw c.behind-self.ensures (awake_entered c.in_ok-entered.entered)

@@ -1,0 +1,116 @@
+-- A call of `resume` is moves up to an event.
+use Rattle.std.proofs.Common.{◌≡◌, ◌≢◌, ◌<◌, ◌≤◌, ℕ, refl, ap, sym, ◌∙◌, subst, arith, Result, Ok, Err}
+use Rattle.iso_model.specs.Walker.{State, World, NoMore, idle}
+use Rattle.iso_model.specs.Databases.{Database}
+use Rattle.iso_model.specs.Additions.{Addition, Adds, Refuses}
+use Rattle.iso_model.specs.declared.pauses.AddFault.{AddFault}
+use Rattle.iso_model.specs.declared.pauses.AddFault.TheVariants as add
+use Rattle.iso_plain.specs.Starts.{Comes}
+use Rattle.iso_model.specs.Runs.{Quiet, Finishes}
+use Rattle.iso_model.specs.RunLaws.{comes_behind, finishes_behind, quiet_trans}
+use Rattle.iso_model.specs.Engines as engines
+use Rattle.iso_model.specs.declared.pauses.Pause.{Pause}
+use Rattle.iso_model.specs.declared.pauses.Pause.TheVariants as pause
+use Rattle.iso_store.specs.Presents.{Present}
+use Rattle.iso_plain.specs.Linked.{Linked, IsState, idle_linked}
+use Rattle.iso_plain.specs.EngineStates.{IsEngine, Represents, StandsBy, StandsFor, Moves, Falls, phase_of}
+use Rattle.iso_plain.specs.declared.parts.Now.{Now}
+use Rattle.iso_plain.specs.declared.parts.Now.TheVariants as now
+use Rattle.iso_plain.specs.declared.plain.Move.TheVariants as move
+use Rattle.iso_plain.specs.declared.plain.Plain.{Plain}
+use Rattle.iso_plain.proofs.LinkedMoves.{fails_last, is_idle}
+
+-- a number that falls does so behind others that fall
+pub falls_behind : (p : Pause) (a b c : ℕ) → b ≤ a → engines.FallsAtEvent p b c → engines.FallsAtEvent p a c
+falls_behind (pause.Answer values) a b c h falls = omega (arith, h, falls)
+falls_behind (pause.Output bytes) a b c h falls = omega (arith, h, falls)
+falls_behind pause.NoMore a b c h falls = falls
+falls_behind pause.Budget a b c h falls = falls
+falls_behind (pause.Uncaught ball) a b c h falls = falls
+falls_behind (pause.Halt status) a b c h falls = falls
+falls_behind pause.HeapFull a b c h falls = falls
+falls_behind pause.FramesFull a b c h falls = falls
+falls_behind pause.NoMemory a b c h falls = falls
+falls_behind pause.Spent a b c h falls = falls
+
+module _ {S W M : Type 0} (present : S → Present W) (stands : S → M → Present W → Type 0) (older : M → M → Type 0) where
+  -- an engine that is awake stands for what it represents
+  pub awake_stands : (n : Now) (e : Plain S W M) (s : State) → n ≢ now.Spent → StandsBy present stands older n e s → Represents present stands older e s
+  awake_stands now.Idle e s awake r = r
+  awake_stands now.Failing e s awake r = r
+  awake_stands now.Answering e s awake r = r
+  awake_stands (now.Running place) e s awake r = r
+  awake_stands now.Raising e s awake r = r
+  awake_stands now.Spent e s awake r = absurd (awake refl)
+
+  pub ready_stands : (n : Now) (e : Plain S W M) (s : State) → phase_of n ≡ engines.Ready → StandsBy present stands older n e s → Represents present stands older e s
+  ready_stands now.Idle e s ready r = r
+  ready_stands now.Failing e s ready r = r
+  ready_stands now.Answering e s ready r = r
+  ready_stands (now.Running place) e s ready r = r
+  ready_stands now.Raising e s ready r = r
+  ready_stands now.Spent e s ready r = absurd (cc)
+
+  pub represents_stands : (n : Now) (e : Plain S W M) (s : State) → Represents present stands older e s → StandsBy present stands older n e s
+  represents_stands now.Idle e s r = r
+  represents_stands now.Failing e s r = r
+  represents_stands now.Answering e s r = r
+  represents_stands (now.Running place) e s r = r
+  represents_stands now.Raising e s r = r
+  represents_stands now.Spent e s r = tt
+
+  -- a spent engine stands for any state
+  pub spent_stands : (n : Now) (e : Plain S W M) (s : State) → phase_of n ≡ engines.Spent → StandsBy present stands older n e s
+  spent_stands now.Idle e s h = absurd (cc)
+  spent_stands now.Failing e s h = absurd (cc)
+  spent_stands now.Answering e s h = absurd (cc)
+  spent_stands (now.Running place) e s h = absurd (cc)
+  spent_stands now.Raising e s h = absurd (cc)
+  spent_stands now.Spent e s h = tt
+
+  -- what comes behind steps without an event
+  pub pauses_behind : (e : Plain S W M) (s t : State) (p : Pause) → Quiet s t → engines.Pauses t p (StandsFor present stands older e) (phase_of e.now)
+      → engines.Pauses s p (StandsFor present stands older e) (phase_of e.now)
+  pauses_behind e s t (pause.Answer values) q h = (comes_behind q h.0, h.1)
+  pauses_behind e s t (pause.Output bytes) q h = (comes_behind q h.0, h.1)
+  pauses_behind e s t pause.NoMore q h = (finishes_behind q h.0, h.1)
+  pauses_behind e s t pause.Budget q h = (finishes_behind q h.0, h.1)
+  pauses_behind e s t (pause.Uncaught ball) q h = (finishes_behind q h.0, h.1)
+  pauses_behind e s t (pause.Halt status) q h = (finishes_behind q h.0, h.1)
+  pauses_behind e s t pause.HeapFull q h = (spent_stands e.now e s h.1, h.1)
+  pauses_behind e s t pause.FramesFull q h = (spent_stands e.now e s h.1, h.1)
+  pauses_behind e s t pause.NoMemory q h = (spent_stands e.now e s h.1, h.1)
+  pauses_behind e s t pause.Spent q h = absurd h
+
+  -- an idle engine has no more answers
+  idle_finishes : (e : Plain S W M) (s : State) → e.now ≡ now.Idle → Represents present stands older e s → Finishes s NoMore (Represents present stands older e)
+  idle_finishes e s rests r =
+      let l = r.search in
+      let is : l ≡ idle_linked l.database = rw rests at r.engine.next in
+      let state : IsState (idle_linked l.database) s = subst (λ (k : Linked). IsState k s) is r.state in
+      let f = fails_last (idle_linked l.database) s state.around state.list refl in
+      record {
+        at = f.at;
+        world = f.world;
+        quiet = f.quiet;
+        last = f.last;
+        stands = record { search = l; engine = r.engine; state = subst (λ (k : Linked). IsState k (idle f.world)) (sym is) f.stands };
+      }
+
+  pub idle_moves : (e : Plain S W M) (s : State) → e.now ≢ now.Spent → e.now ≡ now.Idle → StandsFor present stands older e s → Finishes s NoMore (StandsFor present stands older e)
+  idle_moves e s awake rests r =
+      let f = idle_finishes e s rests (awake_stands e.now e s awake r) in
+      record { at = f.at; world = f.world; quiet = f.quiet; last = f.last; stands = represents_stands e.now e (idle f.world) f.stands }
+
+  pub idle_stands : (e : Plain S W M) (db : Database) (w : World) → w.database ≡ db → IsEngine present stands older e (idle_linked db) → StandsFor present stands older e (idle w)
+  idle_stands e db w same is = represents_stands e.now e (idle w) (record { search = idle_linked db; engine = is; state = is_idle w db same })
+
+  -- what adding a clause comes to
+  pub consults_stand : (a : Addition) (s : State) (result : Result Unit AddFault) (e : Plain S W M) → Comes present stands older a s.world.database result e
+      → engines.Consults a s result (StandsFor present stands older e)
+  consults_stand (Adds db) s (Ok u) e comes = idle_stands e db (record s.world { database = db }) refl comes
+  consults_stand (Refuses error) s (Ok u) e comes = absurd comes
+  consults_stand (Adds db) s (Err (add.Refused ball)) e comes = absurd comes
+  consults_stand (Refuses error) s (Err (add.Refused ball)) e comes = (comes.0, idle_stands e s.world.database s.world refl comes.1)
+  consults_stand (Adds db) s (Err add.NoMemory) e comes = idle_stands e s.world.database s.world refl comes
+  consults_stand (Refuses error) s (Err add.NoMemory) e comes = idle_stands e s.world.database s.world refl comes

@@ -1,0 +1,11 @@
+use Rattle.std.proofs.Common.{◌≡◌, refl}
+use Rattle.iso_model.specs.Terms.{term_of}
+use Rattle.iso_model.specs.Additions.{clause_of}
+use Rattle.iso_plain.proofs.StartLemmas.{idle_again}
+use Rattle.iso_plain.proofs.plain.Plain.add.Goals as goal
+
+pub returns-clause-comes : goal.returns-clause-comes
+returns-clause-comes g c = λ db h.
+    (let added = c.in_ok-prepared.ensures in
+    rw (added.adds db) (idle_again h c.requires.now refl refl refl refl
+    (c.in_ok-add.ensures.ok db (clause_of (term_of c.args.clause.now) added.body) added.key h.database added.clause added.named)))

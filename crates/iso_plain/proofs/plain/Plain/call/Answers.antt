@@ -1,0 +1,11 @@
+use Rattle.std.proofs.Common.{ap, Ok}
+use Rattle.iso_plain.proofs.plain.Plain.call.Goals as goal
+
+pub enter-requires : goal.enter-requires
+enter-requires g c =
+    let t = c.requires.5 in
+    (c.requires.0, c.requires.1, c.requires.2, c.requires.3, c.requires.4, c.in_ok-push_choice.ensures.tries c.requires.0 c.requires.1 c.requires.2 c.requires.3 c.requires.4 t (ap Ok c.if-not-branch.false))
+
+pub returns-clause-tried : goal.returns-clause-tried
+returns-clause-tried g c = λ l call k ks gs t done.
+    c.in_ok-enter.ensures.tried l call k ks gs (c.in_ok-push_choice.ensures.tries l call k ks gs t (ap Ok c.if-not-branch.false))

@@ -1,0 +1,14 @@
+use Rattle.std.proofs.Common.{◌≡◌, refl, ap, ◌∙◌}
+use Rattle.iso_plain.specs.Standing.{none_kept}
+use Rattle.iso_plain.specs.Programs.{no_procedures}
+use Rattle.iso_plain.proofs.plain.Plain.new.Goals as goal
+
+pub returns-clause-engine : goal.returns-clause-engine
+returns-clause-engine g c = record {
+  database = rw c.new.ensures.items no_procedures;
+  steps = refl;
+  base = record { present = g.S.Store.present c.args.store; stands_for = c.mark-base.ensures.stands; substitution = c.requires.substitution; next = c.requires.next };
+  choices = rw c.new-3.ensures.items none_kept;
+  room = tt;
+  next = refl;
+}

@@ -1,0 +1,58 @@
+use Rattle.std.proofs.Common.{arith}
+use Rattle.iso_plain.proofs.KeptLemmas.{kept_at}
+use Rattle.iso_plain.proofs.CallLemmas.{tries_last, left_same, clauses_counted}
+use Rattle.iso_plain.proofs.plain.Plain.push_choice.Goals as goal
+
+pub clause_count-count-requires : goal.clause_count-count-requires
+clause_count-count-requires g c =
+    let t = c.requires.5 in
+    let there = kept_at c.args.self.now.procedures.items c.requires.0.database c.args.attempt.procedure c.args.attempt.clause c.requires.2 c.requires.3 t.database t.clauses in
+    rw c.as_slice.ensures.value there.within
+
+pub overflow_add-attempt : goal.overflow_add-attempt
+overflow_add-attempt g c =
+    let t = c.requires.5 in
+    let many = clauses_counted c.args.self.now.procedures.items c.requires.0.database c.args.attempt.procedure c.args.attempt.clause c.requires.2 c.requires.3 t.database t.clauses in
+    let count = rw c.as_slice.ensures.value at c.clause_count-count.ensures in
+    let small = c.clause_count-count.type_inv in
+    omega (arith, many, count, small)
+
+pub returns-then-attempt-count-clause-tries : goal.returns-then-attempt-count-clause-tries
+returns-then-attempt-count-clause-tries g c = λ l call k ks gs t done.
+    tries_last g.S.Store.present g.S.Store.stands g.S.Store.older c.args.self.now c.args.attempt l call k ks gs t
+    (let many = clauses_counted c.args.self.now.procedures.items l.database c.args.attempt.procedure c.args.attempt.clause k ks t.database t.clauses in
+    let count = rw c.as_slice.ensures.value at c.clause_count-count.ensures in
+    let last = c.if-attempt-count.true in
+    omega (arith, many, count, last))
+
+pub push_later-requires : goal.push_later-requires
+push_later-requires g c =
+    let t = c.requires.5 in (
+      c.requires.0,
+      c.requires.1,
+      c.requires.2,
+      c.requires.3,
+      c.requires.4,
+      (let many = clauses_counted c.args.self.now.procedures.items c.requires.0.database c.args.attempt.procedure c.args.attempt.clause c.requires.2 c.requires.3 t.database t.clauses in
+          let count = rw c.as_slice.ensures.value at c.clause_count-count.ensures in
+          let more = c.if-attempt-count.false in
+          omega (arith, many, count, more)),
+      t,
+    )
+
+pub returns-clause-tries : goal.returns-clause-tries
+returns-clause-tries g c = λ l call k ks gs t done. c.in_ok-push_later.ensures.tries l call k ks gs t
+    (let many = clauses_counted c.args.self.now.procedures.items l.database c.args.attempt.procedure c.args.attempt.clause k ks t.database t.clauses in
+    let count = rw c.as_slice.ensures.value at c.clause_count-count.ensures in
+    let more = c.if-attempt-count.false in
+    omega (arith, many, count, more))
+
+pub returns-then-attempt-count-clause-fewer : goal.returns-then-attempt-count-clause-fewer
+returns-then-attempt-count-clause-fewer g c =
+    let t = c.requires.5 in
+    left_same c.args.self.now.procedures.items c.requires.0.database c.args.self.now.choices.items c.args.attempt.procedure c.args.attempt.clause c.requires.2 c.requires.3 t.database t.clauses
+
+pub returns-then-len-self-clause-fewer : goal.returns-then-len-self-clause-fewer
+returns-then-len-self-clause-fewer g c =
+    let t = c.requires.5 in
+    left_same c.args.self.now.procedures.items c.requires.0.database c.args.self.now.choices.items c.args.attempt.procedure c.args.attempt.clause c.requires.2 c.requires.3 t.database t.clauses

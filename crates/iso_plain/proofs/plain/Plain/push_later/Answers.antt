@@ -1,0 +1,29 @@
+use Rattle.std.proofs.Common.{◌≡◌, ◌+◌, length, arith, refl}
+use Rattle.iso_plain.proofs.CallLemmas.{tries_later, left_pushed, left_same, clauses_counted, count_fits}
+use Rattle.iso_plain.proofs.plain.Plain.push_later.Goals as goal
+
+pub overflow_add-clause : goal.overflow_add-clause
+overflow_add-clause g c =
+    let t = c.requires.6 in
+    let many = clauses_counted c.args.self.now.procedures.items c.requires.0.database c.args.attempt.procedure c.args.attempt.clause c.requires.2 c.requires.3 t.database t.clauses in
+    let small = count_fits c.args.self.now.procedures.items c.args.attempt.procedure in
+    omega (arith, many, small)
+
+pub returns-clause-tries : goal.returns-clause-tries
+returns-clause-tries g c = λ l call k ks gs t many.
+    tries_later g.S.Store.present g.S.Store.stands g.S.Store.older c.args.self.now c.args.attempt l call k ks gs c.mark-mark.new.self c.push.new.self c.mark-mark.result t many
+    c.mark-mark.ensures.present c.mark-mark.ensures.stands c.mark-mark.ensures.older c.mark-mark.ensures.marks
+    (let frames : c.len-frames.result ≡ length c.args.self.now.frames.items = cc (c.len-frames.ensures, c.args.self.now.frames.ok.0) in rw frames at c.in_ok-push.ensures.items)
+
+pub returns-clause-fewer : goal.returns-clause-fewer
+returns-clause-fewer g c =
+    let t = c.requires.6 in
+    rw c.in_ok-push.ensures.items (left_pushed c.args.self.now.procedures.items c.requires.0.database c.args.self.now.choices.items
+    (record { mark = c.mark-mark.result; frames = c.len-frames.result; attempt = record c.args.attempt { clause = c.args.attempt.clause + 1 } }) c.args.attempt.clause c.requires.2 c.requires.3
+    t.database t.clauses refl)
+
+pub returns-in_err-push-clause-fewer : goal.returns-in_err-push-clause-fewer
+returns-in_err-push-clause-fewer g c =
+    let t = c.requires.6 in
+    rw c.in_err-push.ensures.items (left_same c.args.self.now.procedures.items c.requires.0.database c.args.self.now.choices.items c.args.attempt.procedure c.args.attempt.clause c.requires.2
+    c.requires.3 t.database t.clauses)

@@ -1,0 +1,28 @@
+use Rattle.std.proofs.Common.{◌≡◌, refl, sym, ap, ◌∙◌, Some, []}
+use Rattle.iso_model.specs.Trees.{Variable}
+use Rattle.iso_model.specs.Terms.{term_of}
+use Rattle.iso_model.specs.Variables.{variables, variable_count}
+use Rattle.iso_model.specs.Errors.{key, type_error_callable}
+use Rattle.std.specs.Prelude.{codes}
+use Rattle.iso_plain.specs.Linked.{Raising}
+use Rattle.iso_plain.specs.Standing.{none_kept}
+use Rattle.iso_plain.proofs.LinkedStarts.{starts_error}
+use Rattle.iso_plain.proofs.plain.Plain.raise_query.Goals as goal
+
+pub returns-clause-started : goal.returns-clause-started
+returns-clause-started g c = λ w fresh.
+    (let goal = term_of c.args.query.now in
+    let error = type_error_callable goal (key (codes "call") 1) in
+    let ball : term_of c.in_ok-ball.ball.term ≡ error = c.in_ok-ball.ensures ∙ ap (λ t. type_error_callable t (key (codes "call") 1)) c.in_ok-culprit.ensures in
+    record {
+      search = record { doing = Raising error; subst = Variable; next = variable_count goal; query = variables goal; stack = []; database = w.database; steps = c.args.self.now.steps };
+      engine = record {
+        database = fresh.database;
+        steps = refl;
+        base = fresh.base;
+        choices = rw fresh.choices none_kept;
+        room = tt;
+        next = (error, refl, ap Some ball);
+      };
+      state = starts_error goal c.args.self.now.steps w w.database c.requires refl;
+    })

@@ -1,0 +1,32 @@
+use Rattle.std.proofs.Common.{◌≡◌, arith}
+use Rattle.iso_model.specs.Runs.{here}
+use Rattle.iso_model.specs.RunLaws.{quiet_trans}
+use Rattle.iso_plain.specs.EngineStates.{weight}
+use Rattle.iso_plain.proofs.EngineMoves.{falls_behind, represents_stands, pauses_behind}
+use Rattle.iso_plain.proofs.plain.Plain.run_on.Goals as goal
+
+pub loop-pause-init : goal.loop-pause-init
+loop-pause-init g c = record {
+  awake = c.requires.awake;
+  stands = c.requires.stands;
+  quiet = λ s r. (s, here, r);
+  less = omega arith;
+}
+
+pub loop-pause-preserved : goal.loop-pause-preserved
+loop-pause-preserved g c =
+    let before = c.loop-pause.invariant in
+    let moves = c.in-Goes.ensures.moves in
+    let stands = represents_stands g.S.Store.present g.S.Store.stands g.S.Store.older c.advance.new.self.now c.advance.new.self in
+    let first = moves before.stands.0 before.stands.1 in
+    record {
+      awake = first.3;
+      stands = (first.0, stands first.0 first.2);
+      quiet = λ s r. (let q = before.quiet s r in let n = moves q.0 q.2 in (n.0, quiet_trans q.1 n.1, stands n.0 n.2));
+      less = (let a = before.less in let b = c.in-Goes.ensures.falls in omega (arith, a, b));
+    }
+
+pub returns-in-Pauses-clause-pauses : goal.returns-in-Pauses-clause-pauses
+returns-in-Pauses-clause-pauses g c = λ s r.
+    let q = c.loop-pause.invariant.quiet s r in
+    pauses_behind g.S.Store.present g.S.Store.stands g.S.Store.older c.advance.new.self s q.0 c.in-Pauses.pause q.1 (c.in-Pauses.ensures.moves q.0 q.2)

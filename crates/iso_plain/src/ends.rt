@@ -1,0 +1,60 @@
+//! The engine's moves that give the caller an answer, or a ball that nothing catches (7.7).
+ghost use Rattle.std.specs.Prelude.{◌≡◌, ℕ, IfOk, List, map};
+ghost use Rattle.iso_model.specs.Terms.{term_of};
+ghost use Rattle.iso_model.specs.Walker.{State};
+ghost use Rattle.iso_plain.specs.Standing.{AreVariables};
+
+use super::parts::Now;
+use super::plain::{Move, Plain};
+use iso_model::{Pause, Term};
+use iso_store::{Store, StoreFault};
+use std::alloc::{AllocError, Global};
+
+/// The terms that these words of variables stand for. The error is that memory was refused.
+fn values<S: Store>(alloc: Global, store: &S, words: &[S::Word]) -> Result<Vec<Term>, AllocError>
+    requires { (ns : List ℕ) × AreVariables (S.present store.now) words.now ns }
+    ensures { (ns : List ℕ) → AreVariables (S.present store.now) words.now ns
+        → IfOk result (λ ts. map term_of ts.items ≡ map (S.present store.now).substitution ns) }
+{
+    let mut values = Vec::new(alloc);
+    for word in words {
+        let value = store.copy_out(*word)?;
+        values.push(value)?;
+    }
+    Ok(values)
+}
+
+impl<S: Store + Drop> Plain<S> {
+    ghost use Rattle.iso_plain.specs.EngineStates.{IsBase, Represents, Moves, Falls, weight};
+    ghost use Rattle.iso_plain.specs.declared.parts.Now.TheVariants.{Answering, Raising};
+
+    /// The values of the query's variables, by first occurrence; the engine fails next.
+    pub(crate) fn answer(&mut self) -> Result<Move, StoreFault>
+        requires now { self.old.now ≡ Answering }
+        requires stands { (s : State) × Represents S.present S.stands S.older self.old s }
+        ensures moves { (s : State) → Represents S.present S.stands S.older self.old s
+            → IfOk result (λ m. Moves S.present S.stands S.older m s self.new) }
+        ensures falls { IfOk result (λ m. Falls m (weight self.old) (weight self.new)) }
+        ensures base { IsBase (S.stands self.old.store) self.old.base → IsBase (S.stands self.new.store) self.new.base }
+    {
+        let values = values(self.alloc, &self.store, self.query.as_slice())?;
+        self.now = Now::Failing;
+        Ok(Move::Pauses(Pause::Answer(values)))
+    }
+
+    /// Raises the ball that was kept; nothing catches it.
+    pub(crate) fn raise(&mut self) -> Move
+        requires now { self.old.now ≡ Raising }
+        requires stands { (s : State) × Represents S.present S.stands S.older self.old s }
+        ensures moves { (s : State) → Represents S.present S.stands S.older self.old s → Moves S.present S.stands S.older result s self.new }
+        ensures falls { Falls result (weight self.old) (weight self.new) }
+        ensures base { IsBase (S.stands self.old.store) self.old.base → IsBase (S.stands self.new.store) self.new.base }
+    {
+        let ball = self.raised.take();
+        self.clear();
+        match ball {
+            Some(ball) => Move::Pauses(Pause::Uncaught(ball)),
+            None => Move::Pauses(Pause::NoMore),
+        }
+    }
+}

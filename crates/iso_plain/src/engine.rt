@@ -1,0 +1,109 @@
+//! The plain engine is an engine: a call of `resume` is moves up to an event (7.7).
+ghost use Rattle.std.specs.Prelude.{◌≡◌, ◌≢◌, ℕ, IfOk};
+ghost use Rattle.iso_model.specs.Walker.{State};
+ghost use Rattle.iso_model.specs.declared.pauses.Pause.TheVariants as pause;
+ghost use Rattle.iso_plain.specs.declared.plain.Move.TheVariants as moved;
+
+use super::parts::Now;
+use super::plain::{Move, Plain};
+use iso_model::{AddFault, Engine, Pause, StartFault, Term};
+use iso_store::{Store, StoreFault};
+
+impl<S: Store + Drop> Plain<S> {
+    ghost use Rattle.iso_plain.specs.EngineStates.{StandsFor, Moves, Falls, weight, phase_of};
+    ghost use Rattle.iso_model.specs.Engines.{Pauses, FallsAtEvent};
+    ghost use Rattle.iso_plain.specs.declared.parts.Now.TheVariants as now;
+
+    /// Ends at a limit: the engine is spent.
+    fn stop(&mut self, fault: StoreFault) -> Pause
+        ensures moves { (s : State) → Moves S.present S.stands S.older (moved.Pauses result) s self.new }
+        ensures falls { (old new : ℕ) → FallsAtEvent result old new }
+    {
+        self.now = Now::Spent;
+        match fault {
+            StoreFault::Full => Pause::HeapFull,
+            StoreFault::NoMemory => Pause::NoMemory,
+        }
+    }
+
+    /// A move of an engine that is awake. The errors: the store is full, or memory was refused.
+    fn moved(&mut self) -> Result<Move, StoreFault>
+        requires awake { self.old.now ≢ now.Spent }
+        requires stands { (s : State) × StandsFor S.present S.stands S.older self.old s }
+        ensures moves { (s : State) → StandsFor S.present S.stands S.older self.old s
+            → IfOk result (λ m. Moves S.present S.stands S.older m s self.new) }
+        ensures falls { IfOk result (λ m. Falls m (weight self.old) (weight self.new)) }
+    {
+        match self.now {
+            Now::Idle => Ok(Move::Pauses(Pause::NoMore)),
+            Now::Spent => Err(StoreFault::NoMemory),
+            Now::Failing => self.fail(),
+            Now::Answering => self.answer(),
+            Now::Running(place) => self.run(place),
+            Now::Raising => Ok(self.raise()),
+        }
+    }
+
+    /// A move of an engine that is awake, which ends at a limit.
+    fn advance(&mut self) -> Move
+        requires awake { self.old.now ≢ now.Spent }
+        requires stands { (s : State) × StandsFor S.present S.stands S.older self.old s }
+        ensures moves { (s : State) → StandsFor S.present S.stands S.older self.old s → Moves S.present S.stands S.older result s self.new }
+        ensures falls { Falls result (weight self.old) (weight self.new) }
+    {
+        match self.moved() {
+            Ok(next) => next,
+            Err(fault) => Move::Pauses(self.stop(fault)),
+        }
+    }
+
+    /// Moves on to the next event, of an engine that is awake.
+    fn run_on(&mut self) -> Pause
+        requires awake { self.old.now ≢ now.Spent }
+        requires stands { (s : State) × StandsFor S.present S.stands S.older self.old s }
+        ensures pauses { (s : State) → StandsFor S.present S.stands S.older self.old s
+            → Pauses s result (StandsFor S.present S.stands S.older self.new) (phase_of self.new.now) }
+        ensures left { FallsAtEvent result (weight self.old) (weight self.new) }
+    {
+        loop {
+            match self.advance() {
+                Move::Goes => {}
+                Move::Pauses(pause) => return pause,
+            }
+        }
+    }
+}
+
+impl<S: Store + Drop> Engine for Plain<S> {
+    ghost use Rattle.iso_plain.specs.EngineStates.{StandsFor, weight, phase_of};
+
+    ghost stands_for = { StandsFor S.present S.stands S.older };
+
+    ghost phase = { λ engine. phase_of engine.now };
+
+    ghost left = { weight };
+
+    fn start(&mut self, goal: &Term, budget: u32) -> Result<(), StartFault> {
+        self.clear();
+        let Err(fault) = self.begin(goal, budget) else {
+            return Ok(());
+        };
+        self.now = Now::Spent;
+        match fault {
+            StoreFault::Full => Err(StartFault::HeapFull),
+            StoreFault::NoMemory => Err(StartFault::NoMemory),
+        }
+    }
+
+    fn resume(&mut self) -> Pause {
+        match self.now {
+            Now::Spent => Pause::Spent,
+            _ => self.run_on(),
+        }
+    }
+
+    fn consult(&mut self, clause: &Term) -> Result<(), AddFault> {
+        self.clear();
+        self.add(clause)
+    }
+}

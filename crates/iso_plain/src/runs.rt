@@ -1,0 +1,70 @@
+//! The engine's move at a goal: it takes a step of the budget (7.7.4 to 7.7.7).
+ghost use Rattle.std.specs.Prelude.{◌≡◌, ◌+◌, ◌*◌, IfOk, List};
+ghost use Rattle.iso_model.specs.Trees.{Tree};
+ghost use Rattle.iso_model.specs.Databases as databases;
+ghost use Rattle.iso_model.specs.Walker.{State};
+
+use super::calls::Called;
+use super::parts::{Attempt, Now, at};
+use super::plain::{Move, Plain};
+use iso_model::Pause;
+use iso_store::{Store, StoreFault};
+
+impl<S: Store + Drop> Plain<S> {
+    ghost use Rattle.iso_plain.specs.EngineStates.{Represents, Moves, Falls, Calls, WasCalled, weight, most_clauses};
+    ghost use Rattle.iso_plain.specs.Linked.{Linked};
+    ghost use Rattle.iso_plain.specs.declared.parts.Now.TheVariants as now;
+
+    /// Runs the goal at this place. The errors: the store is full, or memory was refused.
+    pub(crate) fn run(&mut self, place: usize) -> Result<Move, StoreFault>
+        requires now { self.old.now ≡ now.Running place }
+        requires stands { (s : State) × Represents S.present S.stands S.older self.old s }
+        ensures moves { (s : State) → Represents S.present S.stands S.older self.old s
+            → IfOk result (λ m. Moves S.present S.stands S.older m s self.new) }
+        ensures falls { IfOk result (λ m. Falls m (weight self.old) (weight self.new)) }
+    {
+        if self.steps == 0 {
+            self.clear();
+            return Ok(Move::Pauses(Pause::Budget));
+        }
+        let frame = self.frames[place];
+        let called = self.called(frame.goal)?;
+        self.steps -= 1;
+        match called {
+            Called::True => {
+                self.now = at(frame.next);
+                Ok(Move::Goes)
+            }
+            Called::Fail => {
+                self.now = Now::Failing;
+                Ok(Move::Goes)
+            }
+            Called::Unknown(ball) => {
+                self.clear();
+                Ok(Move::Pauses(Pause::Uncaught(ball)))
+            }
+            Called::User(procedure) => self.call_first(Attempt {
+                procedure,
+                clause: 0,
+                goal: frame.goal,
+                rest: frame.next,
+            }),
+        }
+    }
+
+    /// Calls the procedure at the attempt's place; where no choice may be made any more the engine is spent.
+    fn call_first(&mut self, attempt: Attempt<S::Word>) -> Result<Move, StoreFault>
+        requires { (l : Linked) × (call : Tree) × (c : databases.Clause) × (cs : List databases.Clause) × (behind : List Tree)
+            × Calls S.present S.stands S.older self.old attempt l call c cs behind }
+        ensures called { (l : Linked) (call : Tree) (c : databases.Clause) (cs : List databases.Clause) (behind : List Tree)
+            → Calls S.present S.stands S.older self.old attempt l call c cs behind
+            → IfOk result (λ m. WasCalled S.present S.stands S.older m self.new l call c cs behind) }
+        ensures falls { IfOk result (λ m. Falls m (weight self.old + (2 * most_clauses self.old.procedures.items + 1)) (weight self.new)) }
+    {
+        if self.call(attempt)? {
+            return Ok(Move::Goes);
+        }
+        self.now = Now::Spent;
+        Ok(Move::Pauses(Pause::FramesFull))
+    }
+}

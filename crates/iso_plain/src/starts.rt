@@ -1,0 +1,138 @@
+//! How an engine is made, and how a goal is started and a clause added (7.5, 7.7).
+ghost use Rattle.std.specs.Prelude.{◌≡◌, ◌<◌, ◌^◌, IfOk, OnOk, Some, true, []};
+ghost use Rattle.iso_model.specs.Trees.{arities_fit};
+ghost use Rattle.iso_model.specs.Terms.{term_of};
+ghost use Rattle.iso_model.specs.Variables.{variable_count};
+ghost use Rattle.iso_model.specs.Copies.{IsNumbered};
+ghost use Rattle.iso_model.specs.Bodies.{Body, converted};
+ghost use Rattle.iso_model.specs.Databases.{Database};
+ghost use Rattle.iso_model.specs.Additions.{addition};
+ghost use Rattle.iso_model.specs.Walker.{World, started};
+ghost use Rattle.iso_plain.specs.Goals.{leaves, terms_of};
+
+use super::bodies::{self, BodyFault};
+use super::parts::{Now, at};
+use super::plain::Plain;
+use super::{balls, clauses, entries, procedures};
+use iso_model::{AddFault, Term, copied};
+use iso_store::{Store, StoreFault};
+use std::alloc::{AllocError, Global};
+
+/// How many distinct variables the term has.
+fn count_variables(alloc: Global, term: &Term) -> Result<usize, AllocError>
+    ensures count { IfOk result (λ n. n ≡ variable_count (term_of term.now)) }
+    ensures few { IfOk result (λ n. n < 2 ^ 60) }
+{
+    let mut seen = Vec::new(alloc);
+    clauses::numbered(alloc, term, &mut seen)?;
+    Ok(seen.as_slice().len())
+}
+
+impl<S: Store + Drop> Plain<S> {
+    ghost use Rattle.iso_model.specs.Trees.{Variable};
+    ghost use Rattle.iso_plain.specs.Linked.{idle_linked};
+    ghost use Rattle.iso_plain.specs.EngineStates.{IsEngine, Represents, phase_of};
+    ghost use Rattle.iso_plain.specs.Starts.{IsFresh, Comes};
+    ghost use Rattle.iso_model.specs.Engines.{Midway};
+    ghost use Rattle.iso_plain.specs.declared.parts.Now.TheVariants.{Idle};
+
+    /// An engine without clauses over this empty store, in which at most so many alternatives (1 to 16,777,216)
+    /// stand at once. The error is that memory was refused; the store is dropped then.
+    pub fn new(alloc: Global, mut store: S, frames: u32) -> Result<Plain<S>, AllocError>
+        requires substitution { (S.present store).substitution ≡ Variable }
+        requires next { (S.present store).next ≡ 0 }
+        ensures engine { IfOk result (λ e. IsEngine S.present S.stands S.older e (idle_linked [])) }
+        ensures now { IfOk result (λ e. e.now ≡ Idle) }
+    {
+        let base = store.mark();
+        Ok(Plain {
+            alloc,
+            store,
+            procedures: Vec::new(alloc),
+            frames: Vec::new(alloc),
+            choices: Vec::new(alloc),
+            limit: frames,
+            steps: 0,
+            now: Now::Idle,
+            raised: None,
+            query: Vec::new(alloc),
+            base,
+        })
+    }
+
+    /// Keeps the error of the query that can't be converted (7.6.2), raised by `call/1`.
+    fn raise_query(&mut self, query: &Term) -> Result<(), AllocError>
+        requires { converted (term_of query.now) ≡ None }
+        ensures started { OnOk result ((w : World) → IsFresh S.present S.stands S.older self.old w.database
+            → Represents S.present S.stands S.older self.new (started (term_of query.now) self.old.steps w)) }
+        ensures midway { OnOk result (phase_of self.new.now ≡ Midway) }
+    {
+        let culprit = copied(self.alloc, query)?;
+        let ball = balls::not_callable(self.alloc, culprit, "call", 1)?;
+        self.raised = Some(ball);
+        self.now = Now::Raising;
+        Ok(())
+    }
+
+    /// Links the query's goals, with its variables new in the store. The errors: the store is full, or memory was refused.
+    fn link_query(&mut self, query: &Term, goals: &[Term]) -> Result<(), StoreFault>
+        requires fits { arities_fit (term_of query.now) ≡ true }
+        requires numbered { IsNumbered (term_of query.now) }
+        requires goals { (b : Body) × (converted (term_of query.now) ≡ Some b) × (terms_of goals.now ≡ leaves b) }
+        requires next { (S.present self.old.store).next ≡ 0 }
+        requires steps { self.old.steps < 2 ^ 32 }
+        ensures started { OnOk result ((w : World) → IsFresh S.present S.stands S.older self.old w.database
+            → Represents S.present S.stands S.older self.new (started (term_of query.now) self.old.steps w)) }
+        ensures midway { OnOk result (phase_of self.new.now ≡ Midway) }
+    {
+        let count = count_variables(self.alloc, query)?;
+        let variables = entries::new_variables(self.alloc, &mut self.store, count)?;
+        let first = entries::link(
+            self.alloc,
+            &mut self.store,
+            &mut self.frames,
+            goals,
+            variables.as_slice(),
+            None,
+        )?;
+        self.query = variables;
+        self.now = at(first);
+        Ok(())
+    }
+
+    /// Starts the goal with this budget over an engine that was cleared. A goal that can't be converted is raised as an
+    /// error next (7.6.2). The errors: the store is full, or memory was refused.
+    pub(crate) fn begin(&mut self, goal: &Term, budget: u32) -> Result<(), StoreFault>
+        requires fits { arities_fit (term_of goal.now) ≡ true }
+        requires numbered { IsNumbered (term_of goal.now) }
+        requires substitution { (S.present self.old.store).substitution ≡ Variable }
+        requires next { (S.present self.old.store).next ≡ 0 }
+        ensures started { OnOk result ((w : World) → IsEngine S.present S.stands S.older self.old (idle_linked w.database)
+            → Represents S.present S.stands S.older self.new (started (term_of goal.now) budget w)) }
+        ensures midway { OnOk result (phase_of self.new.now ≡ Midway) }
+    {
+        self.steps = budget;
+        let mut goals = Vec::new(self.alloc);
+        match bodies::append_goals(self.alloc, goal, &mut goals) {
+            Ok(()) => self.link_query(goal, goals.as_slice()),
+            Err(BodyFault::NotCallable) => Ok(self.raise_query(goal)?),
+            Err(BodyFault::NoMemory) => Err(StoreFault::NoMemory),
+        }
+    }
+
+    /// Adds the clause at the end of its procedure, in an engine that was cleared (7.5, 8.9.2). The errors: the clause is
+    /// refused, or memory was refused.
+    pub(crate) fn add(&mut self, clause: &Term) -> Result<(), AddFault>
+        requires fits { arities_fit (term_of clause.now) ≡ true }
+        requires now { self.old.now ≡ Idle }
+        ensures comes { (db : Database) → IsEngine S.present S.stands S.older self.old (idle_linked db)
+            → Comes S.present S.stands S.older (addition (term_of clause.now) db) db result self.new }
+        ensures now { self.new.now ≡ self.old.now }
+        ensures store { self.new.store ≡ self.old.store }
+        ensures base { self.new.base ≡ self.old.base }
+    {
+        let prepared = clauses::prepare(self.alloc, clause)?;
+        procedures::add(self.alloc, &mut self.procedures, prepared)?;
+        Ok(())
+    }
+}

@@ -1,0 +1,102 @@
+//! The program `prolog`: its words, the program text, the queries, and a session on standard output.
+#![tactic(auto)]
+
+use iso_session::{
+    Ended, Fault, TextFault, Words, WordsFault, read_text, read_words, session, status_of,
+};
+use std::process::ExitCode;
+use std::{env, fs, io};
+
+/// The status of a file or of standard input that can't be read.
+const UNREADABLE: u8 = 1;
+/// The status of a usage fault.
+const USAGE: u8 = 2;
+/// The status where memory was refused before the session began.
+const NO_MEMORY: u8 = 3;
+
+/// The words behind the program's name.
+fn words_of(rt: &HostRuntime) -> io::Result<Vec<String>> {
+    let mut words = Vec::new(rt.alloc());
+    for word in env::args(rt)?.skip(1) {
+        words.push(word)?;
+    }
+    Ok(words)
+}
+
+/// Says on standard error that memory was refused.
+fn no_memory(rt: &HostRuntime) -> u8 {
+    let _ = rt.eprintln("prolog: no memory");
+    NO_MEMORY
+}
+
+/// The status for words that were not taken.
+fn refuse_words(rt: &HostRuntime, fault: WordsFault) -> u8 {
+    match fault {
+        WordsFault::Help => {
+            let _ = rt.print(iso_session::words::USAGE);
+            0
+        }
+        WordsFault::Usage => {
+            let _ = eprint!(rt; "{}", iso_session::words::USAGE);
+            USAGE
+        }
+        WordsFault::NoMemory => no_memory(rt),
+    }
+}
+
+/// The text of the file.
+fn read_file(rt: &HostRuntime, path: &str) -> Result<String, TextFault> {
+    let Ok(mut file) = fs::open(rt, path) else {
+        return Err(TextFault::Unreadable);
+    };
+    read_text(rt.alloc(), &mut file)
+}
+
+/// Reads the file and the queries, and runs the session; gives the status.
+fn run(rt: &HostRuntime, words: &Words) -> u8 {
+    let path = words.file.as_str();
+    let text = match read_file(rt, path) {
+        Ok(text) => text,
+        Err(TextFault::NoMemory) => return no_memory(rt),
+        Err(TextFault::Unreadable) => {
+            let _ = rt.eprintln(format_args!("prolog: cannot read {path}"));
+            return UNREADABLE;
+        }
+    };
+    let queries = match read_text(rt.alloc(), &mut rt.reader()) {
+        Ok(queries) => queries,
+        Err(TextFault::NoMemory) => return no_memory(rt),
+        Err(TextFault::Unreadable) => {
+            let _ = rt.eprintln("prolog: cannot read queries");
+            return UNREADABLE;
+        }
+    };
+    let mut out = io::writer(rt);
+    let outcome = session(
+        rt.alloc(),
+        text.as_str(),
+        queries.as_str(),
+        &words.limits,
+        words.choice,
+        &mut out,
+    );
+    status_of(&outcome)
+}
+
+fn main(rt: HostRuntime) -> ExitCode {
+    let alloc = rt.alloc();
+    let Ok(owned) = words_of(&rt) else {
+        return ExitCode::from(no_memory(&rt));
+    };
+    let mut words: Vec<&str> = Vec::new(alloc);
+    for word in &owned {
+        if words.push(word.as_str()).is_err() {
+            return ExitCode::from(no_memory(&rt));
+        }
+    }
+    let status = match read_words(alloc, words.as_slice()) {
+        Ok(words) => run(&rt, &words),
+        Err(fault) => refuse_words(&rt, fault),
+    };
+    ExitCode::from(status)
+}

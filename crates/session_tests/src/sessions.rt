@@ -1,0 +1,35 @@
+//! Each row through a session with the plain engine.
+use super::rows::{ROWS, Row};
+use iso_model::Limits;
+use iso_session::{Choice, session, status_of};
+use std::test::Fail;
+
+/// The limits of a row.
+fn limits_of(row: &Row) -> Limits {
+    let standard = Limits::DEFAULT;
+    Limits {
+        budget: row.budget.unwrap_or(standard.budget),
+        cells: row.cells.unwrap_or(standard.cells),
+        frames: row.frames.unwrap_or(standard.frames),
+    }
+}
+
+#[test]
+fn rows_give_their_output(rt: HostRuntime) -> Result<(), Fail> {
+    for row in ROWS {
+        let mut out: Vec<u8> = Vec::new(rt.alloc());
+        let limits = limits_of(row);
+        let outcome = session(
+            rt.alloc(),
+            row.text,
+            row.queries,
+            &limits,
+            Choice::Plain,
+            &mut out,
+        );
+        let name = row.name;
+        assert_eq!(rt; out.as_slice(), row.output.as_bytes(), "{name}");
+        assert_eq!(rt; status_of(&outcome), row.status, "{name}");
+    }
+    Ok(())
+}
