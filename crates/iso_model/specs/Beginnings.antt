@@ -1,5 +1,5 @@
 -- What a session has written when it ends (own): all of its text, or a beginning of it where a limit or the writer ends it.
-use Rattle.std.specs.Prelude.{◌≡◌, ℕ, false, List, [], ◌∷◌, ◌++◌, Option, codes}
+use Rattle.std.specs.Prelude.{◌≡◌, ◌<◌, ℕ, false, List, [], ◌∷◌, ◌++◌, length, Option, codes}
 use Rattle.std.specs.Io.KnownBytes.{Appends}
 use Rattle.iso_model.specs.Grammar.{Clause}
 use Rattle.iso_model.specs.Items.{Readable}
@@ -8,11 +8,12 @@ use Rattle.iso_model.specs.Engines.{Phase, Spent}
 use Rattle.iso_model.specs.RunLaws.{run_of}
 use Rattle.iso_model.specs.Sessions.{Piece, Line, Script, SessionEnd, prepend, pieces_bytes, script_bytes, script_end, run_script, query_script, session_script}
 
--- a writer's bytes, where they are known, grew by a beginning of these
+-- a writer's bytes, where they are known, grew by a beginning of these, behind which something is left
 pub record Begins (old new : Option (List ℕ)) (whole : List ℕ) : Type 0 where
   pub front : List ℕ
   pub back : List ℕ
   pub is : front ++ back ≡ whole
+  pub left : 0 < length back
   pub bytes : Appends old new front
 
 -- what ends a session before its script does
@@ -39,15 +40,15 @@ pub record IsCut (script : Script) (limit : Limit) (P : Script → Type 0) (old 
   pub bytes : Appends old new (cut_text gave limit)
   pub stands : P rest
 
--- what a session with this script writes where no write fails: all of its text, or a beginning and a limit's line
-pub data IsWritten (script : Script) : List ℕ → Type 0 where
-  whole : IsWritten script (script_bytes false script)
-  cut : (gave : List Piece) (rest : Script) → script ≡ prepend gave rest → (limit : Limit) → IsWritten script (cut_text gave limit)
+-- What a session with this script writes where no write fails: all of its text, or a beginning, of whose rest P holds, and a limit's line.
+pub data IsWritten (script : Script) (P : Limit → Script → Type 0) : List ℕ → Type 0 where
+  whole : IsWritten script P (script_bytes false script)
+  cut : (gave : List Piece) (rest : Script) → script ≡ prepend gave rest → (limit : Limit) → P limit rest → IsWritten script P (cut_text gave limit)
 
--- A failed write ended the session behind a beginning of what would else have been written.
-pub record IsBroken (script : Script) (old new : Option (List ℕ)) : Type 0 where
+-- A failed write ended the session behind a beginning of what would else have been written, of which something is left.
+pub record IsBroken (script : Script) (P : Limit → Script → Type 0) (old new : Option (List ℕ)) : Type 0 where
   pub text : List ℕ
-  pub would : IsWritten script text
+  pub would : IsWritten script P text
   pub begins : Begins old new text
 
 -- how a session ends: as its script does, by a limit, or by a write that failed
@@ -60,7 +61,7 @@ pub data Outcome : Type 0 where
 abbrev pub Writes : Script → (Limit → Script → Type 0) → Option (List ℕ) → Option (List ℕ) → Outcome → Type 0
 Writes script Stops old new (Closed ending) = Appends old new (script_bytes false script) × (ending ≡ script_end script)
 Writes script Stops old new (Limited limit) = IsCut script limit (Stops limit) old new
-Writes script Stops old new Broken = IsBroken script old new
+Writes script Stops old new Broken = IsBroken script Stops old new
 
 -- What the rest of a script begins with where an engine stopped in this state: the rest of the state's run, or a query that was not started.
 pub data StopsAt (s : State) : Script → Type 0 where

@@ -45,24 +45,24 @@ cut_written old mid new script rest l h line =
     let there = subst (λ w. Appends mid.0 new (piece_bytes w (Line (limit_line l)))) h.within line in
     rw (cut_bytes h.gave l) (appends_more old mid.0 new (pieces_bytes false h.gave) (piece_bytes (within_after false h.gave) (Line (limit_line l))) h.bytes there)
 
-cut_begun : (old : Option (List ℕ)) (mid : Place) (new : Option (List ℕ)) (script rest : Script) (l : session.Limit)
-    → (h : Advances (old, false) mid script rest) → Begins mid.0 new (piece_bytes mid.1 (Line (limit_line l))) → IsBroken script old new
-cut_begun old mid new script rest l h line =
+cut_begun : (P : Limit → Script → Type 0) (old : Option (List ℕ)) (mid : Place) (new : Option (List ℕ)) (script rest : Script) (l : session.Limit)
+    → (h : Advances (old, false) mid script rest) → P l rest → Begins mid.0 new (piece_bytes mid.1 (Line (limit_line l))) → IsBroken script P old new
+cut_begun P old mid new script rest l h stops line =
     let there = subst (λ w. Begins mid.0 new (piece_bytes w (Line (limit_line l)))) h.within line in
     record {
       text = cut_text h.gave l;
-      would = cut h.gave rest h.is l;
+      would = cut h.gave rest h.is l stops;
       begins = rw (cut_bytes h.gave l) (begins_behind old mid.0 new (pieces_bytes false h.gave) (piece_bytes (within_after false h.gave) (Line (limit_line l))) h.bytes there);
     }
 
-pub all_broken : (old new : Option (List ℕ)) (script : Script) → Begins old new (script_bytes false script) → IsBroken script old new
-all_broken old new script b = record { text = script_bytes false script; would = whole; begins = b }
+pub all_broken : (P : Limit → Script → Type 0) (old new : Option (List ℕ)) (script : Script) → Begins old new (script_bytes false script) → IsBroken script P old new
+all_broken P old new script b = record { text = script_bytes false script; would = whole; begins = b }
 
-all_begun : (old : Option (List ℕ)) (mid : Place) (new : Option (List ℕ)) (script : Script) (ending : SessionEnd)
-    → Advances (old, false) mid script (Closes ending) → Begins mid.0 new [] → IsBroken script old new
-all_begun old mid new script ending h none =
+all_begun : (P : Limit → Script → Type 0) (old : Option (List ℕ)) (mid : Place) (new : Option (List ℕ)) (script : Script) (ending : SessionEnd)
+    → Advances (old, false) mid script (Closes ending) → Begins mid.0 new [] → IsBroken script P old new
+all_begun P old mid new script ending h none =
     let same = whole_bytes false h.gave ending script h.is ∙ sym (append-nil (pieces_bytes false h.gave)) in
-    all_broken old new script (rw same (begins_behind old mid.0 new (pieces_bytes false h.gave) [] h.bytes none))
+    all_broken P old new script (rw same (begins_behind old mid.0 new (pieces_bytes false h.gave) [] h.bytes none))
 
 -- the session was closed behind its last part
 pub closes : (Stands : State → Type 0) (now : Phase) (old : Option (List ℕ)) (mid : Place) (new : Option (List ℕ)) (script : Script) (f : Flow) (r : Result Ended Fault)
@@ -77,23 +77,27 @@ closes Stands now old mid new script (flow.Stops limit.Frames) (Ok e) d is ok er
     rw is (record { gave = d.advances.gave; rest = d.rest; is = d.advances.is; bytes = cut_written old mid new script d.rest session.Frames d.advances ok; stands = d.stops })
 closes Stands now old mid new script (flow.Stops limit.Memory) (Ok e) d is ok err =
     rw is (record { gave = d.advances.gave; rest = d.rest; is = d.advances.is; bytes = cut_written old mid new script d.rest session.Memory d.advances ok; stands = d.stops })
-closes Stands now old mid new script flow.On (Err e) d is ok err = all_begun old mid new script Done d.advances err
-closes Stands now old mid new script (flow.Halts n) (Err e) d is ok err = all_begun old mid new script (Halts n) d err
-closes Stands now old mid new script (flow.Stops limit.Heap) (Err e) d is ok err = cut_begun old mid new script d.rest session.Heap d.advances err
-closes Stands now old mid new script (flow.Stops limit.Frames) (Err e) d is ok err = cut_begun old mid new script d.rest session.Frames d.advances err
-closes Stands now old mid new script (flow.Stops limit.Memory) (Err e) d is ok err = cut_begun old mid new script d.rest session.Memory d.advances err
+closes Stands now old mid new script flow.On (Err e) d is ok err = all_begun (EngineStops Stands now) old mid new script Done d.advances err
+closes Stands now old mid new script (flow.Halts n) (Err e) d is ok err = all_begun (EngineStops Stands now) old mid new script (Halts n) d err
+closes Stands now old mid new script (flow.Stops limit.Heap) (Err e) d is ok err = cut_begun (EngineStops Stands now) old mid new script d.rest session.Heap d.advances d.stops err
+closes Stands now old mid new script (flow.Stops limit.Frames) (Err e) d is ok err = cut_begun (EngineStops Stands now) old mid new script d.rest session.Frames d.advances d.stops err
+closes Stands now old mid new script (flow.Stops limit.Memory) (Err e) d is ok err = cut_begun (EngineStops Stands now) old mid new script d.rest session.Memory d.advances d.stops err
 
 -- a write failed before the session was closed
 pub breaks : (Stands : State → Type 0) (now : Phase) (old new : Option (List ℕ)) (script : Script) (r : Result Ended Fault)
     → IsErr r → Begins old new (script_bytes false script) → Writes script (EngineStops Stands now) old new (outcome_of r)
 breaks Stands now old new script (Ok e) failed b = cc
-breaks Stands now old new script (Err e) failed b = all_broken old new script b
+breaks Stands now old new script (Err e) failed b = all_broken (EngineStops Stands now) old new script b
+
+any_written : {script : Script} {P : Limit → Script → Type 0} {text : List ℕ} → IsWritten script P text → IsWritten script AnyRest text
+any_written whole = whole
+any_written (cut gave rest is limit stops) = cut gave rest is limit tt
 
 -- what is said of the rest of a script that a limit ended may be left out
 pub any_rest : (script : Script) (Stands : Limit → Script → Type 0) (old new : Option (List ℕ)) (outcome : Outcome) → Writes script Stands old new outcome → Writes script AnyRest old new outcome
 any_rest script Stands old new (Closed ending) h = h
 any_rest script Stands old new (Limited limit) h = record { gave = h.gave; rest = h.rest; is = h.is; bytes = h.bytes; stands = tt }
-any_rest script Stands old new Broken h = h
+any_rest script Stands old new Broken h = record { text = h.text; would = any_written h.would; begins = h.begins }
 
 -- memory was refused before a session began
 pub refused_session : (script : Script) (old new : Option (List ℕ)) (r : Result Ended Fault) → IfOk r (λ e. e ≡ ended_of (flow.Stops limit.Memory))

@@ -1,6 +1,6 @@
 -- What writes do to known bytes, one after the other.
-use Rattle.std.proofs.Common.{◌≡◌, ℕ, suc, ◌+◌, ◌-◌, ◌≤◌, Bool, not, ◌==◌, List, [], ◌∷◌, ◌++◌, length, take, drop, Option, Some, None, sym, ap, ◌∙◌, append_assoc, length-drop, OnErr, Result, Ok, Err, arith}
-use Rattle.std.proofs.lemmas.List.{append-nil, take-append-drop, take_all}
+use Rattle.std.proofs.Common.{◌≡◌, ℕ, suc, ◌+◌, ◌-◌, ◌≤◌, ◌<◌, Bool, not, ◌==◌, List, [], ◌∷◌, ◌++◌, length, take, drop, Option, Some, None, sym, ap, ◌∙◌, append_assoc, length-drop, OnErr, Result, Ok, Err, arith}
+use Rattle.std.proofs.lemmas.List.{append-nil, take-append-drop, take_all, length-append}
 use Rattle.std.specs.List.{slice_get}
 use Rattle.std.proofs.Math.Seq.{take-add}
 use Rattle.std.specs.Io.KnownBytes.{Keeps, Appends}
@@ -24,8 +24,14 @@ appends_kept (Some p) (Some q) None xs h k = absurd k
 appends_kept (Some p) (Some q) (Some r) xs h k = k ∙ h
 
 -- a write that answered an error, or took nothing, behind a part of the bytes
-pub begins_stopped : (a b c : Option (List ℕ)) (n : ℕ) (bytes : List ℕ) → Appends a b (take n bytes) → Keeps b c → Begins a c bytes
-begins_stopped a b c n bytes h k = record { front = take n bytes; back = drop n bytes; is = take-append-drop n bytes; bytes = appends_kept a b c (take n bytes) h k }
+pub begins_stopped : (a b c : Option (List ℕ)) (n : ℕ) (bytes : List ℕ) → n < length bytes → Appends a b (take n bytes) → Keeps b c → Begins a c bytes
+begins_stopped a b c n bytes less h k = record {
+  front = take n bytes;
+  back = drop n bytes;
+  is = take-append-drop n bytes;
+  left = omega (arith, less, length-drop n bytes);
+  bytes = appends_kept a b c (take n bytes) h k;
+}
 
 -- a write took some of the bytes that are left
 pub takes_more : (a b c : Option (List ℕ)) (n m : ℕ) (bytes : List ℕ) → Appends a b (take n bytes) → Appends b c (take m (take (length bytes - n) (drop n bytes))) → Appends a c (take (n + m) bytes)
@@ -45,12 +51,19 @@ begins_behind a b c xs ys h k = record {
   front = xs ++ k.front;
   back = k.back;
   is = append_assoc xs k.front k.back ∙ ap (λ z. xs ++ z) k.is;
+  left = k.left;
   bytes = appends_more a b c xs k.front h k.bytes;
 }
 
 -- a beginning is one of what has more bytes, too
 pub begins_before : (a b : Option (List ℕ)) (xs ys : List ℕ) → Begins a b xs → Begins a b (xs ++ ys)
-begins_before a b xs ys h = record { front = h.front; back = h.back ++ ys; is = sym (append_assoc h.front h.back ys) ∙ ap (λ z. z ++ ys) h.is; bytes = h.bytes }
+begins_before a b xs ys h = record {
+  front = h.front;
+  back = h.back ++ ys;
+  is = sym (append_assoc h.front h.back ys) ∙ ap (λ z. z ++ ys) h.is;
+  left = omega (arith, h.left, length-append h.back ys);
+  bytes = h.bytes;
+}
 
 -- the last byte decides whether bytes end within a line
 pub ends_within-last : (within : Bool) (bytes : List ℕ) (b : ℕ) → slice_get bytes (length bytes - 1) ≡ Some b → ends_within within bytes ≡ not (b == 10)

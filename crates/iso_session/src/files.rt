@@ -7,11 +7,13 @@ use std::alloc::Global;
 use std::io::Read;
 
 /// Why a text could not be read.
-#[derive(Clone, Copy, Debug, PartialEq, Eq)]
+#[derive(Clone, Copy, Debug, PartialEq, Eq, thiserror::Error)]
 pub enum TextFault {
     /// A read failed, no end came within 4,294,967,295 reads, or the bytes aren't UTF-8.
+    #[error("the text can't be read or isn't UTF-8")]
     Unreadable,
     /// Memory was refused.
+    #[error("no memory")]
     NoMemory,
 }
 

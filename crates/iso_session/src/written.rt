@@ -7,8 +7,8 @@ ghost use Rattle.iso_model.specs.Beginnings.{Begins};
 use super::statuses::Fault;
 use std::io::Write;
 
-/// Writes all of the bytes, by writes of what is left; an empty output is not written at all.
-/// The error: a write answered an error, or took 0 bytes; a beginning was written.
+/// Writes all of the bytes, by writes of what is left; an empty output is not written at all, and does not fail.
+/// The error: a write answered an error, or took 0 bytes; a beginning was written, and something is left.
 pub fn write_whole<W: Write>(out: &mut W, bytes: &[u8]) -> Result<(), Fault>
     ensures ok { OnOk result (Appends (W.contents out.old) (W.contents out.new) bytes.now) }
     ensures err { OnErr result (Begins (W.contents out.old) (W.contents out.new) bytes.now) }
