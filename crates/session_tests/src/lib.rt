@@ -5,6 +5,8 @@ pub mod quitter;
 #[cfg(test)]
 mod readers;
 #[cfg(test)]
+mod refusals;
+#[cfg(test)]
 mod rows;
 #[cfg(test)]
 mod sessions;

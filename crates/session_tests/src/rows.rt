@@ -1,4 +1,5 @@
 //! Sessions with the output that they must give.
+use iso_model::Limits;
 
 /// A session: its text, queries and limits (None stands for the default), its output and its status.
 pub struct Row {
@@ -10,6 +11,23 @@ pub struct Row {
     pub frames: Option<u32>,
     pub output: &'static str,
     pub status: u8,
+}
+
+impl Row {
+    /// The limits of the session.
+    pub fn limits(&self) -> Limits {
+        let standard = Limits::DEFAULT;
+        Limits {
+            budget: self.budget.unwrap_or(standard.budget),
+            cells: self.cells.unwrap_or(standard.cells),
+            frames: self.frames.unwrap_or(standard.frames),
+        }
+    }
+}
+
+/// The row of this name.
+pub fn row_named(name: &str) -> Option<&'static Row> {
+    ROWS.iter().find(|row| row.name == name)
 }
 
 /// Sessions over definite clauses.

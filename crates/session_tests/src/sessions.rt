@@ -1,24 +1,13 @@
 //! Each row through a session with the plain engine.
-use super::rows::{ROWS, Row};
-use iso_model::Limits;
+use super::rows::ROWS;
 use iso_session::{Choice, session, status_of};
 use std::test::Fail;
-
-/// The limits of a row.
-fn limits_of(row: &Row) -> Limits {
-    let standard = Limits::DEFAULT;
-    Limits {
-        budget: row.budget.unwrap_or(standard.budget),
-        cells: row.cells.unwrap_or(standard.cells),
-        frames: row.frames.unwrap_or(standard.frames),
-    }
-}
 
 #[test]
 fn rows_give_their_output(rt: HostRuntime) -> Result<(), Fail> {
     for row in ROWS {
         let mut out: Vec<u8> = Vec::new(rt.alloc());
-        let limits = limits_of(row);
+        let limits = row.limits();
         let outcome = session(
             rt.alloc(),
             row.text,

@@ -1,0 +1,106 @@
+//! Sessions of which an allocation is refused. A test can't refuse one itself; this refuses each of the first 300 of each test in turn:
+//!
+//!     ulimit -s unlimited; for n in $(seq 300); do rt try --test --fail-alloc $n; done
+//!
+//! The tests of this file pass for every number: the writer takes no memory, so what is refused is refused to the session. The
+//! other tests may fail there, since their own vectors are refused.
+use super::rows::{Row, row_named};
+use iso_session::{Choice, session, status_of};
+use std::alloc::Global;
+use std::io;
+use std::test::Fail;
+
+/// How many bytes a slate has room for.
+const ROOM: usize = 1024;
+
+/// A writer that takes no memory.
+#[derive(Drop)]
+struct Slate {
+    bytes: [u8; ROOM],
+    length: usize,
+}
+
+impl io::Write for Slate {
+    fn write(&mut self, buf: &[u8]) -> io::Result<usize> {
+        let start = self.length.min(ROOM);
+        let count = buf.len().min(ROOM - start);
+        self.bytes[start..start + count].copy_from_slice(&buf[..count]);
+        self.length = start + count;
+        Ok(count)
+    }
+
+    fn flush(&mut self) -> io::Result<()> {
+        Ok(())
+    }
+}
+
+/// Whether this is a beginning of the whole that is empty or ends behind a line.
+fn is_whole_lines(begun: &[u8], whole: &[u8]) -> bool {
+    whole.starts_with(begun) && (begun.is_empty() || begun.ends_with(b"\n"))
+}
+
+/// Whether a session wrote and answered what it must: the row's output, or whole lines of it and the line that memory was refused.
+fn is_right(written: &[u8], status: u8, row: &Row) -> bool {
+    let whole = row.output.as_bytes();
+    match written.strip_suffix(b"end: no memory\n".as_slice()) {
+        Some(begun) => status == 3 && is_whole_lines(begun, whole),
+        None => status == row.status && written == whole,
+    }
+}
+
+/// Whether the session of the row of this name wrote and answered what it must.
+fn ends_rightly(alloc: Global, name: &str) -> bool {
+    let Some(row) = row_named(name) else {
+        return false;
+    };
+    let mut slate = Slate {
+        bytes: [0; ROOM],
+        length: 0,
+    };
+    let outcome = session(
+        alloc,
+        row.text,
+        row.queries,
+        &row.limits(),
+        Choice::Plain,
+        &mut slate,
+    );
+    let written = &slate.bytes[..slate.length.min(ROOM)];
+    is_right(written, status_of(&outcome), row)
+}
+
+#[test]
+fn facts_in_order(rt: HostRuntime) -> Result<(), Fail> {
+    assert!(rt; ends_rightly(rt.alloc(), "facts in order, with repetitions"));
+    Ok(())
+}
+
+#[test]
+fn lists_taken_apart(rt: HostRuntime) -> Result<(), Fail> {
+    assert!(rt; ends_rightly(rt.alloc(), "lists taken apart"));
+    Ok(())
+}
+
+#[test]
+fn a_refused_body(rt: HostRuntime) -> Result<(), Fail> {
+    assert!(rt; ends_rightly(rt.alloc(), "a refused body"));
+    Ok(())
+}
+
+#[test]
+fn queries_that_cannot_be_converted(rt: HostRuntime) -> Result<(), Fail> {
+    assert!(rt; ends_rightly(rt.alloc(), "queries that cannot be converted"));
+    Ok(())
+}
+
+#[test]
+fn a_syntax_error(rt: HostRuntime) -> Result<(), Fail> {
+    assert!(rt; ends_rightly(rt.alloc(), "a syntax error costs its own clause"));
+    Ok(())
+}
+
+#[test]
+fn answers_before_a_full_heap(rt: HostRuntime) -> Result<(), Fail> {
+    assert!(rt; ends_rightly(rt.alloc(), "answers before a full heap"));
+    Ok(())
+}
