@@ -4,6 +4,7 @@
 use iso_session::{
     Ended, Fault, TextFault, Words, WordsFault, read_text, read_words, session, status_of,
 };
+use std::io::ErrorKind;
 use std::process::ExitCode;
 use std::{env, fs, io};
 
@@ -14,11 +15,18 @@ const USAGE: u8 = 2;
 /// The status where memory was refused before the session began.
 const NO_MEMORY: u8 = 3;
 
-/// The words behind the program's name.
-fn words_of(rt: &HostRuntime) -> io::Result<Vec<String>> {
+/// The words behind the program's name. Usage where a word isn't UTF-8.
+fn words_of(rt: &HostRuntime) -> Result<Vec<String>, WordsFault> {
+    let given = match env::args(rt) {
+        Ok(given) => given,
+        Err(error) if error.kind() == ErrorKind::OutOfMemory => return Err(WordsFault::NoMemory),
+        Err(_) => return Err(WordsFault::Usage),
+    };
     let mut words = Vec::new(rt.alloc());
-    for word in env::args(rt)?.skip(1) {
-        words.push(word)?;
+    for word in given.skip(1) {
+        if words.push(word).is_err() {
+            return Err(WordsFault::NoMemory);
+        }
     }
     Ok(words)
 }
@@ -37,7 +45,7 @@ fn refuse_words(rt: &HostRuntime, fault: WordsFault) -> u8 {
             0
         }
         WordsFault::Usage => {
-            let _ = eprint!(rt; "{}", iso_session::words::USAGE);
+            let _ = eprint!(rt; "prolog: {fault}\n{}", iso_session::words::USAGE);
             USAGE
         }
         WordsFault::NoMemory => no_memory(rt),
@@ -46,8 +54,10 @@ fn refuse_words(rt: &HostRuntime, fault: WordsFault) -> u8 {
 
 /// The text of the file.
 fn read_file(rt: &HostRuntime, path: &str) -> Result<String, TextFault> {
-    let Ok(mut file) = fs::open(rt, path) else {
-        return Err(TextFault::Unreadable);
+    let mut file = match fs::open(rt, path) {
+        Ok(file) => file,
+        Err(error) if error.kind() == ErrorKind::OutOfMemory => return Err(TextFault::NoMemory),
+        Err(_) => return Err(TextFault::Unreadable),
     };
     read_text(rt.alloc(), &mut file)
 }
@@ -80,13 +90,17 @@ fn run(rt: &HostRuntime, words: &Words) -> u8 {
         words.choice,
         &mut out,
     );
+    if let Err(fault) = &outcome {
+        let _ = rt.eprintln(format_args!("prolog: {fault}"));
+    }
     status_of(&outcome)
 }
 
 fn main(rt: HostRuntime) -> ExitCode {
     let alloc = rt.alloc();
-    let Ok(owned) = words_of(&rt) else {
-        return ExitCode::from(no_memory(&rt));
+    let owned = match words_of(&rt) {
+        Ok(owned) => owned,
+        Err(fault) => return ExitCode::from(refuse_words(&rt, fault)),
     };
     let mut words: Vec<&str> = Vec::new(alloc);
     for word in &owned {
