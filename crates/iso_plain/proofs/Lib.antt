@@ -9,6 +9,7 @@ pub mod RenamingLemmas
 pub mod PrepareLemmas
 pub mod ProgramLemmas
 pub mod KeptLemmas
+pub mod CountLemmas
 pub mod EngineLemmas
 pub mod BackLemmas
 pub mod StartLemmas

@@ -42,6 +42,7 @@ use Rattle.iso_plain.specs.Goals.{leaves, terms_of, AppendsGoals}
 use Rattle.iso_plain.specs.Entering.{is_below, renamed_terms, Links}
 use Rattle.iso_plain.proofs.EnteringLemmas.{both_true}
 use Rattle.iso_plain.proofs.KeptLemmas.{below_from}
+use Rattle.iso_plain.proofs.StandingLemmas.{next_behind}
 
 -- where no choice is stood for, there is none
 pub no_choice_left : {W M : Type 0} {stands : M → Present W → Type 0} {older : M → M → Type 0} {base : M} {left_at : ℕ → ℕ → List Clause} {query : List W} {named : List ℕ}
@@ -127,18 +128,11 @@ leaves_fit (More t ts) b e h = cc
 
 -- ---- the goals are linked, and come next
 
-ends_only : {W : Type 0} {p : Present W} {frames : List (Frame W)} {place : Option ℕ} {gs : List Tree} → place ≡ None → Chain p frames place gs → gs ≡ []
-ends_only e ends = refl
-ends_only e (leads at holds is goal others) = absurd (cc)
-
 pub does_goals : {W : Type 0} {p q : Present W} {frames new : List (Frame W)} {query : List W} (place : Option ℕ) (then : Now) (raised : Option Tree) (gs : List Tree) (l : Linked)
     → then ≡ now_behind place → Links p frames None q new place gs → AreGoals gs → l.doing ≡ Running gs → Goes q query l → DoesNext q new query then raised l
-does_goals {q = q} {new = new} None then raised gs l h links goals doing goes =
-    let alone : gs ≡ [] = sym (append-nil gs) ∙ ends_only refl (links [] ends goals) in
-    rw h (doing ∙ ap Running alone, goes)
-does_goals {q = q} {new = new} (Some i) then raised gs l h links goals doing goes =
-    let chain : Chain q new (Some i) gs = subst (λ (ts : List Tree). Chain q new (Some i) ts) (append-nil gs) (links [] ends goals) in
-    rw h (gs, doing, chain, goes)
+does_goals {q = q} {new = new} {query = query} place then raised gs l h links goals doing goes =
+    let chain : Chain q new place gs = subst (λ (ts : List Tree). Chain q new place ts) (append-nil gs) (links [] ends goals) in
+    rw h (next_behind q new query raised l place gs doing chain goes)
 
 -- ---- an engine that was cleared
 

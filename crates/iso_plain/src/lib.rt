@@ -2,16 +2,19 @@
 //! (ISO/IEC 13211-1:1995, 7.7), over any store of terms.
 #![tactic(auto)]
 
+// error terms, and clauses as they are kept
 pub mod balls;
 pub mod bodies;
-pub mod calls;
 pub mod clauses;
-pub mod ends;
-pub mod engine;
-pub mod entries;
-pub mod moves;
+pub mod procedures;
+// the engine's parts, and its moves from the smallest on
 pub mod parts;
 pub mod plain;
-pub mod procedures;
+pub mod entries;
+pub mod calls;
+pub mod moves;
 pub mod runs;
+pub mod ends;
+// what the callers call
 pub mod starts;
+pub mod engine;
