@@ -1,19 +1,18 @@
 -- The engine calls a procedure: the clauses behind the first are kept as a choice.
-use Rattle.std.proofs.Common.{◌≡◌, ℕ, zero, suc, ◌+◌, ◌-◌, ◌^◌, ◌<◌, ◌≤◌, List, [], ◌∷◌, ◌++◌, length, drop, get_or, refl, ap, sym, ◌∙◌, subst, arith, inl, inr, ◌⊎◌, Vec, Global}
+use Rattle.std.proofs.Common.{◌≡◌, ℕ, ◌+◌, ◌<◌, ◌≤◌, List, [], ◌∷◌, ◌++◌, length, refl, sym, subst, arith, inl, inr, ◌⊎◌, Vec, Global}
 use Rattle.iso_model.specs.Trees.{Tree}
 use Rattle.iso_model.specs.Databases as databases
 use Rattle.iso_model.specs.Databases.{Database}
 use Rattle.iso_store.specs.Presents.{Present, KeepsMarks}
-use Rattle.iso_plain.specs.declared.clauses.Clause.{Clause}
 use Rattle.iso_plain.specs.declared.parts.Frame.{Frame}
 use Rattle.iso_plain.specs.declared.parts.Attempt.{Attempt}
 use Rattle.iso_plain.specs.declared.parts.Choice as kept
 use Rattle.iso_plain.specs.declared.procedures.Procedure.{Procedure}
 use Rattle.iso_plain.specs.declared.plain.Plain.{Plain}
 use Rattle.iso_plain.specs.Linked.{Linked, Choice}
-use Rattle.iso_plain.specs.Programs.{AreClauses, no_clauses, more_clauses, IsDatabase, no_procedures, more_procedures}
+use Rattle.iso_plain.specs.Programs.{IsDatabase}
 use Rattle.iso_plain.specs.Standing.{Among, StandsForChoice, StandsForChoices, none_kept, one_kept}
-use Rattle.iso_plain.specs.EngineStates.{Tries, Calls, left_at, clauses_at_place, clauses_left, most_clauses}
+use Rattle.iso_plain.specs.EngineStates.{Tries, Calls, left_at, clauses_left, most_clauses}
 use Rattle.iso_plain.proofs.CountLemmas.{clauses_counted, left_next, at_most, left_last}
 use Rattle.iso_plain.proofs.StandingLemmas.{choices_keep, choices_push}
 

@@ -1,7 +1,7 @@
 -- The engine's parts behind a clause that was tried.
-use Rattle.std.proofs.Common.{◌≡◌, ◌≢◌, ℕ, zero, suc, ◌+◌, ◌*◌, ◌<◌, ◌≤◌, List, [], ◌∷◌, ◌++◌, length, Option, Some, None, refl, ap, sym, ◌∙◌, subst, arith, inl, inr, ◌⊎◌, Vec, Global}
+use Rattle.std.proofs.Common.{◌≡◌, ℕ, ◌+◌, List, ◌++◌, Option, Some, None, refl, ap, ◌∙◌, arith, inl, inr, Vec, Global}
 use Rattle.std.specs.Prelude.{option_map}
-use Rattle.iso_model.specs.Trees.{Tree, Variable}
+use Rattle.iso_model.specs.Trees.{Tree}
 use Rattle.iso_model.specs.Terms.{term_of}
 use Rattle.iso_model.specs.Substitutions.{Subst, apply, compose}
 use Rattle.iso_model.specs.Unifiers.{Unifier, NeverEqual}
@@ -14,8 +14,8 @@ use Rattle.iso_plain.specs.declared.parts.Attempt.{Attempt}
 use Rattle.iso_plain.specs.declared.parts.Now.{Now}
 use Rattle.iso_plain.specs.declared.parts.Now.TheVariants as now
 use Rattle.iso_plain.specs.declared.plain.Plain.{Plain}
-use Rattle.iso_plain.specs.Linked.{Linked, Running, Failing, clause_goals, with_choice, linked_missed, linked_entered}
-use Rattle.iso_plain.specs.Standing.{Chain, ends, leads, StandsForChoices, Goes, DoesNext}
+use Rattle.iso_plain.specs.Linked.{Linked, clause_goals, with_choice, linked_missed, linked_entered}
+use Rattle.iso_plain.specs.Standing.{Chain, StandsForChoices}
 use Rattle.iso_plain.specs.Kept.{IsClause}
 use Rattle.iso_plain.specs.Entering.{Enters, AddsFrames, renamed_terms}
 use Rattle.iso_plain.specs.Next.{now_behind, now_entered}

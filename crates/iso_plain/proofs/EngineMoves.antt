@@ -1,24 +1,23 @@
 -- A call of `resume` is moves up to an event.
-use Rattle.std.proofs.Common.{◌≡◌, ◌≢◌, ◌<◌, ◌≤◌, ℕ, refl, ap, sym, ◌∙◌, subst, arith, Result, Ok, Err}
-use Rattle.iso_model.specs.Walker.{State, World, NoMore, idle}
+use Rattle.std.proofs.Common.{◌≡◌, ◌≢◌, ◌≤◌, ℕ, refl, arith, Result, Ok, Err}
+use Rattle.iso_model.specs.Walker.{State, World, idle}
 use Rattle.iso_model.specs.Databases.{Database}
 use Rattle.iso_model.specs.Additions.{Addition, Adds, Refuses}
 use Rattle.iso_model.specs.declared.pauses.AddFault.{AddFault}
 use Rattle.iso_model.specs.declared.pauses.AddFault.TheVariants as add
 use Rattle.iso_plain.specs.Starts.{Comes}
-use Rattle.iso_model.specs.Runs.{Quiet, Finishes}
-use Rattle.iso_model.specs.RunLaws.{comes_behind, finishes_behind, quiet_trans}
+use Rattle.iso_model.specs.Runs.{Quiet}
+use Rattle.iso_model.specs.RunLaws.{comes_behind, finishes_behind}
 use Rattle.iso_model.specs.Engines as engines
 use Rattle.iso_model.specs.declared.pauses.Pause.{Pause}
 use Rattle.iso_model.specs.declared.pauses.Pause.TheVariants as pause
 use Rattle.iso_store.specs.Presents.{Present}
-use Rattle.iso_plain.specs.Linked.{Linked, IsState, idle_linked}
-use Rattle.iso_plain.specs.EngineStates.{IsEngine, Represents, StandsBy, StandsFor, Moves, Falls, phase_of}
+use Rattle.iso_plain.specs.Linked.{idle_linked}
+use Rattle.iso_plain.specs.EngineStates.{IsEngine, Represents, StandsBy, StandsFor, phase_of}
 use Rattle.iso_plain.specs.declared.parts.Now.{Now}
 use Rattle.iso_plain.specs.declared.parts.Now.TheVariants as now
-use Rattle.iso_plain.specs.declared.plain.Move.TheVariants as move
 use Rattle.iso_plain.specs.declared.plain.Plain.{Plain}
-use Rattle.iso_plain.proofs.LinkedMoves.{fails_last, is_idle}
+use Rattle.iso_plain.proofs.LinkedMoves.{is_idle}
 
 -- a number that falls does so behind others that fall
 pub falls_behind : (p : Pause) (a b c : ℕ) → b ≤ a → engines.FallsAtEvent p b c → engines.FallsAtEvent p a c

@@ -1,5 +1,5 @@
 -- The engine is at a goal.
-use Rattle.std.proofs.Common.{◌≡◌, ℕ, suc, List, [], ◌∷◌, Option, Some, None, refl, ap, sym, ◌∙◌, subst, arith, true}
+use Rattle.std.proofs.Common.{◌≡◌, ℕ, suc, List, [], ◌∷◌, Some, refl, ap, sym, subst, arith, true}
 use Rattle.std.specs.Prelude.{option_map}
 use Rattle.iso_model.specs.Trees.{Tree}
 use Rattle.iso_model.specs.Terms.{term_of}
@@ -12,7 +12,7 @@ use Rattle.iso_plain.specs.declared.plain.Plain.{Plain}
 use Rattle.iso_plain.specs.Callable.{IsGoal}
 use Rattle.iso_plain.specs.Linked.{Linked, Choice, Running, Failing}
 use Rattle.iso_plain.specs.Next.{now_behind}
-use Rattle.iso_plain.specs.Standing.{At, Chain, ends, leads, Goes, HaveRoom, DoesNext}
+use Rattle.iso_plain.specs.Standing.{At, Chain, leads, Goes, HaveRoom, DoesNext}
 use Rattle.iso_plain.specs.EngineStates.{IsEngine, Calls, left_at}
 use Rattle.iso_plain.proofs.StandingLemmas.{next_behind}
 

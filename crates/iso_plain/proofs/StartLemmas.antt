@@ -1,13 +1,12 @@
 -- What a started goal's variables and goals are.
-use Rattle.std.proofs.Common.{◌≡◌, ℕ, zero, suc, ◌+◌, ◌<◌, ◌≤◌, List, [], ◌∷◌, ◌++◌, length, map, Bool, true, false, ◌&&◌, Option, Some, None, codes, cond, refl, ap, ap₂, sym, ◌∙◌, subst, arith, zero-add, inl, inr, append-nil}
+use Rattle.std.proofs.Common.{◌≡◌, ℕ, ◌+◌, List, [], ◌∷◌, ◌++◌, Bool, true, ◌&&◌, Option, Some, None, codes, refl, ap, ap₂, sym, ◌∙◌, subst, arith, zero-add, inl, inr, append-nil}
 use Rattle.std.specs.Str.{bytes_eq}
 use Rattle.std.proofs.lemmas.Bool.{cases_Bool}
 use Rattle.iso_model.specs.declared.terms.Term.{Term}
 use Rattle.iso_model.specs.Trees.{Tree, Variable, Integer, Name, Apply, End, More, row, arities_fit}
-use Rattle.iso_model.specs.Terms.{term_of, row_of}
-use Rattle.iso_model.specs.Variables.{occurs, is_in, variables, variable_count}
+use Rattle.iso_model.specs.Terms.{term_of}
+use Rattle.iso_model.specs.Variables.{is_in, variables, variable_count}
 use Rattle.iso_model.specs.Copies.{renamed, numbers_from, IsNumbered}
-use Rattle.iso_model.specs.Substitutions.{apply}
 use Rattle.iso_model.specs.Unification.Applied.{apply_alone}
 use Rattle.iso_model.specs.Bodies.{Body, Run, And, converted, both, two}
 use Rattle.iso_model.proofs.VariableLemmas.{listed_occurring}
@@ -21,17 +20,12 @@ use Rattle.iso_plain.specs.declared.parts.Now.TheVariants as now
 use Rattle.iso_plain.specs.Callable.{AreGoals}
 use Rattle.iso_plain.specs.Next.{now_behind}
 use Rattle.iso_plain.specs.Linked.{Choice, Linked, Running}
-use Rattle.iso_plain.specs.Standing.{StandsForChoices, none_kept, one_kept, Chain, ends, leads, Goes, DoesNext}
+use Rattle.iso_plain.specs.Standing.{StandsForChoices, none_kept, one_kept, Chain, ends, Goes, DoesNext}
 use Rattle.std.specs.Prelude.{Result, Ok, Err, IsErrAnd}
 use Rattle.iso_model.specs.Databases.{Database}
 use Rattle.iso_model.specs.Additions.{Addition, Adds, Refuses, addition}
 use Rattle.iso_model.specs.declared.pauses.AddFault.{AddFault}
 use Rattle.iso_model.specs.declared.pauses.AddFault.TheVariants as add
-use Rattle.std.specs.declared.vec.Vec.{Vec}
-use Rattle.std.specs.declared.alloc.Global.{Global}
-use Rattle.iso_plain.specs.declared.bodies.BodyFault.{BodyFault}
-use Rattle.iso_plain.specs.declared.procedures.Procedure.{Procedure}
-use Rattle.iso_plain.specs.declared.clauses.Clause as clauses
 use Rattle.iso_plain.specs.declared.plain.Plain.{Plain}
 use Rattle.iso_plain.specs.Linked.{idle_linked}
 use Rattle.iso_plain.specs.Programs.{IsDatabase}

@@ -7,14 +7,14 @@ pub mod balls;
 pub mod bodies;
 pub mod clauses;
 pub mod procedures;
-// the engine's parts, and its moves from the smallest on
+// the engine's parts, and its moves
+pub mod calls;
+pub mod ends;
+pub mod entries;
+pub mod moves;
 pub mod parts;
 pub mod plain;
-pub mod entries;
-pub mod calls;
-pub mod moves;
 pub mod runs;
-pub mod ends;
 // what the callers call
-pub mod starts;
 pub mod engine;
+pub mod starts;

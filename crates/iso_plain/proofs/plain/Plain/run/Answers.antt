@@ -1,9 +1,8 @@
-use Rattle.std.proofs.Common.{◌≡◌, ◌≢◌, ◌<◌, length, get_or, refl, ap, sym, arith}
+use Rattle.std.proofs.Common.{◌<◌, length, ap, arith}
 use Rattle.iso_model.specs.Terms.{term_of}
 use Rattle.iso_plain.specs.EngineStates.{phase_of}
-use Rattle.iso_plain.specs.Called.{IsCalled}
 use Rattle.iso_plain.proofs.RunLemmas.{at_goal}
-use Rattle.iso_plain.proofs.RunMoves.{within, frame_is, spends, goal_holds, goal_is, succeeds_on, fails_on, raises_error, calls_it, called_on, if_ok_map}
+use Rattle.iso_plain.proofs.RunMoves.{within, spends, goal_holds, goal_is, succeeds_on, fails_on, raises_error, calls_it, called_on, if_ok_map}
 use Rattle.iso_plain.proofs.plain.Plain.run.Goals as goal
 
 pub returns-then-self-eq0-clause-moves : goal.returns-then-self-eq0-clause-moves

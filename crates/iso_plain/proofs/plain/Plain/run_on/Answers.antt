@@ -1,8 +1,7 @@
-use Rattle.std.proofs.Common.{◌≡◌, arith}
+use Rattle.std.proofs.Common.{arith}
 use Rattle.iso_model.specs.Runs.{here}
 use Rattle.iso_model.specs.RunLaws.{quiet_trans}
-use Rattle.iso_plain.specs.EngineStates.{weight}
-use Rattle.iso_plain.proofs.EngineMoves.{falls_behind, represents_stands, pauses_behind}
+use Rattle.iso_plain.proofs.EngineMoves.{represents_stands, pauses_behind}
 use Rattle.iso_plain.proofs.plain.Plain.run_on.Goals as goal
 
 pub loop-pause-init : goal.loop-pause-init
