@@ -52,6 +52,7 @@ impl<S: Store + Drop> Plain<S> {
         ensures substitution { (S.present self.new.store).substitution ≡ Variable }
         ensures next { (S.present self.new.store).next ≡ 0 }
         ensures procedures { self.new.procedures ≡ self.old.procedures }
+        ensures limit { self.new.limit ≡ self.old.limit }
         ensures base { IsBase (S.stands self.new.store) self.new.base }
     {
         self.choices.clear();

@@ -12,6 +12,7 @@ use iso_store::{Store, StoreFault};
 
 impl<S: Store + Drop> Plain<S> {
     ghost use Rattle.iso_plain.specs.EngineStates.{Represents, Moves, Falls, Calls, WasCalled, weight, most_clauses};
+    ghost use Rattle.iso_plain.specs.Limits.{ResultMet};
     ghost use Rattle.iso_plain.specs.Linked.{Linked};
     ghost use Rattle.iso_plain.specs.declared.parts.Now.TheVariants as now;
 
@@ -22,6 +23,8 @@ impl<S: Store + Drop> Plain<S> {
         ensures moves { (s : State) → Represents S.present S.stands S.older self.old s
             → IfOk result (λ m. Moves S.present S.stands S.older m s self.new) }
         ensures falls { IfOk result (λ m. Falls m (weight self.old) (weight self.new)) }
+        ensures met { ResultMet S.full result self.new }
+        ensures limit { self.new.limit ≡ self.old.limit }
     {
         if self.steps == 0 {
             self.clear();
@@ -60,6 +63,8 @@ impl<S: Store + Drop> Plain<S> {
             → Calls S.present S.stands S.older self.old attempt l call c cs behind
             → IfOk result (λ m. WasCalled S.present S.stands S.older m self.new l call c cs behind) }
         ensures falls { IfOk result (λ m. Falls m (weight self.old + (2 * most_clauses self.old.procedures.items + 1)) (weight self.new)) }
+        ensures met { ResultMet S.full result self.new }
+        ensures limit { self.new.limit ≡ self.old.limit }
     {
         if self.call(attempt)? {
             return Ok(Move::Goes);
