@@ -25,3 +25,7 @@ module _ {S W M : Type 0} (full : S → Type 0) where
   ResultMet (Ok m) e = MoveMet m e
   ResultMet (Err fault.Full) e = full e.store
   ResultMet (Err fault.NoMemory) e = Unit {0}
+
+-- No more choices stand than there may be.
+abbrev pub IsWithin : {S W M : Type 0} → Plain S W M → Type 0
+IsWithin e = length e.choices.items ≤ e.limit

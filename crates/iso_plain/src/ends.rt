@@ -26,7 +26,7 @@ fn values<S: Store>(alloc: Global, store: &S, words: &[S::Word]) -> Result<Vec<T
 
 impl<S: Store + Drop> Plain<S> {
     ghost use Rattle.iso_plain.specs.EngineStates.{IsBase, Represents, Moves, Falls, weight};
-    ghost use Rattle.iso_plain.specs.Limits.{MoveMet, ResultMet};
+    ghost use Rattle.iso_plain.specs.Limits.{IsWithin, MoveMet, ResultMet};
     ghost use Rattle.iso_plain.specs.declared.parts.Now.TheVariants.{Answering, Raising};
 
     /// The values of the query's variables, by first occurrence; the engine fails next.
@@ -38,6 +38,7 @@ impl<S: Store + Drop> Plain<S> {
         ensures falls { IfOk result (λ m. Falls m (weight self.old) (weight self.new)) }
         ensures met { ResultMet S.full result self.new }
         ensures limit { self.new.limit ≡ self.old.limit }
+        ensures within { IsWithin self.old → IsWithin self.new }
         ensures base { IsBase (S.stands self.old.store) self.old.base → IsBase (S.stands self.new.store) self.new.base }
     {
         let values = values(self.alloc, &self.store, self.query.as_slice())?;
@@ -53,6 +54,7 @@ impl<S: Store + Drop> Plain<S> {
         ensures falls { Falls result (weight self.old) (weight self.new) }
         ensures met { MoveMet S.full result self.new }
         ensures limit { self.new.limit ≡ self.old.limit }
+        ensures within { IsWithin self.old → IsWithin self.new }
         ensures base { IsBase (S.stands self.old.store) self.old.base → IsBase (S.stands self.new.store) self.new.base }
     {
         let ball = self.raised.take();

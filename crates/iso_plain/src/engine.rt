@@ -16,7 +16,7 @@ use iso_store::{Store, StoreFault};
 impl<S: Store + Drop> Plain<S> {
     ghost use Rattle.iso_plain.specs.EngineStates.{StandsFor, Moves, Falls, weight, phase_of};
     ghost use Rattle.iso_model.specs.Engines.{Pauses, FallsAtEvent};
-    ghost use Rattle.iso_plain.specs.Limits.{LimitMet, MoveMet, ResultMet};
+    ghost use Rattle.iso_plain.specs.Limits.{IsWithin, LimitMet, MoveMet, ResultMet};
     ghost use Rattle.iso_plain.specs.declared.parts.Now.TheVariants as now;
 
     /// Ends at a limit: the engine is spent.
@@ -25,6 +25,7 @@ impl<S: Store + Drop> Plain<S> {
         ensures falls { (old new : ℕ) → FallsAtEvent result old new }
         ensures met { (fault ≡ StoreFault.Full → S.full self.old.store) → LimitMet S.full result self.new }
         ensures limit { self.new.limit ≡ self.old.limit }
+        ensures within { IsWithin self.old → IsWithin self.new }
     {
         self.now = Now::Spent;
         match fault {
@@ -42,6 +43,7 @@ impl<S: Store + Drop> Plain<S> {
         ensures falls { IfOk result (λ m. Falls m (weight self.old) (weight self.new)) }
         ensures met { ResultMet S.full result self.new }
         ensures limit { self.new.limit ≡ self.old.limit }
+        ensures within { IsWithin self.old → IsWithin self.new }
     {
         match self.now {
             Now::Idle => Ok(Move::Pauses(Pause::NoMore)),
@@ -61,6 +63,7 @@ impl<S: Store + Drop> Plain<S> {
         ensures falls { Falls result (weight self.old) (weight self.new) }
         ensures met { MoveMet S.full result self.new }
         ensures limit { self.new.limit ≡ self.old.limit }
+        ensures within { IsWithin self.old → IsWithin self.new }
     {
         match self.moved() {
             Ok(next) => next,
@@ -77,6 +80,7 @@ impl<S: Store + Drop> Plain<S> {
         ensures left { FallsAtEvent result (weight self.old) (weight self.new) }
         ensures met { LimitMet S.full result self.new }
         ensures limit { self.new.limit ≡ self.old.limit }
+        ensures within { IsWithin self.old → IsWithin self.new }
     {
         loop {
             match self.advance() {
@@ -89,7 +93,7 @@ impl<S: Store + Drop> Plain<S> {
 
 impl<S: Store + Drop> Engine for Plain<S> {
     ghost use Rattle.iso_plain.specs.EngineStates.{StandsFor, weight, phase_of};
-    ghost use Rattle.iso_plain.specs.Limits.{LimitMet};
+    ghost use Rattle.iso_plain.specs.Limits.{IsWithin, LimitMet};
     ghost use Rattle.iso_model.specs.Engines.{Ready, Spent, Starts, Pauses, StaysSpent, FallsAtEvent, Consults};
 
     ghost stands_for = { StandsFor S.present S.stands S.older };
@@ -108,6 +112,7 @@ impl<S: Store + Drop> Engine for Plain<S> {
             → Starts (term_of goal.now) budget s result (StandsFor S.present S.stands S.older self.new) (phase_of self.new.now) }
         ensures full { result ≡ Err StartFault.HeapFull → S.full self.new.store }
         ensures limit { self.new.limit ≡ self.old.limit }
+        ensures within { IsWithin self.old → IsWithin self.new }
     {
         self.clear();
         let Err(fault) = self.begin(goal, budget) else {
@@ -130,6 +135,7 @@ impl<S: Store + Drop> Engine for Plain<S> {
         ensures left { FallsAtEvent result (weight self.old) (weight self.new) }
         ensures met { LimitMet S.full result self.new }
         ensures limit { self.new.limit ≡ self.old.limit }
+        ensures within { IsWithin self.old → IsWithin self.new }
     {
         match self.now {
             Now::Spent => Pause::Spent,
@@ -146,6 +152,7 @@ impl<S: Store + Drop> Engine for Plain<S> {
             → Consults (addition (term_of clause.now) s.world.database) s result (StandsFor S.present S.stands S.older self.new) }
         ensures ready { phase_of self.new.now ≡ Ready }
         ensures limit { self.new.limit ≡ self.old.limit }
+        ensures within { IsWithin self.old → IsWithin self.new }
     {
         self.clear();
         self.add(clause)

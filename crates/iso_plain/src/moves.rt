@@ -40,7 +40,7 @@ impl<S: Store + Drop> Plain<S> {
     ghost use Rattle.iso_plain.specs.Linked.{Linked};
     ghost use Rattle.iso_plain.specs.Linked as search;
     ghost use Rattle.iso_plain.specs.EngineStates.{IsBase, IsEngine, Represents, Tries, Tried, Calls, WentBack, Moves, Falls, clauses_left, most_clauses, weight};
-    ghost use Rattle.iso_plain.specs.Limits.{ResultMet};
+    ghost use Rattle.iso_plain.specs.Limits.{IsWithin, ResultMet};
     ghost use Rattle.iso_plain.specs.declared.parts.Now.TheVariants as now;
 
     /// Enters the clause; where its head doesn't unify with the goal the engine fails next (7.7.10).
@@ -57,6 +57,7 @@ impl<S: Store + Drop> Plain<S> {
         ensures procedures { self.new.procedures ≡ self.old.procedures }
         ensures choices { self.new.choices ≡ self.old.choices }
         ensures limit { self.new.limit ≡ self.old.limit }
+        ensures within { IsWithin self.old → IsWithin self.new }
     {
         let clause = clause_at(
             self.procedures.as_slice(),
@@ -85,6 +86,7 @@ impl<S: Store + Drop> Plain<S> {
         ensures procedures { self.new.procedures ≡ self.old.procedures }
         ensures choices { self.new.choices ≡ self.old.choices }
         ensures limit { self.new.limit ≡ self.old.limit }
+        ensures within { IsWithin self.old → IsWithin self.new }
     {
         let choice = self.choices[self.choices.len() - 1];
         self.store.undo(choice.mark);
@@ -103,6 +105,7 @@ impl<S: Store + Drop> Plain<S> {
         ensures base { IsBase (S.stands self.old.store) self.old.base → IsBase (S.stands self.new.store) self.new.base }
         ensures procedures { self.new.procedures ≡ self.old.procedures }
         ensures limit { self.new.limit ≡ self.old.limit }
+        ensures count { length self.new.choices.items ≤ length self.old.choices.items + 1 }
         ensures fewer { clauses_left self.old.procedures.items self.new.choices.items + 1
             ≤ clauses_left self.old.procedures.items self.old.choices.items + most_clauses self.old.procedures.items }
     {
@@ -127,6 +130,7 @@ impl<S: Store + Drop> Plain<S> {
         ensures steps { self.new.steps ≡ self.old.steps }
         ensures procedures { self.new.procedures ≡ self.old.procedures }
         ensures limit { self.new.limit ≡ self.old.limit }
+        ensures within { IsWithin self.old → IsWithin self.new }
         ensures fewer { clauses_left self.old.procedures.items self.new.choices.items + 1 ≤ clauses_left self.old.procedures.items self.old.choices.items }
     {
         let newest = self.choices.len() - 1;
@@ -147,6 +151,7 @@ impl<S: Store + Drop> Plain<S> {
         ensures falls { IfOk result (λ m. Falls m (weight self.old) (weight self.new)) }
         ensures met { ResultMet S.full result self.new }
         ensures limit { self.new.limit ≡ self.old.limit }
+        ensures within { IsWithin self.old → IsWithin self.new }
     {
         if self.choices.is_empty() {
             self.clear();
@@ -172,6 +177,7 @@ impl<S: Store + Drop> Plain<S> {
         ensures base { IsBase (S.stands self.old.store) self.old.base → IsBase (S.stands self.new.store) self.new.base }
         ensures procedures { self.new.procedures ≡ self.old.procedures }
         ensures limit { self.new.limit ≡ self.old.limit }
+        ensures within { IsWithin self.old → IsWithin self.new }
         ensures fewer { clauses_left self.old.procedures.items self.new.choices.items + 1
             ≤ clauses_left self.old.procedures.items self.old.choices.items + most_clauses self.old.procedures.items }
     {
@@ -202,6 +208,7 @@ impl<S: Store + Drop> Plain<S> {
         ensures base { IsBase (S.stands self.old.store) self.old.base → IsBase (S.stands self.new.store) self.new.base }
         ensures procedures { self.new.procedures ≡ self.old.procedures }
         ensures limit { self.new.limit ≡ self.old.limit }
+        ensures within { IsWithin self.old → IsWithin self.new }
         ensures fewer { clauses_left self.old.procedures.items self.new.choices.items + 1
             ≤ clauses_left self.old.procedures.items self.old.choices.items + most_clauses self.old.procedures.items }
     {

@@ -12,7 +12,7 @@ use iso_store::{Store, StoreFault};
 
 impl<S: Store + Drop> Plain<S> {
     ghost use Rattle.iso_plain.specs.EngineStates.{Represents, Moves, Falls, Calls, WasCalled, weight, most_clauses};
-    ghost use Rattle.iso_plain.specs.Limits.{ResultMet};
+    ghost use Rattle.iso_plain.specs.Limits.{IsWithin, ResultMet};
     ghost use Rattle.iso_plain.specs.Linked.{Linked};
     ghost use Rattle.iso_plain.specs.declared.parts.Now.TheVariants as now;
 
@@ -25,6 +25,7 @@ impl<S: Store + Drop> Plain<S> {
         ensures falls { IfOk result (λ m. Falls m (weight self.old) (weight self.new)) }
         ensures met { ResultMet S.full result self.new }
         ensures limit { self.new.limit ≡ self.old.limit }
+        ensures within { IsWithin self.old → IsWithin self.new }
     {
         if self.steps == 0 {
             self.clear();
@@ -65,6 +66,7 @@ impl<S: Store + Drop> Plain<S> {
         ensures falls { IfOk result (λ m. Falls m (weight self.old + (2 * most_clauses self.old.procedures.items + 1)) (weight self.new)) }
         ensures met { ResultMet S.full result self.new }
         ensures limit { self.new.limit ≡ self.old.limit }
+        ensures within { IsWithin self.old → IsWithin self.new }
     {
         if self.call(attempt)? {
             return Ok(Move::Goes);

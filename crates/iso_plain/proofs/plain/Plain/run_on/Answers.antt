@@ -11,6 +11,7 @@ loop-pause-init g c = record {
   quiet = λ s r. (s, here, r);
   less = omega arith;
   limit = refl;
+  within = λ h. h;
 }
 
 pub loop-pause-preserved : goal.loop-pause-preserved
@@ -25,6 +26,7 @@ loop-pause-preserved g c =
       quiet = λ s r. (let q = before.quiet s r in let n = moves q.0 q.2 in (n.0, quiet_trans q.1 n.1, stands n.0 n.2));
       less = (let a = before.less in let b = c.in-Goes.ensures.falls in omega (arith, a, b));
       limit = c.advance.ensures.limit ∙ before.limit;
+      within = λ h. c.advance.ensures.within (before.within h);
     }
 
 pub returns-in-Pauses-clause-pauses : goal.returns-in-Pauses-clause-pauses
@@ -34,3 +36,6 @@ returns-in-Pauses-clause-pauses g c = λ s r.
 
 pub returns-in-Pauses-clause-limit : goal.returns-in-Pauses-clause-limit
 returns-in-Pauses-clause-limit g c = c.advance.ensures.limit ∙ c.loop-pause.invariant.limit
+
+pub returns-in-Pauses-clause-within : goal.returns-in-Pauses-clause-within
+returns-in-Pauses-clause-within g c = λ h. c.advance.ensures.within (c.loop-pause.invariant.within h)
