@@ -22,3 +22,4 @@ pub mod ChoiceLemmas
 pub mod FailLemmas
 pub mod EngineMoves
 pub mod RunMoves
+pub mod LimitLemmas

@@ -50,7 +50,7 @@ front_is : {X : Type 0} (xs : List X) (x : X) → take (length xs) (xs ++ x ∷ 
 front_is [] x = refl
 front_is (y ∷ xs) x = ap (λ (zs : List _). y ∷ zs) (front_is xs x)
 
-length_last : {X : Type 0} (xs : List X) (x : X) → length (xs ++ x ∷ []) ≡ length xs + 1
+pub length_last : {X : Type 0} (xs : List X) (x : X) → length (xs ++ x ∷ []) ≡ length xs + 1
 length_last [] x = refl
 length_last (y ∷ xs) x = omega (arith, length_last xs x)
 

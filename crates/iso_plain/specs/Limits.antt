@@ -1,5 +1,7 @@
 -- What the engine says of its limits: full frames only where its choices are as many as there may be, and a full heap only where its store is full.
-use Rattle.std.specs.Prelude.{◌≤◌, length, Result, Ok, Err}
+use Rattle.std.specs.Prelude.{ℕ, ◌≤◌, length, Result, Ok, Err}
+use Rattle.iso_model.specs.Walker.{State, alternative_count}
+use Rattle.iso_model.specs.Runs.{Quiet}
 use Rattle.iso_model.specs.declared.pauses.Pause.{Pause}
 use Rattle.iso_model.specs.declared.pauses.Pause.TheVariants as pause
 use Rattle.iso_store.specs.declared.shapes.StoreFault.{StoreFault}
@@ -29,3 +31,22 @@ module _ {S W M : Type 0} (full : S → Type 0) where
 -- No more choices stand than there may be.
 abbrev pub IsWithin : {S W M : Type 0} → Plain S W M → Type 0
 IsWithin e = length e.choices.items ≤ e.limit
+
+-- ---- full frames, said of the search
+
+-- a fact that holds where the frames are full
+abbrev pub WhereFull : Type 0 → Pause → Type 0
+WhereFull Fact pause.FramesFull = Fact
+WhereFull Fact p = Unit {0}
+
+abbrev pub MoveFull : Type 0 → Move → Type 0
+MoveFull Fact move.Goes = Unit {0}
+MoveFull Fact (move.Pauses p) = WhereFull Fact p
+
+abbrev pub ResultFull : Type 0 → Result Move StoreFault → Type 0
+ResultFull Fact (Ok m) = MoveFull Fact m
+ResultFull Fact (Err e) = Unit {0}
+
+-- The search comes, without an event, to a state that has this many alternatives.
+abbrev pub ComesTo : State → ℕ → Type 0
+ComesTo s count = (t : State) × Quiet s t × (count ≤ alternative_count t)

@@ -1,10 +1,10 @@
 //! The plain engine is an engine: a call of `resume` is moves up to an event (7.7).
-ghost use Rattle.std.specs.Prelude.{◌≡◌, ◌≢◌, ℕ, IfOk, true, Err};
+ghost use Rattle.std.specs.Prelude.{◌≡◌, ◌≢◌, ℕ, IfOk, true, Err, ◌≤◌};
 ghost use Rattle.iso_model.specs.Trees.{arities_fit};
 ghost use Rattle.iso_model.specs.Terms.{term_of};
 ghost use Rattle.iso_model.specs.Copies.{IsNumbered};
 ghost use Rattle.iso_model.specs.Additions.{addition};
-ghost use Rattle.iso_model.specs.Walker.{State};
+ghost use Rattle.iso_model.specs.Walker.{State, alternative_count};
 ghost use Rattle.iso_model.specs.declared.pauses.Pause.TheVariants as pause;
 ghost use Rattle.iso_plain.specs.declared.plain.Move.TheVariants as moved;
 
@@ -16,13 +16,14 @@ use iso_store::{Store, StoreFault};
 impl<S: Store + Drop> Plain<S> {
     ghost use Rattle.iso_plain.specs.EngineStates.{StandsFor, Moves, Falls, weight, phase_of};
     ghost use Rattle.iso_model.specs.Engines.{Pauses, FallsAtEvent};
-    ghost use Rattle.iso_plain.specs.Limits.{IsWithin, LimitMet, MoveMet, ResultMet};
+    ghost use Rattle.iso_plain.specs.Limits.{IsWithin, LimitMet, MoveMet, ResultMet, WhereFull, MoveFull, ResultFull, ComesTo};
     ghost use Rattle.iso_plain.specs.declared.parts.Now.TheVariants as now;
 
     /// Ends at a limit: the engine is spent.
     fn stop(&mut self, fault: StoreFault) -> Pause
         ensures moves { (s : State) → Moves S.present S.stands S.older (moved.Pauses result) s self.new }
         ensures falls { (old new : ℕ) → FallsAtEvent result old new }
+        ensures frames { WhereFull ⊥ result }
         ensures met { (fault ≡ StoreFault.Full → S.full self.old.store) → LimitMet S.full result self.new }
         ensures limit { self.new.limit ≡ self.old.limit }
         ensures within { IsWithin self.old → IsWithin self.new }
@@ -41,6 +42,7 @@ impl<S: Store + Drop> Plain<S> {
         ensures moves { (s : State) → StandsFor S.present S.stands S.older self.old s
             → IfOk result (λ m. Moves S.present S.stands S.older m s self.new) }
         ensures falls { IfOk result (λ m. Falls m (weight self.old) (weight self.new)) }
+        ensures frames { (s : State) → StandsFor S.present S.stands S.older self.old s → ResultFull (self.old.limit ≤ alternative_count s) result }
         ensures met { ResultMet S.full result self.new }
         ensures limit { self.new.limit ≡ self.old.limit }
         ensures within { IsWithin self.old → IsWithin self.new }
@@ -61,6 +63,7 @@ impl<S: Store + Drop> Plain<S> {
         requires stands { (s : State) × StandsFor S.present S.stands S.older self.old s }
         ensures moves { (s : State) → StandsFor S.present S.stands S.older self.old s → Moves S.present S.stands S.older result s self.new }
         ensures falls { Falls result (weight self.old) (weight self.new) }
+        ensures frames { (s : State) → StandsFor S.present S.stands S.older self.old s → MoveFull (self.old.limit ≤ alternative_count s) result }
         ensures met { MoveMet S.full result self.new }
         ensures limit { self.new.limit ≡ self.old.limit }
         ensures within { IsWithin self.old → IsWithin self.new }
@@ -78,6 +81,7 @@ impl<S: Store + Drop> Plain<S> {
         ensures pauses { (s : State) → StandsFor S.present S.stands S.older self.old s
             → Pauses s result (StandsFor S.present S.stands S.older self.new) (phase_of self.new.now) }
         ensures left { FallsAtEvent result (weight self.old) (weight self.new) }
+        ensures frames { (s : State) → StandsFor S.present S.stands S.older self.old s → WhereFull (ComesTo s self.old.limit) result }
         ensures met { LimitMet S.full result self.new }
         ensures limit { self.new.limit ≡ self.old.limit }
         ensures within { IsWithin self.old → IsWithin self.new }
@@ -93,7 +97,7 @@ impl<S: Store + Drop> Plain<S> {
 
 impl<S: Store + Drop> Engine for Plain<S> {
     ghost use Rattle.iso_plain.specs.EngineStates.{StandsFor, weight, phase_of};
-    ghost use Rattle.iso_plain.specs.Limits.{IsWithin, LimitMet};
+    ghost use Rattle.iso_plain.specs.Limits.{IsWithin, LimitMet, WhereFull, ComesTo};
     ghost use Rattle.iso_model.specs.Engines.{Ready, Spent, Starts, Pauses, StaysSpent, FallsAtEvent, Consults};
 
     ghost stands_for = { StandsFor S.present S.stands S.older };
@@ -133,6 +137,7 @@ impl<S: Store + Drop> Engine for Plain<S> {
         ensures spent { (s : State) → StandsFor S.present S.stands S.older self.old s → phase_of self.old.now ≡ Spent
             → StaysSpent s result (StandsFor S.present S.stands S.older self.new) (phase_of self.new.now) }
         ensures left { FallsAtEvent result (weight self.old) (weight self.new) }
+        ensures frames { (s : State) → StandsFor S.present S.stands S.older self.old s → WhereFull (ComesTo s self.old.limit) result }
         ensures met { LimitMet S.full result self.new }
         ensures limit { self.new.limit ≡ self.old.limit }
         ensures within { IsWithin self.old → IsWithin self.new }

@@ -6,7 +6,7 @@ ghost use Rattle.iso_model.specs.Databases.{Database};
 ghost use Rattle.iso_plain.specs.Kept.{IsClause};
 ghost use Rattle.iso_plain.specs.Programs.{IsDatabase};
 ghost use Rattle.iso_plain.specs.EngineStates.{left_at, clauses_at_place};
-ghost use Rattle.iso_model.specs.Walker.{State};
+ghost use Rattle.iso_model.specs.Walker.{State, alternative_count};
 
 use super::clauses::Clause;
 use super::parts::{Attempt, Choice, Now, at, behind};
@@ -40,7 +40,7 @@ impl<S: Store + Drop> Plain<S> {
     ghost use Rattle.iso_plain.specs.Linked.{Linked};
     ghost use Rattle.iso_plain.specs.Linked as search;
     ghost use Rattle.iso_plain.specs.EngineStates.{IsBase, IsEngine, Represents, Tries, Tried, Calls, WentBack, Moves, Falls, clauses_left, most_clauses, weight};
-    ghost use Rattle.iso_plain.specs.Limits.{IsWithin, ResultMet};
+    ghost use Rattle.iso_plain.specs.Limits.{IsWithin, ResultMet, ResultFull};
     ghost use Rattle.iso_plain.specs.declared.parts.Now.TheVariants as now;
 
     /// Enters the clause; where its head doesn't unify with the goal the engine fails next (7.7.10).
@@ -149,6 +149,7 @@ impl<S: Store + Drop> Plain<S> {
         requires failing { self.old.now ≡ now.Failing }
         ensures moves { (s : State) → Represents S.present S.stands S.older self.old s → IfOk result (λ m. Moves S.present S.stands S.older m s self.new) }
         ensures falls { IfOk result (λ m. Falls m (weight self.old) (weight self.new)) }
+        ensures frames { (s : State) → Represents S.present S.stands S.older self.old s → ResultFull (self.old.limit ≤ alternative_count s) result }
         ensures met { ResultMet S.full result self.new }
         ensures limit { self.new.limit ≡ self.old.limit }
         ensures within { IsWithin self.old → IsWithin self.new }

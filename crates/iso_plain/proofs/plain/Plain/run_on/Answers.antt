@@ -2,6 +2,7 @@ use Rattle.std.proofs.Common.{arith, refl, ◌∙◌}
 use Rattle.iso_model.specs.Runs.{here}
 use Rattle.iso_model.specs.RunLaws.{quiet_trans}
 use Rattle.iso_plain.proofs.EngineMoves.{represents_stands, pauses_behind}
+use Rattle.iso_plain.proofs.LimitLemmas.{where_full}
 use Rattle.iso_plain.proofs.plain.Plain.run_on.Goals as goal
 
 pub loop-pause-init : goal.loop-pause-init
@@ -39,3 +40,9 @@ returns-in-Pauses-clause-limit g c = c.advance.ensures.limit ∙ c.loop-pause.in
 
 pub returns-in-Pauses-clause-within : goal.returns-in-Pauses-clause-within
 returns-in-Pauses-clause-within g c = λ h. c.advance.ensures.within (c.loop-pause.invariant.within h)
+
+pub returns-in-Pauses-clause-frames : goal.returns-in-Pauses-clause-frames
+returns-in-Pauses-clause-frames g c = λ s r.
+    let q = c.loop-pause.invariant.quiet s r in
+    let same = c.loop-pause.invariant.limit in
+    where_full c.in-Pauses.pause (λ h. (q.0, q.1, omega (arith, h, same))) (c.in-Pauses.ensures.frames q.0 q.2)
