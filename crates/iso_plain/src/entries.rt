@@ -1,6 +1,6 @@
 //! The entry of a clause: its variables get new numbers, its head is unified with the goal, and its goals are
 //! linked before the rest (7.7.10, 7.7.11).
-ghost use Rattle.std.specs.Prelude.{◌≡◌, ℕ, ◌+◌, ◌<◌, ◌≤◌, ◌^◌, IfOk, OnOk, length, true, Err};
+ghost use Rattle.std.specs.Prelude.{◌≡◌, ℕ, ◌+◌, ◌<◌, ◌^◌, IfOk, OnOk, length, true, Err};
 ghost use Rattle.iso_model.specs.Trees.{arities_fit};
 ghost use Rattle.iso_model.specs.Terms.{term_of, row_of};
 ghost use Rattle.iso_model.specs.Copies.{renamed, numbers_from};

@@ -9,12 +9,12 @@ ghost use Rattle.iso_plain.specs.EngineStates.{left_at, clauses_at_place};
 ghost use Rattle.iso_model.specs.Walker.{State, alternative_count};
 
 use super::clauses::Clause;
-use super::parts::{Attempt, Choice, Now, at, behind};
+use super::entries;
+use super::parts::{Attempt, Choice, behind};
 use super::plain::{Move, Plain};
-use super::procedures::{self, Procedure};
-use super::{balls, entries};
-use iso_model::{Ball, Pause};
-use iso_store::{Shape, Store, StoreFault};
+use super::procedures::Procedure;
+use iso_model::Pause;
+use iso_store::{Store, StoreFault};
 use std::alloc::AllocError;
 
 /// The clause at this place of the procedure at this place.
