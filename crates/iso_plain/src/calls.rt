@@ -1,5 +1,5 @@
 //! What a goal calls (7.7.7).
-ghost use Rattle.std.specs.Prelude.{◌≡◌, ◌<◌, IfOk};
+ghost use Rattle.std.specs.Prelude.{◌<◌, IfOk};
 ghost use Rattle.iso_model.specs.Databases.{Database};
 ghost use Rattle.iso_model.specs.Errors.{key};
 ghost use Rattle.iso_store.specs.Presents.{Holds};

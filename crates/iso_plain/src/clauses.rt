@@ -1,7 +1,5 @@
 //! Clauses as the engine keeps them: checked, converted, with their variables numbered 0, 1, .. (7.4, 7.6).
 ghost use Rattle.std.specs.Prelude.{◌≡◌, ◌<◌, ◌↔◌, IsTrue, IfOk, IfErr, OnOk, MatchOption, codes, true, option_map, ◌==◌, position};
-ghost use Rattle.std.specs.Option.{option_copied};
-ghost use Rattle.std.specs.Str.{bytes_eq};
 ghost use Rattle.iso_model.specs.Trees.{Variable, Name, arities_fit};
 ghost use Rattle.iso_model.specs.Terms.{term_of, row_of};
 ghost use Rattle.iso_model.specs.Variables.{distinct_from};

@@ -1,12 +1,11 @@
 //! The plain engine: its parts, and how a run begins and ends.
-ghost use Rattle.std.specs.Prelude.{◌≡◌, ◌≢◌, ℕ, true};
+ghost use Rattle.std.specs.Prelude.{◌≡◌, []};
 
-use super::entries;
 use super::parts::{Choice, Frame, Now};
 use super::procedures::Procedure;
 use iso_model::{Ball, Pause};
 use iso_store::Store;
-use std::alloc::{AllocError, Global};
+use std::alloc::Global;
 
 /// Whether a move goes on without an event, or ends a call of `resume`.
 #[derive(Drop)]
@@ -36,6 +35,7 @@ pub struct Plain<S: Store> {
 }
 
 impl<S: Store + Drop> Plain<S> {
+    ghost use Rattle.iso_plain.specs.Limits.{IsWithin};
     ghost use Rattle.iso_model.specs.Trees.{Variable};
     ghost use Rattle.iso_model.specs.Databases.{Database};
     ghost use Rattle.iso_plain.specs.Linked.{idle_linked};
@@ -51,7 +51,13 @@ impl<S: Store + Drop> Plain<S> {
         ensures now { self.new.now ≡ Idle }
         ensures substitution { (S.present self.new.store).substitution ≡ Variable }
         ensures next { (S.present self.new.store).next ≡ 0 }
+        ensures frames { self.new.frames.items ≡ [] }
+        ensures choices { self.new.choices.items ≡ [] }
+        ensures query { self.new.query.items ≡ [] }
+        ensures raised { self.new.raised ≡ None }
         ensures procedures { self.new.procedures ≡ self.old.procedures }
+        ensures limit { self.new.limit ≡ self.old.limit }
+        ensures within { IsWithin self.old → IsWithin self.new }
         ensures base { IsBase (S.stands self.new.store) self.new.base }
     {
         self.choices.clear();
