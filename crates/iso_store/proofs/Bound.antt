@@ -40,6 +40,7 @@ pub grows-then : {W : Type 0} {p q u : Present W} → Grows p q 0 → Grows q u 
 grows-then first second = record {
   cells = let a = first.cells in let b = second.cells in omega arith;
   limit = second.limit ∙ first.limit;
+  within = λ h. second.within (first.within h);
 }
 
 pub turned : {W : Type 0} (p q : Present W) (A B : Tree) (answer : Bool) → IsUnification p q A B answer → IsUnification p q B A answer

@@ -7,6 +7,7 @@ pub mod Marked
 pub mod NodeLemmas
 pub mod Trails
 pub mod NodeReads
+pub mod Apart
 pub mod NodeChanges
 pub mod NodeSorts
 pub mod NodeMade

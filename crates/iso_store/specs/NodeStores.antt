@@ -38,6 +38,10 @@ pub record IsStore (cs : List Node) (es : List ℕ) (next : ℕ) : Type 0 where
   pub bound : (w : ℕ) → is_in w es ≡ true → is_bound (slice_get cs w) ≡ true
   pub may_bind : all_may_bind Variable (bindings cs es) ≡ true
 
+-- A binding that leads from its variable to a place behind it leads to no place behind top.
+abbrev pub LeadsBack : List Node → ℕ → Type 0
+LeadsBack cs top = (w n j : ℕ) → slice_get cs w ≡ Some (Var n (Some j)) → w < j → j ≤ top
+
 -- the node may come behind these nodes
 abbrev pub MayPush : List Node → ℕ → Node → Type 0
 MayPush cs next (Var n b) = (b ≡ None) × (n < next) × (list_any (has_number n) cs ≡ false)

@@ -67,10 +67,11 @@ pub record MovesOn {W : Type 0} (p q : Present W) (count : ℕ) : Type 0 where
   pub next : q.next ≡ p.next + count
   pub taken : (n : ℕ) → n < p.next → q.taken n ≡ p.taken n
 
--- At most so many cells are made.
+-- At most so many cells are made, and never more than there may be.
 pub record Grows {W : Type 0} (p q : Present W) (count : ℕ) : Type 0 where
   pub cells : q.cells ≤ p.cells + count
   pub limit : q.limit ≡ p.limit
+  pub within : p.cells ≤ p.limit → q.cells ≤ q.limit
 
 -- The bindings s come to those that there are.
 pub record Binds {W : Type 0} (p q : Present W) (s : Subst) : Type 0 where

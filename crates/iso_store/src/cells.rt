@@ -38,6 +38,14 @@ pub(crate) trait Cells {
         ensures holds { Holds (present self.now) result }
         ensures value { meaning (present self.now) result ≡ argument index (meaning (present self.now) word) };
 
+    /// Whether it shows without a search that the unbound variable does not occur in what the other word stands for. False
+    /// says nothing.
+    fn is_apart(&self, variable: Self::Word, word: Self::Word) -> bool
+        requires variable { Holds (present self.now) variable }
+        requires word { Holds (present self.now) word }
+        ensures { (number : ℕ) → meaning (present self.now) variable ≡ Variable number → result ≡ true
+            → occurs number (meaning (present self.now) word) ≡ false };
+
     /// Binds the unbound variable of this number to what the other word stands for.
     fn bind(
         &mut self,

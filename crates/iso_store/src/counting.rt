@@ -44,6 +44,10 @@ impl Cells for Counting {
         self.nodes.arg(word, index)
     }
 
+    fn is_apart(&self, variable: usize, word: usize) -> bool {
+        self.nodes.is_apart(variable, word)
+    }
+
     fn bind(&mut self, number: u64, variable: usize, word: usize) -> Result<(), StoreFault> {
         self.nodes.bind(number, variable, word)
     }

@@ -10,6 +10,7 @@ mod marks;
 mod meetings;
 mod nodes;
 mod numbering;
+mod reaches;
 mod refusals;
 mod shapes;
 mod stores;

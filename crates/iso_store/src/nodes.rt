@@ -4,11 +4,12 @@ ghost use Rattle.std.specs.List.{slice_get};
 ghost use Rattle.iso_model.specs.Substitutions.{apply};
 ghost use Rattle.iso_store.specs.declared.nodes.Node.TheVariants.{Var};
 ghost use Rattle.iso_store.specs.NodeTerms.{term_at, substitution_of};
-ghost use Rattle.iso_store.specs.NodeStores.{IsStore, MayPush, StandsFor, IsOlder, is_bound, present_of, empty};
+ghost use Rattle.iso_store.specs.NodeStores.{IsStore, LeadsBack, MayPush, StandsFor, IsOlder, is_bound, present_of, empty};
 
 use super::cells::Cells;
 use super::copies::{build, copy_out};
 use super::marks::{NodesMark, unwind};
+use super::reaches::{farther, within};
 use super::shapes::{Shape, StoreFault};
 use super::stores::Store;
 use super::unify::unify;
@@ -34,7 +35,10 @@ pub struct Nodes {
     next: u64,
     nodes: Vec<Node>,
     trail: Vec<usize>,
+    /// No binding leads from a place before its target to a target behind this place.
+    forward: usize,
     ghost is_store: { IsStore nodes.items trail.items next },
+    ghost leads_back: { LeadsBack nodes.items forward },
 }
 
 impl Nodes {
@@ -48,6 +52,7 @@ impl Nodes {
             next: 0,
             nodes: Vec::new(alloc),
             trail: Vec::new(alloc),
+            forward: 0,
         })
     }
 
@@ -59,6 +64,7 @@ impl Nodes {
         ensures trail { self.new.trail ≡ self.old.trail }
         ensures next { self.new.next ≡ self.old.next }
         ensures limit { self.new.limit ≡ self.old.limit }
+        ensures within { length self.old.nodes.items ≤ self.old.limit → length self.new.nodes.items ≤ self.new.limit }
         ensures full { result ≡ Err StoreFault.Full → self.old.limit ≤ length self.old.nodes.items }
     {
         let place = self.nodes.len();
@@ -133,12 +139,18 @@ impl Cells for Nodes {
         arguments[index]
     }
 
+    fn is_apart(&self, variable: usize, word: usize) -> bool {
+        let place = self.walked(variable);
+        self.forward < place && self.walked(word) < place
+    }
+
     fn bind(&mut self, number: u64, variable: usize, word: usize) -> Result<(), StoreFault> {
         let place = self.walked(variable);
         let target = self.walked(word);
         if self.trail.push(place).is_err() {
             return Err(StoreFault::NoMemory);
         }
+        self.forward = farther(self.forward, place, target);
         self.nodes[place] = Node::Var(number, Some(target));
         Ok(())
     }
@@ -242,6 +254,7 @@ impl Store for Nodes {
     fn undo(&mut self, mark: NodesMark) {
         self.nodes.truncate(mark.nodes);
         unwind(&mut self.nodes, &mut self.trail, mark.trail);
+        self.forward = within(self.forward, self.nodes.len());
         self.next = mark.next;
     }
 

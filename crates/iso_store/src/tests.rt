@@ -4,7 +4,7 @@
 //!     ulimit -s unlimited; rt try --test --fail-alloc 1
 //!
 //! Each test then passes or fails with the text `error: AllocError`, `error: AllocFailed { .. }` or `error: NoMemory`, and none
-//! fails in an assertion. At 38 all pass but the two of long lists: the others make 37 allocations at most. The lists of 10 000
+//! fails in an assertion. At 38 all pass but the three of long lists: the others make 37 allocations at most. The lists of 10 000
 //! elements need the deep stack under `rt try`.
 ghost use Rattle.std.specs.Prelude.{◌≡◌, true};
 
@@ -183,6 +183,28 @@ fn looks_at_each_part_once(rt: HostRuntime) -> Result<(), Fail> {
         };
         assert!(rt; unify(&mut counting, first, second)?);
         assert_eq!(rt; counting.looks.get(), 8 * length as u64 + 2);
+    }
+    Ok(())
+}
+
+/// Binding a new variable to a list takes two looks, however long the list is: that the variable does not occur in it needs no
+/// search.
+#[test]
+fn binds_a_new_variable_without_a_search(rt: HostRuntime) -> Result<(), Fail> {
+    let alloc = rt.alloc();
+    for length in [1i64, 10, 100, 1_000, 10_000] {
+        let term = list(alloc, length)?;
+        assert!(rt; well_formed(&term));
+        let mut store = Nodes::new(alloc, 50_000)?;
+        let number = store.reserve(1);
+        let whole = store.build(&term)?;
+        let newer = store.variable(number)?;
+        let mut counting = Counting {
+            nodes: store,
+            looks: Cell::new(0),
+        };
+        assert!(rt; unify(&mut counting, newer, whole)?);
+        assert_eq!(rt; counting.looks.get(), 2u64);
     }
     Ok(())
 }

@@ -47,6 +47,20 @@ fn occurs_before<C: Cells>(store: &C, number: u64, word: C::Word, count: usize) 
     false
 }
 
+/// Whether the unbound variable of this number occurs in what the other word stands for; it is searched only where it is not
+/// clear without.
+fn occurs_for<C: Cells>(store: &C, number: u64, variable: C::Word, word: C::Word) -> bool
+    requires variable_holds { Holds (C.present store.now) variable }
+    requires word_holds { Holds (C.present store.now) word }
+    requires variable { meaning (C.present store.now) variable ≡ Variable number }
+    ensures { result ≡ occurs number (meaning (C.present store.now) word) }
+{
+    if store.is_apart(variable, word) {
+        return false;
+    }
+    occurs(store, number, word)
+}
+
 /// Binds the variable of this number to what the other word stands for, unless it occurs there.
 fn bind_checked<C: Cells>(
     store: &mut C,
@@ -63,7 +77,7 @@ fn bind_checked<C: Cells>(
     ensures full { result ≡ Err StoreFault.Full → C.full store.new }
     ensures marks { KeepsMarks (C.stands store.old) (C.stands store.new) }
 {
-    if occurs(store, number, word) {
+    if occurs_for(store, number, variable, word) {
         return Ok(false);
     }
     store.bind(number, variable, word)?;

@@ -1,7 +1,8 @@
 use Rattle.std.proofs.Common.{is_ok}
 use Rattle.iso_store.proofs.NodeChanges.{store-after}
+use Rattle.iso_store.proofs.Apart.{leads-after}
 use Rattle.iso_store.proofs.nodes.Nodes.push.Goals as goal
 
 pub invariant_of-self : goal.invariant_of-self
 invariant_of-self c =
-    record { is_store = store-after _ _ _ c.args.self.now.is_store c.args.node c.requires (is_ok c.push.result) c.push.new.self.items c.push.ensures.items }
+    record { is_store = store-after _ _ _ c.args.self.now.is_store c.args.node c.requires (is_ok c.push.result) c.push.new.self.items c.push.ensures.items; leads_back = leads-after _ c.args.self.now.next _ c.args.node c.requires c.args.self.now.leads_back (is_ok c.push.result) c.push.new.self.items c.push.ensures.items }
