@@ -15,8 +15,10 @@ pub mod Databases
 pub mod Errors
 pub mod Additions
 pub mod Characters
-pub mod Lexemes
+pub mod Numbers
+pub mod Quoted
 pub mod Token
+pub mod Lexemes
 pub mod Tokens
 pub mod TokenPlaces
 pub mod Operators
