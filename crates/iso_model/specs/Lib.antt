@@ -22,6 +22,7 @@ pub mod Lexemes
 pub mod Tokens
 pub mod TokenPlaces
 pub mod Operators
+pub mod Lists
 pub mod Grammar
 pub mod Reading
 pub mod Clauses

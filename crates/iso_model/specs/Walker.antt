@@ -1,6 +1,10 @@
 -- The standard's search, step by step (ISO/IEC 13211-1:1995, 7.7): depth first, clauses in their order, goals from left to right.
 use Rattle.std.specs.Prelude.{ℕ, zero, suc, ◌+◌, List, [], ◌∷◌, length, map, Bool, false, Option, Some, None, codes, if◌then◌else◌}
 use Rattle.std.specs.Str.{bytes_eq}
+use Rattle.iso_ops.specs.Operators.{Operator}
+use Rattle.iso_ops.specs.InitialOperators.{initial_entries}
+use Rattle.iso_ops.specs.declared.settings.Flags.{Flags}
+use Rattle.iso_ops.specs.Settings.{initial_flags}
 use Rattle.iso_model.specs.Trees.{Tree, Variable, Name, Apply}
 use Rattle.iso_model.specs.Sizes.{size}
 use Rattle.iso_model.specs.Variables.{variables, variable_count}
@@ -11,9 +15,15 @@ use Rattle.iso_model.specs.Bodies.{Body, Run, And, converted, body_term, map_bod
 use Rattle.iso_model.specs.Databases.{Clause, Key, Database, key_of, clauses_at}
 use Rattle.iso_model.specs.Errors.{key, type_error_callable, existence_error}
 
--- what outlives a run
+-- what outlives a run: the database (7.5), the operators (6.3.4.4) and the flags (7.11)
 pub record World : Type 0 where
   pub database : Database
+  pub operators : List Operator
+  pub flags : Flags
+
+-- the world before a text is consulted
+abbrev pub first_world : World
+first_world = record { database = []; operators = initial_entries; flags = initial_flags }
 
 -- A member of the list of goals: a goal with its cut mark (a height of the stack), failure, or a thrown ball (7.7.3, 7.8.10).
 pub data Member : Type 0 where

@@ -4,7 +4,7 @@ use Rattle.iso_model.specs.Trees.{Tree, Variable, Integer, Name, Apply, End, Mor
 use Rattle.iso_model.specs.Bodies.{one, two}
 use Rattle.iso_model.specs.Databases.{Database}
 use Rattle.iso_model.specs.Additions.{Addition, Adds, Refuses, addition}
-use Rattle.iso_model.specs.Walker.{World, Answered, Ending, NoMore, Budget, Uncaught, started}
+use Rattle.iso_model.specs.Walker.{World, first_world, Answered, Ending, NoMore, Budget, Uncaught, started}
 use Rattle.iso_model.specs.Runs.{Trace, Then, Stops, Run}
 
 -- the term with this name and these three arguments
@@ -27,7 +27,7 @@ with_clauses (t ∷ ts) db = with_clauses ts (after (addition t db) db)
 
 -- only these clauses
 abbrev pub program : List Tree → World
-program ts = record { database = with_clauses ts [] }
+program ts = record first_world { database = with_clauses ts [] }
 
 -- these answers in their order, and then this ending
 abbrev pub answers : List (List Tree) → Ending → World → Trace

@@ -4,7 +4,8 @@ use Rattle.iso_model.specs.Trees.{Variable, Integer, Name, Apply, row}
 use Rattle.iso_model.specs.Bodies.{two}
 use Rattle.iso_model.specs.Token.{Shown, TokenKind, NameToken, VariableToken, IntegerToken, PunctToken, EndToken}
 use Rattle.iso_model.specs.Tokens.{tokens}
-use Rattle.iso_model.specs.Operators.{operators}
+use Rattle.iso_ops.specs.InitialOperators.{initial_entries}
+use Rattle.iso_ops.specs.Settings.{initial_flags}
 use Rattle.iso_model.specs.Grammar.{Clause}
 use Rattle.iso_model.specs.Clauses.{IsNextClause}
 use Rattle.iso_model.specs.Lines.{text_of}
@@ -73,12 +74,12 @@ loop_clause = record { term = rule (Name (codes "l")) (Name (codes "l")); names 
 -- Those are the three clauses by the grammar (6.2, 6.3).
 abbrev pub ReadingOfThreeClauses : Type 0
 ReadingOfThreeClauses =
-    IsNextClause operators (tokens equal_text) equal_clause × IsNextClause operators (tokens rule_text) rule_clause
-    × IsNextClause operators (tokens loop_text) loop_clause
+    IsNextClause initial_entries initial_flags (tokens equal_text) equal_clause × IsNextClause initial_entries initial_flags (tokens rule_text) rule_clause
+    × IsNextClause initial_entries initial_flags (tokens loop_text) loop_clause
 
 -- The tokens of this text up to its end token are no clause.
 abbrev pub IsNoClause : List ℕ → Type 0
-IsNoClause text = (c : Clause) → IsNextClause operators (tokens text) c → ⊥
+IsNoClause text = (c : Clause) → IsNextClause initial_entries initial_flags (tokens text) c → ⊥
 
 -- Three texts that are no clauses: an argument has a priority of at most 999 and `:-` has 1200 (6.3.3.1), an infix
 -- operator takes an operand on its right (6.3.4.2), and a `(` behind layout opens no arguments (6.3.3).
