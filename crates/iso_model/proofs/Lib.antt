@@ -4,6 +4,9 @@ pub mod Cost
 pub mod WorkedReading
 pub mod ReadingSound
 pub mod TokenLemmas
+pub mod CutLemmas
+pub mod NumberLemmas
+pub mod QuotedLemmas
 pub mod LexemeLemmas
 pub mod SortLemmas
 pub mod CopyLemmas
