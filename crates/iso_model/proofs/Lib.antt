@@ -5,6 +5,9 @@ pub mod WorkedReading
 pub mod MarkLemmas
 pub mod ReadingSound
 pub mod TokenLemmas
+pub mod CutLemmas
+pub mod NumberLemmas
+pub mod QuotedLemmas
 pub mod LexemeLemmas
 pub mod SortLemmas
 pub mod CopyLemmas
