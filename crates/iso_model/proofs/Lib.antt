@@ -2,6 +2,7 @@ pub mod RowLemmas
 pub mod UnifierLemmas
 pub mod Cost
 pub mod WorkedReading
+mod WorkedSyntax
 pub mod MarkLemmas
 pub mod ReadingSound
 pub mod TokenLemmas

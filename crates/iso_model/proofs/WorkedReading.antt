@@ -2,7 +2,7 @@
 use Rattle.std.proofs.Common.{◌≡◌, List, ℕ, refl, codes, None, Some}
 use Rattle.iso_ops.specs.InitialOperators.{initial_entries}
 use Rattle.iso_ops.specs.Settings.{initial_flags}
-use Rattle.iso_ops.proofs.InitialLemmas.{initial_entries-table}
+use Rattle.iso_ops.proofs.InitialLemmas.{IsOpTable-initial_entries}
 use Rattle.iso_model.specs.Tokens.{tokens_from, tokens}
 use Rattle.iso_model.specs.Lexemes.{lexeme}
 use Rattle.iso_model.specs.Reading.{further, elements, compound, named, operand, operator_behind, extended, climb, continued, term, clause_of}
@@ -45,8 +45,8 @@ three_read = (
 )
 
 -- what reading by precedence gives no clause of is none
-not_read : (text : List ℕ) → next_clause initial_entries initial_flags (tokens text) ≡ None → IsNoClause text
-not_read text none c is = let some : next_clause initial_entries initial_flags (tokens text) ≡ Some c = next_complete initial_entries initial_flags initial_entries-table (tokens text) c is in cc
+pub not_read : (text : List ℕ) → next_clause initial_entries initial_flags (tokens text) ≡ None → IsNoClause text
+not_read text none c is = let some : next_clause initial_entries initial_flags (tokens text) ≡ Some c = next_complete initial_entries initial_flags IsOpTable-initial_entries (tokens text) c is in cc
 
 argument_row : next_clause initial_entries initial_flags (tokens (codes "p(a :- b).")) ≡ None
 unfolding initial_entries tokens_from lexeme clause_of term continued climb extended operator_behind operand named compound elements further
