@@ -1,14 +1,13 @@
 -- The engine goes back to its newest choice, and enters the next clause there.
-use Rattle.std.proofs.Common.{◌≡◌, ◌≢◌, ℕ, zero, suc, ◌+◌, ◌-◌, ◌*◌, ◌<◌, ◌≤◌, List, [], ◌∷◌, ◌++◌, length, take, drop, get_or, Option, Some, None, true, refl, ap, sym, ◌∙◌, subst, arith, Vec, Global}
+use Rattle.std.proofs.Common.{◌≡◌, ℕ, zero, suc, ◌-◌, ◌<◌, ◌≤◌, List, [], ◌∷◌, length, take, get_or, Some, true, refl, ap, sym, ◌∙◌, subst, arith, Vec, Global}
 use Rattle.std.specs.List.{slice_get}
-use Rattle.iso_model.specs.Databases as databases
-use Rattle.iso_store.specs.Presents.{Present, KeepsMarks}
+use Rattle.iso_store.specs.Presents.{Present}
 use Rattle.iso_plain.specs.declared.parts.Frame.{Frame}
 use Rattle.iso_plain.specs.declared.parts.Choice as kept
 use Rattle.iso_plain.specs.declared.plain.Plain.{Plain}
 use Rattle.iso_plain.specs.Linked.{Linked, Choice}
-use Rattle.iso_plain.specs.Standing.{Among, Chain, AreVariables, StandsForChoice, StandsForChoices, HaveRoom}
-use Rattle.iso_plain.specs.EngineStates.{IsBase, IsEngine, WentBack, left_at}
+use Rattle.iso_plain.specs.Standing.{Chain, AreVariables, StandsForChoices, HaveRoom}
+use Rattle.iso_plain.specs.EngineStates.{IsEngine, WentBack, left_at}
 use Rattle.iso_plain.proofs.StandingLemmas.{newest, choices_keep}
 
 pub get_at : {X : Type 0} (xs : List X) (i : ℕ) (x : X) → i < length xs → x ≡ get_or xs i x → slice_get xs i ≡ Some x

@@ -1,12 +1,12 @@
 -- Conversion of bodies, by the arguments of a compound.
-use Rattle.std.proofs.Common.{◌≡◌, ◌≢◌, ◌<◌, ◌≤◌, ℕ, zero, suc, List, [], ◌∷◌, ◌++◌, map, length, refl, sym, ap, ap₂, ◌∙◌, arith, append_assoc, Bool, true, false, Option, Some, None, Result, Ok, Err, codes, String, Vec, Global, get_or, IsErrAnd}
+use Rattle.std.proofs.Common.{◌≡◌, ◌<◌, ◌≤◌, ℕ, suc, List, [], ◌∷◌, ◌++◌, map, length, refl, sym, ap, ap₂, ◌∙◌, arith, append_assoc, true, false, Option, Some, None, Result, Ok, Err, codes, String, Vec, Global, get_or, IsErrAnd}
 use Rattle.std.specs.String.{string_bytes}
 use Rattle.std.specs.Str.{bytes_eq}
 use Rattle.iso_model.specs.declared.terms.Term.{Term}
 use Rattle.iso_model.specs.declared.terms.Term.TheVariants.{Compound}
-use Rattle.iso_model.specs.Trees.{Tree, Apply, End, More, row}
-use Rattle.iso_model.specs.Terms.{term_of, row_of}
-use Rattle.iso_model.specs.Bodies.{Body, Run, And, both, two, converted}
+use Rattle.iso_model.specs.Trees.{Tree, Apply, row}
+use Rattle.iso_model.specs.Terms.{term_of}
+use Rattle.iso_model.specs.Bodies.{Body, Run, both, two, converted}
 use Rattle.iso_model.proofs.RowLemmas.{term_of_compound}
 use Rattle.iso_plain.specs.declared.bodies.BodyFault.{BodyFault}
 use Rattle.iso_plain.specs.declared.bodies.BodyFault.TheVariants.{NotCallable, NoMemory}

@@ -1,80 +1,28 @@
 -- The engine calls a procedure: the clauses behind the first are kept as a choice.
-use Rattle.std.proofs.Common.{◌≡◌, ℕ, zero, suc, ◌+◌, ◌-◌, ◌^◌, ◌<◌, ◌≤◌, List, [], ◌∷◌, ◌++◌, length, drop, get_or, refl, ap, sym, ◌∙◌, subst, arith, inl, inr, ◌⊎◌, Vec, Global}
+use Rattle.std.proofs.Common.{◌≡◌, ℕ, ◌+◌, ◌<◌, ◌≤◌, List, [], ◌∷◌, ◌++◌, length, refl, sym, subst, arith, inl, inr, ◌⊎◌, Vec, Global}
 use Rattle.iso_model.specs.Trees.{Tree}
 use Rattle.iso_model.specs.Databases as databases
 use Rattle.iso_model.specs.Databases.{Database}
 use Rattle.iso_store.specs.Presents.{Present, KeepsMarks}
-use Rattle.iso_plain.specs.declared.clauses.Clause.{Clause}
 use Rattle.iso_plain.specs.declared.parts.Frame.{Frame}
 use Rattle.iso_plain.specs.declared.parts.Attempt.{Attempt}
 use Rattle.iso_plain.specs.declared.parts.Choice as kept
 use Rattle.iso_plain.specs.declared.procedures.Procedure.{Procedure}
 use Rattle.iso_plain.specs.declared.plain.Plain.{Plain}
 use Rattle.iso_plain.specs.Linked.{Linked, Choice}
-use Rattle.iso_plain.specs.Programs.{AreClauses, no_clauses, more_clauses, IsDatabase, no_procedures, more_procedures}
+use Rattle.iso_plain.specs.Programs.{IsDatabase}
 use Rattle.iso_plain.specs.Standing.{Among, StandsForChoice, StandsForChoices, none_kept, one_kept}
-use Rattle.iso_plain.specs.EngineStates.{Tries, Calls, left_at, clauses_at_place, clauses_left, most_clauses}
+use Rattle.iso_plain.specs.EngineStates.{Tries, Calls, left_at, clauses_left, most_clauses}
+use Rattle.iso_plain.proofs.CountLemmas.{clauses_counted, left_next, at_most, left_last}
 use Rattle.iso_plain.proofs.StandingLemmas.{choices_keep, choices_push}
 
--- ---- how many clauses there are
-
-pub count_at : (ps : List Procedure) (i : ℕ) (p : Procedure) → i < length ps → p ≡ get_or ps i p → length p.clauses.items ≡ clauses_at_place ps i
-count_at [] i p within is = absurd (omega arith)
-count_at (q ∷ ps) zero p within is = ap (λ (r : Procedure). length r.clauses.items) is
-count_at (q ∷ ps) (suc i) p within is = count_at ps i p (omega arith) is
-
-as_many : (ks : List Clause) (cs : List databases.Clause) → AreClauses ks cs → length ks ≡ length cs
-as_many ks cs no_clauses = refl
-as_many ks cs (more_clauses {ks = ks'} {cs = cs'} is more) = ap suc (as_many ks' cs' more)
-
-length_dropped : (cs : List databases.Clause) (j : ℕ) (c : databases.Clause) (others : List databases.Clause) → drop j cs ≡ c ∷ others → length cs ≡ j + 1 + length others
-length_dropped [] zero c others h = absurd (cc)
-length_dropped [] (suc j) c others h = absurd (cc)
-length_dropped (d ∷ cs) zero c others h = (let more : length (d ∷ cs) ≡ length (c ∷ others) = ap length h in omega (arith, more))
-length_dropped (d ∷ cs) (suc j) c others h = (let more = length_dropped cs j c others h in omega (arith, more))
-
-dropped_next : (cs : List databases.Clause) (j : ℕ) (c : databases.Clause) (others : List databases.Clause) → drop j cs ≡ c ∷ others → drop (suc j) cs ≡ others
-dropped_next [] zero c others h = absurd (cc)
-dropped_next [] (suc j) c others h = absurd (cc)
-dropped_next (d ∷ cs) zero c others h = cc
-dropped_next (d ∷ cs) (suc j) c others h = dropped_next cs j c others h
-
--- The clauses of the procedure at a place: those before the attempt's, that one and those behind it.
-pub clauses_counted : (ps : List Procedure) (db : Database) (i j : ℕ) (c : databases.Clause) (others : List databases.Clause) → IsDatabase ps db → left_at db i j ≡ c ∷ others
-    → clauses_at_place ps i ≡ j + 1 + length others
-clauses_counted ps db i j c others no_procedures h = absurd (cc)
-clauses_counted ps db zero j c others (more_procedures {kept = p} {p = q} is more) h = as_many p.clauses.items q.clauses is.clauses ∙ length_dropped q.clauses j c others h
-clauses_counted ps db (suc i) j c others (more_procedures {ks = ps'} {ps = db'} is more) h = clauses_counted ps' db' i j c others more h
-
--- what is left behind a clause
-pub left_next : (db : Database) (i j : ℕ) (c : databases.Clause) (others : List databases.Clause) → left_at db i j ≡ c ∷ others → left_at db i (j + 1) ≡ others
-left_next [] i j c others h = absurd (cc)
-left_next (p ∷ db) zero j c others h =
-    let next : suc j ≡ j + 1 = omega arith in
-    subst (λ n. drop n p.clauses ≡ others) next (dropped_next p.clauses j c others h)
-left_next (p ∷ db) (suc i) j c others h = left_next db i j c others h
-
-pub at_most : (ps : List Procedure) (i : ℕ) → clauses_at_place ps i ≤ most_clauses ps
-at_most [] i = omega arith
-at_most (p ∷ ps) zero = omega arith
-at_most (p ∷ ps) (suc i) = (let more = at_most ps i in omega (arith, more))
-
--- The number of clauses at a place fits a word.
-pub count_fits : (ps : List Procedure) (i : ℕ) → clauses_at_place ps i < 2 ^ 63
-count_fits [] i = omega arith
-count_fits (p ∷ ps) zero = (let many = p.clauses.ok.0 in let within = p.clauses.ok.1 in let small = p.clauses.small in omega (arith, many, within, small))
-count_fits (p ∷ ps) (suc i) = count_fits ps i
-
-left_push : {W M : Type 0} (ps : List Procedure) (cs : List (kept.Choice W M)) (c : kept.Choice W M)
-    → clauses_left ps (cs ++ c ∷ []) ≡ clauses_left ps cs + (clauses_at_place ps c.attempt.procedure - c.attempt.clause)
-left_push ps [] c = omega arith
-left_push ps (d ∷ cs) c = (let more = left_push ps cs c in omega (arith, more))
+-- ---- how many clauses are left
 
 -- A choice of a call leaves fewer clauses than the procedures have.
 pub left_pushed : {W M : Type 0} (ps : List Procedure) (db : Database) (cs : List (kept.Choice W M)) (c : kept.Choice W M) (j : ℕ) (d : databases.Clause) (others : List databases.Clause)
     → IsDatabase ps db → left_at db c.attempt.procedure j ≡ d ∷ others → c.attempt.clause ≡ j + 1 → clauses_left ps (cs ++ c ∷ []) + 1 ≤ clauses_left ps cs + most_clauses ps
 left_pushed ps db cs c j d others is h next =
-    let more = left_push ps cs c in
+    let more = left_last ps cs c in
     let many = clauses_counted ps db c.attempt.procedure j d others is h in
     let most = at_most ps c.attempt.procedure in
     omega (arith, more, many, most, next)

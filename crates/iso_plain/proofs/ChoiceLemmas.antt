@@ -1,65 +1,32 @@
 -- The newest choice is left at its next clause, or is taken away with its last one.
-use Rattle.std.proofs.Common.{◌≡◌, ℕ, zero, suc, ◌+◌, ◌-◌, ◌<◌, ◌≤◌, List, [], ◌∷◌, ◌++◌, length, take, drop, get_or, slice_set, Some, true, refl, ap, sym, ◌∙◌, subst, arith, Vec, Global}
+use Rattle.std.proofs.Common.{◌≡◌, ℕ, zero, suc, ◌+◌, ◌-◌, ◌<◌, ◌≤◌, List, [], ◌∷◌, ◌++◌, length, take, get_or, slice_set, Some, true, refl, ap, sym, ◌∙◌, subst, arith, Vec, Global}
 use Rattle.std.specs.List.{slice_get}
 use Rattle.iso_model.specs.Databases as databases
 use Rattle.iso_model.specs.Databases.{Database}
-use Rattle.iso_plain.specs.declared.clauses.Clause.{Clause}
 use Rattle.iso_plain.specs.declared.procedures.Procedure.{Procedure}
 use Rattle.iso_plain.specs.declared.parts.Choice as kept
-use Rattle.iso_plain.specs.Programs.{AreClauses, no_clauses, more_clauses, IsDatabase, no_procedures, more_procedures}
+use Rattle.iso_plain.specs.Programs.{IsDatabase}
 use Rattle.iso_store.specs.Presents.{Present}
 use Rattle.iso_plain.specs.declared.plain.Plain.{Plain}
 use Rattle.iso_plain.specs.Linked.{Linked, Choice, with_choice}
 use Rattle.iso_plain.specs.Standing.{Chain, AreVariables, StandsForChoices, HaveRoom}
 use Rattle.iso_plain.specs.EngineStates.{Tries, WentBack, left_at, clauses_at_place, clauses_left}
+use Rattle.iso_plain.proofs.KeptLemmas.{kept_at}
+use Rattle.iso_plain.proofs.CountLemmas.{clauses_counted, left_next, left_last}
 use Rattle.iso_plain.proofs.StandingLemmas.{choices_push, choices_keep}
-
--- ---- how many clauses a procedure has
-
-pub count_at : (ps : List Procedure) (i : ℕ) (p : Procedure) → i < length ps → p ≡ get_or ps i p → length p.clauses.items ≡ clauses_at_place ps i
-count_at [] i p within is = absurd (omega arith)
-count_at (q ∷ ps) zero p within is = ap (λ (x : Procedure). length x.clauses.items) is
-count_at (q ∷ ps) (suc i) p within is = count_at ps i p (omega arith) is
-
--- the procedure at a place
-pub record ProcedureAt (ps : List Procedure) (i : ℕ) : Type 0 where
-  pub procedure : Procedure
-  pub count : clauses_at_place ps i ≡ length procedure.clauses.items
-
-pub procedure_at : (ps : List Procedure) (i : ℕ) → i < length ps → ProcedureAt ps i
-procedure_at [] i within = absurd (omega arith)
-procedure_at (p ∷ ps) zero within = record { procedure = p; count = refl }
-procedure_at (p ∷ ps) (suc i) within = (let there = procedure_at ps i (omega arith) in record { procedure = there.procedure; count = there.count })
-
-clauses_length : {ks : List Clause} {cs : List databases.Clause} → AreClauses ks cs → length ks ≡ length cs
-clauses_length no_clauses = refl
-clauses_length (more_clauses is more) = ap suc (clauses_length more)
-
--- What is behind an item of a list.
-record Behind {X : Type 0} (xs : List X) (j : ℕ) (ys : List X) : Type 0 where
-  is : drop (suc j) xs ≡ ys
-  count : length xs ≡ suc j + length ys
-
-behind : {X : Type 0} (xs : List X) (j : ℕ) (y : X) (ys : List X) → drop j xs ≡ y ∷ ys → Behind xs j ys
-behind [] zero y ys h = absurd (cc)
-behind [] (suc j) y ys h = absurd (cc)
-behind (x ∷ xs) zero y ys h = (let same : xs ≡ ys = cc in let many = ap length same in record { is = same; count = omega (arith, many) })
-behind (x ∷ xs) (suc j) y ys h = (let there = behind xs j y ys h in (let many = there.count in record { is = there.is; count = omega (arith, many) }))
 
 -- The clauses behind the one at this place.
 pub record Rest (ps : List Procedure) (db : Database) (i j : ℕ) (cs : List databases.Clause) : Type 0 where
   pub within : i < length ps
-  pub next : left_at db i (suc j) ≡ cs
-  pub count : clauses_at_place ps i ≡ suc j + length cs
+  pub next : left_at db i (j + 1) ≡ cs
+  pub count : clauses_at_place ps i ≡ j + 1 + length cs
 
 pub rest_at : (ps : List Procedure) (db : Database) (i j : ℕ) (c : databases.Clause) (cs : List databases.Clause) → IsDatabase ps db → left_at db i j ≡ c ∷ cs → Rest ps db i j cs
-rest_at ps db i j c cs no_procedures h = absurd (cc)
-rest_at ps db zero j c cs (more_procedures {kept = p} {p = q} is more) h =
-    let b = behind q.clauses j c cs h in
-    record { within = omega arith; next = b.is; count = clauses_length is.clauses ∙ b.count }
-rest_at ps db (suc i) j c cs (more_procedures {ks = ks} {ps = qs} is more) h =
-    let there = rest_at ks qs i j c cs more h in
-    record { within = omega (arith, there.within); next = there.next; count = there.count }
+rest_at ps db i j c cs is h = record {
+  within = (kept_at ps db i j c cs is h).within;
+  next = left_next db i j c cs h;
+  count = clauses_counted ps db i j c cs is h;
+}
 
 -- ---- the last item
 
@@ -98,11 +65,6 @@ set_next {W = W} {M = M} choices n c x many some last is =
     ∙ last_set choices (length choices - 1) (next_of c) (omega (arith, some)))
 
 -- ---- what falls
-
-pub left_last : {W M : Type 0} (ps : List Procedure) (before : List (kept.Choice W M)) (c : kept.Choice W M)
-    → clauses_left ps (before ++ c ∷ []) ≡ clauses_left ps before + (clauses_at_place ps c.attempt.procedure - c.attempt.clause)
-left_last ps [] c = omega arith
-left_last ps (d ∷ before) c = (let there = left_last ps before c in omega (arith, there))
 
 -- the newest choice is at its next clause
 pub fewer_next : {W M : Type 0} (ps : List Procedure) (before : List (kept.Choice W M)) (c d : kept.Choice W M)
@@ -153,8 +115,6 @@ module _ {S W M : Type 0} (present : S → Present W) (stands : S → M → Pres
   next_choices e c l k below x [] new w is more made = absurd (let r = rest_of e c l k below x [] w is in let many = r.count in omega (arith, many, more))
   next_choices e c l k below x (y ∷ ys) new w is more made =
       let r = rest_of e c l k below x (y ∷ ys) w is in
-      let place : c.attempt.clause + 1 ≡ suc c.attempt.clause = omega arith in
-      let left : y ∷ ys ≡ left_at l.database c.attempt.procedure (c.attempt.clause + 1) = sym r.next ∙ ap (left_at l.database c.attempt.procedure) (sym place) in
       subst (λ (ds : List (kept.Choice W M)). StandsForChoices (stands e.store) older e.base (left_at l.database) e.query.items l.query e.frames.items ds
       (record { call = k.call; clauses = y ∷ ys; behind = k.behind; subst = k.subst; next = k.next } ∷ below)) (sym made)
       (choices_push (next_of c) (record { call = k.call; clauses = y ∷ ys; behind = k.behind; subst = k.subst; next = k.next }) w.kept_frames
@@ -167,7 +127,7 @@ module _ {S W M : Type 0} (present : S → Present W) (stands : S → M → Pres
         goal = w.holds;
         call = w.call_is;
         behind = w.links;
-        clauses = left;
+        clauses = sym r.next;
         some = omega arith;
         words = w.variables;
       }) w.newer w.stands_below)

@@ -1,5 +1,5 @@
 -- Clauses taken apart: heads and their keys, bodies and their goals.
-use Rattle.std.proofs.Common.{◌≡◌, ℕ, suc, List, [], ◌∷◌, ◌++◌, map, length, refl, sym, ap, ◌∙◌, arith, Bool, true, false, inl, inr, Option, Some, None, Result, Ok, Err, codes, String, Vec, Global, vec_len}
+use Rattle.std.proofs.Common.{◌≡◌, ℕ, List, [], ◌∷◌, map, length, refl, sym, ap, ◌∙◌, true, false, inl, inr, Option, Some, None, Ok, Err, codes, String, Vec, Global, vec_len}
 use Rattle.std.specs.String.{string_bytes}
 use Rattle.std.specs.Str.{bytes_eq}
 use Rattle.std.proofs.lemmas.Bool.{cases_Bool}
@@ -7,14 +7,14 @@ use Rattle.std.proofs.lemmas.Slice.Eq.{bytes_eq-Decides}
 use Rattle.iso_model.specs.declared.terms.Term.{Term}
 use Rattle.iso_model.specs.declared.terms.Term.TheVariants.{Compound}
 use Rattle.iso_model.specs.Trees.{Tree, Variable, Integer, Name, Apply, End, More, row}
-use Rattle.iso_model.specs.Terms.{term_of, row_of}
-use Rattle.iso_model.specs.Bodies.{Body, Run, And, converted, converted_two, both, one, two, is_true}
+use Rattle.iso_model.specs.Terms.{term_of}
+use Rattle.iso_model.specs.Bodies.{Body, Run, And, converted, both, one, two, is_true}
 use Rattle.iso_model.specs.Databases.{key_of}
 use Rattle.iso_model.specs.Errors.{key}
 use Rattle.iso_model.specs.Additions.{head_of, body_of}
 use Rattle.iso_model.proofs.RowLemmas.{term_of_compound, count_row_of}
 use Rattle.iso_plain.specs.declared.bodies.BodyFault.TheVariants.{NotCallable}
-use Rattle.iso_plain.specs.Goals.{leaves, AppendsGoals}
+use Rattle.iso_plain.specs.Goals.{AppendsGoals}
 use Rattle.iso_plain.specs.Linked.{goals_of}
 use Rattle.iso_plain.proofs.BodyLemmas.{length-row_of}
 

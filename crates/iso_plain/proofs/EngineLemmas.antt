@@ -1,7 +1,7 @@
 -- The engine's parts behind a clause that was tried.
-use Rattle.std.proofs.Common.{◌≡◌, ◌≢◌, ℕ, zero, suc, ◌+◌, ◌*◌, ◌<◌, ◌≤◌, List, [], ◌∷◌, ◌++◌, length, Option, Some, None, refl, ap, sym, ◌∙◌, subst, arith, inl, inr, ◌⊎◌, Vec, Global}
+use Rattle.std.proofs.Common.{◌≡◌, ℕ, ◌+◌, List, ◌++◌, Option, Some, None, refl, ap, ◌∙◌, arith, inl, inr, Vec, Global}
 use Rattle.std.specs.Prelude.{option_map}
-use Rattle.iso_model.specs.Trees.{Tree, Variable}
+use Rattle.iso_model.specs.Trees.{Tree}
 use Rattle.iso_model.specs.Terms.{term_of}
 use Rattle.iso_model.specs.Substitutions.{Subst, apply, compose}
 use Rattle.iso_model.specs.Unifiers.{Unifier, NeverEqual}
@@ -14,18 +14,15 @@ use Rattle.iso_plain.specs.declared.parts.Attempt.{Attempt}
 use Rattle.iso_plain.specs.declared.parts.Now.{Now}
 use Rattle.iso_plain.specs.declared.parts.Now.TheVariants as now
 use Rattle.iso_plain.specs.declared.plain.Plain.{Plain}
-use Rattle.iso_plain.specs.Linked.{Linked, Running, Failing, clause_goals, with_choice, linked_missed, linked_entered}
-use Rattle.iso_plain.specs.Standing.{Chain, ends, leads, StandsForChoices, Goes, DoesNext}
+use Rattle.iso_plain.specs.Linked.{Linked, clause_goals, with_choice, linked_missed, linked_entered}
+use Rattle.iso_plain.specs.Standing.{Chain, StandsForChoices}
 use Rattle.iso_plain.specs.Kept.{IsClause}
 use Rattle.iso_plain.specs.Entering.{Enters, AddsFrames, renamed_terms}
 use Rattle.iso_plain.specs.Next.{now_behind, now_entered}
 use Rattle.iso_plain.specs.EngineStates.{IsBase, IsEngine, Tries, Tried, left_at}
-use Rattle.iso_plain.proofs.StandingLemmas.{choices_more, choices_keep, variables_more}
+use Rattle.iso_plain.proofs.StandingLemmas.{choices_more, choices_keep, variables_more, next_behind}
 use Rattle.iso_plain.proofs.KeptLemmas.{kept_goals}
 use Rattle.iso_plain.proofs.CallableLemmas.{goals_entered}
-
-no_chain : {W : Type 0} {p : Present W} {frames : List (Frame W)} (gs : List Tree) → Chain p frames None gs → gs ≡ []
-no_chain gs ends = refl
 
 module _ {S W M : Type 0} (present : S → Present W) (stands : S → M → Present W → Type 0) (older : M → M → Type 0) where
   -- the engine with another store, other frames and something else to do next
@@ -54,12 +51,6 @@ module _ {S W M : Type 0} (present : S → Present W) (stands : S → M → Pres
     next = refl;
   }
 
-  -- what comes next behind a head that was unified
-  next_entered : (q : Present W) (new : List (Frame W)) (query : List W) (raised : Option Tree) (l : Linked) (place : Option ℕ) (gs : List Tree) → l.doing ≡ Running gs → Chain q new place gs
-      → Goes q query l → DoesNext q new query (now_behind place) raised l
-  next_entered q new query raised l None gs doing chain goes = (doing ∙ ap Running (no_chain gs chain), goes)
-  next_entered q new query raised l (Some i) gs doing chain goes = (gs, doing, chain, goes)
-
   pub entered_engine : (e : Plain S W M) (attempt : Attempt W) (l : Linked) (call : Tree) (c : databases.Clause) (cs : List databases.Clause) (behind : List Tree) (store : S) (frames : Vec (Frame W) Global)
       (place : Option ℕ) (k : Clause) (u : Subst)
       → Tries present stands older e attempt l call c cs behind → KeepsMarks (stands e.store) (stands store) → AddsFrames e.frames.items frames.items → IsClause k c
@@ -77,7 +68,7 @@ module _ {S W M : Type 0} (present : S → Present W) (stands : S → M → Pres
         base = base_kept (stands e.store) (stands store) e.base keeps t.base;
         choices = choices_on e attempt l call c cs behind store frames t keeps adds;
         room = t.room;
-        next = next_entered (present store) frames.items e.query.items (option_map (λ b. term_of b.term) e.raised) (linked_entered call c cs behind l (compose l.subst u)) place (clause_goals l.next c ++ behind) refl here
+        next = next_behind (present store) frames.items e.query.items (option_map (λ b. term_of b.term) e.raised) (linked_entered call c cs behind l (compose l.subst u)) place (clause_goals l.next c ++ behind) refl here
             (record { subst = subst_is; next = next_is; room = (let few = is.few in let space = t.space in let steps = t.steps in omega (arith, few, space, steps)); words = variables_more words t.variables });
       }
 

@@ -1,24 +1,23 @@
 -- A call of `resume` is moves up to an event.
-use Rattle.std.proofs.Common.{◌≡◌, ◌≢◌, ◌<◌, ◌≤◌, ℕ, refl, ap, sym, ◌∙◌, subst, arith, Result, Ok, Err}
-use Rattle.iso_model.specs.Walker.{State, World, NoMore, idle}
+use Rattle.std.proofs.Common.{◌≡◌, ◌≢◌, ◌≤◌, ℕ, refl, arith, Result, Ok, Err}
+use Rattle.iso_model.specs.Walker.{State, World, idle}
 use Rattle.iso_model.specs.Databases.{Database}
 use Rattle.iso_model.specs.Additions.{Addition, Adds, Refuses}
 use Rattle.iso_model.specs.declared.pauses.AddFault.{AddFault}
 use Rattle.iso_model.specs.declared.pauses.AddFault.TheVariants as add
 use Rattle.iso_plain.specs.Starts.{Comes}
-use Rattle.iso_model.specs.Runs.{Quiet, Finishes}
-use Rattle.iso_model.specs.RunLaws.{comes_behind, finishes_behind, quiet_trans}
+use Rattle.iso_model.specs.Runs.{Quiet}
+use Rattle.iso_model.specs.RunLaws.{comes_behind, finishes_behind}
 use Rattle.iso_model.specs.Engines as engines
 use Rattle.iso_model.specs.declared.pauses.Pause.{Pause}
 use Rattle.iso_model.specs.declared.pauses.Pause.TheVariants as pause
 use Rattle.iso_store.specs.Presents.{Present}
-use Rattle.iso_plain.specs.Linked.{Linked, IsState, idle_linked}
-use Rattle.iso_plain.specs.EngineStates.{IsEngine, Represents, StandsBy, StandsFor, Moves, Falls, phase_of}
+use Rattle.iso_plain.specs.Linked.{idle_linked}
+use Rattle.iso_plain.specs.EngineStates.{IsEngine, Represents, StandsBy, StandsFor, phase_of}
 use Rattle.iso_plain.specs.declared.parts.Now.{Now}
 use Rattle.iso_plain.specs.declared.parts.Now.TheVariants as now
-use Rattle.iso_plain.specs.declared.plain.Move.TheVariants as move
 use Rattle.iso_plain.specs.declared.plain.Plain.{Plain}
-use Rattle.iso_plain.proofs.LinkedMoves.{fails_last, is_idle}
+use Rattle.iso_plain.proofs.LinkedMoves.{is_idle}
 
 -- a number that falls does so behind others that fall
 pub falls_behind : (p : Pause) (a b c : ℕ) → b ≤ a → engines.FallsAtEvent p b c → engines.FallsAtEvent p a c
@@ -81,26 +80,6 @@ module _ {S W M : Type 0} (present : S → Present W) (stands : S → M → Pres
   pauses_behind e s t pause.FramesFull q h = (spent_stands e.now e s h.1, h.1)
   pauses_behind e s t pause.NoMemory q h = (spent_stands e.now e s h.1, h.1)
   pauses_behind e s t pause.Spent q h = absurd h
-
-  -- an idle engine has no more answers
-  idle_finishes : (e : Plain S W M) (s : State) → e.now ≡ now.Idle → Represents present stands older e s → Finishes s NoMore (Represents present stands older e)
-  idle_finishes e s rests r =
-      let l = r.search in
-      let is : l ≡ idle_linked l.database = rw rests at r.engine.next in
-      let state : IsState (idle_linked l.database) s = subst (λ (k : Linked). IsState k s) is r.state in
-      let f = fails_last (idle_linked l.database) s state.around state.list refl in
-      record {
-        at = f.at;
-        world = f.world;
-        quiet = f.quiet;
-        last = f.last;
-        stands = record { search = l; engine = r.engine; state = subst (λ (k : Linked). IsState k (idle f.world)) (sym is) f.stands };
-      }
-
-  pub idle_moves : (e : Plain S W M) (s : State) → e.now ≢ now.Spent → e.now ≡ now.Idle → StandsFor present stands older e s → Finishes s NoMore (StandsFor present stands older e)
-  idle_moves e s awake rests r =
-      let f = idle_finishes e s rests (awake_stands e.now e s awake r) in
-      record { at = f.at; world = f.world; quiet = f.quiet; last = f.last; stands = represents_stands e.now e (idle f.world) f.stands }
 
   pub idle_stands : (e : Plain S W M) (db : Database) (w : World) → w.database ≡ db → IsEngine present stands older e (idle_linked db) → StandsFor present stands older e (idle w)
   idle_stands e db w same is = represents_stands e.now e (idle w) (record { search = idle_linked db; engine = is; state = is_idle w db same })

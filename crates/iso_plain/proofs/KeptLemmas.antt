@@ -1,12 +1,11 @@
 -- Clauses as the engine keeps them: where they are, and that they can be entered.
-use Rattle.std.proofs.Common.{◌≡◌, ℕ, zero, suc, ◌+◌, ◌<◌, ◌≤◌, List, [], ◌∷◌, ◌++◌, length, take, drop, get_or, map, Bool, true, false, ◌&&◌, nat_lt, cond, refl, ap, ap₂, sym, ◌∙◌, subst, arith}
+use Rattle.std.proofs.Common.{◌≡◌, ℕ, zero, suc, ◌+◌, ◌<◌, List, [], ◌∷◌, ◌++◌, length, drop, get_or, map, Bool, true, false, ◌&&◌, cond, refl, ap, ap₂, sym, ◌∙◌, subst, arith}
 use Rattle.std.proofs.lemmas.Bool.{lt-ltb, eq-eqb, or_left, or_right}
 use Rattle.std.proofs.lemmas.List.{map-append}
 use Rattle.iso_model.proofs.SortLemmas.{term_fits}
 use Rattle.iso_model.specs.declared.terms.Term.{Term}
 use Rattle.iso_model.specs.Trees.{Tree, Variable, Integer, Name, Apply, End, More, row, arities_fit}
 use Rattle.iso_model.specs.Terms.{term_of, row_of}
-use Rattle.iso_model.specs.Sorts.{is_term}
 use Rattle.iso_model.specs.Variables.{occurs}
 use Rattle.iso_model.specs.Copies.{renamed}
 use Rattle.iso_model.specs.Bodies.{Body, Run, And, map_body, is_true}
@@ -16,8 +15,8 @@ use Rattle.iso_plain.specs.declared.clauses.Clause.{Clause}
 use Rattle.iso_plain.specs.declared.procedures.Procedure.{Procedure}
 use Rattle.iso_plain.specs.Goals.{leaves, terms_of}
 use Rattle.iso_plain.specs.Linked.{goals_of, clause_goals}
-use Rattle.iso_plain.specs.Kept.{IsClause, IsTemplate, AreTemplates}
-use Rattle.iso_plain.specs.Programs.{AreClauses, no_clauses, more_clauses, IsProcedure, IsDatabase, no_procedures, more_procedures}
+use Rattle.iso_plain.specs.Kept.{IsClause, AreTemplates}
+use Rattle.iso_plain.specs.Programs.{AreClauses, no_clauses, more_clauses, IsDatabase, no_procedures, more_procedures}
 use Rattle.iso_plain.specs.Entering.{is_below, renamed_terms}
 use Rattle.iso_plain.specs.EngineStates.{left_at}
 

@@ -9,6 +9,7 @@ pub mod RenamingLemmas
 pub mod PrepareLemmas
 pub mod ProgramLemmas
 pub mod KeptLemmas
+pub mod CountLemmas
 pub mod EngineLemmas
 pub mod BackLemmas
 pub mod StartLemmas
@@ -21,3 +22,4 @@ pub mod ChoiceLemmas
 pub mod FailLemmas
 pub mod EngineMoves
 pub mod RunMoves
+pub mod LimitLemmas

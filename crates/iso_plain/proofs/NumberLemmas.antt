@@ -1,8 +1,7 @@
 -- Numbering the variables of terms, one term behind another.
-use Rattle.std.proofs.Common.{◌≡◌, ◌<◌, ◌≤◌, ◌+◌, ◌==◌, ℕ, zero, suc, List, [], ◌∷◌, ◌++◌, map, length, take, refl, sym, ap, ap₂, ◌∙◌, arith, Bool, true, false, ◌||◌, Option, Some, None, inl, inr, position, cond, nat_lt, append_assoc}
+use Rattle.std.proofs.Common.{◌≡◌, ◌<◌, ◌+◌, ◌==◌, ℕ, List, [], ◌∷◌, ◌++◌, map, length, refl, sym, ap, ap₂, ◌∙◌, arith, true, false, Some, None, inl, inr, position, nat_lt, append_assoc}
 use Rattle.std.proofs.lemmas.List.{append-nil}
-use Rattle.std.specs.List.{position_or_len}
-use Rattle.std.proofs.lemmas.Bool.{cases_eq, cases_Bool, eq-eqb, ne_eqb, false≢true, true≢false, ltb-true, ltb-false, or_left, or_right}
+use Rattle.std.proofs.lemmas.Bool.{cases_Bool, eq-eqb, false≢true, true≢false, ltb-true, ltb-false, or_left, or_right}
 use Rattle.iso_model.specs.Trees.{Tree, Variable, Integer, Name, Apply, End, More, row}
 use Rattle.iso_model.specs.Variables.{occurs, is_in, distinct_from}
 use Rattle.iso_model.specs.Substitutions.{Subst, apply}

@@ -1,28 +1,27 @@
 -- A clause that was checked, converted and numbered is the clause that is added.
-use Rattle.std.proofs.Common.{◌≡◌, ◌<◌, ◌≤◌, ℕ, suc, ◌+◌, List, [], ◌∷◌, ◌++◌, map, length, refl, sym, ap, ap₂, ◌∙◌, subst, arith, Bool, true, false, ◌&&◌, ◌||◌, inl, inr, Option, Some, None, option_map, codes, nat_le, nat_lt, zero-add, ◌==◌, if◌then◌else◌, rules, Result, Ok, Err, IsErrAnd}
+use Rattle.std.proofs.Common.{◌≡◌, ◌<◌, ◌≤◌, ℕ, ◌+◌, List, [], ◌∷◌, ◌++◌, map, length, refl, sym, ap, ap₂, ◌∙◌, arith, true, false, ◌&&◌, ◌||◌, inl, inr, Option, Some, None, option_map, codes, nat_lt, zero-add, ◌==◌, rules, Result, Ok, Err, IsErrAnd}
 use Rattle.std.specs.Str.{bytes_eq}
-use Rattle.std.proofs.lemmas.Bool.{cases_Bool, eqb-true, and_parts, or_cases, or_left, or_right, false≢true, ltb-false, ltb-true}
+use Rattle.std.proofs.lemmas.Bool.{cases_Bool, eqb-true, and_parts, or_cases, or_left, or_right, false≢true}
 use Rattle.iso_model.specs.Trees.{Tree, Variable, Integer, Name, Apply, End, More, row, count}
-use Rattle.iso_model.specs.Sorts.{is_term, is_row}
+use Rattle.iso_model.specs.Sorts.{is_term}
 use Rattle.iso_model.specs.Terms.{term_of, row_of}
-use Rattle.iso_model.specs.Variables.{occurs, is_in, distinct_from, variables, variable_count}
+use Rattle.iso_model.specs.Variables.{occurs, distinct_from, variables, variable_count}
 use Rattle.iso_model.specs.Substitutions.{Subst, apply}
 use Rattle.iso_model.specs.Unification.Applied.{apply_same, occurs_from}
 use Rattle.iso_model.specs.Unification.Listed.{Covers, distinct_covers}
 use Rattle.iso_model.specs.Copies.{place_of, copy_from}
 use Rattle.iso_model.specs.Bodies.{Body, Run, And, converted, both, two, map_body, is_true}
-use Rattle.iso_model.specs.Databases as databases
-use Rattle.iso_model.specs.Databases.{Key, Database, key_of, is_built_in, with_clause}
+use Rattle.iso_model.specs.Databases.{Key, Database, key_of, is_built_in}
 use Rattle.iso_model.specs.Errors.{type_error_callable, permission_error, max_variables_error}
-use Rattle.iso_model.specs.Additions.{head_of, body_of, most_variables, consult_key, Addition, Adds, Refuses, addition, added_callable, added_converted, added_small, added_user, clause_of}
+use Rattle.iso_model.specs.Additions.{head_of, body_of, most_variables, consult_key, Refuses, addition, added_callable, added_converted, added_user}
 use Rattle.iso_plain.specs.declared.clauses.Clause.{Clause}
 use Rattle.iso_plain.specs.Goals.{leaves, terms_of}
 use Rattle.iso_plain.specs.Linked.{goals_of}
-use Rattle.iso_plain.specs.Kept.{numbers, IsTemplate, AreTemplates, IsRenamed, IsClause, IsAddition, GoalsOf, ChecksUser, Prepares}
+use Rattle.iso_plain.specs.Kept.{numbers, IsTemplate, AreTemplates, IsRenamed, IsAddition, GoalsOf, ChecksUser, Prepares}
 use Rattle.iso_model.specs.declared.pauses.AddFault.{AddFault}
 use Rattle.iso_model.specs.declared.pauses.AddFault.TheVariants as add
 use Rattle.iso_plain.proofs.NumberLemmas.{place_known, numbers_more, apply-row}
-use Rattle.iso_plain.proofs.RenamingLemmas.{renaming, is_term-renamed, key-renamed, converted-renamed, head-renamed, body-renamed, goals-renamed}
+use Rattle.iso_plain.proofs.RenamingLemmas.{is_term-renamed, key-renamed, converted-renamed, head-renamed, body-renamed, goals-renamed}
 
 -- the head was numbered first, and then the goals
 pub renamed_clause : (head : Tree) (goals : List Tree) (none first whole : List ℕ) (kept : Clause) → none ≡ [] → first ≡ distinct_from none head → whole ≡ distinct_from first (row goals)

@@ -1,5 +1,5 @@
 -- The database as the engine keeps it: how a procedure is found, and how a clause comes to it.
-use Rattle.std.proofs.Common.{◌≡◌, ◌<◌, ◌≤◌, ◌+◌, ◌==◌, ◌⊎◌, ℕ, zero, suc, List, [], ◌∷◌, ◌++◌, length, get_or, set, slice_set, refl, sym, ap, ap₂, ◌∙◌, arith, Bool, true, false, ◌&&◌, Option, Some, None, option_map, inl, inr, position, cond, nat_lt, length-append}
+use Rattle.std.proofs.Common.{◌≡◌, ◌<◌, ◌≤◌, ◌+◌, ◌==◌, ◌⊎◌, ℕ, zero, suc, List, [], ◌∷◌, ◌++◌, length, get_or, set, refl, sym, ap, ap₂, ◌∙◌, arith, Bool, true, false, ◌&&◌, Some, None, inl, inr, position, nat_lt, length-append}
 use Rattle.std.specs.String.{string_bytes}
 use Rattle.std.specs.Str.{bytes_eq}
 use Rattle.std.specs.List.{position_or_len}

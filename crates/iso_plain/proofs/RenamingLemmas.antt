@@ -1,22 +1,15 @@
 -- What renaming the variables of a term keeps.
-use Rattle.std.proofs.Common.{◌≡◌, ◌<◌, ℕ, suc, ◌+◌, List, [], ◌∷◌, ◌++◌, map, length, refl, sym, ap, ap₂, ◌∙◌, subst, arith, Bool, true, false, ◌&&◌, ◌||◌, inl, inr, Option, Some, None, option_map, codes, nat_le, zero-add}
+use Rattle.std.proofs.Common.{◌≡◌, ℕ, ◌+◌, List, [], ◌∷◌, ◌++◌, map, refl, sym, ap, ap₂, ◌∙◌, ◌&&◌, inl, inr, Option, Some, None, option_map, codes, nat_le}
 use Rattle.std.specs.Str.{bytes_eq}
-use Rattle.std.specs.List.{All}
-use Rattle.std.proofs.lemmas.Bool.{cases_Bool, eqb-true, and_left, and_right, and_from, false≢true}
-use Rattle.iso_model.specs.Trees.{Tree, Variable, Integer, Name, Apply, End, More, row, count}
+use Rattle.std.proofs.lemmas.Bool.{cases_Bool}
+use Rattle.iso_model.specs.Trees.{Tree, Variable, Integer, Name, Apply, End, More, count}
 use Rattle.iso_model.specs.Sorts.{is_term, is_row}
-use Rattle.iso_model.specs.Variables.{occurs, is_in, distinct_from, variables}
 use Rattle.iso_model.specs.Substitutions.{Subst, apply}
-use Rattle.iso_model.specs.Unification.Applied.{apply_same, occurs_from}
-use Rattle.iso_model.specs.Unification.Listed.{Covers, distinct_covers}
-use Rattle.iso_model.specs.Copies.{place_of, copy_from}
 use Rattle.iso_model.specs.Bodies.{Body, Run, And, converted, both, map_body, is_true}
-use Rattle.iso_model.specs.Databases.{Key, key_of}
+use Rattle.iso_model.specs.Databases.{key_of}
 use Rattle.iso_model.specs.Additions.{head_of, body_of}
 use Rattle.iso_plain.specs.Goals.{leaves}
 use Rattle.iso_plain.specs.Linked.{goals_of}
-use Rattle.iso_plain.specs.Kept.{numbers, IsTemplate}
-use Rattle.iso_plain.proofs.NumberLemmas.{place_known}
 
 -- each variable by another
 abbrev pub renaming : (ℕ → ℕ) → Subst

@@ -1,5 +1,5 @@
 -- The engine is at a goal.
-use Rattle.std.proofs.Common.{◌≡◌, ℕ, suc, List, [], ◌∷◌, Option, Some, None, refl, ap, sym, ◌∙◌, subst, arith, true}
+use Rattle.std.proofs.Common.{◌≡◌, ℕ, suc, List, [], ◌∷◌, Some, refl, ap, sym, subst, arith, true}
 use Rattle.std.specs.Prelude.{option_map}
 use Rattle.iso_model.specs.Trees.{Tree}
 use Rattle.iso_model.specs.Terms.{term_of}
@@ -12,8 +12,9 @@ use Rattle.iso_plain.specs.declared.plain.Plain.{Plain}
 use Rattle.iso_plain.specs.Callable.{IsGoal}
 use Rattle.iso_plain.specs.Linked.{Linked, Choice, Running, Failing}
 use Rattle.iso_plain.specs.Next.{now_behind}
-use Rattle.iso_plain.specs.Standing.{At, Chain, ends, leads, Goes, HaveRoom, DoesNext}
+use Rattle.iso_plain.specs.Standing.{At, Chain, leads, Goes, HaveRoom, DoesNext}
 use Rattle.iso_plain.specs.EngineStates.{IsEngine, Calls, left_at}
+use Rattle.iso_plain.proofs.StandingLemmas.{next_behind}
 
 -- The first of the linked goals, and those behind it.
 pub record FirstGoal {W : Type 0} (p : Present W) (frames : List (Frame W)) (place : ℕ) (gs : List Tree) : Type 0 where
@@ -35,9 +36,6 @@ first_goal {p = p} (leads {f = f} {t = t} {gs = gs} at holds is goal others) = r
   is = ap (λ (x : Tree). x ∷ gs) is;
   links = others;
 }
-
-none_linked : {W : Type 0} {p : Present W} {frames : List (Frame W)} (gs : List Tree) → Chain p frames None gs → gs ≡ []
-none_linked gs ends = refl
 
 -- fewer steps need less room
 pub room_less : (steps : ℕ) (ks : List Choice) → HaveRoom (suc steps) ks → HaveRoom steps ks
@@ -68,12 +66,6 @@ module _ {S W M : Type 0} (present : S → Present W) (stands : S → M → Pres
     room = rw fewer (room_less n l.stack (rw many at is.room));
     next = refl;
   }
-
-  -- what comes next behind a goal
-  next_behind : (q : Present W) (frames : List (Frame W)) (query : List W) (raised : Option Tree) (l : Linked) (place : Option ℕ) (gs : List Tree) → l.doing ≡ Running gs → Chain q frames place gs
-      → Goes q query l → DoesNext q frames query (now_behind place) raised l
-  next_behind q frames query raised l None gs doing chain goes = (doing ∙ ap Running (none_linked gs chain), goes)
-  next_behind q frames query raised l (Some i) gs doing chain goes = (gs, doing, chain, goes)
 
   -- the goal succeeded, and took a step
   pub succeeded_engine : (e : Plain S W M) (l : Linked) (place : ℕ) (n : ℕ) (steps : ℕ) (a : AtGoal e l place) → e.steps ≡ suc n → steps ≡ n → IsEngine present stands older e l

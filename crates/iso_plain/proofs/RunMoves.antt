@@ -1,9 +1,7 @@
 -- What running a goal comes to.
-use Rattle.std.proofs.Common.{◌≡◌, ◌≢◌, ◌<◌, ◌-◌, ℕ, zero, suc, List, [], ◌∷◌, Option, Some, None, get_or, length, refl, ap, sym, ◌∙◌, subst, arith, inl, inr, true, Result, Ok, Err, IfOk}
-use Rattle.std.specs.List.{slice_get}
+use Rattle.std.proofs.Common.{◌≡◌, ◌≢◌, ◌<◌, ◌-◌, ℕ, zero, suc, List, ◌∷◌, Option, Some, None, get_or, length, refl, ap, sym, ◌∙◌, subst, arith, inl, inr, true, Result, Ok, Err, IfOk}
 use Rattle.std.proofs.lemmas.Option.{slice_get_within}
 use Rattle.iso_model.specs.Trees.{Tree}
-use Rattle.iso_model.specs.Terms.{term_of}
 use Rattle.iso_model.specs.Databases as databases
 use Rattle.iso_model.specs.Databases.{Database, key_of}
 use Rattle.iso_model.specs.Walker.{State, Budget, Uncaught, Succeeds, Fails, User, selected, unknown, clauses_for}
@@ -17,15 +15,14 @@ use Rattle.iso_plain.specs.declared.plain.Plain.{Plain}
 use Rattle.iso_plain.specs.Linked.{Linked, Links, Does, Running, Failing, IsState, idle_linked}
 use Rattle.iso_plain.specs.Next.{now_behind}
 use Rattle.iso_plain.specs.Programs.{IsDatabase}
-use Rattle.iso_plain.specs.EngineStates.{IsEngine, Represents, StandsFor, Calls, Tried, WasCalled, Moves, phase_of, left_at}
+use Rattle.iso_plain.specs.EngineStates.{IsEngine, Represents, StandsFor, Calls, WasCalled, Moves, phase_of, left_at}
 use Rattle.iso_plain.specs.Callable.{IsGoal}
-use Rattle.iso_plain.specs.declared.parts.Attempt.{Attempt}
 use Rattle.iso_plain.specs.declared.plain.Move.{Move}
 use Rattle.iso_plain.proofs.EngineMoves.{spent_stands}
 use Rattle.iso_plain.proofs.BackLemmas.{get_at}
 use Rattle.iso_plain.proofs.EndLemmas.{finishes_engine}
 use Rattle.iso_plain.proofs.LinkedMoves.{spends_all, succeeds, fails_at_once, raises_unknown, calls_missed, calls_entered}
-use Rattle.iso_plain.proofs.RunLemmas.{FirstGoal, AtGoal, at_goal, failed_engine, succeeded_engine, calls_engine}
+use Rattle.iso_plain.proofs.RunLemmas.{AtGoal, at_goal, failed_engine, succeeded_engine, calls_engine}
 
 same_some : {X : Type 0} {x y : X} → Some x ≡ Some y → x ≡ y
 same_some h = cc

@@ -1,15 +1,16 @@
 -- Linked goals and choices, as the store and the frames change.
-use Rattle.std.proofs.Common.{◌≡◌, ℕ, zero, suc, ◌+◌, ◌-◌, ◌<◌, ◌≤◌, List, [], ◌∷◌, ◌++◌, length, take, Option, Some, true, refl, ap, sym, ◌∙◌, subst, arith, inl, inr, length-append}
+use Rattle.std.proofs.Common.{◌≡◌, ℕ, zero, suc, ◌+◌, ◌-◌, ◌<◌, ◌≤◌, List, [], ◌∷◌, ◌++◌, length, take, Option, Some, None, true, refl, ap, sym, ◌∙◌, subst, arith, inl, inr, length-append}
 use Rattle.std.specs.List.{slice_get}
 use Rattle.std.proofs.lemmas.List.{take-append-le}
 use Rattle.iso_model.specs.Trees.{Tree}
 use Rattle.iso_model.specs.Databases.{Clause}
 use Rattle.iso_store.specs.Presents.{Present, KeepsWords}
 use Rattle.iso_plain.specs.Callable.{IsGoal}
-use Rattle.iso_plain.specs.Linked.{Choice}
+use Rattle.iso_plain.specs.Linked.{Linked, Choice, Running}
+use Rattle.iso_plain.specs.Next.{now_behind}
 use Rattle.iso_plain.specs.declared.parts.Frame.{Frame}
 use Rattle.iso_plain.specs.declared.parts.Choice as kept
-use Rattle.iso_plain.specs.Standing.{At, Among, Chain, ends, leads, StandsForChoice, StandsForChoices, none_kept, one_kept, Newest, AreVariables, no_word, one_word}
+use Rattle.iso_plain.specs.Standing.{At, Among, Chain, ends, leads, StandsForChoice, StandsForChoices, none_kept, one_kept, Newest, AreVariables, no_word, one_word, Goes, DoesNext}
 
 -- ---- places
 
@@ -49,7 +50,7 @@ front_is : {X : Type 0} (xs : List X) (x : X) → take (length xs) (xs ++ x ∷ 
 front_is [] x = refl
 front_is (y ∷ xs) x = ap (λ (zs : List _). y ∷ zs) (front_is xs x)
 
-length_last : {X : Type 0} (xs : List X) (x : X) → length (xs ++ x ∷ []) ≡ length xs + 1
+pub length_last : {X : Type 0} (xs : List X) (x : X) → length (xs ++ x ∷ []) ≡ length xs + 1
 length_last [] x = refl
 length_last (y ∷ xs) x = omega (arith, length_last xs x)
 
@@ -177,3 +178,15 @@ module _ {W M : Type 0} {older : M → M → Type 0} {base : M} {left_at : ℕ �
 pub variables_more : {W : Type 0} {p q : Present W} {ws : List W} {ns : List ℕ} → KeepsWords p q → AreVariables p ws ns → AreVariables q ws ns
 variables_more keeps no_word = no_word
 variables_more keeps (one_word {w = w} holds is others) = one_word (keeps.stand w holds) (keeps.terms w holds ∙ is) (variables_more keeps others)
+
+-- ---- what comes next
+
+-- no goals are linked behind the last
+pub none_linked : {W : Type 0} {p : Present W} {frames : List (Frame W)} (gs : List Tree) → Chain p frames None gs → gs ≡ []
+none_linked gs ends = refl
+
+-- the goals that are linked from the place on come next; where there are none, an answer
+pub next_behind : {W : Type 0} (q : Present W) (frames : List (Frame W)) (query : List W) (raised : Option Tree) (l : Linked) (place : Option ℕ) (gs : List Tree) → l.doing ≡ Running gs → Chain q frames place gs
+    → Goes q query l → DoesNext q frames query (now_behind place) raised l
+next_behind q frames query raised l None gs doing chain goes = (doing ∙ ap Running (none_linked gs chain), goes)
+next_behind q frames query raised l (Some i) gs doing chain goes = (gs, doing, chain, goes)

@@ -1,13 +1,12 @@
 -- What a started goal's variables and goals are.
-use Rattle.std.proofs.Common.{◌≡◌, ℕ, zero, suc, ◌+◌, ◌<◌, ◌≤◌, List, [], ◌∷◌, ◌++◌, length, map, Bool, true, false, ◌&&◌, Option, Some, None, codes, cond, refl, ap, ap₂, sym, ◌∙◌, subst, arith, zero-add, inl, inr, append-nil}
+use Rattle.std.proofs.Common.{◌≡◌, ℕ, ◌+◌, List, [], ◌∷◌, ◌++◌, Bool, true, ◌&&◌, Option, Some, None, codes, refl, ap, ap₂, sym, ◌∙◌, subst, arith, zero-add, inl, inr, append-nil}
 use Rattle.std.specs.Str.{bytes_eq}
 use Rattle.std.proofs.lemmas.Bool.{cases_Bool}
 use Rattle.iso_model.specs.declared.terms.Term.{Term}
 use Rattle.iso_model.specs.Trees.{Tree, Variable, Integer, Name, Apply, End, More, row, arities_fit}
-use Rattle.iso_model.specs.Terms.{term_of, row_of}
-use Rattle.iso_model.specs.Variables.{occurs, is_in, variables, variable_count}
+use Rattle.iso_model.specs.Terms.{term_of}
+use Rattle.iso_model.specs.Variables.{is_in, variables, variable_count}
 use Rattle.iso_model.specs.Copies.{renamed, numbers_from, IsNumbered}
-use Rattle.iso_model.specs.Substitutions.{apply}
 use Rattle.iso_model.specs.Unification.Applied.{apply_alone}
 use Rattle.iso_model.specs.Bodies.{Body, Run, And, converted, both, two}
 use Rattle.iso_model.proofs.VariableLemmas.{listed_occurring}
@@ -21,17 +20,12 @@ use Rattle.iso_plain.specs.declared.parts.Now.TheVariants as now
 use Rattle.iso_plain.specs.Callable.{AreGoals}
 use Rattle.iso_plain.specs.Next.{now_behind}
 use Rattle.iso_plain.specs.Linked.{Choice, Linked, Running}
-use Rattle.iso_plain.specs.Standing.{StandsForChoices, none_kept, one_kept, Chain, ends, leads, Goes, DoesNext}
+use Rattle.iso_plain.specs.Standing.{StandsForChoices, none_kept, one_kept, Chain, ends, Goes, DoesNext}
 use Rattle.std.specs.Prelude.{Result, Ok, Err, IsErrAnd}
 use Rattle.iso_model.specs.Databases.{Database}
 use Rattle.iso_model.specs.Additions.{Addition, Adds, Refuses, addition}
 use Rattle.iso_model.specs.declared.pauses.AddFault.{AddFault}
 use Rattle.iso_model.specs.declared.pauses.AddFault.TheVariants as add
-use Rattle.std.specs.declared.vec.Vec.{Vec}
-use Rattle.std.specs.declared.alloc.Global.{Global}
-use Rattle.iso_plain.specs.declared.bodies.BodyFault.{BodyFault}
-use Rattle.iso_plain.specs.declared.procedures.Procedure.{Procedure}
-use Rattle.iso_plain.specs.declared.clauses.Clause as clauses
 use Rattle.iso_plain.specs.declared.plain.Plain.{Plain}
 use Rattle.iso_plain.specs.Linked.{idle_linked}
 use Rattle.iso_plain.specs.Programs.{IsDatabase}
@@ -42,6 +36,7 @@ use Rattle.iso_plain.specs.Goals.{leaves, terms_of, AppendsGoals}
 use Rattle.iso_plain.specs.Entering.{is_below, renamed_terms, Links}
 use Rattle.iso_plain.proofs.EnteringLemmas.{both_true}
 use Rattle.iso_plain.proofs.KeptLemmas.{below_from}
+use Rattle.iso_plain.proofs.StandingLemmas.{next_behind}
 
 -- where no choice is stood for, there is none
 pub no_choice_left : {W M : Type 0} {stands : M → Present W → Type 0} {older : M → M → Type 0} {base : M} {left_at : ℕ → ℕ → List Clause} {query : List W} {named : List ℕ}
@@ -127,18 +122,11 @@ leaves_fit (More t ts) b e h = cc
 
 -- ---- the goals are linked, and come next
 
-ends_only : {W : Type 0} {p : Present W} {frames : List (Frame W)} {place : Option ℕ} {gs : List Tree} → place ≡ None → Chain p frames place gs → gs ≡ []
-ends_only e ends = refl
-ends_only e (leads at holds is goal others) = absurd (cc)
-
 pub does_goals : {W : Type 0} {p q : Present W} {frames new : List (Frame W)} {query : List W} (place : Option ℕ) (then : Now) (raised : Option Tree) (gs : List Tree) (l : Linked)
     → then ≡ now_behind place → Links p frames None q new place gs → AreGoals gs → l.doing ≡ Running gs → Goes q query l → DoesNext q new query then raised l
-does_goals {q = q} {new = new} None then raised gs l h links goals doing goes =
-    let alone : gs ≡ [] = sym (append-nil gs) ∙ ends_only refl (links [] ends goals) in
-    rw h (doing ∙ ap Running alone, goes)
-does_goals {q = q} {new = new} (Some i) then raised gs l h links goals doing goes =
-    let chain : Chain q new (Some i) gs = subst (λ (ts : List Tree). Chain q new (Some i) ts) (append-nil gs) (links [] ends goals) in
-    rw h (gs, doing, chain, goes)
+does_goals {q = q} {new = new} {query = query} place then raised gs l h links goals doing goes =
+    let chain : Chain q new place gs = subst (λ (ts : List Tree). Chain q new place ts) (append-nil gs) (links [] ends goals) in
+    rw h (next_behind q new query raised l place gs doing chain goes)
 
 -- ---- an engine that was cleared
 

@@ -1,5 +1,5 @@
 -- Which states of the search the engine stands for, what its moves come to, and by what they fall.
-use Rattle.std.specs.Prelude.{◌≡◌, ◌≢◌, ℕ, zero, suc, ◌+◌, ◌*◌, ◌-◌, ◌<◌, ◌≤◌, List, [], ◌∷◌, length, take, drop, sum, map, Option, Some, None, option_map, true, ◌⊎◌}
+use Rattle.std.specs.Prelude.{◌≡◌, ◌≢◌, ℕ, zero, suc, ◌+◌, ◌*◌, ◌-◌, ◌<◌, ◌≤◌, List, [], ◌∷◌, length, take, drop, Some, option_map, true, ◌⊎◌}
 use Rattle.std.specs.List.{slice_get}
 use Rattle.iso_model.specs.Trees.{Tree, Variable}
 use Rattle.iso_model.specs.Terms.{term_of}
@@ -11,10 +11,9 @@ use Rattle.iso_model.specs.Walker.{State}
 use Rattle.iso_model.specs.Runs.{Quiet}
 use Rattle.iso_model.specs.Engines as engines
 use Rattle.iso_model.specs.Engines.{Phase, Ready, Midway}
-use Rattle.iso_model.specs.declared.pauses.Pause.{Pause}
 use Rattle.iso_model.specs.declared.pauses.Pause.TheVariants as pause
 use Rattle.iso_store.specs.Presents.{Present}
-use Rattle.iso_plain.specs.Linked.{Linked, Choice, IsState, idle_linked, with_choice, linked_missed, linked_entered}
+use Rattle.iso_plain.specs.Linked.{Linked, Choice, IsState, with_choice, linked_missed, linked_entered}
 use Rattle.iso_plain.specs.Standing.{Among, Chain, AreVariables, StandsForChoices, HaveRoom, DoesNext, most_numbers, numbers_a_step}
 use Rattle.iso_plain.specs.Programs.{IsDatabase}
 use Rattle.iso_plain.specs.declared.procedures.Procedure.{Procedure}

@@ -1,12 +1,12 @@
 -- Clauses as the engine keeps them, and the checks by which they come.
-use Rattle.std.specs.Prelude.{◌≡◌, ℕ, ◌<◌, ◌≤◌, List, [], ◌∷◌, Option, Some, None, Result, Ok, Err, Bool, true, false, codes, if◌then◌else◌}
+use Rattle.std.specs.Prelude.{◌≡◌, ℕ, ◌<◌, ◌≤◌, List, [], ◌∷◌, Option, Some, None, Result, Ok, Err, true, false, codes}
 use Rattle.iso_model.specs.Trees.{Tree, Variable, Name, More, row}
 use Rattle.iso_model.specs.Sorts.{is_term}
 use Rattle.iso_model.specs.Terms.{term_of, row_of}
 use Rattle.iso_model.specs.Variables.{occurs, variables, variable_count}
 use Rattle.iso_model.specs.Substitutions.{Subst, apply}
 use Rattle.iso_model.specs.Copies.{place_of}
-use Rattle.iso_model.specs.Bodies.{Body, two, is_true, converted}
+use Rattle.iso_model.specs.Bodies.{Body, two, converted}
 use Rattle.iso_model.specs.Databases as databases
 use Rattle.iso_model.specs.Databases.{Key, Database, key_of, is_built_in, with_clause}
 use Rattle.iso_model.specs.Errors.{type_error_callable, permission_error}

@@ -6,6 +6,7 @@ pub mod Kept
 pub mod Programs
 pub mod Next
 pub mod EngineStates
+pub mod Limits
 pub mod Starts
 pub mod Callable
 pub mod Called

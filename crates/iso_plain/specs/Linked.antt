@@ -4,7 +4,7 @@ use Rattle.std.specs.Prelude.{◌≡◌, ℕ, ◌+◌, List, [], ◌∷◌, ◌+
 use Rattle.iso_model.specs.Trees.{Tree, Variable}
 use Rattle.iso_model.specs.Variables.{variables}
 use Rattle.iso_model.specs.Substitutions.{Subst}
-use Rattle.iso_model.specs.Bodies.{Body, Run, And, map_body, is_true}
+use Rattle.iso_model.specs.Bodies.{Body, map_body, is_true}
 use Rattle.iso_plain.specs.Goals.{leaves}
 use Rattle.iso_model.specs.Databases.{Clause, Database}
 use Rattle.iso_model.specs.Walker.{State, Alternative, Member, Goal, Fail, Raise, Clauses}

@@ -1,6 +1,6 @@
 -- How a run begins, and how a clause comes to the database.
-use Rattle.std.specs.Prelude.{◌≡◌, ℕ, List, [], Result, Ok, Err}
-use Rattle.iso_model.specs.Trees.{Tree, Variable}
+use Rattle.std.specs.Prelude.{◌≡◌, [], Result, Ok, Err}
+use Rattle.iso_model.specs.Trees.{Variable}
 use Rattle.iso_model.specs.Terms.{term_of}
 use Rattle.iso_model.specs.Databases.{Database}
 use Rattle.iso_model.specs.Additions.{Addition, Adds, Refuses}

@@ -26,6 +26,7 @@ fn values<S: Store>(alloc: Global, store: &S, words: &[S::Word]) -> Result<Vec<T
 
 impl<S: Store + Drop> Plain<S> {
     ghost use Rattle.iso_plain.specs.EngineStates.{IsBase, Represents, Moves, Falls, weight};
+    ghost use Rattle.iso_plain.specs.Limits.{IsWithin, MoveMet, ResultMet, MoveFull, ResultFull};
     ghost use Rattle.iso_plain.specs.declared.parts.Now.TheVariants.{Answering, Raising};
 
     /// The values of the query's variables, by first occurrence; the engine fails next.
@@ -35,6 +36,10 @@ impl<S: Store + Drop> Plain<S> {
         ensures moves { (s : State) → Represents S.present S.stands S.older self.old s
             → IfOk result (λ m. Moves S.present S.stands S.older m s self.new) }
         ensures falls { IfOk result (λ m. Falls m (weight self.old) (weight self.new)) }
+        ensures frames { ResultFull ⊥ result }
+        ensures met { ResultMet S.full result self.new }
+        ensures limit { self.new.limit ≡ self.old.limit }
+        ensures within { IsWithin self.old → IsWithin self.new }
         ensures base { IsBase (S.stands self.old.store) self.old.base → IsBase (S.stands self.new.store) self.new.base }
     {
         let values = values(self.alloc, &self.store, self.query.as_slice())?;
@@ -48,6 +53,10 @@ impl<S: Store + Drop> Plain<S> {
         requires stands { (s : State) × Represents S.present S.stands S.older self.old s }
         ensures moves { (s : State) → Represents S.present S.stands S.older self.old s → Moves S.present S.stands S.older result s self.new }
         ensures falls { Falls result (weight self.old) (weight self.new) }
+        ensures frames { MoveFull ⊥ result }
+        ensures met { MoveMet S.full result self.new }
+        ensures limit { self.new.limit ≡ self.old.limit }
+        ensures within { IsWithin self.old → IsWithin self.new }
         ensures base { IsBase (S.stands self.old.store) self.old.base → IsBase (S.stands self.new.store) self.new.base }
     {
         let ball = self.raised.take();

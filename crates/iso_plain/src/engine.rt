@@ -1,6 +1,10 @@
 //! The plain engine is an engine: a call of `resume` is moves up to an event (7.7).
-ghost use Rattle.std.specs.Prelude.{◌≡◌, ◌≢◌, ℕ, IfOk};
-ghost use Rattle.iso_model.specs.Walker.{State};
+ghost use Rattle.std.specs.Prelude.{◌≡◌, ◌≢◌, ℕ, IfOk, true, Err, ◌≤◌};
+ghost use Rattle.iso_model.specs.Trees.{arities_fit};
+ghost use Rattle.iso_model.specs.Terms.{term_of};
+ghost use Rattle.iso_model.specs.Copies.{IsNumbered};
+ghost use Rattle.iso_model.specs.Additions.{addition};
+ghost use Rattle.iso_model.specs.Walker.{State, alternative_count};
 ghost use Rattle.iso_model.specs.declared.pauses.Pause.TheVariants as pause;
 ghost use Rattle.iso_plain.specs.declared.plain.Move.TheVariants as moved;
 
@@ -12,12 +16,17 @@ use iso_store::{Store, StoreFault};
 impl<S: Store + Drop> Plain<S> {
     ghost use Rattle.iso_plain.specs.EngineStates.{StandsFor, Moves, Falls, weight, phase_of};
     ghost use Rattle.iso_model.specs.Engines.{Pauses, FallsAtEvent};
+    ghost use Rattle.iso_plain.specs.Limits.{IsWithin, LimitMet, MoveMet, ResultMet, WhereFull, MoveFull, ResultFull, ComesTo};
     ghost use Rattle.iso_plain.specs.declared.parts.Now.TheVariants as now;
 
     /// Ends at a limit: the engine is spent.
     fn stop(&mut self, fault: StoreFault) -> Pause
         ensures moves { (s : State) → Moves S.present S.stands S.older (moved.Pauses result) s self.new }
         ensures falls { (old new : ℕ) → FallsAtEvent result old new }
+        ensures frames { WhereFull ⊥ result }
+        ensures met { (fault ≡ StoreFault.Full → S.full self.old.store) → LimitMet S.full result self.new }
+        ensures limit { self.new.limit ≡ self.old.limit }
+        ensures within { IsWithin self.old → IsWithin self.new }
     {
         self.now = Now::Spent;
         match fault {
@@ -33,6 +42,10 @@ impl<S: Store + Drop> Plain<S> {
         ensures moves { (s : State) → StandsFor S.present S.stands S.older self.old s
             → IfOk result (λ m. Moves S.present S.stands S.older m s self.new) }
         ensures falls { IfOk result (λ m. Falls m (weight self.old) (weight self.new)) }
+        ensures frames { (s : State) → StandsFor S.present S.stands S.older self.old s → ResultFull (self.old.limit ≤ alternative_count s) result }
+        ensures met { ResultMet S.full result self.new }
+        ensures limit { self.new.limit ≡ self.old.limit }
+        ensures within { IsWithin self.old → IsWithin self.new }
     {
         match self.now {
             Now::Idle => Ok(Move::Pauses(Pause::NoMore)),
@@ -50,6 +63,10 @@ impl<S: Store + Drop> Plain<S> {
         requires stands { (s : State) × StandsFor S.present S.stands S.older self.old s }
         ensures moves { (s : State) → StandsFor S.present S.stands S.older self.old s → Moves S.present S.stands S.older result s self.new }
         ensures falls { Falls result (weight self.old) (weight self.new) }
+        ensures frames { (s : State) → StandsFor S.present S.stands S.older self.old s → MoveFull (self.old.limit ≤ alternative_count s) result }
+        ensures met { MoveMet S.full result self.new }
+        ensures limit { self.new.limit ≡ self.old.limit }
+        ensures within { IsWithin self.old → IsWithin self.new }
     {
         match self.moved() {
             Ok(next) => next,
@@ -64,6 +81,10 @@ impl<S: Store + Drop> Plain<S> {
         ensures pauses { (s : State) → StandsFor S.present S.stands S.older self.old s
             → Pauses s result (StandsFor S.present S.stands S.older self.new) (phase_of self.new.now) }
         ensures left { FallsAtEvent result (weight self.old) (weight self.new) }
+        ensures frames { (s : State) → StandsFor S.present S.stands S.older self.old s → WhereFull (ComesTo s self.old.limit) result }
+        ensures met { LimitMet S.full result self.new }
+        ensures limit { self.new.limit ≡ self.old.limit }
+        ensures within { IsWithin self.old → IsWithin self.new }
     {
         loop {
             match self.advance() {
@@ -76,6 +97,8 @@ impl<S: Store + Drop> Plain<S> {
 
 impl<S: Store + Drop> Engine for Plain<S> {
     ghost use Rattle.iso_plain.specs.EngineStates.{StandsFor, weight, phase_of};
+    ghost use Rattle.iso_plain.specs.Limits.{IsWithin, LimitMet, WhereFull, ComesTo};
+    ghost use Rattle.iso_model.specs.Engines.{Ready, Spent, Starts, Pauses, StaysSpent, FallsAtEvent, Consults};
 
     ghost stands_for = { StandsFor S.present S.stands S.older };
 
@@ -83,7 +106,18 @@ impl<S: Store + Drop> Engine for Plain<S> {
 
     ghost left = { weight };
 
-    fn start(&mut self, goal: &Term, budget: u32) -> Result<(), StartFault> {
+    /// As the trait says. HeapFull comes only where the store is full.
+    fn start(&mut self, goal: &Term, budget: u32) -> Result<(), StartFault>
+        requires ready { phase_of self.old.now ≡ Ready }
+        requires stands { (s : State) × StandsFor S.present S.stands S.older self.old s }
+        requires fits { arities_fit (term_of goal.now) ≡ true }
+        requires numbered { IsNumbered (term_of goal.now) }
+        ensures starts { (s : State) → StandsFor S.present S.stands S.older self.old s
+            → Starts (term_of goal.now) budget s result (StandsFor S.present S.stands S.older self.new) (phase_of self.new.now) }
+        ensures full { result ≡ Err StartFault.HeapFull → S.full self.new.store }
+        ensures limit { self.new.limit ≡ self.old.limit }
+        ensures within { IsWithin self.old → IsWithin self.new }
+    {
         self.clear();
         let Err(fault) = self.begin(goal, budget) else {
             return Ok(());
@@ -95,14 +129,36 @@ impl<S: Store + Drop> Engine for Plain<S> {
         }
     }
 
-    fn resume(&mut self) -> Pause {
+    /// As the trait says. FramesFull comes only where as many choices stand as `new` allowed, HeapFull only where the store is full.
+    fn resume(&mut self) -> Pause
+        requires { (s : State) × StandsFor S.present S.stands S.older self.old s }
+        ensures pauses { (s : State) → StandsFor S.present S.stands S.older self.old s → phase_of self.old.now ≢ Spent
+            → Pauses s result (StandsFor S.present S.stands S.older self.new) (phase_of self.new.now) }
+        ensures spent { (s : State) → StandsFor S.present S.stands S.older self.old s → phase_of self.old.now ≡ Spent
+            → StaysSpent s result (StandsFor S.present S.stands S.older self.new) (phase_of self.new.now) }
+        ensures left { FallsAtEvent result (weight self.old) (weight self.new) }
+        ensures frames { (s : State) → StandsFor S.present S.stands S.older self.old s → WhereFull (ComesTo s self.old.limit) result }
+        ensures met { LimitMet S.full result self.new }
+        ensures limit { self.new.limit ≡ self.old.limit }
+        ensures within { IsWithin self.old → IsWithin self.new }
+    {
         match self.now {
             Now::Spent => Pause::Spent,
             _ => self.run_on(),
         }
     }
 
-    fn consult(&mut self, clause: &Term) -> Result<(), AddFault> {
+    /// As the trait says.
+    fn consult(&mut self, clause: &Term) -> Result<(), AddFault>
+        requires ready { phase_of self.old.now ≡ Ready }
+        requires stands { (s : State) × StandsFor S.present S.stands S.older self.old s }
+        requires fits { arities_fit (term_of clause.now) ≡ true }
+        ensures consults { (s : State) → StandsFor S.present S.stands S.older self.old s
+            → Consults (addition (term_of clause.now) s.world.database) s result (StandsFor S.present S.stands S.older self.new) }
+        ensures ready { phase_of self.new.now ≡ Ready }
+        ensures limit { self.new.limit ≡ self.old.limit }
+        ensures within { IsWithin self.old → IsWithin self.new }
+    {
         self.clear();
         self.add(clause)
     }

@@ -1,6 +1,6 @@
 //! The entry of a clause: its variables get new numbers, its head is unified with the goal, and its goals are
 //! linked before the rest (7.7.10, 7.7.11).
-ghost use Rattle.std.specs.Prelude.{◌≡◌, ℕ, ◌+◌, ◌<◌, ◌≤◌, ◌^◌, IfOk, OnOk, length, true};
+ghost use Rattle.std.specs.Prelude.{◌≡◌, ℕ, ◌+◌, ◌<◌, ◌≤◌, ◌^◌, IfOk, OnOk, length, true, Err};
 ghost use Rattle.iso_model.specs.Trees.{arities_fit};
 ghost use Rattle.iso_model.specs.Terms.{term_of, row_of};
 ghost use Rattle.iso_model.specs.Copies.{renamed, numbers_from};
@@ -23,6 +23,7 @@ pub fn new_variables<S: Store>(
     requires { (S.present store.old).next + count < 2 ^ 63 }
     ensures variables { IfOk result (λ ws. AreVariables (S.present store.new) ws.items (numbers_from (S.present store.old).next count)) }
     ensures extends { IfOk result (λ _. Extends (S.present store.old) (S.present store.new) count) }
+    ensures full { result ≡ Err StoreFault.Full → S.full store.new }
     ensures marks { KeepsMarks (S.stands store.old) (S.stands store.new) }
 {
     let mut variables = Vec::new(alloc);
@@ -47,6 +48,7 @@ pub fn instantiate<S: Store>(
     ensures made { (first : ℕ) → AreVariables (S.present store.old) variables.now (numbers_from first (length variables.now))
         → IfOk result (λ w. Makes (S.present store.old) (S.present store.new) w (renamed first (term_of term.now))) }
     ensures numbers { OnOk result (KeepsNumbers (S.present store.old) (S.present store.new)) }
+    ensures full { result ≡ Err StoreFault.Full → S.full store.new }
     ensures marks { KeepsMarks (S.stands store.old) (S.stands store.new) }
 {
     match term {
@@ -80,6 +82,7 @@ pub fn link<S: Store>(
     ensures links { (first : ℕ) → AreVariables (S.present store.old) variables.now (numbers_from first (length variables.now))
         → IfOk result (λ place. Links (S.present store.old) frames.old.items rest (S.present store.new) frames.new.items place (renamed_terms first goals.now)) }
     ensures extends { OnOk result (Extends (S.present store.old) (S.present store.new) 0) }
+    ensures full { result ≡ Err StoreFault.Full → S.full store.new }
     ensures frames { AddsFrames frames.old.items frames.new.items }
     ensures marks { KeepsMarks (S.stands store.old) (S.stands store.new) }
 {
@@ -113,6 +116,7 @@ pub fn enter<S: Store>(
     requires goals_below { is_below clause.now.variables (row_of clause.now.goals.items) ≡ true }
     ensures enters { IfOk result (λ place. Enters (S.present store.old) frames.old.items rest (S.present store.new) frames.new.items
         ((S.present store.old).term goal) (term_of clause.now.head) clause.now.goals.items clause.now.variables place) }
+    ensures full { result ≡ Err StoreFault.Full → S.full store.new }
     ensures frames { AddsFrames frames.old.items frames.new.items }
     ensures marks { KeepsMarks (S.stands store.old) (S.stands store.new) }
 {

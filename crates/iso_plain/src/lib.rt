@@ -2,16 +2,19 @@
 //! (ISO/IEC 13211-1:1995, 7.7), over any store of terms.
 #![tactic(auto)]
 
+// error terms, and clauses as they are kept
 pub mod balls;
 pub mod bodies;
-pub mod calls;
 pub mod clauses;
+pub mod procedures;
+// the engine's parts, and its moves
+pub mod calls;
 pub mod ends;
-pub mod engine;
 pub mod entries;
 pub mod moves;
 pub mod parts;
 pub mod plain;
-pub mod procedures;
 pub mod runs;
+// what the callers call
+pub mod engine;
 pub mod starts;

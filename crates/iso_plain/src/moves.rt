@@ -1,12 +1,12 @@
 //! The engine's moves: each is some steps of the standard's search (7.7).
-ghost use Rattle.std.specs.Prelude.{◌≡◌, ◌≢◌, ◌<◌, ◌≤◌, ◌+◌, true, false, IfOk, OnOk, Ok, List, ◌∷◌, length};
+ghost use Rattle.std.specs.Prelude.{◌≡◌, ◌≢◌, ◌<◌, ◌≤◌, ◌+◌, true, false, IfOk, OnOk, Ok, List, ◌∷◌, length, Err};
 ghost use Rattle.iso_model.specs.Trees.{Tree};
 ghost use Rattle.iso_model.specs.Databases as databases;
 ghost use Rattle.iso_model.specs.Databases.{Database};
 ghost use Rattle.iso_plain.specs.Kept.{IsClause};
 ghost use Rattle.iso_plain.specs.Programs.{IsDatabase};
 ghost use Rattle.iso_plain.specs.EngineStates.{left_at, clauses_at_place};
-ghost use Rattle.iso_model.specs.Walker.{State};
+ghost use Rattle.iso_model.specs.Walker.{State, alternative_count};
 
 use super::clauses::Clause;
 use super::parts::{Attempt, Choice, Now, at, behind};
@@ -40,6 +40,7 @@ impl<S: Store + Drop> Plain<S> {
     ghost use Rattle.iso_plain.specs.Linked.{Linked};
     ghost use Rattle.iso_plain.specs.Linked as search;
     ghost use Rattle.iso_plain.specs.EngineStates.{IsBase, IsEngine, Represents, Tries, Tried, Calls, WentBack, Moves, Falls, clauses_left, most_clauses, weight};
+    ghost use Rattle.iso_plain.specs.Limits.{IsWithin, ResultMet, ResultFull};
     ghost use Rattle.iso_plain.specs.declared.parts.Now.TheVariants as now;
 
     /// Enters the clause; where its head doesn't unify with the goal the engine fails next (7.7.10).
@@ -51,9 +52,12 @@ impl<S: Store + Drop> Plain<S> {
             → OnOk result (Tried S.present S.stands S.older self.new l call c cs behind) }
         ensures steps { self.new.steps ≡ self.old.steps }
         ensures awake { OnOk result (self.new.now ≢ now.Spent) }
+        ensures full { result ≡ Err StoreFault.Full → S.full self.new.store }
         ensures base { IsBase (S.stands self.old.store) self.old.base → IsBase (S.stands self.new.store) self.new.base }
         ensures procedures { self.new.procedures ≡ self.old.procedures }
         ensures choices { self.new.choices ≡ self.old.choices }
+        ensures limit { self.new.limit ≡ self.old.limit }
+        ensures within { IsWithin self.old → IsWithin self.new }
     {
         let clause = clause_at(
             self.procedures.as_slice(),
@@ -81,6 +85,8 @@ impl<S: Store + Drop> Plain<S> {
         ensures steps { self.new.steps ≡ self.old.steps }
         ensures procedures { self.new.procedures ≡ self.old.procedures }
         ensures choices { self.new.choices ≡ self.old.choices }
+        ensures limit { self.new.limit ≡ self.old.limit }
+        ensures within { IsWithin self.old → IsWithin self.new }
     {
         let choice = self.choices[self.choices.len() - 1];
         self.store.undo(choice.mark);
@@ -98,6 +104,8 @@ impl<S: Store + Drop> Plain<S> {
         ensures steps { self.new.steps ≡ self.old.steps }
         ensures base { IsBase (S.stands self.old.store) self.old.base → IsBase (S.stands self.new.store) self.new.base }
         ensures procedures { self.new.procedures ≡ self.old.procedures }
+        ensures limit { self.new.limit ≡ self.old.limit }
+        ensures count { length self.new.choices.items ≤ length self.old.choices.items + 1 }
         ensures fewer { clauses_left self.old.procedures.items self.new.choices.items + 1
             ≤ clauses_left self.old.procedures.items self.old.choices.items + most_clauses self.old.procedures.items }
     {
@@ -121,6 +129,8 @@ impl<S: Store + Drop> Plain<S> {
             → Tries S.present S.stands S.older self.new choice.attempt (record l { subst = k.subst; next = k.next; stack = below }) k.call c cs k.behind }
         ensures steps { self.new.steps ≡ self.old.steps }
         ensures procedures { self.new.procedures ≡ self.old.procedures }
+        ensures limit { self.new.limit ≡ self.old.limit }
+        ensures within { IsWithin self.old → IsWithin self.new }
         ensures fewer { clauses_left self.old.procedures.items self.new.choices.items + 1 ≤ clauses_left self.old.procedures.items self.old.choices.items }
     {
         let newest = self.choices.len() - 1;
@@ -139,6 +149,10 @@ impl<S: Store + Drop> Plain<S> {
         requires failing { self.old.now ≡ now.Failing }
         ensures moves { (s : State) → Represents S.present S.stands S.older self.old s → IfOk result (λ m. Moves S.present S.stands S.older m s self.new) }
         ensures falls { IfOk result (λ m. Falls m (weight self.old) (weight self.new)) }
+        ensures frames { (s : State) → Represents S.present S.stands S.older self.old s → ResultFull (self.old.limit ≤ alternative_count s) result }
+        ensures met { ResultMet S.full result self.new }
+        ensures limit { self.new.limit ≡ self.old.limit }
+        ensures within { IsWithin self.old → IsWithin self.new }
     {
         if self.choices.is_empty() {
             self.clear();
@@ -158,10 +172,13 @@ impl<S: Store + Drop> Plain<S> {
         ensures tries { (l : Linked) (call : Tree) (c : databases.Clause) (cs : List databases.Clause) (behind : List Tree)
             → Calls S.present S.stands S.older self.old attempt l call c cs behind → result ≡ Ok true
             → Tries S.present S.stands S.older self.new attempt l call c cs behind }
-        ensures full { result ≡ Ok false → self.new ≡ self.old }
+        ensures refused { result ≡ Ok false → self.new ≡ self.old }
+        ensures frames { result ≡ Ok false → self.old.limit ≤ length self.old.choices.items }
         ensures steps { self.new.steps ≡ self.old.steps }
         ensures base { IsBase (S.stands self.old.store) self.old.base → IsBase (S.stands self.new.store) self.new.base }
         ensures procedures { self.new.procedures ≡ self.old.procedures }
+        ensures limit { self.new.limit ≡ self.old.limit }
+        ensures within { IsWithin self.old → IsWithin self.new }
         ensures fewer { clauses_left self.old.procedures.items self.new.choices.items + 1
             ≤ clauses_left self.old.procedures.items self.old.choices.items + most_clauses self.old.procedures.items }
     {
@@ -185,10 +202,14 @@ impl<S: Store + Drop> Plain<S> {
             → Calls S.present S.stands S.older self.old attempt l call c cs behind → result ≡ Ok true
             → Tried S.present S.stands S.older self.new l call c cs behind }
         ensures awake { result ≡ Ok true → self.new.now ≢ now.Spent }
-        ensures full { result ≡ Ok false → self.new ≡ self.old }
+        ensures refused { result ≡ Ok false → self.new ≡ self.old }
+        ensures frames { result ≡ Ok false → self.old.limit ≤ length self.old.choices.items }
+        ensures full { result ≡ Err StoreFault.Full → S.full self.new.store }
         ensures steps { self.new.steps ≡ self.old.steps }
         ensures base { IsBase (S.stands self.old.store) self.old.base → IsBase (S.stands self.new.store) self.new.base }
         ensures procedures { self.new.procedures ≡ self.old.procedures }
+        ensures limit { self.new.limit ≡ self.old.limit }
+        ensures within { IsWithin self.old → IsWithin self.new }
         ensures fewer { clauses_left self.old.procedures.items self.new.choices.items + 1
             ≤ clauses_left self.old.procedures.items self.old.choices.items + most_clauses self.old.procedures.items }
     {

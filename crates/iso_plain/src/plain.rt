@@ -36,6 +36,7 @@ pub struct Plain<S: Store> {
 }
 
 impl<S: Store + Drop> Plain<S> {
+    ghost use Rattle.iso_plain.specs.Limits.{IsWithin};
     ghost use Rattle.iso_model.specs.Trees.{Variable};
     ghost use Rattle.iso_model.specs.Databases.{Database};
     ghost use Rattle.iso_plain.specs.Linked.{idle_linked};
@@ -52,6 +53,8 @@ impl<S: Store + Drop> Plain<S> {
         ensures substitution { (S.present self.new.store).substitution ≡ Variable }
         ensures next { (S.present self.new.store).next ≡ 0 }
         ensures procedures { self.new.procedures ≡ self.old.procedures }
+        ensures limit { self.new.limit ≡ self.old.limit }
+        ensures within { IsWithin self.old → IsWithin self.new }
         ensures base { IsBase (S.stands self.new.store) self.new.base }
     {
         self.choices.clear();

@@ -1,8 +1,8 @@
 //! The engine's move at a goal: it takes a step of the budget (7.7.4 to 7.7.7).
-ghost use Rattle.std.specs.Prelude.{◌≡◌, ◌+◌, ◌*◌, IfOk, List};
+ghost use Rattle.std.specs.Prelude.{◌≡◌, ◌+◌, ◌*◌, ◌≤◌, IfOk, List, length};
 ghost use Rattle.iso_model.specs.Trees.{Tree};
 ghost use Rattle.iso_model.specs.Databases as databases;
-ghost use Rattle.iso_model.specs.Walker.{State};
+ghost use Rattle.iso_model.specs.Walker.{State, alternative_count};
 
 use super::calls::Called;
 use super::parts::{Attempt, Now, at};
@@ -12,6 +12,7 @@ use iso_store::{Store, StoreFault};
 
 impl<S: Store + Drop> Plain<S> {
     ghost use Rattle.iso_plain.specs.EngineStates.{Represents, Moves, Falls, Calls, WasCalled, weight, most_clauses};
+    ghost use Rattle.iso_plain.specs.Limits.{IsWithin, ResultMet, ResultFull};
     ghost use Rattle.iso_plain.specs.Linked.{Linked};
     ghost use Rattle.iso_plain.specs.declared.parts.Now.TheVariants as now;
 
@@ -22,6 +23,10 @@ impl<S: Store + Drop> Plain<S> {
         ensures moves { (s : State) → Represents S.present S.stands S.older self.old s
             → IfOk result (λ m. Moves S.present S.stands S.older m s self.new) }
         ensures falls { IfOk result (λ m. Falls m (weight self.old) (weight self.new)) }
+        ensures frames { (s : State) → Represents S.present S.stands S.older self.old s → ResultFull (self.old.limit ≤ alternative_count s) result }
+        ensures met { ResultMet S.full result self.new }
+        ensures limit { self.new.limit ≡ self.old.limit }
+        ensures within { IsWithin self.old → IsWithin self.new }
     {
         if self.steps == 0 {
             self.clear();
@@ -60,6 +65,10 @@ impl<S: Store + Drop> Plain<S> {
             → Calls S.present S.stands S.older self.old attempt l call c cs behind
             → IfOk result (λ m. WasCalled S.present S.stands S.older m self.new l call c cs behind) }
         ensures falls { IfOk result (λ m. Falls m (weight self.old + (2 * most_clauses self.old.procedures.items + 1)) (weight self.new)) }
+        ensures frames { ResultFull (self.old.limit ≤ length self.old.choices.items) result }
+        ensures met { ResultMet S.full result self.new }
+        ensures limit { self.new.limit ≡ self.old.limit }
+        ensures within { IsWithin self.old → IsWithin self.new }
     {
         if self.call(attempt)? {
             return Ok(Move::Goes);

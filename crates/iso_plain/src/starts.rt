@@ -1,5 +1,5 @@
 //! How an engine is made, and how a goal is started and a clause added (7.5, 7.7).
-ghost use Rattle.std.specs.Prelude.{◌≡◌, ◌<◌, ◌^◌, IfOk, OnOk, Some, true, []};
+ghost use Rattle.std.specs.Prelude.{◌≡◌, ◌<◌, ◌^◌, IfOk, OnOk, Some, true, [], Err};
 ghost use Rattle.iso_model.specs.Trees.{arities_fit};
 ghost use Rattle.iso_model.specs.Terms.{term_of};
 ghost use Rattle.iso_model.specs.Variables.{variable_count};
@@ -29,6 +29,7 @@ fn count_variables(alloc: Global, term: &Term) -> Result<usize, AllocError>
 }
 
 impl<S: Store + Drop> Plain<S> {
+    ghost use Rattle.iso_plain.specs.Limits.{IsWithin};
     ghost use Rattle.iso_model.specs.Trees.{Variable};
     ghost use Rattle.iso_plain.specs.Linked.{idle_linked};
     ghost use Rattle.iso_plain.specs.EngineStates.{IsEngine, Represents, phase_of};
@@ -43,6 +44,8 @@ impl<S: Store + Drop> Plain<S> {
         requires next { (S.present store).next ≡ 0 }
         ensures engine { IfOk result (λ e. IsEngine S.present S.stands S.older e (idle_linked [])) }
         ensures now { IfOk result (λ e. e.now ≡ Idle) }
+        ensures limit { IfOk result (λ e. e.limit ≡ frames) }
+        ensures within { IfOk result (λ e. IsWithin e) }
     {
         let base = store.mark();
         Ok(Plain {
@@ -66,6 +69,8 @@ impl<S: Store + Drop> Plain<S> {
         ensures started { OnOk result ((w : World) → IsFresh S.present S.stands S.older self.old w.database
             → Represents S.present S.stands S.older self.new (started (term_of query.now) self.old.steps w)) }
         ensures midway { OnOk result (phase_of self.new.now ≡ Midway) }
+        ensures limit { self.new.limit ≡ self.old.limit }
+        ensures within { IsWithin self.old → IsWithin self.new }
     {
         let culprit = copied(self.alloc, query)?;
         let ball = balls::not_callable(self.alloc, culprit, "call", 1)?;
@@ -84,6 +89,9 @@ impl<S: Store + Drop> Plain<S> {
         ensures started { OnOk result ((w : World) → IsFresh S.present S.stands S.older self.old w.database
             → Represents S.present S.stands S.older self.new (started (term_of query.now) self.old.steps w)) }
         ensures midway { OnOk result (phase_of self.new.now ≡ Midway) }
+        ensures full { result ≡ Err StoreFault.Full → S.full self.new.store }
+        ensures limit { self.new.limit ≡ self.old.limit }
+        ensures within { IsWithin self.old → IsWithin self.new }
     {
         let count = count_variables(self.alloc, query)?;
         let variables = entries::new_variables(self.alloc, &mut self.store, count)?;
@@ -110,6 +118,9 @@ impl<S: Store + Drop> Plain<S> {
         ensures started { OnOk result ((w : World) → IsEngine S.present S.stands S.older self.old (idle_linked w.database)
             → Represents S.present S.stands S.older self.new (started (term_of goal.now) budget w)) }
         ensures midway { OnOk result (phase_of self.new.now ≡ Midway) }
+        ensures full { result ≡ Err StoreFault.Full → S.full self.new.store }
+        ensures limit { self.new.limit ≡ self.old.limit }
+        ensures within { IsWithin self.old → IsWithin self.new }
     {
         self.steps = budget;
         let mut goals = Vec::new(self.alloc);
@@ -128,6 +139,8 @@ impl<S: Store + Drop> Plain<S> {
         ensures comes { (db : Database) → IsEngine S.present S.stands S.older self.old (idle_linked db)
             → Comes S.present S.stands S.older (addition (term_of clause.now) db) db result self.new }
         ensures now { self.new.now ≡ self.old.now }
+        ensures limit { self.new.limit ≡ self.old.limit }
+        ensures within { IsWithin self.old → IsWithin self.new }
         ensures store { self.new.store ≡ self.old.store }
         ensures base { self.new.base ≡ self.old.base }
     {

@@ -1,9 +1,7 @@
 use borrow.Author.Tests.{ltb-true, ltb-false}
-use Rattle.std.proofs.Common.{rules, arith, refl, ◌≡◌, ap, ◌∙◌, sym, true, false, codes, length, ℕ, ◌∷◌, []}
+use Rattle.std.proofs.Common.{rules, arith, ◌≡◌, true, false, codes, length, ◌∷◌, []}
 use Rattle.std.specs.Str.{bytes_eq}
 use Rattle.std.specs.String.{string_bytes}
-use Rattle.iso_model.specs.Terms.{term_of}
-use Rattle.iso_model.specs.Bodies.{Run, both, converted}
 use Rattle.iso_plain.proofs.BodyLemmas.{goal_of_compound, conjunction_of_compound, appends_first, appends_both, two_items}
 use Rattle.iso_plain.proofs.bodies.+append_goals.Goals.{in_default-via-then-as_slice-lt2, in_default-via-in-len2+else-eq, in_default-via-else-as_slice-lt2+else-this-lt3}
 use Rattle.iso_plain.proofs.bodies.+append_goals.Goals as goal

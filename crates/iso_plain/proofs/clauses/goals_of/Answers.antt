@@ -1,4 +1,4 @@
-use Rattle.std.proofs.Common.{◌≡◌, refl, ap, true≢false, true, rules, ◌∙◌, sym}
+use Rattle.std.proofs.Common.{rules}
 use Rattle.iso_model.specs.Terms.{term_of}
 use Rattle.iso_plain.specs.Goals.{terms_of}
 use Rattle.iso_plain.proofs.ClauseLemmas.{true_goals, other_goals, not_converted}

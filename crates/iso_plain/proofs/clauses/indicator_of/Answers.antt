@@ -1,4 +1,3 @@
-use Rattle.std.proofs.Common.{◌≡◌}
 use Rattle.iso_plain.proofs.ClauseLemmas.{key_of_compound}
 use Rattle.iso_plain.proofs.clauses.indicator_of.Goals as goal
 

@@ -1,11 +1,6 @@
-use Rattle.std.proofs.Common.{◌≡◌, ◌∙◌, sym, ap, arith, Some}
+use Rattle.std.proofs.Common.{◌∙◌, sym, ap, arith}
 use Rattle.iso_model.specs.Terms.{term_of}
-use Rattle.iso_model.specs.Databases.{key_of}
-use Rattle.iso_model.specs.Additions.{head_of, Refuses}
-use Rattle.iso_model.specs.Errors.{key}
-use Rattle.iso_plain.specs.Goals.{terms_of}
-use Rattle.iso_plain.specs.Linked.{goals_of}
-use Rattle.iso_plain.specs.Kept.{IsRenamed}
+use Rattle.iso_model.specs.Additions.{Refuses}
 use Rattle.iso_plain.proofs.PrepareLemmas.{refused_goals, refused_large, refused_built_in, count_of_clause, prepared}
 use Rattle.iso_model.proofs.MeaningLemmas.{meaning_is_term}
 use Rattle.iso_plain.proofs.clauses.prepare.Goals as goal

@@ -1,4 +1,4 @@
-use Rattle.std.proofs.Common.{◌≡◌, ◌<◌, length, arith}
+use Rattle.std.proofs.Common.{arith}
 use Rattle.iso_plain.proofs.KeptLemmas.{kept_at}
 use Rattle.iso_plain.proofs.moves.clause_at.Goals as goal
 

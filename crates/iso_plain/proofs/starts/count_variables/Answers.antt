@@ -1,4 +1,4 @@
-use Rattle.std.proofs.Common.{◌≡◌, ◌<◌, length, arith}
+use Rattle.std.proofs.Common.{arith}
 use Rattle.iso_plain.proofs.starts.count_variables.Goals as goal
 
 pub returns-clause-few : goal.returns-clause-few

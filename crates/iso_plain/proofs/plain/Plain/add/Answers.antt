@@ -1,4 +1,4 @@
-use Rattle.std.proofs.Common.{◌≡◌, refl}
+use Rattle.std.proofs.Common.{refl}
 use Rattle.iso_model.specs.Terms.{term_of}
 use Rattle.iso_model.specs.Additions.{clause_of}
 use Rattle.iso_plain.proofs.StartLemmas.{idle_again}

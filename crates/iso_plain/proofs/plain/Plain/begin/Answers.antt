@@ -1,6 +1,4 @@
-use Rattle.std.proofs.Common.{◌≡◌, ap, refl}
-use Rattle.iso_model.specs.Terms.{term_of}
-use Rattle.iso_model.specs.Bodies.{converted}
+use Rattle.std.proofs.Common.{ap}
 use Rattle.iso_plain.specs.Goals.{terms_of}
 use Rattle.iso_plain.proofs.ClauseLemmas.{not_converted}
 use Rattle.iso_plain.proofs.StartLemmas.{goals_come}

@@ -1,19 +1,16 @@
 use Rattle.std.proofs.Common.{◌≡◌, ◌+◌, ◌-◌, length, arith, refl, ap, take}
 use Rattle.std.specs.Vec.{with_item}
 use Rattle.iso_plain.specs.EngineStates.{clauses_at_place, clauses_left}
-use Rattle.iso_plain.proofs.ChoiceLemmas.{within, procedure_at, choices_are, at_clause, next_of, set_next, tries_next, tries_last, fewer_next, fewer_choices}
+use Rattle.iso_plain.proofs.CountLemmas.{count_fits}
+use Rattle.iso_plain.proofs.ChoiceLemmas.{within, choices_are, at_clause, next_of, set_next, tries_next, tries_last, fewer_next, fewer_choices}
 use Rattle.iso_plain.proofs.plain.Plain.leave_choice.Goals as goal
 
 pub overflow_add-next : goal.overflow_add-next
 overflow_add-next g c =
     let w = within g.S.Store.present g.S.Store.stands g.S.Store.older c.args.self.now c.args.choice c.requires.back.0 c.requires.back.1 c.requires.back.2 c.requires.back.3 in
     let below = w.clause in
-    let p = procedure_at c.args.self.now.procedures.items c.args.choice.attempt.procedure w.procedure in
-    let count = p.count in
-    let len = p.procedure.clauses.ok.0 in
-    let small = p.procedure.clauses.small in
-    let cap = p.procedure.clauses.ok.1 in
-    omega (arith, below, count, len, small, cap)
+    let small = count_fits c.args.self.now.procedures.items c.args.choice.attempt.procedure in
+    omega (arith, below, small)
 
 pub clause_count-requires : goal.clause_count-requires
 clause_count-requires g c =

@@ -1,8 +1,15 @@
-use Rattle.std.proofs.Common.{refl, ap}
-use Rattle.iso_plain.specs.EngineStates.{phase_of}
-use Rattle.iso_plain.proofs.EngineMoves.{idle_moves}
+use Rattle.iso_plain.proofs.EngineMoves.{awake_stands}
+use Rattle.iso_plain.proofs.EndLemmas.{idle_moves}
+use Rattle.iso_plain.proofs.LimitLemmas.{move_full, result_full}
 use Rattle.iso_plain.proofs.plain.Plain.moved.Goals as goal
 
 pub returns-in-Idle-clause-moves : goal.returns-in-Idle-clause-moves
 returns-in-Idle-clause-moves g c = λ s r.
-    (idle_moves g.S.Store.present g.S.Store.stands g.S.Store.older c.args.self.now s c.requires.awake c.in-Idle.is r, ap phase_of c.in-Idle.is)
+    let e = c.args.self.now in
+    idle_moves g.S.Store.present g.S.Store.stands g.S.Store.older e s (awake_stands g.S.Store.present g.S.Store.stands g.S.Store.older e.now e s c.requires.awake r) c.in-Idle.is
+
+pub returns-in-Answering-clause-frames : goal.returns-in-Answering-clause-frames
+returns-in-Answering-clause-frames g c = λ s r. result_full c.answer.result (λ h. absurd h) c.answer.ensures.frames
+
+pub returns-in-Raising-clause-frames : goal.returns-in-Raising-clause-frames
+returns-in-Raising-clause-frames g c = λ s r. move_full c.raise.result (λ h. absurd h) c.raise.ensures.frames

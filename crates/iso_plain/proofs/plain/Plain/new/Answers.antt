@@ -1,4 +1,4 @@
-use Rattle.std.proofs.Common.{◌≡◌, refl, ap, ◌∙◌}
+use Rattle.std.proofs.Common.{refl}
 use Rattle.iso_plain.specs.Standing.{none_kept}
 use Rattle.iso_plain.specs.Programs.{no_procedures}
 use Rattle.iso_plain.proofs.plain.Plain.new.Goals as goal

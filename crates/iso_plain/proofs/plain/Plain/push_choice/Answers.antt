@@ -1,6 +1,7 @@
 use Rattle.std.proofs.Common.{arith}
 use Rattle.iso_plain.proofs.KeptLemmas.{kept_at}
-use Rattle.iso_plain.proofs.CallLemmas.{tries_last, left_same, clauses_counted}
+use Rattle.iso_plain.proofs.CountLemmas.{clauses_counted}
+use Rattle.iso_plain.proofs.CallLemmas.{tries_last, left_same}
 use Rattle.iso_plain.proofs.plain.Plain.push_choice.Goals as goal
 
 pub clause_count-count-requires : goal.clause_count-count-requires

@@ -1,5 +1,6 @@
 use Rattle.std.proofs.Common.{◌≡◌, ◌+◌, length, arith, refl}
-use Rattle.iso_plain.proofs.CallLemmas.{tries_later, left_pushed, left_same, clauses_counted, count_fits}
+use Rattle.iso_plain.proofs.CountLemmas.{clauses_counted, count_fits}
+use Rattle.iso_plain.proofs.CallLemmas.{tries_later, left_pushed, left_same}
 use Rattle.iso_plain.proofs.plain.Plain.push_later.Goals as goal
 
 pub overflow_add-clause : goal.overflow_add-clause

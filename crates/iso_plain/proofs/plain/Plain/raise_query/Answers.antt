@@ -1,4 +1,4 @@
-use Rattle.std.proofs.Common.{◌≡◌, refl, sym, ap, ◌∙◌, Some, []}
+use Rattle.std.proofs.Common.{◌≡◌, refl, ap, ◌∙◌, Some, []}
 use Rattle.iso_model.specs.Trees.{Variable}
 use Rattle.iso_model.specs.Terms.{term_of}
 use Rattle.iso_model.specs.Variables.{variables, variable_count}

@@ -1,9 +1,9 @@
-use Rattle.std.proofs.Common.{◌≡◌, ◌≢◌, ◌<◌, length, get_or, refl, ap, sym, arith}
+use Rattle.std.proofs.Common.{◌<◌, length, ap, arith}
 use Rattle.iso_model.specs.Terms.{term_of}
 use Rattle.iso_plain.specs.EngineStates.{phase_of}
-use Rattle.iso_plain.specs.Called.{IsCalled}
 use Rattle.iso_plain.proofs.RunLemmas.{at_goal}
-use Rattle.iso_plain.proofs.RunMoves.{within, frame_is, spends, goal_holds, goal_is, succeeds_on, fails_on, raises_error, calls_it, called_on, if_ok_map}
+use Rattle.iso_plain.proofs.RunMoves.{within, spends, goal_holds, goal_is, succeeds_on, fails_on, raises_error, calls_it, called_on, if_ok_map}
+use Rattle.iso_plain.proofs.LimitLemmas.{as_many, result_full}
 use Rattle.iso_plain.proofs.plain.Plain.run.Goals as goal
 
 pub returns-then-self-eq0-clause-moves : goal.returns-then-self-eq0-clause-moves
@@ -68,3 +68,8 @@ returns-in-User-clause-moves g c = λ s r.
     let was = c.call_first.ensures.called _ _ user.0 user.1 a.first.behind
     (calls_it g.S.Store.present g.S.Store.stands g.S.Store.older e r.search c.args.place a c.index-frame.result.now c.in-User.procedure user.0 user.1 c.if-self-eq0.false c.index-frame.ensures user.5 r.engine) in
     if_ok_map _ _ c.call_first.result (called_on g.S.Store.present g.S.Store.stands g.S.Store.older e c.call_first.new.self s c.args.place c.index-frame.result.now c.requires.now c.if-self-eq0.false c.index-frame.ensures r user.0 user.1 user.2 user.4) was)
+
+pub returns-in-User-clause-frames : goal.returns-in-User-clause-frames
+returns-in-User-clause-frames g c = λ s r.
+    let same = as_many g.S.Store.present g.S.Store.stands g.S.Store.older c.args.self.now s r in
+    result_full c.call_first.result (λ h. omega (arith, h, same)) c.call_first.ensures.frames

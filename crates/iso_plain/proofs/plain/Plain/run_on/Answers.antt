@@ -1,8 +1,8 @@
-use Rattle.std.proofs.Common.{◌≡◌, arith}
+use Rattle.std.proofs.Common.{arith, refl, ◌∙◌}
 use Rattle.iso_model.specs.Runs.{here}
 use Rattle.iso_model.specs.RunLaws.{quiet_trans}
-use Rattle.iso_plain.specs.EngineStates.{weight}
-use Rattle.iso_plain.proofs.EngineMoves.{falls_behind, represents_stands, pauses_behind}
+use Rattle.iso_plain.proofs.EngineMoves.{represents_stands, pauses_behind}
+use Rattle.iso_plain.proofs.LimitLemmas.{where_full}
 use Rattle.iso_plain.proofs.plain.Plain.run_on.Goals as goal
 
 pub loop-pause-init : goal.loop-pause-init
@@ -11,6 +11,8 @@ loop-pause-init g c = record {
   stands = c.requires.stands;
   quiet = λ s r. (s, here, r);
   less = omega arith;
+  limit = refl;
+  within = λ h. h;
 }
 
 pub loop-pause-preserved : goal.loop-pause-preserved
@@ -24,9 +26,23 @@ loop-pause-preserved g c =
       stands = (first.0, stands first.0 first.2);
       quiet = λ s r. (let q = before.quiet s r in let n = moves q.0 q.2 in (n.0, quiet_trans q.1 n.1, stands n.0 n.2));
       less = (let a = before.less in let b = c.in-Goes.ensures.falls in omega (arith, a, b));
+      limit = c.advance.ensures.limit ∙ before.limit;
+      within = λ h. c.advance.ensures.within (before.within h);
     }
 
 pub returns-in-Pauses-clause-pauses : goal.returns-in-Pauses-clause-pauses
 returns-in-Pauses-clause-pauses g c = λ s r.
     let q = c.loop-pause.invariant.quiet s r in
     pauses_behind g.S.Store.present g.S.Store.stands g.S.Store.older c.advance.new.self s q.0 c.in-Pauses.pause q.1 (c.in-Pauses.ensures.moves q.0 q.2)
+
+pub returns-in-Pauses-clause-limit : goal.returns-in-Pauses-clause-limit
+returns-in-Pauses-clause-limit g c = c.advance.ensures.limit ∙ c.loop-pause.invariant.limit
+
+pub returns-in-Pauses-clause-within : goal.returns-in-Pauses-clause-within
+returns-in-Pauses-clause-within g c = λ h. c.advance.ensures.within (c.loop-pause.invariant.within h)
+
+pub returns-in-Pauses-clause-frames : goal.returns-in-Pauses-clause-frames
+returns-in-Pauses-clause-frames g c = λ s r.
+    let q = c.loop-pause.invariant.quiet s r in
+    let same = c.loop-pause.invariant.limit in
+    where_full c.in-Pauses.pause (λ h. (q.0, q.1, omega (arith, h, same))) (c.in-Pauses.ensures.frames q.0 q.2)

@@ -1,7 +1,8 @@
 -- Steps without an event led to a state that the engine stands for.
-use Rattle.std.proofs.Common.{◌≢◌, ◌≤◌}
+use Rattle.std.proofs.Common.{◌≡◌, ◌≢◌, ◌≤◌}
 use Rattle.iso_model.specs.Walker.{State}
 use Rattle.iso_model.specs.Runs.{Quiet}
+use Rattle.iso_plain.specs.Limits.{IsWithin}
 use Rattle.iso_plain.specs.EngineStates.{StandsFor, weight}
 use Rattle.iso_plain.specs.declared.parts.Now.TheVariants as now
 use Rattle.iso_plain.proofs.plain.Plain.run_on.Given as goal
@@ -13,6 +14,8 @@ invariant-loop-pause g l = record {
   quiet : (s : State) → StandsFor g.S.Store.present g.S.Store.stands g.S.Store.older l.fn.self s
       → (t : State) × Quiet s t × StandsFor g.S.Store.present g.S.Store.stands g.S.Store.older l.self t;
   less : weight l.self ≤ weight l.fn.self;
+  limit : l.self.limit ≡ l.fn.self.limit;
+  within : IsWithin l.fn.self → IsWithin l.self;
 }
 
 abbrev pub decreases-loop-pause : goal.decreases-loop-pause

@@ -1,0 +1,52 @@
+-- What the engine says of its limits: full frames only where its choices are as many as there may be, and a full heap only where its store is full.
+use Rattle.std.specs.Prelude.{ℕ, ◌≤◌, length, Result, Ok, Err}
+use Rattle.iso_model.specs.Walker.{State, alternative_count}
+use Rattle.iso_model.specs.Runs.{Quiet}
+use Rattle.iso_model.specs.declared.pauses.Pause.{Pause}
+use Rattle.iso_model.specs.declared.pauses.Pause.TheVariants as pause
+use Rattle.iso_store.specs.declared.shapes.StoreFault.{StoreFault}
+use Rattle.iso_store.specs.declared.shapes.StoreFault.TheVariants as fault
+use Rattle.iso_plain.specs.declared.plain.Move.{Move}
+use Rattle.iso_plain.specs.declared.plain.Move.TheVariants as move
+use Rattle.iso_plain.specs.declared.plain.Plain.{Plain}
+
+module _ {S W M : Type 0} (full : S → Type 0) where
+  -- at an event or an ending
+  abbrev pub LimitMet : Pause → Plain S W M → Type 0
+  LimitMet pause.HeapFull e = full e.store
+  LimitMet pause.FramesFull e = e.limit ≤ length e.choices.items
+  LimitMet p e = Unit {0}
+
+  -- behind a move
+  abbrev pub MoveMet : Move → Plain S W M → Type 0
+  MoveMet move.Goes e = Unit {0}
+  MoveMet (move.Pauses p) e = LimitMet p e
+
+  -- behind a move that may be refused
+  abbrev pub ResultMet : Result Move StoreFault → Plain S W M → Type 0
+  ResultMet (Ok m) e = MoveMet m e
+  ResultMet (Err fault.Full) e = full e.store
+  ResultMet (Err fault.NoMemory) e = Unit {0}
+
+-- No more choices stand than there may be.
+abbrev pub IsWithin : {S W M : Type 0} → Plain S W M → Type 0
+IsWithin e = length e.choices.items ≤ e.limit
+
+-- ---- full frames, said of the search
+
+-- a fact that holds where the frames are full
+abbrev pub WhereFull : Type 0 → Pause → Type 0
+WhereFull Fact pause.FramesFull = Fact
+WhereFull Fact p = Unit {0}
+
+abbrev pub MoveFull : Type 0 → Move → Type 0
+MoveFull Fact move.Goes = Unit {0}
+MoveFull Fact (move.Pauses p) = WhereFull Fact p
+
+abbrev pub ResultFull : Type 0 → Result Move StoreFault → Type 0
+ResultFull Fact (Ok m) = MoveFull Fact m
+ResultFull Fact (Err e) = Unit {0}
+
+-- The search comes, without an event, to a state that has this many alternatives.
+abbrev pub ComesTo : State → ℕ → Type 0
+ComesTo s count = (t : State) × Quiet s t × (count ≤ alternative_count t)
