@@ -106,6 +106,10 @@ EachGoalTakesAStep =
     ((n : ℕ) → Run (started (two (codes ",") (Name (codes "true")) (Name (codes "fail"))) (suc (suc n)) empty) (answers [] NoMore empty))
     × Run (started (two (codes ",") (Name (codes "true")) (Name (codes "fail"))) 1 empty) (answers [] Budget empty)
 
+-- `X = f(X).` has no answer, and takes a step: no term is an argument of itself.
+abbrev pub EquationsAreChecked : Type 0
+EquationsAreChecked = (n : ℕ) → Run (started (two (codes "=") (Variable 0) (one (codes "f") (Variable 0))) (suc n) empty) (answers [] NoMore empty)
+
 -- `p(1). p(2). q(2). r(X) :- p(X), q(X).`
 abbrev pub joined : World
 joined = program (one (codes "p") (number 1) ∷ one (codes "p") (number 2) ∷ one (codes "q") (number 2) ∷ rule (one (codes "r") (Variable 0)) (two (codes ",") (one (codes "p") (Variable 0)) (one (codes "q") (Variable 0))) ∷ [])
