@@ -1,5 +1,5 @@
 -- What a session writes and how it ends (own): the text is consulted term by term, then each query is run to its end.
-use Rattle.std.specs.Prelude.{ℕ, zero, suc, ◌+◌, List, [], ◌∷◌, ◌++◌, length, Bool, false, not, ◌||◌, ◌==◌, Option, Some, None, codes, if◌then◌else◌, drop}
+use Rattle.std.specs.Prelude.{ℕ, zero, suc, ◌+◌, List, [], ◌∷◌, ◌++◌, length, Bool, false, not, ◌&&◌, ◌||◌, ◌==◌, Option, Some, None, codes, if◌then◌else◌, drop}
 use Rattle.std.specs.List.{prefix_len}
 use Rattle.std.specs.Str.{bytes_eq}
 use Rattle.iso_model.specs.Characters.{is_in_line}
@@ -7,6 +7,7 @@ use Rattle.iso_model.specs.Token.{Shown}
 use Rattle.iso_model.specs.Tokens.{tokens}
 use Rattle.iso_model.specs.Trees.{Tree, Apply, End, More}
 use Rattle.iso_model.specs.Items.{Item, Readable, Unreadable, Taken, next_item}
+use Rattle.iso_model.specs.Databases.{Key, key_of}
 use Rattle.iso_model.specs.Additions.{Addition, Adds, Refuses, addition}
 use Rattle.iso_model.specs.Walker.{World, first_world, Answered, Wrote, NoMore, Budget, Uncaught, Halted, started}
 use Rattle.iso_model.specs.Runs.{Trace, Then, Stops}
@@ -89,11 +90,16 @@ abbrev pub added_script : ℕ → Addition → World → (World → Script) → 
 added_script k (Adds db) w next = next (record w { database = db })
 added_script k (Refuses error) w next = Shows (Line (refused_line k error)) (next w)
 
--- a term of the text that is passed over: a grammar rule, and, in this stage, a directive
+-- whether terms of this name and arity are passed over in a text: grammar rules, and, in this stage, directives
+abbrev pub skips : Key → Bool
+skips k = (k.arity == 1 && (bytes_eq k.name (codes ":-") || bytes_eq k.name (codes "?-"))) || (k.arity == 2 && bytes_eq k.name (codes "-->"))
+
+abbrev pub skips_by : Option Key → Bool
+skips_by None = false
+skips_by (Some k) = skips k
+
 abbrev pub is_skipped : Tree → Bool
-is_skipped (Apply f (More a End)) = bytes_eq f (codes ":-") || bytes_eq f (codes "?-")
-is_skipped (Apply f (More a (More b End))) = bytes_eq f (codes "-->")
-is_skipped t = false
+is_skipped t = skips_by (key_of t)
 
 -- the k-th term of the text, which could be read
 abbrev pub read_script : ℕ → Tree → World → (World → Script) → Script
