@@ -2,8 +2,13 @@ pub mod RowLemmas
 pub mod UnifierLemmas
 pub mod Cost
 pub mod WorkedReading
+mod WorkedSyntax
+pub mod MarkLemmas
 pub mod ReadingSound
 pub mod TokenLemmas
+pub mod CutLemmas
+pub mod NumberLemmas
+pub mod QuotedLemmas
 pub mod LexemeLemmas
 pub mod SortLemmas
 pub mod CopyLemmas

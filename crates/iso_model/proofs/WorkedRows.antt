@@ -10,8 +10,8 @@ use Rattle.iso_model.specs.Databases.{Clause}
 use Rattle.iso_model.specs.Walker.{State, Goal, Budget, Goes, NoMore, step, started}
 use Rattle.iso_model.specs.Runs.{goes, gives, ends}
 use Rattle.iso_model.specs.Runs as runs
-use Rattle.iso_model.specs.WorkedRuns.{endless, EndlessUsesItsBudget, number, facts, answers, FactsAreAnswered, equal, NothingHoldsItself, UnknownIsAnError, NumbersAreNoGoals, EachGoalTakesAStep}
-use Rattle.iso_model.proofs.CallLemmas.{found, retry, tried_found, tried_missed}
+use Rattle.iso_model.specs.WorkedRuns.{endless, EndlessUsesItsBudget, number, facts, answers, FactsAreAnswered, equal, NothingHoldsItself, EquationsAreChecked, empty, UnknownIsAnError, NumbersAreNoGoals, EachGoalTakesAStep}
+use Rattle.iso_model.proofs.CallLemmas.{found, retry, tried_found, tried_missed, run_equation_missed}
 
 abbrev loop_clause : Clause
 loop_clause = record { head = Name (codes "l"); body = Run (Name (codes "l")); variables = 0 }
@@ -96,6 +96,15 @@ unfolding step
 equal_run n =
     let clause : Clause = record { head = two (codes "eq") (Variable 0) (Variable 0); body = Run (Name (codes "true")); variables = 1 } in
     goes (ap (λ s. Goes (record s { steps = n })) (tried_missed self clause [] [] (started self (suc n) equal) never_self)) (ends refl)
+
+never_within : NeverEqual (Variable 0) (one (codes "f") (Variable 0))
+never_within t e = never_inside t 0 (one (codes "f") (Variable 0)) refl (λ h. cc) e
+
+pub equation_run : EquationsAreChecked
+unfolding step
+equation_run n =
+    let goal = two (codes "=") (Variable 0) (one (codes "f") (Variable 0)) in
+    goes (ap (λ s. Goes (record s { steps = n })) (run_equation_missed (Variable 0) (one (codes "f") (Variable 0)) goal [] (started goal (suc n) empty) never_within)) (ends refl)
 
 pub unknown_run : UnknownIsAnError
 unfolding step

@@ -1,6 +1,7 @@
 -- The clauses of a text, one after the other (ISO/IEC 13211-1:1995, 6.2): each goes up to an end token.
 use Rattle.std.specs.Prelude.{◌≡◌, Bool, true, false, if◌then◌else◌, List, [], ◌∷◌, Option, Some, None, option_map}
-use Rattle.iso_model.specs.Operators.{Table}
+use Rattle.iso_ops.specs.Operators.{Operator}
+use Rattle.iso_ops.specs.declared.settings.Flags.{Flags}
 use Rattle.iso_model.specs.Token.{Shown, TokenKind, EndToken}
 use Rattle.iso_model.specs.Grammar.{Clause, IsClause}
 use Rattle.iso_model.specs.Reading.{◌>>=◌, clause_of}
@@ -27,14 +28,14 @@ abbrev pub behind_clause : List Shown → List Shown
 behind_clause ts = behind_by (split_clause ts)
 
 -- The tokens up to the next end token are this clause.
-pub record IsNextClause (table : Table) (ts : List Shown) (c : Clause) : Type 0 where
+pub record IsNextClause (table : List Operator) (flags : Flags) (ts : List Shown) (c : Clause) : Type 0 where
   pub before : List Shown
   pub others : List Shown
   pub splits : split_clause ts ≡ Some (before, others)
-  pub clause : IsClause table before c
+  pub clause : IsClause table flags before c
 
 -- the clause that the tokens up to the next end token are, read by precedence
-abbrev pub next_clause : Table → List Shown → Option Clause
-next_clause table ts = do
+abbrev pub next_clause : List Operator → Flags → List Shown → Option Clause
+next_clause table flags ts = do
   x ← split_clause ts
-  clause_of table x.0
+  clause_of table flags x.0

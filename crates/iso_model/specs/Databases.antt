@@ -37,7 +37,7 @@ same_key a b = a.arity == b.arity && bytes_eq a.name b.name
 
 -- whether this is the key of a built-in or of a control construct, which no clause may be added to
 abbrev pub is_built_in : Key → Bool
-is_built_in k = (k.arity == 0 && (bytes_eq k.name (codes "true") || bytes_eq k.name (codes "fail"))) || (k.arity == 2 && bytes_eq k.name (codes ","))
+is_built_in k = (k.arity == 0 && (bytes_eq k.name (codes "true") || bytes_eq k.name (codes "fail"))) || (k.arity == 2 && (bytes_eq k.name (codes ",") || bytes_eq k.name (codes "=")))
 
 -- the clauses of the procedure with this key, where there is one
 abbrev pub clauses_at : Database → Key → Option (List Clause)

@@ -3,7 +3,8 @@ use Rattle.std.specs.Prelude.{List, [], ◌∷◌, Option, Some, None}
 use Rattle.iso_model.specs.Token.{Shown}
 use Rattle.iso_model.specs.Grammar.{Clause}
 use Rattle.iso_model.specs.Clauses.{next_clause, behind_clause}
-use Rattle.iso_model.specs.Operators.{Table}
+use Rattle.iso_ops.specs.Operators.{Operator}
+use Rattle.iso_ops.specs.declared.settings.Flags.{Flags}
 
 -- a term that was read, with its variables' names, or a syntax error
 pub data Item : Type 0 where
@@ -20,6 +21,6 @@ item_of None = Unreadable
 item_of (Some c) = Readable c
 
 -- The next item, where tokens are left: the term up to the next end token, or a syntax error, which also stands for tokens without an end token.
-abbrev pub next_item : Table → List Shown → Option Taken
-next_item table [] = None
-next_item table (t ∷ ts) = Some (record { item = item_of (next_clause table (t ∷ ts)); behind = behind_clause (t ∷ ts) })
+abbrev pub next_item : List Operator → Flags → List Shown → Option Taken
+next_item table flags [] = None
+next_item table flags (t ∷ ts) = Some (record { item = item_of (next_clause table flags (t ∷ ts)); behind = behind_clause (t ∷ ts) })

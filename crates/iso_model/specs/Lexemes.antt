@@ -1,9 +1,11 @@
 -- What stands at the front of a text: the longest token, or layout (ISO/IEC 13211-1:1995, 6.4).
--- Bytes stand as their codes: `%` is 37, `*` 42, `.` 46, `/` 47.
+-- Bytes stand as their codes: `"` is 34, `%` 37, `'` 39, `*` 42, `.` 46, `/` 47.
 use Rattle.std.specs.Prelude.{ℕ, suc, ◌+◌, Bool, true, ◌&&◌, ◌||◌, ◌==◌, if◌then◌else◌, List, [], ◌∷◌, drop, slice_index, Option, Some, None, option_map}
 use Rattle.std.specs.Option.{option_map_or}
-use Rattle.iso_model.specs.Characters.{is_layout, is_small, is_digit, is_alphanumeric, begins_variable, is_graphic, is_punctuation, is_in_line, is_continuation, run}
-use Rattle.iso_model.specs.Token.{TokenKind, NameToken, VariableToken, IntegerToken, PunctToken, EndToken, BadToken}
+use Rattle.iso_model.specs.Characters.{is_layout, is_small, is_digit, is_alphanumeric, begins_variable, is_graphic, is_punctuation, is_solo, is_in_line, character_len, run}
+use Rattle.iso_model.specs.Token.{TokenKind, NameToken, QuotedToken, DoubleToken, VariableToken, IntegerToken, PunctToken, EndToken, BadToken}
+use Rattle.iso_model.specs.Numbers.{integer_at}
+use Rattle.iso_model.specs.Quoted.{item_len}
 
 -- a token's kind, or none for layout and comments, and a length in bytes
 abbrev pub Lexeme : Type 0
@@ -11,7 +13,11 @@ Lexeme = Option TokenKind × ℕ
 
 -- one character that begins no token (own)
 abbrev pub bad_character : List ℕ → Lexeme
-bad_character text = (Some BadToken, 1 + run is_continuation (drop 1 text))
+bad_character text = (Some BadToken, character_len text)
+
+-- a text that begins with a quote: an item of this kind, or a bad character where it isn't well closed
+abbrev pub quoted : TokenKind → ℕ → List ℕ → Lexeme
+quoted kind quote text = option_map_or (λ n. (Some kind, 1 + n)) (item_len quote (drop 1 text)) (bad_character text)
 
 -- how far a bracketed comment goes on to the end of its first `*/`, if it has one (6.4.1)
 abbrev pub comment_len : List ℕ → Option ℕ
@@ -41,8 +47,11 @@ lexeme text =
     else (if byte == 37 then (None, run is_in_line text)
     else (if is_small byte then (Some NameToken, run is_alphanumeric text)
     else (if begins_variable byte then (Some VariableToken, run is_alphanumeric text)
-    else (if is_digit byte then (Some IntegerToken, run is_digit text)
+    else (if is_digit byte then (Some IntegerToken, (integer_at text).len)
+    else (if byte == 39 then quoted QuotedToken 39 text
+    else (if byte == 34 then quoted DoubleToken 34 text
     else (if byte == 47 && slice_index text 1 == 42 then commented text
     else (if is_graphic byte then graphic text
     else (if is_punctuation byte then (Some PunctToken, 1)
-    else bad_character text)))))))
+    else (if is_solo byte then (Some NameToken, 1)
+    else bad_character text))))))))))

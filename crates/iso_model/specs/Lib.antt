@@ -15,11 +15,14 @@ pub mod Databases
 pub mod Errors
 pub mod Additions
 pub mod Characters
-pub mod Lexemes
+pub mod Numbers
+pub mod Quoted
 pub mod Token
+pub mod Lexemes
 pub mod Tokens
 pub mod TokenPlaces
 pub mod Operators
+pub mod Lists
 pub mod Grammar
 pub mod Reading
 pub mod Clauses

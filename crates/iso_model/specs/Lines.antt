@@ -18,6 +18,10 @@ text_of t = text_in (variables t) t
 abbrev pub syntax_error_line : ℕ → List ℕ
 syntax_error_line k = codes "syntax error in clause " ++ counted k
 
+-- `clause K skipped`
+abbrev pub skipped_line : ℕ → List ℕ
+skipped_line k = codes "clause " ++ (counted k ++ codes " skipped")
+
 -- `clause K refused: E`
 abbrev pub refused_line : ℕ → Tree → List ℕ
 refused_line k error = codes "clause " ++ (counted k ++ (codes " refused: " ++ text_of error))

@@ -1,7 +1,8 @@
 -- What holds of the grammar and of reading by precedence, for every table of operators.
 use Rattle.std.specs.Prelude.{◌≡◌, ◌↔◌, ◌<◌, ℕ, true, List, Some}
 use Rattle.std.specs.List.{All}
-use Rattle.iso_model.specs.Operators.{Table, IsTable}
+use Rattle.iso_ops.specs.Operators.{Operator, IsOpTable}
+use Rattle.iso_ops.specs.declared.settings.Flags.{Flags}
 use Rattle.iso_model.specs.Token.{Shown}
 use Rattle.iso_model.specs.Trees.{arities_fit}
 use Rattle.iso_model.specs.Numbering.{next_number}
@@ -11,15 +12,15 @@ use Rattle.iso_model.specs.Clauses.{IsNextClause, next_clause}
 
 -- Tokens are at most one clause.
 abbrev pub AtMostOneClause : Type 0
-AtMostOneClause = (table : Table) → IsTable table → (ts : List Shown) (c d : Clause) → IsClause table ts c → IsClause table ts d → c ≡ d
+AtMostOneClause = (table : List Operator) (flags : Flags) → IsOpTable table → (ts : List Shown) (c d : Clause) → IsClause table flags ts c → IsClause table flags ts d → c ≡ d
 
 -- Reading by precedence gives the clause that the tokens are, and gives none where they are none.
 abbrev pub ReadsTheClause : Type 0
-ReadsTheClause = (table : Table) → IsTable table → (ts : List Shown) (c : Clause) → (clause_of table ts ≡ Some c) ↔ IsClause table ts c
+ReadsTheClause = (table : List Operator) (flags : Flags) → IsOpTable table → (ts : List Shown) (c : Clause) → (clause_of table flags ts ≡ Some c) ↔ IsClause table flags ts c
 
 -- So it is with the next clause of a text's tokens.
 abbrev pub ReadsTheNextClause : Type 0
-ReadsTheNextClause = (table : Table) → IsTable table → (ts : List Shown) (c : Clause) → (next_clause table ts ≡ Some c) ↔ IsNextClause table ts c
+ReadsTheNextClause = (table : List Operator) (flags : Flags) → IsOpTable table → (ts : List Shown) (c : Clause) → (next_clause table flags ts ≡ Some c) ↔ IsNextClause table flags ts c
 
 -- A clause's term is well formed, its variables are numbered in the order of their first occurrence, and each name is
 -- that of one of them.
@@ -30,4 +31,4 @@ pub record IsWellRead (c : Clause) : Type 0 where
   pub named : All (λ entry. entry.1 < count) c.names
 
 abbrev pub ClausesAreWellRead : Type 0
-ClausesAreWellRead = (table : Table) (ts : List Shown) (c : Clause) → IsClause table ts c → IsWellRead c
+ClausesAreWellRead = (table : List Operator) (flags : Flags) (ts : List Shown) (c : Clause) → IsClause table flags ts c → IsWellRead c

@@ -1,17 +1,18 @@
 -- What a session writes and how it ends (own): the text is consulted term by term, then each query is run to its end.
-use Rattle.std.specs.Prelude.{ℕ, zero, suc, ◌+◌, List, [], ◌∷◌, ◌++◌, length, Bool, false, not, ◌==◌, Option, Some, None, codes, if◌then◌else◌, drop}
+use Rattle.std.specs.Prelude.{ℕ, zero, suc, ◌+◌, List, [], ◌∷◌, ◌++◌, length, Bool, false, not, ◌&&◌, ◌||◌, ◌==◌, Option, Some, None, codes, if◌then◌else◌, drop}
 use Rattle.std.specs.List.{prefix_len}
 use Rattle.std.specs.Str.{bytes_eq}
 use Rattle.iso_model.specs.Characters.{is_in_line}
 use Rattle.iso_model.specs.Token.{Shown}
 use Rattle.iso_model.specs.Tokens.{tokens}
-use Rattle.iso_model.specs.Operators.{operators}
+use Rattle.iso_model.specs.Trees.{Tree, Apply, End, More}
 use Rattle.iso_model.specs.Items.{Item, Readable, Unreadable, Taken, next_item}
+use Rattle.iso_model.specs.Databases.{Key, key_of}
 use Rattle.iso_model.specs.Additions.{Addition, Adds, Refuses, addition}
-use Rattle.iso_model.specs.Walker.{World, Answered, Wrote, NoMore, Budget, Uncaught, Halted, started}
+use Rattle.iso_model.specs.Walker.{World, first_world, Answered, Wrote, NoMore, Budget, Uncaught, Halted, started}
 use Rattle.iso_model.specs.Runs.{Trace, Then, Stops}
 use Rattle.iso_model.specs.RunLaws.{run_of}
-use Rattle.iso_model.specs.Lines.{syntax_error_line, refused_line, answer_line, error_line, halt_line}
+use Rattle.iso_model.specs.Lines.{syntax_error_line, skipped_line, refused_line, answer_line, error_line, halt_line}
 
 -- what a session writes at a time: bytes that a goal wrote, or a line, which stands here without its newline
 pub data Piece : Type 0 where
@@ -65,10 +66,15 @@ run_script names k (Stops Budget w) next = Shows (Line (codes "end: budget")) (n
 run_script names k (Stops (Uncaught ball) w) next = Shows (Line (error_line ball)) (next w)
 run_script names k (Stops (Halted n) w) next = Shows (Line (halt_line n)) (Closes (Halts n))
 
+-- the goal of a query: `?- G` as a query is G
+abbrev pub query_goal : Tree → Tree
+query_goal (Apply f (More g End)) = if bytes_eq f (codes "?-") then g else Apply f (More g End)
+query_goal t = t
+
 -- one query
 abbrev pub query_script : ℕ → Item → World → (World → Script) → Script
 query_script budget Unreadable w next = Shows (Line (codes "end: syntax error")) (next w)
-query_script budget (Readable c) w next = run_script c.names 1 (run_of (started c.term budget w)) next
+query_script budget (Readable c) w next = run_script c.names 1 (run_of (started (query_goal c.term) budget w)) next
 
 abbrev pub queries_by : ℕ → World → Option Taken → (List Shown → World → Script) → Script
 queries_by budget w None others = Closes Done
@@ -77,16 +83,31 @@ queries_by budget w (Some x) others = query_script budget x.item w (others x.beh
 -- The queries of these tokens, each with the whole budget. Each takes a token at least, so there are no more of them than tokens.
 unfoldable pub queries_script : ℕ → ℕ → List Shown → World → Script
 queries_script zero budget ts w = Closes Done
-queries_script (suc turns) budget ts w = queries_by budget w (next_item operators ts) (queries_script turns budget)
+queries_script (suc turns) budget ts w = queries_by budget w (next_item w.operators w.flags ts) (queries_script turns budget)
 
--- the k-th term of the text: a clause is added or refused
+-- the k-th term of the text where it is a clause, which is added or refused
 abbrev pub added_script : ℕ → Addition → World → (World → Script) → Script
 added_script k (Adds db) w next = next (record w { database = db })
 added_script k (Refuses error) w next = Shows (Line (refused_line k error)) (next w)
 
+-- whether terms of this name and arity are passed over in a text: grammar rules, and, in this stage, directives
+abbrev pub skips : Key → Bool
+skips k = (k.arity == 1 && (bytes_eq k.name (codes ":-") || bytes_eq k.name (codes "?-"))) || (k.arity == 2 && bytes_eq k.name (codes "-->"))
+
+abbrev pub skips_by : Option Key → Bool
+skips_by None = false
+skips_by (Some k) = skips k
+
+abbrev pub is_skipped : Tree → Bool
+is_skipped t = skips_by (key_of t)
+
+-- the k-th term of the text, which could be read
+abbrev pub read_script : ℕ → Tree → World → (World → Script) → Script
+read_script k t w next = if is_skipped t then Shows (Line (skipped_line k)) (next w) else added_script k (addition t w.database) w next
+
 abbrev pub term_script : ℕ → Item → World → (World → Script) → Script
 term_script k Unreadable w next = Shows (Line (syntax_error_line k)) (next w)
-term_script k (Readable c) w next = added_script k (addition c.term w.database) w next
+term_script k (Readable c) w next = read_script k c.term w next
 
 abbrev pub text_by : ℕ → World → Option Taken → (World → Script) → (List Shown → World → Script) → Script
 text_by k w None next others = next w
@@ -95,7 +116,7 @@ text_by k w (Some x) next others = term_script k x.item w (others x.behind)
 -- the terms of the text from the k-th on, of which these tokens are left; then what follows the text
 unfoldable pub text_script : ℕ → ℕ → List Shown → World → (World → Script) → Script
 text_script zero k ts w next = next w
-text_script (suc turns) k ts w next = text_by k w (next_item operators ts) next (λ behind v. text_script turns (k + 1) behind v next)
+text_script (suc turns) k ts w next = text_by k w (next_item w.operators w.flags ts) next (λ behind v. text_script turns (k + 1) behind v next)
 
 -- A byte order mark at the text's start, and then a first line that begins with `#!`, are passed over.
 abbrev pub without_mark : List ℕ → List ℕ
@@ -111,7 +132,7 @@ body_of_text z = without_first_line (without_mark z)
 
 -- all of a list's items, for which as many turns are enough as there are tokens
 abbrev pub whole_text : List Shown → (World → Script) → Script
-whole_text ts next = text_script (length ts) 1 ts (record { database = [] }) next
+whole_text ts next = text_script (length ts) 1 ts first_world next
 
 abbrev pub whole_queries : ℕ → List Shown → World → Script
 whole_queries budget ts w = queries_script (length ts) budget ts w

@@ -1,5 +1,7 @@
 -- A token as clauses see it (ISO/IEC 13211-1:1995, 6.4).
-use Rattle.std.specs.Prelude.{ℕ, ◌+◌, ◌-◌, ◌*◌, ◌^◌, Bool, nat_le, if◌then◌else◌, List, fold, Option, Some, None}
+use Rattle.std.specs.Prelude.{ℕ, ◌+◌, ◌-◌, ◌*◌, ◌^◌, Bool, nat_le, if◌then◌else◌, List, drop, fold, Option, Some, None}
+use Rattle.iso_model.specs.Numbers.{integer_at}
+use Rattle.iso_model.specs.Quoted.{item_content}
 
 -- The kinds of tokens (6.4). `BadToken` is a character that begins no token (own).
 pub data TokenKind : Type 0 where
@@ -20,7 +22,7 @@ pub record Shown : Type 0 where
   pub start : ℕ
   pub after_layout : Bool
 
--- the number that decimal digits write (6.4.4), a digit at a time
+-- the number that decimal digits write, a digit at a time
 abbrev pub digit_step : ℕ → ℕ → ℕ
 digit_step n digit = n * 10 + (digit - 48)
 
@@ -32,13 +34,18 @@ abbrev pub bounded : ℕ → Option ℕ
 bounded n = if nat_le n (2 ^ 63) then Some n else None
 
 abbrev pub magnitude_by : TokenKind → List ℕ → Option ℕ
-magnitude_by IntegerToken text = bounded (digits_value text)
+magnitude_by IntegerToken text = bounded (integer_at text).value
 magnitude_by _ text = None
 
--- the value of an integer token; other kinds have none
+-- the value of an integer token (6.4.4); other kinds have none
 abbrev pub magnitude : Shown → Option ℕ
 magnitude t = magnitude_by t.kind t.text
 
--- the characters that a token stands for: so far, of every kind, its text
+abbrev pub content_of : TokenKind → List ℕ → List ℕ
+content_of QuotedToken text = item_content 39 (drop 1 text)
+content_of DoubleToken text = item_content 34 (drop 1 text)
+content_of _ text = text
+
+-- the characters that a token stands for: those of a quoted item (6.4.2.1, 6.4.6); of other kinds, its text
 abbrev pub content : Shown → List ℕ
-content t = t.text
+content t = content_of t.kind t.text

@@ -1,7 +1,11 @@
 -- The standard's search, step by step (ISO/IEC 13211-1:1995, 7.7): depth first, clauses in their order, goals from left to right.
 use Rattle.std.specs.Prelude.{ℕ, zero, suc, ◌+◌, List, [], ◌∷◌, length, map, Bool, false, Option, Some, None, codes, if◌then◌else◌}
 use Rattle.std.specs.Str.{bytes_eq}
-use Rattle.iso_model.specs.Trees.{Tree, Variable, Name, Apply}
+use Rattle.iso_ops.specs.Operators.{Operator}
+use Rattle.iso_ops.specs.InitialOperators.{initial_entries}
+use Rattle.iso_ops.specs.declared.settings.Flags.{Flags}
+use Rattle.iso_ops.specs.Settings.{initial_flags}
+use Rattle.iso_model.specs.Trees.{Tree, Variable, Name, Apply, End, More}
 use Rattle.iso_model.specs.Sizes.{size}
 use Rattle.iso_model.specs.Variables.{variables, variable_count}
 use Rattle.iso_model.specs.Substitutions.{Subst}
@@ -11,9 +15,15 @@ use Rattle.iso_model.specs.Bodies.{Body, Run, And, converted, body_term, map_bod
 use Rattle.iso_model.specs.Databases.{Clause, Key, Database, key_of, clauses_at}
 use Rattle.iso_model.specs.Errors.{key, type_error_callable, existence_error}
 
--- what outlives a run
+-- what outlives a run: the database (7.5), the operators (6.3.4.4) and the flags (7.11)
 pub record World : Type 0 where
   pub database : Database
+  pub operators : List Operator
+  pub flags : Flags
+
+-- the world before a text is consulted
+abbrev pub first_world : World
+first_world = record { database = []; operators = initial_entries; flags = initial_flags }
 
 -- A member of the list of goals: a goal with its cut mark (a height of the stack), failure, or a thrown ball (7.7.3, 7.8.10).
 pub data Member : Type 0 where
@@ -132,14 +142,22 @@ backtracked (a ∷ below) s = Goes (retried a.left (record s { list = a.list; su
 pub data Selected : Type 0 where
   Succeeds : Selected
   Fails : Selected
+  Equates : (left : Tree) → (right : Tree) → Selected
   User : Selected
 
 abbrev pub is_name : List ℕ → Tree → Bool
 is_name f (Name a) = bytes_eq a f
 is_name f t = false
 
+abbrev pub selected_two : List ℕ → Tree → Tree → Selected
+selected_two f a b = if bytes_eq f (codes "=") then Equates a b else User
+
+abbrev pub selected_compound : Tree → Selected
+selected_compound (Apply f (More a (More b End))) = selected_two f a b
+selected_compound t = User
+
 abbrev pub selected : Tree → Selected
-selected t = if is_name (codes "true") t then Succeeds else (if is_name (codes "fail") t then Fails else User)
+selected t = if is_name (codes "true") t then Succeeds else (if is_name (codes "fail") t then Fails else selected_compound t)
 
 -- the ball of a call of an unknown procedure
 abbrev pub unknown : Option Key → Tree → Tree
@@ -151,6 +169,11 @@ abbrev pub called : Option (List Clause) → Tree → List Member → State → 
 called (Some cs) t rest s = tried t cs rest s
 called None t rest s = record s { list = Raise (unknown (key_of t) t) ∷ rest }
 
+-- two terms were unified, or not (8.2.1)
+abbrev pub equated : Option Subst → List Member → State → State
+equated None rest s = fails s
+equated (Some u) rest s = record s { list = rest; subst = u }
+
 abbrev pub clauses_for : Option Key → Database → Option (List Clause)
 clauses_for None db = None
 clauses_for (Some k) db = clauses_at db k
@@ -158,6 +181,7 @@ clauses_for (Some k) db = clauses_at db k
 abbrev pub run_goal : Selected → Tree → List Member → State → State
 run_goal Succeeds t rest s = record s { list = rest }
 run_goal Fails t rest s = fails s
+run_goal (Equates a b) t rest s = equated (unify_under s.subst a b) rest (record s { built = s.built + 2 })
 run_goal User t rest s = called (clauses_for (key_of t) s.world.database) t rest s
 
 -- a control step, or a goal's

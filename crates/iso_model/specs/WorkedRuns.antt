@@ -4,7 +4,7 @@ use Rattle.iso_model.specs.Trees.{Tree, Variable, Integer, Name, Apply, End, Mor
 use Rattle.iso_model.specs.Bodies.{one, two}
 use Rattle.iso_model.specs.Databases.{Database}
 use Rattle.iso_model.specs.Additions.{Addition, Adds, Refuses, addition}
-use Rattle.iso_model.specs.Walker.{World, Answered, Ending, NoMore, Budget, Uncaught, started}
+use Rattle.iso_model.specs.Walker.{World, first_world, Answered, Ending, NoMore, Budget, Uncaught, started}
 use Rattle.iso_model.specs.Runs.{Trace, Then, Stops, Run}
 
 -- the term with this name and these three arguments
@@ -27,7 +27,7 @@ with_clauses (t ∷ ts) db = with_clauses ts (after (addition t db) db)
 
 -- only these clauses
 abbrev pub program : List Tree → World
-program ts = record { database = with_clauses ts [] }
+program ts = record first_world { database = with_clauses ts [] }
 
 -- these answers in their order, and then this ending
 abbrev pub answers : List (List Tree) → Ending → World → Trace
@@ -105,6 +105,10 @@ abbrev pub EachGoalTakesAStep : Type 0
 EachGoalTakesAStep =
     ((n : ℕ) → Run (started (two (codes ",") (Name (codes "true")) (Name (codes "fail"))) (suc (suc n)) empty) (answers [] NoMore empty))
     × Run (started (two (codes ",") (Name (codes "true")) (Name (codes "fail"))) 1 empty) (answers [] Budget empty)
+
+-- `X = f(X).` has no answer, and takes a step: no term is an argument of itself.
+abbrev pub EquationsAreChecked : Type 0
+EquationsAreChecked = (n : ℕ) → Run (started (two (codes "=") (Variable 0) (one (codes "f") (Variable 0))) (suc n) empty) (answers [] NoMore empty)
 
 -- `p(1). p(2). q(2). r(X) :- p(X), q(X).`
 abbrev pub joined : World

@@ -1,10 +1,12 @@
--- Worked texts: the tokens of three short clauses, the clauses that they are, and the text of three terms. A literal stands for its bytes, by `codes`.
+-- Worked texts: the tokens of three short clauses, the clauses that they are, thirteen terms, texts that are none, and the text of three terms. A literal stands for its bytes, by `codes`.
 use Rattle.std.specs.Prelude.{◌≡◌, ℕ, true, false, List, [], ◌∷◌, pos, neg_ℤ, codes}
-use Rattle.iso_model.specs.Trees.{Variable, Integer, Name, Apply, row}
-use Rattle.iso_model.specs.Bodies.{two}
+use Rattle.iso_model.specs.Trees.{Tree, Variable, Integer, Name, Apply, row}
+use Rattle.iso_model.specs.Lists.{nil, curly, list_before}
+use Rattle.iso_model.specs.Bodies.{one, two}
 use Rattle.iso_model.specs.Token.{Shown, TokenKind, NameToken, VariableToken, IntegerToken, PunctToken, EndToken}
 use Rattle.iso_model.specs.Tokens.{tokens}
-use Rattle.iso_model.specs.Operators.{operators}
+use Rattle.iso_ops.specs.InitialOperators.{initial_entries}
+use Rattle.iso_ops.specs.Settings.{initial_flags}
 use Rattle.iso_model.specs.Grammar.{Clause}
 use Rattle.iso_model.specs.Clauses.{IsNextClause}
 use Rattle.iso_model.specs.Lines.{text_of}
@@ -73,17 +75,59 @@ loop_clause = record { term = rule (Name (codes "l")) (Name (codes "l")); names 
 -- Those are the three clauses by the grammar (6.2, 6.3).
 abbrev pub ReadingOfThreeClauses : Type 0
 ReadingOfThreeClauses =
-    IsNextClause operators (tokens equal_text) equal_clause × IsNextClause operators (tokens rule_text) rule_clause
-    × IsNextClause operators (tokens loop_text) loop_clause
+    IsNextClause initial_entries initial_flags (tokens equal_text) equal_clause × IsNextClause initial_entries initial_flags (tokens rule_text) rule_clause
+    × IsNextClause initial_entries initial_flags (tokens loop_text) loop_clause
 
 -- The tokens of this text up to its end token are no clause.
 abbrev pub IsNoClause : List ℕ → Type 0
-IsNoClause text = (c : Clause) → IsNextClause operators (tokens text) c → ⊥
+IsNoClause text = (c : Clause) → IsNextClause initial_entries initial_flags (tokens text) c → ⊥
 
 -- Three texts that are no clauses: an argument has a priority of at most 999 and `:-` has 1200 (6.3.3.1), an infix
 -- operator takes an operand on its right (6.3.4.2), and a `(` behind layout opens no arguments (6.3.3).
 abbrev pub NoClauses : Type 0
 NoClauses = IsNoClause (codes "p(a :- b).") × IsNoClause (codes "p :- .") × IsNoClause (codes "p (a).")
+
+-- The tokens of this text up to its end token are this term, which has no variables.
+abbrev pub IsRead : List ℕ → Tree → Type 0
+IsRead text t = IsNextClause initial_entries initial_flags (tokens text) (record { term = t; names = [] })
+
+abbrev pub atom : List ℕ → Tree
+atom name = Name name
+
+-- Signs (6.3.4.2; which of them are operators is own): a prefix operator twice, an infix one, a prefix operator that is
+-- an atom before an infix one, one that binds closer than `*` and less close than `^`, and the least integer.
+abbrev pub ReadingOfSigns : Type 0
+ReadingOfSigns =
+    IsRead (codes "- - 1 .") (one (codes "-") (one (codes "-") (number 1)))
+    × IsRead (codes "a-1.") (two (codes "-") (atom (codes "a")) (number 1))
+    × IsRead (codes "- = x.") (two (codes "=") (atom (codes "-")) (atom (codes "x")))
+    × IsRead (codes "- a * b.") (two (codes "*") (one (codes "-") (atom (codes "a"))) (atom (codes "b")))
+    × IsRead (codes "-a^b.") (one (codes "-") (two (codes "^") (atom (codes "a")) (atom (codes "b"))))
+    × IsRead (codes "-9223372036854775808.") (Integer (neg_ℤ (pos 9223372036854775808)))
+
+-- Brackets: a term in brackets behind a prefix operator and behind a functor, an operator that is an argument, braces
+-- with a double quoted item, a list with a tail, and a quoted name that is an escape.
+abbrev pub ReadingOfBrackets : Type 0
+ReadingOfBrackets =
+    IsRead (codes "\\+ (a,b).") (one (codes "\\+") (two (codes ",") (atom (codes "a")) (atom (codes "b"))))
+    × IsRead (codes "\\+(a,b).") (two (codes "\\+") (atom (codes "a")) (atom (codes "b")))
+    × IsRead (codes "f(:- , a).") (two (codes "f") (atom (codes ":-")) (atom (codes "a")))
+    × IsRead (codes "{a,\"ab\"}.") (one curly (two (codes ",") (atom (codes "a")) (list_before (number 97 ∷ number 98 ∷ []) (atom nil))))
+    × IsRead (codes "[a,b|c].") (list_before (atom (codes "a") ∷ atom (codes "b") ∷ []) (atom (codes "c")))
+    × IsRead (codes "'\\x41\\'.") (atom (codes "A"))
+
+-- Integers: character codes, and numbers in base 16, 2 and 8 (6.4.4).
+abbrev pub ReadingOfIntegers : Type 0
+ReadingOfIntegers =
+    IsRead (codes "[0'a,0''',0x1F,0b101,0o17].") (list_before (number 97 ∷ number 39 ∷ number 31 ∷ number 5 ∷ number 15 ∷ []) (atom nil))
+
+-- No clauses: an infix operator that takes no operand of its own priority, twice; digits of a base that has none of
+-- them; a term of priority 1000 as the tail of a list; an integer above the greatest; a bracket that nothing opened; a
+-- prefix operator whose term is above the right operand's priority.
+abbrev pub NoTerms : Type 0
+NoTerms =
+    IsNoClause (codes "1 = 2 = 3.") × IsNoClause (codes "0b2.") × IsNoClause (codes "[a,b|c,d].") × IsNoClause (codes "9223372036854775808.")
+    × IsNoClause (codes "(a)).") × IsNoClause (codes "X = \\+ a.")
 
 -- The text of three terms in the canonical style (7.10.5): an integer below 0; an atom that stands in quotes; and
 -- f(X, g(a, 1), Y, X), where X is variable 3 and Y variable 0: they are `_k` by first occurrence (own).

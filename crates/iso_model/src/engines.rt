@@ -9,6 +9,7 @@ ghost use Rattle.iso_model.specs.Engines.{Phase, Ready, Spent, Starts, Pauses, S
 
 use super::pauses::{AddFault, Pause, StartFault};
 use super::terms::Term;
+use iso_ops::{Flags, OpTable};
 
 /// A search for the solutions of goals over a list of clauses, event by event (7.7). An engine stands for a state of the
 /// standard's search; what it answers are that state's events and its ending.
@@ -38,6 +39,14 @@ pub trait Engine {
         ensures spent { (s : State) → stands_for self.old s → phase self.old ≡ Spent
             → StaysSpent s result (stands_for self.new) (phase self.new) }
         ensures left { FallsAtEvent result (left self.old) (left self.new) };
+
+    /// The operators as they are now.
+    fn ops(&self) -> &OpTable
+        ensures { (s : State) → stands_for self.now s → result.now ≡ s.world.operators };
+
+    /// The flags as they are now.
+    fn flags(&self) -> &Flags
+        ensures { (s : State) → stands_for self.now s → result.now ≡ s.world.flags };
 
     /// Adds a clause at the end of its procedure; the rest of a run is dropped. The errors: the clause is refused with its
     /// error, or memory was refused; the database is as it was then.

@@ -1,11 +1,5 @@
 //! Laws of the definitions of reading. Each is the contract of a function that does nothing.
-ghost use Rattle.iso_model.specs.Operators.{IsTable, operators};
 ghost use Rattle.iso_model.specs.ReadingLaws.{AtMostOneClause, ReadsTheClause, ReadsTheNextClause, ClausesAreWellRead};
-
-/// The language's operators are a table that the other laws speak of.
-pub fn operators_are_a_table()
-    ensures { IsTable operators }
-{}
 
 /// Tokens are at most one clause (own).
 pub fn at_most_one_clause()

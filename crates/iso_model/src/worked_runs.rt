@@ -1,5 +1,5 @@
 //! Worked runs: what small programs answer by the definitions. Each is the contract of a function that does nothing.
-ghost use Rattle.iso_model.specs.WorkedRuns.{EndlessUsesItsBudget, FactsAreAnswered, NothingHoldsItself, AppendSplits, UnknownIsAnError, NumbersAreNoGoals, EachGoalTakesAStep, JoinIsSearched};
+ghost use Rattle.iso_model.specs.WorkedRuns.{EndlessUsesItsBudget, FactsAreAnswered, NothingHoldsItself, EquationsAreChecked, AppendSplits, UnknownIsAnError, NumbersAreNoGoals, EachGoalTakesAStep, JoinIsSearched};
 
 /// `l :- l.` with the query `l` uses up its budget, however large, and shows nothing.
 pub fn endless()
@@ -19,6 +19,11 @@ pub fn equal()
 /// `app(X, Y, c(1, nil))` over the clauses of append has two answers, in the order of the clauses.
 pub fn append()
     ensures { AppendSplits }
+{}
+
+/// `X = f(X)` has no answer, and takes a step (8.2.1; the check of occurrence is own).
+pub fn equation()
+    ensures { EquationsAreChecked }
 {}
 
 /// A call of an unknown procedure throws an existence error (7.7.7).

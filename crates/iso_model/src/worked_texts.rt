@@ -1,5 +1,5 @@
 //! Worked texts: the tokens and the reading of short clauses, and the text of terms. Each is the contract of a function that does nothing.
-ghost use Rattle.iso_model.specs.WorkedTexts.{TokensOfThreeClauses, ReadingOfThreeClauses, NoClauses, TextOfThreeTerms};
+ghost use Rattle.iso_model.specs.WorkedTexts.{TokensOfThreeClauses, ReadingOfThreeClauses, NoClauses, ReadingOfSigns, ReadingOfBrackets, ReadingOfIntegers, NoTerms, TextOfThreeTerms};
 
 /// The tokens of `eq(X, X).`, of `p(Y, _) :- q, r(1, Y).` and of `l:-l. % again`, each with its place (6.4).
 pub fn tokens_of_three_clauses()
@@ -19,4 +19,24 @@ pub fn no_clauses()
 /// The text of -5, of the atom `it's` and of `f(X, g(a, 1), Y, X)` (7.10.5).
 pub fn text_of_three_terms()
     ensures { TextOfThreeTerms }
+{}
+
+/// What terms with signs are read as (6.3.4.2).
+pub fn reading_of_signs()
+    ensures { ReadingOfSigns }
+{}
+
+/// What terms with brackets, lists, braces and quoted items are read as (6.3.4 to 6.3.7).
+pub fn reading_of_brackets()
+    ensures { ReadingOfBrackets }
+{}
+
+/// What integers of all forms are read as (6.4.4).
+pub fn reading_of_integers()
+    ensures { ReadingOfIntegers }
+{}
+
+/// Six texts that are no terms (6.3, 6.4).
+pub fn no_terms()
+    ensures { NoTerms }
 {}

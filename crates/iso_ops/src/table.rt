@@ -221,6 +221,13 @@ impl OpTable {
         Ok(())
     }
 
+    /// What holds of every table, for those who prove by it. Takes no memory.
+    pub fn is_table(&self)
+        ensures { IsOpTable self.now }
+    {
+        let _is_empty = self.entries.is_empty();
+    }
+
     /// How many operators there are. Takes no memory.
     pub fn len(&self) -> usize
         ensures length { result ≡ length self.now }

@@ -6,7 +6,7 @@ use Rattle.iso_model.specs.Unification.{unify_under}
 use Rattle.iso_model.specs.Copies.{renamed}
 use Rattle.iso_model.specs.Bodies.{Body, Run, And}
 use Rattle.iso_model.specs.Databases.{Clause, key_of}
-use Rattle.iso_model.specs.Walker.{State, World, Member, Goal, Fail, Raise, Left, Clauses, Alternative, Event, Ending, Outcome, Goes, Gives, Ends, charged, paid, entered, tried_clause, with_others, tried, retried, backtracked, Selected, Succeeds, Fails, User, selected, called, clauses_for, run_goal, step_goal, step_list, step}
+use Rattle.iso_model.specs.Walker.{State, World, Member, Goal, Fail, Raise, Left, Clauses, Alternative, Event, Ending, Outcome, Goes, Gives, Ends, charged, paid, entered, tried_clause, with_others, tried, retried, backtracked, Selected, Succeeds, Fails, Equates, User, equated, selected, called, clauses_for, run_goal, step_goal, step_list, step}
 use Rattle.iso_model.specs.Runs.{Trace, goes, gives, ends}
 use Rattle.iso_model.specs.Runs as runs
 use Rattle.iso_model.specs.RunLaws.Exists.{has_run}
@@ -96,9 +96,14 @@ called_alike : {s t : State} (cs : Option (List Clause)) (g : Tree) (rest : List
 called_alike (Some cs) g rest a = tried_alike g cs rest a
 called_alike None g rest (alike a) = alike a
 
+equated_alike : {s t : State} (u : Option Subst) (rest : List Member) → Alike s t → Alike (equated u rest s) (equated u rest t)
+equated_alike None rest (alike a) = alike a
+equated_alike (Some u) rest (alike a) = alike a
+
 goal_alike : {s t : State} (k : Selected) (g : Tree) (rest : List Member) → Alike s t → Alike (run_goal k g rest s) (run_goal k g rest t)
 goal_alike Succeeds g rest (alike a) = alike a
 goal_alike Fails g rest (alike a) = alike a
+goal_alike (Equates x y) g rest (alike {subst = r} a) = equated_alike (unify_under r x y) rest (alike a)
 goal_alike User g rest (alike {world = w} a) = called_alike (clauses_for (key_of g) w.database) g rest (alike a)
 
 charged_alike : {o p : Outcome} (n : ℕ) → AlikeOut o p → AlikeOut (charged n o) (charged n p)

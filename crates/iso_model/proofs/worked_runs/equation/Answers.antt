@@ -1,0 +1,5 @@
+use Rattle.iso_model.proofs.WorkedRows.{equation_run}
+use Rattle.iso_model.proofs.worked_runs.equation.Goals as goal
+
+pub returns : goal.returns
+returns c = equation_run

@@ -1,0 +1,5 @@
+use Rattle.iso_model.proofs.WorkedSyntax.{brackets_read}
+use Rattle.iso_model.proofs.worked_texts.reading_of_brackets.Goals as goal
+
+pub returns : goal.returns
+returns c = brackets_read
