@@ -1,12 +1,12 @@
 -- The lexeme at the front of a text is of it, and ends at the end of a character.
-use Rattle.std.proofs.Common.{◌≡◌, ℕ, ◌+◌, ◌<◌, ◌≤◌, Bool, true, false, ◌&&◌, ◌==◌, List, [], ◌∷◌, length, drop, if◌then◌else◌, slice_index, arith, Some, None, Option, IsUtf8, IsCharBoundary}
+use Rattle.std.proofs.Common.{◌≡◌, ℕ, ◌+◌, ◌<◌, ◌≤◌, Bool, true, false, ◌&&◌, ◌==◌, List, [], ◌∷◌, length, drop, if◌then◌else◌, slice_index, refl, arith, Some, None, Option, IsUtf8, IsCharBoundary}
 use Rattle.std.proofs.lemmas.Bool.{cond_both}
 use Rattle.std.proofs.lemmas.Bool.Decides.{nat_tests}
 use Rattle.std.specs.Option.{option_map_or}
 use Rattle.iso_model.specs.Characters.{is_layout, is_small, is_digit, is_alphanumeric, begins_variable, is_graphic, is_punctuation, is_solo, is_in_line, run}
 use Rattle.iso_model.specs.Token.{TokenKind, QuotedToken, DoubleToken}
 use Rattle.iso_model.specs.Quoted.{item_len}
-use Rattle.iso_model.specs.Lexemes.{Lexeme, bad_character, quoted, comment_len, stops_clause, graphic, lexeme}
+use Rattle.iso_model.specs.Lexemes.{Lexeme, bad_character, quoted, comment_len, stops_clause, graphic, symbol, lexeme}
 use Rattle.iso_model.proofs.CutLemmas.{Ends, EndsIn, byte_within, ascii-ends, run-ends, run-some, line-ends, character-ends, ends_later, last-ends}
 use Rattle.iso_model.proofs.NumberLemmas.{integer-ends}
 use Rattle.iso_model.proofs.QuotedLemmas.{item-ends}
@@ -81,6 +81,15 @@ graphic-ends z some first =
     (λ e. record { ends = ascii-ends z 0 some (stop_ascii _ _ _ e) })
     (λ _. record { ends = run-ends is_graphic graphic-ascii z (run-some is_graphic z some first) })
 
+symbol-ends : (z : List ℕ) → 0 < length z → EndsLexeme z (symbol z)
+symbol-ends z some =
+    let b = slice_index z 0 in
+    let one = λ (small : b < 128). ascii-ends z 0 some small in
+    ends_if z (b == 47 && slice_index z 1 == 42) _ _ (λ _. commented-ends_by z (comment_len (drop 2 z)) some (comment-ends (drop 2 z))) (λ _.
+    ends_if z (is_graphic b) _ _ (λ e. graphic-ends z some e) (λ _.
+    ends_if z (is_punctuation b) _ _ (λ e. record { ends = one (punctuation-ascii _ e) }) (λ _.
+    ends_if z (is_solo b) _ _ (λ e. record { ends = one (solo-ascii _ e) }) (λ _. bad-ends z some))))
+
 lexeme-ends : (z : List ℕ) → 0 < length z → EndsLexeme z (lexeme z)
 unfolding lexeme
 lexeme-ends z some =
@@ -93,11 +102,7 @@ lexeme-ends z some =
     ends_if z (begins_variable b) _ _ (λ e. record { ends = word (variable_word b e) }) (λ _.
     ends_if z (is_digit b) _ _ (λ e. record { ends = integer-ends z some e }) (λ _.
     ends_if z (b == 39) _ _ (λ _. quoted-ends QuotedToken 39 z (omega arith) (omega arith) some) (λ _.
-    ends_if z (b == 34) _ _ (λ _. quoted-ends DoubleToken 34 z (omega arith) (omega arith) some) (λ _.
-    ends_if z (b == 47 && slice_index z 1 == 42) _ _ (λ _. commented-ends_by z (comment_len (drop 2 z)) some (comment-ends (drop 2 z))) (λ _.
-    ends_if z (is_graphic b) _ _ (λ e. graphic-ends z some e) (λ _.
-    ends_if z (is_punctuation b) _ _ (λ e. record { ends = one (punctuation-ascii _ e) }) (λ _.
-    ends_if z (is_solo b) _ _ (λ e. record { ends = one (solo-ascii _ e) }) (λ _. bad-ends z some)))))))))))
+    ends_if z (b == 34) _ _ (λ _. quoted-ends DoubleToken 34 z (omega arith) (omega arith) some) (λ _. symbol-ends z some)))))))
 
 -- the lexeme at the front of a text ends where a character does
 pub lexeme-cut : (z : List ℕ) → IsUtf8 z → 0 < length z → IsCharBoundary z (lexeme z).1
@@ -106,3 +111,17 @@ lexeme-cut z utf8 some = (lexeme-ends z some).ends.cut utf8
 -- the lexeme has a byte or more, and no more than the text has
 pub lexeme-within : (z : List ℕ) → 0 < length z → (1 ≤ (lexeme z).1) × ((lexeme z).1 ≤ length z)
 lexeme-within z some = let h = (lexeme-ends z some).ends in (h.some, h.all)
+
+-- what a byte is that begins a symbol
+pub record BeginsSymbol (b : ℕ) : Type 0 where
+  pub percent : (b == 37) ≡ false
+  pub small : is_small b ≡ false
+  pub variable : begins_variable b ≡ false
+  pub digit : is_digit b ≡ false
+  pub single : (b == 39) ≡ false
+  pub double : (b == 34) ≡ false
+
+-- a text that begins with a symbol
+pub lexeme-symbol : (z : List ℕ) → is_layout (slice_index z 0) ≡ false → BeginsSymbol (slice_index z 0) → lexeme z ≡ symbol z
+unfolding lexeme
+lexeme-symbol z layout h = rw (layout, h.percent, h.small, h.variable, h.digit, h.single, h.double) refl

@@ -1,9 +1,12 @@
--- A number, a character code and an escape end where a character does.
-use Rattle.std.proofs.Common.{◌≡◌, ℕ, ◌+◌, ◌<◌, ◌≤◌, Bool, true, false, ◌&&◌, ◌||◌, ◌==◌, nat_lt, if◌then◌else◌, List, length, drop, slice_index, refl, arith, Option, Some, None, option_map, unwrap_or, IfSome}
+-- A number, a character code and an escape end where a character does; and what digits do to a number.
+use Rattle.std.proofs.Common.{◌≡◌, ℕ, ◌+◌, ◌<◌, ◌≤◌, Bool, true, false, ◌&&◌, ◌||◌, ◌==◌, nat_lt, if◌then◌else◌, ◌^◌, List, [], ◌∷◌, length, drop, fold, slice_index, refl, sym, ◌∙◌, arith, Option, Some, None, option_map, unwrap_or, IfSome}
 use Rattle.std.proofs.lemmas.Bool.{cond_both}
 use Rattle.std.proofs.lemmas.Bool.Decides.{nat_tests}
+use Rattle.std.proofs.lemmas.List.{drop_more}
+use Rattle.std.proofs.Math.Nat.{mul-le-mul_left}
 use Rattle.iso_model.specs.Characters.{is_digit, is_digit_of, run}
-use Rattle.iso_model.specs.Numbers.{Written, digits_at, is_scalar, sign_code, code_escape, escape, quoted_character, behind_two, based, special, integer_at}
+use Rattle.iso_model.specs.Token.{bounded}
+use Rattle.iso_model.specs.Numbers.{Written, number_step, digits_at, is_scalar, sign_code, code_escape, escape, quoted_character, behind_two, based, special, integer_at}
 use Rattle.iso_model.proofs.CutLemmas.{Ends, byte_within, ascii-ends, run-ends, run-some, character-ends, ends-behind}
 
 digit_of-ascii : (base : ℕ) → base ≤ 36 → (b : ℕ) → is_digit_of base b ≡ true → b < 128
@@ -93,3 +96,23 @@ integer-ends_by z (Some w) h plain = h.ends
 pub integer-ends : (z : List ℕ) → 0 < length z → is_digit (slice_index z 0) ≡ true → Ends z (integer_at z).len
 integer-ends z some first =
     integer-ends_by z (special z) (special-ends z) (run-ends (is_digit_of 10) (digit_of-ascii 10 (omega arith)) z (run-some (is_digit_of 10) z some (decimal (slice_index z 0) first)))
+
+-- a number doesn't fall by further digits
+digits-grow : (base : ℕ) → 1 ≤ base → (digits : List ℕ) (n : ℕ) → n ≤ fold (number_step base) n digits
+digits-grow base some [] n = omega arith
+digits-grow base some (b ∷ digits) n = omega (arith, mul-le-mul_left n some, digits-grow base some digits (number_step base n b))
+
+-- one digit on
+digits-more : (base : ℕ) (digits : List ℕ) (i n : ℕ) → i < length digits
+    → fold (number_step base) n (drop i digits) ≡ fold (number_step base) (number_step base n (slice_index digits i)) (drop (i + 1) digits)
+digits-more base digits i n within = rw (drop_more digits i 0 within) refl
+
+too_great : (n : ℕ) → 2 ^ 63 < n → bounded n ≡ None
+too_great n above = grind (arith, nat_tests)
+
+-- where a digit more is too great, the whole is
+pub digits-over : (base : ℕ) → 1 ≤ base → (digits : List ℕ) (i n whole : ℕ) → i < length digits → 2 ^ 64 ≤ number_step base n (slice_index digits i)
+    → fold (number_step base) n (drop i digits) ≡ whole → bounded whole ≡ None
+digits-over base some digits i n whole within over is =
+    let grows = digits-grow base some (drop (i + 1) digits) (number_step base n (slice_index digits i)) in
+    too_great whole (omega (arith, grows, sym (digits-more base digits i n within) ∙ is))

@@ -1,8 +1,6 @@
 -- The tokens of a text, a lexeme at a time.
-use Rattle.std.proofs.Common.{◌≡◌, ℕ, zero, suc, ◌+◌, ◌-◌, ◌^◌, ◌<◌, ◌≤◌, Bool, true, false, List, [], ◌∷◌, length, take, drop, fold, slice_index, refl, sym, ap, ◌∙◌, arith, Some, None}
-use Rattle.std.proofs.lemmas.List.{drop_more}
-use Rattle.iso_model.specs.Token.{TokenKind, digit_step, bounded}
-use Rattle.std.proofs.lemmas.Bool.Decides.{nat_tests}
+use Rattle.std.proofs.Common.{◌≡◌, ℕ, zero, suc, ◌+◌, ◌-◌, ◌<◌, ◌≤◌, Bool, true, false, List, [], ◌∷◌, length, take, drop, refl, sym, ap, ◌∙◌, arith, Some, None}
+use Rattle.iso_model.specs.Token.{TokenKind}
 use Rattle.iso_model.specs.Lexemes.{lexeme}
 use Rattle.iso_model.specs.Tokens.{tokens_from}
 
@@ -43,21 +41,3 @@ pub tokens-nil : (at : ℕ) (after : Bool) (z : List ℕ) → length z ≡ 0 →
 unfolding tokens_from
 tokens-nil at after [] none = refl
 tokens-nil at after (b ∷ z) none = absurd (omega arith)
-
--- a number doesn't fall by further digits
-pub digits-grow : (digits : List ℕ) (n : ℕ) → n ≤ fold digit_step n digits
-digits-grow [] n = omega arith
-digits-grow (b ∷ digits) n = omega (arith, digits-grow digits (digit_step n b))
-
--- one digit on
-pub digits-more : (digits : List ℕ) (i n : ℕ) → i < length digits → fold digit_step n (drop i digits) ≡ fold digit_step (digit_step n (slice_index digits i)) (drop (i + 1) digits)
-digits-more digits i n within = rw (drop_more digits i 0 within) refl
-
-too_great : (n : ℕ) → 2 ^ 63 < n → bounded n ≡ None
-too_great n above = grind (arith, nat_tests)
-
--- where a digit more is too great, the whole is
-pub digits-over : (digits : List ℕ) (i n whole : ℕ) → i < length digits → 2 ^ 64 ≤ digit_step n (slice_index digits i) → fold digit_step n (drop i digits) ≡ whole → bounded whole ≡ None
-digits-over digits i n whole within over is =
-    let grows = digits-grow (drop (i + 1) digits) (digit_step n (slice_index digits i)) in
-    too_great whole (omega (arith, grows, sym (digits-more digits i n within) ∙ is))

@@ -39,6 +39,16 @@ graphic text =
     let n = run is_graphic text in
     if n == 1 && (slice_index text 0 == 46 && stops_clause (drop 1 text)) then (Some EndToken, 1) else (Some NameToken, n)
 
+-- a text that begins with none of layout, `%`, letters, `_`, digits and quotes
+abbrev pub symbol : List ℕ → Lexeme
+symbol text =
+    let byte = slice_index text 0 in
+    if byte == 47 && slice_index text 1 == 42 then commented text
+    else (if is_graphic byte then graphic text
+    else (if is_punctuation byte then (Some PunctToken, 1)
+    else (if is_solo byte then (Some NameToken, 1)
+    else bad_character text)))
+
 -- the lexeme at the front of a text that isn't empty
 unfoldable pub lexeme : List ℕ → Lexeme
 lexeme text =
@@ -50,8 +60,4 @@ lexeme text =
     else (if is_digit byte then (Some IntegerToken, (integer_at text).len)
     else (if byte == 39 then quoted QuotedToken 39 text
     else (if byte == 34 then quoted DoubleToken 34 text
-    else (if byte == 47 && slice_index text 1 == 42 then commented text
-    else (if is_graphic byte then graphic text
-    else (if is_punctuation byte then (Some PunctToken, 1)
-    else (if is_solo byte then (Some NameToken, 1)
-    else bad_character text))))))))))
+    else symbol text))))))

@@ -9,9 +9,13 @@ pub record Written : Type 0 where
   pub value : ℕ
   pub len : ℕ
 
+-- a number of a base with one more digit
+abbrev pub number_step : ℕ → ℕ → ℕ → ℕ
+number_step base n digit = n * base + digit_value digit
+
 -- the number that digits of a base write, a digit at a time
 abbrev pub number_value : ℕ → List ℕ → ℕ
-number_value base digits = fold (λ n digit. n * base + digit_value digit) 0 digits
+number_value base digits = fold (number_step base) 0 digits
 
 -- the digits of a base at the front of a text
 abbrev pub digits_at : ℕ → List ℕ → Written

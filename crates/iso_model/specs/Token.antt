@@ -1,5 +1,5 @@
 -- A token as clauses see it (ISO/IEC 13211-1:1995, 6.4).
-use Rattle.std.specs.Prelude.{ℕ, ◌+◌, ◌-◌, ◌*◌, ◌^◌, Bool, nat_le, if◌then◌else◌, List, drop, fold, Option, Some, None}
+use Rattle.std.specs.Prelude.{ℕ, ◌+◌, ◌-◌, ◌*◌, ◌^◌, Bool, ◌==◌, nat_le, if◌then◌else◌, List, drop, fold, slice_index, Option, Some, None}
 use Rattle.iso_model.specs.Numbers.{integer_at}
 use Rattle.iso_model.specs.Quoted.{item_content}
 
@@ -41,9 +41,13 @@ magnitude_by _ text = None
 abbrev pub magnitude : Shown → Option ℕ
 magnitude t = magnitude_by t.kind t.text
 
+-- the characters of an item that begins with such a quote; any other text stands for itself
+abbrev pub unquoted : ℕ → List ℕ → List ℕ
+unquoted quote text = if slice_index text 0 == quote then item_content quote (drop 1 text) else text
+
 abbrev pub content_of : TokenKind → List ℕ → List ℕ
-content_of QuotedToken text = item_content 39 (drop 1 text)
-content_of DoubleToken text = item_content 34 (drop 1 text)
+content_of QuotedToken text = unquoted 39 text
+content_of DoubleToken text = unquoted 34 text
 content_of _ text = text
 
 -- the characters that a token stands for: those of a quoted item (6.4.2.1, 6.4.6); of other kinds, its text

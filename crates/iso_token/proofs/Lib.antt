@@ -1,1 +1,3 @@
 pub mod ShowsLemmas
+pub mod CodeLemmas
+pub mod PieceLemmas

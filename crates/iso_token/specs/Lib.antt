@@ -1,3 +1,5 @@
 pub mod Classes
 pub mod Shows
 pub mod Cursor
+pub mod Numbers
+pub mod Quoted

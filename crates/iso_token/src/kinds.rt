@@ -1,15 +1,17 @@
 //! A token and its kind (ISO/IEC 13211-1:1995, 6.4).
-ghost use Rattle.std.specs.Prelude.{◌≡◌, ◌≤◌, ◌^◌, MatchOption, IfOk, string_bytes};
+ghost use Rattle.std.specs.Prelude.{◌≡◌, ◌<◌, IfOk, string_bytes};
 ghost use Rattle.iso_model.specs.Token as spec;
-ghost use Rattle.iso_model.specs.Token.{bounded, digit_step};
 
+use crate::classes::byte;
+use crate::numbers::integer_at;
+use crate::quoted::item_content;
 use iso_model::NoMemory;
 use std::alloc::Global;
 
 /// The kinds of tokens.
 #[derive(Clone, Copy, Debug, PartialEq, Eq)]
 pub enum Kind {
-    /// An unquoted name: of letters, digits and `_`, or of graphic characters (6.4.2).
+    /// An unquoted name: of letters, digits and `_`, of graphic characters, `!` or `;` (6.4.2).
     Name,
     /// A name in single quotes (6.4.2.1).
     Quoted,
@@ -19,7 +21,7 @@ pub enum Kind {
     Variable,
     /// An integer (6.4.4).
     Integer,
-    /// A bracket or a comma (6.4.8).
+    /// A bracket, a brace, a comma or the bar (6.4.8).
     Punct,
     /// The full stop that ends a clause (6.4.8).
     End,
@@ -39,30 +41,16 @@ pub struct Token<'t> {
     pub after_layout: bool,
 }
 
-/// The greatest value of an integer token: the size of the least integer (own limit).
-const MAX_MAGNITUDE: u64 = 9_223_372_036_854_775_808;
-
-/// A number with one more decimal digit; none where it doesn't fit.
-fn with_digit(value: u64, digit: u8) -> Option<u64>
-    ensures { MatchOption result (2 ^ 64 ≤ digit_step value digit) (λ n. n ≡ digit_step value digit) }
+/// The characters of an item that begins with such a quote; any other text stands for itself.
+fn unquoted(alloc: Global, quote: u8, text: &str) -> Result<String, NoMemory>
+    requires { (0 < quote) × (quote < 128) }
+    ensures { IfOk result (λ content. string_bytes content ≡ spec.unquoted quote text.now) }
 {
-    value
-        .checked_mul(10)?
-        .checked_add(u64::from(digit.saturating_sub(b'0')))
-}
-
-/// The number that decimal digits write; none above `MAX_MAGNITUDE`.
-fn digits_value(digits: &[u8]) -> Option<u64>
-    ensures { result ≡ bounded (spec.digits_value digits.now) }
-{
-    let mut value = 0u64;
-    for digit in digits {
-        value = with_digit(value, *digit)?;
-    }
-    if value <= MAX_MAGNITUDE {
-        Some(value)
+    if byte(text.as_bytes(), 0) == quote {
+        let (_, item) = text.split_at(1);
+        item_content(alloc, quote, item)
     } else {
-        None
+        String::from_str(alloc, text)
     }
 }
 
@@ -74,7 +62,7 @@ impl<'t> Token<'t> {
         ensures { result ≡ spec.magnitude (shown self.now) }
     {
         match self.kind {
-            Kind::Integer => digits_value(self.text.as_bytes()),
+            Kind::Integer => integer_at(self.text.as_bytes()).value,
             _ => None,
         }
     }
@@ -83,6 +71,10 @@ impl<'t> Token<'t> {
     pub fn content(&self, alloc: Global) -> Result<String, NoMemory>
         ensures { IfOk result (λ text. string_bytes text ≡ spec.content (shown self.now)) }
     {
-        String::from_str(alloc, self.text)
+        match self.kind {
+            Kind::Quoted => unquoted(alloc, b'\'', self.text),
+            Kind::Double => unquoted(alloc, b'"', self.text),
+            _ => String::from_str(alloc, self.text),
+        }
     }
 }

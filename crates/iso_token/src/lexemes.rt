@@ -1,27 +1,22 @@
 //! What stands at the front of a text: the longest token, or layout (ISO/IEC 13211-1:1995, 6.4).
 ghost use Rattle.std.specs.Prelude.{◌≡◌, ◌<◌, ◌≤◌, true, length, slice_index, IfSome};
 ghost use Rattle.iso_model.specs.Characters as characters;
-ghost use Rattle.iso_model.specs.Characters.{is_graphic};
+ghost use Rattle.iso_model.specs.Characters.{is_digit, is_graphic};
+ghost use Rattle.iso_model.specs.Numbers as numbers;
 ghost use Rattle.iso_model.specs.Lexemes as spec;
 ghost use Rattle.iso_token.specs.Classes.{is_of};
 ghost use Rattle.iso_token.specs.Shows.{kind_of, lexeme_of};
 
-use crate::classes::{Class, is_in, is_layout, run};
+use crate::classes::{Class, byte, character_len, is_in, is_layout, run};
 use crate::kinds::Kind;
+use crate::numbers::integer_at;
+use crate::quoted::item_len;
 
 /// A token's kind, or none for layout and comments, and a length in bytes.
 #[derive(Clone, Copy, Debug)]
 pub struct Lexeme {
     pub kind: Option<Kind>,
     pub len: usize,
-}
-
-/// The byte at a place, or 0 behind the end.
-fn byte(bytes: &[u8], at: usize) -> u8
-    ensures value { result ≡ slice_index bytes.now at }
-    ensures within { 0 < result → at < length bytes.now }
-{
-    if at < bytes.len() { bytes[at] } else { 0 }
 }
 
 /// One character that begins no token.
@@ -32,7 +27,23 @@ fn bad_character(bytes: &[u8]) -> Lexeme
 {
     Lexeme {
         kind: Some(Kind::Bad),
-        len: 1 + run(Class::Continuation, &bytes[1..]),
+        len: character_len(bytes),
+    }
+}
+
+/// What begins with a quote: an item of this kind (6.4.2.1, 6.4.6), or a bad character where it isn't well closed.
+fn quoted(kind: Kind, quote: u8, bytes: &[u8]) -> Lexeme
+    requires nonempty { 0 < length bytes.now }
+    requires ascii { (0 < quote) × (quote < 128) }
+    ensures value { lexeme_of result ≡ spec.quoted (kind_of kind) quote bytes.now }
+    ensures within { (1 ≤ result.len) × (result.len ≤ length bytes.now) }
+{
+    match item_len(quote, &bytes[1..]) {
+        None => bad_character(bytes),
+        Some(n) => Lexeme {
+            kind: Some(kind),
+            len: 1 + n,
+        },
     }
 }
 
@@ -107,6 +118,40 @@ fn run_of(kind: Kind, class: Class, bytes: &[u8]) -> Lexeme
     }
 }
 
+/// A text that begins with a digit: an integer (6.4.4).
+fn integer(bytes: &[u8]) -> Lexeme
+    requires nonempty { 0 < length bytes.now }
+    requires begins { is_digit (slice_index bytes.now 0) ≡ true }
+    ensures value { lexeme_of result ≡ (Some (kind_of Kind.Integer), (numbers.integer_at bytes.now).len) }
+    ensures within { (1 ≤ result.len) × (result.len ≤ length bytes.now) }
+{
+    Lexeme {
+        kind: Some(Kind::Integer),
+        len: integer_at(bytes).len,
+    }
+}
+
+/// What begins with none of layout, `%`, letters, `_`, digits and quotes.
+fn symbol(bytes: &[u8]) -> Lexeme
+    requires { 0 < length bytes.now }
+    ensures value { lexeme_of result ≡ spec.symbol bytes.now }
+    ensures within { (1 ≤ result.len) × (result.len ≤ length bytes.now) }
+{
+    match bytes[0] {
+        b'/' if byte(bytes, 1) == b'*' => commented(bytes),
+        b if is_in(Class::Graphic, b) => graphic(bytes),
+        b'(' | b')' | b'[' | b']' | b'{' | b'}' | b',' | b'|' => Lexeme {
+            kind: Some(Kind::Punct),
+            len: 1,
+        },
+        b'!' | b';' => Lexeme {
+            kind: Some(Kind::Name),
+            len: 1,
+        },
+        _ => bad_character(bytes),
+    }
+}
+
 /// The lexeme at the front of a text that isn't empty.
 #[tactic(auto, unfolding(iso_model::specs::Lexemes::lexeme))]
 pub fn first_lexeme(bytes: &[u8]) -> Lexeme
@@ -122,13 +167,9 @@ pub fn first_lexeme(bytes: &[u8]) -> Lexeme
         },
         b'a'..=b'z' => run_of(Kind::Name, Class::Alphanumeric, bytes),
         b'A'..=b'Z' | b'_' => run_of(Kind::Variable, Class::Alphanumeric, bytes),
-        b'0'..=b'9' => run_of(Kind::Integer, Class::Digit, bytes),
-        b'/' if byte(bytes, 1) == b'*' => commented(bytes),
-        b'(' | b')' | b',' => Lexeme {
-            kind: Some(Kind::Punct),
-            len: 1,
-        },
-        b if is_in(Class::Graphic, b) => graphic(bytes),
-        _ => bad_character(bytes),
+        b'0'..=b'9' => integer(bytes),
+        b'\'' => quoted(Kind::Quoted, b'\'', bytes),
+        b'"' => quoted(Kind::Double, b'"', bytes),
+        _ => symbol(bytes),
     }
 }
