@@ -1,16 +1,17 @@
 -- What consulting a term comes to.
-use Rattle.std.proofs.Common.{◌≡◌, ℕ, zero, suc, ◌+◌, ◌-◌, ◌≤◌, ◌<◌, min, List, [], ◌∷◌, ◌++◌, length, codes, Option, Some, None, Result, Err, IfSome, refl, ap, subst, ◌∙◌, arith}
+use Rattle.std.proofs.Common.{◌≡◌, ℕ, zero, suc, ◌+◌, ◌-◌, ◌≤◌, ◌<◌, min, true, false, List, [], ◌∷◌, ◌++◌, length, codes, Option, Some, None, Result, Err, IfSome, refl, ap, subst, ◌∙◌, arith}
 use Rattle.std.specs.Fmt.{decimal}
 use Rattle.iso_model.specs.Trees.{Tree}
 use Rattle.iso_model.specs.Terms.{term_of}
-use Rattle.iso_model.specs.Additions.{Addition, Adds, Refuses}
+use Rattle.iso_model.specs.Additions.{Addition, Adds, Refuses, addition}
 use Rattle.iso_model.specs.Engines.{Phase, Ready, Consults}
 use Rattle.iso_model.specs.Walker.{World, State, idle}
-use Rattle.iso_model.specs.Lines.{counted, text_of, refused_line, syntax_error_line}
+use Rattle.iso_model.specs.Lines.{counted, text_of, refused_line, skipped_line, syntax_error_line}
 use Rattle.iso_model.specs.Token.{Shown}
-use Rattle.iso_model.specs.Operators.{operators}
+use Rattle.iso_ops.specs.Operators.{Operator}
+use Rattle.iso_ops.specs.declared.settings.Flags.{Flags}
 use Rattle.iso_model.specs.Items.{Item, Unreadable, Taken, next_item}
-use Rattle.iso_model.specs.Sessions.{Script, added_script, term_script, text_by, text_script}
+use Rattle.iso_model.specs.Sessions.{Script, is_skipped, added_script, read_script, term_script, text_by, text_script}
 use Rattle.iso_model.specs.declared.pauses.Ball.{Ball}
 use Rattle.iso_model.specs.declared.pauses.AddFault.TheVariants as add
 use Rattle.iso_session.specs.declared.items.Item.{Item as RustItem}
@@ -38,6 +39,21 @@ pub unreadable : (Stands : State → Type 0) (now : Phase) (old new : Place) (co
 unreadable Stands now old new count k s next r stands ready counts puts =
     let line = subst (λ z. PutsLine z flow.On old new r) (ap unreadable_by (counted_same count k counts)) puts in
     puts_on Stands now old new (syntax_error_line k) s next r line stands ready
+
+abbrev skipped_as : List ℕ → List ℕ
+skipped_as number = codes "clause " ++ (number ++ codes " skipped")
+
+-- the term is passed over
+pub skipped : (Stands : State → Type 0) (now : Phase) (old new : Place) (count k : ℕ) (t : Tree) (s : State) (next : World → Script) (r : Result Flow Fault)
+    → Stands s → now ≡ Ready → IsCount count k → is_skipped t ≡ true → PutsLine (skipped_line count) flow.On old new r
+    → Does Stands now old new (read_script k t s.world next) next r
+skipped Stands now old new count k t s next r stands ready counts is puts =
+    let line = subst (λ z. PutsLine z flow.On old new r) (ap skipped_as (counted_same count k counts)) puts in
+    rw is (puts_on Stands now old new (skipped_line k) s next r line stands ready)
+
+-- any other term is a clause
+pub not_skipped : (k : ℕ) (t : Tree) (w : World) (next : World → Script) → is_skipped t ≡ false → read_script k t w next ≡ added_script k (addition t w.database) w next
+not_skipped k t w next is = rw is refl
 
 -- the clause was refused with this ball
 pub refused : (Stands : State → Type 0) (now : Phase) (old new : Place) (count k : ℕ) (a : Addition) (s : State) (ball : Ball) (next : World → Script) (r : Result Flow Fault)
@@ -76,18 +92,18 @@ unfolding text_script
 text_over zero k w next = refl
 text_over (suc turns) k w next = refl
 
-pub empty_by : (ts : List Shown) → next_item operators ts ≡ None → ts ≡ []
-empty_by [] h = refl
-empty_by (t ∷ ts) h = cc
+pub empty_by : (table : List Operator) (flags : Flags) (ts : List Shown) → next_item table flags ts ≡ None → ts ≡ []
+empty_by table flags [] h = refl
+empty_by table flags (t ∷ ts) h = cc
 
 -- no item is left
 pub text_ends : (Stands : State → Type 0) (now : Phase) (count : ℕ) (ts : List Shown) (old new : Place) (script : Script) (next : World → Script)
-    → TextPlace Stands count ts old new script next → now ≡ Ready → next_item operators ts ≡ None → GoesOn Stands now old new script next
+    → (p : TextPlace Stands count ts old new script next) → now ≡ Ready → next_item p.at.world.operators p.at.world.flags ts ≡ None → GoesOn Stands now old new script next
 text_ends Stands now count ts old new script next p ready none =
-    let over = ap (λ z. text_script p.turns (p.done + 1) z p.at.world next) (empty_by ts none) ∙ text_over p.turns (p.done + 1) p.at.world next in
+    let over = ap (λ z. text_script p.turns (p.done + 1) z p.at.world next) (empty_by p.at.world.operators p.at.world.flags ts none) ∙ text_over p.turns (p.done + 1) p.at.world next in
     record { at = p.at; stands = p.stands; ready = ready; advances = subst (λ z. Advances old new script z) over p.advances }
 
-item_script : (turns k : ℕ) (ts : List Shown) (x : Taken) (w : World) (next : World → Script) → next_item operators ts ≡ Some x
+item_script : (turns k : ℕ) (ts : List Shown) (x : Taken) (w : World) (next : World → Script) → next_item w.operators w.flags ts ≡ Some x
     → text_script (suc turns) k ts w next ≡ term_script k x.item w (λ v. text_script turns (k + 1) x.behind v next)
 unfolding text_script
 item_script turns k ts x w next h = ap (λ o. text_by k w o next (λ behind v. text_script turns (k + 1) behind v next)) h
@@ -103,7 +119,7 @@ pub record TextTurn (Stands : State → Type 0) (count : ℕ) (i : Item) (behind
   pub advances : Advances old mid script (term_script k i at.world (λ v. text_script turns (k + 1) behind v next))
 
 pub text_turns : (Stands : State → Type 0) (count later : ℕ) (ts : List Shown) (x : Taken) (old mid : Place) (script : Script) (next : World → Script)
-    → TextPlace Stands count ts old mid script next → next_item operators ts ≡ Some x → length x.behind < length ts → later ≡ min (count + 1) 18446744073709551615
+    → (p : TextPlace Stands count ts old mid script next) → next_item p.at.world.operators p.at.world.flags ts ≡ Some x → length x.behind < length ts → later ≡ min (count + 1) 18446744073709551615
     → TextTurn Stands later x.item x.behind old mid script next
 text_turns Stands count later ts x old mid script next p item shorter counted =
     let some = p.turns - 1 in
@@ -142,12 +158,12 @@ nothing_by None later none = refl
 nothing_by (Some x) later none = absurd (none x refl)
 
 -- no item was found
-pub nothing_found : (ts later : List Shown) (o : Option RustItem) → next_item operators ts ≡ found o later → ((x : RustItem) → o ≡ Some x → ⊥) → next_item operators ts ≡ None
-nothing_found ts later o item none = item ∙ nothing_by o later none
+pub nothing_found : (table : List Operator) (flags : Flags) (ts later : List Shown) (o : Option RustItem) → next_item table flags ts ≡ found o later → ((x : RustItem) → o ≡ Some x → ⊥) → next_item table flags ts ≡ None
+nothing_found table flags ts later o item none = item ∙ nothing_by o later none
 
 -- the turn of the item that was found
 pub text_found : (Stands : State → Type 0) (count later : ℕ) (ts behind : List Shown) (o : Option RustItem) (i : RustItem) (old mid : Place) (script : Script) (next : World → Script)
-    → TextPlace Stands count ts old mid script next → next_item operators ts ≡ found o behind → o ≡ Some i → IfSome o (λ _. length behind < length ts)
+    → (p : TextPlace Stands count ts old mid script next) → next_item p.at.world.operators p.at.world.flags ts ≡ found o behind → o ≡ Some i → IfSome o (λ _. length behind < length ts)
     → later ≡ min (count + 1) 18446744073709551615 → TextTurn Stands later (item_read i) behind old mid script next
 text_found Stands count later ts behind o i old mid script next p item some shorter counted =
     let here = rw some at item in

@@ -7,7 +7,6 @@ use Rattle.iso_model.specs.Terms.{term_of}
 use Rattle.iso_model.specs.Engines.{Phase, Ready, Pauses}
 use Rattle.iso_model.specs.Grammar.{Clause}
 use Rattle.iso_model.specs.Token.{Shown}
-use Rattle.iso_model.specs.Operators.{operators}
 use Rattle.iso_model.specs.Items.{Item, Readable, Taken, next_item}
 use Rattle.iso_model.specs.Lines.{answer_line, solution_text, error_line, halt_line}
 use Rattle.iso_model.specs.Walker.{World, State, Ending, Answered, Wrote, NoMore, Budget, Uncaught, idle}
@@ -215,12 +214,12 @@ queries_over (suc turns) budget w = refl
 
 -- no query is left
 pub queries_end : (Stands : State → Type 0) (now : Phase) (budget : ℕ) (ts : List Shown) (old new : Place) (script : Script)
-    → QueriesPlace Stands budget ts old new script → now ≡ Ready → next_item operators ts ≡ None → GoesOn Stands now old new script (λ _. Closes Done)
+    → (p : QueriesPlace Stands budget ts old new script) → now ≡ Ready → next_item p.at.world.operators p.at.world.flags ts ≡ None → GoesOn Stands now old new script (λ _. Closes Done)
 queries_end Stands now budget ts old new script p ready none =
-    let over = ap (λ z. queries_script p.turns budget z p.at.world) (empty_by ts none) ∙ queries_over p.turns budget p.at.world in
+    let over = ap (λ z. queries_script p.turns budget z p.at.world) (empty_by p.at.world.operators p.at.world.flags ts none) ∙ queries_over p.turns budget p.at.world in
     record { at = p.at; stands = p.stands; ready = ready; advances = subst (λ z. Advances old new script z) over p.advances }
 
-query_turn : (turns budget : ℕ) (ts : List Shown) (x : Taken) (w : World) → next_item operators ts ≡ Some x
+query_turn : (turns budget : ℕ) (ts : List Shown) (x : Taken) (w : World) → next_item w.operators w.flags ts ≡ Some x
     → queries_script (suc turns) budget ts w ≡ query_script budget x.item w (queries_script turns budget x.behind)
 unfolding queries_script
 query_turn turns budget ts x w h = ap (λ o. queries_by budget w o (queries_script turns budget)) h
@@ -234,7 +233,7 @@ pub record QueryTurn (Stands : State → Type 0) (budget : ℕ) (i : Item) (behi
   pub advances : Advances old mid script (query_script budget i at.world (queries_script turns budget behind))
 
 queries_turn : (Stands : State → Type 0) (budget : ℕ) (ts : List Shown) (x : Taken) (old mid : Place) (script : Script)
-    → QueriesPlace Stands budget ts old mid script → next_item operators ts ≡ Some x → length x.behind < length ts → QueryTurn Stands budget x.item x.behind old mid script
+    → (p : QueriesPlace Stands budget ts old mid script) → next_item p.at.world.operators p.at.world.flags ts ≡ Some x → length x.behind < length ts → QueryTurn Stands budget x.item x.behind old mid script
 queries_turn Stands budget ts x old mid script p item shorter =
     let some = p.turns - 1 in
     let turn : p.turns ≡ suc some = omega (arith, p.enough, shorter) in
@@ -243,7 +242,7 @@ queries_turn Stands budget ts x old mid script p item shorter =
 
 -- the turn of the query that was found
 pub query_found : (Stands : State → Type 0) (budget : ℕ) (ts behind : List Shown) (o : Option RustItem) (i : RustItem) (old mid : Place) (script : Script)
-    → QueriesPlace Stands budget ts old mid script → next_item operators ts ≡ found o behind → o ≡ Some i → IfSome o (λ _. length behind < length ts)
+    → (p : QueriesPlace Stands budget ts old mid script) → next_item p.at.world.operators p.at.world.flags ts ≡ found o behind → o ≡ Some i → IfSome o (λ _. length behind < length ts)
     → QueryTurn Stands budget (item_read i) behind old mid script
 query_found Stands budget ts behind o i old mid script p item some shorter =
     let here = rw some at item in

@@ -19,6 +19,13 @@ pub fn syntax_error_line(alloc: Global, clause: u64) -> Result<Vec<u8>, AllocErr
     Ok(format!(in alloc; "syntax error in clause {clause}\n")?.into_bytes())
 }
 
+/// `clause K skipped`
+pub fn skipped_line(alloc: Global, clause: u64) -> Result<Vec<u8>, AllocError>
+    ensures { IfOk result (λ line. line.items ≡ lines.skipped_line clause ++ 10 ∷ []) }
+{
+    Ok(format!(in alloc; "clause {clause} skipped\n")?.into_bytes())
+}
+
 /// `clause K refused: E`
 pub fn refused_line(alloc: Global, clause: u64, error: &Term) -> Result<Vec<u8>, AllocError>
     ensures { IfOk result (λ line. line.items ≡ lines.refused_line clause (term_of error.now) ++ 10 ∷ []) }

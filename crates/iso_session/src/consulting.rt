@@ -2,7 +2,7 @@
 ghost use Rattle.std.specs.Prelude.{◌≡◌, ℕ, true, length};
 ghost use Rattle.iso_model.specs.Additions.{addition};
 ghost use Rattle.iso_model.specs.Engines.{Ready};
-ghost use Rattle.iso_model.specs.Sessions.{Script, added_script, term_script, text_script};
+ghost use Rattle.iso_model.specs.Sessions.{Script, added_script, read_script, term_script, text_script};
 ghost use Rattle.iso_model.specs.Terms.{term_of};
 ghost use Rattle.iso_model.specs.Tokens.{tokens};
 ghost use Rattle.iso_model.specs.Trees.{arities_fit};
@@ -14,6 +14,7 @@ use super::composed;
 use super::flows::{Flow, Limit, put_line};
 use super::items::{Item, take_item};
 use super::statuses::Fault;
+use super::terms::is_skipped;
 use iso_model::{AddFault, Engine, Term};
 use iso_token::Tokens;
 use std::alloc::Global;
@@ -46,6 +47,30 @@ fn consult_term<E: Engine, W: Write>(
     }
 }
 
+/// Consults the K-th term of the text, or says that it is skipped.
+fn consult_read<E: Engine, W: Write>(
+    alloc: Global,
+    engine: &mut E,
+    count: u64,
+    term: &Term,
+    out: &mut W,
+    within_line: &mut bool,
+) -> Result<Flow, Fault>
+    requires ready { E.phase engine.old ≡ Ready }
+    requires stands { (s : State) × E.stands_for engine.old s }
+    requires fits { arities_fit (term_of term.now) ≡ true }
+    ensures { (s : State) → E.stands_for engine.old s → (k : ℕ) → IsCount count k → (next : World → Script)
+        → Does (E.stands_for engine.new) (E.phase engine.new)
+        (W.contents out.old, within_line.old) (W.contents out.new, within_line.new)
+        (read_script k (term_of term.now) s.world next) next result }
+{
+    if is_skipped(term) {
+        let line = composed::skipped_line(alloc, count);
+        return put_line(out, within_line, line, Flow::On);
+    }
+    consult_term(alloc, engine, count, term, out, within_line)
+}
+
 /// Consults the K-th item of the text.
 fn consult_item<E: Engine, W: Write>(
     alloc: Global,
@@ -64,7 +89,7 @@ fn consult_item<E: Engine, W: Write>(
         (term_script k (item_read item) s.world next) next result }
 {
     match item {
-        Item::Readable(read) => consult_term(alloc, engine, count, &read.term, out, within_line),
+        Item::Readable(read) => consult_read(alloc, engine, count, &read.term, out, within_line),
         Item::Unreadable => {
             let line = composed::syntax_error_line(alloc, count);
             put_line(out, within_line, line, Flow::On)
@@ -90,7 +115,7 @@ pub fn consult_text<E: Engine, W: Write>(
     let mut tokens = Tokens::new(text);
     let mut count: u64 = 0;
     loop {
-        let Ok(next) = take_item(alloc, &mut tokens) else {
+        let Ok(next) = take_item(alloc, engine, &mut tokens) else {
             return Ok(Flow::Stops(Limit::Memory));
         };
         let Some(item) = next else {

@@ -1,9 +1,10 @@
 //! What is read of a text, item by item.
 ghost use Rattle.std.specs.Prelude.{◌≡◌, ◌<◌, length, true, IfOk, IfSome};
-ghost use Rattle.iso_model.specs.Operators.{operators};
 ghost use Rattle.iso_model.specs.Items.{next_item};
+ghost use Rattle.iso_model.specs.Walker.{State};
 ghost use Rattle.iso_session.specs.Read.{found, Fits};
 
+use iso_model::Engine;
 use iso_read::{Read, ReadFault, read_clause};
 use iso_token::Tokens;
 use std::alloc::{AllocError, Global};
@@ -17,13 +18,19 @@ pub enum Item {
     Unreadable,
 }
 
-/// The next item of a text; none at its end. The error is that memory was refused; the tokens aren't used any more then.
-pub fn take_item(alloc: Global, tokens: &mut Tokens<'_>) -> Result<Option<Item>, AllocError>
-    ensures item { IfOk result (λ item. next_item operators tokens.old ≡ found item tokens.new) }
+/// The next item of a text, by the operators and flags that the engine has now; none at its end. The error is that memory was
+/// refused; the tokens aren't used any more then.
+pub fn take_item<E: Engine>(
+    alloc: Global,
+    engine: &E,
+    tokens: &mut Tokens<'_>,
+) -> Result<Option<Item>, AllocError>
+    ensures item { (s : State) → E.stands_for engine.now s
+        → IfOk result (λ item. next_item s.world.operators s.world.flags tokens.old ≡ found item tokens.new) }
     ensures fits { IfOk result (λ item. IfSome item Fits) }
     ensures shorter { IfOk result (λ item. IfSome item (λ _. length tokens.new < length tokens.old)) }
 {
-    match read_clause(alloc, tokens) {
+    match read_clause(alloc, tokens, engine.ops(), engine.flags()) {
         Ok(None) => Ok(None),
         Ok(Some(read)) => Ok(Some(Item::Readable(read))),
         Err(ReadFault::Syntax) => Ok(Some(Item::Unreadable)),

@@ -14,6 +14,7 @@ mod plain_sessions;
 mod queries;
 mod sessions;
 mod statuses;
+mod terms;
 mod texts;
 pub mod words;
 mod written;

@@ -2,7 +2,7 @@
 ghost use Rattle.std.specs.Prelude.{◌≡◌, IfOk, []};
 ghost use Rattle.iso_model.specs.Beginnings.{SessionWrites, AnyRest};
 ghost use Rattle.iso_model.specs.Engines.{Ready};
-ghost use Rattle.iso_model.specs.Walker.{idle};
+ghost use Rattle.iso_model.specs.Walker.{idle, first_world};
 ghost use Rattle.iso_session.specs.Progress.{outcome_of};
 
 use super::flows::{Flow, Limit, close};
@@ -51,7 +51,7 @@ fn plain_session<W: Write>(
 /// A new plain engine over nodes. The error is that memory was refused.
 fn plain_engine(alloc: Global, limits: &Limits) -> Result<Plain<Nodes>, NoMemory>
     ensures ready { IfOk result (λ engine. ⟦<Plain<Nodes> as Engine>⟧.phase engine ≡ Ready) }
-    ensures new { IfOk result (λ engine. ⟦<Plain<Nodes> as Engine>⟧.stands_for engine (idle (record { database = [] }))) }
+    ensures new { IfOk result (λ engine. ⟦<Plain<Nodes> as Engine>⟧.stands_for engine (idle first_world)) }
 {
     let store = Nodes::new(alloc, limits.cells)?;
     Plain::new(alloc, store, limits.frames)

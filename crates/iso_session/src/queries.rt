@@ -18,6 +18,7 @@ use super::composed;
 use super::flows::{Flow, Limit, put_fixed, put_line};
 use super::items::{Item, take_item};
 use super::statuses::Fault;
+use super::terms::goal_of;
 use super::written::write_output;
 use iso_model::{Engine, Pause, StartFault};
 use iso_read::Read;
@@ -103,7 +104,7 @@ fn run_query<E: Engine, W: Write>(
         (W.contents out.old, within_line.old) (W.contents out.new, within_line.new)
         (query_script budget (Readable (clause_read read.now)) s.world next) next result }
 {
-    match engine.start(&read.term, budget) {
+    match engine.start(goal_of(&read.term), budget) {
         Ok(()) => run_pauses(alloc, engine, read.names.as_slice(), out, within_line),
         Err(StartFault::HeapFull) => Ok(Flow::Stops(Limit::Heap)),
         Err(StartFault::NoMemory) => Ok(Flow::Stops(Limit::Memory)),
@@ -151,7 +152,7 @@ pub fn run_queries<E: Engine, W: Write>(
 {
     let mut tokens = Tokens::new(queries);
     loop {
-        let Ok(next) = take_item(alloc, &mut tokens) else {
+        let Ok(next) = take_item(alloc, engine, &mut tokens) else {
             return Ok(Flow::Stops(Limit::Memory));
         };
         let Some(item) = next else {

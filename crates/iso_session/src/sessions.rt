@@ -2,7 +2,7 @@
 ghost use Rattle.std.specs.Prelude.{◌≡◌, []};
 ghost use Rattle.iso_model.specs.Engines.{Ready};
 ghost use Rattle.iso_model.specs.Sessions.{Closes, Done, session_script};
-ghost use Rattle.iso_model.specs.Walker.{idle};
+ghost use Rattle.iso_model.specs.Walker.{idle, first_world};
 ghost use Rattle.iso_model.specs.Beginnings.{SessionWrites, EngineStops};
 ghost use Rattle.iso_session.specs.Progress.{Does, outcome_of};
 
@@ -26,7 +26,7 @@ fn run_parts<E: Engine, W: Write>(
     within_line: &mut bool,
 ) -> Result<Flow, Fault>
     requires ready { E.phase engine.old ≡ Ready }
-    requires new { E.stands_for engine.old (idle (record { database = [] })) }
+    requires new { E.stands_for engine.old (idle first_world) }
     ensures { Does (E.stands_for engine.new) (E.phase engine.new)
         (W.contents out.old, within_line.old) (W.contents out.new, within_line.new)
         (session_script text.now queries.now budget) (λ _. Closes Done) result }
@@ -48,7 +48,7 @@ pub fn session_on<E: Engine, W: Write>(
     out: &mut W,
 ) -> Result<Ended, Fault>
     requires ready { E.phase engine.old ≡ Ready }
-    requires new { E.stands_for engine.old (idle (record { database = [] })) }
+    requires new { E.stands_for engine.old (idle first_world) }
     ensures { SessionWrites text.now queries.now budget (EngineStops (E.stands_for engine.new) (E.phase engine.new))
         (W.contents out.old) (W.contents out.new) (outcome_of result) }
 {

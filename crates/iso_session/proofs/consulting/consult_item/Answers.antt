@@ -4,7 +4,7 @@ use Rattle.iso_session.proofs.consulting.consult_item.Goals as goal
 
 pub returns-in-Readable : goal.returns-in-Readable
 returns-in-Readable g c = λ s stands k counts next.
-    rw c.in-Readable.is (c.consult_term.ensures s stands k counts next)
+    rw c.in-Readable.is (c.consult_read.ensures s stands k counts next)
 
 pub returns-in-Unreadable : goal.returns-in-Unreadable
 returns-in-Unreadable g c = λ s stands k counts next.

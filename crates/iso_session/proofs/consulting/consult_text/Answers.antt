@@ -7,28 +7,32 @@ use Rattle.iso_session.proofs.consulting.consult_text.Goals as goal
 
 pub returns-in_default-next : goal.returns-in_default-next
 returns-in_default-next g c = λ s stands next.
-    let none = nothing_found c.loop-next.tokens c.take_item.new.tokens c.in-Ok.next c.in-Ok.ensures.item c.in_default-next.not-Some in
-    text_ends _ _ c.loop-next.count c.loop-next.tokens _ _ _ next (c.loop-next.invariant.place s stands next) c.loop-next.invariant.ready none
+    let place = c.loop-next.invariant.place s stands next in
+    let none = nothing_found _ _ c.loop-next.tokens c.take_item.new.tokens c.in-Ok.next (c.in-Ok.ensures.item place.at place.stands) c.in_default-next.not-Some in
+    text_ends _ _ c.loop-next.count c.loop-next.tokens _ _ _ next place c.loop-next.invariant.ready none
 
 pub returns-in_err-flow : goal.returns-in_err-flow
 returns-in_err-flow g c = λ s stands next.
+    let place = c.loop-next.invariant.place s stands next in
     let turn = text_found _ c.loop-next.count c.saturating_add-count.result c.loop-next.tokens c.take_item.new.tokens c.in-Ok.next c.in-Some.item _ _ _ next
-    (c.loop-next.invariant.place s stands next) c.in-Ok.ensures.item c.in-Some.is c.in-Ok.ensures.shorter c.saturating_add-count.ensures in
+    place (c.in-Ok.ensures.item place.at place.stands) c.in-Some.is c.in-Ok.ensures.shorter c.saturating_add-count.ensures in
     breaks_after _ _ _ _ _ _ _ next c.from_residual.result turn.advances c.from_residual.ensures.0
     (c.in_err-flow.ensures turn.at turn.stands turn.k turn.counts (λ v. text_script turn.turns (turn.k + 1) c.take_item.new.tokens v next))
 
 pub returns-in_default-2 : goal.returns-in_default-2
 returns-in_default-2 g c = λ s stands next.
+    let place = c.loop-next.invariant.place s stands next in
     let turn = text_found _ c.loop-next.count c.saturating_add-count.result c.loop-next.tokens c.take_item.new.tokens c.in-Ok.next c.in-Some.item _ _ _ next
-    (c.loop-next.invariant.place s stands next) c.in-Ok.ensures.item c.in-Some.is c.in-Ok.ensures.shorter c.saturating_add-count.ensures in
+    place (c.in-Ok.ensures.item place.at place.stands) c.in-Some.is c.in-Ok.ensures.shorter c.saturating_add-count.ensures in
     let does = rw c.in_ok-flow.was at (c.consult_item.ensures turn.at turn.stands turn.k turn.counts (λ v. text_script turn.turns (turn.k + 1) c.take_item.new.tokens v next)) in
     stops_after _ _ _ _ _ _ _ _ next c.in_ok-flow.flow turn.advances c.in_default-2.not-On does
 
 pub loop-next-preserved : goal.loop-next-preserved
 loop-next-preserved g c =
     let goes = λ (s : State) (stands : g.E.Engine.stands_for c.args.engine.now s) (next : World → Script).
+    let place = c.loop-next.invariant.place s stands next in
     let turn = text_found _ c.loop-next.count c.saturating_add-count.result c.loop-next.tokens c.take_item.new.tokens c.in-Ok.next c.in-Some.item _ _ _ next
-    (c.loop-next.invariant.place s stands next) c.in-Ok.ensures.item c.in-Some.is c.in-Ok.ensures.shorter c.saturating_add-count.ensures in
+    place (c.in-Ok.ensures.item place.at place.stands) c.in-Some.is c.in-Ok.ensures.shorter c.saturating_add-count.ensures in
     let does = rw (c.in_ok-flow.was, c.in-On.is) at (c.consult_item.ensures turn.at turn.stands turn.k turn.counts (λ v. text_script turn.turns (turn.k + 1) c.take_item.new.tokens v next)) in
     text_goes _ _ _ c.saturating_add-count.result _ c.take_item.new.tokens _ _ _ _ next turn does in
     let first = goes c.requires.stands.0 c.requires.stands.1 (λ w. Closes Done) in

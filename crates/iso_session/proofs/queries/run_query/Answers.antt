@@ -7,8 +7,8 @@ use Rattle.iso_session.proofs.queries.run_query.Goals as goal
 
 pub returns-in-Ok : goal.returns-in-Ok
 returns-in-Ok g c = λ s stands next.
-    let script = c.run_pauses.ensures (started (term_of c.args.read.now.term) c.args.budget s.world) (c.in-Ok.ensures.starts s stands).0 next in
-    rw c.as_slice.ensures.value at script
+    let script = c.run_pauses.ensures (started (term_of c.goal_of.result.now) c.args.budget s.world) (c.in-Ok.ensures.starts s stands).0 next in
+    rw (c.as_slice.ensures.value, c.goal_of.ensures.value) at script
 
 pub returns-in-Err-HeapFull : goal.returns-in-Err-HeapFull
 returns-in-Err-HeapFull g c = λ s stands next.
