@@ -1,27 +1,40 @@
 //! The smallest engine: it gives up at once. It shows that the trait can be met, and what its contract doesn't refuse before it says
 //! when the cells may be full.
-ghost use Rattle.std.specs.Prelude.{◌≡◌, false, if◌then◌else◌};
+ghost use Rattle.std.specs.Prelude.{◌≡◌, false, if◌then◌else◌, IfOk};
+ghost use Rattle.iso_ops.specs.InitialOperators.{initial_entries};
+ghost use Rattle.iso_ops.specs.Settings.{initial_flags};
 ghost use Rattle.iso_model.specs.Engines.{Phase, Ready, Spent};
 
-use iso_model::{AddFault, Engine, Pause, StartFault, Term};
+use iso_model::{AddFault, Engine, NoMemory, Pause, StartFault, Term};
+use iso_ops::{Flags, OpTable};
+use std::alloc::Global;
 
-/// An engine that answers a full heap to whatever it is asked, and keeps nothing.
-#[derive(Debug, Drop)]
+/// An engine that answers a full heap to whatever it is asked, and keeps nothing but the operators and flags.
+#[derive(Drop)]
 pub struct Quitter {
     spent: bool,
+    ops: OpTable,
+    flags: Flags,
 }
 
 impl Quitter {
-    /// An engine that has not given up yet.
-    pub fn new() -> Quitter
-        ensures { result.spent ≡ false }
+    /// An engine that has not given up yet. The error is that memory was refused.
+    pub fn new(alloc: Global) -> Result<Quitter, NoMemory>
+        ensures awake { IfOk result (λ engine. engine.spent ≡ false) }
+        ensures ops { IfOk result (λ engine. engine.ops ≡ initial_entries) }
+        ensures flags { IfOk result (λ engine. engine.flags ≡ initial_flags) }
     {
-        Quitter { spent: false }
+        let ops = OpTable::initial(alloc)?;
+        Ok(Quitter {
+            spent: false,
+            ops,
+            flags: Flags::initial(),
+        })
     }
 }
 
 impl Engine for Quitter {
-    ghost stands_for = { λ _ _. Unit {0} };
+    ghost stands_for = { λ engine s. (s.world.operators ≡ engine.ops) × (s.world.flags ≡ engine.flags) };
 
     ghost phase = { λ engine. if engine.spent then Spent else Ready };
 
@@ -40,6 +53,14 @@ impl Engine for Quitter {
         Pause::HeapFull
     }
 
+    fn ops(&self) -> &OpTable {
+        &self.ops
+    }
+
+    fn flags(&self) -> &Flags {
+        &self.flags
+    }
+
     fn consult(&mut self, _clause: &Term) -> Result<(), AddFault> {
         Err(AddFault::NoMemory)
     }
@@ -53,7 +74,7 @@ mod tests {
 
     #[test]
     fn a_session_says_that_it_gave_up(rt: HostRuntime) -> Result<(), Fail> {
-        let mut engine = Quitter::new();
+        let mut engine = Quitter::new(rt.alloc())?;
         let mut out: Vec<u8> = Vec::new(rt.alloc());
         let _ended = session_on(rt.alloc(), &mut engine, "", "p.", 1, &mut out);
         assert!(rt; out.as_slice() == b"end: heap full\n".as_slice());
