@@ -1,6 +1,8 @@
 //! Tests that cross the crates: whole sessions, writers and readers that fail, and the program's words.
 #![tactic(auto)]
 
+#[cfg(test)]
+mod limits;
 pub mod quitter;
 #[cfg(test)]
 mod readers;
