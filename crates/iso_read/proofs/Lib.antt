@@ -1,4 +1,6 @@
 mod Names
+pub mod Found
+mod Joins
 mod Rows
 mod Climbs
 mod Splits

@@ -1,6 +1,7 @@
 -- What is read by precedence, said by the grammar.
 use Rattle.std.proofs.Common.{◌≡◌, List, Some, None, Err, refl, ap, sym, ◌∙◌}
-use Rattle.iso_model.specs.Operators.{operators}
+use Rattle.iso_ops.specs.Operators.{Operator, IsOpTable}
+use Rattle.iso_ops.specs.declared.settings.Flags.{Flags}
 use Rattle.iso_model.specs.Token.{Shown}
 use Rattle.iso_model.specs.ReadingLaws.{IsWellRead}
 use Rattle.iso_model.specs.Grammar.{Clause}
@@ -9,23 +10,24 @@ use Rattle.iso_model.specs.Clauses.{IsNextClause, split_clause, next_clause}
 use Rattle.iso_read.specs.declared.clause.ReadFault.{ReadFault}
 use Rattle.iso_read.specs.declared.clause.ReadFault.TheVariants as fault
 use Rattle.iso_read.specs.Answers.{IsWhole, ReadsNext}
-use Rattle.iso_model.proofs.ClauseLaws.{clause_given, next_complete, operators_table}
+use Rattle.iso_model.proofs.ClauseLaws.{clause_given, next_complete}
 use Rattle.iso_model.proofs.WellRead.{clause_well_read}
 
-pub next_read : (ts front back : List Shown) (c : Clause) → split_clause ts ≡ Some (front, back) → clause_of operators front ≡ Some c → IsNextClause operators ts c
-next_read ts front back c splits read = record { before = front; others = back; splits = splits; clause = clause_given operators front c read }
+module _ (table : List Operator) (flags : Flags) where
+  pub next_read : (ts front back : List Shown) (c : Clause) → split_clause ts ≡ Some (front, back) → clause_of table flags front ≡ Some c → IsNextClause table flags ts c
+  next_read ts front back c splits read = record { before = front; others = back; splits = splits; clause = clause_given table flags front c read }
 
-pub next_none : (ts front back : List Shown) → split_clause ts ≡ Some (front, back) → clause_of operators front ≡ None → (c : Clause) → ¬ IsNextClause operators ts c
-next_none ts front back splits none c k =
-    let read = next_complete operators operators_table ts c k in
-    let nothing : next_clause operators ts ≡ None = rw splits none in
-    cc
+  pub next_none : IsOpTable table → (ts front back : List Shown) → split_clause ts ≡ Some (front, back) → clause_of table flags front ≡ None → (c : Clause) → ¬ IsNextClause table flags ts c
+  next_none good ts front back splits none c k =
+      let read = next_complete table flags good ts c k in
+      let nothing : next_clause table flags ts ≡ None = rw splits none in
+      cc
 
--- an error of the whole clause
-pub next_error : (ts front back other : List Shown) (e : ReadFault) → split_clause ts ≡ Some (front, back) → other ≡ front → IsWhole (clause_of operators other) (Err e) → ReadsNext (Err e) ts
-next_error ts front back other fault.Syntax splits same none =
-    ((λ empty. let nothing : split_clause ts ≡ None = rw empty refl in cc), next_none ts front back splits (ap (clause_of operators) (sym same) ∙ none))
-next_error ts front back other fault.NoMemory splits same none = tt
+  -- an error of the whole clause
+  pub next_error : IsOpTable table → (ts front back other : List Shown) (e : ReadFault) → split_clause ts ≡ Some (front, back) → other ≡ front → IsWhole (clause_of table flags other) (Err e) → ReadsNext table flags (Err e) ts
+  next_error good ts front back other fault.Syntax splits same none =
+      ((λ empty. let nothing : split_clause ts ≡ None = rw empty refl in cc), next_none good ts front back splits (ap (clause_of table flags) (sym same) ∙ none))
+  next_error good ts front back other fault.NoMemory splits same none = tt
 
-pub clause_well : (front : List Shown) (c : Clause) → clause_of operators front ≡ Some c → IsWellRead c
-clause_well front c read = clause_well_read operators front c (clause_given operators front c read)
+  pub clause_well : (front : List Shown) (c : Clause) → clause_of table flags front ≡ Some c → IsWellRead c
+  clause_well front c read = clause_well_read table flags front c (clause_given table flags front c read)

@@ -1,7 +1,8 @@
 -- What an answer of the reader says of the tokens.
 use Rattle.std.specs.Prelude.{◌≡◌, ◌≢◌, ◌<◌, map, length, List, [], Option, Some, None, Result, Ok, Err}
 use Rattle.std.specs.String.{string_bytes}
-use Rattle.iso_model.specs.Operators.{operators}
+use Rattle.iso_ops.specs.Operators.{Operator}
+use Rattle.iso_ops.specs.declared.settings.Flags.{Flags}
 use Rattle.iso_model.specs.Token.{Shown}
 use Rattle.iso_model.specs.Grammar.{Clause}
 use Rattle.iso_model.specs.Clauses.{IsNextClause, next_clause, behind_clause}
@@ -21,20 +22,20 @@ IsWhole c (Ok r) = c ≡ Some (clause_read r)
 IsWhole c (Err fault.Syntax) = c ≡ None
 IsWhole c (Err fault.NoMemory) = Unit {0}
 
--- By the grammar: there is a term exactly where the tokens up to the next end token are a clause, and it is that clause;
+-- By the grammar, with these operators and flags: there is a term exactly where the tokens up to the next end token are a clause, and it is that clause;
 -- none exactly where no token is left; else it is a syntax error. Of refused memory it says nothing.
-abbrev pub ReadsNext : Result (Option Read) ReadFault → List Shown → Type 0
-ReadsNext (Ok None) ts = ts ≡ []
-ReadsNext (Ok (Some r)) ts = IsNextClause operators ts (clause_read r)
-ReadsNext (Err fault.Syntax) ts = (ts ≢ []) × ((c : Clause) → ¬ IsNextClause operators ts c)
-ReadsNext (Err fault.NoMemory) ts = Unit {0}
+abbrev pub ReadsNext : List Operator → Flags → Result (Option Read) ReadFault → List Shown → Type 0
+ReadsNext table flags (Ok None) ts = ts ≡ []
+ReadsNext table flags (Ok (Some r)) ts = IsNextClause table flags ts (clause_read r)
+ReadsNext table flags (Err fault.Syntax) ts = (ts ≢ []) × ((c : Clause) → ¬ IsNextClause table flags ts c)
+ReadsNext table flags (Err fault.NoMemory) ts = Unit {0}
 
 -- the same by precedence
-abbrev pub GivesNext : Result (Option Read) ReadFault → List Shown → Type 0
-GivesNext (Ok None) ts = ts ≡ []
-GivesNext (Ok (Some r)) ts = next_clause operators ts ≡ Some (clause_read r)
-GivesNext (Err fault.Syntax) ts = (0 < length ts) × (next_clause operators ts ≡ None)
-GivesNext (Err fault.NoMemory) ts = Unit {0}
+abbrev pub GivesNext : List Operator → Flags → Result (Option Read) ReadFault → List Shown → Type 0
+GivesNext table flags (Ok None) ts = ts ≡ []
+GivesNext table flags (Ok (Some r)) ts = next_clause table flags ts ≡ Some (clause_read r)
+GivesNext table flags (Err fault.Syntax) ts = (0 < length ts) × (next_clause table flags ts ≡ None)
+GivesNext table flags (Err fault.NoMemory) ts = Unit {0}
 
 -- The tokens that are left stand behind the next end token, or at the end where there is none.
 abbrev pub StandsBehind : Result (Option Read) ReadFault → List Shown → List Shown → Type 0

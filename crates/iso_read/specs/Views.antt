@@ -1,24 +1,31 @@
 -- What clauses see of the reader's types.
-use Rattle.std.specs.Prelude.{map}
-use Rattle.iso_model.specs.Operators as operators
+use Rattle.std.specs.Prelude.{ℕ, map}
+use Rattle.std.specs.String.{string_bytes}
+use Rattle.iso_ops.specs.Operators as operators
 use Rattle.iso_model.specs.Grammar as grammar
+use Rattle.iso_model.specs.Reading as reading
 use Rattle.iso_model.specs.Terms.{term_of}
-use Rattle.iso_read.specs.declared.operators.Specifier.{Specifier}
-use Rattle.iso_read.specs.declared.operators.Specifier.TheVariants as specifier
-use Rattle.iso_read.specs.declared.operators.Infix.{Infix}
+use Rattle.iso_read.specs.declared.language.Language.{Language}
+use Rattle.iso_read.specs.declared.operators.Operator.{Operator}
+use Rattle.iso_read.specs.declared.operators.Following.{Following}
+use Rattle.iso_read.specs.declared.operators.Following.TheVariants as following
 use Rattle.iso_read.specs.declared.node.Node.{Node}
 use Rattle.iso_read.specs.declared.node.Row.{Row}
 
-abbrev pub specifier_of : Specifier → operators.Specifier
-specifier_of specifier.Xfx = operators.Xfx
-specifier_of specifier.Xfy = operators.Xfy
-
 -- the operator that a Rust operator is
-abbrev pub operator_of : Infix → operators.Operator
-operator_of o = record { name = o.name.now; priority = o.priority; specifier = specifier_of o.specifier }
+abbrev pub operator_of : Operator → operators.Operator
+operator_of o = operators.operator o.priority o.spec (string_bytes o.name)
+
+abbrev pub following_of : Following → reading.Following
+following_of (following.Between o) = reading.Between (operator_of o)
+following_of (following.Behind o) = reading.Behind (operator_of o)
 
 abbrev pub node_of : Node → grammar.Node
 node_of n = record { term = term_of n.term; priority = n.priority; height = n.height; is_open = n.is_open }
 
 abbrev pub row_of : Row → grammar.Row
 row_of r = record { terms = map term_of r.terms.items; height = r.height }
+
+-- what reads terms in this language, in which nothing stands as deep as the number
+abbrev pub terms_in : Language → ℕ → reading.Reader
+terms_in language depth = reading.term language.ops.now language.flags.now depth

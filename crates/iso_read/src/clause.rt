@@ -1,20 +1,21 @@
 //! A clause: the tokens before the next end token, and the term that they are (6.2).
 ghost use Rattle.std.specs.Prelude.{◌≡◌, ◌≤◌, [], ◌∷◌, map, length, Some, None, IfOk, MatchOption};
 ghost use Rattle.iso_model.specs.Clauses.{split_clause};
-ghost use Rattle.iso_model.specs.Operators.{operators};
 ghost use Rattle.iso_model.specs.Reading.{clause_of};
 ghost use Rattle.iso_read.specs.Answers.{IsWhole, ReadsNext, GivesNext, StandsBehind, TakesSome, IsWellFormed};
 ghost use Rattle.iso_token.specs.Shows.{shown};
 ghost use Rattle.iso_read.specs.declared.clause.ReadFault.TheVariants.{NoMemory};
 
 use crate::input::Input;
+use crate::language::Language;
 use crate::reader::read_term;
 use iso_model::Term;
+use iso_ops::{Flags, OpTable};
 use iso_token::{Kind, Token, Tokens};
 use std::alloc::{AllocError, AllocFailed, Global};
 
 /// The greatest priority of a clause or query (6.2).
-const CLAUSE_PRIORITY: u32 = 1200;
+const CLAUSE_PRIORITY: u16 = 1200;
 
 /// How deep a term may be nested; the term itself has depth 0 (own limit).
 const MAX_DEPTH: usize = 4096;
@@ -76,35 +77,43 @@ fn clause_from<'t>(
 
 /// The term that all of these tokens are.
 #[tactic(auto, unfolding(iso_model::specs::Reading::clause_of))]
-fn whole(alloc: Global, clause: &[Token<'_>]) -> Result<Read, ReadFault>
-    ensures { IsWhole (clause_of operators (map shown clause.now)) result }
+fn whole(language: Language<'_>, clause: &[Token<'_>]) -> Result<Read, ReadFault>
+    ensures { IsWhole (clause_of language.entry.ops.now language.entry.flags.now (map shown clause.now)) result }
 {
-    let mut input = Input::new(alloc, clause);
-    let node = read_term(alloc, MAX_DEPTH + 1, CLAUSE_PRIORITY, &mut input)?;
+    let mut input = Input::new(language.alloc, clause);
+    let node = read_term(language, MAX_DEPTH + 1, CLAUSE_PRIORITY, &mut input)?;
     if !input.is_empty() {
         return Err(ReadFault::Syntax);
     }
-    let names = input.into_names(alloc)?;
+    let names = input.into_names(language.alloc)?;
     Ok(Read {
         term: node.term,
         names,
     })
 }
 
-/// Reads the next clause (6.2): the term that the tokens before the next end token are, at priority 1200.
-/// `None` where no token is left. After `Syntax` the tokens stand behind the next end token or at the end.
-pub fn read_clause(alloc: Global, tokens: &mut Tokens<'_>) -> Result<Option<Read>, ReadFault>
-    ensures reads { ReadsNext result tokens.old }
-    ensures gives { GivesNext result tokens.old }
+/// Reads the next clause (6.2): the term that the tokens before the next end token are, at priority 1200, by these
+/// operators and flags. `None` where no token is left. After `Syntax` the tokens stand behind the next end token or at
+/// the end.
+pub fn read_clause(
+    alloc: Global,
+    tokens: &mut Tokens<'_>,
+    ops: &OpTable,
+    flags: &Flags,
+) -> Result<Option<Read>, ReadFault>
+    ensures reads { ReadsNext ops.now flags.now result tokens.old }
+    ensures gives { GivesNext ops.now flags.now result tokens.old }
     ensures behind { StandsBehind result tokens.old tokens.new }
     ensures takes { TakesSome result tokens.old tokens.new }
     ensures well_formed { IfOk result IsWellFormed }
 {
+    ops.is_table();
+    let language = Language { alloc, ops, flags };
     let Some(first) = tokens.next() else {
         return Ok(None);
     };
     let Some(clause) = clause_from(alloc, first, tokens)? else {
         return Err(ReadFault::Syntax);
     };
-    Ok(Some(whole(alloc, &clause)?))
+    Ok(Some(whole(language, &clause)?))
 }

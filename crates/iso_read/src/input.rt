@@ -29,10 +29,32 @@ impl<'c> Model for Input<'c> {
 }
 
 /// Whether the token is this mark of punctuation.
-fn is_mark(token: &Token<'_>, mark: &str) -> bool
+pub fn is_mark(token: &Token<'_>, mark: &str) -> bool
     ensures { result ≡ model.is_mark mark.now (shown token.now) }
 {
     token.kind == Kind::Punct && token.text == mark
+}
+
+/// Whether the first token is the `(` of an argument list, one with no layout before it (6.3.3).
+pub fn opens_arguments(tokens: &[Token<'_>]) -> bool
+    ensures { result ≡ model.next_is model.opens_arguments (map shown tokens.now) }
+{
+    match tokens {
+        [first, ..] => is_mark(first, "(") && !first.after_layout,
+        [] => false,
+    }
+}
+
+/// Whether a name, unquoted or not, begins a negative literal before these tokens (6.3.1.2).
+pub fn negates(unquoted: bool, name: &str, tokens: &[Token<'_>]) -> bool
+    ensures { result ≡ model.negates unquoted name.now (map shown tokens.now) }
+{
+    match tokens {
+        [first, ..] => {
+            unquoted && name == "-" && first.kind == Kind::Integer && !first.after_layout
+        }
+        [] => false,
+    }
 }
 
 /// The place of a name among these.
@@ -75,6 +97,13 @@ impl<'c> Input<'c> {
         }
     }
 
+    /// The tokens that are left.
+    pub fn tokens(&self) -> &'c [Token<'c>]
+        ensures { map shown result.now ≡ self.now.tokens }
+    {
+        self.tokens
+    }
+
     /// The next token.
     pub fn next(&mut self) -> Option<Token<'c>>
         ensures token { MatchOption result (self.old.tokens ≡ []) (λ t. self.old ≡ model.before (shown t) self.new) }
@@ -99,17 +128,6 @@ impl<'c> Input<'c> {
                 self.tokens = rest;
                 true
             }
-            _ => false,
-        }
-    }
-
-    /// Whether the next token is the `(` of an argument list, one with no layout before it; it is taken then.
-    pub fn opens_arguments(&mut self) -> bool
-        ensures taken { result ≡ model.next_is model.opens_arguments self.old.tokens }
-        ensures after { self.new ≡ (if result then rest self.old else self.old) }
-    {
-        match self.peek() {
-            Some(token) if !token.after_layout => self.takes("("),
             _ => false,
         }
     }

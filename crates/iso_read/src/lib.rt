@@ -4,9 +4,12 @@
 
 mod clause;
 mod input;
+mod language;
+mod lists;
 mod node;
 mod operators;
 mod reader;
+mod simple;
 
 pub use clause::{Read, ReadFault, read_clause};
 

@@ -1,13 +1,16 @@
 //! Terms as they are read, and which of them an operator takes as its operands.
-ghost use Rattle.std.specs.Prelude.{◌≡◌, ◌<◌, ◌+◌, ◌^◌, IfOk, max};
+ghost use Rattle.std.specs.Prelude.{◌≡◌, ◌<◌, ◌+◌, ◌^◌, [], ◌∷◌, IfOk, max};
 ghost use Rattle.iso_model.specs.Grammar as model;
+ghost use Rattle.iso_model.specs.Lists.{curly};
 ghost use Rattle.iso_model.specs.Operators as operators;
 ghost use Rattle.iso_model.specs.Reading as reading;
 ghost use Rattle.iso_model.specs.Terms.{term_of};
+ghost use Rattle.iso_model.specs.Trees.{Apply, row};
 ghost use Rattle.iso_read.specs.Views.{node_of, operator_of};
 
-use crate::operators::{Infix, Specifier};
+use crate::operators::Operator;
 use iso_model::Term;
+use iso_ops::Spec;
 use std::alloc::{AllocError, Global};
 
 /// A term that was read, with what decides where it may stand.
@@ -15,7 +18,7 @@ use std::alloc::{AllocError, Global};
 pub struct Node {
     pub term: Term,
     /// 0, or that of the operator that made it (6.3.4.1).
-    pub priority: u32,
+    pub priority: u16,
     /// How deep the deepest part stands in it.
     pub height: usize,
     /// Whether an operator made it that takes a right operand of its own priority.
@@ -41,55 +44,105 @@ pub fn closed(term: Term, height: usize) -> Node
     }
 }
 
+/// Whether an operator takes a left operand of its own priority (6.3.4, table 4).
+fn takes_equal(spec: Spec) -> bool
+    ensures { result ≡ operators.takes_equal spec }
+{
+    match spec {
+        Spec::Yfx | Spec::Yf => true,
+        Spec::Xfx | Spec::Xfy | Spec::Fx | Spec::Fy | Spec::Xf => false,
+    }
+}
+
+/// Whether an operator takes a right operand of its own priority.
+fn is_right_open(spec: Spec) -> bool
+    ensures { result ≡ operators.is_right_open spec }
+{
+    match spec {
+        Spec::Xfy | Spec::Fy => true,
+        Spec::Xfx | Spec::Yfx | Spec::Fx | Spec::Xf | Spec::Yf => false,
+    }
+}
+
 /// The greatest priority of the operator's left operand.
-fn left_of(operator: &Infix<'_>) -> u32
+fn left_of(operator: &Operator) -> u16
     ensures { result ≡ operators.left_of (operator_of operator.now) }
 {
-    match operator.specifier {
-        Specifier::Xfx | Specifier::Xfy => operator.priority.saturating_sub(1),
+    if takes_equal(operator.spec) {
+        operator.priority
+    } else {
+        operator.priority.saturating_sub(1)
     }
 }
 
 /// The greatest priority of the operator's right operand.
-pub fn right_of(operator: &Infix<'_>) -> u32
+pub fn right_of(operator: &Operator) -> u16
     ensures { result ≡ operators.right_of (operator_of operator.now) }
 {
-    match operator.specifier {
-        Specifier::Xfx => operator.priority.saturating_sub(1),
-        Specifier::Xfy => operator.priority,
+    if is_right_open(operator.spec) {
+        operator.priority
+    } else {
+        operator.priority.saturating_sub(1)
     }
 }
 
-/// Whether the node may be the operator's left operand, in a place of at most this priority.
-pub fn fits(most: u32, left: &Node, operator: &Infix<'_>) -> bool
+/// Whether the node may be the operator's left operand, in a place of at most this priority. A term that an operator
+/// made that is open on its right is no left operand, without brackets, of an operator of the same priority that takes
+/// an equal one (own).
+pub fn fits(most: u16, left: &Node, operator: &Operator) -> bool
     ensures { result ≡ reading.fits most (node_of left.now) (operator_of operator.now) }
 {
-    operator.priority <= most && left.priority <= left_of(operator)
+    operator.priority <= most
+        && left.priority <= left_of(operator)
+        && !(left.is_open && left.priority == operator.priority && takes_equal(operator.spec))
 }
 
-/// The term that an infix operator makes of its operands.
+/// The term that an infix operator makes of its operands (6.3.4.2).
 pub fn joined(
     alloc: Global,
     left: Node,
-    operator: &Infix<'_>,
+    operator: Operator,
     right: Node,
 ) -> Result<Node, AllocError>
     requires { max left.height right.height + 1 < 2 ^ 64 }
-    ensures { IfOk result (λ node. node_of node ≡ model.joined (node_of left) (operator_of operator.now) (node_of right)) }
+    ensures { IfOk result (λ node. node_of node ≡ model.joined (node_of left) (operator_of operator) (node_of right)) }
 {
-    let is_open = match operator.specifier {
-        Specifier::Xfx => false,
-        Specifier::Xfy => true,
-    };
+    let is_open = is_right_open(operator.spec);
     let height = left.height.max(right.height);
-    let name = String::from_str(alloc, operator.name)?;
     let mut operands = Vec::new(alloc);
     operands.push(left.term)?;
     operands.push(right.term)?;
     Ok(Node {
-        term: Term::Compound(name, operands),
+        term: Term::Compound(operator.name, operands),
         priority: operator.priority,
         height: height + 1,
         is_open,
     })
+}
+
+/// The term that a prefix or postfix operator makes of its operand (6.3.4.2).
+pub fn applied(alloc: Global, operator: Operator, operand: Node) -> Result<Node, AllocError>
+    requires { operand.height + 1 < 2 ^ 64 }
+    ensures { IfOk result (λ node. node_of node ≡ model.applied (operator_of operator) (node_of operand)) }
+{
+    let is_open = is_right_open(operator.spec);
+    let mut operands = Vec::new(alloc);
+    operands.push(operand.term)?;
+    Ok(Node {
+        term: Term::Compound(operator.name, operands),
+        priority: operator.priority,
+        height: operand.height + 1,
+        is_open,
+    })
+}
+
+/// The term that braces make of the term in them (6.3.6).
+pub fn in_braces(alloc: Global, inner: Node) -> Result<Node, AllocError>
+    requires { inner.height + 1 < 2 ^ 64 }
+    ensures { IfOk result (λ node. node_of node ≡ model.closed (Apply curly (row (term_of inner.term ∷ []))) (inner.height + 1)) }
+{
+    let name = String::from_str(alloc, "{}")?;
+    let mut operands = Vec::new(alloc);
+    operands.push(inner.term)?;
+    Ok(closed(Term::Compound(name, operands), inner.height + 1))
 }

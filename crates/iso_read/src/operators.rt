@@ -1,64 +1,133 @@
-//! The infix operators (6.3.4) that the language has.
-ghost use Rattle.std.specs.Prelude.{◌≡◌, option_map};
-ghost use Rattle.iso_model.specs.Grammar.{infix_at};
+//! The operators (6.3.4) that tokens are, and whether tokens can begin a prefix operator's operand.
+ghost use Rattle.std.specs.Prelude.{◌≡◌, option_map, map, IfOk};
+ghost use Rattle.std.specs.String.{string_bytes};
+ghost use Rattle.iso_model.specs.Grammar as grammar;
 ghost use Rattle.iso_model.specs.Operators as model;
-ghost use Rattle.iso_read.specs.Views.{operator_of};
+ghost use Rattle.iso_model.specs.Reading as reading;
+ghost use Rattle.iso_read.specs.Views.{operator_of, following_of};
 ghost use Rattle.iso_token.specs.Shows.{shown};
 
+use crate::input::{is_mark, negates, opens_arguments};
+use crate::language::Language;
+use iso_ops::{OpTable, Spec};
 use iso_token::{Kind, Token};
+use std::alloc::AllocError;
 
-/// The specifiers of infix operators (6.3.4, table 4).
-#[derive(Clone, Copy, Debug)]
-pub enum Specifier {
-    /// Both operands have a lower priority than the operator.
-    Xfx,
-    /// The right operand may have the operator's priority.
-    Xfy,
+/// An operator, with its name.
+#[derive(Debug, Drop)]
+pub struct Operator {
+    pub name: String,
+    /// From 1 to 1200.
+    pub priority: u16,
+    pub spec: Spec,
 }
 
-/// An infix operator.
-#[derive(Clone, Copy, Debug)]
-pub struct Infix<'c> {
-    pub name: &'c str,
-    /// From 1 to 1200.
-    pub priority: u32,
-    pub specifier: Specifier,
+/// An operator that goes on behind an operand.
+#[derive(Debug, Drop)]
+pub enum Following {
+    /// It stands between that operand and another.
+    Between(Operator),
+    /// It stands behind that operand.
+    Behind(Operator),
+}
+
+/// The operator that goes on.
+pub fn operator_in(following: &Following) -> &Operator
+    ensures { operator_of result.now ≡ reading.operator_of (following_of following.now) }
+{
+    match following {
+        Following::Between(operator) | Following::Behind(operator) => operator,
+    }
 }
 
 /// The infix operator of this name.
-fn infix_named(name: &str) -> Option<Infix<'_>>
-    ensures { option_map operator_of result ≡ model.operators name.now }
+#[tactic(auto, using(crate::proofs::Found::found_at))]
+fn infix_named(ops: &OpTable, name: String) -> Option<Operator>
+    ensures { option_map operator_of result ≡ model.infix_named ops.now (string_bytes name) }
 {
-    if name == ":-" {
-        return Some(Infix {
-            name,
-            priority: 1200,
-            specifier: Specifier::Xfx,
-        });
-    }
-    if name == "," {
-        return Some(Infix {
-            name,
-            priority: 1000,
-            specifier: Specifier::Xfy,
-        });
-    }
-    None
+    let (priority, spec) = ops.infix(&name)?;
+    Some(Operator {
+        name,
+        priority,
+        spec,
+    })
 }
 
-/// The infix operator that the token is.
-pub fn infix_of<'c>(token: &Token<'c>) -> Option<Infix<'c>>
-    ensures { option_map operator_of result ≡ infix_at model.operators (shown token.now) }
+/// The infix or postfix operator of this name.
+#[tactic(auto, using(crate::proofs::Found::found_at))]
+fn following_named(language: Language<'_>, name: String) -> Option<Following>
+    ensures { option_map following_of result ≡ reading.following_by language.entry.ops.now language.entry.flags.now (model.infix_named language.entry.ops.now (string_bytes name)) (model.postfix_named language.entry.ops.now (string_bytes name)) }
+{
+    let ops = language.ops;
+    if let Some((priority, spec)) = ops.infix(&name) {
+        return Some(Following::Between(Operator {
+            name,
+            priority,
+            spec,
+        }));
+    }
+    let (priority, spec) = ops.postfix(&name)?;
+    Some(Following::Behind(Operator {
+        name,
+        priority,
+        spec,
+    }))
+}
+
+/// The infix or postfix operator that the token is.
+pub fn operator_at(
+    language: Language<'_>,
+    token: &Token<'_>,
+) -> Result<Option<Following>, AllocError>
+    ensures { IfOk result (λ found. option_map following_of found ≡ reading.following_by language.entry.ops.now language.entry.flags.now (grammar.infix_at language.entry.ops.now (shown token.now)) (grammar.postfix_at language.entry.ops.now (shown token.now))) }
 {
     match token.kind {
-        Kind::Name => infix_named(token.text),
+        Kind::Name | Kind::Quoted => {
+            let name = token.content(language.alloc)?;
+            Ok(following_named(language, name))
+        }
         Kind::Punct => {
             if token.text == "," {
-                infix_named(token.text)
+                let name = token.content(language.alloc)?;
+                Ok(infix_named(language.ops, name).map(Following::Between))
             } else {
-                None
+                Ok(None)
             }
         }
-        _ => None,
+        _ => Ok(None),
+    }
+}
+
+/// Whether this name begins the operand of the prefix operator before it, where these tokens stand behind it.
+fn name_begins(
+    language: Language<'_>,
+    token: &Token<'_>,
+    others: &[Token<'_>],
+) -> Result<bool, AllocError>
+    ensures { IfOk result (λ begins. begins ≡ grammar.name_begins language.entry.ops.now (shown token.now) (map shown others.now)) }
+{
+    let name = token.content(language.alloc)?;
+    let ops = language.ops;
+    let goes_on = ops.infix(&name).is_some() || ops.postfix(&name).is_some();
+    Ok(!goes_on
+        || ops.prefix(&name).is_some()
+        || opens_arguments(others)
+        || negates(token.kind == Kind::Name, &name, others))
+}
+
+/// Whether these tokens can begin the operand of a prefix operator.
+pub fn begins(language: Language<'_>, tokens: &[Token<'_>]) -> Result<bool, AllocError>
+    ensures { IfOk result (λ begins. begins ≡ grammar.begins language.entry.ops.now (map shown tokens.now)) }
+{
+    match tokens {
+        [] => Ok(false),
+        [first, others @ ..] => match first.kind {
+            Kind::Name | Kind::Quoted => name_begins(language, first, others),
+            Kind::Punct => {
+                Ok(is_mark(first, "(") || is_mark(first, "[") || is_mark(first, "{"))
+            }
+            Kind::End | Kind::Bad => Ok(false),
+            Kind::Double | Kind::Variable | Kind::Integer => Ok(true),
+        },
     }
 }

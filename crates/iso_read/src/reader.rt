@@ -1,56 +1,64 @@
 //! Terms from tokens: an operand, and then the operators that go on from it, by precedence (6.3).
-ghost use Rattle.std.specs.Prelude.{◌≡◌, ◌<◌, ◌≤◌, ◌+◌, length, option_map, IfOk, OnOk};
+ghost use Rattle.std.specs.Prelude.{◌≡◌, ◌<◌, ◌≤◌, ◌+◌, ◌^◌, codes, length, map, max, option_map, IfOk, OnOk};
 ghost use Rattle.std.specs.String.{string_bytes};
 ghost use Rattle.iso_model.specs.Grammar as grammar;
-ghost use Rattle.iso_model.specs.Operators.{operators};
+ghost use Rattle.iso_model.specs.Lists as lists;
+ghost use Rattle.iso_model.specs.Operators.{prefix_named};
 ghost use Rattle.iso_model.specs.Reading as reading;
-ghost use Rattle.iso_model.specs.Token.{magnitude};
+ghost use Rattle.iso_model.specs.Terms.{term_of};
 ghost use Rattle.iso_read.specs.Gives.{Gives};
-ghost use Rattle.iso_read.specs.Views.{node_of, row_of, operator_of};
+ghost use Rattle.iso_read.specs.Views.{node_of, row_of, following_of, terms_in};
 ghost use Rattle.iso_token.specs.Shows.{shown};
 
 use crate::clause::ReadFault;
-use crate::input::Input;
-use crate::node::{Node, Row, closed, fits, joined, right_of};
-use crate::operators::{Infix, infix_of};
+use crate::input::{Input, is_mark, negates, opens_arguments};
+use crate::language::Language;
+use crate::lists::{list_before, nil};
+use crate::node::{Node, Row, applied, closed, fits, in_braces, joined, right_of};
+use crate::operators::{Following, Operator, begins, operator_at, operator_in};
+use crate::simple::{integer, negative, quoted, variable};
 use iso_model::{MAX_ARITY, Term};
 use iso_token::{Kind, Token};
-use std::alloc::Global;
+use std::alloc::{AllocError, Global};
 
 /// The greatest priority of an argument (6.3.3.1).
-const ARGUMENT_PRIORITY: u32 = 999;
+const ARGUMENT_PRIORITY: u16 = 999;
 
-/// The greatest integer (the flag `max_integer`, 7.11.1.2).
-const MAX_INTEGER: u64 = 9_223_372_036_854_775_807;
+/// The greatest priority of a term in brackets or braces (6.3.4.1).
+const BRACKETED_PRIORITY: u16 = 1200;
 
 /// A term of at most this priority, in which nothing stands as deep as `depth`.
 #[cycle(reader)]
 #[tactic(auto, unfolding(iso_model::specs::Reading::term))]
 pub fn read_term(
-    alloc: Global,
+    language: Language<'_>,
     depth: usize,
-    most: u32,
+    most: u16,
     input: &mut Input<'_>,
 ) -> Result<Node, ReadFault>
-    ensures read { Gives node_of (reading.term operators depth most input.old) result input.new }
+    ensures read { Gives node_of (terms_in language.entry depth most input.old) result input.new }
     ensures height { IfOk result (λ node. node.height < depth) }
     ensures shorter { OnOk result (length input.new.tokens ≤ length input.old.tokens) }
 {
     if depth == 0 {
         return Err(ReadFault::Syntax);
     }
-    let first = operand(alloc, depth - 1, input)?;
+    let first = operand(language, depth - 1, input)?;
     if first.priority > most {
         return Err(ReadFault::Syntax);
     }
-    climb(alloc, depth - 1, most, first, input)
+    climb(language, depth - 1, most, first, input)
 }
 
 /// What stands where an operand may begin; its parts stand less deep than `depth`.
 #[cycle(reader)]
 #[tactic(auto, unfolding(iso_model::specs::Reading::operand))]
-fn operand(alloc: Global, depth: usize, input: &mut Input<'_>) -> Result<Node, ReadFault>
-    ensures read { Gives node_of (reading.operand (reading.term operators depth) input.old) result input.new }
+fn operand(
+    language: Language<'_>,
+    depth: usize,
+    input: &mut Input<'_>,
+) -> Result<Node, ReadFault>
+    ensures read { Gives node_of (reading.operand language.entry.ops.now language.entry.flags.now (terms_in language.entry depth) input.old) result input.new }
     ensures height { IfOk result (λ node. node.height ≤ depth) }
     ensures shorter { OnOk result (length input.new.tokens ≤ length input.old.tokens) }
 {
@@ -58,70 +66,89 @@ fn operand(alloc: Global, depth: usize, input: &mut Input<'_>) -> Result<Node, R
         return Err(ReadFault::Syntax);
     };
     match token.kind {
-        Kind::Variable => {
-            let number = input.variable(alloc, token.text)?;
-            Ok(closed(Term::Var(number), 0))
-        }
+        Kind::Variable => Ok(variable(language.alloc, &token, input)?),
         Kind::Integer => integer(&token).ok_or(ReadFault::Syntax),
-        Kind::Name => named(alloc, depth, token.text, input),
-        _ => Err(ReadFault::Syntax),
+        Kind::Double => Ok(quoted(language, &token)?),
+        Kind::Name => {
+            let name = token.content(language.alloc)?;
+            named(language, depth, true, name, input)
+        }
+        Kind::Quoted => {
+            let name = token.content(language.alloc)?;
+            named(language, depth, false, name, input)
+        }
+        Kind::Punct => punctuated(language, depth, &token, input),
+        Kind::End | Kind::Bad => Err(ReadFault::Syntax),
     }
 }
 
-/// The integer of its token (6.3.1.1).
-fn integer(token: &Token<'_>) -> Option<Node>
-    ensures { option_map node_of result ≡ reading.integer (magnitude (shown token.now)) }
-{
-    let value = token.magnitude()?;
-    if value > MAX_INTEGER {
-        return None;
-    }
-    Some(closed(Term::Int(value as i64), 0))
-}
-
-/// Whether a name is one of letters, digits and `_` (6.4.2).
-fn begins_small(name: &str) -> bool
-    ensures { result ≡ grammar.begins_small name.now }
-{
-    match name.as_bytes() {
-        [first, ..] => first.is_ascii_lowercase(),
-        [] => false,
-    }
-}
-
-/// What a name stands for: a compound where its arguments follow directly, else an atom (6.3.1.3, 6.3.3).
+/// What a name, unquoted or not, stands for: the functor of the arguments that follow directly (6.3.3), the sign of the
+/// digits that follow directly (6.3.1.2), a prefix operator (6.3.4.2) or an atom (6.3.1.3).
 #[cycle(reader)]
 #[tactic(auto, unfolding(iso_model::specs::Reading::named))]
-fn named(alloc: Global, depth: usize, name: &str, input: &mut Input<'_>) -> Result<Node, ReadFault>
-    ensures read { Gives node_of (reading.named (reading.term operators depth) name.now input.old) result input.new }
+fn named(
+    language: Language<'_>,
+    depth: usize,
+    unquoted: bool,
+    name: String,
+    input: &mut Input<'_>,
+) -> Result<Node, ReadFault>
+    ensures read { Gives node_of (reading.named language.entry.ops.now language.entry.flags.now (terms_in language.entry depth) unquoted (string_bytes name) input.old) result input.new }
     ensures height { IfOk result (λ node. node.height ≤ depth) }
     ensures shorter { OnOk result (length input.new.tokens ≤ length input.old.tokens) }
 {
-    if !begins_small(name) {
-        return Err(ReadFault::Syntax);
+    if opens_arguments(input.tokens()) {
+        input.next();
+        return compound(language, depth, name, input);
     }
-    let text = String::from_str(alloc, name)?;
-    if input.opens_arguments() {
-        compound(alloc, depth, text, input)
-    } else {
-        Ok(closed(Term::Atom(text), 0))
+    if negates(unquoted, &name, input.tokens()) {
+        return negative(input).ok_or(ReadFault::Syntax);
     }
+    prefixed(language, depth, name, input)
+}
+
+/// What a name that is no functor and no sign stands for: the prefix operator of that name with its operand, where the
+/// next tokens can begin one (own), else an atom.
+#[cycle(reader)]
+fn prefixed(
+    language: Language<'_>,
+    depth: usize,
+    name: String,
+    input: &mut Input<'_>,
+) -> Result<Node, ReadFault>
+    ensures read { Gives node_of (reading.prefixed language.entry.ops.now language.entry.flags.now (terms_in language.entry depth) (string_bytes name) input.old (prefix_named language.entry.ops.now (string_bytes name))) result input.new }
+    ensures height { IfOk result (λ node. node.height ≤ depth) }
+    ensures shorter { OnOk result (length input.new.tokens ≤ length input.old.tokens) }
+{
+    let Some((priority, spec)) = language.ops.prefix(&name) else {
+        return Ok(closed(Term::Atom(name), 0));
+    };
+    if !begins(language, input.tokens())? {
+        return Ok(closed(Term::Atom(name), 0));
+    }
+    let operator = Operator {
+        name,
+        priority,
+        spec,
+    };
+    let operand = read_term(language, depth, right_of(&operator), input)?;
+    Ok(applied(language.alloc, operator, operand)?)
 }
 
 /// The compound of this name whose arguments are next (6.3.3).
 #[cycle(reader)]
 #[tactic(auto, unfolding(iso_model::specs::Reading::compound))]
 fn compound(
-    alloc: Global,
+    language: Language<'_>,
     depth: usize,
     name: String,
     input: &mut Input<'_>,
 ) -> Result<Node, ReadFault>
-    ensures read { Gives node_of (reading.compound (reading.term operators depth) (string_bytes name) input.old) result input.new }
+    ensures read { Gives node_of (reading.compound (terms_in language.entry depth) (string_bytes name) input.old) result input.new }
     ensures height { IfOk result (λ node. node.height ≤ depth) }
     ensures shorter { OnOk result (length input.new.tokens ≤ length input.old.tokens) }
 {
-    let row = elements(alloc, depth, input)?;
+    let row = elements(language, depth, input)?;
     if !input.takes(")") || row.terms.len() > MAX_ARITY {
         return Err(ReadFault::Syntax);
     }
@@ -131,75 +158,224 @@ fn compound(
 /// One or more terms with commas between them.
 #[cycle(reader)]
 #[tactic(auto, unfolding(iso_model::specs::Reading::elements))]
-fn elements(alloc: Global, depth: usize, input: &mut Input<'_>) -> Result<Row, ReadFault>
-    ensures read { Gives row_of (reading.elements (reading.term operators depth) input.old) result input.new }
+fn elements(
+    language: Language<'_>,
+    depth: usize,
+    input: &mut Input<'_>,
+) -> Result<Row, ReadFault>
+    ensures read { Gives row_of (reading.elements (terms_in language.entry depth) input.old) result input.new }
     ensures height { IfOk result (λ row. row.height < depth) }
     ensures shorter { OnOk result (length input.new.tokens ≤ length input.old.tokens) }
 {
-    let first = read_term(alloc, depth, ARGUMENT_PRIORITY, input)?;
+    let first = read_term(language, depth, ARGUMENT_PRIORITY, input)?;
     let mut height = first.height;
-    let mut terms = Vec::new(alloc);
+    let mut terms = Vec::new(language.alloc);
     terms.push(first.term)?;
     while input.takes(",") {
-        let next = read_term(alloc, depth, ARGUMENT_PRIORITY, input)?;
+        let next = read_term(language, depth, ARGUMENT_PRIORITY, input)?;
         height = height.max(next.height);
         terms.push(next.term)?;
     }
     Ok(Row { terms, height })
 }
 
+/// What a mark that is no comma, bar or closing bracket stands before: a term in brackets or braces, a list, or what
+/// the names `[]` and `{}` stand for.
+#[cycle(reader)]
+#[tactic(auto, unfolding(iso_model::specs::Reading::punctuated))]
+fn punctuated(
+    language: Language<'_>,
+    depth: usize,
+    mark: &Token<'_>,
+    input: &mut Input<'_>,
+) -> Result<Node, ReadFault>
+    ensures read { Gives node_of (reading.punctuated language.entry.ops.now language.entry.flags.now (terms_in language.entry depth) (shown mark.now) input.old) result input.new }
+    ensures height { IfOk result (λ node. node.height ≤ depth) }
+    ensures shorter { OnOk result (length input.new.tokens ≤ length input.old.tokens) }
+{
+    if is_mark(mark, "(") {
+        return bracketed(language, depth, input);
+    }
+    if is_mark(mark, "[") {
+        if input.takes("]") {
+            let name = String::from_str(language.alloc, "[]")?;
+            return named(language, depth, false, name, input);
+        }
+        return listed(language, depth, input);
+    }
+    if is_mark(mark, "{") {
+        if input.takes("}") {
+            let name = String::from_str(language.alloc, "{}")?;
+            return named(language, depth, false, name, input);
+        }
+        return braced(language, depth, input);
+    }
+    Err(ReadFault::Syntax)
+}
+
+/// The term in brackets, of which the first is behind (6.3.4.1).
+#[cycle(reader)]
+#[tactic(auto, unfolding(iso_model::specs::Reading::bracketed))]
+fn bracketed(
+    language: Language<'_>,
+    depth: usize,
+    input: &mut Input<'_>,
+) -> Result<Node, ReadFault>
+    ensures read { Gives node_of (reading.bracketed (terms_in language.entry depth) input.old) result input.new }
+    ensures height { IfOk result (λ node. node.height ≤ depth) }
+    ensures shorter { OnOk result (length input.new.tokens ≤ length input.old.tokens) }
+{
+    let inner = read_term(language, depth, BRACKETED_PRIORITY, input)?;
+    if !input.takes(")") {
+        return Err(ReadFault::Syntax);
+    }
+    Ok(closed(inner.term, inner.height + 1))
+}
+
+/// The term in braces, of which the first is behind (6.3.6).
+#[cycle(reader)]
+#[tactic(auto, unfolding(iso_model::specs::Reading::braced))]
+fn braced(
+    language: Language<'_>,
+    depth: usize,
+    input: &mut Input<'_>,
+) -> Result<Node, ReadFault>
+    ensures read { Gives node_of (reading.braced (terms_in language.entry depth) input.old) result input.new }
+    ensures height { IfOk result (λ node. node.height ≤ depth) }
+    ensures shorter { OnOk result (length input.new.tokens ≤ length input.old.tokens) }
+{
+    let inner = read_term(language, depth, BRACKETED_PRIORITY, input)?;
+    if !input.takes("}") {
+        return Err(ReadFault::Syntax);
+    }
+    Ok(in_braces(language.alloc, inner)?)
+}
+
+/// The list whose first bracket is behind (6.3.5).
+#[cycle(reader)]
+#[tactic(auto, unfolding(iso_model::specs::Reading::listed))]
+fn listed(
+    language: Language<'_>,
+    depth: usize,
+    input: &mut Input<'_>,
+) -> Result<Node, ReadFault>
+    ensures read { Gives node_of (reading.listed (terms_in language.entry depth) input.old) result input.new }
+    ensures height { IfOk result (λ node. node.height ≤ depth) }
+    ensures shorter { OnOk result (length input.new.tokens ≤ length input.old.tokens) }
+{
+    let row = elements(language, depth, input)?;
+    list_end(language, depth, row, input)
+}
+
+/// The list of these elements before a tail (6.3.5), where the bracket that closes it is next.
+fn list_closed(
+    alloc: Global,
+    row: Row,
+    tail: Node,
+    input: &mut Input<'_>,
+) -> Result<Node, ReadFault>
+    requires { max row.height tail.height + 1 < 2 ^ 64 }
+    ensures read { Gives node_of (reading.closing (codes "]") (grammar.closed (lists.list_before (map term_of row.terms.items) (term_of tail.term)) (max row.height tail.height + 1)) input.old) result input.new }
+    ensures height { IfOk result (λ node. node.height ≡ max row.height tail.height + 1) }
+    ensures shorter { OnOk result (length input.new.tokens ≤ length input.old.tokens) }
+{
+    if !input.takes("]") {
+        return Err(ReadFault::Syntax);
+    }
+    let height = row.height.max(tail.height);
+    let list = list_before(alloc, row.terms, tail.term)?;
+    Ok(closed(list, height + 1))
+}
+
+/// What closes a list behind its elements: a tail and the last bracket, or that bracket alone.
+#[cycle(reader)]
+#[tactic(auto, unfolding(iso_model::specs::Reading::list_end))]
+fn list_end(
+    language: Language<'_>,
+    depth: usize,
+    row: Row,
+    input: &mut Input<'_>,
+) -> Result<Node, ReadFault>
+    requires { row.height < depth }
+    ensures read { Gives node_of (reading.list_end (terms_in language.entry depth) (row_of row) input.old) result input.new }
+    ensures height { IfOk result (λ node. node.height ≤ depth) }
+    ensures shorter { OnOk result (length input.new.tokens ≤ length input.old.tokens) }
+{
+    if input.takes("|") {
+        let tail = read_term(language, depth, ARGUMENT_PRIORITY, input)?;
+        return list_closed(language.alloc, row, tail, input);
+    }
+    let tail = closed(nil(language.alloc)?, 0);
+    list_closed(language.alloc, row, tail, input)
+}
+
 /// The operator that the next token is, where it may take this operand on its left.
 #[tactic(auto, unfolding(iso_model::specs::Reading::operator_behind))]
-fn operator_behind<'c>(most: u32, left: &Node, input: &Input<'c>) -> Option<Infix<'c>>
-    ensures { option_map operator_of result ≡ reading.operator_behind operators most (node_of left.now) input.now }
+fn operator_behind(
+    language: Language<'_>,
+    most: u16,
+    left: &Node,
+    input: &Input<'_>,
+) -> Result<Option<Following>, AllocError>
+    ensures { IfOk result (λ found. option_map following_of found ≡ reading.operator_behind language.entry.ops.now language.entry.flags.now most (node_of left.now) input.now) }
 {
-    let operator = infix_of(&input.peek()?)?;
-    if fits(most, left, &operator) {
-        Some(operator)
+    let Some(token) = input.peek() else {
+        return Ok(None);
+    };
+    let Some(found) = operator_at(language, &token)? else {
+        return Ok(None);
+    };
+    if fits(most, left, operator_in(&found)) {
+        Ok(Some(found))
     } else {
-        None
+        Ok(None)
     }
 }
 
 /// The operators that go on from an operand in a place of at most this priority.
 #[cycle(reader)]
 fn climb(
-    alloc: Global,
+    language: Language<'_>,
     depth: usize,
-    most: u32,
+    most: u16,
     first: Node,
     input: &mut Input<'_>,
 ) -> Result<Node, ReadFault>
     requires { first.height ≤ depth }
-    ensures read { Gives node_of (reading.continued operators (reading.term operators depth) depth most (node_of first) input.old) result input.new }
+    ensures read { Gives node_of (reading.continued language.entry.ops.now language.entry.flags.now (terms_in language.entry depth) depth most (node_of first) input.old) result input.new }
     ensures height { IfOk result (λ node. node.height ≤ depth) }
     ensures shorter { OnOk result (length input.new.tokens ≤ length input.old.tokens) }
 {
     let mut left = first;
-    while let Some(operator) = operator_behind(most, &left, input) {
+    while let Some(following) = operator_behind(language, most, &left, input)? {
         input.next();
-        left = extended(alloc, depth, left, &operator, input)?;
+        left = extended(language, depth, left, following, input)?;
     }
     Ok(left)
 }
 
-/// An operand with the operator behind it and that operator's right operand.
+/// An operand with the operator behind it, and that operator's right operand where it has one.
 #[cycle(reader)]
 #[tactic(auto, unfolding(iso_model::specs::Reading::extended))]
 fn extended(
-    alloc: Global,
+    language: Language<'_>,
     depth: usize,
     left: Node,
-    operator: &Infix<'_>,
+    following: Following,
     input: &mut Input<'_>,
 ) -> Result<Node, ReadFault>
-    ensures read { Gives node_of (reading.extended operators (reading.term operators depth) depth (node_of left) (operator_of operator.now) input.old) result input.new }
+    ensures read { Gives node_of (reading.extended language.entry.ops.now language.entry.flags.now (terms_in language.entry depth) depth (node_of left) (following_of following) input.old) result input.new }
     ensures height { IfOk result (λ node. (left.height < node.height) × (node.height ≤ depth)) }
     ensures shorter { OnOk result (length input.new.tokens ≤ length input.old.tokens) }
 {
     if left.height >= depth {
         return Err(ReadFault::Syntax);
     }
-    let right = read_term(alloc, depth, right_of(operator), input)?;
-    Ok(joined(alloc, left, operator, right)?)
+    match following {
+        Following::Between(operator) => {
+            let right = read_term(language, depth, right_of(&operator), input)?;
+            Ok(joined(language.alloc, left, operator, right)?)
+        }
+        Following::Behind(operator) => Ok(applied(language.alloc, operator, left)?),
+    }
 }

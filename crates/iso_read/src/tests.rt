@@ -39,8 +39,8 @@ fn repeated(alloc: Global, text: &str, count: usize) -> Result<String, AllocErro
 }
 
 /// Atoms, integers and variables (6.3.1, 6.3.2, 6.4). In this profile a name of graphic characters or in quotes is
-/// no atom, and a number has no sign.
-const SIMPLE: [(&str, &[&str]); 34] = [
+/// no atom, and a number has neither a sign nor a base.
+const SIMPLE: [(&str, &[&str]); 27] = [
     ("", &[]),
     (" \t\n% b.\n/* c. */ ", &[]),
     ("a.", &["Atom(\"a\") []"]),
@@ -53,15 +53,8 @@ const SIMPLE: [(&str, &[&str]); 34] = [
     ("00000000000000000000000000000012.", &["Int(12) []"]),
     ("12a. a.", &["Syntax", "Atom(\"a\") []"]),
     ("1.5. a.", &["Syntax", "Atom(\"a\") []"]),
-    ("0'c. a.", &["Int(99) []", "Atom(\"a\") []"]),
-    ("0'''. a.", &["Int(39) []", "Atom(\"a\") []"]),
-    ("0'.. a.", &["Int(46) []", "Atom(\"a\") []"]),
-    ("0x1F. a.", &["Int(31) []", "Atom(\"a\") []"]),
-    ("0b101. a.", &["Int(5) []", "Atom(\"a\") []"]),
-    ("0o778. a.", &["Syntax", "Atom(\"a\") []"]),
-    ("0x8000000000000000. a.", &["Syntax", "Atom(\"a\") []"]),
-    ("'a. b'. a.", &["Syntax", "Atom(\"a\") []"]),
-    ("'a. b. a.", &["Syntax", "Atom(\"b\") []", "Atom(\"a\") []"]),
+    ("0'c. a.", &["Syntax", "Atom(\"a\") []"]),
+    ("0x1F. a.", &["Syntax", "Atom(\"a\") []"]),
     ("-1. a.", &["Syntax", "Atom(\"a\") []"]),
     ("X.", &["Var(0) [(\"X\", 0)]"]),
     ("_.", &["Var(0) []"]),

@@ -1,0 +1,81 @@
+//! Terms of one token: variables (6.3.2), integers (6.3.1.1), negative literals (6.3.1.2) and double quoted items
+//! (6.3.7).
+ghost use Rattle.std.specs.Prelude.{◌≡◌, ◌≤◌, ◌+◌, ◌^◌, Some, None, option_map, pos, neg_ℤ, IfOk, MatchOption};
+ghost use Rattle.iso_model.specs.Grammar as grammar;
+ghost use Rattle.iso_model.specs.Lists as lists;
+ghost use Rattle.iso_model.specs.Reading as reading;
+ghost use Rattle.iso_model.specs.Token.{magnitude, content};
+ghost use Rattle.iso_model.specs.Trees.{Variable};
+ghost use Rattle.iso_read.specs.Views.{node_of};
+ghost use Rattle.iso_token.specs.Shows.{shown};
+
+use crate::input::Input;
+use crate::language::Language;
+use crate::lists::quoted_term;
+use crate::node::{Node, closed};
+use iso_model::Term;
+use iso_token::Token;
+use std::alloc::{AllocError, Global};
+
+/// The greatest integer (the flag `max_integer`, 7.11.1.2).
+const MAX_INTEGER: u64 = 9_223_372_036_854_775_807;
+
+/// The variable of its token, at one more occurrence.
+pub fn variable(
+    alloc: Global,
+    token: &Token<'_>,
+    input: &mut Input<'_>,
+) -> Result<Node, AllocError>
+    ensures node { IfOk result (λ node. node_of node ≡ grammar.closed (Variable (grammar.number_of token.now.text.now input.old.names)) 0) }
+    ensures after { IfOk result (λ _. input.new ≡ grammar.with_name token.now.text.now input.old) }
+{
+    let number = input.variable(alloc, token.text)?;
+    Ok(closed(Term::Var(number), 0))
+}
+
+/// The integer of its token.
+pub fn integer(token: &Token<'_>) -> Option<Node>
+    ensures { option_map node_of result ≡ reading.integer (magnitude (shown token.now)) }
+{
+    let value = token.magnitude()?;
+    if value > MAX_INTEGER {
+        return None;
+    }
+    Some(closed(Term::Int(value as i64), 0))
+}
+
+/// The integer below 0 of this size.
+fn negated(size: u64) -> i64
+    requires { size ≤ 2 ^ 63 }
+    ensures { result ≡ neg_ℤ (pos size) }
+{
+    if size > MAX_INTEGER {
+        i64::MIN
+    } else {
+        -(size as i64)
+    }
+}
+
+/// The negative literal of these digits.
+fn literal(digits: &Token<'_>) -> Option<Node>
+    ensures { option_map node_of result ≡ reading.literal (magnitude (shown digits.now)) }
+{
+    let size = digits.magnitude()?;
+    Some(closed(Term::Int(negated(size)), 0))
+}
+
+/// The negative literal whose digits are next.
+pub fn negative(input: &mut Input<'_>) -> Option<Node>
+    ensures { MatchOption result (reading.negative input.old input.old.tokens ≡ None) (λ node. reading.negative input.old input.old.tokens ≡ Some (node_of node, input.new)) }
+{
+    literal(&input.next()?)
+}
+
+/// What a double quoted item stands for.
+pub fn quoted(language: Language<'_>, token: &Token<'_>) -> Result<Node, AllocError>
+    ensures { IfOk result (λ node. node_of node ≡ grammar.closed (lists.quoted_term language.entry.flags.now.double_quotes (content (shown token.now))) 0) }
+{
+    let text = token.content(language.alloc)?;
+    let term = quoted_term(language.alloc, language.flags.double_quotes, &text)?;
+    Ok(closed(term, 0))
+}
