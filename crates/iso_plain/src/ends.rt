@@ -63,7 +63,7 @@ impl<S: Store + Drop> Plain<S> {
         self.clear();
         match ball {
             Some(ball) => Move::Pauses(Pause::Uncaught(ball)),
-            None => Move::Pauses(Pause::NoMore),
+            None => unreachable!(),
         }
     }
 }

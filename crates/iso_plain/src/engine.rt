@@ -49,7 +49,7 @@ impl<S: Store + Drop> Plain<S> {
     {
         match self.now {
             Now::Idle => Ok(Move::Pauses(Pause::NoMore)),
-            Now::Spent => Err(StoreFault::NoMemory),
+            Now::Spent => unreachable!(),
             Now::Failing => self.fail(),
             Now::Answering => self.answer(),
             Now::Running(place) => self.run(place),
