@@ -11,7 +11,7 @@ use iso_model::Pause;
 use iso_store::{Store, StoreFault};
 
 impl<S: Store + Drop> Plain<S> {
-    ghost use Rattle.iso_plain.specs.EngineStates.{Represents, Moves, Falls, Calls, WasCalled, weight, most_clauses};
+    ghost use Rattle.iso_plain.specs.EngineStates.{Represents, Moves, Falls, Calls, WasCalled, weight, most_clauses, settings_of};
     ghost use Rattle.iso_plain.specs.Limits.{IsWithin, ResultMet, ResultFull};
     ghost use Rattle.iso_plain.specs.Linked.{Linked};
     ghost use Rattle.iso_plain.specs.declared.parts.Now.TheVariants as now;
@@ -26,6 +26,7 @@ impl<S: Store + Drop> Plain<S> {
         ensures frames { (s : State) → Represents S.present S.stands S.older self.old s → ResultFull (self.old.limit ≤ alternative_count s) result }
         ensures met { ResultMet S.full result self.new }
         ensures limit { self.new.limit ≡ self.old.limit }
+        ensures settings { settings_of self.new ≡ settings_of self.old }
         ensures within { IsWithin self.old → IsWithin self.new }
     {
         if self.steps == 0 {
@@ -68,6 +69,7 @@ impl<S: Store + Drop> Plain<S> {
         ensures frames { ResultFull (self.old.limit ≤ length self.old.choices.items) result }
         ensures met { ResultMet S.full result self.new }
         ensures limit { self.new.limit ≡ self.old.limit }
+        ensures settings { settings_of self.new ≡ settings_of self.old }
         ensures within { IsWithin self.old → IsWithin self.new }
     {
         if self.call(attempt)? {
