@@ -30,7 +30,7 @@ module _ {S W M : Type 0} (present : S → Present W) (stands : S → M → Pres
   onward e store frames doing = record e { store = store; frames = frames; now = doing }
 
   -- the mark for the empty store, the choices and their marks behind calls that keep marks
-  base_kept : (old new : M → Present W → Type 0) (base : M) → KeepsMarks old new → IsBase old base → IsBase new base
+  pub base_kept : (old new : M → Present W → Type 0) (base : M) → KeepsMarks old new → IsBase old base → IsBase new base
   base_kept old new base keeps b = record { present = b.present; stands_for = keeps base b.present b.stands_for; substitution = b.substitution; next = b.next }
 
   choices_on : (e : Plain S W M) (attempt : Attempt W) (l : Linked) (call : Tree) (c : databases.Clause) (cs : List databases.Clause) (behind : List Tree) (store : S) (frames : Vec (Frame W) Global)

@@ -268,7 +268,7 @@ fewer_steps l t n h = record {
   around = record { subst = h.around.subst; next = h.around.next; query = h.around.query; stack = h.around.stack; world = h.around.world; steps = refl };
 }
 
-goes_onward : (l m : Linked) (s : State) (g : Tree) (gs : List Tree) (n : ℕ) (f : Fronted l g gs s) (t : State) → l.steps ≡ suc n → run_goal (selected g) g f.others f.from ≡ t
+pub goes_onward : (l m : Linked) (s : State) (g : Tree) (gs : List Tree) (n : ℕ) (f : Fronted l g gs s) (t : State) → l.steps ≡ suc n → run_goal (selected g) g f.others f.from ≡ t
     → IsState m t → Onward (record m { steps = n }) s
 goes_onward l m s g gs n f t left is h = record {
   new = record t { steps = n };

@@ -27,7 +27,7 @@ use Rattle.iso_plain.proofs.RunLemmas.{AtGoal, at_goal, failed_engine, succeeded
 same_some : {X : Type 0} {x y : X} → Some x ≡ Some y → x ≡ y
 same_some h = cc
 
-awake_behind : (place : Option ℕ) → now_behind place ≢ now.Spent
+pub awake_behind : (place : Option ℕ) → now_behind place ≢ now.Spent
 awake_behind None = λ h. cc
 awake_behind (Some i) = λ h. cc
 
@@ -47,7 +47,7 @@ module _ {S W M : Type 0} (present : S → Present W) (stands : S → M → Pres
   pub frame_is : (e : Plain S W M) (l : Linked) (place : ℕ) (a : AtGoal present stands older e l place) (frame : Frame W) → frame ≡ get_or e.frames.items place frame → frame ≡ a.first.frame
   frame_is e l place a frame is = same_some (sym (get_at e.frames.items place frame (within e l place a) is) ∙ a.first.at.is)
 
-  links_at : (e : Plain S W M) (l : Linked) (place : ℕ) (s : State) (a : AtGoal present stands older e l place) → IsState l s → Links ((present e.store).term a.first.frame.goal ∷ a.first.behind) s.list
+  pub links_at : (e : Plain S W M) (l : Linked) (place : ℕ) (s : State) (a : AtGoal present stands older e l place) → IsState l s → Links ((present e.store).term a.first.frame.goal ∷ a.first.behind) s.list
   links_at e l place s a is = subst (λ (gs : List Tree). Links gs s.list) a.first.is (subst (λ d. Does d s.list) a.doing is.list)
 
   -- no step is left

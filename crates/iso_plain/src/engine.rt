@@ -152,10 +152,12 @@ impl<S: Store + Drop> Engine for Plain<S> {
         }
     }
 
+    /// As the trait says.
     fn ops(&self) -> &OpTable {
         &self.ops
     }
 
+    /// As the trait says.
     fn flags(&self) -> &Flags {
         &self.flags
     }

@@ -5,7 +5,8 @@ ghost use Rattle.iso_model.specs.Databases as databases;
 ghost use Rattle.iso_model.specs.Walker.{State, alternative_count};
 
 use super::calls::Called;
-use super::parts::{Attempt, Now, at};
+use super::entries;
+use super::parts::{Attempt, Now, at, unified};
 use super::plain::{Move, Plain};
 use iso_model::Pause;
 use iso_store::{Store, StoreFault};
@@ -43,6 +44,11 @@ impl<S: Store + Drop> Plain<S> {
             }
             Called::Fail => {
                 self.now = Now::Failing;
+                Ok(Move::Goes)
+            }
+            Called::Equates => {
+                let equal = entries::equate(&mut self.store, frame.goal)?;
+                self.now = unified(equal, frame.next);
                 Ok(Move::Goes)
             }
             Called::Unknown(ball) => {

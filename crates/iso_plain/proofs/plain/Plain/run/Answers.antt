@@ -3,6 +3,7 @@ use Rattle.iso_model.specs.Terms.{term_of}
 use Rattle.iso_plain.specs.EngineStates.{phase_of}
 use Rattle.iso_plain.proofs.RunLemmas.{at_goal}
 use Rattle.iso_plain.proofs.RunMoves.{within, spends, goal_holds, goal_is, succeeds_on, fails_on, raises_error, calls_it, called_on, if_ok_map}
+use Rattle.iso_plain.proofs.EquationMoves.{equates_on}
 use Rattle.iso_plain.proofs.LimitLemmas.{as_many, result_full}
 use Rattle.iso_plain.proofs.plain.Plain.run.Goals as goal
 
@@ -39,6 +40,29 @@ returns-in-Fail-clause-moves g c = λ s r.
     let a = at_goal g.S.Store.present g.S.Store.stands g.S.Store.older e r.search c.args.place c.requires.now r.engine in
     let what = c.in_ok-called.ensures r.search.world.database r.engine.world.database (goal_is g.S.Store.present g.S.Store.stands g.S.Store.older e r.search c.args.place a c.index-frame.result.now c.index-frame.ensures) in
     fails_on g.S.Store.present g.S.Store.stands g.S.Store.older e s c.args.place c.index-frame.result.now c.requires.now c.if-self-eq0.false c.index-frame.ensures r (rw c.in-Fail.is at what))
+
+pub equate-requires-clause-goal : goal.equate-requires-clause-goal
+equate-requires-clause-goal g c =
+    let r = c.requires.stands.1 in
+    goal_holds g.S.Store.present g.S.Store.stands g.S.Store.older c.args.self.now r.search c.args.place
+    (at_goal g.S.Store.present g.S.Store.stands g.S.Store.older c.args.self.now r.search c.args.place c.requires.now r.engine) c.index-frame.result.now c.index-frame.ensures
+
+pub equate-requires-clause-equation : goal.equate-requires-clause-equation
+equate-requires-clause-equation g c =
+    let e = c.args.self.now in
+    let r = c.requires.stands.1 in
+    let a = at_goal g.S.Store.present g.S.Store.stands g.S.Store.older e r.search c.args.place c.requires.now r.engine in
+    let what = c.in_ok-called.ensures r.search.world.database r.engine.world.database (goal_is g.S.Store.present g.S.Store.stands g.S.Store.older e r.search c.args.place a c.index-frame.result.now c.index-frame.ensures) in
+    rw c.in-Equates.is at what
+
+pub returns-in_ok-equal-in-Equates-clause-moves : goal.returns-in_ok-equal-in-Equates-clause-moves
+returns-in_ok-equal-in-Equates-clause-moves g c = λ s r.
+    (let e = c.args.self.now in
+    let a = at_goal g.S.Store.present g.S.Store.stands g.S.Store.older e r.search c.args.place c.requires.now r.engine in
+    let what = c.in_ok-called.ensures r.search.world.database r.engine.world.database (goal_is g.S.Store.present g.S.Store.stands g.S.Store.older e r.search c.args.place a c.index-frame.result.now c.index-frame.ensures) in
+    let equation = rw c.in-Equates.is at what in
+    equates_on g.S.Store.present g.S.Store.stands g.S.Store.older e c.equate.new.store s c.args.place c.index-frame.result.now c.requires.now c.if-self-eq0.false c.index-frame.ensures
+    c.in_ok-equal-in-Equates.equal c.unified-self.result c.unified-self.ensures r equation.0 equation.1 equation.2 (c.in_ok-equal-in-Equates.ensures.equates equation.0 equation.1 equation.2) c.in_ok-equal-in-Equates.ensures.marks)
 
 pub returns-in-Unknown-clause-moves : goal.returns-in-Unknown-clause-moves
 returns-in-Unknown-clause-moves g c = λ s r.
