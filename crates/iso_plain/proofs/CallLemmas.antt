@@ -62,7 +62,7 @@ module _ {S W M : Type 0} (present : S → Present W) (stands : S → M → Pres
   pub tries_last : (e : Plain S W M) (attempt : Attempt W) (l : Linked) (call : Tree) (c : databases.Clause) (cs : List databases.Clause) (behind : List Tree)
       → Calls present stands older e attempt l call c cs behind → length cs ≡ 0 → Tries present stands older e attempt l call c cs behind
   tries_last e attempt l call c [] behind t many = record {
-    database = t.database;
+    world = t.world;
     steps = t.steps;
     base = t.base;
     choices = t.choices;
@@ -92,9 +92,9 @@ module _ {S W M : Type 0} (present : S → Present W) (stands : S → M → Pres
   tries_later e attempt l call c (d ∷ cs) behind store choices mark t many same stood newest keeps pushed =
       let b = t.base in
       let k : Choice = record { call = call; clauses = d ∷ cs; behind = behind; subst = l.subst; next = l.next } in
-      let old : StandsForChoices (stands store) older e.base (left_at l.database) e.query.items l.query e.frames.items e.choices.items l.stack =
+      let old : StandsForChoices (stands store) older e.base (left_at l.world.database) e.query.items l.query e.frames.items e.choices.items l.stack =
       choices_keep (λ x p among there. keeps x.mark p there) t.choices in
-      let here : StandsForChoice (stands store) older e.base (left_at l.database) e.query.items l.query e.frames.items (later e attempt mark) k = record {
+      let here : StandsForChoice (stands store) older e.base (left_at l.world.database) e.query.items l.query e.frames.items (later e attempt mark) k = record {
         present = present e.store;
         mark = stood;
         newer = newest e.base b.present b.stands_for;
@@ -103,7 +103,7 @@ module _ {S W M : Type 0} (present : S → Present W) (stands : S → M → Pres
         goal = t.holds;
         call = sym t.call_is;
         behind = t.links;
-        clauses = sym (left_next l.database attempt.procedure attempt.clause c (d ∷ cs) t.clauses);
+        clauses = sym (left_next l.world.database attempt.procedure attempt.clause c (d ∷ cs) t.clauses);
         some = many;
         words = t.variables;
       } in
@@ -111,7 +111,7 @@ module _ {S W M : Type 0} (present : S → Present W) (stands : S → M → Pres
       (let there = marks_stand x t.choices among in newest x.mark there.0 there.1) in
       let back : present e.store ≡ present store = sym same in
       record {
-        database = t.database;
+        world = t.world;
         steps = t.steps;
         base = record { present = b.present; stands_for = keeps e.base b.present b.stands_for; substitution = b.substitution; next = b.next };
         choices = rw pushed (choices_push (later e attempt mark) k refl here newer old);

@@ -1,13 +1,14 @@
 -- What a goal calls, by its name and arity.
-use Rattle.std.proofs.Common.{◌≡◌, ℕ, zero, suc, ◌<◌, List, [], ◌∷◌, length, Bool, true, false, ◌&&◌, nat_le, Option, Some, refl, ap, sym, ◌∙◌, arith, inl, inr, IfOk, Result, Ok, Err}
-use Rattle.std.proofs.Math.Dec.{eqb-suc-zero}
+use Rattle.std.proofs.Common.{◌≡◌, ℕ, ◌<◌, List, [], ◌∷◌, length, Bool, true, false, ◌&&◌, nat_le, Option, Some, refl, ap, sym, ◌∙◌, subst, arith, codes, inl, inr, IfOk, Result, Ok, Err}
+use Rattle.std.specs.Str.{bytes_eq}
+use Rattle.std.proofs.lemmas.Bool.{cases_Bool, ne_eqb}
 use Rattle.iso_model.specs.Trees.{Tree, Variable, Integer, Name, Apply, End, More, count}
 use Rattle.iso_model.specs.Sorts.{is_term, is_row}
 use Rattle.iso_model.specs.Substitutions.{Subst, apply}
 use Rattle.iso_model.specs.Errors.{key}
 use Rattle.iso_model.specs.Databases as databases
 use Rattle.iso_model.specs.Databases.{Key, Database, key_of, same_key, clauses_at}
-use Rattle.iso_model.specs.Walker.{User, selected, unknown, clauses_for}
+use Rattle.iso_model.specs.Walker.{Succeeds, Fails, User, selected, unknown, clauses_for}
 use Rattle.iso_model.proofs.SortLemmas.{count-apply}
 use Rattle.iso_plain.specs.declared.clauses.Clause.{Clause}
 use Rattle.iso_plain.specs.declared.procedures.Procedure.{Procedure}
@@ -15,7 +16,8 @@ use Rattle.iso_plain.specs.declared.calls.Called.{Called}
 use Rattle.iso_plain.specs.declared.calls.Called.TheVariants as call
 use Rattle.iso_plain.specs.Programs.{IsDatabase, has_key, place_at, AreClauses, no_clauses, more_clauses, no_procedures, more_procedures}
 use Rattle.iso_plain.specs.EngineStates.{left_at}
-use Rattle.iso_plain.specs.Called.{selected_key, IsNamed, IsCalled}
+use Rattle.iso_plain.specs.Called.{Own, OwnTrue, OwnFail, OwnEquation, NotOwn, own_goal, IsNamed, IsCalled}
+use Rattle.iso_plain.specs.Equations.{IsEquation}
 use Rattle.iso_plain.specs.Callable.{IsGoal}
 use Rattle.iso_plain.proofs.ProgramLemmas.{found_procedure, no_procedure, found_cases, same_test}
 
@@ -38,20 +40,74 @@ key_kept s (More t ts) k is h = absurd cc
 
 -- ---- the language's own goals
 
-none_own : (f : List ℕ) (n : ℕ) → nat_le 1 n ≡ true → selected_key (key f n) ≡ User
-none_own f zero h = absurd cc
-none_own f (suc n) h = rw (eqb-suc-zero n) refl
+-- a goal is one of the language's own, or it isn't
+abbrev pub IsOwn : Own → Tree → Type 0
+IsOwn OwnTrue t = selected t ≡ Succeeds
+IsOwn OwnFail t = selected t ≡ Fails
+IsOwn OwnEquation t = (a b : Tree) × IsEquation t a b
+IsOwn NotOwn t = selected t ≡ User
+
+own_as : (o : Own) (k : Key) (t : Tree) → own_goal k ≡ o → IsOwn o t → IsOwn (own_goal k) t
+own_as o k t e h = subst (λ (x : Own). IsOwn x t) (sym e) h
+
+own_name : (f : List ℕ) → IsOwn (own_goal (key f 0)) (Name f)
+own_name f =
+    elim (cases_Bool (bytes_eq f (codes "true"))) [
+      | inl same ↦ own_as OwnTrue (key f 0) (Name f) (rw same refl) (rw same refl)
+      | inr other ↦ (elim (cases_Bool (bytes_eq f (codes "fail"))) [
+        | inl same ↦ own_as OwnFail (key f 0) (Name f) (rw (other, same) refl) (rw (other, same) refl)
+        | inr neither ↦ own_as NotOwn (key f 0) (Name f) (rw (other, neither) refl) (rw (other, neither) refl)
+      ])
+    ]
+
+-- a name with two arguments
+own_two : (f : List ℕ) (a b : Tree) → IsOwn (own_goal (key f 2)) (Apply f (More a (More b End)))
+own_two f a b =
+    elim (cases_Bool (bytes_eq f (codes "="))) [
+      | inl same ↦ own_as OwnEquation (key f 2) (Apply f (More a (More b End))) (rw same refl) (a, b, record { name = f; is = refl; equates = rw same refl })
+      | inr other ↦ own_as NotOwn (key f 2) (Apply f (More a (More b End))) (rw other refl) (rw other refl)
+    ]
+
+-- with neither none nor two
+none_own : (f : List ℕ) (n : ℕ) → (n ≡ 0 → ⊥) → (n ≡ 2 → ⊥) → own_goal (key f n) ≡ NotOwn
+none_own f n some many = rw (ne_eqb n 0 some, ne_eqb n 2 many) refl
+
+own_row : (f : List ℕ) (a ts : Tree) → is_row ts ≡ true → IsOwn (own_goal (key f (count (More a ts)))) (Apply f (More a ts))
+own_row f a (Variable n) h = absurd cc
+own_row f a (Integer z) h = absurd cc
+own_row f a (Name g) h = absurd cc
+own_row f a (Apply g us) h = absurd cc
+own_row f a End h = refl
+own_row f a (More b (Variable n)) h = absurd (cc ((both_of (is_term b) false h).1))
+own_row f a (More b (Integer z)) h = absurd (cc ((both_of (is_term b) false h).1))
+own_row f a (More b (Name g)) h = absurd (cc ((both_of (is_term b) false h).1))
+own_row f a (More b (Apply g us)) h = absurd (cc ((both_of (is_term b) false h).1))
+own_row f a (More b End) h = own_two f a b
+own_row f a (More b (More d us)) h =
+    own_as NotOwn (key f (count (More a (More b (More d us))))) (Apply f (More a (More b (More d us))))
+    (none_own f (count (More a (More b (More d us)))) (λ e. omega (arith, e)) (λ e. omega (arith, e))) refl
+
+own_compound : (f : List ℕ) (ts : Tree) → is_term (Apply f ts) ≡ true → IsOwn (own_goal (key f (count ts))) (Apply f ts)
+own_compound f (Variable n) is = absurd cc
+own_compound f (Integer z) is = absurd cc
+own_compound f (Name g) is = absurd cc
+own_compound f (Apply g us) is = absurd cc
+own_compound f End is = absurd cc
+own_compound f (More a ts) is = own_row f a ts (both_of (is_term a) (is_row ts) (row_of_goal f (More a ts) is)).1
 
 some_same : {X : Type 0} {x y : X} → Some x ≡ Some y → x ≡ y
 some_same h = cc
 
-pub selected_by_key : (t : Tree) (k : Key) → is_term t ≡ true → key_of t ≡ Some k → selected t ≡ selected_key k
-selected_by_key (Variable n) k is h = absurd cc
-selected_by_key (Integer z) k is h = absurd cc
-selected_by_key (Name a) k is h = ap selected_key (some_same h)
-selected_by_key (Apply f ts) k is h = sym (none_own f (count ts) (both_of (nat_le 1 (count ts)) _ is).0) ∙ ap selected_key (some_same h)
-selected_by_key End k is h = absurd cc
-selected_by_key (More t ts) k is h = absurd cc
+own_by_key : (t : Tree) (k : Key) → is_term t ≡ true → key_of t ≡ Some k → IsOwn (own_goal k) t
+own_by_key (Variable n) k is h = absurd cc
+own_by_key (Integer z) k is h = absurd cc
+own_by_key (Name f) k is h = subst (λ (x : Key). IsOwn (own_goal x) (Name f)) (some_same h) (own_name f)
+own_by_key (Apply f ts) k is h = subst (λ (x : Key). IsOwn (own_goal x) (Apply f ts)) (some_same h) (own_compound f ts is)
+own_by_key End k is h = absurd cc
+own_by_key (More t ts) k is h = absurd cc
+
+pub own_is : (t : Tree) (k : Key) (o : Own) → is_term t ≡ true → key_of t ≡ Some k → own_goal k ≡ o → IsOwn o t
+own_is t k o is named h = subst (λ (x : Own). IsOwn x t) h (own_by_key t k is named)
 
 -- ---- the clauses at a place
 
@@ -92,13 +148,14 @@ first_of [] h = absurd (omega (arith, h))
 first_of (p ∷ ps) h = p
 
 pub named_calls : (ps : List Procedure) (db : Database) (t : Tree) (k : Key) (c : Called) → IsDatabase ps db → is_term t ≡ true → key_of t ≡ Some k → IsNamed ps k c → IsCalled ps db t c
-named_calls ps db t k call.True is goal named h = selected_by_key t k goal named ∙ h
-named_calls ps db t k call.Fail is goal named h = selected_by_key t k goal named ∙ h
+named_calls ps db t k call.True is goal named h = own_is t k OwnTrue goal named h
+named_calls ps db t k call.Fail is goal named h = own_is t k OwnFail goal named h
+named_calls ps db t k call.Equates is goal named h = own_is t k OwnEquation goal named h
 named_calls ps db t k (call.User place) is goal named h =
     let at = clauses_there k place (first_of ps (found_procedure k place is h.1).within) is h.1 in
-    (at.first, at.others, selected_by_key t k goal named ∙ h.0, (found_procedure k place is h.1).within, ap (λ (o : Option Key). clauses_for o db) named ∙ at.found, at.there)
+    (at.first, at.others, own_is t k NotOwn goal named h.0, (found_procedure k place is h.1).within, ap (λ (o : Option Key). clauses_for o db) named ∙ at.found, at.there)
 named_calls ps db t k (call.Unknown ball) is goal named h =
-    (selected_by_key t k goal named ∙ h.0, ap (λ (o : Option Key). clauses_for o db) named ∙ no_procedure k is h.1, h.2 ∙ ap (λ (o : Option Key). unknown o t) (sym named))
+    (own_is t k NotOwn goal named h.0, ap (λ (o : Option Key). clauses_for o db) named ∙ no_procedure k is h.1, h.2 ∙ ap (λ (o : Option Key). unknown o t) (sym named))
 
 key_by : (s : Subst) (t : Tree) (k : Key) → IsGoal t → key_of (apply s t) ≡ Some k → key_of t ≡ Some k
 key_by s t k goal h = goal.key.1 ∙ (sym (key_kept s t goal.key.0 goal.is goal.key.1) ∙ h)

@@ -84,8 +84,8 @@ fewer_choices ps before c within = (let old = left_last ps before c in omega (ar
 module _ {S W M : Type 0} (present : S → Present W) (stands : S → M → Present W → Type 0) (older : M → M → Type 0) where
   -- the clauses behind the one that is tried
   pub rest_of : (e : Plain S W M) (c : kept.Choice W M) (l : Linked) (k : Choice) (below : List Choice) (x : databases.Clause) (xs : List databases.Clause)
-      → WentBack present stands older e c l k below → k.clauses ≡ x ∷ xs → Rest e.procedures.items l.database c.attempt.procedure c.attempt.clause xs
-  rest_of e c l k below x xs w is = rest_at e.procedures.items l.database c.attempt.procedure c.attempt.clause x xs w.database (sym w.clauses ∙ is)
+      → WentBack present stands older e c l k below → k.clauses ≡ x ∷ xs → Rest e.procedures.items l.world.database c.attempt.procedure c.attempt.clause xs
+  rest_of e c l k below x xs w is = rest_at e.procedures.items l.world.database c.attempt.procedure c.attempt.clause x xs w.world.database (sym w.clauses ∙ is)
 
   -- what is left at the choice, whatever it is
   pub record Within (e : Plain S W M) (c : kept.Choice W M) : Type 0 where
@@ -111,11 +111,11 @@ module _ {S W M : Type 0} (present : S → Present W) (stands : S → M → Pres
   next_choices : (e : Plain S W M) (c : kept.Choice W M) (l : Linked) (k : Choice) (below : List Choice) (x : databases.Clause) (xs : List databases.Clause) (new : List (kept.Choice W M))
       → WentBack present stands older e c l k below → k.clauses ≡ x ∷ xs → c.attempt.clause + 1 < clauses_at_place e.procedures.items c.attempt.procedure
       → new ≡ take (length e.choices.items - 1) e.choices.items ++ next_of c ∷ []
-      → StandsForChoices (stands e.store) older e.base (left_at l.database) e.query.items l.query e.frames.items new (with_choice k.call xs k.behind k.subst k.next below)
+      → StandsForChoices (stands e.store) older e.base (left_at l.world.database) e.query.items l.query e.frames.items new (with_choice k.call xs k.behind k.subst k.next below)
   next_choices e c l k below x [] new w is more made = absurd (let r = rest_of e c l k below x [] w is in let many = r.count in omega (arith, many, more))
   next_choices e c l k below x (y ∷ ys) new w is more made =
       let r = rest_of e c l k below x (y ∷ ys) w is in
-      subst (λ (ds : List (kept.Choice W M)). StandsForChoices (stands e.store) older e.base (left_at l.database) e.query.items l.query e.frames.items ds
+      subst (λ (ds : List (kept.Choice W M)). StandsForChoices (stands e.store) older e.base (left_at l.world.database) e.query.items l.query e.frames.items ds
       (record { call = k.call; clauses = y ∷ ys; behind = k.behind; subst = k.subst; next = k.next } ∷ below)) (sym made)
       (choices_push (next_of c) (record { call = k.call; clauses = y ∷ ys; behind = k.behind; subst = k.subst; next = k.next }) w.kept_frames
       (record {
@@ -142,7 +142,7 @@ module _ {S W M : Type 0} (present : S → Present W) (stands : S → M → Pres
       → choices.items ≡ take (length e.choices.items - 1) e.choices.items ++ next_of c ∷ []
       → Tries present stands older (record e { choices = choices }) c.attempt (record l { subst = k.subst; next = k.next; stack = below }) k.call x xs k.behind
   tries_next e c l k below x xs choices w is more made = record {
-    database = w.database;
+    world = w.world;
     steps = w.steps;
     base = w.base;
     choices = next_choices e c l k below x xs choices.items w is more made;
@@ -160,10 +160,10 @@ module _ {S W M : Type 0} (present : S → Present W) (stands : S → M → Pres
   last_choices : (e : Plain S W M) (store : S) (c : kept.Choice W M) (l : Linked) (k : Choice) (below : List Choice) (x : databases.Clause) (xs : List databases.Clause) (new : List (kept.Choice W M))
       → WentBack present stands older e c l k below → k.clauses ≡ x ∷ xs → clauses_at_place e.procedures.items c.attempt.procedure ≤ c.attempt.clause + 1
       → ((m : M) (p : Present W) → older m c.mark → stands e.store m p → stands store m p) → new ≡ take (length e.choices.items - 1) e.choices.items
-      → StandsForChoices (stands store) older e.base (left_at l.database) e.query.items l.query e.frames.items new (with_choice k.call xs k.behind k.subst k.next below)
+      → StandsForChoices (stands store) older e.base (left_at l.world.database) e.query.items l.query e.frames.items new (with_choice k.call xs k.behind k.subst k.next below)
   last_choices e store c l k below x (y ∷ ys) new w is none marks made = absurd (let r = rest_of e c l k below x (y ∷ ys) w is in let many = r.count in omega (arith, many, none))
   last_choices e store c l k below x [] new w is none marks made =
-      subst (λ (ds : List (kept.Choice W M)). StandsForChoices (stands store) older e.base (left_at l.database) e.query.items l.query e.frames.items ds below) (sym made)
+      subst (λ (ds : List (kept.Choice W M)). StandsForChoices (stands store) older e.base (left_at l.world.database) e.query.items l.query e.frames.items ds below) (sym made)
       (choices_keep (λ d p among stood. marks d.mark p (w.newer d among) stood) w.stands_below)
 
   -- the newest choice was taken away with its last clause
@@ -176,7 +176,7 @@ module _ {S W M : Type 0} (present : S → Present W) (stands : S → M → Pres
       let b = w.base in
       let back = sym same in
       record {
-        database = w.database;
+        world = w.world;
         steps = w.steps;
         base = record { present = b.present; stands_for = marks e.base b.present w.newer_base b.stands_for; substitution = b.substitution; next = b.next };
         choices = last_choices e store c l k below x xs choices.items w is none marks made;

@@ -2,8 +2,7 @@
 use Rattle.std.proofs.Common.{◌≡◌, ℕ, zero, suc, ◌<◌, List, [], ◌∷◌, length, get_or, map, Some, None, true, refl, ap, sym, ◌∙◌, subst, arith, Vec, Global}
 use Rattle.std.specs.Prelude.{option_map}
 use Rattle.iso_model.specs.Terms.{term_of}
-use Rattle.iso_model.specs.Databases.{Database}
-use Rattle.iso_model.specs.Walker.{State, Ending, NoMore, Uncaught}
+use Rattle.iso_model.specs.Walker.{State, World, Ending, NoMore, Uncaught}
 use Rattle.iso_model.specs.Runs.{Finishes}
 use Rattle.iso_model.specs.declared.terms.Term.{Term}
 use Rattle.iso_model.specs.declared.pauses.Ball.{Ball}
@@ -15,7 +14,7 @@ use Rattle.iso_plain.specs.declared.plain.Move.TheVariants as move
 use Rattle.iso_plain.specs.declared.plain.Plain.{Plain}
 use Rattle.iso_plain.specs.Linked.{Linked, Running, Failing, Raising, IsState, Does, idle_linked}
 use Rattle.iso_plain.specs.Standing.{AreVariables, no_word, one_word, DoesNext}
-use Rattle.iso_plain.specs.Programs.{IsDatabase}
+use Rattle.iso_plain.specs.Programs.{IsWorld}
 use Rattle.iso_plain.specs.EngineStates.{IsEngine, Represents, StandsBy, StandsFor, Moves}
 use Rattle.iso_plain.proofs.LinkedMoves.{answers, raises, fails_last}
 
@@ -36,7 +35,7 @@ module _ {S W M : Type 0} (present : S → Present W) (stands : S → M → Pres
 
   failing_engine : (e : Plain S W M) (l : Linked) → IsEngine present stands older e l → IsEngine present stands older (record e { now = now.Failing }) (record l { doing = Failing })
   failing_engine e l is = record {
-    database = is.database;
+    world = is.world;
     steps = is.steps;
     base = is.base;
     choices = is.choices;
@@ -69,14 +68,14 @@ module _ {S W M : Type 0} (present : S → Present W) (stands : S → M → Pres
   stands_idle doing e s is r = rw is r
 
   -- the run ends, and the engine is idle
-  pub finishes_engine : (e : Plain S W M) (s : State) (ending : Ending) (db : Database) → e.now ≡ now.Idle → IsEngine present stands older e (idle_linked db)
-      → Finishes s ending (IsState (idle_linked db)) → Finishes s ending (StandsFor present stands older e)
-  finishes_engine e s ending db doing is f = record {
+  pub finishes_engine : (e : Plain S W M) (s : State) (ending : Ending) (w : World) → e.now ≡ now.Idle → IsEngine present stands older e (idle_linked w)
+      → Finishes s ending (IsState (idle_linked w)) → Finishes s ending (StandsFor present stands older e)
+  finishes_engine e s ending w doing is f = record {
     at = f.at;
     world = f.world;
     quiet = f.quiet;
     last = f.last;
-    stands = stands_idle e.now e _ doing (record { search = idle_linked db; engine = is; state = f.stands });
+    stands = stands_idle e.now e _ doing (record { search = idle_linked w; engine = is; state = f.stands });
   }
 
   -- ---- a ball
@@ -89,22 +88,22 @@ module _ {S W M : Type 0} (present : S → Present W) (stands : S → M → Pres
       cc (ap (option_map (λ b. term_of b.term)) none, is)
 
   pub raises_engine : (e new : Plain S W M) (s : State) (ball : Ball) → e.now ≡ now.Raising → e.raised ≡ Some ball
-      → ((db : Database) → IsDatabase e.procedures.items db → IsEngine present stands older new (idle_linked db)) → new.now ≡ now.Idle
+      → ((w : World) → IsWorld e w → IsEngine present stands older new (idle_linked w)) → new.now ≡ now.Idle
       → Represents present stands older e s → Moves present stands older (move.Pauses (pause.Uncaught ball)) s new
   raises_engine e new s ball doing kept cleared idle r =
       let l = r.search in
       let next : DoesNext (present e.store) e.frames.items e.query.items now.Raising (option_map (λ b. term_of b.term) e.raised) l = rw doing at r.engine.next in
       let same : term_of ball.term ≡ next.0 = cc (ap (option_map (λ b. term_of b.term)) kept, next.2) in
       let list : Does (Raising next.0) s.list = subst (λ d. Does d s.list) next.1 r.state.list in
-      (rw same (finishes_engine new s (Uncaught next.0) l.database idle (cleared l.database r.engine.database) (raises l s next.0 r.state.around list)), rw idle refl)
+      (rw same (finishes_engine new s (Uncaught next.0) l.world idle (cleared l.world r.engine.world) (raises l s next.0 r.state.around list)), rw idle refl)
 
   -- ---- an idle engine
 
   pub idle_moves : (e : Plain S W M) (s : State) → Represents present stands older e s → e.now ≡ now.Idle → Moves present stands older (move.Pauses pause.NoMore) s e
   idle_moves e s r doing =
       let l = r.search in
-      let same : l ≡ idle_linked l.database = rw doing at r.engine.next in
-      let is : IsEngine present stands older e (idle_linked l.database) = subst (λ m. IsEngine present stands older e m) same r.engine in
+      let same : l ≡ idle_linked l.world = rw doing at r.engine.next in
+      let is : IsEngine present stands older e (idle_linked l.world) = subst (λ m. IsEngine present stands older e m) same r.engine in
       let list : Does Failing s.list = subst (λ m. Does m.doing s.list) same r.state.list in
       let none : l.stack ≡ [] = ap (λ m. m.stack) same in
-      (finishes_engine e s NoMore l.database doing is (fails_last l s r.state.around list none), rw doing refl)
+      (finishes_engine e s NoMore l.world doing is (fails_last l s r.state.around list none), rw doing refl)

@@ -30,12 +30,12 @@ module _ {S W M : Type 0} (present : S → Present W) (stands : S → M → Pres
   onward e store frames doing = record e { store = store; frames = frames; now = doing }
 
   -- the mark for the empty store, the choices and their marks behind calls that keep marks
-  base_kept : (old new : M → Present W → Type 0) (base : M) → KeepsMarks old new → IsBase old base → IsBase new base
+  pub base_kept : (old new : M → Present W → Type 0) (base : M) → KeepsMarks old new → IsBase old base → IsBase new base
   base_kept old new base keeps b = record { present = b.present; stands_for = keeps base b.present b.stands_for; substitution = b.substitution; next = b.next }
 
   choices_on : (e : Plain S W M) (attempt : Attempt W) (l : Linked) (call : Tree) (c : databases.Clause) (cs : List databases.Clause) (behind : List Tree) (store : S) (frames : Vec (Frame W) Global)
       → Tries present stands older e attempt l call c cs behind → KeepsMarks (stands e.store) (stands store) → AddsFrames e.frames.items frames.items
-      → StandsForChoices (stands store) older e.base (left_at l.database) e.query.items l.query frames.items e.choices.items (with_choice call cs behind l.subst l.next l.stack)
+      → StandsForChoices (stands store) older e.base (left_at l.world.database) e.query.items l.query frames.items e.choices.items (with_choice call cs behind l.subst l.next l.stack)
   choices_on e attempt l call c cs behind store frames t keeps adds =
       rw adds.1 (choices_more adds.0 (choices_keep (λ d p among stood. keeps d.mark p stood) t.choices))
 
@@ -43,7 +43,7 @@ module _ {S W M : Type 0} (present : S → Present W) (stands : S → M → Pres
       → Tries present stands older e attempt l call c cs behind → KeepsMarks (stands e.store) (stands store) → AddsFrames e.frames.items frames.items
       → IsEngine present stands older (onward e store frames now.Failing) (linked_missed call c cs behind l)
   missed_engine e attempt l call c cs behind store frames t keeps adds = record {
-    database = t.database;
+    world = t.world;
     steps = t.steps;
     base = base_kept (stands e.store) (stands store) e.base keeps t.base;
     choices = choices_on e attempt l call c cs behind store frames t keeps adds;
@@ -63,7 +63,7 @@ module _ {S W M : Type 0} (present : S → Present W) (stands : S → M → Pres
       let subst_is : (present store).substitution ≡ compose l.subst u = substitution ∙ ap (λ (r : Subst). compose r u) t.subst in
       let next_is : (present store).next ≡ l.next + c.variables = (let a = t.next in let b = is.variables in omega (arith, next)) in
       record {
-        database = t.database;
+        world = t.world;
         steps = t.steps;
         base = base_kept (stands e.store) (stands store) e.base keeps t.base;
         choices = choices_on e attempt l call c cs behind store frames t keeps adds;

@@ -1,7 +1,8 @@
 -- A call of `resume` is moves up to an event.
-use Rattle.std.proofs.Common.{◌≡◌, ◌≢◌, ◌≤◌, ℕ, refl, arith, Result, Ok, Err}
+use Rattle.std.proofs.Common.{◌≡◌, ◌≢◌, ◌≤◌, ℕ, List, refl, ap, ap₂, sym, ◌∙◌, arith, Result, Ok, Err}
+use Rattle.iso_ops.specs.Operators.{Operator}
+use Rattle.iso_ops.specs.declared.settings.Flags.{Flags}
 use Rattle.iso_model.specs.Walker.{State, World, idle}
-use Rattle.iso_model.specs.Databases.{Database}
 use Rattle.iso_model.specs.Additions.{Addition, Adds, Refuses}
 use Rattle.iso_model.specs.declared.pauses.AddFault.{AddFault}
 use Rattle.iso_model.specs.declared.pauses.AddFault.TheVariants as add
@@ -13,7 +14,7 @@ use Rattle.iso_model.specs.declared.pauses.Pause.{Pause}
 use Rattle.iso_model.specs.declared.pauses.Pause.TheVariants as pause
 use Rattle.iso_store.specs.Presents.{Present}
 use Rattle.iso_plain.specs.Linked.{idle_linked}
-use Rattle.iso_plain.specs.EngineStates.{IsEngine, Represents, StandsBy, StandsFor, phase_of}
+use Rattle.iso_plain.specs.EngineStates.{IsEngine, Represents, StandsBy, StandsFor, phase_of, settings_of, settings_in}
 use Rattle.iso_plain.specs.declared.parts.Now.{Now}
 use Rattle.iso_plain.specs.declared.parts.Now.TheVariants as now
 use Rattle.iso_plain.specs.declared.plain.Plain.{Plain}
@@ -50,46 +51,60 @@ module _ {S W M : Type 0} (present : S → Present W) (stands : S → M → Pres
   ready_stands now.Raising e s ready r = r
   ready_stands now.Spent e s ready r = absurd (cc)
 
+  -- an engine keeps the operators and the flags of the states that it stands for
+  represents_settings : (e : Plain S W M) (s : State) → Represents present stands older e s → settings_of e ≡ settings_in s.world
+  represents_settings e s r =
+      let w = r.engine.world in
+      ap₂ (λ (ops : List Operator) (flags : Flags). (ops, flags)) w.operators_are w.flags_are ∙ ap settings_in (sym r.state.around.world)
+
+  pub stands_settings : (n : Now) (e : Plain S W M) (s : State) → StandsBy present stands older n e s → settings_of e ≡ settings_in s.world
+  stands_settings now.Idle e s r = represents_settings e s r
+  stands_settings now.Failing e s r = represents_settings e s r
+  stands_settings now.Answering e s r = represents_settings e s r
+  stands_settings (now.Running place) e s r = represents_settings e s r
+  stands_settings now.Raising e s r = represents_settings e s r
+  stands_settings now.Spent e s r = r
+
   pub represents_stands : (n : Now) (e : Plain S W M) (s : State) → Represents present stands older e s → StandsBy present stands older n e s
   represents_stands now.Idle e s r = r
   represents_stands now.Failing e s r = r
   represents_stands now.Answering e s r = r
   represents_stands (now.Running place) e s r = r
   represents_stands now.Raising e s r = r
-  represents_stands now.Spent e s r = tt
+  represents_stands now.Spent e s r = represents_settings e s r
 
-  -- a spent engine stands for any state
-  pub spent_stands : (n : Now) (e : Plain S W M) (s : State) → phase_of n ≡ engines.Spent → StandsBy present stands older n e s
-  spent_stands now.Idle e s h = absurd (cc)
-  spent_stands now.Failing e s h = absurd (cc)
-  spent_stands now.Answering e s h = absurd (cc)
-  spent_stands (now.Running place) e s h = absurd (cc)
-  spent_stands now.Raising e s h = absurd (cc)
-  spent_stands now.Spent e s h = tt
+  -- a spent engine stands for any state with its operators and flags
+  pub spent_stands : (n : Now) (e : Plain S W M) (s : State) → phase_of n ≡ engines.Spent → settings_of e ≡ settings_in s.world → StandsBy present stands older n e s
+  spent_stands now.Idle e s h same = absurd (cc h)
+  spent_stands now.Failing e s h same = absurd (cc h)
+  spent_stands now.Answering e s h same = absurd (cc h)
+  spent_stands (now.Running place) e s h same = absurd (cc h)
+  spent_stands now.Raising e s h same = absurd (cc h)
+  spent_stands now.Spent e s h same = same
 
   -- what comes behind steps without an event
-  pub pauses_behind : (e : Plain S W M) (s t : State) (p : Pause) → Quiet s t → engines.Pauses t p (StandsFor present stands older e) (phase_of e.now)
+  pub pauses_behind : (e : Plain S W M) (s t : State) (p : Pause) → settings_of e ≡ settings_in s.world → Quiet s t → engines.Pauses t p (StandsFor present stands older e) (phase_of e.now)
       → engines.Pauses s p (StandsFor present stands older e) (phase_of e.now)
-  pauses_behind e s t (pause.Answer values) q h = (comes_behind q h.0, h.1)
-  pauses_behind e s t (pause.Output bytes) q h = (comes_behind q h.0, h.1)
-  pauses_behind e s t pause.NoMore q h = (finishes_behind q h.0, h.1)
-  pauses_behind e s t pause.Budget q h = (finishes_behind q h.0, h.1)
-  pauses_behind e s t (pause.Uncaught ball) q h = (finishes_behind q h.0, h.1)
-  pauses_behind e s t (pause.Halt status) q h = (finishes_behind q h.0, h.1)
-  pauses_behind e s t pause.HeapFull q h = (spent_stands e.now e s h.1, h.1)
-  pauses_behind e s t pause.FramesFull q h = (spent_stands e.now e s h.1, h.1)
-  pauses_behind e s t pause.NoMemory q h = (spent_stands e.now e s h.1, h.1)
-  pauses_behind e s t pause.Spent q h = absurd h
+  pauses_behind e s t (pause.Answer values) same q h = (comes_behind q h.0, h.1)
+  pauses_behind e s t (pause.Output bytes) same q h = (comes_behind q h.0, h.1)
+  pauses_behind e s t pause.NoMore same q h = (finishes_behind q h.0, h.1)
+  pauses_behind e s t pause.Budget same q h = (finishes_behind q h.0, h.1)
+  pauses_behind e s t (pause.Uncaught ball) same q h = (finishes_behind q h.0, h.1)
+  pauses_behind e s t (pause.Halt status) same q h = (finishes_behind q h.0, h.1)
+  pauses_behind e s t pause.HeapFull same q h = (spent_stands e.now e s h.1 same, h.1)
+  pauses_behind e s t pause.FramesFull same q h = (spent_stands e.now e s h.1 same, h.1)
+  pauses_behind e s t pause.NoMemory same q h = (spent_stands e.now e s h.1 same, h.1)
+  pauses_behind e s t pause.Spent same q h = absurd h
 
-  pub idle_stands : (e : Plain S W M) (db : Database) (w : World) → w.database ≡ db → IsEngine present stands older e (idle_linked db) → StandsFor present stands older e (idle w)
-  idle_stands e db w same is = represents_stands e.now e (idle w) (record { search = idle_linked db; engine = is; state = is_idle w db same })
+  pub idle_stands : (e : Plain S W M) (w : World) → IsEngine present stands older e (idle_linked w) → StandsFor present stands older e (idle w)
+  idle_stands e w is = represents_stands e.now e (idle w) (record { search = idle_linked w; engine = is; state = is_idle w w refl })
 
   -- what adding a clause comes to
-  pub consults_stand : (a : Addition) (s : State) (result : Result Unit AddFault) (e : Plain S W M) → Comes present stands older a s.world.database result e
+  pub consults_stand : (a : Addition) (s : State) (result : Result Unit AddFault) (e : Plain S W M) → Comes present stands older a s.world result e
       → engines.Consults a s result (StandsFor present stands older e)
-  consults_stand (Adds db) s (Ok u) e comes = idle_stands e db (record s.world { database = db }) refl comes
+  consults_stand (Adds db) s (Ok u) e comes = idle_stands e (record s.world { database = db }) comes
   consults_stand (Refuses error) s (Ok u) e comes = absurd comes
   consults_stand (Adds db) s (Err (add.Refused ball)) e comes = absurd comes
-  consults_stand (Refuses error) s (Err (add.Refused ball)) e comes = (comes.0, idle_stands e s.world.database s.world refl comes.1)
-  consults_stand (Adds db) s (Err add.NoMemory) e comes = idle_stands e s.world.database s.world refl comes
-  consults_stand (Refuses error) s (Err add.NoMemory) e comes = idle_stands e s.world.database s.world refl comes
+  consults_stand (Refuses error) s (Err (add.Refused ball)) e comes = (comes.0, idle_stands e s.world comes.1)
+  consults_stand (Adds db) s (Err add.NoMemory) e comes = idle_stands e s.world comes
+  consults_stand (Refuses error) s (Err add.NoMemory) e comes = idle_stands e s.world comes

@@ -3,8 +3,7 @@ use Rattle.std.proofs.Common.{◌≡◌, ◌≢◌, ℕ, ◌<◌, List, [], ◌�
 use Rattle.std.specs.Prelude.{option_map}
 use Rattle.iso_model.specs.Terms.{term_of}
 use Rattle.iso_model.specs.Databases as databases
-use Rattle.iso_model.specs.Databases.{Database}
-use Rattle.iso_model.specs.Walker.{State, idle}
+use Rattle.iso_model.specs.Walker.{State, World, idle}
 use Rattle.iso_model.specs.declared.pauses.Pause.TheVariants as pause
 use Rattle.iso_store.specs.Presents.{Present}
 use Rattle.iso_plain.specs.declared.parts.Choice as kept
@@ -14,7 +13,7 @@ use Rattle.iso_plain.specs.declared.plain.Move.TheVariants as move
 use Rattle.iso_plain.specs.declared.plain.Plain.{Plain}
 use Rattle.iso_plain.specs.Linked.{Linked, Choice, Doing, Failing, Does, idle_linked}
 use Rattle.iso_plain.specs.Standing.{DoesNext}
-use Rattle.iso_plain.specs.Programs.{IsDatabase}
+use Rattle.iso_plain.specs.Programs.{IsWorld}
 use Rattle.iso_plain.specs.Next.{now_entered}
 use Rattle.iso_plain.specs.EngineStates.{IsEngine, Represents, StandsBy, Tries, Tried, WentBack, Moves, phase_of}
 use Rattle.iso_plain.proofs.StandingLemmas.{no_choices}
@@ -52,12 +51,12 @@ module _ {S W M : Type 0} (present : S → Present W) (stands : S → M → Pres
 
   -- no choice is left: the run ends
   pub ends_run : (e new : Plain S W M) (s : State) (r : Represents present stands older e s) → e.now ≡ now.Failing → length e.choices.items ≡ 0
-      → ((db : Database) → IsDatabase e.procedures.items db → IsEngine present stands older new (idle_linked db)) → new.now ≡ now.Idle
+      → ((w : World) → IsWorld e w → IsEngine present stands older new (idle_linked w)) → new.now ≡ now.Idle
       → Moves present stands older (move.Pauses pause.NoMore) s new
   ends_run e new s r is none idles rests =
       let l = r.search in
       let f = fails_last l s r.state.around (does_fail e s r is) (no_choices (no_items e.choices.items none) r.engine.choices) in
-      let here : Represents present stands older new (idle f.world) = record { search = idle_linked l.database; engine = idles l.database r.engine.database; state = f.stands } in (
+      let here : Represents present stands older new (idle f.world) = record { search = idle_linked l.world; engine = idles l.world r.engine.world; state = f.stands } in (
         record {
           at = f.at;
           world = f.world;

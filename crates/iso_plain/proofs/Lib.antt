@@ -22,4 +22,5 @@ pub mod ChoiceLemmas
 pub mod FailLemmas
 pub mod EngineMoves
 pub mod RunMoves
+pub mod EquationMoves
 pub mod LimitLemmas

@@ -5,7 +5,7 @@ use Rattle.iso_model.specs.Substitutions.{Subst, apply, compose}
 use Rattle.iso_model.specs.Unifiers.{Unifier, NeverEqual}
 use Rattle.iso_model.specs.Copies.{renamed}
 use Rattle.iso_model.specs.Bodies.{Body, Run, And, map_body, is_true}
-use Rattle.iso_model.specs.Databases.{Clause, Database, key_of}
+use Rattle.iso_model.specs.Databases.{Clause, key_of}
 use Rattle.iso_model.specs.Walker.{State, World, Alternative, Member, Goal, Fail, Raise, Goes, Gives, Ends, Answered, NoMore, Budget, Uncaught, Selected, Succeeds, Fails, User, selected, run_goal, called, clauses_for, unknown, paid, step, step_list, backtracked, before, tried, with_others, fails, values, idle}
 use Rattle.iso_model.specs.Runs.{Quiet, here, onward, Comes, Finishes}
 use Rattle.iso_model.specs.RunLaws.Quiets.{quiet_one, quiet_trans}
@@ -102,7 +102,7 @@ is_missed call c cs gs ms l s links at never =
         next = ap (λ (n : ℕ). n + c.variables) at.next;
         query = at.query;
         stack = choices_kept call cs gs ms l s links at;
-        database = at.database;
+        world = at.world;
         steps = at.steps;
       };
     })
@@ -121,7 +121,7 @@ is_entered call c cs gs ms l s u links at unifies =
         next = ap (λ (n : ℕ). n + c.variables) at.next;
         query = at.query;
         stack = choices_kept call cs gs ms l s links at;
-        database = at.database;
+        world = at.world;
         steps = at.steps;
       };
     })
@@ -131,15 +131,11 @@ is_entered call c cs gs ms l s u links at unifies =
 no_alternatives : (alternatives : List Alternative) → AreChoices [] alternatives → alternatives ≡ []
 no_alternatives alternatives no_choice = refl
 
--- the world has nothing but the database
-world_is : (w : World) (db : Database) → w.database ≡ db → idle w ≡ idle (record { database = db })
-world_is w db e = ap (λ (d : Database). idle (record { database = d })) e
-
 -- an idle engine
-pub is_idle : (w : World) (db : Database) → w.database ≡ db → IsState (idle_linked db) (idle w)
-is_idle w db e = record {
+pub is_idle : (w v : World) → w ≡ v → IsState (idle_linked v) (idle w)
+is_idle w v e = record {
   list = ([], refl);
-  around = record { subst = refl; next = refl; query = refl; stack = no_choice; database = e; steps = refl };
+  around = record { subst = refl; next = refl; query = refl; stack = no_choice; world = e; steps = refl };
 }
 
 fail_step : (s : State) (others : List Member) → s.list ≡ Fail ∷ others → step s ≡ backtracked s.stack s
@@ -147,7 +143,7 @@ unfolding step
 fail_step s others e = ap (λ (ms : List Member). step_list ms s) e
 
 -- no alternative is left
-pub fails_last : (l : Linked) (s : State) → IsAround l s → Does Failing s.list → l.stack ≡ [] → Finishes s NoMore (IsState (idle_linked l.database))
+pub fails_last : (l : Linked) (s : State) → IsAround l s → Does Failing s.list → l.stack ≡ [] → Finishes s NoMore (IsState (idle_linked l.world))
 fails_last l s at doing e =
     let none = no_alternatives s.stack (subst (λ (cs : List Choice). AreChoices cs s.stack) e at.stack) in
     record {
@@ -155,7 +151,7 @@ fails_last l s at doing e =
       world = s.world;
       quiet = here;
       last = fail_step s doing.0 doing.1 ∙ ap (λ (alternatives : List Alternative). backtracked alternatives s) none;
-      stands = is_idle s.world l.database at.database;
+      stands = is_idle s.world l.world at.world;
     }
 
 -- The clauses left at the newest choice are tried, with everything as it was then.
@@ -172,7 +168,7 @@ retries_from l c below s others alternatives at list is (one_choice {c = c'} {cs
   members = ms;
   from = record s { list = ms; subst = c.subst; next = c.next; built = b; stack = as' };
   links = links;
-  around = record { subst = refl; next = refl; query = at.query; stack = stack; database = at.database; steps = at.steps };
+  around = record { subst = refl; next = refl; query = at.query; stack = stack; world = at.world; steps = at.steps };
   goes = fail_step s others list ∙ ap (λ (alternatives : List Alternative). backtracked alternatives s) is;
 }
 
@@ -194,7 +190,7 @@ answers l s at links =
       new = fails s;
       quiet = here;
       last = rw (← shown) (answer_step s (no_members s.list links));
-      stands = record { list = ([], refl); around = record { subst = at.subst; next = at.next; query = at.query; stack = at.stack; database = at.database; steps = at.steps } };
+      stands = record { list = ([], refl); around = record { subst = at.subst; next = at.next; query = at.query; stack = at.stack; world = at.world; steps = at.steps } };
     }
 
 raise_step : (s : State) (ball : Tree) (others : List Member) → s.list ≡ Raise ball ∷ others → step s ≡ Ends (Uncaught ball) s.world
@@ -202,13 +198,13 @@ unfolding step
 raise_step s ball others e = ap (λ (ms : List Member). step_list ms s) e
 
 -- nothing catches the ball
-pub raises : (l : Linked) (s : State) (ball : Tree) → IsAround l s → Does (Raising ball) s.list → Finishes s (Uncaught ball) (IsState (idle_linked l.database))
+pub raises : (l : Linked) (s : State) (ball : Tree) → IsAround l s → Does (Raising ball) s.list → Finishes s (Uncaught ball) (IsState (idle_linked l.world))
 raises l s ball at doing = record {
   at = s;
   world = s.world;
   quiet = here;
   last = raise_step s ball doing.0 doing.1;
-  stands = is_idle s.world l.database at.database;
+  stands = is_idle s.world l.world at.world;
 }
 
 -- ---- the first goal is run
@@ -232,7 +228,7 @@ fronted l s g gs at links =
       from = at_list s (Goal (Run g) o.mark ∷ o.others);
       list = refl;
       links = o.links;
-      around = record { subst = at.subst; next = at.next; query = at.query; stack = at.stack; database = at.database; steps = at.steps };
+      around = record { subst = at.subst; next = at.next; query = at.query; stack = at.stack; world = at.world; steps = at.steps };
       quiet = o.quiet;
     }
 
@@ -241,7 +237,7 @@ unfolding step
 goal_step s g mark others e = ap (λ (ms : List Member). step_list ms s) e
 
 -- a step is needed and none is left
-pub spends_all : (l : Linked) (s : State) (g : Tree) (gs : List Tree) → IsAround l s → Links (g ∷ gs) s.list → l.steps ≡ 0 → Finishes s Budget (IsState (idle_linked l.database))
+pub spends_all : (l : Linked) (s : State) (g : Tree) (gs : List Tree) → IsAround l s → Links (g ∷ gs) s.list → l.steps ≡ 0 → Finishes s Budget (IsState (idle_linked l.world))
 spends_all l s g gs at links none =
     let f = fronted l s g gs at links in
     record {
@@ -249,7 +245,7 @@ spends_all l s g gs at links none =
       world = f.from.world;
       quiet = f.quiet;
       last = goal_step f.from g f.mark f.others f.list ∙ ap (λ (n : ℕ). paid n f.from (Goes (run_goal (selected g) g f.others f.from))) (f.around.steps ∙ none);
-      stands = is_idle f.from.world l.database f.around.database;
+      stands = is_idle f.from.world l.world f.around.world;
     }
 
 -- what a goal that takes a step goes to
@@ -269,10 +265,10 @@ pub record Onward (l : Linked) (s : State) : Type 0 where
 fewer_steps : (l : Linked) (t : State) (n : ℕ) → IsState l t → IsState (record l { steps = n }) (record t { steps = n })
 fewer_steps l t n h = record {
   list = h.list;
-  around = record { subst = h.around.subst; next = h.around.next; query = h.around.query; stack = h.around.stack; database = h.around.database; steps = refl };
+  around = record { subst = h.around.subst; next = h.around.next; query = h.around.query; stack = h.around.stack; world = h.around.world; steps = refl };
 }
 
-goes_onward : (l m : Linked) (s : State) (g : Tree) (gs : List Tree) (n : ℕ) (f : Fronted l g gs s) (t : State) → l.steps ≡ suc n → run_goal (selected g) g f.others f.from ≡ t
+pub goes_onward : (l m : Linked) (s : State) (g : Tree) (gs : List Tree) (n : ℕ) (f : Fronted l g gs s) (t : State) → l.steps ≡ suc n → run_goal (selected g) g f.others f.from ≡ t
     → IsState m t → Onward (record m { steps = n }) s
 goes_onward l m s g gs n f t left is h = record {
   new = record t { steps = n };
@@ -287,7 +283,7 @@ succeeds l s g gs n at links left is =
     let f = fronted l s g gs at links in
     let a = f.around in
     goes_onward l (record l { doing = Running gs }) s g gs n f (record f.from { list = f.others }) left (ap (λ (x : Selected). run_goal x g f.others f.from) is)
-    (record { list = f.links; around = record { subst = a.subst; next = a.next; query = a.query; stack = a.stack; database = a.database; steps = a.steps } })
+    (record { list = f.links; around = record { subst = a.subst; next = a.next; query = a.query; stack = a.stack; world = a.world; steps = a.steps } })
 
 -- `fail`
 pub fails_at_once : (l : Linked) (s : State) (g : Tree) (gs : List Tree) (n : ℕ) → IsAround l s → Links (g ∷ gs) s.list → l.steps ≡ suc n → selected g ≡ Fails
@@ -296,18 +292,18 @@ fails_at_once l s g gs n at links left is =
     let f = fronted l s g gs at links in
     let a = f.around in
     goes_onward l (record l { doing = Failing }) s g gs n f (fails f.from) left (ap (λ (x : Selected). run_goal x g f.others f.from) is)
-    (record { list = ([], refl); around = record { subst = a.subst; next = a.next; query = a.query; stack = a.stack; database = a.database; steps = a.steps } })
+    (record { list = ([], refl); around = record { subst = a.subst; next = a.next; query = a.query; stack = a.stack; world = a.world; steps = a.steps } })
 
 -- what a goal of a user procedure is run as
-user_goal : (l : Linked) (s : State) (g : Tree) (gs : List Tree) (f : Fronted l g gs s) (clauses : Option (List Clause)) → selected g ≡ User → clauses_for (key_of g) l.database ≡ clauses
+user_goal : (l : Linked) (s : State) (g : Tree) (gs : List Tree) (f : Fronted l g gs s) (clauses : Option (List Clause)) → selected g ≡ User → clauses_for (key_of g) l.world.database ≡ clauses
     → run_goal (selected g) g f.others f.from ≡ called clauses g f.others f.from
 user_goal l s g gs f clauses is found =
     ap (λ (x : Selected). run_goal x g f.others f.from) is
-    ∙ ap (λ (x : Option (List Clause)). called x g f.others f.from) (ap (λ (db : Database). clauses_for (key_of g) db) f.around.database ∙ found)
+    ∙ ap (λ (x : Option (List Clause)). called x g f.others f.from) (ap (λ (w : World). clauses_for (key_of g) w.database) f.around.world ∙ found)
 
 -- an unknown procedure
 pub raises_unknown : (l : Linked) (s : State) (g : Tree) (gs : List Tree) (n : ℕ) → IsAround l s → Links (g ∷ gs) s.list → l.steps ≡ suc n → selected g ≡ User
-    → clauses_for (key_of g) l.database ≡ None → Finishes s (Uncaught (unknown (key_of g) g)) (IsState (idle_linked l.database))
+    → clauses_for (key_of g) l.world.database ≡ None → Finishes s (Uncaught (unknown (key_of g) g)) (IsState (idle_linked l.world))
 raises_unknown l s g gs n at links left is none =
     let f = fronted l s g gs at links in
     let a = f.around in
@@ -319,21 +315,21 @@ raises_unknown l s g gs n at links left is none =
       world = f.from.world;
       quiet = onward f.quiet goes;
       last = raise_step (record t { steps = n }) ball f.others refl;
-      stands = is_idle f.from.world l.database a.database;
+      stands = is_idle f.from.world l.world a.world;
     }
 
 -- a procedure without clauses
 pub fails_without_clauses : (l : Linked) (s : State) (g : Tree) (gs : List Tree) (n : ℕ) → IsAround l s → Links (g ∷ gs) s.list → l.steps ≡ suc n → selected g ≡ User
-    → clauses_for (key_of g) l.database ≡ Some [] → Onward (record l { doing = Failing; steps = n }) s
+    → clauses_for (key_of g) l.world.database ≡ Some [] → Onward (record l { doing = Failing; steps = n }) s
 fails_without_clauses l s g gs n at links left is none =
     let f = fronted l s g gs at links in
     let a = f.around in
     goes_onward l (record l { doing = Failing }) s g gs n f (fails f.from) left (user_goal l s g gs f (Some []) is none)
-    (record { list = ([], refl); around = record { subst = a.subst; next = a.next; query = a.query; stack = a.stack; database = a.database; steps = a.steps } })
+    (record { list = ([], refl); around = record { subst = a.subst; next = a.next; query = a.query; stack = a.stack; world = a.world; steps = a.steps } })
 
 -- a call whose first clause isn't entered
 pub calls_missed : (l : Linked) (s : State) (g : Tree) (gs : List Tree) (n : ℕ) (c : Clause) (cs : List Clause) → IsAround l s → Links (g ∷ gs) s.list → l.steps ≡ suc n → selected g ≡ User
-    → clauses_for (key_of g) l.database ≡ Some (c ∷ cs) → NeverEqual (apply l.subst g) (apply l.subst (renamed l.next c.head)) → Onward (record (linked_missed g c cs gs l) { steps = n }) s
+    → clauses_for (key_of g) l.world.database ≡ Some (c ∷ cs) → NeverEqual (apply l.subst g) (apply l.subst (renamed l.next c.head)) → Onward (record (linked_missed g c cs gs l) { steps = n }) s
 calls_missed l s g gs n c cs at links left is found never =
     let f = fronted l s g gs at links in
     goes_onward l (linked_missed g c cs gs l) s g gs n f (tried g (c ∷ cs) f.others f.from) left (user_goal l s g gs f (Some (c ∷ cs)) is found)
@@ -341,7 +337,7 @@ calls_missed l s g gs n c cs at links left is found never =
 
 -- a call whose first clause is entered
 pub calls_entered : (l : Linked) (s : State) (g : Tree) (gs : List Tree) (n : ℕ) (c : Clause) (cs : List Clause) (u : Subst) → IsAround l s → Links (g ∷ gs) s.list → l.steps ≡ suc n
-    → selected g ≡ User → clauses_for (key_of g) l.database ≡ Some (c ∷ cs) → Unifier (apply l.subst g) (apply l.subst (renamed l.next c.head)) u
+    → selected g ≡ User → clauses_for (key_of g) l.world.database ≡ Some (c ∷ cs) → Unifier (apply l.subst g) (apply l.subst (renamed l.next c.head)) u
     → Onward (record (linked_entered g c cs gs l (compose l.subst u)) { steps = n }) s
 calls_entered l s g gs n c cs u at links left is found unifies =
     let f = fronted l s g gs at links in

@@ -3,8 +3,8 @@ use Rattle.std.proofs.Common.{◌≡◌, ◌≢◌, ◌<◌, ◌-◌, ℕ, zero,
 use Rattle.std.proofs.lemmas.Option.{slice_get_within}
 use Rattle.iso_model.specs.Trees.{Tree}
 use Rattle.iso_model.specs.Databases as databases
-use Rattle.iso_model.specs.Databases.{Database, key_of}
-use Rattle.iso_model.specs.Walker.{State, Budget, Uncaught, Succeeds, Fails, User, selected, unknown, clauses_for}
+use Rattle.iso_model.specs.Databases.{key_of}
+use Rattle.iso_model.specs.Walker.{State, World, Budget, Uncaught, Succeeds, Fails, User, selected, unknown, clauses_for}
 use Rattle.iso_model.specs.Runs.{Finishes}
 use Rattle.iso_store.specs.Presents.{Present}
 use Rattle.iso_plain.specs.declared.parts.Frame.{Frame}
@@ -14,11 +14,11 @@ use Rattle.iso_plain.specs.declared.plain.Move.TheVariants as move
 use Rattle.iso_plain.specs.declared.plain.Plain.{Plain}
 use Rattle.iso_plain.specs.Linked.{Linked, Links, Does, Running, Failing, IsState, idle_linked}
 use Rattle.iso_plain.specs.Next.{now_behind}
-use Rattle.iso_plain.specs.Programs.{IsDatabase}
-use Rattle.iso_plain.specs.EngineStates.{IsEngine, Represents, StandsFor, Calls, WasCalled, Moves, phase_of, left_at}
+use Rattle.iso_plain.specs.Programs.{IsWorld}
+use Rattle.iso_plain.specs.EngineStates.{IsEngine, Represents, StandsFor, Calls, WasCalled, Moves, phase_of, left_at, settings_of}
 use Rattle.iso_plain.specs.Callable.{IsGoal}
 use Rattle.iso_plain.specs.declared.plain.Move.{Move}
-use Rattle.iso_plain.proofs.EngineMoves.{spent_stands}
+use Rattle.iso_plain.proofs.EngineMoves.{spent_stands, represents_stands, stands_settings}
 use Rattle.iso_plain.proofs.BackLemmas.{get_at}
 use Rattle.iso_plain.proofs.EndLemmas.{finishes_engine}
 use Rattle.iso_plain.proofs.LinkedMoves.{spends_all, succeeds, fails_at_once, raises_unknown, calls_missed, calls_entered}
@@ -27,7 +27,7 @@ use Rattle.iso_plain.proofs.RunLemmas.{AtGoal, at_goal, failed_engine, succeeded
 same_some : {X : Type 0} {x y : X} → Some x ≡ Some y → x ≡ y
 same_some h = cc
 
-awake_behind : (place : Option ℕ) → now_behind place ≢ now.Spent
+pub awake_behind : (place : Option ℕ) → now_behind place ≢ now.Spent
 awake_behind None = λ h. cc
 awake_behind (Some i) = λ h. cc
 
@@ -47,29 +47,29 @@ module _ {S W M : Type 0} (present : S → Present W) (stands : S → M → Pres
   pub frame_is : (e : Plain S W M) (l : Linked) (place : ℕ) (a : AtGoal present stands older e l place) (frame : Frame W) → frame ≡ get_or e.frames.items place frame → frame ≡ a.first.frame
   frame_is e l place a frame is = same_some (sym (get_at e.frames.items place frame (within e l place a) is) ∙ a.first.at.is)
 
-  links_at : (e : Plain S W M) (l : Linked) (place : ℕ) (s : State) (a : AtGoal present stands older e l place) → IsState l s → Links ((present e.store).term a.first.frame.goal ∷ a.first.behind) s.list
+  pub links_at : (e : Plain S W M) (l : Linked) (place : ℕ) (s : State) (a : AtGoal present stands older e l place) → IsState l s → Links ((present e.store).term a.first.frame.goal ∷ a.first.behind) s.list
   links_at e l place s a is = subst (λ (gs : List Tree). Links gs s.list) a.first.is (subst (λ d. Does d s.list) a.doing is.list)
 
   -- no step is left
-  pub spends : (e new : Plain S W M) (s : State) (place : ℕ) → e.now ≡ now.Running place → e.steps ≡ 0 → ((db : Database) → IsDatabase e.procedures.items db → IsEngine present stands older new (idle_linked db))
+  pub spends : (e new : Plain S W M) (s : State) (place : ℕ) → e.now ≡ now.Running place → e.steps ≡ 0 → ((w : World) → IsWorld e w → IsEngine present stands older new (idle_linked w))
       → new.now ≡ now.Idle → Represents present stands older e s → Finishes s Budget (StandsFor present stands older new)
   spends e new s place doing none idles rests r =
       let l = r.search in
       let a = at_goal present stands older e l place doing r.engine in
-      finishes_engine present stands older new s Budget l.database rests (idles l.database r.engine.database)
+      finishes_engine present stands older new s Budget l.world rests (idles l.world r.engine.world)
       (spends_all l s ((present e.store).term a.first.frame.goal) a.first.behind r.state.around (links_at e l place s a r.state) (r.engine.steps ∙ none))
 
   -- an unknown procedure
   pub raises_error : (e new : Plain S W M) (s : State) (place : ℕ) (ball : Tree) (frame : Frame W) (doing : e.now ≡ now.Running place) → e.steps ≢ 0 → frame ≡ get_or e.frames.items place frame
-      → ((db : Database) → IsDatabase e.procedures.items db → IsEngine present stands older new (idle_linked db)) → new.now ≡ now.Idle → (r : Represents present stands older e s)
-      → (selected ((present e.store).term frame.goal) ≡ User) × (clauses_for (key_of ((present e.store).term frame.goal)) r.search.database ≡ None) × (ball ≡ unknown (key_of ((present e.store).term frame.goal)) ((present e.store).term frame.goal))
+      → ((w : World) → IsWorld e w → IsEngine present stands older new (idle_linked w)) → new.now ≡ now.Idle → (r : Represents present stands older e s)
+      → (selected ((present e.store).term frame.goal) ≡ User) × (clauses_for (key_of ((present e.store).term frame.goal)) r.search.world.database ≡ None) × (ball ≡ unknown (key_of ((present e.store).term frame.goal)) ((present e.store).term frame.goal))
       → Finishes s (Uncaught ball) (StandsFor present stands older new)
   raises_error e new s place ball frame doing more read idles rests r is =
       let l = r.search in
       let a = at_goal present stands older e l place doing r.engine in
       let same = frame_is e l place a frame read in
       let links : Links ((present e.store).term frame.goal ∷ a.first.behind) s.list = rw same (links_at e l place s a r.state) in
-      rw is.2 (finishes_engine present stands older new s (Uncaught (unknown (key_of ((present e.store).term frame.goal)) ((present e.store).term frame.goal))) l.database rests (idles l.database r.engine.database)
+      rw is.2 (finishes_engine present stands older new s (Uncaught (unknown (key_of ((present e.store).term frame.goal)) ((present e.store).term frame.goal))) l.world rests (idles l.world r.engine.world)
       (raises_unknown l s ((present e.store).term frame.goal) a.first.behind (e.steps - 1) r.state.around links (r.engine.steps ∙ one_less e.steps more) is.0 is.1))
 
   -- `true`
@@ -105,7 +105,7 @@ module _ {S W M : Type 0} (present : S → Present W) (stands : S → M → Pres
 
   -- the goal calls a procedure
   pub calls_it : (e : Plain S W M) (l : Linked) (place : ℕ) (a : AtGoal present stands older e l place) (frame : Frame W) (procedure : ℕ) (c : databases.Clause) (cs : List databases.Clause) → e.steps ≢ 0
-      → frame ≡ get_or e.frames.items place frame → left_at l.database procedure 0 ≡ c ∷ cs → IsEngine present stands older e l
+      → frame ≡ get_or e.frames.items place frame → left_at l.world.database procedure 0 ≡ c ∷ cs → IsEngine present stands older e l
       → Calls present stands older (record e { steps = e.steps - 1 }) (record { procedure = procedure; clause = 0; goal = frame.goal; rest = frame.next }) (record l { steps = e.steps - 1 }) ((present e.store).term frame.goal) c cs a.first.behind
   calls_it e l place a frame procedure c cs more read clauses is =
       let same = frame_is e l place a frame read in
@@ -113,10 +113,10 @@ module _ {S W M : Type 0} (present : S → Present W) (stands : S → M → Pres
 
   -- what the call comes to
   pub called_on : (e new : Plain S W M) (s : State) (place : ℕ) (frame : Frame W) (doing : e.now ≡ now.Running place) (more : e.steps ≢ 0) (read : frame ≡ get_or e.frames.items place frame) (r : Represents present stands older e s)
-      (c : databases.Clause) (cs : List databases.Clause) → selected ((present e.store).term frame.goal) ≡ User → clauses_for (key_of ((present e.store).term frame.goal)) r.search.database ≡ Some (c ∷ cs)
-      → (m : Move) → WasCalled present stands older m new (record r.search { steps = e.steps - 1 }) ((present e.store).term frame.goal) c cs (at_goal present stands older e r.search place doing r.engine).first.behind
+      (c : databases.Clause) (cs : List databases.Clause) → selected ((present e.store).term frame.goal) ≡ User → clauses_for (key_of ((present e.store).term frame.goal)) r.search.world.database ≡ Some (c ∷ cs)
+      → settings_of new ≡ settings_of e → (m : Move) → WasCalled present stands older m new (record r.search { steps = e.steps - 1 }) ((present e.store).term frame.goal) c cs (at_goal present stands older e r.search place doing r.engine).first.behind
       → Moves present stands older m s new
-  called_on e new s place frame doing more read r c cs user found move.Goes was =
+  called_on e new s place frame doing more read r c cs user found same move.Goes was =
       let l = r.search in
       let a = at_goal present stands older e l place doing r.engine in
       let links : Links ((present e.store).term frame.goal ∷ a.first.behind) s.list = rw (frame_is e l place a frame read) (links_at e l place s a r.state) in
@@ -127,5 +127,5 @@ module _ {S W M : Type 0} (present : S → Present W) (stands : S → M → Pres
         | inr h ↦ (let o = calls_entered l s ((present e.store).term frame.goal) a.first.behind (e.steps - 1) c cs h.0 r.state.around links left user found h.1 in
             (o.new, o.quiet, record { search = _; engine = h.2; state = o.is }, was.1))
       ]
-  called_on e new s place frame doing more read r c cs user found (move.Pauses p) was =
-      rw was.0 (spent_stands present stands older new.now new s (ap phase_of was.1), ap phase_of was.1)
+  called_on e new s place frame doing more read r c cs user found same (move.Pauses p) was =
+      rw was.0 (spent_stands present stands older new.now new s (ap phase_of was.1) (same ∙ stands_settings present stands older e.now e s (represents_stands present stands older e.now e s r)), ap phase_of was.1)

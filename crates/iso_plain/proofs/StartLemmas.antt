@@ -22,13 +22,13 @@ use Rattle.iso_plain.specs.Next.{now_behind}
 use Rattle.iso_plain.specs.Linked.{Choice, Linked, Running}
 use Rattle.iso_plain.specs.Standing.{StandsForChoices, none_kept, one_kept, Chain, ends, Goes, DoesNext}
 use Rattle.std.specs.Prelude.{Result, Ok, Err, IsErrAnd}
-use Rattle.iso_model.specs.Databases.{Database}
+use Rattle.iso_model.specs.Walker.{World}
 use Rattle.iso_model.specs.Additions.{Addition, Adds, Refuses, addition}
 use Rattle.iso_model.specs.declared.pauses.AddFault.{AddFault}
 use Rattle.iso_model.specs.declared.pauses.AddFault.TheVariants as add
 use Rattle.iso_plain.specs.declared.plain.Plain.{Plain}
 use Rattle.iso_plain.specs.Linked.{idle_linked}
-use Rattle.iso_plain.specs.Programs.{IsDatabase}
+use Rattle.iso_plain.specs.Programs.{IsWorld}
 use Rattle.iso_plain.specs.EngineStates.{IsEngine}
 use Rattle.iso_plain.specs.Kept.{Prepares}
 use Rattle.iso_plain.specs.Starts.{IsFresh, Comes}
@@ -131,14 +131,14 @@ does_goals {q = q} {new = new} {query = query} place then raised gs l h links go
 -- ---- an engine that was cleared
 
 module _ {S W M : Type 0} {present : S → Present W} {stands : S → M → Present W → Type 0} {older : M → M → Type 0} where
-  pub fresh_from : {e : Plain S W M} {db : Database} → IsEngine present stands older e (idle_linked db) → (present e.store).substitution ≡ Variable → (present e.store).next ≡ 0 → IsFresh present stands older e db
-  fresh_from h substitution next = record { database = h.database; base = h.base; choices = no_choice_left refl h.choices; substitution = substitution; next = next }
+  pub fresh_from : {e : Plain S W M} {w : World} → IsEngine present stands older e (idle_linked w) → (present e.store).substitution ≡ Variable → (present e.store).next ≡ 0 → IsFresh present stands older e w
+  fresh_from h substitution next = record { world = h.world; base = h.base; choices = no_choice_left refl h.choices; substitution = substitution; next = next }
 
   -- with other procedures
-  pub idle_again : {e f : Plain S W M} {db after : Database} → IsEngine present stands older e (idle_linked db) → f.now ≡ now.Idle → f.store ≡ e.store → f.base ≡ e.base → f.choices ≡ e.choices → f.steps ≡ e.steps
-      → IsDatabase f.procedures.items after → IsEngine present stands older f (idle_linked after)
-  idle_again {e = e} {f = f} h idle store base choices steps database = record {
-    database = database;
+  pub idle_again : {e f : Plain S W M} {w after : World} → IsEngine present stands older e (idle_linked w) → f.now ≡ now.Idle → f.store ≡ e.store → f.base ≡ e.base → f.choices ≡ e.choices → f.steps ≡ e.steps
+      → IsWorld f after → IsEngine present stands older f (idle_linked after)
+  idle_again {e = e} {f = f} h idle store base choices steps world = record {
+    world = world;
     steps = h.steps ∙ sym steps;
     base = rw (store, base) h.base;
     choices = rw (choices, no_choice_left refl h.choices) none_kept;
@@ -147,19 +147,19 @@ module _ {S W M : Type 0} {present : S → Present W} {stands : S → M → Pres
   }
 
   -- The clause was refused before it came to the procedures.
-  pub refused : (t : Tree) (db : Database) (r : Result Unit AddFault) (fault : AddFault) (e : Plain S W M) → Prepares t (Err fault) → IsErrAnd r (λ x. x ≡ fault) → IsEngine present stands older e (idle_linked db)
-      → Comes present stands older (addition t db) db r e
-  refused t db (Ok u) fault e h is engine = absurd is
-  refused t db (Err x) (add.Refused ball) e h is engine = rw (is, h db) (refl, engine)
-  refused t db (Err x) add.NoMemory e h is engine = rw is (no_memory (addition t db)) where
-    no_memory : (a : Addition) → Comes present stands older a db (Err add.NoMemory) e
+  pub refused : (t : Tree) (w : World) (r : Result Unit AddFault) (fault : AddFault) (e : Plain S W M) → Prepares t (Err fault) → IsErrAnd r (λ x. x ≡ fault) → IsEngine present stands older e (idle_linked w)
+      → Comes present stands older (addition t w.database) w r e
+  refused t w (Ok u) fault e h is engine = absurd is
+  refused t w (Err x) (add.Refused ball) e h is engine = rw (is, h w.database) (refl, engine)
+  refused t w (Err x) add.NoMemory e h is engine = rw is (no_memory (addition t w.database)) where
+    no_memory : (a : Addition) → Comes present stands older a w (Err add.NoMemory) e
     no_memory (Adds after) = engine
     no_memory (Refuses error) = engine
 
   -- No memory was left for it.
-  pub no_memory_left : (t : Tree) (db : Database) (r : Result Unit AddFault) (e : Plain S W M) → IsErrAnd r (λ x. x ≡ add.NoMemory) → IsEngine present stands older e (idle_linked db)
-      → Comes present stands older (addition t db) db r e
-  no_memory_left t db r e is engine = refused t db r add.NoMemory e tt is engine
+  pub no_memory_left : (t : Tree) (w : World) (r : Result Unit AddFault) (e : Plain S W M) → IsErrAnd r (λ x. x ≡ add.NoMemory) → IsEngine present stands older e (idle_linked w)
+      → Comes present stands older (addition t w.database) w r e
+  no_memory_left t w r e is engine = refused t w r add.NoMemory e tt is engine
 
 -- all of the goals of a body
 pub goals_come : (o : Option Body) (old new : List Tree) (u : Unit {0}) → old ≡ [] → AppendsGoals o old (Ok u) new → (b : Body) × (o ≡ Some b) × (new ≡ leaves b)

@@ -7,7 +7,9 @@ use Rattle.iso_model.specs.Substitutions.{Subst, apply, compose}
 use Rattle.iso_model.specs.Unifiers.{Unifier, NeverEqual}
 use Rattle.iso_model.specs.Copies.{renamed}
 use Rattle.iso_model.specs.Databases.{Clause, Database}
-use Rattle.iso_model.specs.Walker.{State}
+use Rattle.iso_model.specs.Walker.{State, World}
+use Rattle.iso_ops.specs.Operators.{Operator}
+use Rattle.iso_ops.specs.declared.settings.Flags.{Flags}
 use Rattle.iso_model.specs.Runs.{Quiet}
 use Rattle.iso_model.specs.Engines as engines
 use Rattle.iso_model.specs.Engines.{Phase, Ready, Midway}
@@ -15,7 +17,7 @@ use Rattle.iso_model.specs.declared.pauses.Pause.TheVariants as pause
 use Rattle.iso_store.specs.Presents.{Present}
 use Rattle.iso_plain.specs.Linked.{Linked, Choice, IsState, with_choice, linked_missed, linked_entered}
 use Rattle.iso_plain.specs.Standing.{Among, Chain, AreVariables, StandsForChoices, HaveRoom, DoesNext, most_numbers, numbers_a_step}
-use Rattle.iso_plain.specs.Programs.{IsDatabase}
+use Rattle.iso_plain.specs.Programs.{IsWorld}
 use Rattle.iso_plain.specs.declared.procedures.Procedure.{Procedure}
 use Rattle.iso_plain.specs.declared.parts.Attempt.{Attempt}
 use Rattle.iso_plain.specs.declared.parts.Choice as kept
@@ -47,13 +49,20 @@ phase_of (now.Running place) = Midway
 phase_of now.Raising = Midway
 phase_of now.Spent = engines.Spent
 
+-- the operators and the flags that an engine keeps, and those of a world
+abbrev pub settings_of : {S W M : Type 0} → Plain S W M → List Operator × Flags
+settings_of e = (e.ops, e.flags)
+
+abbrev pub settings_in : World → List Operator × Flags
+settings_in w = (w.operators, w.flags)
+
 module _ {S W M : Type 0} (present : S → Present W) (stands : S → M → Present W → Type 0) (older : M → M → Type 0) where
   -- The engine's parts are this search with its goals linked.
   pub record IsEngine (e : Plain S W M) (l : Linked) : Type 0 where
-    pub database : IsDatabase e.procedures.items l.database
+    pub world : IsWorld e l.world
     pub steps : l.steps ≡ e.steps
     pub base : IsBase (stands e.store) e.base
-    pub choices : StandsForChoices (stands e.store) older e.base (left_at l.database) e.query.items l.query e.frames.items e.choices.items l.stack
+    pub choices : StandsForChoices (stands e.store) older e.base (left_at l.world.database) e.query.items l.query e.frames.items e.choices.items l.stack
     pub room : HaveRoom e.steps l.stack
     pub next : DoesNext (present e.store) e.frames.items e.query.items e.now (option_map (λ b. term_of b.term) e.raised) l
 
@@ -63,9 +72,9 @@ module _ {S W M : Type 0} (present : S → Present W) (stands : S → M → Pres
     pub engine : IsEngine e search
     pub state : IsState search s
 
-  -- A spent engine may be any state, so also the one behind the last event.
+  -- A spent engine may be any state with its operators and flags, so also the one behind the last event.
   abbrev pub StandsBy : Now → Plain S W M → State → Type 0
-  StandsBy now.Spent e s = Unit {0}
+  StandsBy now.Spent e s = settings_of e ≡ settings_in s.world
   StandsBy now.Idle e s = Represents e s
   StandsBy now.Failing e s = Represents e s
   StandsBy now.Answering e s = Represents e s
@@ -78,10 +87,10 @@ module _ {S W M : Type 0} (present : S → Present W) (stands : S → M → Pres
 
   -- The engine is about to try the first of these clauses for a call, with these goals behind it; `l` is what the search was at the call.
   pub record Tries (e : Plain S W M) (attempt : Attempt W) (l : Linked) (call : Tree) (c : Clause) (cs : List Clause) (behind : List Tree) : Type 0 where
-    pub database : IsDatabase e.procedures.items l.database
+    pub world : IsWorld e l.world
     pub steps : l.steps ≡ e.steps
     pub base : IsBase (stands e.store) e.base
-    pub choices : StandsForChoices (stands e.store) older e.base (left_at l.database) e.query.items l.query e.frames.items e.choices.items (with_choice call cs behind l.subst l.next l.stack)
+    pub choices : StandsForChoices (stands e.store) older e.base (left_at l.world.database) e.query.items l.query e.frames.items e.choices.items (with_choice call cs behind l.subst l.next l.stack)
     pub room : HaveRoom e.steps (with_choice call cs behind l.subst l.next l.stack)
     pub space : l.next + numbers_a_step * (e.steps + 1) ≤ most_numbers
     pub subst : (present e.store).substitution ≡ l.subst
@@ -90,7 +99,7 @@ module _ {S W M : Type 0} (present : S → Present W) (stands : S → M → Pres
     pub call_is : (present e.store).term attempt.goal ≡ call
     pub links : Chain (present e.store) e.frames.items attempt.rest behind
     pub variables : AreVariables (present e.store) e.query.items l.query
-    pub clauses : left_at l.database attempt.procedure attempt.clause ≡ c ∷ cs
+    pub clauses : left_at l.world.database attempt.procedure attempt.clause ≡ c ∷ cs
 
   -- The clause was tried: its head had no unifier with the call, or the engine goes on behind it.
   abbrev pub Tried : Plain S W M → Linked → Tree → Clause → List Clause → List Tree → Type 0
@@ -142,10 +151,10 @@ Falls (move.Pauses p) old new = engines.FallsAtEvent p old new
 module _ {S W M : Type 0} (present : S → Present W) (stands : S → M → Present W → Type 0) (older : M → M → Type 0) where
   -- The engine is at a call, and its procedure has these clauses, the first of which is at the attempt.
   pub record Calls (e : Plain S W M) (attempt : Attempt W) (l : Linked) (call : Tree) (c : Clause) (cs : List Clause) (behind : List Tree) : Type 0 where
-    pub database : IsDatabase e.procedures.items l.database
+    pub world : IsWorld e l.world
     pub steps : l.steps ≡ e.steps
     pub base : IsBase (stands e.store) e.base
-    pub choices : StandsForChoices (stands e.store) older e.base (left_at l.database) e.query.items l.query e.frames.items e.choices.items l.stack
+    pub choices : StandsForChoices (stands e.store) older e.base (left_at l.world.database) e.query.items l.query e.frames.items e.choices.items l.stack
     pub room : HaveRoom e.steps l.stack
     pub space : l.next + numbers_a_step * (e.steps + 1) ≤ most_numbers
     pub subst : (present e.store).substitution ≡ l.subst
@@ -154,11 +163,11 @@ module _ {S W M : Type 0} (present : S → Present W) (stands : S → M → Pres
     pub call_is : (present e.store).term attempt.goal ≡ call
     pub links : Chain (present e.store) e.frames.items attempt.rest behind
     pub variables : AreVariables (present e.store) e.query.items l.query
-    pub clauses : left_at l.database attempt.procedure attempt.clause ≡ c ∷ cs
+    pub clauses : left_at l.world.database attempt.procedure attempt.clause ≡ c ∷ cs
 
   -- The engine went back to its newest choice, which is still there.
   pub record WentBack (e : Plain S W M) (c : kept.Choice W M) (l : Linked) (k : Choice) (below : List Choice) : Type 0 where
-    pub database : IsDatabase e.procedures.items l.database
+    pub world : IsWorld e l.world
     pub steps : l.steps ≡ e.steps
     pub base : IsBase (stands e.store) e.base
     pub mark : stands e.store c.mark (present e.store)
@@ -169,12 +178,12 @@ module _ {S W M : Type 0} (present : S → Present W) (stands : S → M → Pres
     pub holds : (present e.store).holds c.attempt.goal ≡ true
     pub call_is : k.call ≡ (present e.store).term c.attempt.goal
     pub links : Chain (present e.store) e.frames.items c.attempt.rest k.behind
-    pub clauses : k.clauses ≡ left_at l.database c.attempt.procedure c.attempt.clause
+    pub clauses : k.clauses ≡ left_at l.world.database c.attempt.procedure c.attempt.clause
     pub some : 0 < length k.clauses
     pub variables : AreVariables (present e.store) e.query.items l.query
     pub newer_base : older e.base c.mark
     pub newer : (d : kept.Choice W M) → Among d (take (length e.choices.items - 1) e.choices.items) → older d.mark c.mark
-    pub stands_below : StandsForChoices (stands e.store) older e.base (left_at l.database) e.query.items l.query e.frames.items (take (length e.choices.items - 1) e.choices.items) below
+    pub stands_below : StandsForChoices (stands e.store) older e.base (left_at l.world.database) e.query.items l.query e.frames.items (take (length e.choices.items - 1) e.choices.items) below
     pub room : HaveRoom e.steps (k ∷ below)
 
   -- what a call comes to: the first clause was tried, or the engine is spent since no choice may be made any more

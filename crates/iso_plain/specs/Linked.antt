@@ -6,8 +6,8 @@ use Rattle.iso_model.specs.Variables.{variables}
 use Rattle.iso_model.specs.Substitutions.{Subst}
 use Rattle.iso_model.specs.Bodies.{Body, map_body, is_true}
 use Rattle.iso_plain.specs.Goals.{leaves}
-use Rattle.iso_model.specs.Databases.{Clause, Database}
-use Rattle.iso_model.specs.Walker.{State, Alternative, Member, Goal, Fail, Raise, Clauses}
+use Rattle.iso_model.specs.Databases.{Clause}
+use Rattle.iso_model.specs.Walker.{State, World, Alternative, Member, Goal, Fail, Raise, Clauses}
 
 -- the goals that a clause's body brings: none where it is `true` alone
 abbrev pub goals_of : Body → List Tree
@@ -54,7 +54,7 @@ pub record Linked : Type 0 where
   pub next : ℕ
   pub query : List ℕ
   pub stack : List Choice
-  pub database : Database
+  pub world : World
   pub steps : ℕ
 
 -- The state of the search is this one, whatever comes next.
@@ -63,7 +63,7 @@ pub record IsAround (l : Linked) (s : State) : Type 0 where
   pub next : s.next ≡ l.next
   pub query : variables s.query ≡ l.query
   pub stack : AreChoices l.stack s.stack
-  pub database : s.world.database ≡ l.database
+  pub world : s.world ≡ l.world
   pub steps : s.steps ≡ l.steps
 
 -- The state of the search is this one.
@@ -72,8 +72,8 @@ pub record IsState (l : Linked) (s : State) : Type 0 where
   pub around : IsAround l s
 
 -- no goal was started
-abbrev pub idle_linked : Database → Linked
-idle_linked db = record { doing = Failing; subst = Variable; next = 0; query = []; stack = []; database = db; steps = 0 }
+abbrev pub idle_linked : World → Linked
+idle_linked w = record { doing = Failing; subst = Variable; next = 0; query = []; stack = []; world = w; steps = 0 }
 
 -- the choices with those of the clauses behind the first, where there are any
 abbrev pub with_choice : Tree → List Clause → List Tree → Subst → ℕ → List Choice → List Choice

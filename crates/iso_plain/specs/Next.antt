@@ -1,5 +1,5 @@
 -- What the engine does next.
-use Rattle.std.specs.Prelude.{ℕ, Option, Some, None}
+use Rattle.std.specs.Prelude.{ℕ, Bool, true, false, Option, Some, None}
 use Rattle.iso_plain.specs.declared.parts.Now.{Now}
 use Rattle.iso_plain.specs.declared.parts.Now.TheVariants as now
 
@@ -12,3 +12,8 @@ now_behind (Some i) = now.Running i
 abbrev pub now_entered : Option (Option ℕ) → Now
 now_entered None = now.Failing
 now_entered (Some place) = now_behind place
+
+-- behind two terms that were unified, or not, with the place of the goal behind them
+abbrev pub now_unified : Bool → Option ℕ → Now
+now_unified false place = now.Failing
+now_unified true place = now_behind place

@@ -4,8 +4,12 @@ use Rattle.std.specs.String.{string_bytes}
 use Rattle.std.specs.Str.{bytes_eq}
 use Rattle.iso_model.specs.Databases as databases
 use Rattle.iso_model.specs.Databases.{Key, Database}
+use Rattle.iso_model.specs.Walker.{World}
+use Rattle.iso_ops.specs.Operators.{Operator}
+use Rattle.iso_ops.specs.declared.settings.Flags.{Flags}
 use Rattle.iso_plain.specs.declared.clauses.Clause.{Clause}
 use Rattle.iso_plain.specs.declared.procedures.Procedure.{Procedure}
+use Rattle.iso_plain.specs.declared.plain.Plain.{Plain}
 use Rattle.iso_plain.specs.Kept.{IsClause}
 
 -- the clauses are kept in their order
@@ -24,6 +28,16 @@ pub record IsProcedure (kept : Procedure) (p : databases.Procedure) : Type 0 whe
 pub data IsDatabase : List Procedure → Database → Type 0 where
   no_procedures : IsDatabase [] []
   more_procedures : {kept : Procedure} {p : databases.Procedure} {ks : List Procedure} {ps : Database} → IsProcedure kept p → IsDatabase ks ps → IsDatabase (kept ∷ ks) (p ∷ ps)
+
+-- these procedures, operators and flags are what outlives a run
+pub record KeepsWorld (procedures : List Procedure) (ops : List Operator) (flags : Flags) (w : World) : Type 0 where
+  pub database : IsDatabase procedures w.database
+  pub operators_are : ops ≡ w.operators
+  pub flags_are : flags ≡ w.flags
+
+-- the engine has them
+abbrev pub IsWorld : {S W M : Type 0} → Plain S W M → World → Type 0
+IsWorld e w = KeepsWorld e.procedures.items e.ops e.flags w
 
 -- whether this is the procedure with the key
 abbrev pub has_key : Key → Procedure → Bool

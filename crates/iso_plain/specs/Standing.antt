@@ -86,7 +86,7 @@ pub record Goes {W : Type 0} (p : Present W) (query : List W) (l : Linked) : Typ
 
 -- What comes next, as the engine has it.
 abbrev pub DoesNext : {W : Type 0} → Present W → List (Frame W) → List W → Now → Option Tree → Linked → Type 0
-DoesNext p frames query now.Idle raised l = l ≡ idle_linked l.database
+DoesNext p frames query now.Idle raised l = l ≡ idle_linked l.world
 DoesNext p frames query now.Failing raised l = l.doing ≡ Failing
 DoesNext p frames query now.Answering raised l = (l.doing ≡ Running []) × Goes p query l
 DoesNext p frames query (now.Running place) raised l = (gs : List Tree) × (l.doing ≡ Running gs) × Chain p frames (Some place) gs × Goes p query l

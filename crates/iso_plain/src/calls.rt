@@ -18,6 +18,8 @@ use std::alloc::AllocError;
 pub enum Called {
     True,
     Fail,
+    /// That its two arguments are equal (8.2.1).
+    Equates,
     /// The procedure at this place.
     User(usize),
     /// No procedure; the ball is the error.
@@ -35,6 +37,9 @@ impl<S: Store + Drop> Plain<S> {
         }
         if arity == 0 && name == "fail" {
             return Ok(Called::Fail);
+        }
+        if arity == 2 && name == "=" {
+            return Ok(Called::Equates);
         }
         match procedures::position(self.procedures.as_slice(), name, arity) {
             Some(place) => Ok(Called::User(place)),

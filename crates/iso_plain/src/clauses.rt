@@ -69,7 +69,7 @@ pub fn is_built_in(name: &str, arity: usize) -> bool
 {
     match arity {
         0 => name == "true" || name == "fail",
-        2 => name == ",",
+        2 => name == "," || name == "=",
         _ => false,
     }
 }

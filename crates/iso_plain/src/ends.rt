@@ -25,7 +25,7 @@ fn values<S: Store>(alloc: Global, store: &S, words: &[S::Word]) -> Result<Vec<T
 }
 
 impl<S: Store + Drop> Plain<S> {
-    ghost use Rattle.iso_plain.specs.EngineStates.{IsBase, Represents, Moves, Falls, weight};
+    ghost use Rattle.iso_plain.specs.EngineStates.{IsBase, Represents, Moves, Falls, weight, settings_of};
     ghost use Rattle.iso_plain.specs.Limits.{IsWithin, MoveMet, ResultMet, MoveFull, ResultFull};
     ghost use Rattle.iso_plain.specs.declared.parts.Now.TheVariants.{Answering, Raising};
 
@@ -39,6 +39,7 @@ impl<S: Store + Drop> Plain<S> {
         ensures frames { ResultFull ⊥ result }
         ensures met { ResultMet S.full result self.new }
         ensures limit { self.new.limit ≡ self.old.limit }
+        ensures settings { settings_of self.new ≡ settings_of self.old }
         ensures within { IsWithin self.old → IsWithin self.new }
         ensures base { IsBase (S.stands self.old.store) self.old.base → IsBase (S.stands self.new.store) self.new.base }
     {
@@ -56,6 +57,7 @@ impl<S: Store + Drop> Plain<S> {
         ensures frames { MoveFull ⊥ result }
         ensures met { MoveMet S.full result self.new }
         ensures limit { self.new.limit ≡ self.old.limit }
+        ensures settings { settings_of self.new ≡ settings_of self.old }
         ensures within { IsWithin self.old → IsWithin self.new }
         ensures base { IsBase (S.stands self.old.store) self.old.base → IsBase (S.stands self.new.store) self.new.base }
     {

@@ -11,21 +11,23 @@ ghost use Rattle.iso_plain.specs.declared.plain.Move.TheVariants as moved;
 use super::parts::Now;
 use super::plain::{Move, Plain};
 use iso_model::{AddFault, Engine, Pause, StartFault, Term};
+use iso_ops::{Flags, OpTable};
 use iso_store::{Store, StoreFault};
 
 impl<S: Store + Drop> Plain<S> {
-    ghost use Rattle.iso_plain.specs.EngineStates.{StandsFor, Moves, Falls, weight, phase_of};
+    ghost use Rattle.iso_plain.specs.EngineStates.{StandsFor, Moves, Falls, weight, phase_of, settings_of, settings_in};
     ghost use Rattle.iso_model.specs.Engines.{Pauses, FallsAtEvent};
     ghost use Rattle.iso_plain.specs.Limits.{IsWithin, LimitMet, MoveMet, ResultMet, WhereFull, MoveFull, ResultFull, ComesTo};
     ghost use Rattle.iso_plain.specs.declared.parts.Now.TheVariants as now;
 
     /// Ends at a limit: the engine is spent.
     fn stop(&mut self, fault: StoreFault) -> Pause
-        ensures moves { (s : State) → Moves S.present S.stands S.older (moved.Pauses result) s self.new }
+        ensures moves { (s : State) → settings_of self.old ≡ settings_in s.world → Moves S.present S.stands S.older (moved.Pauses result) s self.new }
         ensures falls { (old new : ℕ) → FallsAtEvent result old new }
         ensures frames { WhereFull ⊥ result }
         ensures met { (fault ≡ StoreFault.Full → S.full self.old.store) → LimitMet S.full result self.new }
         ensures limit { self.new.limit ≡ self.old.limit }
+        ensures settings { settings_of self.new ≡ settings_of self.old }
         ensures within { IsWithin self.old → IsWithin self.new }
     {
         self.now = Now::Spent;
@@ -45,6 +47,7 @@ impl<S: Store + Drop> Plain<S> {
         ensures frames { (s : State) → StandsFor S.present S.stands S.older self.old s → ResultFull (self.old.limit ≤ alternative_count s) result }
         ensures met { ResultMet S.full result self.new }
         ensures limit { self.new.limit ≡ self.old.limit }
+        ensures settings { settings_of self.new ≡ settings_of self.old }
         ensures within { IsWithin self.old → IsWithin self.new }
     {
         match self.now {
@@ -66,6 +69,7 @@ impl<S: Store + Drop> Plain<S> {
         ensures frames { (s : State) → StandsFor S.present S.stands S.older self.old s → MoveFull (self.old.limit ≤ alternative_count s) result }
         ensures met { MoveMet S.full result self.new }
         ensures limit { self.new.limit ≡ self.old.limit }
+        ensures settings { settings_of self.new ≡ settings_of self.old }
         ensures within { IsWithin self.old → IsWithin self.new }
     {
         match self.moved() {
@@ -146,6 +150,16 @@ impl<S: Store + Drop> Engine for Plain<S> {
             Now::Spent => Pause::Spent,
             _ => self.run_on(),
         }
+    }
+
+    /// As the trait says.
+    fn ops(&self) -> &OpTable {
+        &self.ops
+    }
+
+    /// As the trait says.
+    fn flags(&self) -> &Flags {
+        &self.flags
     }
 
     /// As the trait says.

@@ -39,7 +39,7 @@ fn clause_count(procedures: &[Procedure], place: usize) -> usize
 impl<S: Store + Drop> Plain<S> {
     ghost use Rattle.iso_plain.specs.Linked.{Linked};
     ghost use Rattle.iso_plain.specs.Linked as search;
-    ghost use Rattle.iso_plain.specs.EngineStates.{IsBase, IsEngine, Represents, Tries, Tried, Calls, WentBack, Moves, Falls, clauses_left, most_clauses, weight};
+    ghost use Rattle.iso_plain.specs.EngineStates.{IsBase, IsEngine, Represents, Tries, Tried, Calls, WentBack, Moves, Falls, clauses_left, most_clauses, weight, settings_of};
     ghost use Rattle.iso_plain.specs.Limits.{IsWithin, ResultMet, ResultFull};
     ghost use Rattle.iso_plain.specs.declared.parts.Now.TheVariants as now;
 
@@ -57,6 +57,7 @@ impl<S: Store + Drop> Plain<S> {
         ensures procedures { self.new.procedures ≡ self.old.procedures }
         ensures choices { self.new.choices ≡ self.old.choices }
         ensures limit { self.new.limit ≡ self.old.limit }
+        ensures settings { settings_of self.new ≡ settings_of self.old }
         ensures within { IsWithin self.old → IsWithin self.new }
     {
         let clause = clause_at(
@@ -86,6 +87,7 @@ impl<S: Store + Drop> Plain<S> {
         ensures procedures { self.new.procedures ≡ self.old.procedures }
         ensures choices { self.new.choices ≡ self.old.choices }
         ensures limit { self.new.limit ≡ self.old.limit }
+        ensures settings { settings_of self.new ≡ settings_of self.old }
         ensures within { IsWithin self.old → IsWithin self.new }
     {
         let choice = self.choices[self.choices.len() - 1];
@@ -105,6 +107,7 @@ impl<S: Store + Drop> Plain<S> {
         ensures base { IsBase (S.stands self.old.store) self.old.base → IsBase (S.stands self.new.store) self.new.base }
         ensures procedures { self.new.procedures ≡ self.old.procedures }
         ensures limit { self.new.limit ≡ self.old.limit }
+        ensures settings { settings_of self.new ≡ settings_of self.old }
         ensures count { length self.new.choices.items ≤ length self.old.choices.items + 1 }
         ensures fewer { clauses_left self.old.procedures.items self.new.choices.items + 1
             ≤ clauses_left self.old.procedures.items self.old.choices.items + most_clauses self.old.procedures.items }
@@ -130,6 +133,7 @@ impl<S: Store + Drop> Plain<S> {
         ensures steps { self.new.steps ≡ self.old.steps }
         ensures procedures { self.new.procedures ≡ self.old.procedures }
         ensures limit { self.new.limit ≡ self.old.limit }
+        ensures settings { settings_of self.new ≡ settings_of self.old }
         ensures within { IsWithin self.old → IsWithin self.new }
         ensures fewer { clauses_left self.old.procedures.items self.new.choices.items + 1 ≤ clauses_left self.old.procedures.items self.old.choices.items }
     {
@@ -152,6 +156,7 @@ impl<S: Store + Drop> Plain<S> {
         ensures frames { (s : State) → Represents S.present S.stands S.older self.old s → ResultFull (self.old.limit ≤ alternative_count s) result }
         ensures met { ResultMet S.full result self.new }
         ensures limit { self.new.limit ≡ self.old.limit }
+        ensures settings { settings_of self.new ≡ settings_of self.old }
         ensures within { IsWithin self.old → IsWithin self.new }
     {
         if self.choices.is_empty() {
@@ -178,6 +183,7 @@ impl<S: Store + Drop> Plain<S> {
         ensures base { IsBase (S.stands self.old.store) self.old.base → IsBase (S.stands self.new.store) self.new.base }
         ensures procedures { self.new.procedures ≡ self.old.procedures }
         ensures limit { self.new.limit ≡ self.old.limit }
+        ensures settings { settings_of self.new ≡ settings_of self.old }
         ensures within { IsWithin self.old → IsWithin self.new }
         ensures fewer { clauses_left self.old.procedures.items self.new.choices.items + 1
             ≤ clauses_left self.old.procedures.items self.old.choices.items + most_clauses self.old.procedures.items }
@@ -209,6 +215,7 @@ impl<S: Store + Drop> Plain<S> {
         ensures base { IsBase (S.stands self.old.store) self.old.base → IsBase (S.stands self.new.store) self.new.base }
         ensures procedures { self.new.procedures ≡ self.old.procedures }
         ensures limit { self.new.limit ≡ self.old.limit }
+        ensures settings { settings_of self.new ≡ settings_of self.old }
         ensures within { IsWithin self.old → IsWithin self.new }
         ensures fewer { clauses_left self.old.procedures.items self.new.choices.items + 1
             ≤ clauses_left self.old.procedures.items self.old.choices.items + most_clauses self.old.procedures.items }

@@ -1,6 +1,6 @@
 //! The engine's parts: linked goals, and choices.
 ghost use Rattle.std.specs.Prelude.{◌≡◌};
-ghost use Rattle.iso_plain.specs.Next.{now_behind, now_entered};
+ghost use Rattle.iso_plain.specs.Next.{now_behind, now_entered, now_unified};
 
 /// A goal that is still to be run, and the place of the one behind it.
 #[derive(Clone, Copy)]
@@ -63,4 +63,11 @@ pub(crate) fn behind(entered: Option<Option<usize>>) -> Now
         Some(place) => at(place),
         None => Now::Failing,
     }
+}
+
+/// What to do behind two terms that were unified, or not, with the place of the goal behind them.
+pub(crate) fn unified(equal: bool, next: Option<usize>) -> Now
+    ensures { result ≡ now_unified equal next }
+{
+    if equal { at(next) } else { Now::Failing }
 }

@@ -4,6 +4,7 @@ ghost use Rattle.std.specs.Prelude.{◌≡◌, []};
 use super::parts::{Choice, Frame, Now};
 use super::procedures::Procedure;
 use iso_model::{Ball, Pause};
+use iso_ops::{Flags, OpTable};
 use iso_store::Store;
 use std::alloc::Global;
 
@@ -20,6 +21,10 @@ pub struct Plain<S: Store> {
     pub(crate) alloc: Global,
     pub(crate) store: S,
     pub(crate) procedures: Vec<Procedure>,
+    /// The operators as they are now.
+    pub(crate) ops: OpTable,
+    /// The flags as they are now.
+    pub(crate) flags: Flags,
     pub(crate) frames: Vec<Frame<S::Word>>,
     pub(crate) choices: Vec<Choice<S::Word, S::Mark>>,
     /// How many alternatives may stand at once.
@@ -37,17 +42,17 @@ pub struct Plain<S: Store> {
 impl<S: Store + Drop> Plain<S> {
     ghost use Rattle.iso_plain.specs.Limits.{IsWithin};
     ghost use Rattle.iso_model.specs.Trees.{Variable};
-    ghost use Rattle.iso_model.specs.Databases.{Database};
+    ghost use Rattle.iso_model.specs.Walker.{World};
     ghost use Rattle.iso_plain.specs.Linked.{idle_linked};
-    ghost use Rattle.iso_plain.specs.Programs.{IsDatabase};
-    ghost use Rattle.iso_plain.specs.EngineStates.{IsBase, IsEngine};
+    ghost use Rattle.iso_plain.specs.Programs.{IsWorld};
+    ghost use Rattle.iso_plain.specs.EngineStates.{IsBase, IsEngine, settings_of};
     ghost use Rattle.iso_plain.specs.declared.parts.Now.TheVariants.{Idle};
 
     /// Drops what is left of a run.
     pub(crate) fn clear(&mut self)
         requires { IsBase (S.stands self.old.store) self.old.base }
-        ensures idle { (db : Database) → IsDatabase self.old.procedures.items db
-            → IsEngine S.present S.stands S.older self.new (idle_linked db) }
+        ensures idle { (w : World) → IsWorld self.old w
+            → IsEngine S.present S.stands S.older self.new (idle_linked w) }
         ensures now { self.new.now ≡ Idle }
         ensures substitution { (S.present self.new.store).substitution ≡ Variable }
         ensures next { (S.present self.new.store).next ≡ 0 }
@@ -57,6 +62,7 @@ impl<S: Store + Drop> Plain<S> {
         ensures raised { self.new.raised ≡ None }
         ensures procedures { self.new.procedures ≡ self.old.procedures }
         ensures limit { self.new.limit ≡ self.old.limit }
+        ensures settings { settings_of self.new ≡ settings_of self.old }
         ensures within { IsWithin self.old → IsWithin self.new }
         ensures base { IsBase (S.stands self.new.store) self.new.base }
     {

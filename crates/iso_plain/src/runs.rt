@@ -5,13 +5,14 @@ ghost use Rattle.iso_model.specs.Databases as databases;
 ghost use Rattle.iso_model.specs.Walker.{State, alternative_count};
 
 use super::calls::Called;
-use super::parts::{Attempt, Now, at};
+use super::entries;
+use super::parts::{Attempt, Now, at, unified};
 use super::plain::{Move, Plain};
 use iso_model::Pause;
 use iso_store::{Store, StoreFault};
 
 impl<S: Store + Drop> Plain<S> {
-    ghost use Rattle.iso_plain.specs.EngineStates.{Represents, Moves, Falls, Calls, WasCalled, weight, most_clauses};
+    ghost use Rattle.iso_plain.specs.EngineStates.{Represents, Moves, Falls, Calls, WasCalled, weight, most_clauses, settings_of};
     ghost use Rattle.iso_plain.specs.Limits.{IsWithin, ResultMet, ResultFull};
     ghost use Rattle.iso_plain.specs.Linked.{Linked};
     ghost use Rattle.iso_plain.specs.declared.parts.Now.TheVariants as now;
@@ -26,6 +27,7 @@ impl<S: Store + Drop> Plain<S> {
         ensures frames { (s : State) → Represents S.present S.stands S.older self.old s → ResultFull (self.old.limit ≤ alternative_count s) result }
         ensures met { ResultMet S.full result self.new }
         ensures limit { self.new.limit ≡ self.old.limit }
+        ensures settings { settings_of self.new ≡ settings_of self.old }
         ensures within { IsWithin self.old → IsWithin self.new }
     {
         if self.steps == 0 {
@@ -42,6 +44,11 @@ impl<S: Store + Drop> Plain<S> {
             }
             Called::Fail => {
                 self.now = Now::Failing;
+                Ok(Move::Goes)
+            }
+            Called::Equates => {
+                let equal = entries::equate(&mut self.store, frame.goal)?;
+                self.now = unified(equal, frame.next);
                 Ok(Move::Goes)
             }
             Called::Unknown(ball) => {
@@ -68,6 +75,7 @@ impl<S: Store + Drop> Plain<S> {
         ensures frames { ResultFull (self.old.limit ≤ length self.old.choices.items) result }
         ensures met { ResultMet S.full result self.new }
         ensures limit { self.new.limit ≡ self.old.limit }
+        ensures settings { settings_of self.new ≡ settings_of self.old }
         ensures within { IsWithin self.old → IsWithin self.new }
     {
         if self.call(attempt)? {

@@ -5,9 +5,8 @@ ghost use Rattle.iso_model.specs.Terms.{term_of};
 ghost use Rattle.iso_model.specs.Variables.{variable_count};
 ghost use Rattle.iso_model.specs.Copies.{IsNumbered};
 ghost use Rattle.iso_model.specs.Bodies.{Body, converted};
-ghost use Rattle.iso_model.specs.Databases.{Database};
 ghost use Rattle.iso_model.specs.Additions.{addition};
-ghost use Rattle.iso_model.specs.Walker.{World, started};
+ghost use Rattle.iso_model.specs.Walker.{World, first_world, started};
 ghost use Rattle.iso_plain.specs.Goals.{leaves, terms_of};
 
 use super::bodies::{self, BodyFault};
@@ -15,6 +14,7 @@ use super::parts::{Now, at};
 use super::plain::Plain;
 use super::{balls, clauses, entries, procedures};
 use iso_model::{AddFault, Term, copied};
+use iso_ops::{Flags, OpTable};
 use iso_store::{Store, StoreFault};
 use std::alloc::{AllocError, Global};
 
@@ -32,26 +32,29 @@ impl<S: Store + Drop> Plain<S> {
     ghost use Rattle.iso_plain.specs.Limits.{IsWithin};
     ghost use Rattle.iso_model.specs.Trees.{Variable};
     ghost use Rattle.iso_plain.specs.Linked.{idle_linked};
-    ghost use Rattle.iso_plain.specs.EngineStates.{IsEngine, Represents, phase_of};
+    ghost use Rattle.iso_plain.specs.EngineStates.{IsEngine, Represents, phase_of, settings_of};
     ghost use Rattle.iso_plain.specs.Starts.{IsFresh, Comes};
     ghost use Rattle.iso_model.specs.Engines.{Midway};
     ghost use Rattle.iso_plain.specs.declared.parts.Now.TheVariants.{Idle};
 
-    /// An engine without clauses over this empty store, in which at most so many alternatives (1 to 16,777,216)
+    /// An engine without clauses, with the operators and flags before any is set, over this empty store, in which at most so many alternatives (1 to 16,777,216)
     /// stand at once. The error is that memory was refused; the store is dropped then.
     pub fn new(alloc: Global, mut store: S, frames: u32) -> Result<Plain<S>, AllocError>
         requires substitution { (S.present store).substitution ≡ Variable }
         requires next { (S.present store).next ≡ 0 }
-        ensures engine { IfOk result (λ e. IsEngine S.present S.stands S.older e (idle_linked [])) }
+        ensures engine { IfOk result (λ e. IsEngine S.present S.stands S.older e (idle_linked first_world)) }
         ensures now { IfOk result (λ e. e.now ≡ Idle) }
         ensures limit { IfOk result (λ e. e.limit ≡ frames) }
         ensures within { IfOk result (λ e. IsWithin e) }
     {
+        let ops = OpTable::initial(alloc)?;
         let base = store.mark();
         Ok(Plain {
             alloc,
             store,
             procedures: Vec::new(alloc),
+            ops,
+            flags: Flags::initial(),
             frames: Vec::new(alloc),
             choices: Vec::new(alloc),
             limit: frames,
@@ -66,10 +69,11 @@ impl<S: Store + Drop> Plain<S> {
     /// Keeps the error of the query that can't be converted (7.6.2), raised by `call/1`.
     fn raise_query(&mut self, query: &Term) -> Result<(), AllocError>
         requires { converted (term_of query.now) ≡ None }
-        ensures started { OnOk result ((w : World) → IsFresh S.present S.stands S.older self.old w.database
+        ensures started { OnOk result ((w : World) → IsFresh S.present S.stands S.older self.old w
             → Represents S.present S.stands S.older self.new (started (term_of query.now) self.old.steps w)) }
         ensures midway { OnOk result (phase_of self.new.now ≡ Midway) }
         ensures limit { self.new.limit ≡ self.old.limit }
+        ensures settings { settings_of self.new ≡ settings_of self.old }
         ensures within { IsWithin self.old → IsWithin self.new }
     {
         let culprit = copied(self.alloc, query)?;
@@ -86,11 +90,12 @@ impl<S: Store + Drop> Plain<S> {
         requires goals { (b : Body) × (converted (term_of query.now) ≡ Some b) × (terms_of goals.now ≡ leaves b) }
         requires next { (S.present self.old.store).next ≡ 0 }
         requires steps { self.old.steps < 2 ^ 32 }
-        ensures started { OnOk result ((w : World) → IsFresh S.present S.stands S.older self.old w.database
+        ensures started { OnOk result ((w : World) → IsFresh S.present S.stands S.older self.old w
             → Represents S.present S.stands S.older self.new (started (term_of query.now) self.old.steps w)) }
         ensures midway { OnOk result (phase_of self.new.now ≡ Midway) }
         ensures full { result ≡ Err StoreFault.Full → S.full self.new.store }
         ensures limit { self.new.limit ≡ self.old.limit }
+        ensures settings { settings_of self.new ≡ settings_of self.old }
         ensures within { IsWithin self.old → IsWithin self.new }
     {
         let count = count_variables(self.alloc, query)?;
@@ -115,11 +120,12 @@ impl<S: Store + Drop> Plain<S> {
         requires numbered { IsNumbered (term_of goal.now) }
         requires substitution { (S.present self.old.store).substitution ≡ Variable }
         requires next { (S.present self.old.store).next ≡ 0 }
-        ensures started { OnOk result ((w : World) → IsEngine S.present S.stands S.older self.old (idle_linked w.database)
+        ensures started { OnOk result ((w : World) → IsEngine S.present S.stands S.older self.old (idle_linked w)
             → Represents S.present S.stands S.older self.new (started (term_of goal.now) budget w)) }
         ensures midway { OnOk result (phase_of self.new.now ≡ Midway) }
         ensures full { result ≡ Err StoreFault.Full → S.full self.new.store }
         ensures limit { self.new.limit ≡ self.old.limit }
+        ensures settings { settings_of self.new ≡ settings_of self.old }
         ensures within { IsWithin self.old → IsWithin self.new }
     {
         self.steps = budget;
@@ -136,8 +142,8 @@ impl<S: Store + Drop> Plain<S> {
     pub(crate) fn add(&mut self, clause: &Term) -> Result<(), AddFault>
         requires fits { arities_fit (term_of clause.now) ≡ true }
         requires now { self.old.now ≡ Idle }
-        ensures comes { (db : Database) → IsEngine S.present S.stands S.older self.old (idle_linked db)
-            → Comes S.present S.stands S.older (addition (term_of clause.now) db) db result self.new }
+        ensures comes { (w : World) → IsEngine S.present S.stands S.older self.old (idle_linked w)
+            → Comes S.present S.stands S.older (addition (term_of clause.now) w.database) w result self.new }
         ensures now { self.new.now ≡ self.old.now }
         ensures limit { self.new.limit ≡ self.old.limit }
         ensures within { IsWithin self.old → IsWithin self.new }

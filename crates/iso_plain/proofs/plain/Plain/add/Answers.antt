@@ -5,7 +5,11 @@ use Rattle.iso_plain.proofs.StartLemmas.{idle_again}
 use Rattle.iso_plain.proofs.plain.Plain.add.Goals as goal
 
 pub returns-clause-comes : goal.returns-clause-comes
-returns-clause-comes g c = λ db h.
+returns-clause-comes g c = λ w h.
     (let added = c.in_ok-prepared.ensures in
-    rw (added.adds db) (idle_again h c.requires.now refl refl refl refl
-    (c.in_ok-add.ensures.ok db (clause_of (term_of c.args.clause.now) added.body) added.key h.database added.clause added.named)))
+    rw (added.adds w.database) (idle_again h c.requires.now refl refl refl refl
+    (record {
+      database = c.in_ok-add.ensures.ok w.database (clause_of (term_of c.args.clause.now) added.body) added.key h.world.database added.clause added.named;
+      operators_are = h.world.operators_are;
+      flags_are = h.world.flags_are;
+    })))

@@ -57,11 +57,11 @@ returns-clause-started g c = λ w fresh.
     let links : Links (g.S.Store.present c.new_variables.new.store) c.args.self.now.frames.items None q c.link.new.frames.items c.in_ok-first.first (leaves b) =
     subst (λ (ts : List Tree). Links (g.S.Store.present c.new_variables.new.store) c.args.self.now.frames.items None q c.link.new.frames.items c.in_ok-first.first ts) first_is (c.in_ok-first.ensures.links p.next here) in
     let goals : AreGoals (leaves b) = query_callable query b c.requires.goals.1 (meaning_is_term c.args.query.now ∙ c.requires.fits) in
-    let l : Linked = record { doing = Running (leaves b); subst = Variable; next = variable_count query; query = variables query; stack = []; database = w.database; steps = steps } in
+    let l : Linked = record { doing = Running (leaves b); subst = Variable; next = variable_count query; query = variables query; stack = []; world = w; steps = steps } in
     record {
       search = l;
       engine = record {
-        database = fresh.database;
+        world = fresh.world;
         steps = refl;
         base = record { present = base.present; stands_for = c.in_ok-first.ensures.marks _ _ (c.in_ok-variables.ensures.marks _ _ base.stands_for); substitution = base.substitution; next = base.next };
         choices = rw fresh.choices none_kept;
@@ -69,5 +69,5 @@ returns-clause-started g c = λ w fresh.
         next = does_goals c.in_ok-first.first c.at-self.result _ (leaves b) l c.at-self.ensures links goals refl
             (record { subst = more.substitution ∙ (new.substitution ∙ fresh.substitution); next = next; room = room; words = words });
       };
-      state = starts_goals query steps w w.database b c.requires.goals.1 refl;
+      state = starts_goals query steps w b c.requires.goals.1;
     })

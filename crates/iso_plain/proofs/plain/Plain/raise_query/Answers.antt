@@ -15,14 +15,14 @@ returns-clause-started g c = λ w fresh.
     let error = type_error_callable goal (key (codes "call") 1) in
     let ball : term_of c.in_ok-ball.ball.term ≡ error = c.in_ok-ball.ensures ∙ ap (λ t. type_error_callable t (key (codes "call") 1)) c.in_ok-culprit.ensures in
     record {
-      search = record { doing = Raising error; subst = Variable; next = variable_count goal; query = variables goal; stack = []; database = w.database; steps = c.args.self.now.steps };
+      search = record { doing = Raising error; subst = Variable; next = variable_count goal; query = variables goal; stack = []; world = w; steps = c.args.self.now.steps };
       engine = record {
-        database = fresh.database;
+        world = fresh.world;
         steps = refl;
         base = fresh.base;
         choices = rw fresh.choices none_kept;
         room = tt;
         next = (error, refl, ap Some ball);
       };
-      state = starts_error goal c.args.self.now.steps w w.database c.requires refl;
+      state = starts_error goal c.args.self.now.steps w c.requires;
     })

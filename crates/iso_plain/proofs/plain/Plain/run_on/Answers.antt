@@ -1,7 +1,7 @@
 use Rattle.std.proofs.Common.{arith, refl, ◌∙◌}
 use Rattle.iso_model.specs.Runs.{here}
 use Rattle.iso_model.specs.RunLaws.{quiet_trans}
-use Rattle.iso_plain.proofs.EngineMoves.{represents_stands, pauses_behind}
+use Rattle.iso_plain.proofs.EngineMoves.{represents_stands, stands_settings, pauses_behind}
 use Rattle.iso_plain.proofs.LimitLemmas.{where_full}
 use Rattle.iso_plain.proofs.plain.Plain.run_on.Goals as goal
 
@@ -12,6 +12,7 @@ loop-pause-init g c = record {
   quiet = λ s r. (s, here, r);
   less = omega arith;
   limit = refl;
+  settings = refl;
   within = λ h. h;
 }
 
@@ -27,13 +28,16 @@ loop-pause-preserved g c =
       quiet = λ s r. (let q = before.quiet s r in let n = moves q.0 q.2 in (n.0, quiet_trans q.1 n.1, stands n.0 n.2));
       less = (let a = before.less in let b = c.in-Goes.ensures.falls in omega (arith, a, b));
       limit = c.advance.ensures.limit ∙ before.limit;
+      settings = c.advance.ensures.settings ∙ before.settings;
       within = λ h. c.advance.ensures.within (before.within h);
     }
 
 pub returns-in-Pauses-clause-pauses : goal.returns-in-Pauses-clause-pauses
 returns-in-Pauses-clause-pauses g c = λ s r.
     let q = c.loop-pause.invariant.quiet s r in
-    pauses_behind g.S.Store.present g.S.Store.stands g.S.Store.older c.advance.new.self s q.0 c.in-Pauses.pause q.1 (c.in-Pauses.ensures.moves q.0 q.2)
+    let start = c.args.self.now in
+    let same = c.advance.ensures.settings ∙ (c.loop-pause.invariant.settings ∙ stands_settings g.S.Store.present g.S.Store.stands g.S.Store.older start.now start s r) in
+    pauses_behind g.S.Store.present g.S.Store.stands g.S.Store.older c.advance.new.self s q.0 c.in-Pauses.pause same q.1 (c.in-Pauses.ensures.moves q.0 q.2)
 
 pub returns-in-Pauses-clause-limit : goal.returns-in-Pauses-clause-limit
 returns-in-Pauses-clause-limit g c = c.advance.ensures.limit ∙ c.loop-pause.invariant.limit

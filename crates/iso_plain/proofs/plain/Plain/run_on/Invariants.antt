@@ -3,7 +3,7 @@ use Rattle.std.proofs.Common.{◌≡◌, ◌≢◌, ◌≤◌}
 use Rattle.iso_model.specs.Walker.{State}
 use Rattle.iso_model.specs.Runs.{Quiet}
 use Rattle.iso_plain.specs.Limits.{IsWithin}
-use Rattle.iso_plain.specs.EngineStates.{StandsFor, weight}
+use Rattle.iso_plain.specs.EngineStates.{StandsFor, weight, settings_of}
 use Rattle.iso_plain.specs.declared.parts.Now.TheVariants as now
 use Rattle.iso_plain.proofs.plain.Plain.run_on.Given as goal
 
@@ -15,6 +15,7 @@ invariant-loop-pause g l = record {
       → (t : State) × Quiet s t × StandsFor g.S.Store.present g.S.Store.stands g.S.Store.older l.self t;
   less : weight l.self ≤ weight l.fn.self;
   limit : l.self.limit ≡ l.fn.self.limit;
+  settings : settings_of l.self ≡ settings_of l.fn.self;
   within : IsWithin l.fn.self → IsWithin l.self;
 }
 

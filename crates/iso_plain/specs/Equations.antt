@@ -1,0 +1,11 @@
+-- Goals that say that two terms are equal (8.2.1).
+use Rattle.std.specs.Prelude.{◌≡◌, ℕ, List}
+use Rattle.iso_model.specs.Trees.{Tree}
+use Rattle.iso_model.specs.Bodies.{two}
+use Rattle.iso_model.specs.Walker.{Equates, selected}
+
+-- The goal equates these two, which are its arguments.
+pub record IsEquation (t a b : Tree) : Type 0 where
+  pub name : List ℕ
+  pub is : t ≡ two name a b
+  pub equates : selected t ≡ Equates a b
