@@ -52,6 +52,7 @@ fn plain_session<W: Write>(
 fn plain_engine(alloc: Global, limits: &Limits) -> Result<Plain<Nodes>, NoMemory>
     ensures ready { IfOk result (λ engine. ⟦<Plain<Nodes> as Engine>⟧.phase engine ≡ Ready) }
     ensures new { IfOk result (λ engine. ⟦<Plain<Nodes> as Engine>⟧.stands_for engine (idle first_world)) }
+    ensures frames { IfOk result (λ engine. engine.limit ≡ limits.now.frames) }
 {
     let store = Nodes::new(alloc, limits.cells)?;
     Plain::new(alloc, store, limits.frames)
