@@ -5,9 +5,12 @@ use Rattle.iso_ops.specs.Settings.{initial_flags}
 use Rattle.iso_ops.proofs.InitialLemmas.{IsOpTable-initial_entries}
 use Rattle.iso_model.specs.Tokens.{tokens_from, tokens}
 use Rattle.iso_model.specs.Lexemes.{lexeme}
+use Rattle.iso_model.specs.Quoted.{piece_at, len_from, content_from}
+use Rattle.std.specs.Char.{encode_utf8}
+use Rattle.std.specs.Str.{chars}
 use Rattle.iso_model.specs.Reading.{further, elements, compound, named, operand, operator_behind, extended, climb, continued, term, clause_of}
 use Rattle.iso_model.specs.Clauses.{next_clause}
-use Rattle.iso_model.specs.WorkedTexts.{equal_text, rule_text, loop_text, equal_clause, rule_clause, loop_clause, TokensOfEqual, TokensOfRule, TokensOfLoop, TokensOfThreeClauses, ReadingOfThreeClauses, IsNoClause, NoClauses}
+use Rattle.iso_model.specs.WorkedTexts.{equal_text, rule_text, loop_text, equal_clause, rule_clause, loop_clause, TokensOfEqual, TokensOfRule, TokensOfLoop, TokensOfThreeClauses, TokensOfForms, ValuesOfForms, TokensOfOpenItem, TokensOfAllForms, ReadingOfThreeClauses, IsNoClause, NoClauses}
 use Rattle.iso_model.proofs.ClauseLaws.{next_given, next_complete}
 
 tokens_of_equal : TokensOfEqual
@@ -24,6 +27,21 @@ tokens_of_loop = refl
 
 pub tokens_of_three : TokensOfThreeClauses
 tokens_of_three = (tokens_of_equal, tokens_of_rule, tokens_of_loop)
+
+tokens_of_forms : TokensOfForms
+unfolding tokens_from lexeme len_from piece_at
+tokens_of_forms = refl
+
+values_of_forms : ValuesOfForms
+unfolding content_from piece_at encode_utf8 chars
+values_of_forms = (refl, refl, refl, refl, refl)
+
+tokens_of_open_item : TokensOfOpenItem
+unfolding tokens_from lexeme len_from piece_at
+tokens_of_open_item = refl
+
+pub tokens_of_all : TokensOfAllForms
+tokens_of_all = (tokens_of_forms, values_of_forms, tokens_of_open_item)
 
 equal_read : next_clause initial_entries initial_flags (tokens equal_text) ≡ Some equal_clause
 unfolding initial_entries tokens_from lexeme clause_of term continued climb extended operator_behind operand named compound elements further

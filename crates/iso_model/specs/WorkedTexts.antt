@@ -1,9 +1,9 @@
--- Worked texts: the tokens of three short clauses, the clauses that they are, thirteen terms, texts that are none, and the text of three terms. A literal stands for its bytes, by `codes`.
-use Rattle.std.specs.Prelude.{◌≡◌, ℕ, true, false, List, [], ◌∷◌, pos, neg_ℤ, codes}
+-- Worked texts: the tokens of three short clauses and of all forms, the clauses that the three are, thirteen terms, texts that are none, and the text of three terms. A literal stands for its bytes, by `codes`.
+use Rattle.std.specs.Prelude.{◌≡◌, ℕ, true, false, List, [], ◌∷◌, Some, pos, neg_ℤ, codes}
 use Rattle.iso_model.specs.Trees.{Tree, Variable, Integer, Name, Apply, row}
 use Rattle.iso_model.specs.Lists.{nil, curly, list_before}
 use Rattle.iso_model.specs.Bodies.{one, two}
-use Rattle.iso_model.specs.Token.{Shown, TokenKind, NameToken, VariableToken, IntegerToken, PunctToken, EndToken}
+use Rattle.iso_model.specs.Token.{Shown, TokenKind, NameToken, QuotedToken, DoubleToken, VariableToken, IntegerToken, PunctToken, EndToken, BadToken, magnitude, content}
 use Rattle.iso_model.specs.Tokens.{tokens}
 use Rattle.iso_ops.specs.InitialOperators.{initial_entries}
 use Rattle.iso_ops.specs.Settings.{initial_flags}
@@ -56,6 +56,35 @@ TokensOfLoop = tokens loop_text ≡ (token NameToken (codes "l") 0 ∷ token Nam
 -- Those are the tokens of the three clauses.
 abbrev pub TokensOfThreeClauses : Type 0
 TokensOfThreeClauses = TokensOfEqual × TokensOfRule × TokensOfLoop
+
+-- quoted items, a character code, and numbers in other bases
+abbrev pub forms_text : List ℕ
+forms_text = codes "'don''t'(0'a, 0x1F, \"\\x41\\\"|0'''), 0b2."
+
+-- Their tokens (6.4.2.1, 6.4.4, 6.4.6): a base without a digit of its own is the integer 0.
+abbrev pub TokensOfForms : Type 0
+TokensOfForms =
+    tokens forms_text
+    ≡ (token QuotedToken (codes "'don''t'") 0 ∷ token PunctToken (codes "(") 8 ∷ token IntegerToken (codes "0'a") 9 ∷ token PunctToken (codes ",") 12
+    ∷ spaced IntegerToken (codes "0x1F") 14 ∷ token PunctToken (codes ",") 18 ∷ spaced DoubleToken (codes "\"\\x41\\\"") 20
+    ∷ token PunctToken (codes "|") 27 ∷ token IntegerToken (codes "0'''") 28 ∷ token PunctToken (codes ")") 32 ∷ token PunctToken (codes ",") 33
+    ∷ spaced IntegerToken (codes "0") 35 ∷ token NameToken (codes "b2") 36 ∷ token EndToken (codes ".") 38 ∷ [])
+
+-- What they stand for: a quote that is written twice is one, and `\x41\` is `A`.
+abbrev pub ValuesOfForms : Type 0
+ValuesOfForms =
+    (content (token QuotedToken (codes "'don''t'") 0) ≡ codes "don't") × (content (spaced DoubleToken (codes "\"\\x41\\\"") 20) ≡ codes "A")
+    × (magnitude (token IntegerToken (codes "0'a") 9) ≡ Some 97) × (magnitude (spaced IntegerToken (codes "0x1F") 14) ≡ Some 31)
+    × (magnitude (token IntegerToken (codes "0'''") 28) ≡ Some 39)
+
+-- An item that isn't well closed: its quote is a bad token, and what stands behind it is read anew (own).
+abbrev pub TokensOfOpenItem : Type 0
+TokensOfOpenItem =
+    tokens (codes "'a. b") ≡ (token BadToken (codes "'") 0 ∷ token NameToken (codes "a") 1 ∷ token EndToken (codes ".") 2 ∷ spaced NameToken (codes "b") 4 ∷ [])
+
+-- the tokens of forms, what they stand for, and an item that isn't well closed
+abbrev pub TokensOfAllForms : Type 0
+TokensOfAllForms = TokensOfForms × ValuesOfForms × TokensOfOpenItem
 
 -- `eq(X, X)`: both are variable 0, and its name is X.
 abbrev pub equal_clause : Clause

@@ -1,9 +1,15 @@
 //! Worked texts: the tokens and the reading of short clauses, and the text of terms. Each is the contract of a function that does nothing.
-ghost use Rattle.iso_model.specs.WorkedTexts.{TokensOfThreeClauses, ReadingOfThreeClauses, NoClauses, ReadingOfSigns, ReadingOfBrackets, ReadingOfIntegers, NoTerms, TextOfThreeTerms};
+ghost use Rattle.iso_model.specs.WorkedTexts.{TokensOfThreeClauses, TokensOfAllForms, ReadingOfThreeClauses, NoClauses, ReadingOfSigns, ReadingOfBrackets, ReadingOfIntegers, NoTerms, TextOfThreeTerms};
 
 /// The tokens of `eq(X, X).`, of `p(Y, _) :- q, r(1, Y).` and of `l:-l. % again`, each with its place (6.4).
 pub fn tokens_of_three_clauses()
     ensures { TokensOfThreeClauses }
+{}
+
+/// The tokens of a text with items in quotes, a character code and numbers in other bases, what they stand for, and
+/// the tokens of an item that isn't well closed (6.4.2.1, 6.4.4, 6.4.6).
+pub fn tokens_of_all_forms()
+    ensures { TokensOfAllForms }
 {}
 
 /// The clauses that the three texts are by the grammar, with their variables' names (6.2, 6.3).

@@ -99,7 +99,10 @@ const INTEGERS: [(&str, &str); 23] = [
         "00x1 10'a",
         " Integer 00 0 Name x1 2 ~Integer 10 5 Bad ' 7 Name a 8",
     ),
-    ("0x1F.", " Integer 0x1F 0 End . 4"),
+    (
+        "[0'a,0''',0x1F,0b101,0o17]",
+        " Punct [ 0 Integer 0'a 1 Punct , 4 Integer 0''' 5 Punct , 9 Integer 0x1F 10 Punct , 14 Integer 0b101 15 Punct , 20 Integer 0o17 21 Punct ] 25",
+    ),
     (
         "99999999999999999999999",
         " Integer 99999999999999999999999 0",
@@ -142,7 +145,7 @@ const INTEGERS: [(&str, &str); 23] = [
 ];
 
 /// Items in quotes, well closed and not.
-const ITEMS: [(&str, &str); 29] = [
+const ITEMS: [(&str, &str); 30] = [
     ("'a' !b", " Quoted 'a' 0 ~Name ! 4 Name b 5"),
     ("'' ''''", " Quoted '' 0 ~Quoted '''' 3"),
     ("'''", " Bad ' 0 Quoted '' 1"),
@@ -203,6 +206,10 @@ const ITEMS: [(&str, &str); 29] = [
     (
         "\"a'\n'b\"",
         " Bad \" 0 Name a 1 Bad ' 2 ~Bad ' 4 Name b 5 Bad \" 6",
+    ),
+    (
+        "x('ab\nc'). q.",
+        " Name x 0 Punct ( 1 Bad ' 2 Name ab 3 ~Name c 6 Bad ' 7 Punct ) 8 End . 9 ~Name q 11 End . 12",
     ),
     ("\"a'b\"'", " Double \"a'b\" 0 Bad ' 5"),
 ];
