@@ -15,3 +15,5 @@ pub use clause::{Read, ReadFault, read_clause};
 
 #[cfg(test)]
 mod tests;
+#[cfg(test)]
+mod texts;

@@ -109,10 +109,12 @@ fn name_begins(
     let name = token.content(language.alloc)?;
     let ops = language.ops;
     let goes_on = ops.infix(&name).is_some() || ops.postfix(&name).is_some();
-    Ok(!goes_on
-        || ops.prefix(&name).is_some()
-        || opens_arguments(others)
-        || negates(token.kind == Kind::Name, &name, others))
+    Ok(
+        !goes_on
+            || ops.prefix(&name).is_some()
+            || opens_arguments(others)
+            || negates(token.kind == Kind::Name, &name, others),
+    )
 }
 
 /// Whether these tokens can begin the operand of a prefix operator.
@@ -123,9 +125,7 @@ pub fn begins(language: Language<'_>, tokens: &[Token<'_>]) -> Result<bool, Allo
         [] => Ok(false),
         [first, others @ ..] => match first.kind {
             Kind::Name | Kind::Quoted => name_begins(language, first, others),
-            Kind::Punct => {
-                Ok(is_mark(first, "(") || is_mark(first, "[") || is_mark(first, "{"))
-            }
+            Kind::Punct => Ok(is_mark(first, "(") || is_mark(first, "[") || is_mark(first, "{")),
             Kind::End | Kind::Bad => Ok(false),
             Kind::Double | Kind::Variable | Kind::Integer => Ok(true),
         },

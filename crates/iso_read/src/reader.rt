@@ -53,11 +53,7 @@ pub fn read_term(
 /// What stands where an operand may begin; its parts stand less deep than `depth`.
 #[cycle(reader)]
 #[tactic(auto, unfolding(iso_model::specs::Reading::operand))]
-fn operand(
-    language: Language<'_>,
-    depth: usize,
-    input: &mut Input<'_>,
-) -> Result<Node, ReadFault>
+fn operand(language: Language<'_>, depth: usize, input: &mut Input<'_>) -> Result<Node, ReadFault>
     ensures read { Gives node_of (reading.operand language.entry.ops.now language.entry.flags.now (terms_in language.entry depth) input.old) result input.new }
     ensures height { IfOk result (λ node. node.height ≤ depth) }
     ensures shorter { OnOk result (length input.new.tokens ≤ length input.old.tokens) }
@@ -158,11 +154,7 @@ fn compound(
 /// One or more terms with commas between them.
 #[cycle(reader)]
 #[tactic(auto, unfolding(iso_model::specs::Reading::elements))]
-fn elements(
-    language: Language<'_>,
-    depth: usize,
-    input: &mut Input<'_>,
-) -> Result<Row, ReadFault>
+fn elements(language: Language<'_>, depth: usize, input: &mut Input<'_>) -> Result<Row, ReadFault>
     ensures read { Gives row_of (reading.elements (terms_in language.entry depth) input.old) result input.new }
     ensures height { IfOk result (λ row. row.height < depth) }
     ensures shorter { OnOk result (length input.new.tokens ≤ length input.old.tokens) }
@@ -216,11 +208,7 @@ fn punctuated(
 /// The term in brackets, of which the first is behind (6.3.4.1).
 #[cycle(reader)]
 #[tactic(auto, unfolding(iso_model::specs::Reading::bracketed))]
-fn bracketed(
-    language: Language<'_>,
-    depth: usize,
-    input: &mut Input<'_>,
-) -> Result<Node, ReadFault>
+fn bracketed(language: Language<'_>, depth: usize, input: &mut Input<'_>) -> Result<Node, ReadFault>
     ensures read { Gives node_of (reading.bracketed (terms_in language.entry depth) input.old) result input.new }
     ensures height { IfOk result (λ node. node.height ≤ depth) }
     ensures shorter { OnOk result (length input.new.tokens ≤ length input.old.tokens) }
@@ -235,11 +223,7 @@ fn bracketed(
 /// The term in braces, of which the first is behind (6.3.6).
 #[cycle(reader)]
 #[tactic(auto, unfolding(iso_model::specs::Reading::braced))]
-fn braced(
-    language: Language<'_>,
-    depth: usize,
-    input: &mut Input<'_>,
-) -> Result<Node, ReadFault>
+fn braced(language: Language<'_>, depth: usize, input: &mut Input<'_>) -> Result<Node, ReadFault>
     ensures read { Gives node_of (reading.braced (terms_in language.entry depth) input.old) result input.new }
     ensures height { IfOk result (λ node. node.height ≤ depth) }
     ensures shorter { OnOk result (length input.new.tokens ≤ length input.old.tokens) }
@@ -254,11 +238,7 @@ fn braced(
 /// The list whose first bracket is behind (6.3.5).
 #[cycle(reader)]
 #[tactic(auto, unfolding(iso_model::specs::Reading::listed))]
-fn listed(
-    language: Language<'_>,
-    depth: usize,
-    input: &mut Input<'_>,
-) -> Result<Node, ReadFault>
+fn listed(language: Language<'_>, depth: usize, input: &mut Input<'_>) -> Result<Node, ReadFault>
     ensures read { Gives node_of (reading.listed (terms_in language.entry depth) input.old) result input.new }
     ensures height { IfOk result (λ node. node.height ≤ depth) }
     ensures shorter { OnOk result (length input.new.tokens ≤ length input.old.tokens) }
