@@ -414,7 +414,7 @@ pub const ROWS: &[Row] = &[
     },
     Row {
         name: "two arguments are no directive",
-        text: "a :- b. (:-)(c, d).",
+        text: "a :- b. :-(c, d).",
         queries: "a. c.",
         budget: None,
         cells: None,
