@@ -16,7 +16,8 @@ fn ended(alloc: Global, text: &str, queries: &str, limits: &Limits) -> (Vec<u8>,
 
 const APPEND: &str = "app(nil,L,L). app(c(H,T),L,c(H,R)) :- app(T,L,R).";
 
-const SPLITS: &str = "answer 1: X = nil, Y = c(1,nil)\nanswer 2: X = c(1,nil), Y = nil\nend: no more\n";
+const SPLITS: &str =
+    "answer 1: X = nil, Y = c(1,nil)\nanswer 2: X = c(1,nil), Y = nil\nend: no more\n";
 
 #[test]
 fn few_cells_end_a_session_behind_a_line(rt: HostRuntime) -> Result<(), Fail> {
