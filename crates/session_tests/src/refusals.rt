@@ -104,3 +104,28 @@ fn answers_before_a_full_heap(rt: HostRuntime) -> Result<(), Fail> {
     assert!(rt; ends_rightly(rt.alloc(), "answers before a full heap"));
     Ok(())
 }
+
+#[test]
+fn a_budget_that_ends(rt: HostRuntime) -> Result<(), Fail> {
+    assert!(rt; ends_rightly(rt.alloc(), "a budget that ends"));
+    Ok(())
+}
+
+#[test]
+fn a_full_heap(rt: HostRuntime) -> Result<(), Fail> {
+    assert!(rt; ends_rightly(rt.alloc(), "a full heap"));
+    Ok(())
+}
+
+#[test]
+fn an_unknown_procedure(rt: HostRuntime) -> Result<(), Fail> {
+    assert!(rt; ends_rightly(rt.alloc(), "an unknown procedure"));
+    Ok(())
+}
+
+#[test]
+fn operators_and_lists(rt: HostRuntime) -> Result<(), Fail> {
+    assert!(rt; ends_rightly(rt.alloc(), "operators of every kind"));
+    assert!(rt; ends_rightly(rt.alloc(), "lists and double quoted items"));
+    Ok(())
+}
