@@ -3,6 +3,7 @@ pub mod UnifierLemmas
 pub mod Cost
 pub mod WorkedReading
 mod WorkedSyntax
+mod WorkedWriting
 pub mod MarkLemmas
 pub mod ReadingSound
 pub mod TokenLemmas

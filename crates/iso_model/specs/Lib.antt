@@ -28,6 +28,7 @@ pub mod Reading
 pub mod Clauses
 pub mod Items
 pub mod Texts
+pub mod Pieces
 pub mod Walker
 pub mod Runs
 pub mod RunLaws
@@ -36,6 +37,7 @@ pub mod Lines
 pub mod Sessions
 pub mod WorkedRuns
 pub mod WorkedTexts
+pub mod WorkedTerms
 pub mod VariableLaws
 pub mod UnifierLaws
 pub mod ReadingLaws

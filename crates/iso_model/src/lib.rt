@@ -14,6 +14,7 @@ pub mod limit;
 pub mod pauses;
 pub mod terms;
 pub mod worked_runs;
+pub mod worked_terms;
 pub mod worked_texts;
 
 pub use engines::Engine;

@@ -1,0 +1,22 @@
+//! Worked terms: what they are written as. Each is the contract of a function that does nothing.
+ghost use Rattle.iso_model.specs.WorkedTerms.{TextsWithSigns, TextsWithBrackets, TextsWithWords, TextsWithAnOperator};
+
+/// What terms with signs are written as (7.10.5).
+pub fn texts_with_signs()
+    ensures { TextsWithSigns }
+{}
+
+/// What operands of too high a priority, and operators that are operands, are written as.
+pub fn texts_with_brackets()
+    ensures { TextsWithBrackets }
+{}
+
+/// What braces, lists and operators that are words are written as.
+pub fn texts_with_words()
+    ensures { TextsWithWords }
+{}
+
+/// What terms of an operator that was added are written as.
+pub fn texts_with_an_operator()
+    ensures { TextsWithAnOperator }
+{}
