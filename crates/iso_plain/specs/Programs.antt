@@ -1,4 +1,4 @@
--- The database as the engine keeps it.
+-- The database as the engine keeps it, and what else outlives a run.
 use Rattle.std.specs.Prelude.{◌≡◌, ℕ, ◌<◌, List, [], ◌∷◌, Bool, ◌&&◌, ◌==◌, length, position, Option}
 use Rattle.std.specs.String.{string_bytes}
 use Rattle.std.specs.Str.{bytes_eq}
