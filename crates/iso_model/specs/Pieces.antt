@@ -184,8 +184,8 @@ module _ (style : Style) (table : List Operator) (seen : List ℕ) where
   abbrev pub single_written : List ℕ → Written → Written
   single_written name argument =
       if uses_operators style then (
-        if bytes_eq name (codes "{}") then simple (piece (codes "{") ∷ (at_most 1200 argument ++ piece (codes "}") ∷ []))
-        else single_by (prefix_named table name) (postfix_named table name) name argument)
+      if bytes_eq name (codes "{}") then simple (piece (codes "{") ∷ (at_most 1200 argument ++ piece (codes "}") ∷ []))
+      else single_by (prefix_named table name) (postfix_named table name) name argument)
       else compound_written name (at_most 999 argument)
 
   -- what is written of a term, where the variables of its line are these by first occurrence

@@ -107,6 +107,7 @@ pub fn read_clause(
     ensures takes { TakesSome result tokens.old tokens.new }
     ensures well_formed { IfOk result IsWellFormed }
 {
+    // What holds of every table: by it the grammar has one reading.
     ops.is_table();
     let language = Language { alloc, ops, flags };
     let Some(first) = tokens.next() else {
