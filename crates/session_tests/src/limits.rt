@@ -1,8 +1,6 @@
-//! Sessions and engines within small limits.
-use iso_model::{Engine, Limits, Pause, Term};
-use iso_plain::plain::Plain;
+//! Sessions within small limits.
+use iso_model::Limits;
 use iso_session::{Choice, session, status_of};
-use iso_store::Nodes;
 use std::alloc::Global;
 use std::test::Fail;
 
@@ -68,37 +66,5 @@ fn alternatives_fill_the_frames(rt: HostRuntime) -> Result<(), Fail> {
         assert_eq!(rt; status, 3);
         assert!(rt; bytes.as_slice() == b"end: frames full\n".as_slice());
     }
-    Ok(())
-}
-
-/// The compound of this name and argument.
-fn one(alloc: Global, name: &str, argument: Term) -> Result<Term, Fail> {
-    let mut arguments = Vec::new(alloc);
-    arguments.push(argument)?;
-    Ok(Term::Compound(String::from_str(alloc, name)?, arguments))
-}
-
-/// f(X) :- f(g(X))
-fn growing(alloc: Global) -> Result<Term, Fail> {
-    let head = one(alloc, "f", Term::Var(0))?;
-    let inner = one(alloc, "g", Term::Var(0))?;
-    let goal = one(alloc, "f", inner)?;
-    let mut arguments = Vec::new(alloc);
-    arguments.push(head)?;
-    arguments.push(goal)?;
-    Ok(Term::Compound(String::from_str(alloc, ":-")?, arguments))
-}
-
-#[test]
-fn an_engine_whose_heap_was_full_is_spent(rt: HostRuntime) -> Result<(), Fail> {
-    let alloc = rt.alloc();
-    let store = Nodes::new(alloc, 100)?;
-    let mut engine = Plain::new(alloc, store, 10)?;
-    assert!(rt; engine.consult(&growing(alloc)?).is_ok());
-    let query = one(alloc, "f", Term::Atom(String::from_str(alloc, "a")?))?;
-    assert!(rt; engine.start(&query, 1000).is_ok());
-    assert!(rt; matches!(engine.resume(), Pause::HeapFull));
-    assert!(rt; matches!(engine.resume(), Pause::Spent));
-    assert!(rt; matches!(engine.resume(), Pause::Spent));
     Ok(())
 }
