@@ -19,6 +19,9 @@ pub mod ReadingSteps
 mod ReadingComplete
 pub mod ClauseLaws
 pub mod WellRead
+pub mod PieceTokens
+pub mod PieceLexemes
+pub mod PieceGrammar
 pub mod NumberedLemmas
 pub mod VariableLemmas
 pub mod PlaceLemmas

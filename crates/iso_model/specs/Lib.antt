@@ -41,6 +41,7 @@ pub mod WorkedTerms
 pub mod VariableLaws
 pub mod UnifierLaws
 pub mod ReadingLaws
+pub mod WritingLaws
 pub mod CopyLaws
 pub mod TermLaws
 pub mod OrderLaws

@@ -10,6 +10,7 @@ pub mod laws_of_runs;
 pub mod laws_of_terms;
 pub mod laws_of_unifiers;
 pub mod laws_of_variables;
+pub mod laws_of_writing;
 pub mod limit;
 pub mod pauses;
 pub mod terms;

@@ -87,6 +87,10 @@ HasEachOnce (op ∷ ops) = (find_op (kind_of op.spec) op.name ops ≡ None) × H
 abbrev pub comma : Operator
 comma = operator 1000 Xfy (codes ",")
 
+-- The empty list and empty braces, which are written as two tokens each, are no operators (own).
+abbrev pub HasNoBrackets : List Operator → Type 0
+HasNoBrackets ops = (kind : Kind) → (find_op kind (codes "[]") ops ≡ None) × (find_op kind (codes "{}") ops ≡ None)
+
 -- What is true of every table.
 pub record IsOpTable (ops : List Operator) : Type 0 where
   pub priorities : HasPriorities ops
