@@ -20,6 +20,10 @@ mod ReadingComplete
 pub mod ClauseLaws
 pub mod WellRead
 pub mod PieceTokens
+pub mod SignTokens
+pub mod SignFirsts
+pub mod SignedText
+pub mod TermSigns
 pub mod PieceLexemes
 pub mod PieceGrammar
 pub mod NumberedLemmas
