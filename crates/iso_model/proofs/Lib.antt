@@ -20,6 +20,8 @@ mod ReadingComplete
 pub mod ClauseLaws
 pub mod WellRead
 pub mod PieceTokens
+pub mod RunLexemes
+pub mod BareNames
 pub mod SignTokens
 pub mod SignFirsts
 pub mod SignedText

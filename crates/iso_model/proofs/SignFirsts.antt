@@ -40,4 +40,3 @@ count_first number small spaced ps ts tokens = ?
 pub negative_first : (number : ℕ) → number < 2 ^ 63 → (spaced : Bool) (ps : List Piece) (ts : List Shown) → AreTokens (spaced_piece (signed_decimal (negsuc number)) spaced ∷ ps) ts
     → BeginsTwice IsSignToken (λ t. IsCountToken (number + 1) t × (is_direct_integer t ≡ true)) ps ts
 negative_first number small spaced ps ts tokens = ?
-

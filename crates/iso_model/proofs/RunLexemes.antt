@@ -1,0 +1,70 @@
+-- Texts that are one token before whatever doesn't run together with them: marks, and names and variables that stand bare.
+use Rattle.std.proofs.Common.{◌≡◌, ℕ, zero, suc, ◌+◌, ◌<◌, ◌≤◌, Bool, true, false, not, ◌&&◌, ◌||◌, ◌==◌, if◌then◌else◌, List, [], ◌∷◌, ◌++◌, length, length-append, slice_index, take, drop, take_at, drop_at, refl, sym, ap, ◌∙◌, append_assoc, append-nil, add-zero, Some, codes, arith}
+use Rattle.std.specs.List.{list_all}
+use Rattle.std.specs.Str.{bytes_eq}
+use Rattle.std.proofs.lemmas.Bool.{cond_both, and_parts, or_parts, or_from, and_left, and_right, not-true}
+use Rattle.std.proofs.lemmas.Bool.Decides.{nat_tests}
+use Rattle.iso_model.specs.Characters.{is_layout, is_small, is_digit, is_alphanumeric, begins_variable, is_graphic, is_punctuation, run}
+use Rattle.iso_model.specs.Token.{Shown, TokenKind, NameToken, VariableToken, PunctToken}
+use Rattle.iso_model.specs.Lexemes.{Lexeme, lexeme, symbol, graphic, stops_clause}
+use Rattle.iso_model.specs.Tokens.{tokens, tokens_from}
+use Rattle.iso_model.specs.Texts.{opens_comment}
+use Rattle.iso_model.specs.Pieces.{run_together, last_byte}
+use Rattle.iso_model.proofs.TokenLemmas.{tokens-token}
+use Rattle.iso_model.proofs.LexemeLemmas.{lexeme-symbol, BeginsSymbol}
+use Rattle.iso_model.proofs.PieceTokens.{placed}
+
+-- a run of a class ends before a byte of none
+pub run_all : (class : ℕ → Bool) (xs rest : List ℕ) → list_all class xs ≡ true → class (slice_index rest 0) ≡ false → run class (xs ++ rest) ≡ length xs
+run_all class [] [] all stops = refl
+run_all class [] (b ∷ rest) all stops = rw stops refl
+run_all class (x ∷ xs) rest all stops = let parts = and_parts (class x) _ all in rw parts.0 (omega (arith, run_all class xs rest parts.1 stops))
+
+-- the last byte of a text of a class is of it
+pub last_of : (class : ℕ → Bool) (xs : List ℕ) → 0 < length xs → list_all class xs ≡ true → class (last_byte xs) ≡ true
+last_of class [] some all = absurd (omega arith)
+last_of class (b ∷ []) some all = (and_parts (class b) _ all).0
+last_of class (b ∷ c ∷ z) some all = last_of class (c ∷ z) (omega arith) (and_parts (class b) _ all).1
+
+-- what doesn't run together with a text
+abbrev pub Apart : List ℕ → List ℕ → Type 0
+Apart xs rest = run_together (last_byte xs) (slice_index rest 0) ≡ false
+
+pub apart_nil : (xs : List ℕ) → Apart xs []
+apart_nil xs =
+    let b = last_byte xs in
+    or_from _ _ (and_right (is_alphanumeric b) _ refl) (or_from _ _ (and_right (is_graphic b) _ refl) (and_right (is_digit b || b == 39) _ refl))
+
+-- This text is one token of this kind.
+pub record IsLone (kind : TokenKind) (xs : List ℕ) : Type 0 where
+  pub some : 0 < length xs
+  pub lexes : (rest : List ℕ) → Apart xs rest → lexeme (xs ++ rest) ≡ (Some kind, length xs)
+
+abbrev pub token : TokenKind → List ℕ → ℕ → Bool → Shown
+token kind text start after = record { kind = kind; text = text; start = start; after_layout = after }
+
+-- a text that begins with a token
+pub first_token : (kind : TokenKind) (xs rest : List ℕ) → 0 < length xs → lexeme (xs ++ rest) ≡ (Some kind, length xs) → (at : ℕ) (after : Bool)
+    → tokens_from 0 at after (xs ++ rest) ≡ token kind xs at after ∷ tokens_from 0 (at + length xs) false rest
+first_token kind xs rest some is at after =
+    tokens-token kind (length xs) at after (xs ++ rest) (omega (arith, length-append xs rest, some)) some is
+    ∙ ap (λ x. token kind x at after ∷ tokens_from 0 (at + length xs) false (drop (length xs) (xs ++ rest))) (take_at xs rest (length xs) refl)
+    ∙ ap (λ x. token kind xs at after ∷ tokens_from 0 (at + length xs) false x) (drop_at xs rest (length xs) refl)
+
+or_nothing : (b : Bool) → b || false ≡ b
+or_nothing true = refl
+or_nothing false = refl
+
+pub lone_tokens : {kind : TokenKind} {xs : List ℕ} → IsLone kind xs → tokens xs ≡ token kind xs 0 false ∷ []
+unfolding tokens_from
+lone_tokens {kind = kind} {xs = xs} h =
+    ap tokens (sym (append-nil xs)) ∙ first_token kind xs [] h.some (h.lexes [] (apart_nil xs)) 0 false
+
+-- the tokens of this text stay what they are
+abbrev pub Stays : List ℕ → Type 0
+Stays xs = (rest : List ℕ) → Apart xs rest → (at : ℕ) (after : Bool)
+    → tokens_from 0 at after (xs ++ rest) ≡ placed at after (tokens xs) ++ tokens_from 0 (at + length xs) false rest
+
+pub lone_stays : {kind : TokenKind} {xs : List ℕ} → IsLone kind xs → Stays xs
+lone_stays {kind = kind} {xs = xs} h rest apart at after =
+    rw (lone_tokens h, add-zero at, or_nothing after) (first_token kind xs rest h.some (h.lexes rest apart) at after)
