@@ -22,6 +22,7 @@ pub mod WellRead
 pub mod PieceTokens
 pub mod RunLexemes
 pub mod BareNames
+pub mod Digits
 pub mod SignTokens
 pub mod SignFirsts
 pub mod SignedText
