@@ -23,6 +23,7 @@ pub mod PieceTokens
 pub mod RunLexemes
 pub mod BareNames
 pub mod Digits
+pub mod Integers
 pub mod SignTokens
 pub mod SignFirsts
 pub mod SignedText
