@@ -24,6 +24,7 @@ pub mod RunLexemes
 pub mod BareNames
 pub mod Digits
 pub mod Integers
+pub mod QuotedBytes
 pub mod SignTokens
 pub mod SignFirsts
 pub mod SignedText
