@@ -25,6 +25,7 @@ pub mod BareNames
 pub mod Digits
 pub mod Integers
 pub mod QuotedBytes
+pub mod QuotedNames
 pub mod SignTokens
 pub mod SignFirsts
 pub mod SignedText
