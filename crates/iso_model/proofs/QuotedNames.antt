@@ -1,8 +1,12 @@
 -- A quoted name is one token, and stands for the name.
 use Rattle.std.proofs.Common.{◌≡◌, ℕ, zero, suc, ◌+◌, ◌-◌, ◌<◌, ◌≤◌, Bool, true, false, cond, ◌&&◌, ◌||◌, ◌==◌, if◌then◌else◌, List, [], ◌∷◌, ◌++◌, length, length-append, slice_index, take, drop, take-append-drop, drop_at, refl, sym, ap, ◌∙◌, append_assoc, Option, Some, None, option_map, codes, arith}
 use Rattle.std.proofs.lemmas.Bool.{cond_both, or_parts}
-use Rattle.iso_model.specs.Characters.{is_continuation, character_len, is_alphanumeric, is_graphic, run}
-use Rattle.iso_model.specs.Quoted.{Piece, Closes, Stands, Broken, piece_at, len_from, content_from}
+use Rattle.iso_model.specs.Characters.{is_continuation, run}
+use Rattle.iso_model.specs.Quoted.{Piece, Closes, Stands, Broken, piece_at, len_from, content_from, item_len, item_content}
+use Rattle.iso_model.specs.Token.{QuotedToken}
+use Rattle.iso_model.specs.Lexemes.{lexeme, quoted}
+use Rattle.iso_model.specs.Pieces.{run_together, last_byte}
+use Rattle.iso_model.proofs.RunLexemes.{Apart, IsLone}
 use Rattle.iso_model.specs.Texts.{quoted_byte, quoted_bytes}
 use Rattle.iso_model.proofs.QuotedLemmas.{item-stands, item-closes, content-stands, content-closes}
 use Rattle.iso_model.proofs.QuotedBytes.{Spelled, as_it_is, by_escape, spelled}
@@ -65,7 +69,7 @@ unfolding content_from
 past_content left b z = refl
 
 -- The rest of a name with the quote that closes it is an item that stands for it, where so many bytes are left of a piece.
-pub record IsRead (left : ℕ) (name text : List ℕ) (bytes : ℕ) : Type 0 where
+record IsRead (left : ℕ) (name text : List ℕ) (bytes : ℕ) : Type 0 where
   len : len_from 39 left text ≡ Some (bytes + 1)
   content : content_from 39 left text ≡ drop left name
 
@@ -115,7 +119,42 @@ read_step zero b z rest text (by_escape behind e first is) others h =
     rw (e, same, ← bytes) (escape_read b z behind (written z rest) (length (quoted_bytes z)) (is (written z rest)) (others 0 (omega arith)))
 read_step (suc left) b z rest text (by_escape behind e first is) others h = let none : suc left ≤ 0 = rw first at h in absurd (omega arith)
 
-pub read_rest : (left : ℕ) (name rest : List ℕ) → (slice_index rest 0 == 39) ≡ false → left ≤ follows name → IsRead left name (written name rest) (length (quoted_bytes name))
+read_rest : (left : ℕ) (name rest : List ℕ) → (slice_index rest 0 == 39) ≡ false → left ≤ follows name → IsRead left name (written name rest) (length (quoted_bytes name))
 read_rest zero [] rest off h = closing_read rest off
 read_rest (suc left) [] rest off h = absurd (omega arith)
 read_rest left (b ∷ z) rest off h = read_step left b z rest (quoted_byte b) (spelled b) (λ l k. read_rest l z rest off k) h
+
+last_end : (xs : List ℕ) (b : ℕ) → last_byte (xs ++ b ∷ []) ≡ b
+last_end [] b = refl
+last_end (x ∷ []) b = refl
+last_end (x ∷ y ∷ z) b = last_end (y ∷ z) b
+
+quote_ends : (first : ℕ) → run_together 39 first ≡ false → (first == 39) ≡ false
+quote_ends first h = h
+
+abbrev pub in_quotes : List ℕ → List ℕ
+in_quotes name = 39 ∷ (quoted_bytes name ++ 39 ∷ [])
+
+quoted_lexeme : (z : List ℕ) → lexeme (39 ∷ z) ≡ quoted QuotedToken 39 (39 ∷ z)
+unfolding lexeme
+quoted_lexeme z = refl
+
+read_quoted : (z : List ℕ) (bytes : ℕ) → item_len 39 z ≡ Some bytes → quoted QuotedToken 39 (39 ∷ z) ≡ (Some QuotedToken, 1 + bytes)
+read_quoted z bytes is = rw is refl
+
+-- a name in quotes is one token
+pub quoted_lone : (name : List ℕ) → IsLone QuotedToken (in_quotes name)
+quoted_lone name = record { some = omega arith; lexes = lexes }
+  where
+    lexes : (rest : List ℕ) → Apart (in_quotes name) rest → lexeme (in_quotes name ++ rest) ≡ (Some QuotedToken, length (in_quotes name))
+    lexes rest apart =
+        let last : last_byte (in_quotes name) ≡ 39 = last_end (39 ∷ quoted_bytes name) 39 in
+        let off = quote_ends (slice_index rest 0) (rw last at apart) in
+        let same : (quoted_bytes name ++ 39 ∷ []) ++ rest ≡ written name rest = append_assoc (quoted_bytes name) (39 ∷ []) rest in
+        let len : 1 + (length (quoted_bytes name) + 1) ≡ length (in_quotes name) = omega (arith, length-append (quoted_bytes name) (39 ∷ [])) in
+        ap (λ z. lexeme (39 ∷ z)) same ∙ quoted_lexeme (written name rest)
+        ∙ read_quoted (written name rest) (length (quoted_bytes name) + 1) (read_rest 0 name rest off (omega arith)).len ∙ ap (λ n. (Some QuotedToken, n)) len
+
+-- which stands for the name
+pub quoted_content : (name : List ℕ) → item_content 39 (quoted_bytes name ++ 39 ∷ []) ≡ name
+quoted_content name = (read_rest 0 name [] refl (omega arith)).content

@@ -7,7 +7,7 @@ use Rattle.iso_model.proofs.BareNames.{small_lone}
 use Rattle.iso_model.proofs.Digits.{digits_of}
 use Rattle.iso_model.proofs.Integers.{integer_lone}
 use Rattle.iso_model.proofs.QuotedBytes.{Spelled}
-use Rattle.iso_model.proofs.QuotedNames.{read_rest}
+use Rattle.iso_model.proofs.QuotedNames.{in_quotes, quoted_lone}
 use Rattle.iso_model.proofs.PieceTokens.{placed, Sign, sign_text, is_sound}
 
 -- A sign's tokens stay what they are before whatever doesn't run together with it.
