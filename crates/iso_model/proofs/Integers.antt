@@ -2,16 +2,16 @@
 use Rattle.std.proofs.Common.{◌≡◌, ℕ, zero, suc, ◌+◌, ◌<◌, ◌≤◌, ◌^◌, Bool, true, false, ◌&&◌, ◌||◌, ◌==◌, if◌then◌else◌, List, [], ◌∷◌, ◌++◌, length, slice_index, refl, sym, ap, ◌∙◌, append-nil, Option, Some, None, codes, arith}
 use Rattle.std.specs.List.{list_all}
 use Rattle.std.specs.Fmt.{decimal}
-use Rattle.std.proofs.lemmas.Bool.{cond_both, and_parts, or_parts, le-leb}
+use Rattle.std.proofs.lemmas.Bool.{cond_both, and_parts, and_from, or_parts, or_from, le-leb}
 use Rattle.std.proofs.lemmas.Bool.Decides.{nat_tests}
 use Rattle.iso_model.specs.Characters.{is_layout, is_small, is_digit, is_digit_of, is_alphanumeric, begins_variable, is_graphic}
-use Rattle.iso_model.specs.Token.{Shown, TokenKind, IntegerToken, bounded, magnitude}
+use Rattle.iso_model.specs.Token.{Shown, TokenKind, NameToken, VariableToken, IntegerToken, bounded, magnitude}
 use Rattle.iso_model.specs.Numbers.{Written, quoted_character, behind_two, based, special, digits_at, integer_at}
 use Rattle.iso_model.specs.Lexemes.{lexeme}
 use Rattle.iso_model.specs.Pieces.{run_together, last_byte}
-use Rattle.iso_model.proofs.RunLexemes.{last_of, Apart, apart_nil, IsLone}
-use Rattle.iso_model.proofs.BareNames.{word_ends}
-use Rattle.iso_model.proofs.Digits.{HasDigits, digits_of, digits_read, decimal_digits}
+use Rattle.iso_model.proofs.RunLexemes.{last_of, Apart, apart_nil, IsLone, IsPair}
+use Rattle.iso_model.proofs.BareNames.{word_ends, graphic_lone, variable_lone}
+use Rattle.iso_model.proofs.Digits.{HasDigits, digits_of, digits_read, decimal_digits, decimal_some}
 
 -- what is no part of an integer behind a digit
 record IsOff (b : ℕ) : Type 0 where
@@ -88,3 +88,31 @@ decimal_magnitude n small =
     let read : integer_at (decimal n ++ []) ≡ record { value = n; len = length (decimal n) } = read_before n (decimal n) [] (decimal_has n small) (decimal_digits n) (apart_nil (decimal n)) in
     let same : integer_at (decimal n) ≡ record { value = n; len = length (decimal n) } = rw (append-nil (decimal n)) at read in
     ap (λ w. bounded w.value) same ∙ small_bounded n small
+
+digit_graphic : (b : ℕ) → is_digit b ≡ true → is_graphic b ≡ false
+digit_graphic b h = grind (arith, nat_tests)
+
+-- a sign before digits, which are another token
+sign_apart : (ds rest : List ℕ) → 0 < length ds → list_all is_digit ds ≡ true → Apart (codes "-") (ds ++ rest)
+sign_apart [] rest some all = absurd (omega arith)
+sign_apart (d ∷ ds) rest some all = or_from _ _ (digit_graphic d (and_parts (is_digit d) _ all).0) refl
+
+last_behind : (b : ℕ) (ds : List ℕ) → 0 < length ds → last_byte (b ∷ ds) ≡ last_byte ds
+last_behind b [] some = absurd (omega arith)
+last_behind b (d ∷ ds) some = refl
+
+pub negative_pair : (n : ℕ) → n ≤ 2 ^ 63 → IsPair NameToken (codes "-") IntegerToken (decimal n)
+negative_pair n small = record {
+  first = graphic_lone 45 [] refl refl refl;
+  second = integer_lone n small;
+  between = λ rest. sign_apart (decimal n) rest (decimal_some n) (decimal_digits n);
+  ends = last_behind 45 (decimal n) (decimal_some n);
+}
+
+all_words : (ds : List ℕ) → list_all is_digit ds ≡ true → list_all is_alphanumeric ds ≡ true
+all_words [] h = refl
+all_words (d ∷ ds) h = let parts = and_parts (is_digit d) _ h in and_from _ _ (digit_word d parts.0) (all_words ds parts.1)
+
+-- a variable's place behind `_`
+pub place_lone : (n : ℕ) → IsLone VariableToken (95 ∷ decimal n)
+place_lone n = variable_lone (decimal n) (all_words (decimal n) (decimal_digits n))

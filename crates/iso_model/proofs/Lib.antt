@@ -26,6 +26,7 @@ pub mod Digits
 pub mod Integers
 pub mod QuotedBytes
 pub mod QuotedNames
+pub mod NameTokens
 pub mod SignTokens
 pub mod SignFirsts
 pub mod SignedText

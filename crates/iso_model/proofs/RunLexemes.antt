@@ -1,5 +1,5 @@
 -- Texts that are one token before whatever doesn't run together with them: marks, and names and variables that stand bare.
-use Rattle.std.proofs.Common.{◌≡◌, ℕ, zero, suc, ◌+◌, ◌<◌, ◌≤◌, Bool, true, false, not, ◌&&◌, ◌||◌, ◌==◌, if◌then◌else◌, List, [], ◌∷◌, ◌++◌, length, length-append, slice_index, take, drop, take_at, drop_at, refl, sym, ap, ◌∙◌, append_assoc, append-nil, add-zero, Some, codes, arith}
+use Rattle.std.proofs.Common.{◌≡◌, ℕ, zero, suc, ◌+◌, ◌<◌, ◌≤◌, Bool, true, false, not, ◌&&◌, ◌||◌, ◌==◌, if◌then◌else◌, List, [], ◌∷◌, ◌++◌, length, length-append, slice_index, take, drop, take_at, drop_at, refl, sym, ap, ◌∙◌, append_assoc, append-nil, add-zero, zero-add, Some, codes, arith}
 use Rattle.std.specs.List.{list_all}
 use Rattle.std.specs.Str.{bytes_eq}
 use Rattle.std.proofs.lemmas.Bool.{cond_both, and_parts, or_parts, or_from, and_left, and_right, not-true}
@@ -68,3 +68,29 @@ Stays xs = (rest : List ℕ) → Apart xs rest → (at : ℕ) (after : Bool)
 pub lone_stays : {kind : TokenKind} {xs : List ℕ} → IsLone kind xs → Stays xs
 lone_stays {kind = kind} {xs = xs} h rest apart at after =
     rw (lone_tokens h, add-zero at, or_nothing after) (first_token kind xs rest h.some (h.lexes rest apart) at after)
+
+-- A text of two tokens, which don't run together.
+pub record IsPair (kind : TokenKind) (xs : List ℕ) (other : TokenKind) (ys : List ℕ) : Type 0 where
+  pub first : IsLone kind xs
+  pub second : IsLone other ys
+  pub between : (rest : List ℕ) → Apart xs (ys ++ rest)
+  pub ends : last_byte (xs ++ ys) ≡ last_byte ys
+
+pair_from : {kind other : TokenKind} {xs ys : List ℕ} → IsPair kind xs other ys → (rest : List ℕ) → Apart (xs ++ ys) rest → (at : ℕ) (after : Bool)
+    → tokens_from 0 at after ((xs ++ ys) ++ rest) ≡ token kind xs at after ∷ token other ys (at + length xs) false ∷ tokens_from 0 (at + length (xs ++ ys)) false rest
+pair_from {kind = kind} {other = other} {xs = xs} {ys = ys} h rest apart at after =
+    let place : at + length xs + length ys ≡ at + length (xs ++ ys) = omega (arith, length-append xs ys) in
+    ap (tokens_from 0 at after) (append_assoc xs ys rest)
+    ∙ first_token kind xs (ys ++ rest) h.first.some (h.first.lexes (ys ++ rest) (h.between rest)) at after
+    ∙ ap (λ ts. token kind xs at after ∷ ts) (first_token other ys rest h.second.some (h.second.lexes rest (rw h.ends at apart)) (at + length xs) false)
+    ∙ ap (λ k. token kind xs at after ∷ token other ys (at + length xs) false ∷ tokens_from 0 k false rest) place
+
+pub pair_tokens : {kind other : TokenKind} {xs ys : List ℕ} → IsPair kind xs other ys → tokens (xs ++ ys) ≡ token kind xs 0 false ∷ token other ys (length xs) false ∷ []
+unfolding tokens_from
+pair_tokens {kind = kind} {other = other} {xs = xs} {ys = ys} h =
+    ap tokens (sym (append-nil (xs ++ ys))) ∙ pair_from h [] (apart_nil (xs ++ ys)) 0 false
+    ∙ ap (λ k. token kind xs 0 false ∷ token other ys k false ∷ []) (zero-add (length xs))
+
+pub pair_stays : {kind other : TokenKind} {xs ys : List ℕ} → IsPair kind xs other ys → Stays (xs ++ ys)
+pair_stays {kind = kind} {other = other} {xs = xs} {ys = ys} h rest apart at after =
+    rw (pair_tokens h, add-zero at, or_nothing after) (pair_from h rest apart at after)
