@@ -5,11 +5,11 @@ use Rattle.std.specs.Str.{bytes_eq}
 use Rattle.std.proofs.lemmas.Bool.{cond_both, and_parts, or_cases, not-true}
 use Rattle.std.proofs.lemmas.Slice.Eq.{bytes_eq-Decides}
 use Rattle.iso_model.specs.Characters.{is_small, is_alphanumeric, is_graphic}
-use Rattle.iso_model.specs.Token.{TokenKind, NameToken, QuotedToken}
+use Rattle.iso_model.specs.Token.{TokenKind, NameToken, QuotedToken, content_of}
 use Rattle.iso_model.specs.Texts.{opens_comment, is_bare_run, is_bare, name_text}
 use Rattle.iso_model.proofs.RunLexemes.{IsLone}
 use Rattle.iso_model.proofs.BareNames.{small_lone, graphic_lone, cut_lone, or_lone}
-use Rattle.iso_model.proofs.QuotedNames.{in_quotes, quoted_lone}
+use Rattle.iso_model.proofs.QuotedNames.{in_quotes, quoted_lone, quoted_content}
 
 -- a run of letters, digits and `_`, or of graphic characters
 run_lone : (name : List ℕ) → is_bare_run name ≡ true → IsLone NameToken name
@@ -38,3 +38,18 @@ name_lone name nil curly = by (is_bare name) refl
     by : (bare : Bool) → is_bare name ≡ bare → IsLone (name_kind bare) (if bare then name else in_quotes name)
     by true e = bare_lone name nil curly e
     by false e = quoted_lone name
+
+name_some_by : (name : List ℕ) → is_bare name ≡ true → 0 < length name
+name_some_by [] h = cc
+name_some_by (b ∷ z) h = omega arith
+
+pub name_some : (name : List ℕ) → 0 < length (name_text name)
+name_some name = cond_both (is_bare name) name (in_quotes name) (λ x. 0 < length x) (name_some_by name) (λ _. omega arith)
+
+-- what the token stands for
+pub name_content : (name : List ℕ) → content_of (name_kind (is_bare name)) (name_text name) ≡ name
+name_content name = by (is_bare name)
+  where
+    by : (bare : Bool) → content_of (name_kind bare) (if bare then name else in_quotes name) ≡ name
+    by true = refl
+    by false = quoted_content name

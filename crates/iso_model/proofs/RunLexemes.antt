@@ -51,7 +51,7 @@ first_token kind xs rest some is at after =
     ∙ ap (λ x. token kind x at after ∷ tokens_from 0 (at + length xs) false (drop (length xs) (xs ++ rest))) (take_at xs rest (length xs) refl)
     ∙ ap (λ x. token kind xs at after ∷ tokens_from 0 (at + length xs) false x) (drop_at xs rest (length xs) refl)
 
-or_nothing : (b : Bool) → b || false ≡ b
+pub or_nothing : (b : Bool) → b || false ≡ b
 or_nothing true = refl
 or_nothing false = refl
 

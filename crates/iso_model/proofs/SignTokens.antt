@@ -11,7 +11,8 @@ use Rattle.iso_model.specs.Pieces.{run_together, last_byte}
 use Rattle.iso_model.proofs.PieceTokens.{placed, Sign, Mark, Named, Place, Number, sign_text, is_sound}
 use Rattle.iso_model.proofs.RunLexemes.{IsPair, Stays, lone_stays, pair_stays}
 use Rattle.iso_model.proofs.BareNames.{mark_lone}
-use Rattle.iso_model.proofs.NameTokens.{name_lone}
+use Rattle.iso_model.proofs.NameTokens.{name_lone, name_some}
+use Rattle.iso_model.proofs.Digits.{decimal_some}
 use Rattle.iso_model.proofs.Integers.{integer_lone, negative_pair, place_lone}
 
 pub nil_pair : IsPair PunctToken (codes "[") PunctToken (codes "]")
@@ -35,3 +36,10 @@ sign_tokens (Named name) sound = name_stays name
 sign_tokens (Place number) sound = lone_stays (place_lone number)
 sign_tokens (Number (pos n)) sound = let small : n < 2 ^ 63 = ltb-true n (2 ^ 63) sound in lone_stays (integer_lone n (omega arith))
 sign_tokens (Number (negsuc n)) sound = let small : n < 2 ^ 63 = ltb-true n (2 ^ 63) sound in pair_stays (negative_pair (suc n) (omega arith))
+
+pub sign_some : (sign : Sign) → 0 < length (sign_text sign)
+sign_some (Mark byte) = omega arith
+sign_some (Named name) = name_some name
+sign_some (Place number) = omega arith
+sign_some (Number (pos n)) = decimal_some n
+sign_some (Number (negsuc n)) = omega arith

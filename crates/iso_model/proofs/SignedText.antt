@@ -12,7 +12,7 @@ use Rattle.iso_model.specs.Texts.{name_text}
 use Rattle.iso_model.specs.Pieces.{Piece, run_together, last_byte, parted, pieces_behind, pieces_text}
 use Rattle.iso_model.proofs.TokenLemmas.{tokens-layout, tokens-token}
 use Rattle.iso_model.proofs.PieceTokens.{placed, shown_pieces, is_parted, start_behind, Sign, Mark, Named, Place, Number, sign_text, is_sound, IsSigned, AreSigned, none_left, one_more}
-use Rattle.iso_model.proofs.SignTokens.{sign_tokens}
+use Rattle.iso_model.proofs.SignTokens.{sign_some, sign_tokens}
 
 -- layout runs together with nothing
 layout_apart : (b : ℕ) → run_together b 32 ≡ false
@@ -21,9 +21,6 @@ layout_apart b =
 
 abbrev stop : List ℕ
 stop = codes " ."
-
-sign_some : (sign : Sign) → 0 < length (sign_text sign)
-sign_some sign = ?
 
 -- what stands behind signs' text doesn't run together with it
 behind_apart : (before : List ℕ) (ps : List Piece) → AreSigned ps → run_together (last_byte before) (slice_index (pieces_behind before ps ++ stop) 0) ≡ false
