@@ -1,18 +1,20 @@
 -- The tokens of the text of signs are those of the signs.
-use Rattle.std.proofs.Common.{◌≡◌, ℕ, zero, suc, ◌+◌, ◌<◌, ◌≤◌, Bool, true, false, ◌||◌, ◌==◌, if◌then◌else◌, List, [], ◌∷◌, ◌++◌, length, slice_index, drop, refl, sym, ap, subst, ◌∙◌, append_assoc, Some, None, codes, pos, negsuc, arith}
-use Rattle.std.proofs.lemmas.Bool.{cond_both, or_parts, or_from, and_right}
+use Rattle.std.proofs.Common.{◌≡◌, ℕ, zero, suc, ◌+◌, ◌<◌, ◌≤◌, Bool, true, false, not, ◌&&◌, ◌||◌, ◌==◌, if◌then◌else◌, List, [], ◌∷◌, ◌++◌, length, slice_index, drop, refl, sym, ap, subst, ◌∙◌, append_assoc, Some, None, option_map, codes, pos, negsuc, arith}
+use Rattle.std.proofs.lemmas.Bool.{cond_both, or_parts, or_from, and_right, and_from, and_parts, not-true}
+use Rattle.std.proofs.lemmas.List.Folds.{list_all-append}
 use Rattle.std.proofs.lemmas.Bool.Decides.{nat_tests}
 use Rattle.std.proofs.lemmas.List.{get_or_append_left}
 use Rattle.std.specs.Fmt.{decimal, signed_decimal}
 use Rattle.iso_model.specs.Characters.{is_alphanumeric, is_graphic, is_digit}
 use Rattle.iso_model.specs.Token.{Shown, EndToken}
+use Rattle.iso_model.specs.Clauses.{is_end, behind_token, split_clause}
 use Rattle.iso_model.specs.Lexemes.{lexeme}
 use Rattle.iso_model.specs.Tokens.{tokens, tokens_from}
 use Rattle.iso_model.specs.Texts.{name_text}
 use Rattle.iso_model.specs.Pieces.{Piece, run_together, last_byte, parted, pieces_behind, pieces_text}
 use Rattle.iso_model.proofs.TokenLemmas.{tokens-layout, tokens-token}
 use Rattle.iso_model.proofs.PieceTokens.{placed, shown_pieces, is_parted, start_behind, Sign, Mark, Named, Place, Number, sign_text, is_sound, IsSigned, AreSigned, none_left, one_more}
-use Rattle.iso_model.proofs.SignTokens.{sign_some, sign_tokens}
+use Rattle.iso_model.proofs.SignTokens.{has_no_end, sign_some, sign_tokens, sign_inner}
 
 -- layout runs together with nothing
 layout_apart : (b : ℕ) → run_together b 32 ≡ false
@@ -88,3 +90,23 @@ pub record HasTokens (ps : List Piece) : Type 0 where
 
 pub signed_tokens : (ps : List Piece) → AreSigned ps → HasTokens ps
 signed_tokens ps signed = let h = signed_from 0 [] ps signed in record { last = h.last; ends = h.ends; are = h.are }
+
+placed-inner : (at : ℕ) (after : Bool) (ts : List Shown) → has_no_end (placed at after ts) ≡ has_no_end ts
+placed-inner at after [] = refl
+placed-inner at after (t ∷ ts) = ap (λ b. not (is_end t.kind) && b) (placed-inner at false ts)
+
+-- none of the tokens of signs is an end token
+pub pieces_inner : (at : ℕ) (before : List ℕ) (ps : List Piece) → AreSigned ps → has_no_end (shown_pieces at before ps) ≡ true
+pieces_inner at before [] none_left = refl
+pieces_inner at before (p ∷ ps) (one_more s signed) =
+    let b = is_parted before p in
+    let start = start_behind at b in
+    let first : has_no_end (tokens p.text) ≡ true = rw s.text (sign_inner s.sign s.sound) in
+    list_all-append (λ t. not (is_end t.kind)) (placed start b (tokens p.text)) (shown_pieces (start + length p.text) p.text ps)
+    ∙ and_from _ _ (placed-inner start b (tokens p.text) ∙ first) (pieces_inner (start + length p.text) p.text ps signed)
+
+-- they are the next clause before an end token
+pub splits_there : (ts : List Shown) (last : Shown) → has_no_end ts ≡ true → last.kind ≡ EndToken → split_clause (ts ++ last ∷ []) ≡ Some (ts, [])
+splits_there [] last inner ends = rw ends refl
+splits_there (t ∷ ts) last inner ends =
+    let parts = and_parts (not (is_end t.kind)) _ inner in rw (not-true _ parts.0) (ap (option_map (behind_token t)) (splits_there ts last parts.1 ends))
