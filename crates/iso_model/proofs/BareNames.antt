@@ -1,13 +1,13 @@
 -- Marks, and names and variables that stand bare, are one token each.
-use Rattle.std.proofs.Common.{◌≡◌, ℕ, zero, suc, ◌+◌, ◌<◌, ◌≤◌, Bool, true, false, not, ◌&&◌, ◌||◌, ◌==◌, if◌then◌else◌, List, [], ◌∷◌, ◌++◌, length, slice_index, take, drop, refl, sym, ap, ◌∙◌, Some, codes, arith}
+use Rattle.std.proofs.Common.{◌≡◌, ℕ, Bool, true, false, ◌&&◌, ◌==◌, List, [], ◌∷◌, ◌++◌, length, slice_index, drop, refl, ap, ◌∙◌, Some, codes, arith}
 use Rattle.std.specs.List.{list_all}
 use Rattle.std.specs.Str.{bytes_eq}
-use Rattle.std.proofs.lemmas.Bool.{cond_both, and_parts, and_from, or_parts, or_from, and_left, and_right, both_ways, false_from_ne_true, ne_eqb, eqb-true}
+use Rattle.std.proofs.lemmas.Bool.{and_parts, and_from, or_parts, and_left, and_right, both_ways, false_from_ne_true, ne_eqb, eqb-true}
 use Rattle.std.proofs.lemmas.Slice.Eq.{bytes_eq-Decides}
 use Rattle.std.proofs.lemmas.Bool.Decides.{nat_tests}
-use Rattle.iso_model.specs.Characters.{is_layout, is_small, is_digit, is_alphanumeric, begins_variable, is_graphic, is_punctuation, run}
-use Rattle.iso_model.specs.Token.{Shown, TokenKind, NameToken, VariableToken, PunctToken}
-use Rattle.iso_model.specs.Lexemes.{Lexeme, lexeme, symbol, graphic, stops_clause}
+use Rattle.iso_model.specs.Characters.{is_layout, is_small, is_alphanumeric, is_graphic, is_punctuation, run}
+use Rattle.iso_model.specs.Token.{NameToken, VariableToken, PunctToken}
+use Rattle.iso_model.specs.Lexemes.{lexeme, symbol, graphic, stops_clause}
 use Rattle.iso_model.specs.Texts.{opens_comment}
 use Rattle.iso_model.specs.Pieces.{run_together, last_byte}
 use Rattle.iso_model.proofs.LexemeLemmas.{lexeme-symbol, BeginsSymbol}
@@ -69,12 +69,12 @@ mark_begins b h = record {
   double = grind (arith, nat_tests);
 }
 
-mark_first : (b : ℕ) → is_punctuation b ≡ true → (is_layout b ≡ false) × ((b == 47) ≡ false) × (is_graphic b ≡ false)
-mark_first b h = (grind (arith, nat_tests), grind (arith, nat_tests), grind (arith, nat_tests))
+mark_byte : (b : ℕ) → is_punctuation b ≡ true → (is_layout b ≡ false) × ((b == 47) ≡ false) × (is_graphic b ≡ false)
+mark_byte b h = (grind (arith, nat_tests), grind (arith, nat_tests), grind (arith, nat_tests))
 
 -- a bracket, comma or bar is a token before anything
 pub mark_lexeme : (b : ℕ) (rest : List ℕ) → is_punctuation b ≡ true → lexeme (b ∷ rest) ≡ (Some PunctToken, 1)
-mark_lexeme b rest h = let first = mark_first b h in lexeme-symbol (b ∷ rest) first.0 (mark_begins b h) ∙ rw (first.2, first.1, h) refl
+mark_lexeme b rest h = let first = mark_byte b h in lexeme-symbol (b ∷ rest) first.0 (mark_begins b h) ∙ rw (first.2, first.1, h) refl
 
 pub mark_lone : (b : ℕ) → is_punctuation b ≡ true → IsLone PunctToken (b ∷ [])
 mark_lone b h = record { some = omega arith; lexes = λ rest apart. mark_lexeme b rest h }

@@ -1,14 +1,13 @@
 -- The digits of a number write it, before whatever is no digit.
-use Rattle.std.proofs.Common.{◌≡◌, ℕ, zero, suc, ◌+◌, ◌-◌, ◌*◌, ◌/◌, ◌%◌, ◌^◌, ◌<◌, ◌≤◌, Bool, true, false, cond, ◌&&◌, ◌||◌, ◌==◌, eqb, List, [], ◌∷◌, ◌++◌, length, slice_index, take, take_at, fold, mod-lt, refl, sym, ap, ◌∙◌, Some, None, codes, arith}
+use Rattle.std.proofs.Common.{◌≡◌, ℕ, zero, suc, ◌+◌, ◌/◌, ◌%◌, ◌^◌, ◌<◌, ◌≤◌, true, false, ◌==◌, List, [], ◌∷◌, ◌++◌, length, slice_index, take_at, fold, mod-lt, refl, ◌∙◌, arith}
 use Rattle.std.specs.List.{list_all}
 use Rattle.std.specs.Char.{digit_value}
 use Rattle.std.specs.Fmt.{digit_glyph, digits, digits_onto, decimal}
-use Rattle.std.specs.Str.Parse.{AllDigits, digits_value, digits_value_after}
+use Rattle.std.specs.Str.Parse.{AllDigits, digits_value_after}
 use Rattle.std.proofs.lemmas.Fmt.{digits_is_IsNumeral}
-use Rattle.std.proofs.lemmas.Bool.{cond_both, and_parts, and_from, or_parts, lt-ltb, le-leb}
-use Rattle.std.proofs.lemmas.Bool.Decides.{nat_tests}
-use Rattle.iso_model.specs.Characters.{is_digit, is_digit_of, is_alphanumeric, run}
-use Rattle.iso_model.specs.Numbers.{Written, number_step, number_value, digits_at}
+use Rattle.std.proofs.lemmas.Bool.{cond_both, and_from, lt-ltb, le-leb}
+use Rattle.iso_model.specs.Characters.{is_digit, is_digit_of}
+use Rattle.iso_model.specs.Numbers.{number_step, number_value, digits_at}
 use Rattle.iso_model.proofs.RunLexemes.{run_all}
 
 value_after : (base n : ℕ) (ds : List ℕ) → fold (number_step base) n ds ≡ digits_value_after base n ds

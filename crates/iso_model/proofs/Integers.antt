@@ -1,12 +1,12 @@
 -- The digits of an integer are one token, with the integer as its value.
-use Rattle.std.proofs.Common.{◌≡◌, ℕ, zero, suc, ◌+◌, ◌<◌, ◌≤◌, ◌^◌, Bool, true, false, ◌&&◌, ◌||◌, ◌==◌, if◌then◌else◌, List, [], ◌∷◌, ◌++◌, length, slice_index, refl, sym, ap, ◌∙◌, append-nil, Option, Some, None, codes, arith}
+use Rattle.std.proofs.Common.{◌≡◌, ℕ, ◌<◌, ◌≤◌, ◌^◌, true, false, ◌&&◌, ◌==◌, List, [], ◌∷◌, ◌++◌, length, slice_index, refl, ap, ◌∙◌, append-nil, Some, None, codes, arith}
 use Rattle.std.specs.List.{list_all}
 use Rattle.std.specs.Fmt.{decimal}
 use Rattle.std.proofs.lemmas.Bool.{cond_both, and_parts, and_from, or_parts, or_from, le-leb}
 use Rattle.std.proofs.lemmas.Bool.Decides.{nat_tests}
 use Rattle.iso_model.specs.Characters.{is_layout, is_small, is_digit, is_digit_of, is_alphanumeric, begins_variable, is_graphic}
-use Rattle.iso_model.specs.Token.{Shown, TokenKind, NameToken, VariableToken, IntegerToken, bounded, magnitude}
-use Rattle.iso_model.specs.Numbers.{Written, quoted_character, behind_two, based, special, digits_at, integer_at}
+use Rattle.iso_model.specs.Token.{NameToken, VariableToken, IntegerToken, bounded}
+use Rattle.iso_model.specs.Numbers.{special, digits_at, integer_at}
 use Rattle.iso_model.specs.Lexemes.{lexeme}
 use Rattle.iso_model.specs.Pieces.{run_together, last_byte}
 use Rattle.iso_model.proofs.RunLexemes.{last_of, Apart, apart_nil, IsLone, IsPair}

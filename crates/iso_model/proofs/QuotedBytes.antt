@@ -1,16 +1,16 @@
 -- Each byte of a quoted name is read as itself: a letter behind a backslash, a code in digits, or the byte.
-use Rattle.std.proofs.Common.{◌≡◌, ℕ, zero, suc, ◌+◌, ◌<◌, ◌≤◌, ◌^◌, Bool, true, false, ◌&&◌, ◌||◌, ◌==◌, nat_lt, nat_le, if◌then◌else◌, List, [], ◌∷◌, ◌++◌, length, length-append, slice_index, take, drop, refl, sym, ap, ◌∙◌, append_assoc, Option, Some, None, codes, encode_utf8, arith, ⊎_elim}
+use Rattle.std.proofs.Common.{◌≡◌, ℕ, ◌+◌, ◌<◌, true, false, ◌&&◌, ◌||◌, ◌==◌, nat_lt, if◌then◌else◌, List, [], ◌∷◌, ◌++◌, length, length-append, slice_index, drop, refl, ap, ◌∙◌, append_assoc, Option, Some, None, encode_utf8, arith, ⊎_elim}
 use Rattle.std.specs.Fmt.{digits}
-use Rattle.std.proofs.lemmas.Bool.{cond_both, and_from, or_parts, lt-ltb, eq-eqb, eqb-true, or_cases}
+use Rattle.std.proofs.lemmas.Bool.{cond_both, or_parts, lt-ltb, eqb-true, or_cases}
 use Rattle.std.proofs.lemmas.Bool.Decides.{nat_tests}
 use Rattle.std.proofs.lemmas.List.{get_or_at}
 use Rattle.std.proofs.lemmas.Str.{encode_ascii}
-use Rattle.iso_model.specs.Characters.{is_continuation, is_digit_of, character_len}
-use Rattle.iso_model.specs.Numbers.{Written, digits_at, is_scalar, code_escape, escape}
-use Rattle.iso_model.specs.Quoted.{Piece, Closes, Stands, Broken, escaped, piece_at}
+use Rattle.iso_model.specs.Characters.{is_continuation}
+use Rattle.iso_model.specs.Numbers.{Written, digits_at, is_scalar, code_escape}
+use Rattle.iso_model.specs.Quoted.{Stands, escaped, piece_at}
 use Rattle.iso_model.specs.Texts.{quoted_byte}
 use Rattle.iso_model.specs.Texts as texts
-use Rattle.iso_model.proofs.Digits.{HasDigits, digits_of, digits_read}
+use Rattle.iso_model.proofs.Digits.{digits_of, digits_read}
 
 -- How a byte is written within quotes: as it is, or by these bytes behind a backslash, which stand for it.
 pub data Spelled (b : ℕ) (text : List ℕ) : Type 0 where

@@ -1,8 +1,8 @@
 -- A quoted name is one token, and stands for the name.
-use Rattle.std.proofs.Common.{◌≡◌, ℕ, zero, suc, ◌+◌, ◌-◌, ◌<◌, ◌≤◌, Bool, true, false, cond, ◌&&◌, ◌||◌, ◌==◌, if◌then◌else◌, List, [], ◌∷◌, ◌++◌, length, length-append, slice_index, take, drop, take-append-drop, drop_at, refl, sym, ap, ◌∙◌, append_assoc, Option, Some, None, option_map, codes, arith}
-use Rattle.std.proofs.lemmas.Bool.{cond_both, or_parts}
+use Rattle.std.proofs.Common.{◌≡◌, ℕ, zero, suc, ◌+◌, ◌-◌, ◌≤◌, false, cond, ◌==◌, List, [], ◌∷◌, ◌++◌, length, length-append, slice_index, take, drop, take-append-drop, drop_at, refl, ap, ◌∙◌, append_assoc, Some, option_map, arith}
+use Rattle.std.proofs.lemmas.Bool.{cond_both}
 use Rattle.iso_model.specs.Characters.{is_continuation, run}
-use Rattle.iso_model.specs.Quoted.{Piece, Closes, Stands, Broken, piece_at, len_from, content_from, item_len, item_content}
+use Rattle.iso_model.specs.Quoted.{Closes, Stands, piece_at, len_from, content_from, item_len, item_content}
 use Rattle.iso_model.specs.Token.{QuotedToken}
 use Rattle.iso_model.specs.Lexemes.{lexeme, quoted}
 use Rattle.iso_model.specs.Pieces.{run_together, last_byte}

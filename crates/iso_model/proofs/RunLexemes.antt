@@ -1,17 +1,13 @@
 -- Texts that are one token before whatever doesn't run together with them: marks, and names and variables that stand bare.
-use Rattle.std.proofs.Common.{◌≡◌, ℕ, zero, suc, ◌+◌, ◌<◌, ◌≤◌, Bool, true, false, not, ◌&&◌, ◌||◌, ◌==◌, if◌then◌else◌, List, [], ◌∷◌, ◌++◌, length, length-append, slice_index, take, drop, take_at, drop_at, refl, sym, ap, ◌∙◌, append_assoc, append-nil, add-zero, zero-add, Some, codes, arith}
+use Rattle.std.proofs.Common.{◌≡◌, ℕ, ◌+◌, ◌<◌, Bool, true, false, ◌||◌, ◌==◌, List, [], ◌∷◌, ◌++◌, length, length-append, slice_index, drop, take_at, drop_at, refl, sym, ap, ◌∙◌, append_assoc, append-nil, add-zero, zero-add, Some, arith}
 use Rattle.std.specs.List.{list_all}
-use Rattle.std.specs.Str.{bytes_eq}
-use Rattle.std.proofs.lemmas.Bool.{cond_both, and_parts, or_parts, or_from, and_left, and_right, not-true}
-use Rattle.std.proofs.lemmas.Bool.Decides.{nat_tests}
-use Rattle.iso_model.specs.Characters.{is_layout, is_small, is_digit, is_alphanumeric, begins_variable, is_graphic, is_punctuation, run}
-use Rattle.iso_model.specs.Token.{Shown, TokenKind, NameToken, VariableToken, PunctToken}
-use Rattle.iso_model.specs.Lexemes.{Lexeme, lexeme, symbol, graphic, stops_clause}
+use Rattle.std.proofs.lemmas.Bool.{and_parts, or_from, and_right}
+use Rattle.iso_model.specs.Characters.{is_digit, is_alphanumeric, is_graphic, run}
+use Rattle.iso_model.specs.Token.{Shown, TokenKind}
+use Rattle.iso_model.specs.Lexemes.{lexeme}
 use Rattle.iso_model.specs.Tokens.{tokens, tokens_from}
-use Rattle.iso_model.specs.Texts.{opens_comment}
 use Rattle.iso_model.specs.Pieces.{run_together, last_byte}
 use Rattle.iso_model.proofs.TokenLemmas.{tokens-token}
-use Rattle.iso_model.proofs.LexemeLemmas.{lexeme-symbol, BeginsSymbol}
 use Rattle.iso_model.proofs.PieceTokens.{placed}
 
 -- a run of a class ends before a byte of none
@@ -30,10 +26,13 @@ last_of class (b ∷ c ∷ z) some all = last_of class (c ∷ z) (omega arith) (
 abbrev pub Apart : List ℕ → List ℕ → Type 0
 Apart xs rest = run_together (last_byte xs) (slice_index rest 0) ≡ false
 
+-- such a byte runs together with none
+pub apart_from : (last first : ℕ) → is_alphanumeric first ≡ false → is_graphic first ≡ false → (first == 39) ≡ false → run_together last first ≡ false
+apart_from last first word sign quote =
+    or_from _ _ (and_right (is_alphanumeric last) _ word) (or_from _ _ (and_right (is_graphic last) _ sign) (and_right (is_digit last || last == 39) _ quote))
+
 pub apart_nil : (xs : List ℕ) → Apart xs []
-apart_nil xs =
-    let b = last_byte xs in
-    or_from _ _ (and_right (is_alphanumeric b) _ refl) (or_from _ _ (and_right (is_graphic b) _ refl) (and_right (is_digit b || b == 39) _ refl))
+apart_nil xs = apart_from (last_byte xs) 0 refl refl refl
 
 -- This text is one token of this kind.
 pub record IsLone (kind : TokenKind) (xs : List ℕ) : Type 0 where

@@ -1,17 +1,16 @@
 -- How the tokens of pieces begin, by what the first piece is.
-use Rattle.std.proofs.Common.{◌≡◌, ℕ, zero, suc, ◌+◌, ◌<◌, ◌≤◌, ◌^◌, Bool, true, false, ◌&&◌, ◌||◌, ◌==◌, if◌then◌else◌, List, [], ◌∷◌, ◌++◌, length, slice_index, refl, sym, ap, ◌∙◌, Some, codes, pos, negsuc, arith}
+use Rattle.std.proofs.Common.{◌≡◌, ℕ, suc, ◌+◌, ◌<◌, ◌^◌, Bool, true, false, ◌||◌, List, [], ◌∷◌, ◌++◌, length, slice_index, refl, sym, ap, ◌∙◌, Some, codes, pos, negsuc, arith}
 use Rattle.std.specs.Str.{bytes_eq}
 use Rattle.std.specs.Fmt.{decimal, signed_decimal}
-use Rattle.std.proofs.lemmas.Bool.{or_from, and_right}
 use Rattle.std.proofs.lemmas.Bool.Decides.{nat_tests}
-use Rattle.iso_model.specs.Characters.{is_punctuation, is_alphanumeric, is_graphic, is_digit}
+use Rattle.iso_model.specs.Characters.{is_punctuation}
 use Rattle.iso_model.specs.Token.{Shown, TokenKind}
 use Rattle.iso_model.specs.Tokens.{tokens}
 use Rattle.iso_model.specs.Grammar.{is_direct_integer}
 use Rattle.iso_model.specs.Texts.{name_text}
 use Rattle.iso_model.specs.Pieces.{Piece, run_together, last_byte}
 use Rattle.iso_model.proofs.PieceTokens.{AreTokens, placed, shown_pieces, is_parted, start_behind, Begins, BeginsTwice, IsMarkToken, IsNameToken, IsPlaceToken, IsCountToken, IsSignToken}
-use Rattle.iso_model.proofs.RunLexemes.{IsLone, IsPair, token, lone_tokens, pair_tokens, or_nothing}
+use Rattle.iso_model.proofs.RunLexemes.{IsLone, IsPair, token, lone_tokens, pair_tokens, or_nothing, apart_from}
 use Rattle.iso_model.proofs.BareNames.{mark_lone}
 use Rattle.iso_model.proofs.NameTokens.{name_lone, name_content}
 use Rattle.iso_model.proofs.Integers.{integer_lone, negative_pair, place_lone, decimal_magnitude}
@@ -57,9 +56,7 @@ pair_first {kind = kind} {other = other} {xs = xs} {ys = ys} h Holds Follows spa
 
 -- a mark runs together with nothing
 mark_apart : (last byte : ℕ) → is_punctuation byte ≡ true → run_together last byte ≡ false
-mark_apart last byte h =
-    or_from _ _ (and_right (is_alphanumeric last) (is_alphanumeric byte) (grind (arith, nat_tests)))
-    (or_from _ _ (and_right (is_graphic last) (is_graphic byte) (grind (arith, nat_tests))) (and_right (is_digit last || last == 39) (byte == 39) (grind (arith, nat_tests))))
+mark_apart last byte h = apart_from last byte (grind (arith, nat_tests)) (grind (arith, nat_tests)) (grind (arith, nat_tests))
 
 -- so layout stands before it where it is marked so alone
 mark_parts : (byte : ℕ) (z : List ℕ) → is_punctuation byte ≡ true → (spaced parted : Bool) → Parts (byte ∷ z) spaced parted → parted ≡ spaced

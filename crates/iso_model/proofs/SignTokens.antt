@@ -1,16 +1,14 @@
 -- A sign's tokens stay what they are before whatever doesn't run together with it.
-use Rattle.std.proofs.Common.{◌≡◌, ℕ, zero, suc, ◌+◌, ◌<◌, ◌≤◌, ◌^◌, Bool, true, false, not, List, [], ◌∷◌, ◌++◌, length, slice_index, refl, codes, pos, negsuc, arith}
+use Rattle.std.proofs.Common.{◌≡◌, ℕ, suc, ◌<◌, ◌^◌, Bool, true, false, not, List, ◌++◌, length, refl, codes, pos, negsuc, arith}
 use Rattle.std.specs.List.{list_all}
 use Rattle.std.specs.Str.{bytes_eq}
-use Rattle.std.specs.Fmt.{decimal, signed_decimal}
-use Rattle.std.proofs.lemmas.Bool.{cond_both, ltb-true}
+use Rattle.std.proofs.lemmas.Bool.{ltb-true}
 use Rattle.std.proofs.lemmas.Slice.Eq.{bytes_eq-Decides}
 use Rattle.iso_model.specs.Token.{Shown, TokenKind, PunctToken}
 use Rattle.iso_model.specs.Clauses.{is_end}
-use Rattle.iso_model.specs.Tokens.{tokens, tokens_from}
+use Rattle.iso_model.specs.Tokens.{tokens}
 use Rattle.iso_model.specs.Texts.{is_bare, name_text}
-use Rattle.iso_model.specs.Pieces.{run_together, last_byte}
-use Rattle.iso_model.proofs.PieceTokens.{placed, Sign, Mark, Named, Place, Number, sign_text, is_sound}
+use Rattle.iso_model.proofs.PieceTokens.{Sign, Mark, Named, Place, Number, sign_text, is_sound}
 use Rattle.iso_model.proofs.RunLexemes.{IsLone, IsPair, Stays, lone_tokens, lone_stays, pair_tokens, pair_stays}
 use Rattle.iso_model.proofs.BareNames.{mark_lone}
 use Rattle.iso_model.proofs.NameTokens.{name_kind, name_lone, name_some}

@@ -1,25 +1,21 @@
 -- The tokens of the text of signs are those of the signs.
-use Rattle.std.proofs.Common.{◌≡◌, ℕ, zero, suc, ◌+◌, ◌<◌, ◌≤◌, Bool, true, false, not, ◌&&◌, ◌||◌, ◌==◌, if◌then◌else◌, List, [], ◌∷◌, ◌++◌, length, slice_index, drop, refl, sym, ap, subst, ◌∙◌, append_assoc, Some, None, option_map, codes, pos, negsuc, arith}
-use Rattle.std.proofs.lemmas.Bool.{cond_both, or_parts, or_from, and_right, and_from, and_parts, not-true}
+use Rattle.std.proofs.Common.{◌≡◌, ℕ, ◌+◌, ◌<◌, Bool, true, false, not, ◌&&◌, if◌then◌else◌, List, [], ◌∷◌, ◌++◌, length, slice_index, refl, sym, ap, ◌∙◌, append_assoc, Some, option_map, codes, arith}
+use Rattle.std.proofs.lemmas.Bool.{cond_both, or_parts, and_from, and_parts, not-true}
 use Rattle.std.proofs.lemmas.List.Folds.{list_all-append}
-use Rattle.std.proofs.lemmas.Bool.Decides.{nat_tests}
 use Rattle.std.proofs.lemmas.List.{get_or_append_left}
-use Rattle.std.specs.Fmt.{decimal, signed_decimal}
-use Rattle.iso_model.specs.Characters.{is_alphanumeric, is_graphic, is_digit}
 use Rattle.iso_model.specs.Token.{Shown, EndToken}
 use Rattle.iso_model.specs.Clauses.{is_end, behind_token, split_clause}
 use Rattle.iso_model.specs.Lexemes.{lexeme}
 use Rattle.iso_model.specs.Tokens.{tokens, tokens_from}
-use Rattle.iso_model.specs.Texts.{name_text}
 use Rattle.iso_model.specs.Pieces.{Piece, run_together, last_byte, parted, pieces_behind, pieces_text}
 use Rattle.iso_model.proofs.TokenLemmas.{tokens-layout, tokens-token}
-use Rattle.iso_model.proofs.PieceTokens.{placed, shown_pieces, is_parted, start_behind, Sign, Mark, Named, Place, Number, sign_text, is_sound, IsSigned, AreSigned, none_left, one_more}
+use Rattle.iso_model.proofs.PieceTokens.{placed, shown_pieces, is_parted, start_behind, IsSigned, AreSigned, none_left, one_more}
+use Rattle.iso_model.proofs.RunLexemes.{apart_from}
 use Rattle.iso_model.proofs.SignTokens.{has_no_end, sign_some, sign_tokens, sign_inner}
 
 -- layout runs together with nothing
 layout_apart : (b : ℕ) → run_together b 32 ≡ false
-layout_apart b =
-    or_from _ _ (and_right (is_alphanumeric b) _ refl) (or_from _ _ (and_right (is_graphic b) _ refl) (and_right (is_digit b || b == 39) _ refl))
+layout_apart b = apart_from b 32 refl refl refl
 
 abbrev stop : List ℕ
 stop = codes " ."

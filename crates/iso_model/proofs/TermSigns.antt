@@ -1,5 +1,5 @@
 -- The pieces of a term are signs.
-use Rattle.std.proofs.Common.{◌≡◌, ℕ, ◌+◌, Bool, true, false, not, ◌&&◌, ◌||◌, ◌==◌, nat_lt, if◌then◌else◌, List, [], ◌∷◌, ◌++◌, refl, Option, Some, None, codes, ℤ}
+use Rattle.std.proofs.Common.{◌≡◌, ℕ, Bool, true, not, ◌&&◌, ◌||◌, ◌==◌, nat_lt, if◌then◌else◌, List, [], ◌∷◌, ◌++◌, refl, Option, Some, None, codes}
 use Rattle.std.proofs.lemmas.Bool.{cond_both, and_parts}
 use Rattle.std.specs.Str.{bytes_eq}
 use Rattle.std.proofs.lemmas.Slice.Eq.{bytes_eq-Decides}
@@ -9,8 +9,8 @@ use Rattle.iso_model.specs.Operators.{prefix_named, infix_named, postfix_named, 
 use Rattle.iso_model.specs.Trees.{Tree, Variable, Integer, Name, Apply, End, More}
 use Rattle.iso_model.specs.Texts.{name_text}
 use Rattle.iso_model.specs.Pieces.{Piece, Written, Writeq, piece, after_space, bracketed, at_most, operand_at, left_operand, simple, made_by, is_symbolic, begins_open, begins_digit, operator_bytes, atom_written, compound_written, list_written, infix_pieces, prefix_pieces, postfix_pieces, pair_by, pair_written, single_by, single_written, term_written}
-use Rattle.iso_model.specs.WritingLaws.{integers_fit, integer_fits}
-use Rattle.iso_model.proofs.PieceTokens.{Sign, Mark, Named, Place, Number, IsSigned, AreSigned, none_left, one_more}
+use Rattle.iso_model.specs.WritingLaws.{integers_fit}
+use Rattle.iso_model.proofs.PieceTokens.{Mark, Named, Place, Number, IsSigned, AreSigned, none_left, one_more}
 
 signed-append : (ps qs : List Piece) → AreSigned ps → AreSigned qs → AreSigned (ps ++ qs)
 signed-append [] qs none_left h = h
