@@ -1,8 +1,9 @@
 -- The initial operators are a table.
 use Rattle.std.proofs.Common.{◌≡◌, ℕ, ◌≤◌, Bool, true, ◌&&◌, not, nat_le, List, [], ◌∷◌, Option, Some, None, is_some, refl, sym, true≢false, arith}
 use Rattle.std.proofs.lemmas.Bool.Decides.{nat_tests}
+use Rattle.iso_ops.specs.declared.specifiers.Kind.TheVariants.{Prefix, Infix, Postfix}
 use Rattle.iso_ops.specs.Specifiers.{kind_of}
-use Rattle.iso_ops.specs.Operators.{Operator, find_op, HasPriorities, HasEachOnce, IsOpTable}
+use Rattle.iso_ops.specs.Operators.{Operator, find_op, HasPriorities, HasEachOnce, HasNoBrackets, IsOpTable}
 use Rattle.iso_ops.specs.InitialOperators.{initial_entries}
 use Rattle.iso_ops.proofs.TableLemmas.{both_true}
 
@@ -46,5 +47,11 @@ IsOpTable-initial_entries = record {
   priorities = HasPriorities-tested initial_entries refl;
   each_once = HasEachOnce-tested initial_entries refl;
   has_comma = refl;
+  brackets = by_kind;
   apart = λ name op found. refl;
 }
+  where
+    by_kind : HasNoBrackets initial_entries
+    by_kind Prefix = (refl, refl)
+    by_kind Infix = (refl, refl)
+    by_kind Postfix = (refl, refl)

@@ -7,7 +7,7 @@ use Rattle.std.proofs.lemmas.Option.{none-some, same_Some}
 use Rattle.iso_ops.specs.declared.specifiers.Kind.{Kind}
 use Rattle.iso_ops.specs.declared.specifiers.Kind.TheVariants.{Prefix, Infix, Postfix}
 use Rattle.iso_ops.specs.Specifiers.{kind_of, same_kind}
-use Rattle.iso_ops.specs.Operators.{Operator, is_for, find_op, with_op, without_op, has_rival, HasPriorities, HasEachOnce, IsOpTable}
+use Rattle.iso_ops.specs.Operators.{Operator, is_for, find_op, with_op, without_op, has_rival, is_protected, HasPriorities, HasEachOnce, IsOpTable}
 use Rattle.iso_ops.proofs.PlaceLemmas.{IsFirst}
 
 -- a test of two parts that passes
@@ -206,47 +206,59 @@ HasPriorities-with_op op (first ∷ others) low high h =
     (λ passes. rw passes (low, high, h.2))
     (λ fails. rw fails (h.0, h.1, HasPriorities-with_op op others low high h.2))
 
--- no test for the comma is passed by an operator of another name
-not_comma : (op : Operator) → op.name ≢ codes "," → is_for Infix (codes ",") op ≡ false
-not_comma op differs =
-    by_test (is_for Infix (codes ",") op)
-    (λ passes. absurd (differs (sym (is_for-parts Infix (codes ",") op passes).1)))
+-- a name that isn't protected is none that is
+not_protected : (text : List ℕ) → is_protected text ≡ true → (name : List ℕ) → is_protected name ≡ false → name ≢ text
+not_protected text is name free same = true≢false (sym is ∙ ap is_protected (sym same) ∙ free)
+
+-- no test for a protected name is passed by an operator of a name that isn't
+not_for : (kind : Kind) (text : List ℕ) → is_protected text ≡ true → (op : Operator) → is_protected op.name ≡ false → is_for kind text op ≡ false
+not_for kind text is op free =
+    by_test (is_for kind text op)
+    (λ passes. absurd (not_protected text is op.name free (sym (is_for-parts kind text op passes).1)))
     (λ fails. fails)
 
--- a table stays a table where an operator but the comma is taken out
-pub IsOpTable-without_op : (kind : Kind) (name : List ℕ) (ops : List Operator) → name ≢ codes "," → IsOpTable ops → IsOpTable (without_op kind name ops)
-IsOpTable-without_op kind name ops differs table = record {
+-- a table stays a table where an operator is taken out whose name isn't protected
+pub IsOpTable-without_op : (kind : Kind) (name : List ℕ) (ops : List Operator) → is_protected name ≡ false → IsOpTable ops → IsOpTable (without_op kind name ops)
+IsOpTable-without_op kind name ops free table = record {
   priorities = HasPriorities-without_op kind name ops table.priorities;
   each_once = HasEachOnce-without_op kind name ops table.each_once;
   has_comma = find-without_op_other Infix (codes ",") kind name other ops ∙ table.has_comma;
+  brackets = λ k. (find-without_op_none k (codes "[]") kind name ops (table.brackets k).0, find-without_op_none k (codes "{}") kind name ops (table.brackets k).1);
   apart = λ text op found. find-without_op_none Postfix text kind name ops (still text op found (find_op Infix text ops) refl);
 }
   where
     other : (op : Operator) → is_for Infix (codes ",") op ≡ true → is_for kind name op ≡ false
     other op passes =
         by_test (is_for kind name op)
-        (λ both. absurd (differs ((is_for-parts kind name op both).1 ∙ sym (is_for-parts Infix (codes ",") op passes).1)))
+        (λ both. absurd (not_protected (codes ",") refl name free ((is_for-parts kind name op both).1 ∙ sym (is_for-parts Infix (codes ",") op passes).1)))
         (λ fails. fails)
 
     still : (text : List ℕ) (op : Operator) → find_op Infix text (without_op kind name ops) ≡ Some op → (found : Option Operator) → find_op Infix text ops ≡ found → find_op Postfix text ops ≡ None
     still text op found None is = absurd (none-some op (sym (find-without_op_none Infix text kind name ops is) ∙ found))
     still text op found (Some before) is = table.apart text before is
 
--- and where one is put in that isn't the comma and has no rival
-pub IsOpTable-with_op : (op : Operator) (ops : List Operator) → 1 ≤ op.priority → op.priority ≤ 1200 → op.name ≢ codes "," → has_rival (kind_of op.spec) op.name ops ≡ false → IsOpTable ops → IsOpTable (with_op op ops)
-IsOpTable-with_op op ops low high differs alone table = record {
+-- and where one is put in whose name isn't protected and that has no rival
+pub IsOpTable-with_op : (op : Operator) (ops : List Operator) → 1 ≤ op.priority → op.priority ≤ 1200 → is_protected op.name ≡ false → has_rival (kind_of op.spec) op.name ops ≡ false → IsOpTable ops → IsOpTable (with_op op ops)
+IsOpTable-with_op op ops low high free alone table = record {
   priorities = HasPriorities-with_op op ops low high table.priorities;
   each_once = HasEachOnce-with_op op ops table.each_once;
   has_comma =
       find-with_op Infix (codes ",") op ops
-      ∙ ap (λ b. if b then Some op else find_op Infix (codes ",") ops) (not_comma op differs)
+      ∙ ap (λ b. if b then Some op else find_op Infix (codes ",") ops) (not_for Infix (codes ",") refl op free)
       ∙ table.has_comma;
+  brackets = λ kind. (still_none kind (codes "[]") refl (table.brackets kind).0, still_none kind (codes "{}") refl (table.brackets kind).1);
   apart = λ text other found. by_test (is_for Postfix text op) (postfix text other found) (others text other found);
 }
   where
     nothing : (found : Option Operator) → is_some found ≡ false → found ≡ None
     nothing None h = refl
     nothing (Some x) h = absurd (true≢false h)
+
+    still_none : (kind : Kind) (text : List ℕ) → is_protected text ≡ true → find_op kind text ops ≡ None → find_op kind text (with_op op ops) ≡ None
+    still_none kind text is none =
+        find-with_op kind text op ops
+        ∙ ap (λ b. if b then Some op else find_op kind text ops) (not_for kind text is op free)
+        ∙ none
 
     postfix : (text : List ℕ) (other : Operator) → find_op Infix text (with_op op ops) ≡ Some other → is_for Postfix text op ≡ true → find_op Postfix text (with_op op ops) ≡ None
     postfix text other found passes =

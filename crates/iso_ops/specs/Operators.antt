@@ -54,6 +54,9 @@ AddsEntry op ops = (1 ≤ op.priority) × (find_op (kind_of op.spec) op.name ops
 abbrev pub protected_names : List (List ℕ)
 protected_names = codes "," ∷ codes "[]" ∷ codes "{}" ∷ codes "|" ∷ []
 
+abbrev pub is_protected : List ℕ → Bool
+is_protected name = list_any (bytes_eq name) protected_names
+
 -- whether the name is an operator of the kind that an operator of this kind can't be beside: infix and postfix (6.3.4.3)
 abbrev pub has_rival : Kind → List ℕ → List Operator → Bool
 has_rival Prefix name ops = false
@@ -64,7 +67,7 @@ has_rival Postfix name ops = is_some (find_op Infix name ops)
 abbrev pub allowed_op : ℕ → Option Spec → List ℕ → List Operator → Result Operator OpFault
 allowed_op priority None name ops = Err Specifier
 allowed_op priority (Some spec) name ops =
-    if list_any (bytes_eq name) protected_names then Err Protected
+    if is_protected name then Err Protected
     else if nat_lt 0 priority && has_rival (kind_of spec) name ops then Err Clash
     else Ok (operator priority spec name)
 
@@ -96,5 +99,6 @@ pub record IsOpTable (ops : List Operator) : Type 0 where
   pub priorities : HasPriorities ops
   pub each_once : HasEachOnce ops
   pub has_comma : find_op Infix (codes ",") ops ≡ Some comma
+  pub brackets : HasNoBrackets ops
   -- no name is infix and postfix
   pub apart : (name : List ℕ) (op : Operator) → find_op Infix name ops ≡ Some op → find_op Postfix name ops ≡ None

@@ -1,12 +1,11 @@
 //! The table of operators (6.3.4.4, 8.14.3).
 ghost use Rattle.std.specs.Prelude.{◌≡◌, ◌≢◌, ◌<◌, ◌≤◌, ◌++◌, codes, Some, None, false, length, map, slice_get, position, IfSome, IfOk, IfErr, OnOk, OnErr, Ok, Err, MatchResult, IsOkAnd};
-ghost use Rattle.std.specs.List.{list_any};
 ghost use Rattle.std.specs.Option.{option_map};
-ghost use Rattle.std.specs.Str.{bytes_eq};
 ghost use Rattle.iso_ops.specs.declared.specifiers.Kind.TheVariants.{Prefix, Infix, Postfix};
 ghost use Rattle.iso_ops.specs.declared.table.OpFault.TheVariants.{NoMemory};
 ghost use Rattle.iso_ops.specs.Specifiers.{kind_of};
-ghost use Rattle.iso_ops.specs.Operators.{operator, is_for, find_op, priority_and_spec, protected_names, has_rival, asked_op, with_op, without_op, set_op, IsOpTable, AddsEntry};
+ghost use Rattle.iso_ops.specs.Operators.{operator, is_for, find_op, priority_and_spec, is_protected, has_rival, asked_op, with_op, without_op, set_op, IsOpTable, AddsEntry};
+ghost use Rattle.iso_ops.specs.Operators as operators;
 ghost use Rattle.iso_ops.specs.Entries.{operator_of};
 ghost use Rattle.iso_ops.specs.InitialOperators.{initial_entries};
 
@@ -78,7 +77,7 @@ impl Entry {
 
 // Whether no operator of this name may be made or changed.
 fn is_protected(name: &str) -> bool
-    ensures { result ≡ list_any (bytes_eq name.now) protected_names }
+    ensures { result ≡ operators.is_protected name.now }
 {
     matches!(name, "," | "[]" | "{}" | "|")
 }
@@ -149,7 +148,7 @@ impl OpTable {
     fn asked(&self, priority: i64, spec: &str, name: &str) -> Result<(u16, Spec), OpFault>
         ensures asked { MatchResult result (λ op. asked_op priority spec.now name.now self.now ≡ Ok (operator op.0 op.1 name.now)) (λ fault. asked_op priority spec.now name.now self.now ≡ Err fault) }
         ensures range { IfOk result (λ op. op.0 ≤ 1200) }
-        ensures free { IfOk result (λ op. (name.now ≢ codes ",") × (1 ≤ op.0 → has_rival (kind_of op.1) name.now self.now ≡ false)) }
+        ensures free { IfOk result (λ op. (is_protected name.now ≡ false) × (1 ≤ op.0 → has_rival (kind_of op.1) name.now self.now ≡ false)) }
     {
         if priority < 0 || priority > 1200 {
             return Err(OpFault::Priority);
@@ -168,7 +167,7 @@ impl OpTable {
 
     // Takes the operator of this kind and name away, if there is one.
     fn remove(&mut self, kind: Kind, name: &str)
-        requires { name.now ≢ codes "," }
+        requires { is_protected name.now ≡ false }
         ensures removed { self.new ≡ without_op kind name.now self.old }
         ensures table { IsOpTable self.new }
     {
@@ -182,7 +181,7 @@ impl OpTable {
     fn put(&mut self, priority: u16, spec: Spec, name: &str) -> Result<(), AllocError>
         requires low { 1 ≤ priority }
         requires high { priority ≤ 1200 }
-        requires other { name.now ≢ codes "," }
+        requires other { is_protected name.now ≡ false }
         requires alone { has_rival (kind_of spec) name.now self.old ≡ false }
         ensures ok { OnOk result (self.new ≡ with_op (operator priority spec name.now) self.old) }
         ensures err { OnErr result (self.new ≡ self.old) }
