@@ -1,6 +1,6 @@
 -- What is written is read again (ISO/IEC 13211-1:1995, 7.10.5): a law of the definitions of text, tokens and grammar alone.
 use Rattle.std.specs.Prelude.{◌≡◌, ℕ, ℤ, pos, negsuc, ◌≤◌, ◌^◌, Bool, true, ◌&&◌, nat_le, nat_lt, List, [], ◌∷◌, ◌++◌, codes}
-use Rattle.iso_ops.specs.Operators.{Operator, IsOpTable, HasNoBrackets}
+use Rattle.iso_ops.specs.Operators.{Operator, IsOpTable}
 use Rattle.iso_ops.specs.declared.settings.Flags.{Flags}
 use Rattle.iso_model.specs.Trees.{Tree, Variable, Integer, Name, Apply, End, More}
 use Rattle.iso_model.specs.Sorts.{is_term}
@@ -48,5 +48,5 @@ pub record IsReadAgain (table : List Operator) (flags : Flags) (t : Tree) (text 
 
 -- What is written of a term, quoted, is read again as that term, under the same operators and any flags.
 abbrev pub WrittenTermsAreReadAgain : Type 0
-WrittenTermsAreReadAgain = (table : List Operator) (flags : Flags) → IsOpTable table → HasNoBrackets table → (seen : List ℕ) (t : Tree) → IsWritable seen t
+WrittenTermsAreReadAgain = (table : List Operator) (flags : Flags) → IsOpTable table → (seen : List ℕ) (t : Tree) → IsWritable seen t
     → IsReadAgain table flags t (text_at Writeq table seen 1200 t)

@@ -8,12 +8,12 @@ use Rattle.iso_model.proofs.PieceGrammar.{written_read}
 use Rattle.iso_model.proofs.laws_of_writing.written_terms_are_read_again.Goals as goal
 
 pub returns : goal.returns
-returns c = λ table flags good plain seen t writable.
+returns c = λ table flags good seen t writable.
     let ps = at_most 1200 (term_written Writeq table seen t) in
     let before = shown_pieces 0 [] ps in
     let signed = term_signed table seen 1200 t writable.integers in
     let whole = signed_tokens ps signed in
-    let read = written_read table flags good plain seen t writable before (record { at = 0; before = []; are = refl }) in
+    let read = written_read table flags good good.brackets seen t writable before (record { at = 0; before = []; are = refl }) in
     record {
       before = before;
       last = whole.last;
