@@ -21,6 +21,7 @@ pub mod ClauseLaws
 pub mod WellRead
 pub mod PieceTokens
 pub mod PieceLexemes
+pub mod PieceVariables
 pub mod PieceGrammar
 pub mod NumberedLemmas
 pub mod VariableLemmas
