@@ -22,6 +22,7 @@ pub mod WellRead
 pub mod PieceTokens
 pub mod PieceLexemes
 pub mod PieceVariables
+pub mod PieceParts
 pub mod PieceGrammar
 pub mod NumberedLemmas
 pub mod VariableLemmas

@@ -9,7 +9,8 @@ use Rattle.iso_model.specs.Grammar.{Node, Reads, start_of}
 use Rattle.iso_model.specs.Pieces.{Writeq, at_most, term_written}
 use Rattle.iso_model.specs.WritingLaws.{IsWritable}
 use Rattle.iso_model.proofs.PieceTokens.{AreTokens}
-use Rattle.iso_model.proofs.PieceVariables.{place_within}
+use Rattle.iso_model.proofs.PieceVariables.{place_kept}
+use Rattle.iso_model.proofs.PieceParts.{mark_test}
 
 -- The tokens are read as the term with its variables numbered 0, 1, .. by first occurrence.
 pub record AreRead (table : List Operator) (flags : Flags) (t : Tree) (ts : List Shown) : Type 0 where
