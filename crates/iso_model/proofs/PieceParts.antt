@@ -11,7 +11,7 @@ use Rattle.iso_model.specs.Operators.{prefix_named, infix_named, postfix_named, 
 use Rattle.iso_model.specs.Trees.{Tree, Variable, Integer, Name, Apply, End, More, row}
 use Rattle.iso_model.specs.Token.{Shown, TokenKind, NameToken, QuotedToken, DoubleToken, VariableToken, IntegerToken, PunctToken, EndToken, BadToken, magnitude, content}
 use Rattle.iso_model.specs.Texts.{is_bare, name_text}
-use Rattle.iso_model.specs.Grammar.{Left, before, Node, closed, is_name, is_unquoted, is_integer, is_punct, is_mark, opens_arguments, is_direct_integer, next_is, negates, infix_at, postfix_at, name_begins, begins, Reads, Operand, alone}
+use Rattle.iso_model.specs.Grammar.{Left, before, Node, closed, is_name, is_unquoted, is_integer, is_punct, is_mark, opens_arguments, is_direct_integer, next_is, negates, infix_at, postfix_at, name_begins, begins_by, begins, number_of, with_name_by, place_of, Reads, Operand, Named, Elements, alone, variable_at, integer_at, name_at, nil_at, curly_at, brackets_at, braces_at, compound_of, literal_of, atom_of, operator_alone, operator_before, last_of, more_of}
 use Rattle.iso_model.specs.Pieces.{Piece, piece, after_space, begins_open, begins_digit}
 use Rattle.iso_model.proofs.ReadingSound.{left_at}
 use Rattle.iso_model.proofs.PieceTokens.{AreTokens, Begins, BeginsTwice, IsMarkToken, IsNameToken, IsPlaceToken, IsCountToken, IsSignToken}
@@ -102,3 +102,78 @@ module _ (table : List Operator) (flags : Flags) where
   mark_ends byte is a b c qs zs tokens =
       let x = mark_first byte is false qs zs tokens in
       rw (x.is, x.holds.kind, mark_test byte false x.first (codes "(") x.holds, mark_test byte false x.first (codes "[") x.holds, mark_test byte false x.first (codes "{") x.holds, a, b, c) refl
+
+  pub name_follows : (name : List ℕ) → bytes_eq name (codes "[]") ≡ false → bytes_eq name (codes "{}") ≡ false → (spaced : Bool) (qs : List Piece) → MayFollow (spaced_as (name_text name) spaced ∷ qs)
+  name_follows name a b spaced qs = record {
+    opens = λ zs tokens. let x = name_first name a b spaced qs zs tokens in rw (x.is, name_opens name x.first x.holds) refl;
+    counts = λ zs tokens. let x = name_first name a b spaced qs zs tokens in rw (x.is, name_counts name x.first x.holds) refl;
+  }
+
+  pub nothing_follows : MayFollow []
+  nothing_follows = record { opens = λ zs tokens. rw tokens.are refl; counts = λ zs tokens. rw tokens.are refl }
+
+  pub nothing_ends : MayEnd []
+  nothing_ends zs tokens = rw tokens.are refl
+
+  -- ---- what begins an operand
+
+  -- the tokens begin with this mark, behind layout or not
+  pub record BeginWithMark (byte : ℕ) (b : Bool) (ts : List Shown) : Type 0 where
+    pub first : Shown
+    pub others : List Shown
+    pub is : ts ≡ first ∷ others
+    pub holds : IsMarkToken byte (b || false) first
+
+  mark_begins_by : (byte : ℕ) (parted : Bool) (t : Shown) (ts : List Shown) → IsMarkToken byte parted t
+      → begins table (t ∷ ts) ≡ (bytes_eq (byte ∷ []) (codes "(") || (bytes_eq (byte ∷ []) (codes "[") || bytes_eq (byte ∷ []) (codes "{")))
+  mark_begins_by byte parted t ts h =
+      ap (begins_by table t ts) h.kind ∙ rw (mark_test byte parted t (codes "(") h, mark_test byte parted t (codes "[") h, mark_test byte parted t (codes "{") h) refl
+
+  pub mark_begins : (byte : ℕ) (ps : List Piece) → ((b : Bool) (qs : List Piece) (ts : List Shown) → AreTokens (with_space b ps ++ qs) ts → BeginWithMark byte b ts)
+      → (bytes_eq (byte ∷ []) (codes "(") || (bytes_eq (byte ∷ []) (codes "[") || bytes_eq (byte ∷ []) (codes "{"))) ≡ true
+      → ((b : Bool) → (not b && begins_open ps) ≡ false → (bytes_eq (byte ∷ []) (codes "(") && not (b || false)) ≡ false) → BeginOperand ps
+  mark_begins byte ps marks is apart = record {
+    begins = λ b qs ts tokens.
+        let x = marks b qs ts tokens in
+        rw x.is (mark_begins_by byte (b || false) x.first x.others x.holds ∙ is);
+    opens = λ b qs ts tokens h. let x = marks b qs ts tokens in rw (x.is, mark_opens byte (b || false) x.first x.holds) (apart b h);
+    counts = λ b qs ts tokens h. let x = marks b qs ts tokens in rw (x.is, mark_counts byte (b || false) x.first x.holds) refl;
+  }
+
+  -- the tokens begin with this name, which begins an operand
+  pub record BeginWithName (name : List ℕ) (ts : List Shown) : Type 0 where
+    pub first : Shown
+    pub others : List Shown
+    pub is : ts ≡ first ∷ others
+    pub holds : IsNameToken name first
+    pub begins : name_begins table first others ≡ true
+
+  name_begins_by : (name : List ℕ) (t : Shown) (ts : List Shown) → IsNameToken name t → begins table (t ∷ ts) ≡ name_begins table t ts
+  name_begins_by name t ts h = ap (begins_by table t ts) h.kind ∙ of_names (λ k. begins_by table t ts k ≡ name_begins table t ts) (is_bare name) refl refl
+
+  pub name_begins_operand : (name : List ℕ) (ps : List Piece) → ((b : Bool) (qs : List Piece) (ts : List Shown) → AreTokens (with_space b ps ++ qs) ts → BeginWithName name ts) → BeginOperand ps
+  name_begins_operand name ps names = record {
+    begins = λ b qs ts tokens. let x = names b qs ts tokens in rw x.is (name_begins_by name x.first x.others x.holds ∙ x.begins);
+    opens = λ b qs ts tokens h. let x = names b qs ts tokens in rw (x.is, name_opens name x.first x.holds) refl;
+    counts = λ b qs ts tokens h. let x = names b qs ts tokens in rw (x.is, name_counts name x.first x.holds) refl;
+  }
+
+  -- ---- terms of one or two tokens
+
+  -- an operand that these tokens begin with
+  pub read_operand : {ts rest : List Shown} {names behind : List (List ℕ)} {t : Tree} {height : ℕ} {qs : List Piece} → AreTokens qs rest → Operand table flags (left_at ts names) (closed t height) (left_at rest behind) → IsRead ts names behind t 0 false qs
+  read_operand {rest = rest} {height = height} tokens reads = record { rest = rest; tokens = tokens; height = height; reads = alone reads }
+
+  pub place_part : (number : ℕ) (names : List (List ℕ)) → IsPart (piece (95 ∷ decimal number) ∷ []) 0 false false names (with_name_by (95 ∷ decimal number) names (place_of (95 ∷ decimal number) names)) (Variable (number_of (95 ∷ decimal number) names))
+  place_part number names = record {
+    some = tt;
+    reads = λ b qs ts follows ends tokens.
+        let x = place_first number (b || false) qs ts tokens in
+        rw x.is (read_operand {height = 0} x.tokens (subst (λ text. Operand table flags (left_at (x.first ∷ x.others) names) (closed (Variable (number_of text names)) 0) (left_at x.others (with_name_by text names (place_of text names)))) x.holds.text
+        (variable_at {s = left_at x.others names} {t = x.first} x.holds.kind)));
+    begins = λ _. record {
+      begins = λ b qs ts tokens. let x = place_first number (b || false) qs ts tokens in rw x.is (ap (begins_by table x.first x.others) x.holds.kind);
+      opens = λ b qs ts tokens h. let x = place_first number (b || false) qs ts tokens in rw (x.is, x.holds.kind) refl;
+      counts = λ b qs ts tokens h. let x = place_first number (b || false) qs ts tokens in rw (x.is, x.holds.kind) refl;
+    };
+  }
