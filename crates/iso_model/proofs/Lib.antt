@@ -23,6 +23,7 @@ pub mod PieceTokens
 pub mod PieceLexemes
 pub mod PieceVariables
 pub mod PieceParts
+pub mod PieceTerms
 pub mod PieceGrammar
 pub mod NumberedLemmas
 pub mod VariableLemmas

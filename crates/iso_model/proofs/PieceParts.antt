@@ -83,12 +83,12 @@ module _ (table : List Operator) (flags : Flags) where
     pub height : ℕ
     pub reads : Reads table flags (left_at ts names) (node t priority height is_open) (left_at rest behind)
 
-  -- The pieces are read as this term, made by an operator of this priority (0: by none), which may be open on its right; `alone`: it is an
+  -- The pieces are read as this term, made by an operator of this priority (0: by none), which may be open on its right; `lone`: it is an
   -- atom that is an operator.
-  pub record IsPart (ps : List Piece) (priority : ℕ) (is_open alone : Bool) (names behind : List (List ℕ)) (t : Tree) : Type 0 where
+  pub record IsPart (ps : List Piece) (priority : ℕ) (is_open lone : Bool) (names behind : List (List ℕ)) (t : Tree) : Type 0 where
     pub some : AreSome ps
-    pub reads : (b : Bool) (qs : List Piece) (ts : List Shown) → MayFollow qs → (alone ≡ true → MayEnd qs) → AreTokens (with_space b ps ++ qs) ts → IsRead ts names behind t priority is_open qs
-    pub begins : alone ≡ false → BeginOperand ps
+    pub reads : (b : Bool) (qs : List Piece) (ts : List Shown) → MayFollow qs → (lone ≡ true → MayEnd qs) → AreTokens (with_space b ps ++ qs) ts → IsRead ts names behind t priority is_open qs
+    pub begins : lone ≡ false → BeginOperand ps
 
   -- ---- what may follow
 
