@@ -24,6 +24,7 @@ pub mod PieceLexemes
 pub mod PieceVariables
 pub mod PieceParts
 pub mod PieceTerms
+pub mod PiecePlaces
 pub mod PieceGrammar
 pub mod NumberedLemmas
 pub mod VariableLemmas

@@ -22,7 +22,7 @@ use Rattle.iso_model.proofs.PieceLexemes.{mark_first, name_first, nil_first, cur
 pub mark_test : (byte : ℕ) (parted : Bool) (t : Shown) (mark : List ℕ) → IsMarkToken byte parted t → is_mark mark t ≡ bytes_eq (byte ∷ []) mark
 mark_test byte parted t mark h = rw (h.kind, h.text) refl
 
-mark_opens : (byte : ℕ) (parted : Bool) (t : Shown) → IsMarkToken byte parted t → opens_arguments t ≡ (bytes_eq (byte ∷ []) (codes "(") && not parted)
+pub mark_opens : (byte : ℕ) (parted : Bool) (t : Shown) → IsMarkToken byte parted t → opens_arguments t ≡ (bytes_eq (byte ∷ []) (codes "(") && not parted)
 mark_opens byte parted t h = rw (mark_test byte parted t (codes "(") h, h.layout) refl
 
 mark_counts : (byte : ℕ) (parted : Bool) (t : Shown) → IsMarkToken byte parted t → is_direct_integer t ≡ false
@@ -92,13 +92,13 @@ module _ (table : List Operator) (flags : Flags) where
 
   -- ---- what may follow
 
-  mark_follows : (byte : ℕ) → is_punctuation byte ≡ true → bytes_eq (byte ∷ []) (codes "(") ≡ false → (qs : List Piece) → MayFollow (piece (byte ∷ []) ∷ qs)
+  pub mark_follows : (byte : ℕ) → is_punctuation byte ≡ true → bytes_eq (byte ∷ []) (codes "(") ≡ false → (qs : List Piece) → MayFollow (piece (byte ∷ []) ∷ qs)
   mark_follows byte is other qs = record {
     opens = λ zs tokens. let x = mark_first byte is false qs zs tokens in rw (x.is, mark_opens byte false x.first x.holds, other) refl;
     counts = λ zs tokens. let x = mark_first byte is false qs zs tokens in rw (x.is, mark_counts byte false x.first x.holds) refl;
   }
 
-  mark_ends : (byte : ℕ) → is_punctuation byte ≡ true → bytes_eq (byte ∷ []) (codes "(") ≡ false → bytes_eq (byte ∷ []) (codes "[") ≡ false → bytes_eq (byte ∷ []) (codes "{") ≡ false → (qs : List Piece) → MayEnd (piece (byte ∷ []) ∷ qs)
+  pub mark_ends : (byte : ℕ) → is_punctuation byte ≡ true → bytes_eq (byte ∷ []) (codes "(") ≡ false → bytes_eq (byte ∷ []) (codes "[") ≡ false → bytes_eq (byte ∷ []) (codes "{") ≡ false → (qs : List Piece) → MayEnd (piece (byte ∷ []) ∷ qs)
   mark_ends byte is a b c qs zs tokens =
       let x = mark_first byte is false qs zs tokens in
       rw (x.is, x.holds.kind, mark_test byte false x.first (codes "(") x.holds, mark_test byte false x.first (codes "[") x.holds, mark_test byte false x.first (codes "{") x.holds, a, b, c) refl
