@@ -1,7 +1,8 @@
 -- Written terms in places that a closing mark stands behind: in brackets and braces, as arguments, and as elements of lists.
-use Rattle.std.proofs.Common.{◌≡◌, ℕ, zero, suc, ◌+◌, ◌<◌, ◌≤◌, Bool, true, false, ◌&&◌, ◌||◌, ◌==◌, not, List, [], ◌∷◌, ◌++◌, length, codes, refl, sym, ap, ◌∙◌, subst, arith, append_assoc, append-nil}
+use Rattle.std.proofs.Common.{◌≡◌, ℕ, zero, suc, ◌+◌, ◌<◌, ◌≤◌, Bool, true, false, ◌&&◌, ◌||◌, ◌==◌, not, List, [], ◌∷◌, ◌++◌, length, codes, inl, inr, refl, sym, ap, ◌∙◌, subst, arith, append_assoc, append-nil}
 use Rattle.std.specs.Str.{bytes_eq}
-use Rattle.std.proofs.lemmas.Bool.{true≢false}
+use Rattle.std.proofs.lemmas.Bool.{true≢false, cases_Bool}
+use Rattle.std.proofs.lemmas.Slice.Eq.{bytes_eq-Decides}
 use Rattle.iso_ops.specs.Operators.{Operator}
 use Rattle.iso_ops.specs.declared.settings.Flags.{Flags}
 use Rattle.iso_model.specs.Characters.{is_punctuation}
@@ -161,3 +162,59 @@ module _ (table : List Operator) (flags : Flags) where
         height = y.height + 1;
         reads = compound_of {s = left_at x.others names} {z = left_at y.rest behind} {u = x.first} {v = y.mark} (mark_opens 40 false x.first x.holds) y.reads y.is le;
       })
+
+  arguments_open : (qs : List Piece) (ts : List Shown) → AreTokens (piece (codes "(") ∷ qs) ts → next_is opens_arguments ts ≡ true
+  arguments_open qs ts tokens = let x = mark_first 40 refl false qs ts tokens in rw (x.is, mark_opens 40 false x.first x.holds) refl
+
+  -- `f(a,..)`, where the name is one token
+  named_part : (name : List ℕ) → bytes_eq name (codes "[]") ≡ false → bytes_eq name (codes "{}") ≡ false → {ps : List Piece} {names behind : List (List ℕ)} {args : List Tree} → AreArguments ps names behind args → length args ≤ 255
+      → IsPart table flags (piece (name_text name) ∷ piece (codes "(") ∷ (ps ++ piece (codes ")") ∷ [])) 0 false false names behind (Apply name (row args))
+  named_part name a c {ps} {names} {behind} {args} given le = record {
+    some = tt;
+    reads = λ b qs ts follows ends tokens.
+        let x = name_first name a c (b || false) (piece (codes "(") ∷ ((ps ++ piece (codes ")") ∷ []) ++ qs)) ts tokens in
+        let y = named_arguments given le (is_unquoted x.first.kind) name qs x.others x.tokens in
+        rw x.is (read_operand table flags {t = Apply name (row args)} {height = y.height} y.tokens (name_at {s = left_at x.others names} {t = x.first} (name_is name x.first x.holds)
+        (subst (λ z. Named table flags (is_unquoted x.first.kind) z (left_at x.others names) (closed (Apply name (row args)) y.height) (left_at y.rest behind)) (sym x.holds.content) y.reads)));
+    begins = λ _. name_begins_operand table flags name (piece (name_text name) ∷ piece (codes "(") ∷ (ps ++ piece (codes ")") ∷ [])) (λ b qs ts tokens.
+        let x = name_first name a c (b || false) (piece (codes "(") ∷ ((ps ++ piece (codes ")") ∷ []) ++ qs)) ts tokens in
+        record { first = x.first; others = x.others; is = x.is; holds = x.holds; begins = functor_begins table flags x.first x.others (arguments_open ((ps ++ piece (codes ")") ∷ []) ++ qs) x.others x.tokens) });
+  }
+
+  nil_named_part : {ps : List Piece} {names behind : List (List ℕ)} {args : List Tree} → AreArguments ps names behind args → length args ≤ 255
+      → IsPart table flags (piece (codes "[]") ∷ piece (codes "(") ∷ (ps ++ piece (codes ")") ∷ [])) 0 false false names behind (Apply nil (row args))
+  nil_named_part {ps} {names} {behind} {args} given le = record {
+    some = tt;
+    reads = λ b qs ts follows ends tokens.
+        let x = nil_first (b || false) (piece (codes "(") ∷ ((ps ++ piece (codes ")") ∷ []) ++ qs)) ts tokens in
+        let y = named_arguments given le false nil qs x.others x.tokens in
+        rw x.is (read_operand table flags {t = Apply nil (row args)} {height = y.height} y.tokens
+        (nil_at {s = left_at x.others names} {t = x.first} {u = x.second} (mark_test 91 (b || false) x.first (codes "[") x.holds) (mark_test 93 false x.second (codes "]") x.follows) y.reads));
+    begins = λ _. mark_begins table flags 91 (piece (codes "[]") ∷ piece (codes "(") ∷ (ps ++ piece (codes ")") ∷ [])) (λ b qs ts tokens.
+        let x = nil_first (b || false) (piece (codes "(") ∷ ((ps ++ piece (codes ")") ∷ []) ++ qs)) ts tokens in record { first = x.first; others = x.second ∷ x.others; is = x.is; holds = x.holds }) refl (λ b h. refl);
+  }
+
+  curly_named_part : {ps : List Piece} {names behind : List (List ℕ)} {args : List Tree} → AreArguments ps names behind args → length args ≤ 255
+      → IsPart table flags (piece (codes "{}") ∷ piece (codes "(") ∷ (ps ++ piece (codes ")") ∷ [])) 0 false false names behind (Apply curly (row args))
+  curly_named_part {ps} {names} {behind} {args} given le = record {
+    some = tt;
+    reads = λ b qs ts follows ends tokens.
+        let x = curly_first (b || false) (piece (codes "(") ∷ ((ps ++ piece (codes ")") ∷ []) ++ qs)) ts tokens in
+        let y = named_arguments given le false curly qs x.others x.tokens in
+        rw x.is (read_operand table flags {t = Apply curly (row args)} {height = y.height} y.tokens
+        (curly_at {s = left_at x.others names} {t = x.first} {u = x.second} (mark_test 123 (b || false) x.first (codes "{") x.holds) (mark_test 125 false x.second (codes "}") x.follows) y.reads));
+    begins = λ _. mark_begins table flags 123 (piece (codes "{}") ∷ piece (codes "(") ∷ (ps ++ piece (codes ")") ∷ [])) (λ b qs ts tokens.
+        let x = curly_first (b || false) (piece (codes "(") ∷ ((ps ++ piece (codes ")") ∷ []) ++ qs)) ts tokens in record { first = x.first; others = x.second ∷ x.others; is = x.is; holds = x.holds }) refl (λ b h. refl);
+  }
+
+  -- `f(a,..)`
+  pub compound_part : (name : List ℕ) {ps : List Piece} {names behind : List (List ℕ)} {args : List Tree} → AreArguments ps names behind args → length args ≤ 255
+      → IsPart table flags (piece (name_text name) ∷ piece (codes "(") ∷ (ps ++ piece (codes ")") ∷ [])) 0 false false names behind (Apply name (row args))
+  compound_part name {ps} {names} {behind} {args} given le =
+      elim (cases_Bool (bytes_eq name (codes "[]"))) [
+        | inl is ↦ rw ((bytes_eq-Decides name (codes "[]")).0 is) (nil_named_part given le)
+        | inr a ↦ elim (cases_Bool (bytes_eq name (codes "{}"))) [
+          | inl is ↦ rw ((bytes_eq-Decides name (codes "{}")).0 is) (curly_named_part given le)
+          | inr c ↦ named_part name a c given le
+        ]
+      ]
