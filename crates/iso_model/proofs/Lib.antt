@@ -25,6 +25,7 @@ pub mod PieceVariables
 pub mod PieceParts
 pub mod PieceTerms
 pub mod PiecePlaces
+pub mod PieceLists
 pub mod PieceGrammar
 pub mod NumberedLemmas
 pub mod VariableLemmas

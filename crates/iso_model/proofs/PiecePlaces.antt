@@ -53,7 +53,7 @@ module _ (table : List Operator) (flags : Flags) where
   }
 
   -- the same with this mark behind it
-  record IsClosed (byte most : ℕ) (ts : List Shown) (names behind : List (List ℕ)) (t : Tree) (qs : List Piece) : Type 0 where
+  pub record IsClosed (byte most : ℕ) (ts : List Shown) (names behind : List (List ℕ)) (t : Tree) (qs : List Piece) : Type 0 where
     pub rest : List Shown
     pub tokens : AreTokens qs rest
     pub mark : Shown
@@ -64,7 +64,7 @@ module _ (table : List Operator) (flags : Flags) where
     pub within : priority ≤ most
     pub reads : Reads table flags (left_at ts names) (node t priority height is_open) (left_at (mark ∷ rest) behind)
 
-  place_closed : (byte most : ℕ) {ps : List Piece} {names behind : List (List ℕ)} {t : Tree} → is_punctuation byte ≡ true → bytes_eq (byte ∷ []) (byte ∷ []) ≡ true → ((qs : List Piece) → MayFollow table flags (piece (byte ∷ []) ∷ qs)) → ((qs : List Piece) → MayEnd table flags (piece (byte ∷ []) ∷ qs))
+  pub place_closed : (byte most : ℕ) {ps : List Piece} {names behind : List (List ℕ)} {t : Tree} → is_punctuation byte ≡ true → bytes_eq (byte ∷ []) (byte ∷ []) ≡ true → ((qs : List Piece) → MayFollow table flags (piece (byte ∷ []) ∷ qs)) → ((qs : List Piece) → MayEnd table flags (piece (byte ∷ []) ∷ qs))
       → IsPlace most ps names behind t → (qs : List Piece) (ts : List Shown) → AreTokens (ps ++ (piece (byte ∷ []) ∷ qs)) ts → IsClosed byte most ts names behind t qs
   place_closed byte most {ps} {names} {behind} {t} is same follows ends p qs ts tokens =
       let x = p.reads (piece (byte ∷ []) ∷ qs) ts (follows qs) (ends qs) tokens in
@@ -126,7 +126,7 @@ module _ (table : List Operator) (flags : Flags) where
   pub record AreArguments (ps : List Piece) (names behind : List (List ℕ)) (args : List Tree) : Type 0 where
     pub reads : (qs : List Piece) (ts : List Shown) → AreTokens (ps ++ (piece (codes ")") ∷ qs)) ts → AreRead ts names behind args qs
 
-  closes_comma : (most : ℕ) {ps : List Piece} {names behind : List (List ℕ)} {t : Tree} → IsPlace most ps names behind t → (qs : List Piece) (ts : List Shown) → AreTokens (ps ++ (piece (codes ",") ∷ qs)) ts → IsClosed 44 most ts names behind t qs
+  pub closes_comma : (most : ℕ) {ps : List Piece} {names behind : List (List ℕ)} {t : Tree} → IsPlace most ps names behind t → (qs : List Piece) (ts : List Shown) → AreTokens (ps ++ (piece (codes ",") ∷ qs)) ts → IsClosed 44 most ts names behind t qs
   closes_comma most = place_closed 44 most refl refl (λ qs. mark_follows table flags 44 refl refl qs) (λ qs. mark_ends table flags 44 refl refl refl refl qs)
 
   pub last_argument : {ps : List Piece} {names behind : List (List ℕ)} {t : Tree} → IsPlace 999 ps names behind t → AreArguments ps names behind (t ∷ [])
