@@ -26,6 +26,7 @@ pub mod PieceParts
 pub mod PieceTerms
 pub mod PiecePlaces
 pub mod PieceLists
+pub mod PieceOperators
 pub mod PieceGrammar
 pub mod NumberedLemmas
 pub mod VariableLemmas

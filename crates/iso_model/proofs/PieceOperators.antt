@@ -1,0 +1,129 @@
+-- Written terms of operators are read.
+use Rattle.std.proofs.Common.{◌≡◌, ℕ, ◌+◌, ◌-◌, ◌<◌, ◌≤◌, Bool, true, false, ◌&&◌, ◌||◌, ◌==◌, not, nat_lt, if◌then◌else◌, List, [], ◌∷◌, ◌++◌, Option, Some, None, is_some, codes, inl, inr, refl, sym, ap, ◌∙◌, subst, arith, append_assoc}
+use Rattle.std.specs.Str.{bytes_eq}
+use Rattle.std.proofs.lemmas.Bool.{cases_Bool, true≢false, false≢true}
+use Rattle.std.proofs.lemmas.Bool.Decides.{nat_tests}
+use Rattle.iso_ops.specs.Operators.{Operator}
+use Rattle.iso_ops.specs.declared.settings.Flags.{Flags}
+use Rattle.iso_model.specs.Operators.{prefix_named, infix_named, postfix_named, left_of, right_of, takes_equal, is_right_open}
+use Rattle.iso_model.specs.Trees.{Tree, Apply, row}
+use Rattle.iso_model.specs.Token.{Shown, TokenKind, PunctToken, content}
+use Rattle.iso_model.specs.Texts.{name_text}
+use Rattle.iso_model.specs.Grammar.{Left, before, Node, is_name, is_unquoted, is_mark, opens_arguments, is_direct_integer, next_is, negates, infix_at, postfix_at, begins, TakesLeft, Reads, Operand, Named, alone, between, behind, name_at, operator_before}
+use Rattle.iso_model.specs.Pieces.{Piece, piece, after_space, begins_open, begins_digit, bracketed}
+use Rattle.iso_model.proofs.ReadingSound.{left_at}
+use Rattle.iso_model.proofs.PieceTokens.{AreTokens, Begins, IsMarkToken, IsNameToken}
+use Rattle.iso_model.proofs.PieceLexemes.{mark_first, name_first}
+use Rattle.iso_model.proofs.PieceParts.{with_space, AreSome, spaced_as, node, MayFollow, MayEnd, BeginOperand, IsRead, IsPart, name_begins_operand, name_follows, mark_follows, mark_test, name_is}
+use Rattle.iso_model.proofs.PieceTerms.{prefix_begins}
+use Rattle.iso_model.proofs.PiecePlaces.{place_of_part, bracket_part}
+
+module _ (table : List Operator) (flags : Flags) where
+  -- An operand of at most this priority.
+  pub record IsOperandAt (most : ℕ) (ps : List Piece) (names behind : List (List ℕ)) (t : Tree) : Type 0 where
+    pub priority : ℕ
+    pub is_open : Bool
+    pub within : priority ≤ most
+    pub part : IsPart table flags ps priority is_open false names behind t
+
+  in_brackets : (most : ℕ) {ps : List Piece} {priority : ℕ} {is_open lone : Bool} {names behind : List (List ℕ)} {t : Tree} → IsPart table flags ps priority is_open lone names behind t → priority ≤ 1200 → IsOperandAt most (bracketed ps) names behind t
+  in_brackets most p le = record { priority = 0; is_open = false; within = omega arith; part = bracket_part table flags (place_of_part table flags 1200 p le) }
+
+  pub operand_part : (most : ℕ) {ps : List Piece} {priority : ℕ} {is_open lone : Bool} {names behind : List (List ℕ)} {t : Tree} → IsPart table flags ps priority is_open lone names behind t → priority ≤ 1200
+      → IsOperandAt most (if lone || nat_lt most priority then bracketed ps else ps) names behind t
+  operand_part most {lone = true} p le = in_brackets most p le
+  operand_part most {priority = priority} {lone = false} p le =
+      elim (cases_Bool (nat_lt most priority)) [
+        | inl above ↦ rw above (in_brackets most p le)
+        | inr within ↦ rw within (record { priority = priority; is_open = _; within = grind (arith, nat_tests, within); part = p })
+      ]
+
+  -- A left operand of this operator.
+  pub record IsLeftOperand (o : Operator) (ps : List Piece) (names behind : List (List ℕ)) (t : Tree) : Type 0 where
+    pub priority : ℕ
+    pub is_open : Bool
+    pub takes : (height : ℕ) → TakesLeft (node t priority height is_open) o
+    pub part : IsPart table flags ps priority is_open false names behind t
+
+  takes_bare : (a b c : Bool) → (a && (b && c)) ≡ false → ((a && b) && c) ≡ false
+  takes_bare true b c h = h
+  takes_bare false b c h = refl
+
+  left_in_brackets : (o : Operator) {ps : List Piece} {priority : ℕ} {is_open lone : Bool} {names behind : List (List ℕ)} {t : Tree} → IsPart table flags ps priority is_open lone names behind t → priority ≤ 1200 → IsLeftOperand o (bracketed ps) names behind t
+  left_in_brackets o p le = record { priority = 0; is_open = false; takes = λ height. record { within = omega arith; bracketed = refl }; part = bracket_part table flags (place_of_part table flags 1200 p le) }
+
+  pub left_part : (o : Operator) {ps : List Piece} {priority : ℕ} {is_open lone : Bool} {names behind : List (List ℕ)} {t : Tree} → IsPart table flags ps priority is_open lone names behind t → priority ≤ 1200
+      → IsLeftOperand o (if is_open && (priority == o.priority && takes_equal o.spec) then bracketed ps else (if lone || nat_lt (left_of o) priority then bracketed ps else ps)) names behind t
+  left_part o {ps} {priority} {is_open} {lone} {names} {behind} {t} p le =
+      elim (cases_Bool (is_open && (priority == o.priority && takes_equal o.spec))) [
+        | inl same ↦ rw same (left_in_brackets o p le)
+        | inr other ↦ rw other (by lone p other)
+      ]
+    where
+      by : (lone : Bool) → IsPart table flags ps priority is_open lone names behind t → (is_open && (priority == o.priority && takes_equal o.spec)) ≡ false
+          → IsLeftOperand o (if lone || nat_lt (left_of o) priority then bracketed ps else ps) names behind t
+      by true p other = left_in_brackets o p le
+      by false p other =
+          elim (cases_Bool (nat_lt (left_of o) priority)) [
+            | inl above ↦ rw above (left_in_brackets o p le)
+            | inr within ↦ rw within (record {
+              priority = priority;
+              is_open = is_open;
+              takes = λ height. record { within = grind (arith, nat_tests, within); bracketed = takes_bare is_open (priority == o.priority) (takes_equal o.spec) other };
+              part = p;
+            })
+          ]
+
+  -- ---- pieces behind pieces
+
+  front_spaced : (b : Bool) (ps qs : List Piece) → AreSome ps → with_space b (ps ++ qs) ≡ with_space b ps ++ qs
+  front_spaced b [] qs h = absurd h
+  front_spaced b (p ∷ ps) qs h = refl
+
+  front_tokens : (b : Bool) (ps qs zs : List Piece) (ts : List Shown) → AreSome ps → AreTokens (with_space b (ps ++ qs) ++ zs) ts → AreTokens (with_space b ps ++ (qs ++ zs)) ts
+  front_tokens b ps qs zs ts h tokens = subst (λ us. AreTokens us ts) (ap (λ us. us ++ zs) (front_spaced b ps qs h) ∙ append_assoc (with_space b ps) qs zs) tokens
+
+  front_some : (ps qs : List Piece) → AreSome ps → AreSome (ps ++ qs)
+  front_some [] qs h = absurd h
+  front_some (p ∷ ps) qs h = tt
+
+  front_open : (ps qs : List Piece) → AreSome ps → begins_open (ps ++ qs) ≡ begins_open ps
+  front_open [] qs h = absurd h
+  front_open (p ∷ ps) qs h = refl
+
+  front_digit : (ps qs : List Piece) → AreSome ps → begins_digit (ps ++ qs) ≡ begins_digit ps
+  front_digit [] qs h = absurd h
+  front_digit (p ∷ ps) qs h = refl
+
+  -- pieces begin an operand where their front does
+  front_begins : (ps qs : List Piece) → AreSome ps → BeginOperand table flags ps → BeginOperand table flags (ps ++ qs)
+  front_begins ps qs h k = record {
+    begins = λ b zs ts tokens. k.begins b (qs ++ zs) ts (front_tokens b ps qs zs ts h tokens);
+    opens = λ b zs ts tokens apart. k.opens b (qs ++ zs) ts (front_tokens b ps qs zs ts h tokens) (subst (λ c. (not b && c) ≡ false) (front_open ps qs h) apart);
+    counts = λ b zs ts tokens apart. k.counts b (qs ++ zs) ts (front_tokens b ps qs zs ts h tokens) (subst (λ c. (not b && c) ≡ false) (front_digit ps qs h) apart);
+  }
+
+  -- ---- infix operators
+
+  -- A piece that is read as this infix operator.
+  pub record IsInfix (text : List ℕ) (spaced : Bool) (o : Operator) : Type 0 where
+    pub follows : (qs : List Piece) → MayFollow table flags (spaced_as text spaced ∷ qs)
+    pub reads : (qs : List Piece) (ts : List Shown) → AreTokens (spaced_as text spaced ∷ qs) ts → Begins (λ t. infix_at table t ≡ Some o) qs ts
+
+  infix_part : (o : Operator) (text : List ℕ) (spaced : Bool) → IsInfix text spaced o → (d : Bool) {l r : List Piece} {names mid behind : List (List ℕ)} {t u : Tree} → IsLeftOperand o l names mid t → IsOperandAt (right_of o) r mid behind u
+      → IsPart table flags (l ++ (spaced_as text spaced ∷ with_space d r)) o.priority (is_right_open o.spec) false names behind (Apply o.name (row (t ∷ u ∷ [])))
+  infix_part o text spaced is d {l} {r} {names} {mid} {behind} {t} {u} left right = record {
+    some = front_some l (spaced_as text spaced ∷ with_space d r) left.part.some;
+    reads = λ b qs ts follows ends tokens.
+        let x = left.part.reads b (spaced_as text spaced ∷ (with_space d r ++ qs)) ts (is.follows (with_space d r ++ qs)) (λ h. absurd (false≢true h)) (front_tokens b l (spaced_as text spaced ∷ with_space d r) qs ts left.part.some tokens) in
+        let y = is.reads (with_space d r ++ qs) x.rest x.tokens in
+        let z = right.part.reads d qs y.others follows (λ h. absurd (false≢true h)) y.tokens in
+        record {
+          rest = z.rest;
+          tokens = z.tokens;
+          height = _;
+          reads = between {m = left_at y.others mid} {l = node t left.priority x.height left.is_open} {r = node u right.priority z.height right.is_open} {t = y.first}
+              (subst (λ us. Reads table flags (left_at ts names) (node t left.priority x.height left.is_open) (left_at us mid)) y.is x.reads) y.holds (left.takes x.height) z.reads right.within;
+        };
+    begins = λ _. front_begins l (spaced_as text spaced ∷ with_space d r) left.part.some (left.part.begins refl);
+  }
