@@ -3,20 +3,25 @@ use Rattle.std.proofs.Common.{◌≡◌, ℕ, ◌+◌, ◌-◌, ◌<◌, ◌≤�
 use Rattle.std.specs.Str.{bytes_eq}
 use Rattle.std.proofs.lemmas.Bool.{cases_Bool, true≢false, false≢true}
 use Rattle.std.proofs.lemmas.Bool.Decides.{nat_tests}
-use Rattle.iso_ops.specs.Operators.{Operator}
+use Rattle.std.proofs.lemmas.Slice.Eq.{bytes_eq-Decides}
+use Rattle.std.specs.Cmp.{both_ways}
+use Rattle.std.proofs.lemmas.Option.{none-some}
+use Rattle.iso_ops.specs.declared.specifiers.Kind.{Kind}
+use Rattle.iso_ops.specs.declared.specifiers.Kind.TheVariants.{Prefix, Infix, Postfix}
+use Rattle.iso_ops.specs.Operators.{Operator, IsOpTable, HasNoBrackets, find_op}
 use Rattle.iso_ops.specs.declared.settings.Flags.{Flags}
 use Rattle.iso_model.specs.Operators.{prefix_named, infix_named, postfix_named, left_of, right_of, takes_equal, is_right_open}
 use Rattle.iso_model.specs.Trees.{Tree, Apply, row}
-use Rattle.iso_model.specs.Token.{Shown, TokenKind, PunctToken, content}
+use Rattle.iso_model.specs.Token.{Shown, content, content_of}
 use Rattle.iso_model.specs.Texts.{name_text}
 use Rattle.iso_model.specs.Grammar.{Left, before, Node, is_name, is_unquoted, is_mark, opens_arguments, is_direct_integer, next_is, negates, infix_at, postfix_at, begins, TakesLeft, Reads, Operand, Named, alone, between, behind, name_at, operator_before}
-use Rattle.iso_model.specs.Pieces.{Piece, piece, after_space, begins_open, begins_digit, bracketed}
+use Rattle.iso_model.specs.Pieces.{Piece, Writeq, piece, is_symbolic, name_bytes, operator_bytes, after_space, begins_open, begins_digit, bracketed}
 use Rattle.iso_model.proofs.ReadingSound.{left_at}
 use Rattle.iso_model.proofs.PieceTokens.{AreTokens, Begins, IsMarkToken, IsNameToken}
 use Rattle.iso_model.proofs.PieceLexemes.{mark_first, name_first}
 use Rattle.iso_model.proofs.PieceParts.{with_space, AreSome, spaced_as, node, MayFollow, MayEnd, BeginOperand, IsRead, IsPart, name_begins_operand, name_follows, mark_follows, mark_test, name_is}
 use Rattle.iso_model.proofs.PieceTerms.{prefix_begins}
-use Rattle.iso_model.proofs.PiecePlaces.{place_of_part, bracket_part}
+use Rattle.iso_model.proofs.PiecePlaces.{unspaced, place_of_part, bracket_part}
 
 module _ (table : List Operator) (flags : Flags) where
   -- An operand of at most this priority.
@@ -127,3 +132,61 @@ module _ (table : List Operator) (flags : Flags) where
         };
     begins = λ _. front_begins l (spaced_as text spaced ∷ with_space d r) left.part.some (left.part.begins refl);
   }
+
+  -- an operator's name is one token
+  pub one_token : HasNoBrackets table → (kind : Kind) (name : List ℕ) (o : Operator) → find_op kind name table ≡ Some o → (bytes_eq name (codes "[]") ≡ false) × (bytes_eq name (codes "{}") ≡ false)
+  one_token plain kind name o found = (
+    both_ways (bytes_eq name (codes "[]")) false (λ e. absurd (none-some o (sym (plain kind).0 ∙ ap (λ z. find_op kind z table) (sym ((bytes_eq-Decides name (codes "[]")).0 e)) ∙ found))) (λ e. absurd (false≢true e)),
+    both_ways (bytes_eq name (codes "{}")) false (λ e. absurd (none-some o (sym (plain kind).1 ∙ ap (λ z. find_op kind z table) (sym ((bytes_eq-Decides name (codes "{}")).0 e)) ∙ found))) (λ e. absurd (false≢true e)),
+  )
+
+  name_infix : HasNoBrackets table → (o : Operator) → infix_named table o.name ≡ Some o → (spaced : Bool) → IsInfix (name_text o.name) spaced o
+  name_infix plain o found spaced =
+      let k = one_token plain Infix o.name o found in
+      record {
+        follows = λ qs. name_follows table flags o.name k.0 k.1 spaced qs;
+        reads = λ qs ts tokens.
+            let x = name_first o.name k.0 k.1 spaced qs ts tokens in
+            record { first = x.first; others = x.others; is = x.is; holds = rw (name_is o.name x.first x.holds, x.holds.content) found; tokens = x.tokens };
+      }
+
+  mark_content : (byte : ℕ) (parted : Bool) (t : Shown) → IsMarkToken byte parted t → content t ≡ byte ∷ []
+  mark_content byte parted t h = ap (λ k. content_of k t.text) h.kind ∙ h.text
+
+  whichever : (b : Bool) (found : Option Operator) (o : Operator) → found ≡ Some o → (if b || true then found else None) ≡ Some o
+  whichever true found o h = h
+  whichever false found o h = h
+
+  comma_at : (t : Shown) → IsMarkToken 44 false t → (o : Operator) → infix_named table (codes ",") ≡ Some o → infix_at table t ≡ Some o
+  comma_at t h o found =
+      rw (mark_test 44 false t (codes ",") h) (whichever (is_name t.kind) (infix_named table (content t)) o (ap (infix_named table) (mark_content 44 false t h) ∙ found))
+
+  comma_infix : (o : Operator) → infix_named table (codes ",") ≡ Some o → IsInfix (codes ",") false o
+  comma_infix o found = record {
+    follows = λ qs. mark_follows table flags 44 refl refl qs;
+    reads = λ qs ts tokens.
+        let x = mark_first 44 refl false qs ts tokens in
+        record { first = x.first; others = x.others; is = x.is; holds = comma_at x.first x.holds o found; tokens = x.tokens };
+  }
+
+  after_spaced : (ps : List Piece) → with_space true ps ≡ after_space ps
+  after_spaced [] = refl
+  after_spaced (p ∷ ps) = refl
+
+  -- an infix operator between its operands, as it is written
+  pub infix_written : HasNoBrackets table → (o : Operator) → infix_named table o.name ≡ Some o → {l r : List Piece} {names mid behind : List (List ℕ)} {t u : Tree} → IsLeftOperand o l names mid t → IsOperandAt (right_of o) r mid behind u
+      → IsPart table flags (if is_symbolic o.name then l ++ (piece (operator_bytes Writeq o.name) ∷ r) else l ++ (after_space (piece (name_bytes Writeq o.name) ∷ []) ++ after_space r)) o.priority (is_right_open o.spec) false names behind (Apply o.name (row (t ∷ u ∷ [])))
+  infix_written plain o found {l} {r} {names} {mid} {behind} {t} {u} left right =
+      elim (cases_Bool (is_symbolic o.name)) [
+        | inr spaced ↦ rw (spaced, ← after_spaced r) (infix_part o (name_text o.name) true (name_infix plain o found true) true left right)
+        | inl close ↦ rw close (subst (λ us. IsPart table flags (l ++ (piece (operator_bytes Writeq o.name) ∷ us)) o.priority (is_right_open o.spec) false names behind (Apply o.name (row (t ∷ u ∷ [])))) (unspaced r)
+            (infix_part o (operator_bytes Writeq o.name) false named false left right))
+      ]
+    where
+      named : IsInfix (operator_bytes Writeq o.name) false o
+      named =
+          elim (cases_Bool (bytes_eq o.name (codes ","))) [
+            | inl is ↦ (let same = (bytes_eq-Decides o.name (codes ",")).0 is in
+                rw is (subst (λ z. IsInfix z false o) (sym same) (comma_infix o (ap (infix_named table) (sym same) ∙ found))))
+            | inr other ↦ rw other (name_infix plain o found false)
+          ]
