@@ -10,6 +10,7 @@ use Rattle.iso_ops.specs.declared.specifiers.Kind.{Kind}
 use Rattle.iso_ops.specs.declared.specifiers.Kind.TheVariants.{Prefix, Infix, Postfix}
 use Rattle.iso_ops.specs.Operators.{Operator, IsOpTable, HasNoBrackets, find_op}
 use Rattle.iso_ops.specs.declared.settings.Flags.{Flags}
+use Rattle.iso_ops.proofs.TableLemmas.{apart-postfix}
 use Rattle.iso_model.specs.Operators.{prefix_named, infix_named, postfix_named, left_of, right_of, takes_equal, is_right_open}
 use Rattle.iso_model.specs.Trees.{Tree, Apply, row}
 use Rattle.iso_model.specs.Token.{Shown, content, content_of}
@@ -22,6 +23,10 @@ use Rattle.iso_model.proofs.PieceLexemes.{mark_first, name_first}
 use Rattle.iso_model.proofs.PieceParts.{with_space, AreSome, spaced_as, node, MayFollow, MayEnd, BeginOperand, IsRead, IsPart, name_begins_operand, name_follows, mark_follows, mark_test, name_is}
 use Rattle.iso_model.proofs.PieceTerms.{prefix_begins}
 use Rattle.iso_model.proofs.PiecePlaces.{unspaced, place_of_part, bracket_part}
+
+and_false : (a : Bool) → (a && false) ≡ false
+and_false true = refl
+and_false false = refl
 
 module _ (table : List Operator) (flags : Flags) where
   -- An operand of at most this priority.
@@ -190,3 +195,54 @@ module _ (table : List Operator) (flags : Flags) where
                 rw is (subst (λ z. IsInfix z false o) (sym same) (comma_infix o (ap (infix_named table) (sym same) ∙ found))))
             | inr other ↦ rw other (name_infix plain o found false)
           ]
+
+  -- ---- postfix operators
+
+  postfix_at_name : (o : Operator) → (t : Shown) → IsNameToken o.name t → postfix_named table o.name ≡ Some o → postfix_at table t ≡ Some o
+  postfix_at_name o t h found = rw (name_is o.name t h, h.content) found
+
+  no_infix_at : (o : Operator) → (t : Shown) → IsNameToken o.name t → infix_named table o.name ≡ None → infix_at table t ≡ None
+  no_infix_at o t h none = rw (name_is o.name t h, h.content) none
+
+  postfix_part : IsOpTable table → HasNoBrackets table → (o : Operator) → postfix_named table o.name ≡ Some o → (spaced : Bool) {l : List Piece} {names mid : List (List ℕ)} {t : Tree} → IsLeftOperand o l names mid t
+      → IsPart table flags (l ++ (spaced_as (name_text o.name) spaced ∷ [])) o.priority (is_right_open o.spec) false names mid (Apply o.name (row (t ∷ [])))
+  postfix_part good plain o found spaced {l} {names} {mid} {t} left =
+      let k = one_token plain Postfix o.name o found in
+      record {
+        some = front_some l (spaced_as (name_text o.name) spaced ∷ []) left.part.some;
+        reads = λ b qs ts follows ends tokens.
+            let x = left.part.reads b (spaced_as (name_text o.name) spaced ∷ qs) ts (name_follows table flags o.name k.0 k.1 spaced qs) (λ h. absurd (false≢true h)) (front_tokens b l (spaced_as (name_text o.name) spaced ∷ []) qs ts left.part.some tokens) in
+            let y = name_first o.name k.0 k.1 spaced qs x.rest x.tokens in
+            record {
+              rest = y.others;
+              tokens = y.tokens;
+              height = _;
+              reads = behind {z = left_at y.others mid} {l = node t left.priority x.height left.is_open} {t = y.first}
+                  (subst (λ us. Reads table flags (left_at ts names) (node t left.priority x.height left.is_open) (left_at us mid)) y.is x.reads)
+                  (no_infix_at o y.first y.holds (apart-postfix table o.name o good found)) (postfix_at_name o y.first y.holds found) (left.takes x.height);
+            };
+        begins = λ _. front_begins l (spaced_as (name_text o.name) spaced ∷ []) left.part.some (left.part.begins refl);
+      }
+
+  -- a postfix operator behind its operand, as it is written
+  pub postfix_written : IsOpTable table → HasNoBrackets table → (o : Operator) → postfix_named table o.name ≡ Some o → {l : List Piece} {names mid : List (List ℕ)} {t : Tree} → IsLeftOperand o l names mid t
+      → IsPart table flags (l ++ (if is_symbolic o.name then piece (name_bytes Writeq o.name) ∷ [] else after_space (piece (name_bytes Writeq o.name) ∷ []))) o.priority (is_right_open o.spec) false names mid (Apply o.name (row (t ∷ [])))
+  postfix_written good plain o found left =
+      elim (cases_Bool (is_symbolic o.name)) [
+        | inl close ↦ rw close (postfix_part good plain o found false left)
+        | inr spaced ↦ rw spaced (postfix_part good plain o found true left)
+      ]
+
+  -- ---- prefix operators
+
+  -- what stands behind a prefix operator takes no space where it opens no bracket, and no digits behind `-`
+  apart_opens : (a b c : Bool) → (not (a || (b || c)) && b) ≡ false
+  apart_opens true b c = refl
+  apart_opens false true c = refl
+  apart_opens false false c = and_false (not c)
+
+  apart_counts : (a b c : Bool) → (not (a || (b || (true && c))) && c) ≡ false
+  apart_counts true b c = refl
+  apart_counts false true c = refl
+  apart_counts false false true = refl
+  apart_counts false false false = refl
