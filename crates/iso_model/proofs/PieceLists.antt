@@ -61,7 +61,7 @@ module _ (table : List Operator) (flags : Flags) where
     reads = λ qs ts tokens.
         let x = mark_first 124 refl false ((ps ++ piece (codes "]") ∷ []) ++ qs) ts tokens in
         let y = place_closed table flags 93 999 refl refl (λ qs. mark_follows table flags 93 refl refl qs) (λ qs. mark_ends table flags 93 refl refl refl refl qs) p qs x.others
-            (subst (λ zs. AreTokens zs x.others) (append_assoc ps (piece (codes "]") ∷ []) qs) x.tokens) in
+        (subst (λ zs. AreTokens zs x.others) (append_assoc ps (piece (codes "]") ∷ []) qs) x.tokens) in
         record {
           rest = y.rest;
           tokens = y.tokens;

@@ -241,8 +241,53 @@ module _ (table : List Operator) (flags : Flags) where
   apart_opens false true c = refl
   apart_opens false false c = and_false (not c)
 
-  apart_counts : (a b c : Bool) → (not (a || (b || (true && c))) && c) ≡ false
-  apart_counts true b c = refl
-  apart_counts false true c = refl
-  apart_counts false false true = refl
-  apart_counts false false false = refl
+  apart_counts : (a b s c : Bool) → s ≡ true → (not (a || (b || (s && c))) && c) ≡ false
+  apart_counts true b s c h = refl
+  apart_counts false true s c h = refl
+  apart_counts false false true true h = refl
+  apart_counts false false true false h = refl
+  apart_counts false false false c h = absurd (false≢true h)
+
+  no_sign : (unquoted sign direct : Bool) → (sign ≡ true → direct ≡ false) → (unquoted && (sign && direct)) ≡ false
+  no_sign true true direct h = h refl
+  no_sign true false direct h = refl
+  no_sign false sign direct h = refl
+
+  prefix_part : HasNoBrackets table → (o : Operator) → prefix_named table o.name ≡ Some o → (d : Bool) {r : List Piece} {names behind : List (List ℕ)} {t : Tree} → IsOperandAt (right_of o) r names behind t → (not d && begins_open r) ≡ false
+      → (bytes_eq o.name (codes "-") ≡ true → (not d && begins_digit r) ≡ false) → IsPart table flags (piece (name_text o.name) ∷ with_space d r) o.priority (is_right_open o.spec) false names behind (Apply o.name (row (t ∷ [])))
+  prefix_part plain o found d {r} {names} {behind} {t} right opens counts =
+      let k = one_token plain Prefix o.name o found in
+      let first = right.part.begins refl in
+      record {
+        some = tt;
+        reads = λ b qs ts follows ends tokens.
+            let x = name_first o.name k.0 k.1 (b || false) (with_space d r ++ qs) ts tokens in
+            let z = right.part.reads d qs x.others follows (λ h. absurd (false≢true h)) x.tokens in
+            rw x.is (record {
+              rest = z.rest;
+              tokens = z.tokens;
+              height = z.height + 1;
+              reads = alone (name_at {s = left_at x.others names} {t = x.first} (name_is o.name x.first x.holds)
+                  (subst (λ name. Named table flags (is_unquoted x.first.kind) name (left_at x.others names) (node (Apply o.name (row (t ∷ []))) o.priority (z.height + 1) (is_right_open o.spec)) (left_at z.rest behind)) (sym x.holds.content)
+                  (operator_before {s = left_at x.others names} {n = node t right.priority z.height right.is_open} (first.opens d qs x.others x.tokens opens)
+                  (no_sign (is_unquoted x.first.kind) (bytes_eq o.name (codes "-")) (next_is is_direct_integer x.others) (λ is. first.counts d qs x.others x.tokens (counts is)))
+                  found (first.begins d qs x.others x.tokens) z.reads right.within)));
+            });
+        begins = λ _. name_begins_operand table flags o.name (piece (name_text o.name) ∷ with_space d r) (λ b qs ts tokens.
+            let x = name_first o.name k.0 k.1 (b || false) (with_space d r ++ qs) ts tokens in
+            record { first = x.first; others = x.others; is = x.is; holds = x.holds; begins = prefix_begins table flags x.first x.others (ap (λ z. is_some (prefix_named table z)) x.holds.content ∙ ap is_some found) });
+      }
+
+  -- a prefix operator before its operand, as it is written
+  pub prefix_written : HasNoBrackets table → (o : Operator) → prefix_named table o.name ≡ Some o → {r : List Piece} {names behind : List (List ℕ)} {t : Tree} → IsOperandAt (right_of o) r names behind t
+      → IsPart table flags (piece (name_bytes Writeq o.name) ∷ (if not (is_symbolic o.name) || (begins_open r || (bytes_eq o.name (codes "-") && begins_digit r)) then after_space r else r)) o.priority (is_right_open o.spec) false names behind (Apply o.name (row (t ∷ [])))
+  prefix_written plain o found {r} {names} {behind} {t} right =
+      let plain_name = not (is_symbolic o.name) in
+      let sign = bytes_eq o.name (codes "-") in
+      by (plain_name || (begins_open r || (sign && begins_digit r)))
+      (prefix_part plain o found (plain_name || (begins_open r || (sign && begins_digit r))) right (apart_opens plain_name (begins_open r) (sign && begins_digit r)) (λ h. apart_counts plain_name (begins_open r) sign (begins_digit r) h))
+    where
+      by : (d : Bool) → IsPart table flags (piece (name_text o.name) ∷ with_space d r) o.priority (is_right_open o.spec) false names behind (Apply o.name (row (t ∷ [])))
+          → IsPart table flags (piece (name_bytes Writeq o.name) ∷ (if d then after_space r else r)) o.priority (is_right_open o.spec) false names behind (Apply o.name (row (t ∷ [])))
+      by true p = subst (λ us. IsPart table flags (piece (name_text o.name) ∷ us) o.priority (is_right_open o.spec) false names behind (Apply o.name (row (t ∷ [])))) (after_spaced r) p
+      by false p = subst (λ us. IsPart table flags (piece (name_text o.name) ∷ us) o.priority (is_right_open o.spec) false names behind (Apply o.name (row (t ∷ [])))) (unspaced r) p
