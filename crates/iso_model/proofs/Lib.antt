@@ -27,6 +27,7 @@ pub mod PieceTerms
 pub mod PiecePlaces
 pub mod PieceLists
 pub mod PieceOperators
+pub mod PieceWritten
 pub mod PieceGrammar
 pub mod NumberedLemmas
 pub mod VariableLemmas

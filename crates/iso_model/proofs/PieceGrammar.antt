@@ -15,6 +15,7 @@ use Rattle.iso_model.proofs.PieceTerms.{count_part}
 use Rattle.iso_model.proofs.PiecePlaces.{unspaced}
 use Rattle.iso_model.proofs.PieceLists.{nil_tail}
 use Rattle.iso_model.proofs.PieceOperators.{operand_part}
+use Rattle.iso_model.proofs.PieceWritten.{simple_readable}
 
 -- The tokens are read as the term with its variables numbered 0, 1, .. by first occurrence.
 pub record AreRead (table : List Operator) (flags : Flags) (t : Tree) (ts : List Shown) : Type 0 where
