@@ -11,12 +11,17 @@ use Rattle.iso_ops.proofs.TableLemmas.{find_op-parts, find_op-priority}
 use Rattle.iso_model.specs.Operators.{prefix_named, infix_named, postfix_named, left_of, right_of, takes_equal, is_right_open}
 use Rattle.iso_model.specs.Trees.{Tree, Name, Apply, row}
 use Rattle.iso_model.specs.Lists.{nil, curly, dot}
+use Rattle.iso_model.specs.Texts.{name_text}
 use Rattle.iso_model.specs.Pieces.{Piece, Writeq, Written, piece, simple, made_by, at_most, operand_at, left_operand, bracketed, compound_written, single_by, single_written, pair_by, pair_written, list_written, atom_written, is_operator_name}
 use Rattle.iso_model.proofs.PieceParts.{IsPart}
 use Rattle.iso_model.proofs.PieceTerms.{atom_part, nil_part, curly_part}
 use Rattle.iso_model.proofs.PiecePlaces.{IsPlace, place_of_part, bracket_part, braces_part, last_argument, more_arguments, compound_part}
 use Rattle.iso_model.proofs.PieceLists.{IsTail, nil_tail, bar_tail, cell_tail, list_part}
 use Rattle.iso_model.proofs.PieceOperators.{IsOperandAt, operand_part, IsLeftOperand, left_part, infix_written, postfix_written, prefix_written}
+
+and_true : (a : Bool) → (a && true) ≡ a
+and_true true = refl
+and_true false = refl
 
 module _ (table : List Operator) (flags : Flags) (seen : List ℕ) where
   -- What is written is read as this term.
@@ -97,3 +102,33 @@ module _ (table : List Operator) (flags : Flags) (seen : List ℕ) where
         | inl is ↦ (let same = (bytes_eq-Decides name (codes ".")).0 is in rw (is, same) (list_readable r q))
         | inr other ↦ rw other (pair_by_readable good plain name (infix_named table name) refl r q)
       ]
+
+  -- ---- atoms
+
+  nil_alone : HasNoBrackets table → (is_operator_name Writeq table seen nil && true) ≡ false
+  nil_alone plain = rw ((plain Prefix).0, (plain Infix).0, (plain Postfix).0) refl
+
+  curly_alone : HasNoBrackets table → (is_operator_name Writeq table seen curly && true) ≡ false
+  curly_alone plain = rw ((plain Prefix).1, (plain Infix).1, (plain Postfix).1) refl
+
+  name_part : HasNoBrackets table → (name : List ℕ) (names : List (List ℕ)) → IsPart table flags (piece (name_text name) ∷ []) 0 false (is_operator_name Writeq table seen name && true) names names (Name name)
+  name_part plain name names =
+      elim (cases_Bool (bytes_eq name (codes "[]"))) [
+        | inl is ↦ (let same = (bytes_eq-Decides name (codes "[]")).0 is in rw same (subst (λ lone. IsPart table flags (piece (codes "[]") ∷ []) 0 false lone names names (Name nil)) (sym (nil_alone plain)) (nil_part table flags plain names)))
+        | inr a ↦ elim (cases_Bool (bytes_eq name (codes "{}"))) [
+          | inl is ↦ (let same = (bytes_eq-Decides name (codes "{}")).0 is in rw same (subst (λ lone. IsPart table flags (piece (codes "{}") ∷ []) 0 false lone names names (Name curly)) (sym (curly_alone plain)) (curly_part table flags plain names)))
+          | inr c ↦ atom_part table flags name a c (is_operator_name Writeq table seen name && true) (and_true (is_operator_name Writeq table seen name)) names
+        ]
+      ]
+
+  name_tail : HasNoBrackets table → (name : List ℕ) (names : List (List ℕ)) (b : Bool) → bytes_eq name (codes "[]") ≡ b
+      → IsTail table flags (if b then piece (codes "]") ∷ [] else piece (codes "|") ∷ piece (name_text name) ∷ piece (codes "]") ∷ []) names names (Name name)
+  name_tail plain name names true is = rw ((bytes_eq-Decides name (codes "[]")).0 is) (nil_tail table flags names)
+  name_tail plain name names false is = bar_tail table flags (place_of_part table flags 999 (name_part plain name names) (omega arith))
+
+  pub atom_readable : HasNoBrackets table → (name : List ℕ) (names : List (List ℕ)) → IsReadable (atom_written Writeq table seen name) names names (Name name)
+  atom_readable plain name names = record {
+    part = name_part plain name names;
+    priority = omega arith;
+    tail = name_tail plain name names (bytes_eq name (codes "[]")) refl;
+  }
