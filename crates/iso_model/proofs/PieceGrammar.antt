@@ -1,21 +1,27 @@
 -- The tokens of what is written of a term are read as that term.
-use Rattle.std.proofs.Common.{◌≡◌, ℕ, ◌≤◌, List, [], ◌∷◌}
+use Rattle.std.proofs.Common.{◌≡◌, ℕ, ◌+◌, ◌<◌, ◌≤◌, ◌^◌, Bool, true, false, ◌&&◌, ◌==◌, nat_le, nat_lt, List, [], ◌∷◌, ◌++◌, length, unwrap_or, position, pos, negsuc, ℤ, codes, refl, sym, ap, ◌∙◌, subst, arith, append-nil}
+use Rattle.std.proofs.lemmas.Bool.{and_parts, false≢true, leb-true, ltb-true, eq-eqb}
 use Rattle.iso_ops.specs.Operators.{Operator, IsOpTable, HasNoBrackets}
 use Rattle.iso_ops.specs.declared.settings.Flags.{Flags}
-use Rattle.iso_model.specs.Trees.{Tree}
+use Rattle.iso_model.specs.Trees.{Tree, Variable, Integer, Name, Apply, End, More, row, count}
+use Rattle.iso_model.specs.Sorts.{is_term, is_row}
+use Rattle.iso_model.specs.Variables.{occurs, is_in, distinct_from, variables}
+use Rattle.iso_model.specs.Substitutions.{Subst, apply}
+use Rattle.iso_model.specs.Copies.{place_of, copy_from}
+use Rattle.iso_model.specs.Unification.Listed.{is_in-append, distinct_keeps, distinct_covers}
 use Rattle.iso_model.specs.Token.{Shown}
-use Rattle.iso_model.specs.Copies.{copy_from}
-use Rattle.iso_model.specs.Grammar.{Node, Reads, start_of}
-use Rattle.iso_model.specs.Pieces.{Writeq, at_most, term_written}
-use Rattle.iso_model.specs.WritingLaws.{IsWritable}
+use Rattle.iso_model.specs.Texts.{variable_text}
+use Rattle.iso_model.specs.Grammar.{Node, Reads, start_of, number_of}
+use Rattle.iso_model.specs.Pieces.{Piece, Writeq, Written, piece, simple, at_most, term_written}
+use Rattle.iso_model.specs.WritingLaws.{IsWritable, integers_fit, integer_fits}
+use Rattle.iso_model.proofs.SortLemmas.{row_of_arguments}
+use Rattle.iso_model.proofs.VariableLemmas.{listed_occurring}
 use Rattle.iso_model.proofs.PieceTokens.{AreTokens}
-use Rattle.iso_model.proofs.PieceVariables.{place_kept}
-use Rattle.iso_model.proofs.PieceParts.{mark_test}
-use Rattle.iso_model.proofs.PieceTerms.{count_part}
-use Rattle.iso_model.proofs.PiecePlaces.{unspaced}
-use Rattle.iso_model.proofs.PieceLists.{nil_tail}
-use Rattle.iso_model.proofs.PieceOperators.{operand_part}
-use Rattle.iso_model.proofs.PieceWritten.{simple_readable}
+use Rattle.iso_model.proofs.PieceVariables.{place_kept, IsBeginning, begins_within, begins_itself, begins_distinct, texts, number_read, names_read}
+use Rattle.iso_model.proofs.PieceParts.{IsPart, place_part, nothing_follows, nothing_ends}
+use Rattle.iso_model.proofs.PieceTerms.{count_part, negative_part}
+use Rattle.iso_model.proofs.PiecePlaces.{IsPlace, AreArguments, last_argument, more_arguments, compound_part}
+use Rattle.iso_model.proofs.PieceWritten.{IsReadable, simple_readable, place_written, atom_readable, single_readable, pair_readable}
 
 -- The tokens are read as the term with its variables numbered 0, 1, .. by first occurrence.
 pub record AreRead (table : List Operator) (flags : Flags) (t : Tree) (ts : List Shown) : Type 0 where
@@ -25,6 +31,56 @@ pub record AreRead (table : List Operator) (flags : Flags) (t : Tree) (ts : List
   pub priority : node.priority ≤ 1200
   pub term : node.term ≡ copy_from t 0
 
-pub written_read : (table : List Operator) (flags : Flags) → IsOpTable table → HasNoBrackets table → (seen : List ℕ) (t : Tree) → IsWritable seen t
-    → (ts : List Shown) → AreTokens (at_most 1200 (term_written Writeq table seen t)) ts → AreRead table flags t ts
-written_read table flags good plain seen t writable ts tokens = ?
+-- All variables of a text, in the order of their first occurrence, are among those of its line.
+module _ (table : List Operator) (flags : Flags) (good : IsOpTable table) (plain : HasNoBrackets table) (seen : List ℕ) (few : length seen < 10 ^ 64) (all : List ℕ) (known : (x : ℕ) → is_in x all ≡ true → is_in x seen ≡ true) where
+  -- each variable by its place
+  abbrev numbered : Tree → Tree
+  numbered t = apply (λ x. Variable (0 + place_of x all)) t
+
+  -- What is written of a term is read as that term, behind these variables.
+  abbrev Readable : Tree → List ℕ → Type 0
+  Readable t vs = IsReadable table flags seen (term_written Writeq table seen t) (texts seen few vs) (texts seen few (distinct_from vs t)) (numbered t)
+
+  variable_readable : (n : ℕ) (vs : List ℕ) → IsBeginning (distinct_from vs (Variable n)) all → Readable (Variable n) vs
+  variable_readable n vs within =
+      let listed = λ (y : ℕ) (h : is_in y (distinct_from vs (Variable n)) ≡ true). known y (subst (λ us. is_in y us ≡ true) (sym within.is) (is_in-append y (distinct_from vs (Variable n)) within.more h)) in
+      let here = listed n (distinct_covers vs (Variable n) n (eq-eqb n n refl)) in
+      let before = λ (y : ℕ) (h : is_in y vs ≡ true). listed y (distinct_keeps vs (Variable n) y h) in
+      let number = number_read seen few n vs here before in
+      let place = ap (place_of n) within.is ∙ place_kept n vs within.more in
+      let same : number_of (variable_text seen n) (texts seen few vs) ≡ 0 + place_of n all = omega (arith, number, place) in
+      simple_readable table flags seen
+      (subst (λ k. IsPart table flags (piece (variable_text seen n) ∷ []) 0 false false (texts seen few vs) (texts seen few (distinct_from vs (Variable n))) (Variable k)) same
+      (subst (λ us. IsPart table flags (piece (variable_text seen n) ∷ []) 0 false false (texts seen few vs) us (Variable (number_of (variable_text seen n) (texts seen few vs)))) (names_read seen few n vs here before)
+      (place_part table flags (unwrap_or (position (λ m. m == n) seen) (length seen) + 1) (texts seen few vs))))
+
+  integer_readable : (z : ℤ) (vs : List ℕ) → integer_fits z ≡ true → Readable (Integer z) vs
+  integer_readable (pos n) vs fits = simple_readable table flags seen (count_part table flags n (ltb-true n (2 ^ 63) fits) (texts seen few vs))
+  integer_readable (negsuc n) vs fits = simple_readable table flags seen (negative_part table flags n (ltb-true n (2 ^ 63) fits) (texts seen few vs))
+
+  -- What is written of further arguments goes on with them behind a first one.
+  record AreReadable (ts : Tree) (vs : List ℕ) : Type 0 where
+    pub args : List Tree
+    pub is : row args ≡ numbered ts
+    pub count : length args ≡ count ts
+    pub continues : {ps : List Piece} {names : List (List ℕ)} {t : Tree} → IsPlace table flags 999 ps names (texts seen few vs) t
+        → AreArguments table flags (ps ++ (term_written Writeq table seen ts).others) names (texts seen few (distinct_from vs ts)) (t ∷ args)
+
+  within_first : (t ts : Tree) (vs : List ℕ) → IsBeginning (distinct_from (distinct_from vs t) ts) all → IsBeginning (distinct_from vs t) all
+  within_first t ts vs within = begins_within (distinct_from vs t) (distinct_from (distinct_from vs t) ts) all (begins_distinct (distinct_from vs t) ts) within
+
+  none_readable : (vs : List ℕ) → AreReadable End vs
+  none_readable vs = record {
+    args = [];
+    is = refl;
+    count = refl;
+    continues = λ {ps} p. subst (λ us. AreArguments table flags us _ _ _) (sym (append-nil ps)) (last_argument table flags p);
+  }
+
+  more_readable : (t ts : Tree) (vs : List ℕ) → Readable t vs → AreReadable ts (distinct_from vs t) → AreReadable (More t ts) vs
+  more_readable t ts vs first others = record {
+    args = numbered t ∷ others.args;
+    is = ap (More (numbered t)) others.is;
+    count = omega (arith, others.count);
+    continues = λ p. more_arguments table flags p (others.continues (place_written table flags seen 999 first));
+  }
