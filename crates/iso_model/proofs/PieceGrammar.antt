@@ -12,7 +12,7 @@ use Rattle.iso_model.specs.Unification.Listed.{is_in-append, distinct_keeps, dis
 use Rattle.iso_model.specs.Token.{Shown}
 use Rattle.iso_model.specs.Texts.{variable_text}
 use Rattle.iso_model.specs.Grammar.{Node, Reads, start_of, number_of}
-use Rattle.iso_model.specs.Pieces.{Piece, Writeq, Written, piece, simple, at_most, term_written}
+use Rattle.iso_model.specs.Pieces.{Piece, Writeq, Written, piece, simple, compound_written, at_most, term_written}
 use Rattle.iso_model.specs.WritingLaws.{IsWritable, integers_fit, integer_fits}
 use Rattle.iso_model.proofs.SortLemmas.{row_of_arguments}
 use Rattle.iso_model.proofs.VariableLemmas.{listed_occurring}
@@ -30,6 +30,16 @@ pub record AreRead (table : List Operator) (flags : Flags) (t : Tree) (ts : List
   pub reads : Reads table flags (start_of ts) node (record { tokens = []; names = names })
   pub priority : node.priority ≤ 1200
   pub term : node.term ≡ copy_from t 0
+
+few_arguments : (name : List ℕ) (ts : Tree) → is_term (Apply name ts) ≡ true → count ts ≤ 255
+few_arguments name ts sort =
+    leb-true (count ts) 255 (and_parts (nat_le (count ts) 255) (is_row ts) (and_parts (nat_le 1 (count ts)) (nat_le (count ts) 255 && is_row ts) sort).1).0
+
+second_row : (name : List ℕ) (t ts : Tree) → is_term (Apply name (More t ts)) ≡ true → is_row ts ≡ true
+second_row name t ts sort = (and_parts (is_term t) (is_row ts) (row_of_arguments name (More t ts) sort)).1
+
+third_row : (name : List ℕ) (t u ts : Tree) → is_term (Apply name (More t (More u ts))) ≡ true → is_row ts ≡ true
+third_row name t u ts sort = (and_parts (is_term u) (is_row ts) (second_row name t (More u ts) sort)).1
 
 -- All variables of a text, in the order of their first occurrence, are among those of its line.
 module _ (table : List Operator) (flags : Flags) (good : IsOpTable table) (plain : HasNoBrackets table) (seen : List ℕ) (few : length seen < 10 ^ 64) (all : List ℕ) (known : (x : ℕ) → is_in x all ≡ true → is_in x seen ≡ true) where
@@ -74,7 +84,7 @@ module _ (table : List Operator) (flags : Flags) (good : IsOpTable table) (plain
     args = [];
     is = refl;
     count = refl;
-    continues = λ {ps} p. subst (λ us. AreArguments table flags us _ _ _) (sym (append-nil ps)) (last_argument table flags p);
+    continues = λ {ps} {names} {t} p. subst (λ us. AreArguments table flags us names (texts seen few vs) (t ∷ [])) (sym (append-nil ps)) (last_argument table flags p);
   }
 
   more_readable : (t ts : Tree) (vs : List ℕ) → Readable t vs → AreReadable ts (distinct_from vs t) → AreReadable (More t ts) vs
@@ -84,3 +94,55 @@ module _ (table : List Operator) (flags : Flags) (good : IsOpTable table) (plain
     count = omega (arith, others.count);
     continues = λ p. more_arguments table flags p (others.continues (place_written table flags seen 999 first));
   }
+
+  -- a compound of arguments
+  arguments_readable : (name : List ℕ) (t ts : Tree) (vs : List ℕ) → count ts < 255 → Readable t vs → AreReadable ts (distinct_from vs t)
+      → IsReadable table flags seen (compound_written Writeq table seen name (at_most 999 (term_written Writeq table seen t) ++ (term_written Writeq table seen ts).others)) (texts seen few vs) (texts seen few (distinct_from (distinct_from vs t) ts)) (Apply name (More (numbered t) (numbered ts)))
+  arguments_readable name t ts vs most first others =
+      rw (← others.is) (simple_readable table flags seen (compound_part table flags name (others.continues (place_written table flags seen 999 first)) (omega (arith, most, others.count))))
+
+  mutual
+    term_readable : (t : Tree) (vs : List ℕ) → is_term t ≡ true → integers_fit t ≡ true → IsBeginning (distinct_from vs t) all → Readable t vs
+    term_readable (Variable n) vs sort fits within = variable_readable n vs within
+    term_readable (Integer z) vs sort fits within = integer_readable z vs fits
+    term_readable (Name name) vs sort fits within = atom_readable table flags seen plain name (texts seen few vs)
+    term_readable (Apply name (More t End)) vs sort fits within =
+        let sorts = and_parts (is_term t) true (row_of_arguments name (More t End) sort) in
+        let fit = and_parts (integers_fit t) true fits in
+        single_readable table flags seen good plain name (term_readable t vs sorts.0 fit.0 within)
+    term_readable (Apply name (More t (More u End))) vs sort fits within =
+        let sorts = and_parts (is_term t) (is_row (More u End)) (row_of_arguments name (More t (More u End)) sort) in
+        let more_sorts = and_parts (is_term u) true sorts.1 in
+        let fit = and_parts (integers_fit t) (integers_fit (More u End)) fits in
+        let more_fit = and_parts (integers_fit u) true fit.1 in
+        pair_readable table flags seen good plain name (term_readable t vs sorts.0 fit.0 (within_first t u vs within)) (term_readable u (distinct_from vs t) more_sorts.0 more_fit.0 within)
+    term_readable (Apply name (More t (More u (More v ts)))) vs sort fits within =
+        let sorts = and_parts (is_term t) (is_row (More u (More v ts))) (row_of_arguments name (More t (More u (More v ts))) sort) in
+        let fit = and_parts (integers_fit t) (integers_fit (More u (More v ts))) fits in
+        arguments_readable name t (More u (More v ts)) vs (omega (arith, few_arguments name (More t (More u (More v ts))) sort)) (term_readable t vs sorts.0 fit.0 (within_first t (More u (More v ts)) vs within)) (row_readable (More u (More v ts)) (distinct_from vs t) sorts.1 fit.1 within)
+    term_readable (Apply name (More t (More u (Variable n)))) vs sort fits within = absurd (false≢true (third_row name t u (Variable n) sort))
+    term_readable (Apply name (More t (More u (Integer z)))) vs sort fits within = absurd (false≢true (third_row name t u (Integer z) sort))
+    term_readable (Apply name (More t (More u (Name a)))) vs sort fits within = absurd (false≢true (third_row name t u (Name a) sort))
+    term_readable (Apply name (More t (More u (Apply f ts)))) vs sort fits within = absurd (false≢true (third_row name t u (Apply f ts) sort))
+    term_readable (Apply name (More t (Variable n))) vs sort fits within = absurd (false≢true (second_row name t (Variable n) sort))
+    term_readable (Apply name (More t (Integer z))) vs sort fits within = absurd (false≢true (second_row name t (Integer z) sort))
+    term_readable (Apply name (More t (Name a))) vs sort fits within = absurd (false≢true (second_row name t (Name a) sort))
+    term_readable (Apply name (More t (Apply f ts))) vs sort fits within = absurd (false≢true (second_row name t (Apply f ts) sort))
+    term_readable (Apply name End) vs sort fits within = absurd (false≢true sort)
+    term_readable (Apply name (Variable n)) vs sort fits within = absurd (false≢true sort)
+    term_readable (Apply name (Integer z)) vs sort fits within = absurd (false≢true sort)
+    term_readable (Apply name (Name a)) vs sort fits within = absurd (false≢true sort)
+    term_readable (Apply name (Apply f ts)) vs sort fits within = absurd (false≢true sort)
+    term_readable End vs sort fits within = absurd (false≢true sort)
+    term_readable (More t ts) vs sort fits within = absurd (false≢true sort)
+
+    row_readable : (ts : Tree) (vs : List ℕ) → is_row ts ≡ true → integers_fit ts ≡ true → IsBeginning (distinct_from vs ts) all → AreReadable ts vs
+    row_readable End vs sort fits within = none_readable vs
+    row_readable (More t ts) vs sort fits within =
+        let sorts = and_parts (is_term t) (is_row ts) sort in
+        let fit = and_parts (integers_fit t) (integers_fit ts) fits in
+        more_readable t ts vs (term_readable t vs sorts.0 fit.0 (within_first t ts vs within)) (row_readable ts (distinct_from vs t) sorts.1 fit.1 within)
+    row_readable (Variable n) vs sort fits within = absurd (false≢true sort)
+    row_readable (Integer z) vs sort fits within = absurd (false≢true sort)
+    row_readable (Name a) vs sort fits within = absurd (false≢true sort)
+    row_readable (Apply f ts) vs sort fits within = absurd (false≢true sort)
