@@ -16,9 +16,10 @@ use Rattle.iso_model.specs.Pieces.{Piece, Writeq, Written, piece, simple, compou
 use Rattle.iso_model.specs.WritingLaws.{IsWritable, integers_fit, integer_fits}
 use Rattle.iso_model.proofs.SortLemmas.{row_of_arguments}
 use Rattle.iso_model.proofs.VariableLemmas.{listed_occurring}
+use Rattle.iso_model.proofs.ReadingSound.{left_at}
 use Rattle.iso_model.proofs.PieceTokens.{AreTokens}
 use Rattle.iso_model.proofs.PieceVariables.{place_kept, IsBeginning, begins_within, begins_itself, begins_distinct, texts, number_read, names_read}
-use Rattle.iso_model.proofs.PieceParts.{IsPart, place_part, nothing_follows, nothing_ends}
+use Rattle.iso_model.proofs.PieceParts.{node, IsPart, place_part, nothing_follows, nothing_ends}
 use Rattle.iso_model.proofs.PieceTerms.{count_part, negative_part}
 use Rattle.iso_model.proofs.PiecePlaces.{IsPlace, AreArguments, last_argument, more_arguments, compound_part}
 use Rattle.iso_model.proofs.PieceWritten.{IsReadable, simple_readable, place_written, atom_readable, single_readable, pair_readable}
@@ -146,3 +147,17 @@ module _ (table : List Operator) (flags : Flags) (good : IsOpTable table) (plain
     row_readable (Integer z) vs sort fits within = absurd (false≢true sort)
     row_readable (Name a) vs sort fits within = absurd (false≢true sort)
     row_readable (Apply f ts) vs sort fits within = absurd (false≢true sort)
+
+pub written_read : (table : List Operator) (flags : Flags) → IsOpTable table → HasNoBrackets table → (seen : List ℕ) (t : Tree) → IsWritable seen t → length seen < 10 ^ 64
+    → (ts : List Shown) → AreTokens (at_most 1200 (term_written Writeq table seen t)) ts → AreRead table flags t ts
+written_read table flags good plain seen t writable few ts tokens =
+    let known = λ (x : ℕ) (h : is_in x (variables t) ≡ true). writable.places x (sym (listed_occurring t x) ∙ h) in
+    let r = term_readable table flags good plain seen few (variables t) known t [] writable.term writable.integers (begins_itself (variables t)) in
+    let x = (place_written table flags seen 1200 r).reads [] ts (nothing_follows table flags) (nothing_ends table flags) (subst (λ us. AreTokens us ts) (sym (append-nil (at_most 1200 (term_written Writeq table seen t)))) tokens) in
+    record {
+      node = node (copy_from t 0) x.priority x.height x.is_open;
+      names = texts seen few (variables t);
+      reads = subst (λ us. Reads table flags (start_of ts) (node (copy_from t 0) x.priority x.height x.is_open) (left_at us (texts seen few (variables t)))) x.tokens.are x.reads;
+      priority = x.within;
+      term = refl;
+    }
