@@ -33,19 +33,23 @@ module _ (table : List Operator) (flags : Flags) (seen : List ℕ) where
   pub simple_readable : {ps : List Piece} {names behind : List (List ℕ)} {t : Tree} → IsPart table flags ps 0 false false names behind t → IsReadable (simple ps) names behind t
   simple_readable p = record { part = p; priority = omega arith; tail = bar_tail table flags (place_of_part table flags 999 p (omega arith)) }
 
+  -- a part in a place of at most this priority
+  placed_part : (most : ℕ) {ps : List Piece} {priority : ℕ} {is_open lone : Bool} {names behind : List (List ℕ)} {t : Tree} → IsPart table flags ps priority is_open lone names behind t → priority ≤ 1200
+      → IsPlace table flags most (if nat_lt most priority then bracketed ps else ps) names behind t
+  placed_part most {priority = priority} p le =
+      elim (cases_Bool (nat_lt most priority)) [
+        | inl above ↦ rw above (place_of_part table flags most (bracket_part table flags (place_of_part table flags 1200 p le)) (omega arith))
+        | inr within ↦ rw within (place_of_part table flags most p (grind (arith, nat_tests, within)))
+      ]
+
+  pub place_written : (most : ℕ) {w : Written} {names behind : List (List ℕ)} {t : Tree} → IsReadable w names behind t → IsPlace table flags most (at_most most w) names behind t
+  place_written most r = placed_part most r.part r.priority
+
   made_tail : (o : Operator) {ps : List Piece} {names behind : List (List ℕ)} {t : Tree} → IsPart table flags ps o.priority (is_right_open o.spec) false names behind t → o.priority ≤ 1200 → IsTail table flags (made_by o ps).tail names behind t
   made_tail o p le = ?
 
   made_readable : (o : Operator) {ps : List Piece} {names behind : List (List ℕ)} {t : Tree} → IsPart table flags ps o.priority (is_right_open o.spec) false names behind t → o.priority ≤ 1200 → IsReadable (made_by o ps) names behind t
   made_readable o p le = record { part = p; priority = le; tail = made_tail o p le }
-
-  -- in a place of at most this priority
-  pub place_written : (most : ℕ) {w : Written} {names behind : List (List ℕ)} {t : Tree} → IsReadable w names behind t → IsPlace table flags most (at_most most w) names behind t
-  place_written most {w} r =
-      elim (cases_Bool (nat_lt most w.priority)) [
-        | inl above ↦ rw above (place_of_part table flags most (bracket_part table flags (place_of_part table flags 1200 r.part r.priority)) (omega arith))
-        | inr within ↦ rw within (place_of_part table flags most r.part (grind (arith, nat_tests, within)))
-      ]
 
   operand_written : (most : ℕ) {w : Written} {names behind : List (List ℕ)} {t : Tree} → IsReadable w names behind t → IsOperandAt table flags most (operand_at most w) names behind t
   operand_written most r = operand_part table flags most r.part r.priority
