@@ -1,18 +1,18 @@
 -- The tokens of what is written of a term are read as that term.
-use Rattle.std.proofs.Common.{◌≡◌, ℕ, ◌+◌, ◌<◌, ◌≤◌, ◌^◌, Bool, true, false, ◌&&◌, ◌==◌, nat_le, nat_lt, List, [], ◌∷◌, ◌++◌, length, unwrap_or, position, pos, negsuc, ℤ, codes, refl, sym, ap, ◌∙◌, subst, arith, append-nil}
+use Rattle.std.proofs.Common.{◌≡◌, ℕ, ◌+◌, ◌<◌, ◌≤◌, ◌^◌, true, false, ◌&&◌, ◌==◌, nat_le, List, [], ◌∷◌, ◌++◌, length, unwrap_or, position, pos, negsuc, ℤ, refl, sym, ap, ◌∙◌, subst, arith, append-nil}
 use Rattle.std.proofs.lemmas.Bool.{and_parts, false≢true, leb-true, ltb-true, eq-eqb}
 use Rattle.iso_ops.specs.Operators.{Operator, IsOpTable, HasNoBrackets}
 use Rattle.iso_ops.specs.declared.settings.Flags.{Flags}
 use Rattle.iso_model.specs.Trees.{Tree, Variable, Integer, Name, Apply, End, More, row, count}
 use Rattle.iso_model.specs.Sorts.{is_term, is_row}
-use Rattle.iso_model.specs.Variables.{occurs, is_in, distinct_from, variables}
-use Rattle.iso_model.specs.Substitutions.{Subst, apply}
+use Rattle.iso_model.specs.Variables.{is_in, distinct_from, variables}
+use Rattle.iso_model.specs.Substitutions.{apply}
 use Rattle.iso_model.specs.Copies.{place_of, copy_from}
 use Rattle.iso_model.specs.Unification.Listed.{is_in-append, distinct_keeps, distinct_covers}
 use Rattle.iso_model.specs.Token.{Shown}
 use Rattle.iso_model.specs.Texts.{variable_text}
 use Rattle.iso_model.specs.Grammar.{Node, Reads, start_of, number_of}
-use Rattle.iso_model.specs.Pieces.{Piece, Writeq, Written, piece, simple, compound_written, at_most, term_written}
+use Rattle.iso_model.specs.Pieces.{Piece, Writeq, piece, compound_written, at_most, term_written}
 use Rattle.iso_model.specs.WritingLaws.{IsWritable, integers_fit, integer_fits}
 use Rattle.iso_model.proofs.SortLemmas.{row_of_arguments}
 use Rattle.iso_model.proofs.VariableLemmas.{listed_occurring}

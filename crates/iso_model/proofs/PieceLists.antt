@@ -1,5 +1,5 @@
 -- Written lists are read: a tail's pieces go on with elements, or end the list.
-use Rattle.std.proofs.Common.{◌≡◌, ℕ, ◌+◌, ◌≤◌, Bool, true, false, ◌||◌, List, [], ◌∷◌, ◌++◌, codes, refl, sym, ap, ◌∙◌, subst, append_assoc}
+use Rattle.std.proofs.Common.{◌≡◌, ℕ, ◌+◌, ◌≤◌, true, false, ◌||◌, List, [], ◌∷◌, ◌++◌, codes, refl, ap, subst, append_assoc}
 use Rattle.iso_ops.specs.Operators.{Operator}
 use Rattle.iso_ops.specs.declared.settings.Flags.{Flags}
 use Rattle.iso_model.specs.Trees.{Tree, Name, Apply, row}
@@ -10,8 +10,8 @@ use Rattle.iso_model.specs.Pieces.{Piece, piece}
 use Rattle.iso_model.proofs.ReadingSound.{left_at}
 use Rattle.iso_model.proofs.PieceTokens.{AreTokens}
 use Rattle.iso_model.proofs.PieceLexemes.{mark_first}
-use Rattle.iso_model.proofs.PieceParts.{with_space, node, MayFollow, MayEnd, IsRead, IsPart, mark_begins, mark_follows, mark_ends, read_operand, mark_test}
-use Rattle.iso_model.proofs.PiecePlaces.{terms_of, IsPlace, IsPlaced, IsClosed, place_closed, closes_comma}
+use Rattle.iso_model.proofs.PieceParts.{node, MayFollow, MayEnd, IsPart, mark_begins, mark_follows, mark_ends, read_operand, mark_test}
+use Rattle.iso_model.proofs.PiecePlaces.{terms_of, IsPlace, IsPlaced, place_closed}
 
 module _ (table : List Operator) (flags : Flags) where
   -- a list's end behind its elements: `]`, or a bar with the tail before it

@@ -1,7 +1,7 @@
 -- Written terms of operators are read.
-use Rattle.std.proofs.Common.{◌≡◌, ℕ, ◌+◌, ◌-◌, ◌<◌, ◌≤◌, Bool, true, false, ◌&&◌, ◌||◌, ◌==◌, not, nat_lt, if◌then◌else◌, List, [], ◌∷◌, ◌++◌, Option, Some, None, is_some, codes, inl, inr, refl, sym, ap, ◌∙◌, subst, arith, append_assoc}
+use Rattle.std.proofs.Common.{◌≡◌, ℕ, ◌+◌, ◌-◌, ◌≤◌, Bool, true, false, ◌&&◌, ◌||◌, ◌==◌, not, nat_lt, if◌then◌else◌, List, [], ◌∷◌, ◌++◌, Option, Some, None, is_some, codes, inl, inr, refl, sym, ap, ◌∙◌, subst, arith, append_assoc}
 use Rattle.std.specs.Str.{bytes_eq}
-use Rattle.std.proofs.lemmas.Bool.{cases_Bool, true≢false, false≢true}
+use Rattle.std.proofs.lemmas.Bool.{cases_Bool, false≢true}
 use Rattle.std.proofs.lemmas.Bool.Decides.{nat_tests}
 use Rattle.std.proofs.lemmas.Slice.Eq.{bytes_eq-Decides}
 use Rattle.std.specs.Cmp.{both_ways}
@@ -15,12 +15,12 @@ use Rattle.iso_model.specs.Operators.{prefix_named, infix_named, postfix_named, 
 use Rattle.iso_model.specs.Trees.{Tree, Apply, row}
 use Rattle.iso_model.specs.Token.{Shown, content, content_of}
 use Rattle.iso_model.specs.Texts.{name_text}
-use Rattle.iso_model.specs.Grammar.{Left, before, Node, is_name, is_unquoted, is_mark, opens_arguments, is_direct_integer, next_is, negates, infix_at, postfix_at, begins, TakesLeft, Reads, Operand, Named, alone, between, behind, name_at, operator_before}
+use Rattle.iso_model.specs.Grammar.{is_name, is_unquoted, is_direct_integer, next_is, infix_at, postfix_at, begins, TakesLeft, Reads, Named, alone, between, behind, name_at, operator_before}
 use Rattle.iso_model.specs.Pieces.{Piece, Writeq, piece, is_symbolic, name_bytes, operator_bytes, after_space, begins_open, begins_digit, bracketed}
 use Rattle.iso_model.proofs.ReadingSound.{left_at}
 use Rattle.iso_model.proofs.PieceTokens.{AreTokens, Begins, IsMarkToken, IsNameToken}
 use Rattle.iso_model.proofs.PieceLexemes.{mark_first, name_first}
-use Rattle.iso_model.proofs.PieceParts.{with_space, AreSome, spaced_as, node, MayFollow, MayEnd, BeginOperand, IsRead, IsPart, name_begins_operand, name_follows, mark_follows, mark_test, name_is}
+use Rattle.iso_model.proofs.PieceParts.{with_space, AreSome, spaced_as, node, MayFollow, BeginOperand, IsPart, name_begins_operand, name_follows, mark_follows, mark_test, name_is}
 use Rattle.iso_model.proofs.PieceTerms.{prefix_begins}
 use Rattle.iso_model.proofs.PiecePlaces.{unspaced, place_of_part, bracket_part}
 

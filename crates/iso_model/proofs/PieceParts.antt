@@ -1,21 +1,18 @@
 -- Parts of what is written: what their tokens begin with, what may stand behind them, and how they are read.
-use Rattle.std.proofs.Common.{◌≡◌, ℕ, zero, suc, ◌+◌, ◌<◌, ◌≤◌, ◌^◌, Bool, true, false, ◌&&◌, ◌||◌, ◌==◌, not, cond, if◌then◌else◌, List, [], ◌∷◌, ◌++◌, length, slice_index, Option, Some, None, is_some, pos, negsuc, codes, inl, inr, refl, sym, ap, ◌∙◌, subst, arith, append_assoc}
-use Rattle.std.specs.Fmt.{decimal, signed_decimal}
+use Rattle.std.proofs.Common.{◌≡◌, ℕ, ◌+◌, Bool, true, false, ◌&&◌, ◌||◌, not, if◌then◌else◌, List, [], ◌∷◌, ◌++◌, codes, refl, ap, ◌∙◌, subst}
+use Rattle.std.specs.Fmt.{decimal}
 use Rattle.std.specs.Str.{bytes_eq}
-use Rattle.std.proofs.lemmas.Bool.{cases_Bool}
-use Rattle.std.proofs.lemmas.Slice.Eq.{bytes_eq-Decides}
-use Rattle.iso_ops.specs.Operators.{Operator, IsOpTable, HasNoBrackets}
+use Rattle.iso_ops.specs.Operators.{Operator}
 use Rattle.iso_ops.specs.declared.settings.Flags.{Flags}
-use Rattle.iso_model.specs.Characters.{is_digit, is_punctuation}
-use Rattle.iso_model.specs.Operators.{prefix_named, infix_named, postfix_named, left_of, right_of, takes_equal, is_right_open}
-use Rattle.iso_model.specs.Trees.{Tree, Variable, Integer, Name, Apply, End, More, row}
-use Rattle.iso_model.specs.Token.{Shown, TokenKind, NameToken, QuotedToken, DoubleToken, VariableToken, IntegerToken, PunctToken, EndToken, BadToken, magnitude, content}
+use Rattle.iso_model.specs.Characters.{is_punctuation}
+use Rattle.iso_model.specs.Trees.{Tree, Variable}
+use Rattle.iso_model.specs.Token.{Shown, TokenKind, NameToken, QuotedToken}
 use Rattle.iso_model.specs.Texts.{is_bare, name_text}
-use Rattle.iso_model.specs.Grammar.{Left, before, Node, closed, is_name, is_unquoted, is_integer, is_punct, is_mark, opens_arguments, is_direct_integer, next_is, negates, infix_at, postfix_at, name_begins, begins_by, begins, number_of, with_name_by, place_of, Reads, Operand, Named, Elements, alone, variable_at, integer_at, name_at, nil_at, curly_at, brackets_at, braces_at, compound_of, literal_of, atom_of, operator_alone, operator_before, last_of, more_of}
-use Rattle.iso_model.specs.Pieces.{Piece, piece, after_space, begins_open, begins_digit}
+use Rattle.iso_model.specs.Grammar.{Node, closed, is_name, is_integer, is_punct, is_mark, opens_arguments, is_direct_integer, next_is, name_begins, begins_by, begins, number_of, with_name_by, place_of, Reads, Operand, alone, variable_at}
+use Rattle.iso_model.specs.Pieces.{Piece, piece, begins_open, begins_digit}
 use Rattle.iso_model.proofs.ReadingSound.{left_at}
-use Rattle.iso_model.proofs.PieceTokens.{AreTokens, Begins, BeginsTwice, IsMarkToken, IsNameToken, IsPlaceToken, IsCountToken, IsSignToken}
-use Rattle.iso_model.proofs.PieceLexemes.{mark_first, name_first, nil_first, curly_first, place_first, count_first, negative_first}
+use Rattle.iso_model.proofs.PieceTokens.{AreTokens, IsMarkToken, IsNameToken}
+use Rattle.iso_model.proofs.PieceLexemes.{mark_first, name_first, place_first}
 
 -- ---- tests of tokens
 

@@ -1,21 +1,21 @@
 -- Written terms in places that a closing mark stands behind: in brackets and braces, as arguments, and as elements of lists.
-use Rattle.std.proofs.Common.{◌≡◌, ℕ, zero, suc, ◌+◌, ◌<◌, ◌≤◌, Bool, true, false, ◌&&◌, ◌||◌, ◌==◌, not, List, [], ◌∷◌, ◌++◌, length, codes, inl, inr, refl, sym, ap, ◌∙◌, subst, arith, append_assoc, append-nil}
+use Rattle.std.proofs.Common.{◌≡◌, ℕ, ◌+◌, ◌≤◌, Bool, true, false, ◌&&◌, ◌||◌, not, List, [], ◌∷◌, ◌++◌, length, codes, inl, inr, refl, sym, ◌∙◌, subst, append_assoc}
 use Rattle.std.specs.Str.{bytes_eq}
 use Rattle.std.proofs.lemmas.Bool.{true≢false, cases_Bool}
 use Rattle.std.proofs.lemmas.Slice.Eq.{bytes_eq-Decides}
 use Rattle.iso_ops.specs.Operators.{Operator}
 use Rattle.iso_ops.specs.declared.settings.Flags.{Flags}
 use Rattle.iso_model.specs.Characters.{is_punctuation}
-use Rattle.iso_model.specs.Trees.{Tree, Name, Apply, row}
+use Rattle.iso_model.specs.Trees.{Tree, Apply, row}
 use Rattle.iso_model.specs.Token.{Shown, content}
-use Rattle.iso_model.specs.Lists.{nil, curly, dot, list_before}
+use Rattle.iso_model.specs.Lists.{nil, curly}
 use Rattle.iso_model.specs.Texts.{name_text}
-use Rattle.iso_model.specs.Grammar.{Left, before, Node, Row, closed, is_mark, is_unquoted, opens_arguments, next_is, Reads, Operand, Named, Elements, name_at, nil_at, curly_at, brackets_at, braces_at, list_at, list_with_tail_at, compound_of, last_of, more_of}
-use Rattle.iso_model.specs.Pieces.{Piece, piece, begins_open, bracketed}
+use Rattle.iso_model.specs.Grammar.{Row, closed, is_mark, is_unquoted, opens_arguments, next_is, Reads, Named, Elements, name_at, nil_at, curly_at, brackets_at, braces_at, compound_of, last_of, more_of}
+use Rattle.iso_model.specs.Pieces.{Piece, piece, bracketed}
 use Rattle.iso_model.proofs.ReadingSound.{left_at}
 use Rattle.iso_model.proofs.PieceTokens.{AreTokens}
 use Rattle.iso_model.proofs.PieceLexemes.{mark_first, name_first, nil_first, curly_first}
-use Rattle.iso_model.proofs.PieceParts.{with_space, node, MayFollow, MayEnd, IsRead, IsPart, BeginWithMark, mark_begins, mark_follows, mark_ends, BeginWithName, name_begins_operand, read_operand, mark_test, mark_opens, name_is}
+use Rattle.iso_model.proofs.PieceParts.{with_space, node, MayFollow, MayEnd, IsPart, mark_begins, mark_follows, mark_ends, name_begins_operand, read_operand, mark_test, mark_opens, name_is}
 use Rattle.iso_model.proofs.PieceTerms.{functor_begins}
 
 pub unspaced : (ps : List Piece) → with_space false ps ≡ ps

@@ -1,27 +1,27 @@
 -- Written integers and atoms are read.
-use Rattle.std.proofs.Common.{◌≡◌, ℕ, zero, suc, ◌+◌, ◌<◌, ◌≤◌, ◌^◌, Bool, true, false, ◌&&◌, ◌||◌, ◌==◌, not, cond, List, [], ◌∷◌, ◌++◌, length, slice_index, Option, Some, None, is_some, pos, negsuc, codes, inl, inr, refl, sym, ap, ◌∙◌, subst, arith, append_assoc, neg_ℤ}
+use Rattle.std.proofs.Common.{◌≡◌, ℕ, suc, ◌+◌, ◌<◌, ◌^◌, Bool, true, false, ◌&&◌, ◌||◌, not, List, [], ◌∷◌, slice_index, Option, Some, None, is_some, pos, negsuc, codes, refl, sym, ap, ◌∙◌, subst, arith, neg_ℤ}
 use Rattle.std.specs.Fmt.{decimal, signed_decimal}
 use Rattle.std.specs.Str.{bytes_eq}
-use Rattle.std.proofs.lemmas.Bool.{cases_Bool, true≢false, and_from}
+use Rattle.std.proofs.lemmas.Bool.{true≢false, and_from}
 use Rattle.std.proofs.lemmas.Bool.Decides.{nat_tests}
 use Rattle.std.specs.Char.{digit_value}
 use Rattle.std.specs.Str.Parse.{IsNumeral}
 use Rattle.std.proofs.lemmas.Fmt.{decimal_is_IsNumeral}
-use Rattle.iso_ops.specs.Operators.{Operator, IsOpTable, HasNoBrackets}
+use Rattle.iso_ops.specs.Operators.{Operator, HasNoBrackets}
 use Rattle.iso_ops.specs.declared.settings.Flags.{Flags}
 use Rattle.iso_ops.specs.declared.specifiers.Kind.TheVariants.{Prefix}
 use Rattle.iso_model.specs.Characters.{is_digit}
 use Rattle.iso_model.specs.Operators.{prefix_named, infix_named, postfix_named}
-use Rattle.iso_model.specs.Trees.{Tree, Variable, Integer, Name, Apply, row}
-use Rattle.iso_model.specs.Token.{Shown, TokenKind, NameToken, QuotedToken, PunctToken, magnitude, content}
-use Rattle.iso_model.specs.Texts.{is_bare, name_text}
+use Rattle.iso_model.specs.Trees.{Integer, Name}
+use Rattle.iso_model.specs.Token.{Shown, magnitude, content}
+use Rattle.iso_model.specs.Texts.{name_text}
 use Rattle.iso_model.specs.Lists.{nil, curly}
-use Rattle.iso_model.specs.Grammar.{Left, before, Node, closed, is_name, is_unquoted, is_integer, is_mark, opens_arguments, is_direct_integer, next_is, negates, name_begins, begins_by, begins, max_integer, Reads, Operand, Named, alone, integer_at, name_at, nil_at, curly_at, literal_of, atom_of, operator_alone}
-use Rattle.iso_model.specs.Pieces.{Piece, piece, begins_open, begins_digit}
+use Rattle.iso_model.specs.Grammar.{closed, is_name, is_unquoted, is_integer, opens_arguments, is_direct_integer, next_is, negates, name_begins, begins_by, begins, Named, integer_at, name_at, nil_at, curly_at, literal_of, atom_of, operator_alone}
+use Rattle.iso_model.specs.Pieces.{Piece, piece}
 use Rattle.iso_model.proofs.ReadingSound.{left_at}
-use Rattle.iso_model.proofs.PieceTokens.{AreTokens, Begins, BeginsTwice, IsMarkToken, IsNameToken, IsCountToken, IsSignToken}
+use Rattle.iso_model.proofs.PieceTokens.{AreTokens, IsSignToken}
 use Rattle.iso_model.proofs.PieceLexemes.{name_first, nil_first, curly_first, count_first, negative_first}
-use Rattle.iso_model.proofs.PieceParts.{with_space, AreSome, spaced_as, node, MayFollow, MayEnd, BeginOperand, IsRead, IsPart, BeginWithMark, mark_begins, BeginWithName, name_begins_operand, read_operand, mark_test, name_is}
+use Rattle.iso_model.proofs.PieceParts.{MayFollow, IsPart, mark_begins, name_begins_operand, read_operand, mark_test, name_is}
 
 digit_of : (c : ℕ) → digit_value c < 10 → is_digit c ≡ true
 digit_of c h = grind (arith, nat_tests)

@@ -1,5 +1,5 @@
 -- What is written of a term, by its shape, from what is written of its parts.
-use Rattle.std.proofs.Common.{◌≡◌, ℕ, ◌+◌, ◌<◌, ◌≤◌, Bool, true, false, ◌&&◌, ◌||◌, ◌==◌, nat_lt, if◌then◌else◌, List, [], ◌∷◌, ◌++◌, length, Option, Some, None, is_some, codes, inl, inr, refl, sym, ap, ◌∙◌, subst, arith}
+use Rattle.std.proofs.Common.{◌≡◌, ℕ, ◌≤◌, Bool, true, false, ◌&&◌, nat_lt, if◌then◌else◌, List, [], ◌∷◌, Option, Some, None, codes, inl, inr, refl, sym, ap, ◌∙◌, subst, arith}
 use Rattle.std.specs.Str.{bytes_eq}
 use Rattle.std.proofs.lemmas.Bool.{cases_Bool}
 use Rattle.std.proofs.lemmas.Bool.Decides.{nat_tests}
@@ -8,11 +8,11 @@ use Rattle.iso_ops.specs.declared.specifiers.Kind.TheVariants.{Prefix, Infix, Po
 use Rattle.iso_ops.specs.Operators.{Operator, IsOpTable, HasNoBrackets}
 use Rattle.iso_ops.specs.declared.settings.Flags.{Flags}
 use Rattle.iso_ops.proofs.TableLemmas.{find_op-parts, find_op-priority}
-use Rattle.iso_model.specs.Operators.{prefix_named, infix_named, postfix_named, left_of, right_of, takes_equal, is_right_open}
+use Rattle.iso_model.specs.Operators.{prefix_named, infix_named, postfix_named, right_of, is_right_open}
 use Rattle.iso_model.specs.Trees.{Tree, Name, Apply, row}
 use Rattle.iso_model.specs.Lists.{nil, curly, dot}
 use Rattle.iso_model.specs.Texts.{name_text}
-use Rattle.iso_model.specs.Pieces.{Piece, Writeq, Written, piece, simple, made_by, at_most, operand_at, left_operand, bracketed, compound_written, single_by, single_written, pair_by, pair_written, list_written, atom_written, is_operator_name}
+use Rattle.iso_model.specs.Pieces.{Piece, Writeq, Written, piece, simple, made_by, at_most, operand_at, left_operand, bracketed, single_by, single_written, pair_by, pair_written, list_written, atom_written, is_operator_name}
 use Rattle.iso_model.proofs.PieceParts.{IsPart}
 use Rattle.iso_model.proofs.PieceTerms.{atom_part, nil_part, curly_part}
 use Rattle.iso_model.proofs.PiecePlaces.{IsPlace, place_of_part, bracket_part, braces_part, last_argument, more_arguments, compound_part}
@@ -45,6 +45,7 @@ module _ (table : List Operator) (flags : Flags) (seen : List ℕ) where
   pub place_written : (most : ℕ) {w : Written} {names behind : List (List ℕ)} {t : Tree} → IsReadable w names behind t → IsPlace table flags most (at_most most w) names behind t
   place_written most r = placed_part most r.part r.priority
 
+  -- as a tail (open where the priority is over 999: no reading takes such a tail without brackets)
   made_tail : (o : Operator) {ps : List Piece} {names behind : List (List ℕ)} {t : Tree} → IsPart table flags ps o.priority (is_right_open o.spec) false names behind t → o.priority ≤ 1200 → IsTail table flags (made_by o ps).tail names behind t
   made_tail o p le = ?
 
