@@ -47,7 +47,7 @@ module _ (table : List Operator) (flags : Flags) (seen : List ℕ) where
 
   -- as a tail (open where the priority is over 999: no reading takes such a tail without brackets)
   made_tail : (o : Operator) {ps : List Piece} {names behind : List (List ℕ)} {t : Tree} → IsPart table flags ps o.priority (is_right_open o.spec) false names behind t → o.priority ≤ 1200 → IsTail table flags (made_by o ps).tail names behind t
-  made_tail o p le = ?
+  made_tail o p le = bar_tail table flags (placed_part 999 p le)
 
   made_readable : (o : Operator) {ps : List Piece} {names behind : List (List ℕ)} {t : Tree} → IsPart table flags ps o.priority (is_right_open o.spec) false names behind t → o.priority ≤ 1200 → IsReadable (made_by o ps) names behind t
   made_readable o p le = record { part = p; priority = le; tail = made_tail o p le }
