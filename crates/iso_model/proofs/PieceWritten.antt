@@ -45,7 +45,7 @@ module _ (table : List Operator) (flags : Flags) (seen : List ℕ) where
   pub place_written : (most : ℕ) {w : Written} {names behind : List (List ℕ)} {t : Tree} → IsReadable w names behind t → IsPlace table flags most (at_most most w) names behind t
   place_written most r = placed_part most r.part r.priority
 
-  -- as a tail (open where the priority is over 999: no reading takes such a tail without brackets)
+  -- as a tail: an argument
   made_tail : (o : Operator) {ps : List Piece} {names behind : List (List ℕ)} {t : Tree} → IsPart table flags ps o.priority (is_right_open o.spec) false names behind t → o.priority ≤ 1200 → IsTail table flags (made_by o ps).tail names behind t
   made_tail o p le = bar_tail table flags (placed_part 999 p le)
 
