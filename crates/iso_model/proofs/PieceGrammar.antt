@@ -148,9 +148,10 @@ module _ (table : List Operator) (flags : Flags) (good : IsOpTable table) (plain
     row_readable (Name a) vs sort fits within = absurd (false≢true sort)
     row_readable (Apply f ts) vs sort fits within = absurd (false≢true sort)
 
-pub written_read : (table : List Operator) (flags : Flags) → IsOpTable table → HasNoBrackets table → (seen : List ℕ) (t : Tree) → IsWritable seen t → length seen < 10 ^ 64
+pub written_read : (table : List Operator) (flags : Flags) → IsOpTable table → HasNoBrackets table → (seen : List ℕ) (t : Tree) → IsWritable seen t
     → (ts : List Shown) → AreTokens (at_most 1200 (term_written Writeq table seen t)) ts → AreRead table flags t ts
-written_read table flags good plain seen t writable few ts tokens =
+written_read table flags good plain seen t writable ts tokens =
+    let few : length seen < 10 ^ 64 = omega (arith, writable.few) in
     let known = λ (x : ℕ) (h : is_in x (variables t) ≡ true). writable.places x (sym (listed_occurring t x) ∙ h) in
     let r = term_readable table flags good plain seen few (variables t) known t [] writable.term writable.integers (begins_itself (variables t)) in
     let x = (place_written table flags seen 1200 r).reads [] ts (nothing_follows table flags) (nothing_ends table flags) (subst (λ us. AreTokens us ts) (sym (append-nil (at_most 1200 (term_written Writeq table seen t)))) tokens) in
