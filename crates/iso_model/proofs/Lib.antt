@@ -20,6 +20,17 @@ mod ReadingComplete
 pub mod ClauseLaws
 pub mod WellRead
 pub mod PieceTokens
+pub mod RunLexemes
+pub mod BareNames
+pub mod Digits
+pub mod Integers
+pub mod QuotedBytes
+pub mod QuotedNames
+pub mod NameTokens
+pub mod SignTokens
+pub mod SignFirsts
+pub mod SignedText
+pub mod TermSigns
 pub mod PieceLexemes
 pub mod PieceVariables
 pub mod PieceParts
