@@ -32,6 +32,13 @@ pub mod SignFirsts
 pub mod SignedText
 pub mod TermSigns
 pub mod PieceLexemes
+pub mod PieceVariables
+pub mod PieceParts
+pub mod PieceTerms
+pub mod PiecePlaces
+pub mod PieceLists
+pub mod PieceOperators
+pub mod PieceWritten
 pub mod PieceGrammar
 pub mod NumberedLemmas
 pub mod VariableLemmas

@@ -100,7 +100,7 @@ unifier_of_rows {a} {b} {s} h left right = found_gives a b s h (exists_or_not a 
 pub copy_is_term : (t : Tree) (n : ℕ) → is_term t ≡ true → is_term (copy_from t n) ≡ true
 copy_is_term t n h = term_applied (λ x. Variable (n + place_of x (variables t))) t h (λ x o. refl)
 
-row_of_arguments : (f : List ℕ) (ts : Tree) → is_term (Apply f ts) ≡ true → is_row ts ≡ true
+pub row_of_arguments : (f : List ℕ) (ts : Tree) → is_term (Apply f ts) ≡ true → is_row ts ≡ true
 row_of_arguments f ts h =
     (and_parts (nat_le (count ts) 255) (is_row ts) (and_parts (nat_le 1 (count ts)) (nat_le (count ts) 255 && is_row ts) h).1).1
 

@@ -65,7 +65,7 @@ simple-signed : (ps : List Piece) → AreSigned ps → WrittenSigned (simple ps)
 simple-signed ps h = record { bare = h; tail = barred ps h; others = none_left }
 
 made-signed : (o : Operator) (ps : List Piece) → AreSigned ps → WrittenSigned (made_by o ps)
-made-signed o ps h = record { bare = h; tail = barred ps h; others = none_left }
+made-signed o ps h = record { bare = h; tail = barred (if nat_lt 999 o.priority then bracketed ps else ps) (signed_if (nat_lt 999 o.priority) (bracketed ps) ps (bracketed-signed ps h) h); others = none_left }
 
 -- an infix operator's name: a comma is a mark
 operator-signed : (name : List ℕ) → IsSigned (piece (operator_bytes Writeq name))

@@ -92,9 +92,16 @@ left_operand o w = if w.is_open && (w.priority == o.priority && takes_equal o.sp
 abbrev pub simple : List Piece → Written
 simple ps = record { bare = ps; priority = 0; is_open = false; is_operator = false; tail = piece (codes "|") ∷ (ps ++ piece (codes "]") ∷ []); others = [] }
 
--- a term that this operator made
+-- a term that this operator made: as a tail it is an argument
 abbrev pub made_by : Operator → List Piece → Written
-made_by o ps = record { bare = ps; priority = o.priority; is_open = is_right_open o.spec; is_operator = false; tail = piece (codes "|") ∷ (ps ++ piece (codes "]") ∷ []); others = [] }
+made_by o ps = record {
+  bare = ps;
+  priority = o.priority;
+  is_open = is_right_open o.spec;
+  is_operator = false;
+  tail = piece (codes "|") ∷ ((if nat_lt 999 o.priority then bracketed ps else ps) ++ piece (codes "]") ∷ []);
+  others = [];
+}
 
 -- a name as an operator is written without spaces: a bare run of graphic characters, `,` or `;`
 abbrev pub is_symbolic : List ℕ → Bool

@@ -1,5 +1,5 @@
 -- What is written is read again (ISO/IEC 13211-1:1995, 7.10.5): a law of the definitions of text, tokens and grammar alone.
-use Rattle.std.specs.Prelude.{◌≡◌, ℕ, ℤ, pos, negsuc, ◌≤◌, ◌^◌, Bool, true, ◌&&◌, nat_le, nat_lt, List, [], ◌∷◌, ◌++◌, codes}
+use Rattle.std.specs.Prelude.{◌≡◌, ℕ, ℤ, pos, negsuc, ◌<◌, ◌≤◌, ◌^◌, length, Bool, true, ◌&&◌, nat_le, nat_lt, List, [], ◌∷◌, ◌++◌, codes}
 use Rattle.iso_ops.specs.Operators.{Operator, IsOpTable}
 use Rattle.iso_ops.specs.declared.settings.Flags.{Flags}
 use Rattle.iso_model.specs.Trees.{Tree, Variable, Integer, Name, Apply, End, More}
@@ -26,11 +26,12 @@ integers_fit (Apply f ts) = integers_fit ts
 integers_fit End = true
 integers_fit (More t ts) = integers_fit t && integers_fit ts
 
--- A term whose integers have 64 bits and whose variables have a place among these.
+-- A term whose integers have 64 bits and whose variables have a place among these; there are fewer than 2 ^ 64 of them, as in every vector.
 pub record IsWritable (seen : List ℕ) (t : Tree) : Type 0 where
   pub term : is_term t ≡ true
   pub integers : integers_fit t ≡ true
   pub places : (x : ℕ) → occurs x t ≡ true → is_in x seen ≡ true
+  pub few : length seen < 2 ^ 64
 
 -- The text of the term, with a space and an end token behind it, has tokens which the grammar reads as the term with its variables
 -- numbered 0, 1, .. by first occurrence. Where it keeps the depth limit, that is its clause.
