@@ -7,6 +7,7 @@ use Rattle.iso_model.specs.Unification.Listed.{Covers}
 use Rattle.iso_store.specs.Copying.{placed_terms, cells_of}
 use Rattle.iso_store.proofs.Parts.{term_of_variable, arguments-covered, arguments-fit, arguments-size, compound-cells, compound-applied, item-covered, item-fits, item-size, cells-more, cells-whole, place-found}
 use Rattle.iso_store.proofs.Gathering.{numbers-then, grows-on, makes-placed, placed-kept, gathers-next, gathers-all, gathers-size, compound-made, numbers-made}
+use Rattle.iso_store.proofs.Names.{keeps-then, text-is}
 use Rattle.iso_store.proofs.copies.+make.Goals as goal
 
 pub offset_bounds-words-place : goal.offset_bounds-words-place
@@ -68,6 +69,7 @@ loop-argument-preserved g t c =
       gathers = rw (grown, index) (gathers-next (λ u. apply s (term_of u)) items i x c.loop-argument-test.true c.argument-item.is so made);
       numbers = numbers-then c.loop-argument.invariant.numbers c.in_ok-word-in-Compound.ensures.numbers;
       cells = rw index (grows-on _ c.loop-argument.invariant.cells c.in_ok-word-in-Compound.ensures.cells (omega arith));
+      names = keeps-then _ _ _ c.loop-argument.invariant.names c.make.ensures.names;
       marks = λ m q h. c.make.ensures.marks m q (c.loop-argument.invariant.marks m q h);
     }
 
