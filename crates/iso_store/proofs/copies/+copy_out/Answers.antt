@@ -7,6 +7,7 @@ use Rattle.iso_store.specs.Presents.{meaning}
 use Rattle.iso_store.specs.Arguments.{arguments, arity, front}
 use Rattle.iso_store.proofs.Members.{size-argument}
 use Rattle.iso_store.proofs.Names.{text-is}
+use Rattle.iso_store.proofs.Parts.{term_of_atom}
 use Rattle.iso_store.proofs.Rows.{row_of-push, row_of-all}
 use Rattle.iso_store.proofs.copies.+copy_out.Goals as goal
 
@@ -41,4 +42,4 @@ returns-after-loop-index g t c =
 pub returns-in_ok-from_str-in-Atom : goal.returns-in_ok-from_str-in-Atom
 returns-in_ok-from_str-in-Atom g t c =
     let text = text-is (g.C.Cells.names c.args.store.now) c.in-Atom.name _ c.text.ensures in
-    ?
+    term_of_atom c.in_ok-from_str-in-Atom.field-0 ∙ ap Name (c.in_ok-from_str-in-Atom.ensures.ok ∙ sym text) ∙ sym c.in-Atom.ensures.shape.1

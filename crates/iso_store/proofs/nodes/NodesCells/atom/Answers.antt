@@ -1,4 +1,4 @@
-use Rattle.std.proofs.Common.{ap}
+use Rattle.std.proofs.Common.{refl, ap}
 use Rattle.iso_store.specs.declared.nodes.Node.TheVariants.{Atom}
 use Rattle.iso_store.proofs.NodeMade.{pushed-made}
 use Rattle.iso_store.proofs.nodes.NodesCells.atom.Goals as goal
