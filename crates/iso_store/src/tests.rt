@@ -194,6 +194,7 @@ fn makes_as_many_nodes_as_a_term_has_parts(rt: HostRuntime) -> Result<(), Fail> 
 fn looks_at_each_part_once(rt: HostRuntime) -> Result<(), Fail> {
     let alloc = rt.alloc();
     for length in [1i64, 10, 100, 1_000, 10_000] {
+        let looks = 8 * length as u64 + 2;
         let lists = vec![in alloc; list(alloc, length)?, list(alloc, length)?]?;
         let both = compound(alloc, "=", lists)?;
         assert!(rt; well_formed(&both));
@@ -208,7 +209,7 @@ fn looks_at_each_part_once(rt: HostRuntime) -> Result<(), Fail> {
             looks: Cell::new(0),
         };
         assert!(rt; unify(&mut counting, first, second)?);
-        assert_eq!(rt; counting.looks.get(), 8 * length as u64 + 2);
+        assert_eq!(rt; counting.looks.get(), looks);
     }
     Ok(())
 }
