@@ -54,8 +54,8 @@ impl<S: Store + Drop> Plain<S> {
             → IfOk result (IsCalled self.entry.now.procedures.items db ((S.present self.entry.now.store).term goal)) }
     {
         match self.store.shape(goal) {
-            Shape::Atom(name) => self.named(name, 0),
-            Shape::Compound(name, arity) => self.named(name, arity),
+            Shape::Atom(name) => self.named(self.store.text(name), 0),
+            Shape::Compound(name, arity) => self.named(self.store.text(name), arity),
             Shape::Var(_) | Shape::Int(_) => Ok(Called::Fail),
         }
     }

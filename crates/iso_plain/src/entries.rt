@@ -56,14 +56,18 @@ pub fn instantiate<S: Store>(
     match term {
         Term::Var(number) => Ok(variables[*number as usize]),
         Term::Int(value) => store.int(*value),
-        Term::Atom(text) => store.atom(text.as_str()),
+        Term::Atom(text) => {
+            let atom = store.intern(text.as_str())?;
+            store.atom(atom)
+        }
         Term::Compound(name, arguments) => {
             let mut words = Vec::with_capacity(alloc, arguments.len())?;
             for argument in arguments {
                 let word = instantiate(alloc, store, argument, variables)?;
                 words.push(word)?;
             }
-            store.compound(name.as_str(), words.as_slice())
+            let atom = store.intern(name.as_str())?;
+            store.compound(atom, words.as_slice())
         }
     }
 }

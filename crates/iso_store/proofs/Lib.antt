@@ -5,6 +5,7 @@ pub mod Bound
 pub mod Resets
 pub mod Marked
 pub mod NodeLemmas
+pub mod Names
 pub mod Trails
 pub mod NodeReads
 pub mod Apart

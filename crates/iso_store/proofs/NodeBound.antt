@@ -23,31 +23,32 @@ numbers-same (c ∷ cs) zero n m b d h =
     ap (λ x. list_any (has_number m) (x ∷ cs)) is
 numbers-same (c ∷ cs) (suc e) n m b d h = ap (λ q. has_number m c || q) (numbers-same cs e n m b d h)
 
-module _ (cs : List Node) (es : List ℕ) (next limit : ℕ) (store : IsStore cs es next) (v w e j n : ℕ)
-    (place_within : e < length cs) (place_end : is_bound (slice_get cs e) ≡ false) (place_same : apply (substitution_of cs es) (term_at cs e) ≡ apply (substitution_of cs es) (term_at cs v))
-    (target_within : j < length cs) (target_end : is_bound (slice_get cs j) ≡ false) (target_same : apply (substitution_of cs es) (term_at cs j) ≡ apply (substitution_of cs es) (term_at cs w))
-    (is : apply (substitution_of cs es) (term_at cs v) ≡ Variable n) (absent : occurs n (apply (substitution_of cs es) (term_at cs w)) ≡ false) (younger : IsYounger n (apply (substitution_of cs es) (term_at cs w))) where
+-- where these are the names of the atoms
+module _ (names : List (List ℕ)) (cs : List Node) (es : List ℕ) (next limit : ℕ) (store : IsStore names cs es next) (v w e j n : ℕ)
+    (place_within : e < length cs) (place_end : is_bound (slice_get cs e) ≡ false) (place_same : apply (substitution_of names cs es) (term_at names cs e) ≡ apply (substitution_of names cs es) (term_at names cs v))
+    (target_within : j < length cs) (target_end : is_bound (slice_get cs j) ≡ false) (target_same : apply (substitution_of names cs es) (term_at names cs j) ≡ apply (substitution_of names cs es) (term_at names cs w))
+    (is : apply (substitution_of names cs es) (term_at names cs v) ≡ Variable n) (absent : occurs n (apply (substitution_of names cs es) (term_at names cs w)) ≡ false) (younger : IsYounger n (apply (substitution_of names cs es) (term_at names cs w))) where
   free : slice_get cs e ≡ Some (Var n None)
-  free = end_is_variable cs es next store e place_end n place_within (place_same ∙ is)
+  free = end_is_variable names cs es next store e place_end n place_within (place_same ∙ is)
 
-  not-inside : occurs n (apply (substitution_of cs es) (term_at cs j)) ≡ false
+  not-inside : occurs n (apply (substitution_of names cs es) (term_at names cs j)) ≡ false
   not-inside = ap (occurs n) target_same ∙ absent
 
   lower : (m : ℕ) (b : _) → slice_get cs j ≡ Some (Var m b) → m < n
-  lower m b h = younger m (sym target_same ∙ end_variable cs es next store j target_end m b h)
+  lower m b h = younger m (sym target_same ∙ end_variable names cs es next store j target_end m b h)
 
-  pub binding-store : (fs : List ℕ) → fs ≡ es ++ e ∷ [] → IsStore (set cs e (Var n (Some j))) fs next
-  binding-store fs grown = rw grown (store-bound cs es next store e n j free target_within not-inside lower)
+  pub binding-store : (fs : List ℕ) → fs ≡ es ++ e ∷ [] → IsStore names (set cs e (Var n (Some j))) fs next
+  binding-store fs grown = rw grown (store-bound names cs es next store e n j free target_within not-inside lower)
 
-  pub binding-marks : (fs : List ℕ) → fs ≡ es ++ e ∷ [] → KeepsNodesMarks limit cs es (set cs e (Var n (Some j))) fs
-  binding-marks fs grown = rw grown (bound-keeps limit cs es e n (Some j) free)
+  pub binding-marks : (fs : List ℕ) → fs ≡ es ++ e ∷ [] → KeepsNodesMarks names limit cs es (set cs e (Var n (Some j))) fs
+  binding-marks fs grown = rw grown (bound-keeps names limit cs es e n (Some j) free)
 
-  pub binding-binds : (fs : List ℕ) → fs ≡ es ++ e ∷ [] → Binds (present_of cs es next limit) (present_of (set cs e (Var n (Some j))) fs next limit) (single n (apply (substitution_of cs es) (term_at cs w)))
+  pub binding-binds : (fs : List ℕ) → fs ≡ es ++ e ∷ [] → Binds (present_of names cs es next limit) (present_of names (set cs e (Var n (Some j))) fs next limit) (single n (apply (substitution_of names cs es) (term_at names cs w)))
   binding-binds fs grown = rw grown (record {
     words = record {
       stand = λ u h. let below = ltb-true u (length cs) h in lt-ltb u (length (set cs e (Var n (Some j)))) (omega (arith, length-set cs e (Var n (Some j))));
-      terms = λ u h. ap (λ t. t u) (bound-terms cs es next store e n j free target_within not-inside lower);
+      terms = λ u h. ap (λ t. t u) (bound-terms names cs es next store e n j free target_within not-inside lower);
     };
     numbers = record { next = refl; taken = λ m. numbers-same cs e n m (Some j) None free };
-    substitution = bound-substitution cs es next store e n j free target_within not-inside lower ∙ ap (λ t. compose (substitution_of cs es) (single n t)) target_same;
+    substitution = bound-substitution names cs es next store e n j free target_within not-inside lower ∙ ap (λ t. compose (substitution_of names cs es) (single n t)) target_same;
   })

@@ -12,25 +12,6 @@ use Rattle.iso_store.specs.NodeStores.{IsStore, MayPush, has_number, present_of}
 use Rattle.iso_store.proofs.NodeLemmas.{term_at-push, term_at-pushed}
 use Rattle.iso_store.proofs.NodeChanges.{pushed-substitution}
 
-pub pushed-makes : (cs : List Node) (es : List ℕ) (next limit : ℕ) (c : Node) (t : Tree) → IsStore cs es next → MayPush cs next c → node_term (terms_from [] cs) c ≡ t →
-    Makes (present_of cs es next limit) (present_of (cs ++ c ∷ []) es next limit) (length cs) t
-pushed-makes cs es next limit c t store may is = record {
-  words = record {
-    stand = λ w h. let below = ltb-true w (length cs) h in lt-ltb w (length (cs ++ c ∷ [])) (omega (arith, length-append cs (c ∷ [])));
-    terms = λ w h. term_at-push cs c w (ltb-true w (length cs) h);
-  };
-  substitution = pushed-substitution cs es next store c may;
-  holds = lt-ltb (length cs) (length (cs ++ c ∷ [])) (omega (arith, length-append cs (c ∷ [])));
-  term = term_at-pushed cs c ∙ is;
-}
-
-pub pushed-made : (cs : List Node) (es : List ℕ) (next limit : ℕ) (c : Node) (t : Tree) → IsStore cs es next → MayPush cs next c → node_term (terms_from [] cs) c ≡ t →
-    (ds : List Node) (fs : List ℕ) (high room : ℕ) (result : Result ℕ StoreFault) → IfOk result (λ w. w ≡ length cs) → ds ≡ (if is_ok result then cs ++ c ∷ [] else cs) → fs ≡ es → high ≡ next → room ≡ limit →
-    IfOk result (λ w. Makes (present_of cs es next limit) (present_of ds fs high room) w t)
-pushed-made cs es next limit c t store may is ds fs high room (Ok w) place nodes trail number same =
-    rw (place, nodes, trail, number, same) (pushed-makes cs es next limit c t store may is)
-pushed-made cs es next limit c t store may is ds fs high room (Err e) place nodes trail number same = place
-
 node-untaken : (n : ℕ) (c : Node) → ((m : ℕ) (b : _) → c ≡ Var m b → m < n) → has_number n c ≡ false
 node-untaken n (Var m b) below = let less = below m b refl in ne_eqb m n (λ e. omega arith)
 node-untaken n (Int z) below = refl
@@ -42,3 +23,24 @@ pub untaken : (n : ℕ) (cs : List Node) → ((w m : ℕ) (b : _) → slice_get 
 untaken n [] below = refl
 untaken n (c ∷ cs) below =
     or_from (has_number n c) (list_any (has_number n) cs) (node-untaken n c (λ m b is. below 0 m b (ap Some is))) (untaken n cs (λ w m b h. below (suc w) m b h))
+
+-- where these are the names of the atoms
+module _ (names : List (List ℕ)) where
+  pub pushed-makes : (cs : List Node) (es : List ℕ) (next limit : ℕ) (c : Node) (t : Tree) → IsStore names cs es next → MayPush names cs next c → node_term names (terms_from names [] cs) c ≡ t →
+      Makes (present_of names cs es next limit) (present_of names (cs ++ c ∷ []) es next limit) (length cs) t
+  pushed-makes cs es next limit c t store may is = record {
+    words = record {
+      stand = λ w h. let below = ltb-true w (length cs) h in lt-ltb w (length (cs ++ c ∷ [])) (omega (arith, length-append cs (c ∷ [])));
+      terms = λ w h. term_at-push names cs c w (ltb-true w (length cs) h);
+    };
+    substitution = pushed-substitution names cs es next store c may;
+    holds = lt-ltb (length cs) (length (cs ++ c ∷ [])) (omega (arith, length-append cs (c ∷ [])));
+    term = term_at-pushed names cs c ∙ is;
+  }
+
+  pub pushed-made : (cs : List Node) (es : List ℕ) (next limit : ℕ) (c : Node) (t : Tree) → IsStore names cs es next → MayPush names cs next c → node_term names (terms_from names [] cs) c ≡ t →
+      (now : List (List ℕ)) (ds : List Node) (fs : List ℕ) (high room : ℕ) (result : Result ℕ StoreFault) → IfOk result (λ w. w ≡ length cs) → now ≡ names → ds ≡ (if is_ok result then cs ++ c ∷ [] else cs) → fs ≡ es → high ≡ next → room ≡ limit →
+      IfOk result (λ w. Makes (present_of names cs es next limit) (present_of now ds fs high room) w t)
+  pushed-made cs es next limit c t store may is now ds fs high room (Ok w) place atoms nodes trail number same =
+      rw (place, atoms, nodes, trail, number, same) (pushed-makes cs es next limit c t store may is)
+  pushed-made cs es next limit c t store may is now ds fs high room (Err e) place atoms nodes trail number same = place

@@ -3,10 +3,10 @@ use Rattle.std.proofs.Common.{◌≡◌, ℕ, zero, suc, ◌+◌, ◌<◌, ◌�
 use Rattle.std.specs.String.{string_bytes}
 use Rattle.std.proofs.lemmas.Bool.{and_parts, or_left, or_right, leb-true, eq-eqb, ne_eqb, cases_eq, false≢true}
 use Rattle.iso_model.specs.declared.terms.Term.{Term}
-use Rattle.iso_model.specs.declared.terms.Term.TheVariants.{Compound, Var, rolls-Var}
+use Rattle.iso_model.specs.declared.terms.Term.TheVariants.{Compound, Var, Atom, rolls-Var, rolls-Atom}
 use Rattle.iso_model.specs.declared.terms.Term.TheOpen.{Term-F}
 use Rattle.iso_model.specs.declared.terms.Term.TheFolds.{fold-roll-Term}
-use Rattle.iso_model.specs.Trees.{Tree, Variable, Apply, row, count, arities_fit}
+use Rattle.iso_model.specs.Trees.{Tree, Variable, Name, Apply, row, count, arities_fit}
 use Rattle.iso_model.specs.Terms.{term_of, row_of, term_step}
 use Rattle.iso_model.specs.Sizes.{size}
 use Rattle.iso_model.specs.Variables.{occurs, is_in}
@@ -20,6 +20,9 @@ use Rattle.iso_store.proofs.Rows.{apply-row}
 
 pub term_of_variable : (n : ℕ) → term_of (Var n) ≡ Variable n
 term_of_variable n = ap term_of (sym (rolls-Var n)) ∙ fold-roll-Term Tree term_step (Term-F.Var n)
+
+pub term_of_atom : (a : String Global) → term_of (Atom a) ≡ Name (string_bytes a)
+term_of_atom a = ap term_of (sym (rolls-Atom a)) ∙ fold-roll-Term Tree term_step (Term-F.Atom a)
 
 -- ---- a compound as a Rust term
 module _ (t : Term) (f : String Global) (v : Vec Term Global) (is : t ≡ Compound f v) where

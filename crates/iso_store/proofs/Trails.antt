@@ -45,22 +45,22 @@ bind_all-equal s (c ∷ bs) a b h =
     bind_all-equal (compose s t) bs a b (sym (apply_apply s t a) ∙ ap (apply t) h ∙ apply_apply s t b)
 
 -- a variable that none of the bindings is of
-pub bind_all-stays : (cs : List Node) (es : List ℕ) (s : Subst) (n : ℕ) → s n ≡ Variable n → ((w : ℕ) → is_in w es ≡ true → n ≢ (binding_at cs w).0) → bind_all s (bindings cs es) n ≡ Variable n
-bind_all-stays cs [] s n h apart = h
-bind_all-stays cs (e ∷ es) s n h apart =
-    let b = binding_at cs e in
+pub bind_all-stays : (names : List (List ℕ)) (cs : List Node) (es : List ℕ) (s : Subst) (n : ℕ) → s n ≡ Variable n → ((w : ℕ) → is_in w es ≡ true → n ≢ (binding_at names cs w).0) → bind_all s (bindings names cs es) n ≡ Variable n
+bind_all-stays names cs [] s n h apart = h
+bind_all-stays names cs (e ∷ es) s n h apart =
+    let b = binding_at names cs e in
     let t = single b.0 (apply s b.1) in
     let other : n ≢ b.0 = apart e (or_left (e == e) (is_in e es) (eq-eqb e e refl)) in
     let now : compose s t n ≡ Variable n = ap (apply t) h ∙ single_other b.0 n (apply s b.1) other in
-    bind_all-stays cs es (compose s t) n now (λ w i. apart w (or_right (e == w) (is_in w es) i))
+    bind_all-stays names cs es (compose s t) n now (λ w i. apart w (or_right (e == w) (is_in w es) i))
 
 -- a bound variable and what it is bound to
-pub bind_all-holds : (cs : List Node) (es : List ℕ) (s : Subst) → all_may_bind s (bindings cs es) ≡ true → (w : ℕ) → is_in w es ≡ true → bind_all s (bindings cs es) (binding_at cs w).0 ≡ apply (bind_all s (bindings cs es)) (binding_at cs w).1
-bind_all-holds cs [] s may w h = absurd (false≢true h)
-bind_all-holds cs (e ∷ es) s may w h = of_place (λ later. bind_all-holds cs es (compose s (single (binding_at cs e).0 (apply s (binding_at cs e).1))) parts.1 w later) (or_cases (e == w) (is_in w es) h)
+pub bind_all-holds : (names : List (List ℕ)) (cs : List Node) (es : List ℕ) (s : Subst) → all_may_bind s (bindings names cs es) ≡ true → (w : ℕ) → is_in w es ≡ true → bind_all s (bindings names cs es) (binding_at names cs w).0 ≡ apply (bind_all s (bindings names cs es)) (binding_at names cs w).1
+bind_all-holds names cs [] s may w h = absurd (false≢true h)
+bind_all-holds names cs (e ∷ es) s may w h = of_place (λ later. bind_all-holds names cs es (compose s (single (binding_at names cs e).0 (apply s (binding_at names cs e).1))) parts.1 w later) (or_cases (e == w) (is_in w es) h)
   where
     b : ℕ × Tree
-    b = binding_at cs e
+    b = binding_at names cs e
 
     r : Tree
     r = apply s b.1
@@ -68,8 +68,8 @@ bind_all-holds cs (e ∷ es) s may w h = of_place (λ later. bind_all-holds cs e
     t : Subst
     t = single b.0 r
 
-    parts : (may_bind s b ≡ true) × (all_may_bind (compose s t) (bindings cs es) ≡ true)
-    parts = and_parts (may_bind s b) (all_may_bind (compose s t) (bindings cs es)) may
+    parts : (may_bind s b ≡ true) × (all_may_bind (compose s t) (bindings names cs es) ≡ true)
+    parts = and_parts (may_bind s b) (all_may_bind (compose s t) (bindings names cs es)) may
 
     first : (is_variable b.0 (s b.0) ≡ true) × (not (occurs b.0 r) ≡ true)
     first = and_parts (is_variable b.0 (s b.0)) (not (occurs b.0 r)) parts.0
@@ -81,12 +81,12 @@ bind_all-holds cs (e ∷ es) s may w h = of_place (λ later. bind_all-holds cs e
         left ∙ sym right
 
     Same : Type 0
-    Same = bind_all (compose s t) (bindings cs es) (binding_at cs w).0 ≡ apply (bind_all (compose s t) (bindings cs es)) (binding_at cs w).1
+    Same = bind_all (compose s t) (bindings names cs es) (binding_at names cs w).0 ≡ apply (bind_all (compose s t) (bindings names cs es)) (binding_at names cs w).1
 
     of_place : (is_in w es ≡ true → Same) → (e == w ≡ true) ⊎ (is_in w es ≡ true) → Same
     of_place others (inl here) =
-        let P : ℕ → Type 0 = λ v. bind_all (compose s t) (bindings cs es) (binding_at cs v).0 ≡ apply (bind_all (compose s t) (bindings cs es)) (binding_at cs v).1 in
-        subst P (eqb-true e w here) (bind_all-equal (compose s t) (bindings cs es) (Variable b.0) b.1 now)
+        let P : ℕ → Type 0 = λ v. bind_all (compose s t) (bindings names cs es) (binding_at names cs v).0 ≡ apply (bind_all (compose s t) (bindings names cs es)) (binding_at names cs v).1 in
+        subst P (eqb-true e w here) (bind_all-equal (compose s t) (bindings names cs es) (Variable b.0) b.1 now)
     of_place others (inr later) = others later
 
 -- ---- the bindings are a substitution

@@ -25,9 +25,9 @@ has_number x (Int z) = false
 has_number x (Atom a) = false
 has_number x (Compound f ws) = false
 
--- What is true of the nodes, the trail and the next number of a store. An argument stands before its compound, and a variable
+-- What is true of the names of the atoms, the nodes, the trail and the next number of a store. An argument stands before its compound, and a variable
 -- is bound to none that is younger, so that neither arguments nor bindings lead back.
-pub record IsStore (cs : List Node) (es : List ℕ) (next : ℕ) : Type 0 where
+pub record IsStore (names : List (List ℕ)) (cs : List Node) (es : List ℕ) (next : ℕ) : Type 0 where
   pub arguments : (w : ℕ) (f : _) (ws : _) → slice_get cs w ≡ Some (Compound f ws) → (k : ℕ) → k < length ws.items → slice_index_or ws.items k 0 < w
   pub arity : (w : ℕ) (f : _) (ws : _) → slice_get cs w ≡ Some (Compound f ws) → (0 < length ws.items) × (length ws.items < 256)
   pub target : (w n j : ℕ) → slice_get cs w ≡ Some (Var n (Some j)) → j < length cs
@@ -36,28 +36,30 @@ pub record IsStore (cs : List Node) (es : List ℕ) (next : ℕ) : Type 0 where
   pub numbered : (w n : ℕ) (b : _) → slice_get cs w ≡ Some (Var n b) → n < next
   pub trailed : (w n j : ℕ) → slice_get cs w ≡ Some (Var n (Some j)) → is_in w es ≡ true
   pub bound : (w : ℕ) → is_in w es ≡ true → is_bound (slice_get cs w) ≡ true
-  pub may_bind : all_may_bind Variable (bindings cs es) ≡ true
+  pub may_bind : all_may_bind Variable (bindings names cs es) ≡ true
+  pub atom : (w : ℕ) (a : _) → slice_get cs w ≡ Some (Atom a) → a < length names
+  pub name : (w : ℕ) (f : _) (ws : _) → slice_get cs w ≡ Some (Compound f ws) → f < length names
 
 -- A binding that leads from its variable to a place behind it leads to no place behind top.
 abbrev pub LeadsBack : List Node → ℕ → Type 0
 LeadsBack cs top = (w n j : ℕ) → slice_get cs w ≡ Some (Var n (Some j)) → w < j → j ≤ top
 
 -- the node may come behind these nodes
-abbrev pub MayPush : List Node → ℕ → Node → Type 0
-MayPush cs next (Var n b) = (b ≡ None) × (n < next) × (list_any (has_number n) cs ≡ false)
-MayPush cs next (Int z) = Unit {0}
-MayPush cs next (Atom a) = Unit {0}
-MayPush cs next (Compound f ws) = (0 < length ws.items) × (length ws.items < 256) × ((k : ℕ) → k < length ws.items → slice_index_or ws.items k 0 < length cs)
+abbrev pub MayPush : List (List ℕ) → List Node → ℕ → Node → Type 0
+MayPush names cs next (Var n b) = (b ≡ None) × (n < next) × (list_any (has_number n) cs ≡ false)
+MayPush names cs next (Int z) = Unit {0}
+MayPush names cs next (Atom a) = a < length names
+MayPush names cs next (Compound f ws) = (f < length names) × (0 < length ws.items) × (length ws.items < 256) × ((k : ℕ) → k < length ws.items → slice_index_or ws.items k 0 < length cs)
 
--- the store that has these nodes, this trail, this next number and this limit
-abbrev pub present_of : List Node → List ℕ → ℕ → ℕ → Present ℕ
-present_of cs es next limit = record {
-  substitution = substitution_of cs es;
+-- the store that has these names, these nodes, this trail, this next number and this limit
+abbrev pub present_of : List (List ℕ) → List Node → List ℕ → ℕ → ℕ → Present ℕ
+present_of names cs es next limit = record {
+  substitution = substitution_of names cs es;
   next = next;
   cells = length cs;
   limit = limit;
   holds = λ w. nat_lt w (length cs);
-  term = term_at cs;
+  term = term_at names cs;
   taken = λ n. list_any (has_number n) cs;
 }
 
@@ -95,12 +97,12 @@ reset (e ∷ es) cs = unbound_at (reset es cs) e
 abbrev pub restored : List Node → List ℕ → NodesMark → List Node
 restored cs es m = reset (drop m.trail es) (take m.nodes cs)
 
--- The mark stands for p, in a store of these nodes, this trail and this limit.
-pub record StandsFor (limit : ℕ) (cs : List Node) (es : List ℕ) (m : NodesMark) (p : Present ℕ) : Type 0 where
+-- The mark stands for p, in a store of these names, this limit, these nodes and this trail.
+pub record StandsFor (names : List (List ℕ)) (limit : ℕ) (cs : List Node) (es : List ℕ) (m : NodesMark) (p : Present ℕ) : Type 0 where
   pub nodes_top : m.nodes ≤ length cs
   pub trail_top : m.trail ≤ length es
-  pub is_store : IsStore (restored cs es m) (take m.trail es) m.next
-  pub present : p ≡ present_of (restored cs es m) (take m.trail es) m.next limit
+  pub is_store : IsStore names (restored cs es m) (take m.trail es) m.next
+  pub present : p ≡ present_of names (restored cs es m) (take m.trail es) m.next limit
 
 -- the first mark is no younger than the second
 pub record IsOlder (k m : NodesMark) : Type 0 where
@@ -108,5 +110,5 @@ pub record IsOlder (k m : NodesMark) : Type 0 where
   pub trail_top : k.trail ≤ m.trail
 
 -- marks stand on, for what they stood for
-abbrev pub KeepsNodesMarks : ℕ → List Node → List ℕ → List Node → List ℕ → Type 0
-KeepsNodesMarks limit cs es ds fs = (m : NodesMark) (p : Present ℕ) → StandsFor limit cs es m p → StandsFor limit ds fs m p
+abbrev pub KeepsNodesMarks : List (List ℕ) → ℕ → List Node → List ℕ → List Node → List ℕ → Type 0
+KeepsNodesMarks names limit cs es ds fs = (m : NodesMark) (p : Present ℕ) → StandsFor names limit cs es m p → StandsFor names limit ds fs m p

@@ -1,6 +1,7 @@
 //! What unification, copying in and copying out need of a store.
-ghost use Rattle.std.specs.Prelude.{◌≡◌, ℕ, ◌+◌, ◌<◌, ◌≤◌, ◌^◌, IfOk, OnOk, length, map, true, false};
+ghost use Rattle.std.specs.Prelude.{◌≡◌, ℕ, List, Some, slice_get, ◌+◌, ◌<◌, ◌≤◌, ◌^◌, IfOk, OnOk, length, map, true, false};
 ghost use Rattle.std.specs.List.{All};
+ghost use Rattle.iso_atoms.specs.Texts.{EachOnce, KeepsTexts, text_at};
 ghost use Rattle.iso_model.specs.Trees.{Integer, Name, Apply, Variable, row};
 ghost use Rattle.iso_model.specs.Sorts.{is_term};
 ghost use Rattle.iso_model.specs.Variables.{occurs};
@@ -10,12 +11,16 @@ ghost use Rattle.iso_store.specs.Arguments.{arity, argument};
 ghost use Rattle.iso_store.specs.Shapes.{IsShape, IsYounger};
 
 use super::shapes::{Shape, StoreFault};
+use iso_atoms::Atom;
+use iso_model::NoMemory;
 
 /// Words that stand for terms under one substitution, which grows by one binding at a time.
 pub(crate) trait Cells {
     type Word: Copy;
 
     type Mark: Copy;
+
+    ghost names: { Self → List (List ℕ) };
 
     ghost present: { Self → Present Self.Word };
 
@@ -26,10 +31,11 @@ pub(crate) trait Cells {
     ghost width: { ℕ → ℕ };
 
     /// What the word stands for, seen through bindings.
-    fn shape(&self, word: Self::Word) -> Shape<'_>
+    fn shape(&self, word: Self::Word) -> Shape
         requires { Holds (present self.now) word }
-        ensures shape { IsShape result (meaning (present self.now) word) }
-        ensures term { is_term (meaning (present self.now) word) ≡ true };
+        ensures shape { IsShape (names self.now) result (meaning (present self.now) word) }
+        ensures term { is_term (meaning (present self.now) word) ≡ true }
+        ensures each_once { EachOnce (names self.now) };
 
     /// An argument of the compound that the word stands for.
     fn arg(&self, word: Self::Word, index: usize) -> Self::Word
@@ -61,6 +67,7 @@ pub(crate) trait Cells {
         ensures bound { OnOk result (Binds (present self.old) (present self.new) (single number (meaning (present self.old) word))) }
         ensures cells { Grows (present self.old) (present self.new) 0 }
         ensures full { result ≡ Err StoreFault.Full → full self.new }
+        ensures names { names self.new ≡ names self.old }
         ensures marks { KeepsMarks (stands self.old) (stands self.new) };
 
     /// The next variable number, which moves on by `count`.
@@ -73,6 +80,7 @@ pub(crate) trait Cells {
         ensures numbers { MovesOn (present self.old) (present self.new) count }
         ensures free { (n : ℕ) → result ≤ n → (present self.new).taken n ≡ false }
         ensures cells { Grows (present self.old) (present self.new) 0 }
+        ensures names { names self.new ≡ names self.old }
         ensures marks { KeepsMarks (stands self.old) (stands self.new) };
 
     /// An integer.
@@ -81,25 +89,42 @@ pub(crate) trait Cells {
         ensures numbers { OnOk result (KeepsNumbers (present self.old) (present self.new)) }
         ensures cells { Grows (present self.old) (present self.new) 1 }
         ensures full { result ≡ Err StoreFault.Full → full self.new }
+        ensures names { names self.new ≡ names self.old }
         ensures marks { KeepsMarks (stands self.old) (stands self.new) };
 
+    /// The atom of this name: the one that it has, or a new one. The error is that memory was refused; nothing changed then.
+    fn intern(&mut self, name: &str) -> Result<Atom, NoMemory>
+        ensures place { IfOk result (λ atom. slice_get (names self.new) atom ≡ Some name.now) }
+        ensures names { KeepsTexts (names self.old) (names self.new) }
+        ensures present { present self.new ≡ present self.old }
+        ensures marks { KeepsMarks (stands self.old) (stands self.new) };
+
+    /// The name of this atom. Takes no memory.
+    fn text(&self, atom: Atom) -> &str
+        requires { atom < length (names self.now) }
+        ensures { slice_get (names self.now) atom ≡ Some result.now };
+
     /// An atom.
-    fn atom(&mut self, name: &str) -> Result<Self::Word, StoreFault>
-        ensures made { IfOk result (λ w. Makes (present self.old) (present self.new) w (Name name.now)) }
+    fn atom(&mut self, name: Atom) -> Result<Self::Word, StoreFault>
+        requires name { name < length (names self.old) }
+        ensures made { IfOk result (λ w. Makes (present self.old) (present self.new) w (Name (text_at (names self.old) name))) }
         ensures numbers { OnOk result (KeepsNumbers (present self.old) (present self.new)) }
         ensures cells { Grows (present self.old) (present self.new) 1 }
         ensures full { result ≡ Err StoreFault.Full → full self.new }
+        ensures names { names self.new ≡ names self.old }
         ensures marks { KeepsMarks (stands self.old) (stands self.new) };
 
     /// A compound of 1 to 255 arguments.
-    fn compound(&mut self, name: &str, arguments: &[Self::Word]) -> Result<Self::Word, StoreFault>
+    fn compound(&mut self, name: Atom, arguments: &[Self::Word]) -> Result<Self::Word, StoreFault>
+        requires name { name < length (names self.old) }
         requires some { 0 < length arguments.now }
         requires few { length arguments.now < 256 }
         requires arguments { All (λ w. Holds (present self.old) w) arguments.now }
-        ensures made { IfOk result (λ w. Makes (present self.old) (present self.new) w (Apply name.now (row (map (present self.old).term arguments.now)))) }
+        ensures made { IfOk result (λ w. Makes (present self.old) (present self.new) w (Apply (text_at (names self.old) name) (row (map (present self.old).term arguments.now)))) }
         ensures numbers { OnOk result (KeepsNumbers (present self.old) (present self.new)) }
         ensures cells { Grows (present self.old) (present self.new) (width (length arguments.now)) }
         ensures full { result ≡ Err StoreFault.Full → full self.new }
+        ensures names { names self.new ≡ names self.old }
         ensures marks { KeepsMarks (stands self.old) (stands self.new) };
 
     /// The variable of a reserved number that has none yet.
@@ -110,5 +135,6 @@ pub(crate) trait Cells {
         ensures numbers { OnOk result (TakesNumber (present self.old) (present self.new) number) }
         ensures cells { Grows (present self.old) (present self.new) 1 }
         ensures full { result ≡ Err StoreFault.Full → full self.new }
+        ensures names { names self.new ≡ names self.old }
         ensures marks { KeepsMarks (stands self.old) (stands self.new) };
 }

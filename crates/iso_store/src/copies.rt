@@ -1,6 +1,7 @@
 //! Terms copied into a store and out of it.
 ghost use Rattle.std.specs.Prelude.{◌≡◌, ℕ, ◌+◌, ◌<◌, ◌≤◌, ◌^◌, IfOk, OnOk, length, map, true, false};
 ghost use Rattle.std.specs.List.{All};
+ghost use Rattle.iso_atoms.specs.Texts.{KeepsTexts};
 ghost use Rattle.iso_model.specs.Trees.{Variable, arities_fit};
 ghost use Rattle.iso_model.specs.Terms.{term_of};
 ghost use Rattle.iso_model.specs.Variables.{variable_count};
@@ -25,9 +26,9 @@ pub(crate) fn copy_out<C: Cells>(alloc: Global, store: &C, word: C::Word) -> Res
     match store.shape(word) {
         Shape::Var(number) => Ok(Term::Var(number)),
         Shape::Int(value) => Ok(Term::Int(value)),
-        Shape::Atom(name) => Ok(Term::Atom(String::from_str(alloc, name)?)),
+        Shape::Atom(name) => Ok(Term::Atom(String::from_str(alloc, store.text(name))?)),
         Shape::Compound(name, count) => {
-            let name = String::from_str(alloc, name)?;
+            let name = String::from_str(alloc, store.text(name))?;
             let mut arguments = Vec::new(alloc);
             for index in 0..count {
                 let argument = copy_out(alloc, store, store.arg(word, index))?;
@@ -56,6 +57,7 @@ fn make<C: Cells>(
     ensures numbers { OnOk result (KeepsNumbers (C.present store.old) (C.present store.new)) }
     ensures cells { Grows (C.present store.old) (C.present store.new) (cells_of C.width (term_of term.now)) }
     ensures full { result ≡ Err StoreFault.Full → C.full store.new }
+    ensures names { KeepsTexts (C.names store.old) (C.names store.new) }
     ensures marks { KeepsMarks (C.stands store.old) (C.stands store.new) }
 {
     match term {
@@ -69,7 +71,10 @@ fn make<C: Cells>(
             let value = *value;
             store.int(value)
         }
-        Term::Atom(name) => store.atom(name.as_str()),
+        Term::Atom(name) => {
+            let atom = store.intern(name.as_str())?;
+            store.atom(atom)
+        }
         Term::Compound(name, arguments) => {
             let mut made = Vec::new(alloc);
             for argument in arguments {
@@ -78,7 +83,8 @@ fn make<C: Cells>(
                     return Err(StoreFault::NoMemory);
                 }
             }
-            store.compound(name.as_str(), made.as_slice())
+            let atom = store.intern(name.as_str())?;
+            store.compound(atom, made.as_slice())
         }
     }
 }
@@ -97,6 +103,7 @@ fn variables_from<C: Cells>(
     ensures numbers { OnOk result (TakesFrom (C.present store.old) (C.present store.new) first) }
     ensures cells { Grows (C.present store.old) (C.present store.new) count }
     ensures full { result ≡ Err StoreFault.Full → C.full store.new }
+    ensures names { C.names store.new ≡ C.names store.old }
     ensures marks { KeepsMarks (C.stands store.old) (C.stands store.new) }
 {
     let mut words = Vec::new(alloc);
@@ -121,6 +128,7 @@ pub(crate) fn build<C: Cells>(
     ensures numbers { OnOk result (MovesOn (C.present store.old) (C.present store.new) (variable_count (term_of term.now))) }
     ensures cells { Grows (C.present store.old) (C.present store.new) (variable_count (term_of term.now) + cells_of C.width (term_of term.now)) }
     ensures full { result ≡ Err StoreFault.Full → C.full store.new }
+    ensures names { KeepsTexts (C.names store.old) (C.names store.new) }
     ensures marks { KeepsMarks (C.stands store.old) (C.stands store.new) }
 {
     let mut variables = Numbering::new(alloc);

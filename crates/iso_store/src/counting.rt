@@ -5,6 +5,8 @@ use super::cells::Cells;
 use super::marks::NodesMark;
 use super::nodes::Nodes;
 use super::shapes::{Shape, StoreFault};
+use iso_atoms::Atom;
+use iso_model::NoMemory;
 use std::cell::Cell;
 
 /// Nodes, and how many shapes and arguments were asked for.
@@ -26,6 +28,8 @@ impl Cells for Counting {
 
     type Mark = NodesMark;
 
+    ghost names = { λ s. ⟦<Nodes as Cells>⟧.names s.nodes };
+
     ghost present = { λ s. ⟦<Nodes as Cells>⟧.present s.nodes };
 
     ghost stands = { λ s. ⟦<Nodes as Cells>⟧.stands s.nodes };
@@ -34,7 +38,7 @@ impl Cells for Counting {
 
     ghost width = { ⟦<Nodes as Cells>⟧.width };
 
-    fn shape(&self, word: usize) -> Shape<'_> {
+    fn shape(&self, word: usize) -> Shape {
         self.look();
         self.nodes.shape(word)
     }
@@ -60,11 +64,19 @@ impl Cells for Counting {
         self.nodes.int(value)
     }
 
-    fn atom(&mut self, name: &str) -> Result<usize, StoreFault> {
+    fn intern(&mut self, name: &str) -> Result<Atom, NoMemory> {
+        self.nodes.intern(name)
+    }
+
+    fn text(&self, atom: Atom) -> &str {
+        self.nodes.text(atom)
+    }
+
+    fn atom(&mut self, name: Atom) -> Result<usize, StoreFault> {
         self.nodes.atom(name)
     }
 
-    fn compound(&mut self, name: &str, arguments: &[usize]) -> Result<usize, StoreFault> {
+    fn compound(&mut self, name: Atom, arguments: &[usize]) -> Result<usize, StoreFault> {
         self.nodes.compound(name, arguments)
     }
 

@@ -1,5 +1,6 @@
 //! What to do with two terms that are to be made equal (ISO/IEC 13211-1:1995, 7.3.4.1).
-ghost use Rattle.std.specs.Prelude.{◌≡◌, true};
+ghost use Rattle.std.specs.Prelude.{◌≡◌, ℕ, List, true};
+ghost use Rattle.iso_atoms.specs.Texts.{EachOnce};
 ghost use Rattle.iso_model.specs.Trees.{Tree};
 ghost use Rattle.iso_model.specs.Sorts.{is_term};
 ghost use Rattle.iso_store.specs.Shapes.{IsShape, IsMeeting};
@@ -22,8 +23,8 @@ pub(crate) enum Meeting {
 }
 
 /// How the terms of the two shapes meet.
-pub(crate) fn meet(first: Shape<'_>, second: Shape<'_>) -> Meeting
-    ensures { (a b : Tree) → IsShape first.entry a → IsShape second.entry b → is_term a ≡ true → is_term b ≡ true → IsMeeting result a b }
+pub(crate) fn meet(first: Shape, second: Shape) -> Meeting
+    ensures { (names : List (List ℕ)) (a b : Tree) → EachOnce names → IsShape names first a → IsShape names second b → is_term a ≡ true → is_term b ≡ true → IsMeeting result a b }
 {
     match first {
         Shape::Var(x) => match second {
@@ -31,19 +32,14 @@ pub(crate) fn meet(first: Shape<'_>, second: Shape<'_>) -> Meeting
             Shape::Var(y) if x < y => Meeting::SecondVariable(y),
             _ => Meeting::FirstVariable(x),
         },
-        Shape::Int(v) => match second {
+        Shape::Int(_) | Shape::Atom(_) => match second {
             Shape::Var(y) => Meeting::SecondVariable(y),
-            Shape::Int(w) if v == w => Meeting::Same,
+            _ if first == second => Meeting::Same,
             _ => Meeting::Clash,
         },
-        Shape::Atom(f) => match second {
+        Shape::Compound(_, n) => match second {
             Shape::Var(y) => Meeting::SecondVariable(y),
-            Shape::Atom(g) if f == g => Meeting::Same,
-            _ => Meeting::Clash,
-        },
-        Shape::Compound(f, n) => match second {
-            Shape::Var(y) => Meeting::SecondVariable(y),
-            Shape::Compound(g, m) if f == g && n == m => Meeting::Arguments(n),
+            _ if first == second => Meeting::Arguments(n),
             _ => Meeting::Clash,
         },
     }

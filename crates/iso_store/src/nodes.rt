@@ -1,6 +1,7 @@
 //! A store of nodes: a vector of at most `limit` of them.
 ghost use Rattle.std.specs.Prelude.{◌≡◌, ℕ, ◌+◌, ◌<◌, ◌≤◌, ◌++◌, ◌∷◌, [], length, IfOk, is_ok, if◌then◌else◌, MatchOption, true, false};
 ghost use Rattle.std.specs.List.{slice_get};
+ghost use Rattle.iso_atoms.specs.Texts.{EachOnce};
 ghost use Rattle.iso_model.specs.Substitutions.{apply};
 ghost use Rattle.iso_store.specs.declared.nodes.Node.TheVariants.{Var};
 ghost use Rattle.iso_store.specs.NodeTerms.{term_at, substitution_of};
@@ -13,6 +14,7 @@ use super::reaches::{farther, within};
 use super::shapes::{Shape, StoreFault};
 use super::stores::Store;
 use super::unify::unify;
+use iso_atoms::{Atom, Atoms};
 use iso_model::{NoMemory, Term};
 use std::alloc::Global;
 
@@ -22,23 +24,26 @@ pub(crate) enum Node {
     /// A variable, with the place that it is bound to.
     Var(u64, Option<usize>),
     Int(i64),
-    Atom(String),
+    Atom(Atom),
     /// A name with the places of its arguments.
-    Compound(String, Vec<usize>),
+    Compound(Atom, Vec<usize>),
 }
 
 /// Terms as nodes.
 #[derive(Drop)]
 pub struct Nodes {
     alloc: Global,
+    /// The names that have an atom.
+    atoms: Atoms,
     limit: u32,
     next: u64,
     nodes: Vec<Node>,
     trail: Vec<usize>,
     /// No binding leads from a place before its target to a target behind this place.
     forward: usize,
-    ghost is_store: { IsStore nodes.items trail.items next },
+    ghost is_store: { IsStore atoms nodes.items trail.items next },
     ghost leads_back: { LeadsBack nodes.items forward },
+    ghost each_once: { EachOnce atoms },
 }
 
 impl Nodes {
@@ -48,6 +53,7 @@ impl Nodes {
     {
         Ok(Nodes {
             alloc,
+            atoms: Atoms::new(alloc),
             limit,
             next: 0,
             nodes: Vec::new(alloc),
@@ -58,9 +64,10 @@ impl Nodes {
 
     /// The place of the node, which comes behind the others.
     fn push(&mut self, node: Node) -> Result<usize, StoreFault>
-        requires { MayPush self.old.nodes.items self.old.next node }
+        requires { MayPush self.old.atoms self.old.nodes.items self.old.next node }
         ensures place { IfOk result (λ w. w ≡ length self.old.nodes.items) }
         ensures nodes { self.new.nodes.items ≡ (if is_ok result then self.old.nodes.items ++ node ∷ [] else self.old.nodes.items) }
+        ensures atoms { self.new.atoms ≡ self.old.atoms }
         ensures trail { self.new.trail ≡ self.old.trail }
         ensures next { self.new.next ≡ self.old.next }
         ensures limit { self.new.limit ≡ self.old.limit }
@@ -94,8 +101,8 @@ impl Nodes {
         requires { word < length self.now.nodes.items }
         ensures within { result < length self.now.nodes.items }
         ensures end { is_bound (slice_get self.now.nodes.items result) ≡ false }
-        ensures same { apply (substitution_of self.now.nodes.items self.now.trail.items) (term_at self.now.nodes.items result)
-            ≡ apply (substitution_of self.now.nodes.items self.now.trail.items) (term_at self.now.nodes.items word) }
+        ensures same { apply (substitution_of self.now.atoms self.now.nodes.items self.now.trail.items) (term_at self.now.atoms self.now.nodes.items result)
+            ≡ apply (substitution_of self.now.atoms self.now.nodes.items self.now.trail.items) (term_at self.now.atoms self.now.nodes.items word) }
     {
         let mut at = word;
         while let Some(next) = self.bound_to(at) {
@@ -110,15 +117,17 @@ impl Cells for Nodes {
 
     type Mark = NodesMark;
 
-    ghost present = { λ s. present_of s.nodes.items s.trail.items s.next s.limit };
+    ghost names = { λ s. s.atoms };
 
-    ghost stands = { λ s. StandsFor s.limit s.nodes.items s.trail.items };
+    ghost present = { λ s. present_of s.atoms s.nodes.items s.trail.items s.next s.limit };
+
+    ghost stands = { λ s. StandsFor s.atoms s.limit s.nodes.items s.trail.items };
 
     ghost full = { λ s. s.limit ≤ length s.nodes.items };
 
     ghost width = { λ _. 1 };
 
-    fn shape(&self, word: usize) -> Shape<'_> {
+    fn shape(&self, word: usize) -> Shape {
         let at = self.walked(word);
         match &self.nodes[at] {
             Node::Var(number, _) => Shape::Var(*number),
@@ -126,8 +135,8 @@ impl Cells for Nodes {
                 let value = *value;
                 Shape::Int(value)
             }
-            Node::Atom(name) => Shape::Atom(name.as_str()),
-            Node::Compound(name, arguments) => Shape::Compound(name.as_str(), arguments.len()),
+            Node::Atom(name) => Shape::Atom(*name),
+            Node::Compound(name, arguments) => Shape::Compound(*name, arguments.len()),
         }
     }
 
@@ -165,17 +174,19 @@ impl Cells for Nodes {
         self.push(Node::Int(value))
     }
 
-    fn atom(&mut self, name: &str) -> Result<usize, StoreFault> {
-        let Ok(name) = String::from_str(self.alloc, name) else {
-            return Err(StoreFault::NoMemory);
-        };
+    fn intern(&mut self, name: &str) -> Result<Atom, NoMemory> {
+        self.atoms.intern(name)
+    }
+
+    fn text(&self, atom: Atom) -> &str {
+        self.atoms.text(atom)
+    }
+
+    fn atom(&mut self, name: Atom) -> Result<usize, StoreFault> {
         self.push(Node::Atom(name))
     }
 
-    fn compound(&mut self, name: &str, arguments: &[usize]) -> Result<usize, StoreFault> {
-        let Ok(name) = String::from_str(self.alloc, name) else {
-            return Err(StoreFault::NoMemory);
-        };
+    fn compound(&mut self, name: Atom, arguments: &[usize]) -> Result<usize, StoreFault> {
         let Ok(arguments) = Vec::from_slice(self.alloc, arguments) else {
             return Err(StoreFault::NoMemory);
         };
@@ -194,15 +205,17 @@ impl Store for Nodes {
 
     type Mark = NodesMark;
 
-    ghost present = { λ s. present_of s.nodes.items s.trail.items s.next s.limit };
+    ghost names = { λ s. s.atoms };
 
-    ghost stands = { λ s. StandsFor s.limit s.nodes.items s.trail.items };
+    ghost present = { λ s. present_of s.atoms s.nodes.items s.trail.items s.next s.limit };
+
+    ghost stands = { λ s. StandsFor s.atoms s.limit s.nodes.items s.trail.items };
 
     ghost older = { IsOlder };
 
     ghost full = { λ s. s.limit ≤ length s.nodes.items };
 
-    fn shape(&self, word: usize) -> Shape<'_> {
+    fn shape(&self, word: usize) -> Shape {
         Cells::shape(self, word)
     }
 
@@ -218,11 +231,19 @@ impl Store for Nodes {
         Cells::int(self, value)
     }
 
-    fn atom(&mut self, name: &str) -> Result<usize, StoreFault> {
+    fn intern(&mut self, name: &str) -> Result<Atom, NoMemory> {
+        Cells::intern(self, name)
+    }
+
+    fn text(&self, atom: Atom) -> &str {
+        Cells::text(self, atom)
+    }
+
+    fn atom(&mut self, name: Atom) -> Result<usize, StoreFault> {
         Cells::atom(self, name)
     }
 
-    fn compound(&mut self, name: &str, arguments: &[usize]) -> Result<usize, StoreFault> {
+    fn compound(&mut self, name: Atom, arguments: &[usize]) -> Result<usize, StoreFault> {
         Cells::compound(self, name, arguments)
     }
 

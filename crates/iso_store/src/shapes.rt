@@ -1,16 +1,17 @@
 //! What a word shows of its term, and why a store gives none.
+use iso_atoms::Atom;
 
 /// What a word stands for, seen through bindings (6.1.2).
 #[derive(Clone, Copy, Debug, PartialEq, Eq)]
-pub enum Shape<'s> {
+pub enum Shape {
     /// An unbound variable, by its number.
     Var(u64),
     /// An integer.
     Int(i64),
-    /// An atom, by its text.
-    Atom(&'s str),
+    /// An atom.
+    Atom(Atom),
     /// A compound, by its name and number of arguments.
-    Compound(&'s str, usize),
+    Compound(Atom, usize),
 }
 
 /// Why a call made or bound nothing; after it the caller goes back to a mark.

@@ -1,6 +1,7 @@
 //! The contract that both engines and every built-in stand on: terms under one substitution, which marks bring back.
-ghost use Rattle.std.specs.Prelude.{◌≡◌, ℕ, ◌+◌, ◌*◌, ◌<◌, ◌≤◌, ◌^◌, IfOk, OnOk, length, map, true, false};
+ghost use Rattle.std.specs.Prelude.{◌≡◌, ℕ, List, Some, slice_get, ◌+◌, ◌*◌, ◌<◌, ◌≤◌, ◌^◌, IfOk, OnOk, length, map, true, false};
 ghost use Rattle.std.specs.List.{All};
+ghost use Rattle.iso_atoms.specs.Texts.{EachOnce, KeepsTexts, text_at};
 ghost use Rattle.iso_model.specs.Trees.{Integer, Name, Apply, Variable, row, arities_fit};
 ghost use Rattle.iso_model.specs.Terms.{term_of};
 ghost use Rattle.iso_model.specs.Sorts.{is_term};
@@ -13,6 +14,7 @@ ghost use Rattle.iso_store.specs.Arguments.{arity, argument};
 ghost use Rattle.iso_store.specs.Shapes.{IsShape};
 
 use super::shapes::{Shape, StoreFault};
+use iso_atoms::Atom;
 use iso_model::{NoMemory, Term};
 
 /// Words that stand for terms. A word has the term that it was made with, and stands for what the bindings make of it.
@@ -23,6 +25,8 @@ pub trait Store {
     /// What stands for the store as it was.
     type Mark: Copy;
 
+    // the names that have an atom, in the order of their numbers
+    ghost names: { Self → List (List ℕ) };
     // the store as it is
     ghost present: { Self → Present Self.Word };
     // what a mark brings back
@@ -33,10 +37,11 @@ pub trait Store {
     ghost full: { Self → Type 0 };
 
     /// What the word stands for.
-    fn shape(&self, word: Self::Word) -> Shape<'_>
+    fn shape(&self, word: Self::Word) -> Shape
         requires { Holds (present self.now) word }
-        ensures shape { IsShape result (meaning (present self.now) word) }
-        ensures term { is_term (meaning (present self.now) word) ≡ true };
+        ensures shape { IsShape (names self.now) result (meaning (present self.now) word) }
+        ensures term { is_term (meaning (present self.now) word) ≡ true }
+        ensures each_once { EachOnce (names self.now) };
 
     /// The argument at this place, from 0 on, of the compound that the word stands for.
     fn arg(&self, word: Self::Word, index: usize) -> Self::Word
@@ -55,6 +60,7 @@ pub trait Store {
         ensures numbers { MovesOn (present self.old) (present self.new) count }
         ensures free { (n : ℕ) → result ≤ n → (present self.new).taken n ≡ false }
         ensures cells { Grows (present self.old) (present self.new) 0 }
+        ensures names { names self.new ≡ names self.old }
         ensures marks { KeepsMarks (stands self.old) (stands self.new) };
 
     /// An integer.
@@ -63,25 +69,42 @@ pub trait Store {
         ensures numbers { OnOk result (KeepsNumbers (present self.old) (present self.new)) }
         ensures cells { Grows (present self.old) (present self.new) 1 }
         ensures full { result ≡ Err StoreFault.Full → full self.new }
+        ensures names { names self.new ≡ names self.old }
         ensures marks { KeepsMarks (stands self.old) (stands self.new) };
 
+    /// The atom of this name: the one that it has, or a new one. The error is that memory was refused; nothing changed then.
+    fn intern(&mut self, name: &str) -> Result<Atom, NoMemory>
+        ensures place { IfOk result (λ atom. slice_get (names self.new) atom ≡ Some name.now) }
+        ensures names { KeepsTexts (names self.old) (names self.new) }
+        ensures present { present self.new ≡ present self.old }
+        ensures marks { KeepsMarks (stands self.old) (stands self.new) };
+
+    /// The name of this atom. Takes no memory.
+    fn text(&self, atom: Atom) -> &str
+        requires { atom < length (names self.now) }
+        ensures { slice_get (names self.now) atom ≡ Some result.now };
+
     /// An atom.
-    fn atom(&mut self, name: &str) -> Result<Self::Word, StoreFault>
-        ensures made { IfOk result (λ w. Makes (present self.old) (present self.new) w (Name name.now)) }
+    fn atom(&mut self, name: Atom) -> Result<Self::Word, StoreFault>
+        requires name { name < length (names self.old) }
+        ensures made { IfOk result (λ w. Makes (present self.old) (present self.new) w (Name (text_at (names self.old) name))) }
         ensures numbers { OnOk result (KeepsNumbers (present self.old) (present self.new)) }
         ensures cells { Grows (present self.old) (present self.new) 1 }
         ensures full { result ≡ Err StoreFault.Full → full self.new }
+        ensures names { names self.new ≡ names self.old }
         ensures marks { KeepsMarks (stands self.old) (stands self.new) };
 
     /// A compound of 1 to 255 arguments.
-    fn compound(&mut self, name: &str, arguments: &[Self::Word]) -> Result<Self::Word, StoreFault>
+    fn compound(&mut self, name: Atom, arguments: &[Self::Word]) -> Result<Self::Word, StoreFault>
+        requires name { name < length (names self.old) }
         requires some { 0 < length arguments.now }
         requires few { length arguments.now < 256 }
         requires arguments { All (λ w. Holds (present self.old) w) arguments.now }
-        ensures made { IfOk result (λ w. Makes (present self.old) (present self.new) w (Apply name.now (row (map (present self.old).term arguments.now)))) }
+        ensures made { IfOk result (λ w. Makes (present self.old) (present self.new) w (Apply (text_at (names self.old) name) (row (map (present self.old).term arguments.now)))) }
         ensures numbers { OnOk result (KeepsNumbers (present self.old) (present self.new)) }
         ensures cells { Grows (present self.old) (present self.new) (length arguments.now + 1) }
         ensures full { result ≡ Err StoreFault.Full → full self.new }
+        ensures names { names self.new ≡ names self.old }
         ensures marks { KeepsMarks (stands self.old) (stands self.new) };
 
     /// The variable of a reserved number that has none yet.
@@ -92,6 +115,7 @@ pub trait Store {
         ensures numbers { OnOk result (TakesNumber (present self.old) (present self.new) number) }
         ensures cells { Grows (present self.old) (present self.new) 1 }
         ensures full { result ≡ Err StoreFault.Full → full self.new }
+        ensures names { names self.new ≡ names self.old }
         ensures marks { KeepsMarks (stands self.old) (stands self.new) };
 
     /// A variable of the next number, which the caller keeps below 2^63.
@@ -101,6 +125,7 @@ pub trait Store {
         ensures numbers { OnOk result (MovesOn (present self.old) (present self.new) 1) }
         ensures cells { Grows (present self.old) (present self.new) 1 }
         ensures full { result ≡ Err StoreFault.Full → full self.new }
+        ensures names { names self.new ≡ names self.old }
         ensures marks { KeepsMarks (stands self.old) (stands self.new) };
 
     /// The copy of a well-formed term, with its variables numbered from the next number on by first occurrence.
@@ -112,6 +137,7 @@ pub trait Store {
         ensures numbers { OnOk result (MovesOn (present self.old) (present self.new) (variable_count (term_of term.now))) }
         ensures cells { Grows (present self.old) (present self.new) (size (term_of term.now)) }
         ensures full { result ≡ Err StoreFault.Full → full self.new }
+        ensures names { KeepsTexts (names self.old) (names self.new) }
         ensures marks { KeepsMarks (stands self.old) (stands self.new) };
 
     /// Whether the two terms unify (7.3.4; no variable may occur in its own value, own); then their unifier is bound.
@@ -122,6 +148,7 @@ pub trait Store {
         ensures unified { IfOk result (IsUnification (present self.old) (present self.new) (meaning (present self.old) first) (meaning (present self.old) second)) }
         ensures cells { Grows (present self.old) (present self.new) 0 }
         ensures full { result ≡ Err StoreFault.Full → full self.new }
+        ensures names { names self.new ≡ names self.old }
         ensures marks { KeepsMarks (stands self.old) (stands self.new) };
 
     /// A mark, which stands for the store as it is.
@@ -130,6 +157,7 @@ pub trait Store {
         ensures substitution { IsSubstitution (present self.old).substitution }
         ensures stands { stands self.new result (present self.old) }
         ensures older { (m : Self.Mark) (p : Present Self.Word) → stands self.old m p → older m result }
+        ensures names { names self.new ≡ names self.old }
         ensures marks { KeepsMarks (stands self.old) (stands self.new) };
 
     /// Brings back what a standing mark stands for. It stands on; those made after it fall.
@@ -137,12 +165,14 @@ pub trait Store {
         requires { (p : Present Self.Word) × stands self.old mark p }
         ensures back { (p : Present Self.Word) → stands self.old mark p → present self.new ≡ p }
         ensures stands { (p : Present Self.Word) → stands self.old mark p → stands self.new mark p }
+        ensures names { names self.new ≡ names self.old }
         ensures marks { (m : Self.Mark) (p : Present Self.Word) → older m mark → stands self.old m p → stands self.new m p };
 
     /// Gives up a standing mark and those made after it; the bindings stay.
     fn forget(&mut self, mark: Self::Mark)
         requires { (p : Present Self.Word) × stands self.old mark p }
         ensures present { present self.new ≡ present self.old }
+        ensures names { names self.new ≡ names self.old }
         ensures marks { (m : Self.Mark) (p : Present Self.Word) → older m mark → stands self.old m p → stands self.new m p };
 
     /// The term that the word stands for. The error is that memory was refused.

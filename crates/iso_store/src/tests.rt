@@ -58,7 +58,8 @@ fn unifies_and_takes_back(rt: HostRuntime) -> Result<(), Fail> {
     let both = compound(alloc, "=", vec![in alloc; left, right]?)?;
     assert!(rt; well_formed(&both));
     let equation = store.build(&both)?;
-    assert_eq!(rt; store.shape(equation), Shape::Compound("=", 2));
+    let equals = store.intern("=")?;
+    assert_eq!(rt; store.shape(equation), Shape::Compound(equals, 2));
     let first = store.arg(equation, 0);
     let second = store.arg(equation, 1);
     let before = store.mark();
@@ -80,20 +81,41 @@ fn makes_each_kind(rt: HostRuntime) -> Result<(), Fail> {
     let mut store = Nodes::new(alloc, 5)?;
     let integer = store.int(-3)?;
     assert_eq!(rt; store.shape(integer), Shape::Int(-3));
-    let name = store.atom("[]")?;
-    assert_eq!(rt; store.shape(name), Shape::Atom("[]"));
+    let nil = store.intern("[]")?;
+    let name = store.atom(nil)?;
+    assert_eq!(rt; store.shape(name), Shape::Atom(nil));
     let number = store.reserve(2);
     assert_eq!(rt; number, 0);
     let variable = store.variable(1)?;
     assert_eq!(rt; store.shape(variable), Shape::Var(1));
     let next = store.fresh()?;
     assert_eq!(rt; store.shape(next), Shape::Var(2));
-    let whole = store.compound("f", &[variable, next])?;
-    assert_eq!(rt; store.shape(whole), Shape::Compound("f", 2));
+    let functor = store.intern("f")?;
+    let whole = store.compound(functor, &[variable, next])?;
+    assert_eq!(rt; store.shape(whole), Shape::Compound(functor, 2));
     let second = store.arg(whole, 1);
     assert_eq!(rt; store.shape(second), Shape::Var(2));
     let shown = format!(in alloc; "{:?}", store.copy_out(whole)?)?;
     assert_eq!(rt; shown.as_str(), "Compound(\"f\", [Var(1), Var(2)])");
+    Ok(())
+}
+
+/// A name has one atom, which gives it back. Other names have others, also once a term was built of them.
+#[test]
+fn gives_a_name_one_atom(rt: HostRuntime) -> Result<(), Fail> {
+    let alloc = rt.alloc();
+    let mut store = Nodes::new(alloc, 9)?;
+    let foo = store.intern("foo")?;
+    let bar = store.intern("bar")?;
+    assert!(rt; foo != bar);
+    let term = compound(alloc, "bar", vec![in alloc; Term::Var(0)]?)?;
+    assert!(rt; well_formed(&term));
+    let built = store.build(&term)?;
+    assert_eq!(rt; store.shape(built), Shape::Compound(bar, 1));
+    let again = store.intern("foo")?;
+    assert_eq!(rt; again, foo);
+    assert_eq!(rt; store.text(foo), "foo");
+    assert_eq!(rt; store.text(bar), "bar");
     Ok(())
 }
 
@@ -125,7 +147,8 @@ fn is_full_at_its_limit(rt: HostRuntime) -> Result<(), Fail> {
     let mut store = Nodes::new(alloc, 0)?;
     assert!(rt; is_full(store.int(7))?);
     let mut store = Nodes::new(alloc, 0)?;
-    assert!(rt; is_full(store.atom("a"))?);
+    let name = store.intern("a")?;
+    assert!(rt; is_full(store.atom(name))?);
     let mut store = Nodes::new(alloc, 0)?;
     let number = store.reserve(1);
     assert!(rt; is_full(store.variable(number))?);
@@ -133,7 +156,8 @@ fn is_full_at_its_limit(rt: HostRuntime) -> Result<(), Fail> {
     assert!(rt; is_full(store.fresh())?);
     let mut store = Nodes::new(alloc, 1)?;
     let argument = store.int(7)?;
-    assert!(rt; is_full(store.compound("f", &[argument]))?);
+    let name = store.intern("f")?;
+    assert!(rt; is_full(store.compound(name, &[argument]))?);
     Ok(())
 }
 
@@ -142,7 +166,8 @@ fn checks_occurrence(rt: HostRuntime) -> Result<(), Fail> {
     let alloc = rt.alloc();
     let mut store = Nodes::new(alloc, 9)?;
     let variable = store.fresh()?;
-    let inside = store.compound("f", &[variable])?;
+    let name = store.intern("f")?;
+    let inside = store.compound(name, &[variable])?;
     assert!(rt; !store.unify(variable, inside)?);
     Ok(())
 }
@@ -169,12 +194,14 @@ fn makes_as_many_nodes_as_a_term_has_parts(rt: HostRuntime) -> Result<(), Fail> 
 fn looks_at_each_part_once(rt: HostRuntime) -> Result<(), Fail> {
     let alloc = rt.alloc();
     for length in [1i64, 10, 100, 1_000, 10_000] {
+        let looks = 8 * length as u64 + 2;
         let lists = vec![in alloc; list(alloc, length)?, list(alloc, length)?]?;
         let both = compound(alloc, "=", lists)?;
         assert!(rt; well_formed(&both));
         let mut store = Nodes::new(alloc, 50_000)?;
         let equation = store.build(&both)?;
-        assert_eq!(rt; Store::shape(&store, equation), Shape::Compound("=", 2));
+        let equals = Store::intern(&mut store, "=")?;
+        assert_eq!(rt; Store::shape(&store, equation), Shape::Compound(equals, 2));
         let first = Store::arg(&store, equation, 0);
         let second = Store::arg(&store, equation, 1);
         let mut counting = Counting {
@@ -182,7 +209,7 @@ fn looks_at_each_part_once(rt: HostRuntime) -> Result<(), Fail> {
             looks: Cell::new(0),
         };
         assert!(rt; unify(&mut counting, first, second)?);
-        assert_eq!(rt; counting.looks.get(), 8 * length as u64 + 2);
+        assert_eq!(rt; counting.looks.get(), looks);
     }
     Ok(())
 }

@@ -75,6 +75,7 @@ fn bind_checked<C: Cells>(
     ensures unified { IfOk result (IsUnification (C.present store.old) (C.present store.new) (meaning (C.present store.old) variable) (meaning (C.present store.old) word)) }
     ensures cells { Grows (C.present store.old) (C.present store.new) 0 }
     ensures full { result ≡ Err StoreFault.Full → C.full store.new }
+    ensures names { C.names store.new ≡ C.names store.old }
     ensures marks { KeepsMarks (C.stands store.old) (C.stands store.new) }
 {
     if occurs_for(store, number, variable, word) {
@@ -96,6 +97,7 @@ pub(crate) fn unify<C: Cells>(
     ensures unified { IfOk result (IsUnification (C.present store.old) (C.present store.new) (meaning (C.present store.old) first) (meaning (C.present store.old) second)) }
     ensures cells { Grows (C.present store.old) (C.present store.new) 0 }
     ensures full { result ≡ Err StoreFault.Full → C.full store.new }
+    ensures names { C.names store.new ≡ C.names store.old }
     ensures marks { KeepsMarks (C.stands store.old) (C.stands store.new) }
 {
     let mut first = first;
@@ -134,6 +136,7 @@ fn unify_before<C: Cells>(
         (front count (arguments (meaning (C.present store.old) first))) (front count (arguments (meaning (C.present store.old) second)))) }
     ensures cells { Grows (C.present store.old) (C.present store.new) 0 }
     ensures full { result ≡ Err StoreFault.Full → C.full store.new }
+    ensures names { C.names store.new ≡ C.names store.old }
     ensures marks { KeepsMarks (C.stands store.old) (C.stands store.new) }
 {
     for index in 0..count {

@@ -5,6 +5,8 @@ use Rattle.iso_model.specs.declared.terms.Term.{the_lemmas}
 use Rattle.iso_model.specs.Terms.{term_of, row_of}
 use Rattle.iso_model.specs.Copies.{renamed, numbers_from}
 use Rattle.iso_model.proofs.RowLemmas.{term_of_compound}
+use Rattle.iso_store.proofs.Names.{text-is}
+use Rattle.iso_store.proofs.Parts.{term_of_atom}
 use Rattle.iso_plain.specs.Standing.{AreVariables}
 use Rattle.iso_plain.specs.Entering.{is_below, no_terms}
 use Rattle.iso_plain.proofs.StandingLemmas.{variables_more}
@@ -85,7 +87,7 @@ compound-requires-clause-few g t c =
 
 pub compound-requires-clause-arguments : goal.compound-requires-clause-arguments
 compound-requires-clause-arguments g t c =
-    rw c.as_slice.ensures.value (terms_hold c.loop-argument.words.items (c.loop-argument.invariant.terms c.requires.variables.0 c.requires.variables.1))
+    rw (c.in_ok-atom-in-Compound.ensures.present, c.as_slice.ensures.value) (terms_hold c.loop-argument.words.items (c.loop-argument.invariant.terms c.requires.variables.0 c.requires.variables.1))
 
 pub returns-in-Var-clause-made : goal.returns-in-Var-clause-made
 returns-in-Var-clause-made g t c = λ first h.
@@ -94,17 +96,24 @@ returns-in-Var-clause-made g t c = λ first h.
     let there = variable_at c.args.variables.now first (length c.args.variables.now) c.in-Var.number c.index-variables-number.result h within c.index-variables-number.is in
     rw name (record { words = words_same _; substitution = refl; holds = there.0; term = there.1 }))
 
-pub returns-after-loop-argument-clause-made : goal.returns-after-loop-argument-clause-made
-returns-after-loop-argument-clause-made g t c = λ first h.
+pub returns-in_ok-atom-in-Compound-clause-made : goal.returns-in_ok-atom-in-Compound-clause-made
+returns-in_ok-atom-in-Compound-clause-made g t c = λ first h.
     (let whole : term_of c.args.term.now ≡ Apply (string_bytes c.in-Compound.name) (row_of c.in-Compound.arguments.items) = ap term_of c.in-Compound.is ∙ term_of_compound c.in-Compound.name c.in-Compound.arguments in
     let items = c.deref-argument-items.result.now in
     let all : take c.loop-argument.argument-index items ≡ c.in-Compound.arguments.items =
     take_all items c.loop-argument.argument-index c.loop-argument-test.false ∙ c.deref-argument-items.ensures.value in
     let row_is = rw all at (terms_row (c.loop-argument.invariant.terms first h)) in
-    let same : Apply c.as_str-in-Compound.result.now (row (map (g.S.Store.present c.loop-argument.store).term c.as_slice.result.now)) ≡ renamed first (term_of c.args.term.now) =
-    rw (whole, c.as_str-in-Compound.ensures.value, c.as_slice.ensures.value) (ap (Apply (string_bytes c.in-Compound.name)) row_is) in
-    if_ok c.compound.result _ _ (λ w made. made_behind c.loop-argument.invariant.extends same made) c.compound.ensures.made)
+    let text = text-is (g.S.Store.names c.intern-in-Compound.new.self) c.in_ok-atom-in-Compound.atom _ c.in_ok-atom-in-Compound.ensures.place ∙ c.as_str-in-Compound.ensures.value in
+    let same : Apply (string_bytes c.in-Compound.name) (row (map (g.S.Store.present c.loop-argument.store).term c.as_slice.result.now)) ≡ renamed first (term_of c.args.term.now) =
+    rw (whole, c.as_slice.ensures.value) (ap (Apply (string_bytes c.in-Compound.name)) row_is) in
+    if_ok c.compound.result _ _ (λ w made. made_behind c.loop-argument.invariant.extends same made) (rw (c.in_ok-atom-in-Compound.ensures.present, text) at c.compound.ensures.made))
 
-pub returns-after-loop-argument-clause-numbers : goal.returns-after-loop-argument-clause-numbers
-returns-after-loop-argument-clause-numbers g t c =
-    if_ok c.compound.result _ _ (λ w kept. numbers_behind c.loop-argument.invariant.numbers kept) c.compound.ensures.numbers
+pub returns-in_ok-atom-in-Compound-clause-numbers : goal.returns-in_ok-atom-in-Compound-clause-numbers
+returns-in_ok-atom-in-Compound-clause-numbers g t c =
+    if_ok c.compound.result _ _ (λ w kept. numbers_behind c.loop-argument.invariant.numbers kept) (rw c.in_ok-atom-in-Compound.ensures.present at c.compound.ensures.numbers)
+
+pub returns-in_ok-atom-in-Atom-clause-made : goal.returns-in_ok-atom-in-Atom-clause-made
+returns-in_ok-atom-in-Atom-clause-made g t c = λ first h.
+    (let whole = ap term_of c.in-Atom.is ∙ term_of_atom c.in-Atom.text in
+    let text = text-is (g.S.Store.names c.intern.new.self) c.in_ok-atom-in-Atom.atom _ c.in_ok-atom-in-Atom.ensures.place ∙ c.as_str.ensures.value in
+    rw whole (rw (c.in_ok-atom-in-Atom.ensures.present, text) at c.atom.ensures.made))

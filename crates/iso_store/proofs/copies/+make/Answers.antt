@@ -5,8 +5,9 @@ use Rattle.iso_model.specs.Sizes.{size}
 use Rattle.iso_model.specs.Substitutions.{apply}
 use Rattle.iso_model.specs.Unification.Listed.{Covers}
 use Rattle.iso_store.specs.Copying.{placed_terms, cells_of}
-use Rattle.iso_store.proofs.Parts.{term_of_variable, arguments-covered, arguments-fit, arguments-size, compound-cells, compound-applied, item-covered, item-fits, item-size, cells-more, cells-whole, place-found}
+use Rattle.iso_store.proofs.Parts.{term_of_variable, term_of_atom, arguments-covered, arguments-fit, arguments-size, compound-cells, compound-applied, item-covered, item-fits, item-size, cells-more, cells-whole, place-found}
 use Rattle.iso_store.proofs.Gathering.{numbers-then, grows-on, makes-placed, placed-kept, gathers-next, gathers-all, gathers-size, compound-made, numbers-made}
+use Rattle.iso_store.proofs.Names.{keeps-then, text-is}
 use Rattle.iso_store.proofs.copies.+make.Goals as goal
 
 pub offset_bounds-words-place : goal.offset_bounds-words-place
@@ -68,6 +69,7 @@ loop-argument-preserved g t c =
       gathers = rw (grown, index) (gathers-next (λ u. apply s (term_of u)) items i x c.loop-argument-test.true c.argument-item.is so made);
       numbers = numbers-then c.loop-argument.invariant.numbers c.in_ok-word-in-Compound.ensures.numbers;
       cells = rw index (grows-on _ c.loop-argument.invariant.cells c.in_ok-word-in-Compound.ensures.cells (omega arith));
+      names = keeps-then _ _ _ c.loop-argument.invariant.names c.make.ensures.names;
       marks = λ m q h. c.make.ensures.marks m q (c.loop-argument.invariant.marks m q h);
     }
 
@@ -113,20 +115,28 @@ compound-requires-clause-few g t c =
     let few = fits.1 in
     omega arith
 
-pub returns-after-loop-argument-clause-made : goal.returns-after-loop-argument-clause-made
-returns-after-loop-argument-clause-made g t c =
+pub returns-in_ok-atom-in-Atom-clause-made : goal.returns-in_ok-atom-in-Atom-clause-made
+returns-in_ok-atom-in-Atom-clause-made g t c =
+    let text = text-is (g.C.Cells.names c.intern.new.self) c.in_ok-atom-in-Atom.atom _ c.in_ok-atom-in-Atom.ensures.place ∙ c.as_str.ensures.value in
+    let whole = ap term_of c.in-Atom.is ∙ term_of_atom c.in-Atom.name in
+    let made = rw (c.in_ok-atom-in-Atom.ensures.present, text) at c.atom.ensures.made in
+    rw whole made
+
+pub returns-in_ok-atom-in-Compound-clause-made : goal.returns-in_ok-atom-in-Compound-clause-made
+returns-in_ok-atom-in-Compound-clause-made g t c =
     let s = placed_terms (map (g.C.Cells.present c.args.store.now).term c.args.words.now) c.args.variables.now.numbers.items in
     let so = gathers-all (λ u. apply s (term_of u)) c.deref-argument-items.result.now c.loop-argument.argument-index c.loop-argument-test.false c.loop-argument.invariant.gathers in
     let gathered = rw c.deref-argument-items.ensures.value at so in
     let applied = compound-applied c.args.term.now _ _ c.in-Compound.is s in
-    let made = rw (c.as_slice.ensures.value, c.as_str-in-Compound.ensures.value) at c.compound.ensures.made in
+    let text = text-is (g.C.Cells.names c.intern-in-Compound.new.self) c.in_ok-atom-in-Compound.atom _ c.in_ok-atom-in-Compound.ensures.place ∙ c.as_str-in-Compound.ensures.value in
+    let made = rw (c.in_ok-atom-in-Compound.ensures.present, c.as_slice.ensures.value, text) at c.compound.ensures.made in
     compound-made _ _ _ c.compound.result gathered applied made
 
-pub returns-after-loop-argument-clause-numbers : goal.returns-after-loop-argument-clause-numbers
-returns-after-loop-argument-clause-numbers g t c = numbers-made _ c.compound.result c.loop-argument.invariant.numbers c.compound.ensures.numbers
+pub returns-in_ok-atom-in-Compound-clause-numbers : goal.returns-in_ok-atom-in-Compound-clause-numbers
+returns-in_ok-atom-in-Compound-clause-numbers g t c = numbers-made _ c.compound.result c.loop-argument.invariant.numbers (rw c.in_ok-atom-in-Compound.ensures.present at c.compound.ensures.numbers)
 
-pub returns-after-loop-argument-clause-cells : goal.returns-after-loop-argument-clause-cells
-returns-after-loop-argument-clause-cells g t c =
+pub returns-in_ok-atom-in-Compound-clause-cells : goal.returns-in_ok-atom-in-Compound-clause-cells
+returns-in_ok-atom-in-Compound-clause-cells g t c =
     let items = c.deref-argument-items.result.now in
     let size = gathers-size _ items c.loop-argument.argument-index c.loop-argument-test.false c.loop-argument.invariant.gathers in
     let same = ap length c.deref-argument-items.ensures.value in
@@ -136,4 +146,8 @@ returns-after-loop-argument-clause-cells g t c =
     let term = compound-cells c.args.term.now _ _ c.in-Compound.is g.C.Cells.width in
     let arity : length c.as_slice.result.now ≡ length c.in-Compound.arguments.items = omega arith in
     let width = ap g.C.Cells.width arity in
-    grows-on _ c.loop-argument.invariant.cells c.compound.ensures.cells (omega arith)
+    grows-on _ c.loop-argument.invariant.cells (rw c.in_ok-atom-in-Compound.ensures.present at c.compound.ensures.cells) (omega arith)
+
+pub returns-in_ok-atom-in-Compound-clause-names : goal.returns-in_ok-atom-in-Compound-clause-names
+returns-in_ok-atom-in-Compound-clause-names g t c =
+    rw c.compound.ensures.names (keeps-then _ _ _ c.loop-argument.invariant.names c.in_ok-atom-in-Compound.ensures.names)

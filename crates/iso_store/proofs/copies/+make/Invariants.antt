@@ -1,5 +1,6 @@
 -- The words so far came for the first arguments, with the variables replaced.
 use Rattle.std.proofs.Common.{map, take}
+use Rattle.iso_atoms.specs.Texts.{KeepsTexts}
 use Rattle.iso_model.specs.Sizes.{size}
 use Rattle.iso_model.specs.Substitutions.{apply}
 use Rattle.iso_model.specs.Terms.{term_of, row_of}
@@ -16,5 +17,6 @@ invariant-loop-argument g l = record {
       (map (λ t. apply (placed_terms (map (g.C.Cells.present l.fn.store).term l.words) l.variables.numbers.items) (term_of t)) (take l.argument-index l.argument-items));
   numbers : KeepsNumbers (g.C.Cells.present l.fn.store) (g.C.Cells.present l.store);
   cells : Grows (g.C.Cells.present l.fn.store) (g.C.Cells.present l.store) (cells_of g.C.Cells.width (row_of (take l.argument-index l.argument-items)));
+  names : KeepsTexts (g.C.Cells.names l.fn.store) (g.C.Cells.names l.store);
   marks : KeepsMarks (g.C.Cells.stands l.fn.store) (g.C.Cells.stands l.store);
 }

@@ -1,4 +1,4 @@
-use Rattle.std.proofs.Common.{◌≡◌, ◌+◌, suc, add-one, arith}
+use Rattle.std.proofs.Common.{◌≡◌, ◌∙◌, ◌+◌, suc, add-one, arith}
 use Rattle.iso_store.proofs.Gathering.{gathers-variable, takes-more, free-more, grows-on}
 use Rattle.iso_store.proofs.copies.variables_from.Goals as goal
 
@@ -13,5 +13,6 @@ loop-place-preserved g c =
       numbers = takes-more c.args.first i so.numbers c.in_ok-word.ensures.numbers;
       free = rw index (free-more c.args.first i c.in_ok-word.ensures.numbers so.free);
       cells = grows-on _ so.cells c.in_ok-word.ensures.cells (omega arith);
+      names = c.in_ok-word.ensures.names ∙ so.names;
       marks = λ m q h. c.variable.ensures.marks m q (so.marks m q h);
     }

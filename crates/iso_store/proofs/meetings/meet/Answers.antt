@@ -1,9 +1,9 @@
-use Rattle.std.proofs.Common.{sym, ◌∙◌}
-use Rattle.iso_store.proofs.Clashes.{never-arity}
+use Rattle.std.proofs.Common.{rules, ◌≢◌, sym, ◌∙◌}
+use Rattle.iso_store.proofs.Clashes.{never-compound}
 use Rattle.iso_store.proofs.meetings.meet.Goals as goal
 
-pub returns-in_default-second-3 : goal.returns-in_default-second-3
-returns-in_default-second-3 c a b first second left right =
+pub returns-in_default-2-second : goal.returns-in_default-2-second
+returns-in_default-2-second c names a b once first second left right =
+    let differ : c.args.first ≢ c.args.second = search rules in
     let one = rw c.in-Compound.is at first in
-    let other = rw c.in-Compound-second.is at second in
-    never-arity a b _ _ one.0 other.0 one.1 other.1 left right (λ e. c.if-n-m.false (sym one.2 ∙ e ∙ other.2))
+    never-compound names c.in-Compound.field-0 c.in-Compound.n c.args.second a b once one second left right c.in_default-2-second.not-Var (λ e. differ (c.in-Compound.is ∙ e))

@@ -10,20 +10,20 @@ use Rattle.iso_store.proofs.unify.+occurs.Goals as goal
 pub occurs-returns-then-occurs_before : goal.occurs-returns-then-occurs_before
 occurs-returns-then-occurs_before g t c =
     let here = c.in-Compound.ensures.shape in
-    let parts = occurs-last c.args.number c.in-Compound.count _ _ here.0 here.1 here.2 c.in-Compound.ensures.term in
+    let parts = occurs-last c.args.number c.in-Compound.count _ _ here.1 here.2 here.3 c.in-Compound.ensures.term in
     sym (sym c.loop-other.invariant.same ∙ parts ∙ or_left _ _ (sym c.if-occurs_before.ensures))
 
 pub occurs-loop-other-smaller : goal.occurs-loop-other-smaller
 occurs-loop-other-smaller g t c =
     let here = c.in-Compound.ensures.shape in
-    let less = size-argument (c.in-Compound.count - 1) _ _ here.0 here.1 in
+    let less = size-argument (c.in-Compound.count - 1) _ _ here.1 here.2 in
     rw c.arg-word.ensures.value less
 
 pub occurs-loop-other-preserved : goal.occurs-loop-other-preserved
 occurs-loop-other-preserved g t c =
     let here = c.in-Compound.ensures.shape in
-    let parts = occurs-last c.args.number c.in-Compound.count _ _ here.0 here.1 here.2 c.in-Compound.ensures.term in
-    let less = size-argument (c.in-Compound.count - 1) _ _ here.0 here.1 in
+    let parts = occurs-last c.args.number c.in-Compound.count _ _ here.1 here.2 here.3 c.in-Compound.ensures.term in
+    let less = size-argument (c.in-Compound.count - 1) _ _ here.1 here.2 in
     record {
       holds = c.arg-word.ensures.holds;
       same = rw c.arg-word.ensures.value (sym (rw (← c.if-occurs_before.ensures) at parts) ∙ c.loop-other.invariant.same);

@@ -1,4 +1,4 @@
-use Rattle.std.proofs.Common.{rules, ◌-◌, ◌<◌, ◌≤◌, refl, add-one, arith}
+use Rattle.std.proofs.Common.{rules, ◌-◌, ◌<◌, ◌≤◌, ◌∙◌, refl, add-one, arith}
 use Rattle.iso_model.specs.Trees.{Variable}
 use Rattle.iso_model.specs.Substitutions.{compose}
 use Rattle.iso_model.specs.Unification.Composed.{unifier_same}
@@ -16,13 +16,14 @@ unify-loop-number-init g t c = record {
   second_holds = c.requires.second;
   bound = (Variable, left_whole _ _, binds-none _);
   cells = record { cells = omega arith; limit = refl; within = λ h. h };
+  names = refl;
   marks = λ m p h. h;
 }
 
 pub unify-returns-in-Same-clause-unified : goal.unify-returns-in-Same-clause-unified
 unify-returns-in-Same-clause-unified g t c =
     let b = c.loop-number.invariant.bound in
-    let same = c.in-Same.ensures _ _ c.shape.ensures.shape c.shape-in-loop-number.ensures.shape c.shape.ensures.term c.shape-in-loop-number.ensures.term in
+    let same = c.in-Same.ensures _ _ _ c.shape.ensures.each_once c.shape.ensures.shape c.shape-in-loop-number.ensures.shape c.shape.ensures.term c.shape-in-loop-number.ensures.term in
     (b.0, left_same b.1 same, b.2)
 
 pub unify-returns-in-FirstVariable-clause-unified :
@@ -39,7 +40,7 @@ unify-returns-in-SecondVariable-clause-unified g t c =
 
 pub unify-unify_before-requires : goal.unify-unify_before-requires
 unify-unify_before-requires g t c κs within =
-    let met = c.in-Arguments.ensures _ _ c.shape.ensures.shape c.shape-in-loop-number.ensures.shape c.shape.ensures.term c.shape-in-loop-number.ensures.term in
+    let met = c.in-Arguments.ensures _ _ _ c.shape.ensures.each_once c.shape.ensures.shape c.shape-in-loop-number.ensures.shape c.shape.ensures.term c.shape-in-loop-number.ensures.term in
     let fewer = arguments_cost c.in-Arguments.count met.0 met.1 met.2 _ _ met.3 met.4 c.shape.ensures.term c.shape-in-loop-number.ensures.term met.5 met.6 in
     let whole = c.loop-number.invariant.bound.1.falls in
     let falls : cost (arguments (meaning (g.C.Cells.present c.loop-number.store) c.loop-number.first)) (arguments (meaning (g.C.Cells.present c.loop-number.store) c.loop-number.second)) < t = omega arith in
@@ -51,25 +52,25 @@ unify-unify_before-requires g t c κs within =
 pub unify-returns-then-not-branch-clause-unified :
     goal.unify-returns-then-not-branch-clause-unified
 unify-returns-then-not-branch-clause-unified g t c =
-    let met = c.in-Arguments.ensures _ _ c.shape.ensures.shape c.shape-in-loop-number.ensures.shape c.shape.ensures.term c.shape-in-loop-number.ensures.term in
+    let met = c.in-Arguments.ensures _ _ _ c.shape.ensures.each_once c.shape.ensures.shape c.shape-in-loop-number.ensures.shape c.shape.ensures.term c.shape-in-loop-number.ensures.term in
     let fronts = rw c.if-not-branch.true at c.in_ok-unify_before-in-Arguments.ensures.unified in
     c.loop-number.invariant.bound.1.never (fronts_never c.in-Arguments.count met.0 met.1 met.2 _ _ met.3 met.4 c.shape.ensures.term c.shape-in-loop-number.ensures.term met.5 met.6 fronts)
 
 pub unify-arg-first-requires-clause-index : goal.unify-arg-first-requires-clause-index
 unify-arg-first-requires-clause-index g t c =
-    let met = c.in-Arguments.ensures _ _ c.shape.ensures.shape c.shape-in-loop-number.ensures.shape c.shape.ensures.term c.shape-in-loop-number.ensures.term in
+    let met = c.in-Arguments.ensures _ _ _ c.shape.ensures.each_once c.shape.ensures.shape c.shape-in-loop-number.ensures.shape c.shape.ensures.term c.shape-in-loop-number.ensures.term in
     let fronts = rw c.if-not-branch.false at c.in_ok-unify_before-in-Arguments.ensures.unified in
     binds-arity fronts.2 c.loop-number.first _ c.loop-number.invariant.first_holds (last_index c.in-Arguments.count met.0 met.1 met.2 _ _ met.3 met.4 c.shape.ensures.term c.shape-in-loop-number.ensures.term met.5 met.6).0
 
 pub unify-arg-second-requires-clause-index : goal.unify-arg-second-requires-clause-index
 unify-arg-second-requires-clause-index g t c =
-    let met = c.in-Arguments.ensures _ _ c.shape.ensures.shape c.shape-in-loop-number.ensures.shape c.shape.ensures.term c.shape-in-loop-number.ensures.term in
+    let met = c.in-Arguments.ensures _ _ _ c.shape.ensures.each_once c.shape.ensures.shape c.shape-in-loop-number.ensures.shape c.shape.ensures.term c.shape-in-loop-number.ensures.term in
     let fronts = rw c.if-not-branch.false at c.in_ok-unify_before-in-Arguments.ensures.unified in
     binds-arity fronts.2 c.loop-number.second _ c.loop-number.invariant.second_holds (last_index c.in-Arguments.count met.0 met.1 met.2 _ _ met.3 met.4 c.shape.ensures.term c.shape-in-loop-number.ensures.term met.5 met.6).1
 
 pub unify-loop-number-smaller : goal.unify-loop-number-smaller
 unify-loop-number-smaller g t c =
-    let met = c.in-Arguments.ensures _ _ c.shape.ensures.shape c.shape-in-loop-number.ensures.shape c.shape.ensures.term c.shape-in-loop-number.ensures.term in
+    let met = c.in-Arguments.ensures _ _ _ c.shape.ensures.each_once c.shape.ensures.shape c.shape-in-loop-number.ensures.shape c.shape.ensures.term c.shape-in-loop-number.ensures.term in
     let fronts = rw c.if-not-branch.false at c.in_ok-unify_before-in-Arguments.ensures.unified in
     let index = last_index c.in-Arguments.count met.0 met.1 met.2 _ _ met.3 met.4 c.shape.ensures.term c.shape-in-loop-number.ensures.term met.5 met.6 in
     let one = binds-argument fronts.2 c.loop-number.first c.arg-first.result _ c.loop-number.invariant.first_holds index.0 c.arg-first.ensures.value in
@@ -79,7 +80,7 @@ unify-loop-number-smaller g t c =
 
 pub unify-loop-number-preserved : goal.unify-loop-number-preserved
 unify-loop-number-preserved g t c =
-    let met = c.in-Arguments.ensures _ _ c.shape.ensures.shape c.shape-in-loop-number.ensures.shape c.shape.ensures.term c.shape-in-loop-number.ensures.term in
+    let met = c.in-Arguments.ensures _ _ _ c.shape.ensures.each_once c.shape.ensures.shape c.shape-in-loop-number.ensures.shape c.shape.ensures.term c.shape-in-loop-number.ensures.term in
     let fronts = rw c.if-not-branch.false at c.in_ok-unify_before-in-Arguments.ensures.unified in
     let index = last_index c.in-Arguments.count met.0 met.1 met.2 _ _ met.3 met.4 c.shape.ensures.term c.shape-in-loop-number.ensures.term met.5 met.6 in
     let one = binds-argument fronts.2 c.loop-number.first c.arg-first.result _ c.loop-number.invariant.first_holds index.0 c.arg-first.ensures.value in
@@ -90,6 +91,7 @@ unify-loop-number-preserved g t c =
       second_holds = c.arg-second.ensures.holds;
       bound = (compose b.0 fronts.0, rw (one, other) (left_last c.in-Arguments.count met.0 met.1 met.2 _ _ met.3 met.4 c.shape.ensures.term c.shape-in-loop-number.ensures.term met.5 met.6 fronts.0 fronts.1 b.1), binds-then b.2 fronts.2);
       cells = grows-then c.loop-number.invariant.cells c.unify_before.ensures.cells;
+      names = c.unify_before.ensures.names ∙ c.loop-number.invariant.names;
       marks = λ m p h. c.unify_before.ensures.marks m p (c.loop-number.invariant.marks m p h);
     }
 
@@ -97,6 +99,7 @@ pub unify_before-loop-index-init : goal.unify_before-loop-index-init
 unify_before-loop-index-init g t c = record {
   bound = (Variable, unifier_same _, binds-none _);
   cells = record { cells = omega arith; limit = refl; within = λ h. h };
+  names = refl;
   marks = λ m p h. h;
 }
 
@@ -153,5 +156,6 @@ unify_before-loop-index-preserved g t c =
     record {
       bound = (compose b.0 members.0, rw add-one more, binds-then b.2 members.2);
       cells = grows-then c.loop-index.invariant.cells c.unify.ensures.cells;
+      names = c.unify.ensures.names ∙ c.loop-index.invariant.names;
       marks = λ m p h. c.unify.ensures.marks m p (c.loop-index.invariant.marks m p h);
     }

@@ -1,4 +1,5 @@
 -- What is bound so far, and what is left to be made equal.
+use Rattle.std.proofs.Common.{◌≡◌}
 use Rattle.iso_model.specs.Substitutions.{Subst}
 use Rattle.iso_model.specs.Unifiers.{Unifier}
 use Rattle.iso_model.proofs.Cost.{cost}
@@ -21,6 +22,7 @@ invariant-unify-loop-number g l = record {
       × Left (meaning (g.C.Cells.present l.fn.store) l.fn.first) (meaning (g.C.Cells.present l.fn.store) l.fn.second) (meaning (g.C.Cells.present l.store) l.first) (meaning (g.C.Cells.present l.store) l.second) r
       × Binds (g.C.Cells.present l.fn.store) (g.C.Cells.present l.store) r;
   cells : Grows (g.C.Cells.present l.fn.store) (g.C.Cells.present l.store) 0;
+  names : g.C.Cells.names l.store ≡ g.C.Cells.names l.fn.store;
   marks : KeepsMarks (g.C.Cells.stands l.fn.store) (g.C.Cells.stands l.store);
 }
 
@@ -33,5 +35,6 @@ invariant-unify_before-loop-index g l = record {
       × Unifier (front l.index (arguments (meaning (g.C.Cells.present l.fn.store) l.fn.first))) (front l.index (arguments (meaning (g.C.Cells.present l.fn.store) l.fn.second))) r
       × Binds (g.C.Cells.present l.fn.store) (g.C.Cells.present l.store) r;
   cells : Grows (g.C.Cells.present l.fn.store) (g.C.Cells.present l.store) 0;
+  names : g.C.Cells.names l.store ≡ g.C.Cells.names l.fn.store;
   marks : KeepsMarks (g.C.Cells.stands l.fn.store) (g.C.Cells.stands l.store);
 }

@@ -8,5 +8,5 @@ loop-next-preserved c =
     let there = c.in-Some.ensures in
     record {
       within = store.target _ _ _ there.1;
-      same = step_same _ _ _ store _ _ _ there.1 ∙ c.loop-next.invariant.same;
+      same = step_same c.args.self.now.atoms _ _ _ store _ _ _ there.1 ∙ c.loop-next.invariant.same;
     }

@@ -9,7 +9,7 @@ use Rattle.iso_store.proofs.nodes.Nodes.walked.Given as goal
 abbrev pub invariant-loop-next : goal.invariant-loop-next
 invariant-loop-next l = record {
   within : l.at < length l.self.nodes.items;
-  same : apply (substitution_of l.self.nodes.items l.self.trail.items) (term_at l.self.nodes.items l.at) ≡ apply (substitution_of l.self.nodes.items l.self.trail.items) (term_at l.self.nodes.items l.word);
+  same : apply (substitution_of l.self.atoms l.self.nodes.items l.self.trail.items) (term_at l.self.atoms l.self.nodes.items l.at) ≡ apply (substitution_of l.self.atoms l.self.nodes.items l.self.trail.items) (term_at l.self.atoms l.self.nodes.items l.word);
 }
 
 abbrev pub decreases-loop-next : goal.decreases-loop-next

@@ -8,4 +8,4 @@ use Rattle.iso_store.proofs.nodes.NodesCells.int.Goals as goal
 pub returns-clause-made : goal.returns-clause-made
 returns-clause-made c =
     let nodes = rw (to_z-of_z w64 c.args.value c.ranges.value) at c.push.ensures.nodes in
-    pushed-made c.args.self.now.nodes.items c.args.self.now.trail.items c.args.self.now.next c.args.self.now.limit (Int c.args.value) _ c.args.self.now.is_store tt refl c.push.new.self.nodes.items c.push.new.self.trail.items c.push.new.self.next c.push.new.self.limit c.push.result c.push.ensures.place nodes (ap (λ v. v.items) c.push.ensures.trail) c.push.ensures.next c.push.ensures.limit
+    pushed-made c.args.self.now.atoms c.args.self.now.nodes.items c.args.self.now.trail.items c.args.self.now.next c.args.self.now.limit (Int c.args.value) _ c.args.self.now.is_store tt refl c.push.new.self.atoms c.push.new.self.nodes.items c.push.new.self.trail.items c.push.new.self.next c.push.new.self.limit c.push.result c.push.ensures.place c.push.ensures.atoms nodes (ap (λ v. v.items) c.push.ensures.trail) c.push.ensures.next c.push.ensures.limit

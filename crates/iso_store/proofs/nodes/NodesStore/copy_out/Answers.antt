@@ -4,4 +4,4 @@ use Rattle.iso_store.proofs.nodes.NodesStore.copy_out.Goals as goal
 
 pub returns-clause-well_formed : goal.returns-clause-well_formed
 returns-clause-well_formed c =
-    sorted-out _ (meaning-sorted _ _ _ c.args.self.now.is_store _ (ltb-true _ _ c.requires)) c.copy_out.result c.copy_out.ensures
+    sorted-out _ (meaning-sorted c.args.self.now.atoms _ _ _ c.args.self.now.is_store _ (ltb-true _ _ c.requires)) c.copy_out.result c.copy_out.ensures

@@ -11,6 +11,6 @@ returns-clause-substitution c =
     let es = c.args.self.now.trail.items in
     let store = c.args.self.now.is_store in
     record {
-      finite = (c.args.self.now.next, high_value cs es c.args.self.now.next store);
-      idempotent = idempotent (substitution_of cs es) (twice-all Variable (bindings cs es) (λ n. refl) store.may_bind);
+      finite = (c.args.self.now.next, high_value c.args.self.now.atoms cs es c.args.self.now.next store);
+      idempotent = idempotent (substitution_of c.args.self.now.atoms cs es) (twice-all Variable (bindings c.args.self.now.atoms cs es) (λ n. refl) store.may_bind);
     }

@@ -1,0 +1,95 @@
+-- Names that come leave the terms of the nodes as they are.
+use Rattle.std.proofs.Common.{◌≡◌, ℕ, ◌<◌, List, [], ◌∷◌, ◌++◌, length, take, refl, ap, ap₂, sym, ◌∙◌, Option, Some, None, suc, nat_lt}
+use Rattle.std.specs.List.{slice_get, slice_index_or, list_any}
+use Rattle.std.proofs.lemmas.Option.{slice_get_within, slice_get-get_or, get_or_from_slice_get}
+use Rattle.iso_atoms.specs.Texts.{KeepsTexts, text_at}
+use Rattle.iso_model.specs.Trees.{Tree, Variable, Name, Apply, End, row}
+use Rattle.iso_store.specs.declared.nodes.Node.{Node}
+use Rattle.iso_store.specs.declared.nodes.Node.TheVariants.{Var, Int, Atom, Compound}
+use Rattle.iso_store.specs.declared.marks.NodesMark.{NodesMark}
+use Rattle.iso_store.specs.Presents.{Present}
+use Rattle.iso_store.specs.NodeTerms.{node_term, terms_at, terms_from, term_at, binding_of, bindings, bind_all, all_may_bind}
+use Rattle.iso_store.specs.NodeStores.{has_number, IsStore, StandsFor, restored, present_of}
+
+-- an atom keeps its name
+pub text-kept : (old new : List (List ℕ)) → KeepsTexts old new → (a : ℕ) → a < length old → text_at new a ≡ text_at old a
+text-kept old new keeps a h = get_or_from_slice_get new a (text_at old a) [] (keeps a (text_at old a) (slice_get-get_or old a [] h))
+
+-- and stays one
+pub atom-kept : (old new : List (List ℕ)) → KeepsTexts old new → (a : ℕ) → a < length old → a < length new
+atom-kept old new keeps a h = slice_get_within new a (text_at old a) (keeps a (text_at old a) (slice_get-get_or old a [] h))
+
+-- the name at the place of an atom
+pub text-is : (names : List (List ℕ)) (a : ℕ) (text : List ℕ) → slice_get names a ≡ Some text → text_at names a ≡ text
+text-is names a text h = get_or_from_slice_get names a text [] h
+
+pub keeps-then : (old mid new : List (List ℕ)) → KeepsTexts old mid → KeepsTexts mid new → KeepsTexts old new
+keeps-then old mid new one other place text h = other place text (one place text h)
+
+-- the atom of the node, where it has one, is one of those that have these names
+abbrev AtomStands : List (List ℕ) → Node → Type 0
+AtomStands names (Var n b) = Unit {0}
+AtomStands names (Int z) = Unit {0}
+AtomStands names (Atom a) = a < length names
+AtomStands names (Compound f ws) = f < length names
+
+node-stands : (names : List (List ℕ)) (cs : List Node) (es : List ℕ) (next : ℕ) → IsStore names cs es next → (w : ℕ) (c : Node) → slice_get cs w ≡ Some c → AtomStands names c
+node-stands names cs es next store w (Var n b) h = tt
+node-stands names cs es next store w (Int z) h = tt
+node-stands names cs es next store w (Atom a) h = store.atom w a h
+node-stands names cs es next store w (Compound f ws) h = store.name w f ws h
+
+module _ (old new : List (List ℕ)) (keeps : KeepsTexts old new) where
+  node-kept : (ts : List Tree) (c : Node) → AtomStands old c → node_term new ts c ≡ node_term old ts c
+  node-kept ts (Var n b) h = refl
+  node-kept ts (Int z) h = refl
+  node-kept ts (Atom a) h = ap Name (text-kept old new keeps a h)
+  node-kept ts (Compound f ws) h = ap (λ x. Apply x (row (terms_at ts ws.items))) (text-kept old new keeps f h)
+
+  pub terms-kept : (ts : List Tree) (cs : List Node) → ((w : ℕ) (c : Node) → slice_get cs w ≡ Some c → AtomStands old c) → terms_from new ts cs ≡ terms_from old ts cs
+  terms-kept ts [] named = refl
+  terms-kept ts (c ∷ cs) named =
+      ap (λ t. terms_from new (ts ++ t ∷ []) cs) (node-kept ts c (named 0 c refl)) ∙ terms-kept (ts ++ node_term old ts c ∷ []) cs (λ w x h. named (suc w) x h)
+
+  module _ (cs : List Node) (es : List ℕ) (next : ℕ) (store : IsStore old cs es next) where
+    same-terms : term_at new cs ≡ term_at old cs
+    same-terms = ap (λ ts. λ w. slice_index_or ts w End) (terms-kept [] cs (node-stands old cs es next store))
+
+    same-binding : (o : Option Node) → binding_of new cs o ≡ binding_of old cs o
+    same-binding None = refl
+    same-binding (Some (Var n None)) = refl
+    same-binding (Some (Var n (Some j))) = ap (λ t. (n, t j)) same-terms
+    same-binding (Some (Int z)) = refl
+    same-binding (Some (Atom a)) = refl
+    same-binding (Some (Compound f ws)) = refl
+
+    same-bindings : (fs : List ℕ) → bindings new cs fs ≡ bindings old cs fs
+    same-bindings [] = refl
+    same-bindings (f ∷ fs) = ap₂ (λ b bs. b ∷ bs) (same-binding (slice_get cs f)) (same-bindings fs)
+
+    pub store-kept : IsStore new cs es next
+    store-kept = record {
+      arguments = store.arguments;
+      arity = store.arity;
+      target = store.target;
+      older = store.older;
+      one_node = store.one_node;
+      numbered = store.numbered;
+      trailed = store.trailed;
+      bound = store.bound;
+      may_bind = ap (all_may_bind Variable) (same-bindings es) ∙ store.may_bind;
+      atom = λ w a h. atom-kept old new keeps a (store.atom w a h);
+      name = λ w f ws h. atom-kept old new keeps f (store.name w f ws h);
+    }
+
+    pub present-kept : (limit : ℕ) → present_of new cs es next limit ≡ present_of old cs es next limit
+    present-kept limit = ap₂ (λ s t. record { substitution = s; next = next; cells = length cs; limit = limit; holds = λ w. nat_lt w (length cs); term = t; taken = λ n. list_any (has_number n) cs }) (ap (bind_all Variable) (same-bindings es)) same-terms
+
+  -- marks stand on
+  pub marks-kept : (limit : ℕ) (cs : List Node) (es : List ℕ) (m : NodesMark) (p : Present ℕ) → StandsFor old limit cs es m p → StandsFor new limit cs es m p
+  marks-kept limit cs es m p h = record {
+    nodes_top = h.nodes_top;
+    trail_top = h.trail_top;
+    is_store = store-kept (restored cs es m) (take m.trail es) m.next h.is_store;
+    present = h.present ∙ sym (present-kept (restored cs es m) (take m.trail es) m.next h.is_store limit);
+  }
