@@ -7,14 +7,14 @@ ghost use Rattle.iso_model.specs.Texts as texts;
 use std::alloc::{AllocError, Global};
 
 /// Whether the byte is a letter, a digit or an underscore (6.5.2).
-fn is_alphanumeric(byte: u8) -> bool
+pub(crate) fn is_alphanumeric(byte: u8) -> bool
     ensures { result ≡ characters.is_alphanumeric byte }
 {
     byte.is_ascii_alphanumeric() || byte == b'_'
 }
 
 /// Whether the byte is a graphic character or the backslash (6.5.1, 6.4.2).
-fn is_graphic(byte: u8) -> bool
+pub(crate) fn is_graphic(byte: u8) -> bool
     ensures { result ≡ characters.is_graphic byte }
 {
     b"#$&*+-./:<=>?@^~\\".contains(&byte)
@@ -38,7 +38,7 @@ fn are_alphanumeric(bytes: &[u8]) -> bool
 }
 
 /// Whether all of the bytes are graphic characters.
-fn are_graphic(bytes: &[u8]) -> bool
+pub(crate) fn are_graphic(bytes: &[u8]) -> bool
     ensures { result ≡ list_all characters.is_graphic bytes.now }
 {
     bytes.iter().all(|byte| is_graphic(*byte))
@@ -56,7 +56,7 @@ fn is_bare_run(text: &str) -> bool
 }
 
 /// Whether an atom of this text is written without quotes (6.4.2).
-fn is_bare(text: &str) -> bool
+pub(crate) fn is_bare(text: &str) -> bool
     ensures { result ≡ texts.is_bare text.now }
 {
     text == "[]" || text == "{}" || text == "!" || text == ";" || is_bare_run(text)
