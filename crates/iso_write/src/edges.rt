@@ -79,11 +79,7 @@ impl Edge {
 }
 
 /// Appends a piece, behind a space where one parts it from what stands before. The error is that memory was refused.
-pub(crate) fn append_piece(
-    out: &mut Vec<u8>,
-    edge: Edge,
-    text: &[u8],
-) -> Result<Edge, AllocError>
+pub(crate) fn append_piece(out: &mut Vec<u8>, edge: Edge, text: &[u8]) -> Result<Edge, AllocError>
     ensures text { IfOk result (λ after. (ps : List pieces.Piece) → out.new.items ++ behind after ps ≡ out.old.items ++ behind edge (pieces.piece text.now ∷ ps)) }
     ensures kept { take (length out.old.items) out.new.items ≡ out.old.items }
 {

@@ -176,12 +176,7 @@ fn pair_form<'t>(
 }
 
 /// The form of a compound.
-fn compound_form<'t>(
-    name: &'t str,
-    arguments: &'t [Term],
-    style: Style,
-    ops: &OpTable,
-) -> Form<'t>
+fn compound_form<'t>(name: &'t str, arguments: &'t [Term], style: Style, ops: &OpTable) -> Form<'t>
     ensures { (seen : List ℕ) → form_written (style_of style) ops.now seen result ≡ written (style_of style) ops.now seen (Apply name.now (row_of arguments.now)) }
 {
     let compound = Form::Compound(name, arguments);

@@ -19,12 +19,11 @@ mod tests;
 mod variables;
 mod written;
 
-pub use names::append_name;
-pub use style::Style;
-
 use iso_model::{NoMemory, Term};
 use iso_ops::OpTable;
+pub use names::append_name;
 use std::alloc::Global;
+pub use style::Style;
 use variables::note_variables;
 use written::{Setting, append_text};
 

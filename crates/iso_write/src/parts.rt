@@ -149,7 +149,13 @@ fn push_compound<'t>(
         [first, others @ ..] => {
             let first = Task::Placed(first, Place::Whole(999));
             let others = Task::Others(others);
-            todo.extend_from_slice(&[Task::Mark(")"), others, first, Task::Mark("("), Task::Name(name)])
+            todo.extend_from_slice(&[
+                Task::Mark(")"),
+                others,
+                first,
+                Task::Mark("("),
+                Task::Name(name),
+            ])
         }
     }
 }
