@@ -1,11 +1,12 @@
 //! What a term is written as: as an operator with its operands, as a list, in braces or in functional notation.
-ghost use Rattle.std.specs.Prelude.{◌≡◌, ℕ, List, [], ◌∷◌, option_map};
+ghost use Rattle.std.specs.Prelude.{◌≡◌, ℕ, List, [], ◌+◌, ◌∷◌, option_map, IfSome};
 ghost use Rattle.iso_ops.specs.Operators as ops;
 ghost use Rattle.iso_model.specs.Trees.{Apply};
 ghost use Rattle.iso_model.specs.Terms.{term_of, row_of};
 ghost use Rattle.iso_model.specs.Pieces as pieces;
 ghost use Rattle.iso_model.specs.Operators as model;
 ghost use Rattle.iso_write.specs.Styles.{style_of};
+ghost use Rattle.iso_write.specs.Tasks.{load, form_load};
 ghost use Rattle.iso_write.specs.Forms.{form_operator, form_or, form_written, arguments_written, operator_of, written};
 
 use super::style::Style;
@@ -123,8 +124,9 @@ fn single_form<'t>(
     style: Style,
     ops: &OpTable,
 ) -> Option<Form<'t>>
-    ensures { (seen : List ℕ) → form_or (style_of style) ops.now seen (arguments_written (style_of style) ops.now seen name.now (term_of argument.now ∷ [])) result
+    ensures form { (seen : List ℕ) → form_or (style_of style) ops.now seen (arguments_written (style_of style) ops.now seen name.now (term_of argument.now ∷ [])) result
         ≡ pieces.single_written (style_of style) ops.now seen name.now (written (style_of style) ops.now seen (term_of argument.now)) }
+    ensures load { IfSome result (λ form. form_load form ≡ 16 + load (term_of argument.now)) }
 {
     if !style.uses_operators() {
         return None;
@@ -157,8 +159,9 @@ fn pair_form<'t>(
     style: Style,
     ops: &OpTable,
 ) -> Option<Form<'t>>
-    ensures { (seen : List ℕ) → form_or (style_of style) ops.now seen (arguments_written (style_of style) ops.now seen name.now (term_of first.now ∷ term_of second.now ∷ [])) result
+    ensures form { (seen : List ℕ) → form_or (style_of style) ops.now seen (arguments_written (style_of style) ops.now seen name.now (term_of first.now ∷ term_of second.now ∷ [])) result
         ≡ pieces.pair_written (style_of style) ops.now seen name.now (written (style_of style) ops.now seen (term_of first.now)) (written (style_of style) ops.now seen (term_of second.now)) }
+    ensures load { IfSome result (λ form. form_load form ≡ 24 + load (term_of first.now) + load (term_of second.now)) }
 {
     if name == "." {
         return Some(Form::List(first, second));
@@ -177,7 +180,8 @@ fn pair_form<'t>(
 
 /// The form of a compound.
 fn compound_form<'t>(name: &'t str, arguments: &'t [Term], style: Style, ops: &OpTable) -> Form<'t>
-    ensures { (seen : List ℕ) → form_written (style_of style) ops.now seen result ≡ written (style_of style) ops.now seen (Apply name.now (row_of arguments.now)) }
+    ensures form { (seen : List ℕ) → form_written (style_of style) ops.now seen result ≡ written (style_of style) ops.now seen (Apply name.now (row_of arguments.now)) }
+    ensures load { form_load result ≡ 8 + load (row_of arguments.now) }
 {
     let compound = Form::Compound(name, arguments);
     match arguments {
@@ -189,7 +193,8 @@ fn compound_form<'t>(name: &'t str, arguments: &'t [Term], style: Style, ops: &O
 
 /// The form in which a term is written.
 pub(crate) fn form_of<'t>(term: &'t Term, style: Style, ops: &OpTable) -> Form<'t>
-    ensures { (seen : List ℕ) → form_written (style_of style) ops.now seen result ≡ written (style_of style) ops.now seen (term_of term.now) }
+    ensures form { (seen : List ℕ) → form_written (style_of style) ops.now seen result ≡ written (style_of style) ops.now seen (term_of term.now) }
+    ensures load { form_load result ≡ load (term_of term.now) }
 {
     match term {
         Term::Var(number) => Form::Variable(*number),

@@ -7,8 +7,8 @@ use Rattle.iso_write.specs.Forms.{written}
 use Rattle.iso_write.proofs.FormLemmas.{found_operator, pair_infix}
 use Rattle.iso_write.proofs.forms.pair_form.Goals as goal
 
-pub returns : goal.returns
-returns c = λ seen.
+pub returns-clause-form : goal.returns-clause-form
+returns-clause-form c = λ seen.
     let style = style_of c.args.style in
     let table = c.args.ops.now in
     let name = c.args.name.now in

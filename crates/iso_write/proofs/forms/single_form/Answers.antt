@@ -8,8 +8,8 @@ use Rattle.iso_write.specs.Forms.{written}
 use Rattle.iso_write.proofs.FormLemmas.{found_operator, found_nothing, single_prefix, single_postfix}
 use Rattle.iso_write.proofs.forms.single_form.Goals as goal
 
-pub returns-in-Some : goal.returns-in-Some
-returns-in-Some c = λ seen.
+pub returns-in-Some-clause-form : goal.returns-in-Some-clause-form
+returns-in-Some-clause-form c = λ seen.
     let style = style_of c.args.style in
     let table = c.args.ops.now in
     let name = c.args.name.now in
@@ -17,8 +17,8 @@ returns-in-Some c = λ seen.
     (sym c.uses_operators.ensures ∙ c.if-not-uses_operators.false) (sym c.eq.ensures ∙ c.if-eq.false)
     (found_operator Prefix name table _ _ c.in-Some.ensures.entry)
 
-pub returns : goal.returns
-returns c = λ seen.
+pub returns-clause-form : goal.returns-clause-form
+returns-clause-form c = λ seen.
     let style = style_of c.args.style in
     let table = c.args.ops.now in
     let name = c.args.name.now in
