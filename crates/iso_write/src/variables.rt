@@ -1,7 +1,7 @@
 //! The variables of a line, each by its place among them.
-ghost use Rattle.std.specs.Prelude.{◌≡◌, ℕ, List, ◌+◌, ◌≤◌, take, length, unwrap_or, position, ◌==◌, OnOk};
+ghost use Rattle.std.specs.Prelude.{◌≡◌, ℕ, List, ◌+◌, ◌<◌, ◌≤◌, take, length, unwrap_or, position, ◌==◌, OnOk};
 ghost use Rattle.iso_model.specs.Trees.{Variable};
-ghost use Rattle.iso_model.specs.Terms.{term_of};
+ghost use Rattle.iso_model.specs.Terms.{term_of, row_of};
 ghost use Rattle.iso_model.specs.Variables.{distinct_from};
 ghost use Rattle.iso_write.specs.Rows.{rows_seen, rows_load, term_load};
 
@@ -49,6 +49,25 @@ fn note_term<'t>(
     }
 }
 
+/// Goes through the first term of a row, and leaves the others and its arguments to be gone through.
+fn take_row<'t>(
+    seen: &mut Vec<u64>,
+    rows: &mut Vec<&'t [Term]>,
+    row: &'t [Term],
+) -> Result<(), AllocError>
+    ensures seen { OnOk result (rows_seen seen.new.items rows.new.items ≡ rows_seen (distinct_from seen.old.items (row_of row.now)) rows.old.items) }
+    ensures kept { take (length seen.old.items) seen.new.items ≡ seen.old.items }
+    ensures load { OnOk result (rows_load rows.new.items < 1 + term_load (row_of row.now) + rows_load rows.old.items) }
+{
+    match row {
+        [] => Ok(()),
+        [first, others @ ..] => {
+            rows.push(others)?;
+            note_term(seen, rows, first)
+        }
+    }
+}
+
 /// Lets the term's variables join those seen so far, by first occurrence. The error is that memory was refused.
 pub(crate) fn note_variables(
     alloc: Global,
@@ -61,10 +80,7 @@ pub(crate) fn note_variables(
     let mut rows = Vec::new(alloc);
     note_term(seen, &mut rows, term)?;
     while let Some(row) = rows.pop() {
-        if let [first, others @ ..] = row {
-            rows.push(others)?;
-            note_term(seen, &mut rows, first)?;
-        }
+        take_row(seen, &mut rows, row)?;
     }
     Ok(())
 }
