@@ -1,3 +1,4 @@
 pub mod EdgeLemmas
 pub mod FormLemmas
 pub mod RowLemmas
+pub mod TaskLemmas

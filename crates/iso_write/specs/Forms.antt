@@ -1,5 +1,6 @@
 -- What a form in which a term is written is, among the definition's parts.
-use Rattle.std.specs.Prelude.{ℕ, List, [], ◌∷◌, ◌++◌, map, codes, Option, Some, None}
+use Rattle.std.specs.Prelude.{Bool, false, ℕ, List, [], ◌∷◌, ◌++◌, map, codes, Option, Some, None}
+use Rattle.std.specs.Str.{bytes_eq}
 use Rattle.std.specs.Fmt.{signed_decimal}
 use Rattle.iso_ops.specs.Operators as ops
 use Rattle.iso_model.specs.Trees.{Tree}
@@ -46,3 +47,8 @@ form_operator (Prefix o t) = Some (operator_of o)
 form_operator (Infix o l r) = Some (operator_of o)
 form_operator (Postfix o t) = Some (operator_of o)
 form_operator f = None
+
+-- the empty list
+abbrev pub is_nil : Form → Bool
+is_nil (Atom name) = bytes_eq name.now (codes "[]")
+is_nil f = false

@@ -4,8 +4,8 @@ ghost use Rattle.iso_ops.specs.Operators as ops;
 ghost use Rattle.iso_model.specs.Terms.{term_of, row_of};
 ghost use Rattle.iso_model.specs.Pieces as pieces;
 ghost use Rattle.iso_write.specs.Styles.{style_of};
-ghost use Rattle.iso_write.specs.Forms.{form_written, arguments_written, written, operator_of};
-ghost use Rattle.iso_write.specs.Tasks.{placed, needs_brackets, pieces_of, with_task, load, form_load, task_load, tasks_load};
+ghost use Rattle.iso_write.specs.Forms.{form_written, arguments_written, written, is_nil, operator_of};
+ghost use Rattle.iso_write.specs.Tasks.{placed, needs_brackets, pieces_of, with_tasks, load, form_load, tasks_load};
 
 use super::forms::{Form, Operator, form_of};
 use super::names::{are_graphic, is_bare};
@@ -55,6 +55,15 @@ fn has_brackets(form: Form<'_>, place: Place<'_>, style: Style, ops: &OpTable) -
     }
 }
 
+/// Puts tasks before the other tasks, the last of them first.
+fn push_all<'t>(todo: &mut Vec<Task<'t>>, tasks: &[Task<'t>]) -> Result<(), AllocError>
+    ensures pieces { OnOk result ((style : pieces.Style) (table : List ops.Operator) (seen : List ℕ) → pieces_of style table seen todo.new.items
+        ≡ with_tasks style table seen (pieces_of style table seen todo.old.items) tasks.now) }
+    ensures load { OnOk result (tasks_load todo.new.items ≡ tasks_load tasks.now + tasks_load todo.old.items) }
+{
+    todo.extend_from_slice(tasks)
+}
+
 /// Puts a term in its place before the other tasks.
 pub(crate) fn push_placed<'t>(
     todo: &mut Vec<Task<'t>>,
@@ -68,9 +77,9 @@ pub(crate) fn push_placed<'t>(
     ensures load { OnOk result (tasks_load todo.new.items < 3 + load (term_of term.now) + tasks_load todo.old.items) }
 {
     if has_brackets(form_of(term, style, ops), place, style, ops) {
-        todo.extend_from_slice(&[Task::Mark(")"), Task::Bare(term), Task::Mark("(")])
+        push_all(todo, &[Task::Mark(")"), Task::Bare(term), Task::Mark("(")])
     } else {
-        todo.extend_from_slice(&[Task::Bare(term)])
+        push_all(todo, &[Task::Bare(term)])
     }
 }
 
@@ -88,12 +97,12 @@ fn push_infix<'t>(
     let before = Task::Placed(left, Place::Left(operator));
     let behind = Task::Placed(right, Place::Right(operator));
     if operator.name == "," {
-        todo.extend_from_slice(&[behind, Task::Mark(operator.name), before])
+        push_all(todo, &[behind, Task::Mark(operator.name), before])
     } else if is_symbolic(operator.name) {
-        todo.extend_from_slice(&[behind, Task::Name(operator.name), before])
+        push_all(todo, &[behind, Task::Name(operator.name), before])
     } else {
         let name = Task::Name(operator.name);
-        todo.extend_from_slice(&[behind, Task::Gap, name, Task::Gap, before])
+        push_all(todo, &[behind, Task::Gap, name, Task::Gap, before])
     }
 }
 
@@ -113,7 +122,7 @@ fn push_prefix<'t>(
     } else {
         Task::Gap
     };
-    todo.extend_from_slice(&[behind, space, Task::Name(operator.name)])
+    push_all(todo, &[behind, space, Task::Name(operator.name)])
 }
 
 /// Puts a postfix operator and its operand before the other tasks.
@@ -128,9 +137,9 @@ fn push_postfix<'t>(
 {
     let before = Task::Placed(term, Place::Left(operator));
     if is_symbolic(operator.name) {
-        todo.extend_from_slice(&[Task::Name(operator.name), before])
+        push_all(todo, &[Task::Name(operator.name), before])
     } else {
-        todo.extend_from_slice(&[Task::Name(operator.name), Task::Gap, before])
+        push_all(todo, &[Task::Name(operator.name), Task::Gap, before])
     }
 }
 
@@ -145,11 +154,11 @@ fn push_compound<'t>(
     ensures load { OnOk result (tasks_load todo.new.items < 8 + load (row_of arguments.now) + tasks_load todo.old.items) }
 {
     match arguments {
-        [] => todo.extend_from_slice(&[Task::Name(name)]),
+        [] => push_all(todo, &[Task::Name(name)]),
         [first, others @ ..] => {
             let first = Task::Placed(first, Place::Whole(999));
             let others = Task::Others(others);
-            todo.extend_from_slice(&[
+            push_all(todo, &[
                 Task::Mark(")"),
                 others,
                 first,
@@ -167,21 +176,31 @@ pub(crate) fn push_form<'t>(todo: &mut Vec<Task<'t>>, form: Form<'t>) -> Result<
     ensures load { OnOk result (tasks_load todo.new.items < form_load form.entry + tasks_load todo.old.items) }
 {
     match form {
-        Form::Variable(number) => todo.extend_from_slice(&[Task::Variable(number)]),
-        Form::Integer(value) => todo.extend_from_slice(&[Task::Integer(value)]),
-        Form::Atom(name) => todo.extend_from_slice(&[Task::Name(name)]),
+        Form::Variable(number) => push_all(todo, &[Task::Variable(number)]),
+        Form::Integer(value) => push_all(todo, &[Task::Integer(value)]),
+        Form::Atom(name) => push_all(todo, &[Task::Name(name)]),
         Form::List(first, rest) => {
             let first = Task::Placed(first, Place::Whole(999));
-            todo.extend_from_slice(&[Task::Tail(rest), first, Task::Mark("[")])
+            push_all(todo, &[Task::Tail(rest), first, Task::Mark("[")])
         }
         Form::Braces(term) => {
             let term = Task::Placed(term, Place::Whole(1200));
-            todo.extend_from_slice(&[Task::Mark("}"), term, Task::Mark("{")])
+            push_all(todo, &[Task::Mark("}"), term, Task::Mark("{")])
         }
         Form::Prefix(operator, term) => push_prefix(todo, operator, term),
         Form::Infix(operator, left, right) => push_infix(todo, operator, left, right),
         Form::Postfix(operator, term) => push_postfix(todo, operator, term),
         Form::Compound(name, arguments) => push_compound(todo, name, arguments),
+    }
+}
+
+/// Whether what is written is the empty list.
+fn is_nil(form: Form<'_>) -> bool
+    ensures { result ≡ is_nil form.entry }
+{
+    match form {
+        Form::Atom(name) => name == "[]",
+        _ => false,
     }
 }
 
@@ -196,14 +215,18 @@ pub(crate) fn push_tail<'t>(
         ≡ (written (style_of style) ops.now seen (term_of tail.now)).tail ++ pieces_of (style_of style) ops.now seen todo.old.items) }
     ensures load { OnOk result (tasks_load todo.new.items < 7 + load (term_of tail.now) + tasks_load todo.old.items) }
 {
-    match form_of(tail, style, ops) {
-        Form::List(first, rest) => {
-            let first = Task::Placed(first, Place::Whole(999));
-            todo.extend_from_slice(&[Task::Tail(rest), first, Task::Mark(",")])
-        }
-        Form::Atom("[]") => todo.extend_from_slice(&[Task::Mark("]")]),
-        _ => todo.extend_from_slice(&[Task::Mark("]"), Task::Bare(tail), Task::Mark("|")]),
+    let form = form_of(tail, style, ops);
+    if let Form::List(first, rest) = form {
+        let first = Task::Placed(first, Place::Whole(999));
+        return push_all(todo, &[Task::Tail(rest), first, Task::Mark(",")]);
     }
+    if is_nil(form) {
+        return push_all(todo, &[Task::Mark("]")]);
+    }
+    push_all(
+        todo,
+        &[Task::Mark("]"), Task::Bare(tail), Task::Mark("|")],
+    )
 }
 
 /// Puts further arguments before the other tasks.
@@ -217,7 +240,7 @@ pub(crate) fn push_others<'t>(
 {
     if let [first, others @ ..] = arguments {
         let first = Task::Placed(first, Place::Whole(999));
-        todo.extend_from_slice(&[Task::Others(others), first, Task::Mark(",")])?;
+        push_all(todo, &[Task::Others(others), first, Task::Mark(",")])?;
     }
     Ok(())
 }
