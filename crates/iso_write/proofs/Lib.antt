@@ -2,3 +2,4 @@ pub mod EdgeLemmas
 pub mod FormLemmas
 pub mod RowLemmas
 pub mod TaskLemmas
+pub mod PieceLemmas
