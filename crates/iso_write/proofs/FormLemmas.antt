@@ -1,11 +1,11 @@
 -- The forms in which terms are written.
-use Rattle.std.proofs.Common.{◌≡◌, ℕ, ◌≤◌, ◌<◌, Bool, true, false, List, [], ◌∷◌, ◌++◌, length, get_or, map, Option, Some, None, option_map, unwrap_or, codes, if◌then◌else◌, refl, ap, sym, ◌∙◌, append-nil, arith}
+use Rattle.std.proofs.Common.{◌≡◌, ℕ, ◌≤◌, ◌<◌, true, false, List, [], ◌∷◌, length, get_or, map, Option, Some, None, option_map, unwrap_or, codes, refl, ap, sym, ◌∙◌, arith}
 use Rattle.std.specs.Str.{bytes_eq}
 use Rattle.iso_ops.specs.declared.specifiers.Spec.{Spec}
 use Rattle.iso_ops.specs.declared.specifiers.Kind.{Kind}
 use Rattle.iso_ops.specs.Operators.{Operator, operator, find_op, priority_and_spec}
 use Rattle.iso_model.specs.declared.terms.Term.{Term}
-use Rattle.iso_model.specs.Trees.{Tree, Apply, row}
+use Rattle.iso_model.specs.Trees.{Apply}
 use Rattle.iso_model.specs.Terms.{term_of, row_of}
 use Rattle.iso_model.proofs.MarkLemmas.{found_name}
 use Rattle.iso_model.specs.Operators.{prefix_named, infix_named, postfix_named}
@@ -37,11 +37,6 @@ pub found_nothing : (k : Kind) (name : List ℕ) (table : List Operator) → Non
 found_nothing k name table is = nothing_by (find_op k name table) is
 
 module _ (style : pieces.Style) (table : List Operator) (seen : List ℕ) where
-  single_by : (u b : Bool) (p q : Option Operator) (name : List ℕ) (w : pieces.Written) → pieces.Written
-  single_by u b p q name w =
-      if u then (if b then pieces.simple (pieces.piece (codes "{") ∷ (pieces.at_most 1200 w ++ pieces.piece (codes "}") ∷ [])) else pieces.single_by style table seen p q name w)
-      else pieces.compound_written style table seen name (pieces.at_most 999 w)
-
   -- a compound of one argument by a prefix operator
   pub single_prefix : (name : List ℕ) (o : Operator) (w : pieces.Written) → pieces.uses_operators style ≡ true → bytes_eq name (codes "{}") ≡ false → prefix_named table name ≡ Some o
       → pieces.made_by o (pieces.prefix_pieces style table seen o w) ≡ pieces.single_written style table seen name w
@@ -81,7 +76,7 @@ module _ (style : pieces.Style) (table : List Operator) (seen : List ℕ) where
   pub compound_pair : (name : List ℕ) (items : List Term) (a b : Term) (f : Option Form) (d r : Form) → 2 ≤ length items → length items < 3 → a ≡ get_or items 0 a → b ≡ get_or items 1 b
       → form_written style table seen d ≡ arguments_written style table seen name (map term_of items)
       → form_or style table seen (arguments_written style table seen name (term_of a ∷ term_of b ∷ [])) f
-          ≡ pieces.pair_written style table seen name (written style table seen (term_of a)) (written style table seen (term_of b))
+      ≡ pieces.pair_written style table seen name (written style table seen (term_of a)) (written style table seen (term_of b))
       → r ≡ unwrap_or f d → form_written style table seen r ≡ written style table seen (Apply name (row_of items))
   compound_pair name [] a b f d r low high first second default pair is = absurd (omega arith)
   compound_pair name (x ∷ []) a b f d r low high first second default pair is = absurd (omega arith)

@@ -2,7 +2,6 @@
 use Rattle.std.proofs.Common.{◌≡◌, ℕ, Bool, true, false, ◌&&◌, ◌||◌, not, List, [], ◌∷◌, ◌++◌, Option, Some, None, if◌then◌else◌, refl, ap, ap₂, sym, ◌∙◌, append_assoc, codes}
 use Rattle.std.specs.Str.{bytes_eq}
 use Rattle.iso_ops.specs.Operators.{Operator}
-use Rattle.iso_ops.specs.Operators as ops
 use Rattle.iso_model.specs.declared.terms.Term.{Term}
 use Rattle.iso_model.specs.declared.terms.Term.TheOpen.{Term-F}
 use Rattle.iso_model.specs.declared.terms.Term.TheOpen as layer
@@ -12,10 +11,7 @@ use Rattle.iso_model.specs.Terms.{term_of, term_step}
 use Rattle.iso_model.specs.Operators.{prefix_named, infix_named, postfix_named, right_of}
 use Rattle.iso_model.specs.Pieces.{Style, Piece, Written, piece, after_space, begins_open, begins_digit, bracketed, uses_operators, name_bytes, is_symbolic, term_written, single_written, pair_written, single_by, pair_by, infix_pieces, prefix_pieces, postfix_pieces}
 use Rattle.iso_model.specs.Pieces as pieces
-use Rattle.iso_write.specs.declared.forms.Operator as declared
 use Rattle.iso_write.specs.declared.tasks.Place.{Place}
-use Rattle.iso_write.specs.declared.tasks.Place.TheVariants.{Left, Right}
-use Rattle.iso_write.specs.Forms.{operator_of}
 use Rattle.iso_write.specs.Tasks.{placed, needs_brackets, prefixed}
 use Rattle.iso_write.proofs.TaskLemmas.{placed_by}
 
@@ -123,7 +119,7 @@ module _ (style : Style) (table : List Operator) (seen : List ℕ) where
   prefix_word o w after h symbolic =
       let right = pieces.operand_at (right_of o) w in
       let shape = λ (s : Bool). piece (name_bytes style o.name)
-          ∷ ((if not s || (begins_open right || (bytes_eq o.name (codes "-") && begins_digit right)) then after_space right else right) ++ after) in
+      ∷ ((if not s || (begins_open right || (bytes_eq o.name (codes "-") && begins_digit right)) then after_space right else right) ++ after) in
       ap (λ (z : List Piece). piece (name_bytes style o.name) ∷ z) (after_space-append right after h) ∙ ap shape (sym symbolic)
 
   -- an infix operator that is no symbol

@@ -1,13 +1,11 @@
 -- Tasks that are put before others.
-use Rattle.std.proofs.Common.{◌≡◌, ℕ, ◌+◌, Bool, true, false, ◌&&◌, ◌||◌, List, [], ◌∷◌, ◌++◌, Result, Ok, Err, OnOk, is_ok, if◌then◌else◌, refl, ap, sym, ◌∙◌, append_assoc, append-nil, arith}
+use Rattle.std.proofs.Common.{◌≡◌, ℕ, ◌+◌, Bool, true, false, ◌||◌, List, [], ◌∷◌, ◌++◌, Result, Ok, Err, OnOk, is_ok, if◌then◌else◌, refl, ap, sym, append_assoc, arith}
 use Rattle.iso_ops.specs.Operators as ops
-use Rattle.iso_model.specs.Operators.{takes_equal, left_of, right_of}
 use Rattle.iso_model.specs.Pieces as pieces
 use Rattle.iso_write.specs.declared.tasks.Place.{Place}
 use Rattle.iso_write.specs.declared.tasks.Place.TheVariants.{Whole, Left, Right}
 use Rattle.iso_write.specs.declared.tasks.Task.{Task}
-use Rattle.iso_write.specs.Forms.{operator_of}
-use Rattle.iso_write.specs.Tasks.{placed, needs_brackets, with_task, with_tasks, pieces_of, task_load, tasks_load}
+use Rattle.iso_write.specs.Tasks.{placed, needs_brackets, with_task, with_tasks, tasks_load}
 
 pub on_ok_then : {T E P : Type 0} (r : Result T E) → (is_ok r ≡ true → P) → OnOk r P
 on_ok_then (Ok x) f = f refl

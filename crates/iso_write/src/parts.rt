@@ -158,13 +158,16 @@ fn push_compound<'t>(
         [first, others @ ..] => {
             let first = Task::Placed(first, Place::Whole(999));
             let others = Task::Others(others);
-            push_all(todo, &[
-                Task::Mark(")"),
-                others,
-                first,
-                Task::Mark("("),
-                Task::Name(name),
-            ])
+            push_all(
+                todo,
+                &[
+                    Task::Mark(")"),
+                    others,
+                    first,
+                    Task::Mark("("),
+                    Task::Name(name),
+                ],
+            )
         }
     }
 }
@@ -223,10 +226,7 @@ pub(crate) fn push_tail<'t>(
     if is_nil(form) {
         return push_all(todo, &[Task::Mark("]")]);
     }
-    push_all(
-        todo,
-        &[Task::Mark("]"), Task::Bare(tail), Task::Mark("|")],
-    )
+    push_all(todo, &[Task::Mark("]"), Task::Bare(tail), Task::Mark("|")])
 }
 
 /// Puts further arguments before the other tasks.

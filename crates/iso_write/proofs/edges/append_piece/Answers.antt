@@ -1,4 +1,4 @@
-use Rattle.std.proofs.Common.{◌≡◌, ℕ, slice_index, unwrap_or, sym, ap, ◌∙◌}
+use Rattle.std.proofs.Common.{slice_index, unwrap_or, ap, ◌∙◌}
 use Rattle.iso_write.specs.Edges.{parts}
 use Rattle.iso_write.proofs.EdgeLemmas.{first_is, parted_then, parted_else}
 use Rattle.iso_write.proofs.edges.append_piece.Goals.{then-parts+in_ok-push, else-parts}

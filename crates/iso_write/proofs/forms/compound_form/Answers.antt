@@ -1,4 +1,4 @@
-use Rattle.std.proofs.Common.{◌≡◌, refl}
+use Rattle.std.proofs.Common.{refl}
 use Rattle.iso_write.specs.Styles.{style_of}
 use Rattle.iso_write.specs.declared.forms.Form.TheVariants.{Compound}
 use Rattle.iso_write.proofs.FormLemmas.{compound_single, compound_pair, compound_more}

@@ -1,4 +1,4 @@
-use Rattle.std.proofs.Common.{◌≡◌, sym, ◌∙◌}
+use Rattle.std.proofs.Common.{sym, ◌∙◌}
 use Rattle.iso_ops.specs.declared.specifiers.Kind.TheVariants.{Infix}
 use Rattle.iso_ops.specs.Operators.{operator}
 use Rattle.iso_model.specs.Terms.{term_of}

@@ -1,7 +1,6 @@
-use Rattle.std.proofs.Common.{◌≡◌, true, sym, ◌∙◌}
+use Rattle.std.proofs.Common.{sym, ◌∙◌}
 use Rattle.iso_ops.specs.declared.specifiers.Kind.TheVariants.{Prefix, Postfix}
 use Rattle.iso_ops.specs.Operators.{operator}
-use Rattle.iso_model.specs.Pieces.{uses_operators}
 use Rattle.iso_model.specs.Terms.{term_of}
 use Rattle.iso_write.specs.Styles.{style_of}
 use Rattle.iso_write.specs.Forms.{written}

@@ -1,7 +1,5 @@
-use Rattle.std.proofs.Common.{◌≡◌, Bool, true, false, ◌&&◌, sym, ap, ◌∙◌}
-use Rattle.iso_model.specs.Pieces.{is_operator_name, uses_operators}
+use Rattle.std.proofs.Common.{sym, ◌∙◌}
 use Rattle.iso_write.specs.Styles.{style_of}
-use Rattle.iso_write.specs.Forms.{form_written}
 use Rattle.iso_write.proofs.parts.is_operator.Goals as goal
 
 pub returns-then-is_operator_name : goal.returns-then-is_operator_name

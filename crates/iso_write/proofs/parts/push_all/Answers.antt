@@ -1,4 +1,4 @@
-use Rattle.std.proofs.Common.{◌≡◌, ap, ◌∙◌}
+use Rattle.std.proofs.Common.{ap, ◌∙◌}
 use Rattle.iso_write.specs.Tasks.{pieces_of, tasks_load}
 use Rattle.iso_write.proofs.TaskLemmas.{on_ok_then, with_tasks-append, tasks_load-append}
 use Rattle.iso_write.proofs.parts.push_all.Goals as goal

@@ -1,4 +1,4 @@
-use Rattle.std.proofs.Common.{◌≡◌, sym, ◌∙◌}
+use Rattle.std.proofs.Common.{sym, ◌∙◌}
 use Rattle.iso_model.specs.Terms.{term_of}
 use Rattle.iso_write.specs.declared.tasks.Place.TheVariants.{Right}
 use Rattle.iso_write.specs.Forms.{operator_of, written}

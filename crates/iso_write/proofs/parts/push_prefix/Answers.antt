@@ -1,4 +1,4 @@
-use Rattle.std.proofs.Common.{◌≡◌, ◌∷◌, ◌++◌, sym, ap, ◌∙◌}
+use Rattle.std.proofs.Common.{◌∷◌, ◌++◌, sym, ap, ◌∙◌}
 use Rattle.iso_model.specs.Pieces.{piece, name_bytes}
 use Rattle.iso_model.specs.Terms.{term_of}
 use Rattle.iso_write.specs.declared.tasks.Place.TheVariants.{Right}

@@ -1,6 +1,4 @@
-use Rattle.std.proofs.Common.{◌≡◌, ◌+◌, ◌≤◌, arith}
-use Rattle.iso_write.specs.Rows.{rows_load, term_load}
-use Rattle.iso_model.specs.Terms.{term_of}
+use Rattle.std.proofs.Common.{arith}
 use Rattle.iso_write.proofs.RowLemmas.{rows_seen-arguments, rows_load-arguments}
 use Rattle.iso_write.proofs.variables.note_term.Goals as goal
 

@@ -1,4 +1,4 @@
-use Rattle.std.proofs.Common.{◌≡◌, ◌+◌, ◌<◌, arith, sym, ap, ◌∙◌}
+use Rattle.std.proofs.Common.{arith, sym, ap, ◌∙◌}
 use Rattle.iso_write.specs.Rows.{rows_seen, rows_load}
 use Rattle.iso_write.proofs.RowLemmas.{rows_seen-push, rows_load-push, kept_on}
 use Rattle.iso_write.proofs.variables.note_variables.Goals as goal

@@ -1,4 +1,4 @@
-use Rattle.std.proofs.Common.{◌≡◌, refl}
+use Rattle.std.proofs.Common.{refl}
 use Rattle.iso_write.proofs.RowLemmas.{on_ok_by, row_split, rows_seen-split, rows_load-split}
 use Rattle.iso_write.proofs.variables.take_row.Goals as goal
 

@@ -1,6 +1,4 @@
-use Rattle.std.proofs.Common.{◌≡◌, unwrap_or, ap, ◌∙◌, false}
-use Rattle.iso_model.specs.Pieces.{last_byte}
-use Rattle.iso_write.specs.declared.edges.Edge.{Edge}
+use Rattle.std.proofs.Common.{unwrap_or, ap, ◌∙◌}
 use Rattle.iso_write.proofs.EdgeLemmas.{last_is, edge_with}
 use Rattle.iso_write.proofs.edges.Edge.behind.Goals as goal
 
