@@ -61,6 +61,7 @@ fn take_row<'t>(
 {
     match row {
         [] => Ok(()),
+        [only] => note_term(seen, rows, only),
         [first, others @ ..] => {
             rows.push(others)?;
             note_term(seen, rows, first)

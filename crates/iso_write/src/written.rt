@@ -10,7 +10,7 @@ ghost use Rattle.iso_write.specs.Tasks.{pieces_of, with_task, task_load, tasks_l
 
 use super::edges::{Edge, append_piece};
 use super::forms::form_of;
-use super::names::append_name;
+use super::names::{append_name, is_bare};
 use super::parts::{push_form, push_others, push_placed, push_tail};
 use super::style::Style;
 use super::tasks::{Place, Task};
@@ -31,7 +31,7 @@ fn append_name_piece(
     ensures text { IfOk result (λ after. (ps : List pieces.Piece) → out.new.items ++ behind after ps ≡ out.old.items ++ behind edge (pieces.piece (pieces.name_bytes (style_of style) name.now) ∷ ps)) }
     ensures kept { take (length out.old.items) out.new.items ≡ out.old.items }
 {
-    if !style.quotes() {
+    if !style.quotes() || is_bare(name) {
         return append_piece(out, edge, name.as_bytes());
     }
     let mut text = Vec::new(alloc);
