@@ -1,0 +1,5 @@
+pub mod Styles
+pub mod Forms
+pub mod Edges
+pub mod Tasks
+pub mod Rows

@@ -1,0 +1,79 @@
+//! Terms as text, in three styles (ISO/IEC 13211-1:1995, 7.10.5 and 8.14.2; layout and brackets are own).
+#![tactic(auto)]
+
+ghost use Rattle.std.specs.Prelude.{◌≡◌, ◌++◌, take, length, true, OnOk, OnErr};
+ghost use Rattle.iso_model.specs.Trees.{arities_fit};
+ghost use Rattle.iso_model.specs.Terms.{term_of};
+ghost use Rattle.iso_model.specs.Variables.{distinct_from};
+ghost use Rattle.iso_model.specs.Pieces.{text_at};
+ghost use Rattle.iso_write.specs.Styles.{style_of};
+
+mod edges;
+mod forms;
+mod names;
+mod parts;
+mod style;
+mod tasks;
+#[cfg(test)]
+mod tests;
+mod variables;
+mod written;
+
+use iso_model::{NoMemory, Term};
+use iso_ops::OpTable;
+pub use names::append_name;
+use std::alloc::Global;
+pub use style::Style;
+use variables::note_variables;
+use written::{Setting, append_text};
+
+/// Appends the text of a term in a place of at most this priority (7.10.5, 8.14.2; layout and brackets are own). `seen` lists
+/// the variables named so far, which the term's join by first occurrence; the k-th is written `_k`. The error is that memory
+/// was refused; both vectors are as before then.
+pub fn write_to(
+    alloc: Global,
+    out: &mut Vec<u8>,
+    term: &Term,
+    style: Style,
+    priority: u16,
+    ops: &OpTable,
+    seen: &mut Vec<u64>,
+) -> Result<(), NoMemory>
+    requires { arities_fit (term_of term.now) ≡ true }
+    ensures seen { OnOk result (seen.new.items ≡ distinct_from seen.old.items (term_of term.now)) }
+    ensures text { OnOk result (out.new.items ≡ out.old.items ++ text_at (style_of style) ops.now (distinct_from seen.old.items (term_of term.now)) priority (term_of term.now)) }
+    ensures refused { OnErr result ((out.new.items ≡ out.old.items) × (seen.new.items ≡ seen.old.items)) }
+{
+    let (length, known) = (out.len(), seen.len());
+    let written = append_line(alloc, out, term, style, priority, ops, seen);
+    if written.is_err() {
+        out.truncate(length);
+        seen.truncate(known);
+    }
+    written
+}
+
+/// Appends the text of a term, whose variables join those seen so far.
+fn append_line(
+    alloc: Global,
+    out: &mut Vec<u8>,
+    term: &Term,
+    style: Style,
+    priority: u16,
+    ops: &OpTable,
+    seen: &mut Vec<u64>,
+) -> Result<(), NoMemory>
+    ensures seen { OnOk result (seen.new.items ≡ distinct_from seen.old.items (term_of term.now)) }
+    ensures text { OnOk result (out.new.items ≡ out.old.items ++ text_at (style_of style) ops.now (distinct_from seen.old.items (term_of term.now)) priority (term_of term.now)) }
+    ensures out_kept { take (length out.old.items) out.new.items ≡ out.old.items }
+    ensures seen_kept { take (length seen.old.items) seen.new.items ≡ seen.old.items }
+{
+    note_variables(alloc, seen, term)?;
+    let setting = Setting {
+        alloc,
+        style,
+        ops,
+        seen: seen.as_slice(),
+    };
+    append_text(setting, out, term, priority)
+}
