@@ -1,6 +1,6 @@
 -- Worked texts: the tokens of three short clauses and of all forms, the clauses that the three are, thirteen terms, and texts that are none. A literal stands for its bytes, by `codes`.
 use Rattle.std.specs.Prelude.{◌≡◌, ℕ, true, false, List, [], ◌∷◌, Some, pos, neg_ℤ, codes}
-use Rattle.iso_model.specs.Trees.{Tree, Variable, Integer, Name, Apply, row}
+use Rattle.iso_model.specs.Trees.{Tree, Variable, Integer, Name}
 use Rattle.iso_model.specs.Lists.{nil, curly, list_before}
 use Rattle.iso_model.specs.Bodies.{one, two}
 use Rattle.iso_model.specs.Token.{Shown, TokenKind, NameToken, QuotedToken, DoubleToken, VariableToken, IntegerToken, PunctToken, EndToken, BadToken, magnitude, content}
