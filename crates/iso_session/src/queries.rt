@@ -77,7 +77,8 @@ fn run_pauses<E: Engine, W: Write>(
             Pause::Output(bytes) => write_output(out, within_line, bytes.as_slice())?,
             Pause::Answer(values) => {
                 count = count.saturating_add(1);
-                let line = composed::answer_line(alloc, engine.ops(), count, names, values.as_slice());
+                let ops = engine.ops();
+                let line = composed::answer_line(alloc, ops, count, names, values.as_slice());
                 match put_line(out, within_line, line, Flow::On)? {
                     Flow::On => {}
                     flow => return Ok(flow),
