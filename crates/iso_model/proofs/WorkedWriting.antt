@@ -1,8 +1,8 @@
 -- What worked terms are written as.
-use Rattle.std.proofs.Common.{◌≡◌, List, [], ◌∷◌, ℕ, refl, codes, pos, neg_ℤ, rules}
+use Rattle.std.proofs.Common.{refl}
 use Rattle.std.specs.Fmt.{digits}
 use Rattle.iso_ops.specs.InitialOperators.{initial_entries}
-use Rattle.iso_model.specs.WorkedTerms.{IsText, TextsWithSigns, TextsWithBrackets, TextsWithWords, TextsWithAnOperator}
+use Rattle.iso_model.specs.WorkedTerms.{TextsWithSigns, TextsWithBrackets, TextsWithWords, TextsWithAnOperator, CanonicalTexts}
 
 pub signs_written : TextsWithSigns
 unfolding initial_entries digits
@@ -19,3 +19,7 @@ words_written = (refl, refl, refl, refl, refl)
 pub operator_written : TextsWithAnOperator
 unfolding initial_entries digits
 operator_written = (refl, refl)
+
+pub canonical_written : CanonicalTexts
+unfolding initial_entries digits
+canonical_written = (refl, refl, refl, refl)

@@ -27,7 +27,7 @@ QuietStepsKeepTheRun = (s t : State) → Quiet s t → run_of s ≡ run_of t
 
 -- an event that comes is the run's first, and the run behind it is that of the state there
 abbrev pub EventsBeginTheRun : Type 0
-EventsBeginTheRun = (s at t : State) (e : Event) → Quiet s at → step at ≡ Gives e t → run_of s ≡ Then e (run_of t)
+EventsBeginTheRun = (s at t : State) (e : Event) → Quiet s at → step at ≡ Gives e t → run_of s ≡ Then e t.world (run_of t)
 
 -- an ending that comes is all of the run
 abbrev pub EndingsAreTheRun : Type 0

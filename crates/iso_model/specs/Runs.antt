@@ -2,15 +2,15 @@
 use Rattle.std.specs.Prelude.{◌≡◌}
 use Rattle.iso_model.specs.Walker.{State, World, Event, Ending, Goes, Gives, Ends, step, idle}
 
--- events in order, and then the ending with what outlives the run
+-- events in order, each with the world behind it, and then the ending with what outlives the run
 pub data Trace : Type 0 where
-  Then : (event : Event) → (others : Trace) → Trace
+  Then : (event : Event) → (world : World) → (others : Trace) → Trace
   Stops : (ending : Ending) → (world : World) → Trace
 
 -- Some number of steps from the state gives these events in this order and then this ending.
 pub data Run : State → Trace → Type 0 where
   goes : {s t : State} {r : Trace} → step s ≡ Goes t → Run t r → Run s r
-  gives : {s t : State} {e : Event} {r : Trace} → step s ≡ Gives e t → Run t r → Run s (Then e r)
+  gives : {s t : State} {e : Event} {r : Trace} → step s ≡ Gives e t → Run t r → Run s (Then e t.world r)
   ends : {s : State} {e : Ending} {w : World} → step s ≡ Ends e w → Run s (Stops e w)
 
 -- some steps without an event lead from the first state to the second

@@ -59,11 +59,11 @@ script_end (Closes ending) = ending
 
 -- The rest of a run, from its k-th answer on, for a query with these named variables; then what follows the query.
 abbrev pub run_script : List (List ℕ × ℕ) → ℕ → Trace → (World → Script) → Script
-run_script names k (Then (Answered values) others) next = Shows (Line (answer_line k names values)) (run_script names (k + 1) others next)
-run_script names k (Then (Wrote bytes) others) next = Shows (Output bytes) (run_script names k others next)
+run_script names k (Then (Answered values) w others) next = Shows (Line (answer_line w.operators k names values)) (run_script names (k + 1) others next)
+run_script names k (Then (Wrote bytes) w others) next = Shows (Output bytes) (run_script names k others next)
 run_script names k (Stops NoMore w) next = Shows (Line (codes "end: no more")) (next w)
 run_script names k (Stops Budget w) next = Shows (Line (codes "end: budget")) (next w)
-run_script names k (Stops (Uncaught ball) w) next = Shows (Line (error_line ball)) (next w)
+run_script names k (Stops (Uncaught ball) w) next = Shows (Line (error_line w.operators ball)) (next w)
 run_script names k (Stops (Halted n) w) next = Shows (Line (halt_line n)) (Closes (Halts n))
 
 -- the goal of a query: `?- G` as a query is G
@@ -88,7 +88,7 @@ queries_script (suc turns) budget ts w = queries_by budget w (next_item w.operat
 -- the k-th term of the text where it is a clause, which is added or refused
 abbrev pub added_script : ℕ → Addition → World → (World → Script) → Script
 added_script k (Adds db) w next = next (record w { database = db })
-added_script k (Refuses error) w next = Shows (Line (refused_line k error)) (next w)
+added_script k (Refuses error) w next = Shows (Line (refused_line w.operators k error)) (next w)
 
 -- whether terms of this name and arity are passed over in a text: grammar rules, and, in this stage, directives
 abbrev pub skips : Key → Bool

@@ -1,10 +1,8 @@
--- The text of a term in the canonical style: functional notation and lists, atoms in quotes where they need them (ISO/IEC 13211-1:1995,
--- 7.10.5 and 8.14.2; layout, and how variables are named, are own).
+-- The text of names, in quotes where they need them, and of variables (ISO/IEC 13211-1:1995, 7.10.5; how variables are named is own).
 use Rattle.std.specs.Prelude.{ℕ, ◌+◌, List, [], ◌∷◌, ◌++◌, Bool, false, ◌&&◌, ◌||◌, ◌==◌, not, nat_lt, codes, if◌then◌else◌, unwrap_or, position, length}
-use Rattle.std.specs.Fmt.{decimal, signed_decimal, digits}
+use Rattle.std.specs.Fmt.{decimal, digits}
 use Rattle.std.specs.List.{list_all}
 use Rattle.std.specs.Str.{bytes_eq}
-use Rattle.iso_model.specs.Trees.{Tree, Variable, Integer, Name, Apply, End, More}
 use Rattle.iso_model.specs.Characters.{is_small, is_alphanumeric, is_graphic}
 
 -- a text that begins with `/*`, as a comment does
@@ -49,45 +47,3 @@ name_text a = if is_bare a then a else 39 ∷ (quoted_bytes a ++ 39 ∷ [])
 -- a variable: `_k`, where it is the k-th of these
 abbrev pub variable_text : List ℕ → ℕ → List ℕ
 variable_text seen n = 95 ∷ decimal (unwrap_or (position (λ m. m == n) seen) (length seen) + 1)
-
--- A term's text; what it adds behind a list's elements where it is the list's tail; and as further arguments, each behind a comma.
-pub record Written : Type 0 where
-  pub whole : List ℕ
-  pub tail : List ℕ
-  pub others : List ℕ
-
--- a term that is no list's cell: as a tail it stands behind a bar
-abbrev pub plain : List ℕ → Written
-plain text = record { whole = text; tail = 124 ∷ (text ++ 93 ∷ []); others = [] }
-
-abbrev pub atom_written : List ℕ → Written
-atom_written a = if bytes_eq a (codes "[]") then record { whole = name_text a; tail = 93 ∷ []; others = [] } else plain (name_text a)
-
--- `f(a,..)`
-abbrev pub compound_written : List ℕ → Written → List ℕ → Written
-compound_written f first others = plain (name_text f ++ 40 ∷ (first.whole ++ (others ++ 41 ∷ [])))
-
--- `[a,..]`
-abbrev pub list_written : Written → Written → Written
-list_written first rest = record { whole = 91 ∷ (first.whole ++ rest.tail); tail = 44 ∷ (first.whole ++ rest.tail); others = [] }
-
--- a compound of two arguments: a list's cell or any other
-abbrev pub pair_written : List ℕ → Written → Written → Written
-pair_written f first second =
-    if bytes_eq f (codes ".") then list_written first second else compound_written f first (44 ∷ second.whole)
-
--- what is written of the term, where the variables of its line are these by first occurrence
-abbrev pub written : List ℕ → Tree → Written
-written seen (Variable n) = plain (variable_text seen n)
-written seen (Integer z) = plain (signed_decimal z)
-written seen (Name a) = atom_written a
-written seen (Apply f End) = plain (name_text f)
-written seen (Apply f (More t (More u End))) = pair_written f (written seen t) (written seen u)
-written seen (Apply f (More t ts)) = compound_written f (written seen t) (written seen ts).others
-written seen (Apply f t) = plain (name_text f)
-written seen End = record { whole = []; tail = []; others = [] }
-written seen (More t ts) = record { whole = []; tail = []; others = 44 ∷ ((written seen t).whole ++ (written seen ts).others) }
-
--- the text of a term in a line whose variables are these by first occurrence
-abbrev pub text_in : List ℕ → Tree → List ℕ
-text_in seen t = (written seen t).whole

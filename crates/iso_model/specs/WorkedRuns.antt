@@ -32,7 +32,7 @@ program ts = record first_world { database = with_clauses ts [] }
 -- these answers in their order, and then this ending
 abbrev pub answers : List (List Tree) → Ending → World → Trace
 answers [] ending w = Stops ending w
-answers (values ∷ others) ending w = Then (Answered values) (answers others ending w)
+answers (values ∷ others) ending w = Then (Answered values) w (answers others ending w)
 
 -- `l :- l.`
 abbrev pub endless : World

@@ -3,9 +3,10 @@ use Rattle.std.specs.Prelude.{◌≡◌, ℕ, List, [], ◌∷◌, ◌++◌, pos
 use Rattle.iso_ops.specs.declared.specifiers.Spec.TheVariants.{Fy}
 use Rattle.iso_ops.specs.Operators.{Operator, operator}
 use Rattle.iso_ops.specs.InitialOperators.{initial_entries}
-use Rattle.iso_model.specs.Trees.{Tree, Integer}
+use Rattle.iso_model.specs.Trees.{Tree, Variable, Integer, Name, Apply, row}
+use Rattle.iso_model.specs.Variables.{variables}
 use Rattle.iso_model.specs.Bodies.{one, two}
-use Rattle.iso_model.specs.Pieces.{Writeq, text_at}
+use Rattle.iso_model.specs.Pieces.{Writeq, Canonical, text_at}
 use Rattle.iso_model.specs.WorkedRuns.{number}
 use Rattle.iso_model.specs.WorkedTexts.{atom}
 
@@ -52,3 +53,15 @@ abbrev pub TextsWithAnOperator : Type 0
 TextsWithAnOperator =
     (text_at Writeq with_neg [] 1200 (two (codes "+") (one (codes "neg") (atom (codes "a"))) (atom (codes "b"))) ≡ codes "(neg a)+b")
     × (text_at Writeq with_neg [] 1200 (one (codes "neg") (two (codes "+") (atom (codes "a")) (atom (codes "b")))) ≡ codes "neg a+b")
+
+-- The canonical text of this term under the operators before any is set, as a whole, where its line has its variables alone.
+abbrev pub IsCanonicalText : Tree → List ℕ → Type 0
+IsCanonicalText t text = text_at Canonical initial_entries (variables t) 1200 t ≡ text
+
+-- The canonical style (8.14.2): an integer below 0; an atom that stands in quotes; f(X, g(a, 1), Y, X), where X is variable 3 and Y
+-- variable 0: they are `_k` by first occurrence (own); and an operator's name and a list, which are written as a compound and as a list.
+abbrev pub CanonicalTexts : Type 0
+CanonicalTexts =
+    IsCanonicalText (Integer (neg_ℤ (pos 5))) (codes "-5") × IsCanonicalText (Name (codes "it's")) (codes "'it\\'s'")
+    × IsCanonicalText (Apply (codes "f") (row (Variable 3 ∷ two (codes "g") (atom (codes "a")) (number 1) ∷ Variable 0 ∷ Variable 3 ∷ []))) (codes "f(_1,g(a,1),_2,_1)")
+    × IsCanonicalText (two (codes "-") (number 1) (two (codes ".") (atom (codes "a")) (atom (codes "b")))) (codes "-(1,[a|b])")

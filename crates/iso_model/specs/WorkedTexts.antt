@@ -1,6 +1,6 @@
--- Worked texts: the tokens of three short clauses and of all forms, the clauses that the three are, thirteen terms, texts that are none, and the text of three terms. A literal stands for its bytes, by `codes`.
+-- Worked texts: the tokens of three short clauses and of all forms, the clauses that the three are, thirteen terms, and texts that are none. A literal stands for its bytes, by `codes`.
 use Rattle.std.specs.Prelude.{◌≡◌, ℕ, true, false, List, [], ◌∷◌, Some, pos, neg_ℤ, codes}
-use Rattle.iso_model.specs.Trees.{Tree, Variable, Integer, Name, Apply, row}
+use Rattle.iso_model.specs.Trees.{Tree, Variable, Integer, Name}
 use Rattle.iso_model.specs.Lists.{nil, curly, list_before}
 use Rattle.iso_model.specs.Bodies.{one, two}
 use Rattle.iso_model.specs.Token.{Shown, TokenKind, NameToken, QuotedToken, DoubleToken, VariableToken, IntegerToken, PunctToken, EndToken, BadToken, magnitude, content}
@@ -9,7 +9,6 @@ use Rattle.iso_ops.specs.InitialOperators.{initial_entries}
 use Rattle.iso_ops.specs.Settings.{initial_flags}
 use Rattle.iso_model.specs.Grammar.{Clause}
 use Rattle.iso_model.specs.Clauses.{IsNextClause}
-use Rattle.iso_model.specs.Lines.{text_of}
 use Rattle.iso_model.specs.WorkedRuns.{rule, number}
 
 -- a fact: a name directly before its arguments, and a variable twice
@@ -157,10 +156,3 @@ abbrev pub NoTerms : Type 0
 NoTerms =
     IsNoClause (codes "1 = 2 = 3.") × IsNoClause (codes "0b2.") × IsNoClause (codes "[a,b|c,d].") × IsNoClause (codes "9223372036854775808.")
     × IsNoClause (codes "(a)).") × IsNoClause (codes "X = \\+ a.")
-
--- The text of three terms in the canonical style (7.10.5): an integer below 0; an atom that stands in quotes; and
--- f(X, g(a, 1), Y, X), where X is variable 3 and Y variable 0: they are `_k` by first occurrence (own).
-abbrev pub TextOfThreeTerms : Type 0
-TextOfThreeTerms =
-    (text_of (Integer (neg_ℤ (pos 5))) ≡ codes "-5") × (text_of (Name (codes "it's")) ≡ codes "'it\\'s'")
-    × (text_of (Apply (codes "f") (row (Variable 3 ∷ two (codes "g") (Name (codes "a")) (number 1) ∷ Variable 0 ∷ Variable 3 ∷ []))) ≡ codes "f(_1,g(a,1),_2,_1)")

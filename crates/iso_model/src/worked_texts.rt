@@ -1,5 +1,5 @@
-//! Worked texts: the tokens and the reading of short clauses, and the text of terms. Each is the contract of a function that does nothing.
-ghost use Rattle.iso_model.specs.WorkedTexts.{TokensOfThreeClauses, TokensOfAllForms, ReadingOfThreeClauses, NoClauses, ReadingOfSigns, ReadingOfBrackets, ReadingOfIntegers, NoTerms, TextOfThreeTerms};
+//! Worked texts: the tokens and the reading of short clauses. Each is the contract of a function that does nothing.
+ghost use Rattle.iso_model.specs.WorkedTexts.{TokensOfThreeClauses, TokensOfAllForms, ReadingOfThreeClauses, NoClauses, ReadingOfSigns, ReadingOfBrackets, ReadingOfIntegers, NoTerms};
 
 /// The tokens of `eq(X, X).`, of `p(Y, _) :- q, r(1, Y).` and of `l:-l. % again`, each with its place (6.4).
 pub fn tokens_of_three_clauses()
@@ -20,11 +20,6 @@ pub fn reading_of_three_clauses()
 /// `p(a :- b).`, `p :- .` and `p (a).` are no clauses (6.3.3, 6.3.4).
 pub fn no_clauses()
     ensures { NoClauses }
-{}
-
-/// The text of -5, of the atom `it's` and of `f(X, g(a, 1), Y, X)` (7.10.5).
-pub fn text_of_three_terms()
-    ensures { TextOfThreeTerms }
 {}
 
 /// What terms with signs are read as (6.3.4.2).

@@ -1,5 +1,5 @@
 -- What consulting a term comes to.
-use Rattle.std.proofs.Common.{◌≡◌, ℕ, zero, suc, ◌+◌, ◌-◌, ◌≤◌, ◌<◌, min, true, false, List, [], ◌∷◌, ◌++◌, length, codes, Option, Some, None, Result, Err, IfSome, refl, ap, subst, ◌∙◌, arith}
+use Rattle.std.proofs.Common.{◌≡◌, ℕ, zero, suc, ◌+◌, ◌-◌, ◌≤◌, ◌<◌, min, true, false, List, [], ◌∷◌, ◌++◌, length, codes, Option, Some, None, Result, Err, IfSome, refl, ap, ap₂, subst, ◌∙◌, arith}
 use Rattle.std.specs.Fmt.{decimal}
 use Rattle.iso_model.specs.Trees.{Tree}
 use Rattle.iso_model.specs.Terms.{term_of}
@@ -26,8 +26,8 @@ use Rattle.iso_session.proofs.ProgressLemmas.{advance_none, advance_on, puts_on}
 pub counted_same : (count k : ℕ) → IsCount count k → counted count ≡ counted k
 counted_same count k e = let same : min count 18446744073709551615 ≡ min k 18446744073709551615 = omega (arith, e) in ap decimal same
 
-abbrev refused_by : List ℕ → Tree → List ℕ
-refused_by number error = codes "clause " ++ (number ++ (codes " refused: " ++ text_of error))
+abbrev refused_by : List Operator → List ℕ → Tree → List ℕ
+refused_by table number error = codes "clause " ++ (number ++ (codes " refused: " ++ text_of table error))
 
 abbrev unreadable_by : List ℕ → List ℕ
 unreadable_by number = codes "syntax error in clause " ++ number
@@ -55,15 +55,15 @@ skipped Stands now old new count k t s next r stands ready counts is puts =
 pub not_skipped : (k : ℕ) (t : Tree) (w : World) (next : World → Script) → is_skipped t ≡ false → read_script k t w next ≡ added_script k (addition t w.database) w next
 not_skipped k t w next is = rw is refl
 
--- the clause was refused with this ball
-pub refused : (Stands : State → Type 0) (now : Phase) (old new : Place) (count k : ℕ) (a : Addition) (s : State) (ball : Ball) (next : World → Script) (r : Result Flow Fault)
-    → Consults a s (Err (add.Refused ball)) Stands → now ≡ Ready → IsCount count k → PutsLine (refused_line count (term_of ball.term)) flow.On old new r
+-- the clause was refused with this ball, where these are the operators of what the engine stands for
+pub refused : (Stands : State → Type 0) (table : List Operator) → ((t : State) → Stands t → table ≡ t.world.operators) → (now : Phase) (old new : Place) (count k : ℕ) (a : Addition) (s : State) (ball : Ball) (next : World → Script) (r : Result Flow Fault)
+    → Consults a s (Err (add.Refused ball)) Stands → now ≡ Ready → IsCount count k → PutsLine (refused_line table count (term_of ball.term)) flow.On old new r
     → Does Stands now old new (added_script k a s.world next) next r
-refused Stands now old new count k (Adds db) s ball next r c ready counts puts = absurd c
-refused Stands now old new count k (Refuses error) s ball next r c ready counts puts =
-    let same = ap (λ z. refused_by z (term_of ball.term)) (counted_same count k counts) ∙ ap (refused_line k) c.0 in
+refused Stands table ops now old new count k (Adds db) s ball next r c ready counts puts = absurd c
+refused Stands table ops now old new count k (Refuses error) s ball next r c ready counts puts =
+    let same = ap (λ z. refused_by table z (term_of ball.term)) (counted_same count k counts) ∙ ap₂ (λ o z. refused_line o k z) (ops (idle s.world) c.1) c.0 in
     let line = subst (λ z. PutsLine z flow.On old new r) same puts in
-    puts_on Stands now old new (refused_line k error) (idle s.world) next r line c.1 ready
+    puts_on Stands now old new (refused_line s.world.operators k error) (idle s.world) next r line c.1 ready
 
 -- How far the text was consulted: what is left of it, and where its script is.
 pub record TextPlace (Stands : State → Type 0) (count : ℕ) (ts : List Shown) (old new : Place) (script : Script) (next : World → Script) : Type 0 where

@@ -1,6 +1,4 @@
 pub mod WrittenLemmas
-pub mod PlaceLemmas
-pub mod TextLemmas
 pub mod SolutionLemmas
 pub mod ProgressLemmas
 pub mod ConsultLemmas

@@ -1,7 +1,8 @@
 -- What runs of queries come to.
-use Rattle.std.proofs.Common.{◌≡◌, ℕ, zero, suc, ◌+◌, ◌-◌, ◌≤◌, ◌<◌, min, false, List, [], ◌++◌, length, codes, Option, Some, None, Result, Ok, IfSome, Vec, Global, refl, ap, subst, ◌∙◌, arith}
+use Rattle.std.proofs.Common.{◌≡◌, ℕ, zero, suc, ◌+◌, ◌-◌, ◌≤◌, ◌<◌, min, false, List, [], ◌++◌, length, codes, Option, Some, None, Result, Ok, IfSome, Vec, Global, refl, ap, ap₂, subst, ◌∙◌, arith}
 use Rattle.std.specs.Result.{IsErr}
 use Rattle.std.specs.Io.KnownBytes.{Appends}
+use Rattle.iso_ops.specs.Operators.{Operator}
 use Rattle.iso_model.specs.Trees.{Tree}
 use Rattle.iso_model.specs.Terms.{term_of}
 use Rattle.iso_model.specs.Engines.{Phase, Ready, Pauses}
@@ -42,33 +43,34 @@ limit_ends Stands now l old new script behind r is same stops = rw (is, same) (r
 
 -- the run ends with this line, and the next query follows
 line_ends : (Stands : State → Type 0) (now : Phase) (old new : Place) (names : List (List ℕ × ℕ)) (k : ℕ) (s : State) (ending : Ending) (text : List ℕ) (next : World → Script) (r : Result Flow Fault)
-    → (f : Finishes s ending Stands) → now ≡ Ready → ((w : World) → run_script names k (runs.Stops ending w) next ≡ Shows (Line text) (next w)) → PutsLine text flow.On old new r
+    → (f : Finishes s ending Stands) → now ≡ Ready → run_script names k (runs.Stops ending f.world) next ≡ Shows (Line text) (next f.world) → PutsLine text flow.On old new r
     → Does Stands now old new (run_script names k (run_of s) next) next r
 line_ends Stands now old new names k s ending text next r f ready line puts =
-    let whole = ap (λ z. run_script names k z next) (finishes_run f) ∙ line f.world in
+    let whole = ap (λ z. run_script names k z next) (finishes_run f) ∙ line in
     rw whole (puts_on Stands now old new text (idle f.world) next r puts f.stands ready)
 
--- a pause that is no answer and no output ends its query
-pub query_ends : (Stands : State → Type 0) (now : Phase) (old new : Place) (names : List (List ℕ × ℕ)) (k : ℕ) (s : State) (p : Pause) (next : World → Script) (r : Result Flow Fault)
-    → Pauses s p Stands now → EndsQuery p old new r
+-- a pause that is no answer and no output ends its query, where these are the operators of what the engine stands for
+pub query_ends : (Stands : State → Type 0) (table : List Operator) → ((t : State) → Stands t → table ≡ t.world.operators) → (now : Phase) (old new : Place) (names : List (List ℕ × ℕ)) (k : ℕ) (s : State) (p : Pause) (next : World → Script) (r : Result Flow Fault)
+    → Pauses s p Stands now → EndsQuery table p old new r
     → ((values : Vec Term Global) → p ≡ pause.Answer values → ⊥) → ((bytes : Vec ℕ Global) → p ≡ pause.Output bytes → ⊥)
     → Does Stands now old new (run_script names k (run_of s) next) next r
-query_ends Stands now old new names k s (pause.Answer values) next r p e answer output = absurd (answer values refl)
-query_ends Stands now old new names k s (pause.Output bytes) next r p e answer output = absurd (output bytes refl)
-query_ends Stands now old new names k s pause.NoMore next r p e answer output = line_ends Stands now old new names k s NoMore (codes "end: no more") next r p.0 p.1 (λ w. refl) e
-query_ends Stands now old new names k s pause.Budget next r p e answer output = line_ends Stands now old new names k s Budget (codes "end: budget") next r p.0 p.1 (λ w. refl) e
-query_ends Stands now old new names k s (pause.Uncaught ball) next r p e answer output =
-    line_ends Stands now old new names k s (Uncaught (term_of ball.term)) (error_line (term_of ball.term)) next r p.0 p.1 (λ w. refl) e
-query_ends Stands now old new names k s (pause.Halt n) next r p e answer output =
+query_ends Stands table ops now old new names k s (pause.Answer values) next r p e answer output = absurd (answer values refl)
+query_ends Stands table ops now old new names k s (pause.Output bytes) next r p e answer output = absurd (output bytes refl)
+query_ends Stands table ops now old new names k s pause.NoMore next r p e answer output = line_ends Stands now old new names k s NoMore (codes "end: no more") next r p.0 p.1 refl e
+query_ends Stands table ops now old new names k s pause.Budget next r p e answer output = line_ends Stands now old new names k s Budget (codes "end: budget") next r p.0 p.1 refl e
+query_ends Stands table ops now old new names k s (pause.Uncaught ball) next r p e answer output =
+    let line = subst (λ o. PutsLine (error_line o (term_of ball.term)) flow.On old new r) (ops (idle p.0.world) p.0.stands) e in
+    line_ends Stands now old new names k s (Uncaught (term_of ball.term)) (error_line p.0.world.operators (term_of ball.term)) next r p.0 p.1 refl line
+query_ends Stands table ops now old new names k s (pause.Halt n) next r p e answer output =
     let whole = ap (λ z. run_script names k z next) (finishes_run p.0) in
     rw whole (puts_halt Stands now old new (halt_line n) n next r e p.1)
-query_ends Stands now old new names k s pause.HeapFull next r p e answer output =
+query_ends Stands table ops now old new names k s pause.HeapFull next r p e answer output =
     limit_ends Stands now limit.Heap old new (run_script names k (run_of s) next) next r e.0 e.1 (stopped Stands names k s next p.0)
-query_ends Stands now old new names k s pause.FramesFull next r p e answer output =
+query_ends Stands table ops now old new names k s pause.FramesFull next r p e answer output =
     limit_ends Stands now limit.Frames old new (run_script names k (run_of s) next) next r e.0 e.1 (stopped Stands names k s next p.0)
-query_ends Stands now old new names k s pause.NoMemory next r p e answer output =
+query_ends Stands table ops now old new names k s pause.NoMemory next r p e answer output =
     limit_ends Stands now limit.Memory old new (run_script names k (run_of s) next) next r e.0 e.1 (λ spent. stopped Stands names k s next p.0)
-query_ends Stands now old new names k s pause.Spent next r p e answer output = absurd p
+query_ends Stands table ops now old new names k s pause.Spent next r p e answer output = absurd p
 
 -- How far a run has come: the state, how many answers it gave, and where its script is.
 pub record RunPlace (Stands : State → Type 0) (count : ℕ) (names : List (List ℕ × ℕ)) (old new : Place) (script : Script) (next : World → Script) : Type 0 where
@@ -131,7 +133,7 @@ pub record AnswerTurn (Later : State → Type 0) (count : ℕ) (names : List (Li
   pub stands : Later at
   pub k : ℕ
   pub counts : IsCount count k
-  pub advances : Advances old mid script (Shows (Line (answer_line k names values)) (run_script names (k + 1) (run_of at) next))
+  pub advances : Advances old mid script (Shows (Line (answer_line at.world.operators k names values)) (run_script names (k + 1) (run_of at) next))
 
 pub answer_comes : {Stands Later : State → Type 0} {count : ℕ} {names : List (List ℕ × ℕ)} {values : List Tree} {old mid : Place} {script : Script} {next : World → Script}
     → (later : ℕ) (p : RunPlace Stands count names old mid script next) → Comes p.at (Answered values) Later → later ≡ min (count + 1) 18446744073709551615
@@ -144,32 +146,39 @@ answer_comes {names = names} {old = old} {mid = mid} {script = script} {next = n
   advances = subst (λ z. Advances old mid script z) (ap (λ z. run_script names (p.done + 1) z next) (comes_run c)) p.advances;
 }
 
-abbrev answer_by : List ℕ → List (List ℕ × ℕ) → List Tree → List ℕ
-answer_by number names values = codes "answer " ++ (number ++ (codes ":" ++ solution_text names values))
+abbrev answer_by : List Operator → List ℕ → List (List ℕ × ℕ) → List Tree → List ℕ
+answer_by table number names values = codes "answer " ++ (number ++ (codes ":" ++ solution_text table names values))
 
-answer_same : (count k : ℕ) (names : List (List ℕ × ℕ)) (values : List Tree) → IsCount count k → answer_line count names values ≡ answer_line k names values
-answer_same count k names values counts = ap (λ z. answer_by z names values) (counted_same count k counts)
+answer_same : (table operators : List Operator) (count k : ℕ) (names : List (List ℕ × ℕ)) (values : List Tree) → table ≡ operators → IsCount count k
+    → answer_line table count names values ≡ answer_line operators k names values
+answer_same table operators count k names values same counts = ap₂ (λ o z. answer_by o z names values) same (counted_same count k counts)
 
 module _ {Later : State → Type 0} {count : ℕ} {names : List (List ℕ × ℕ)} {values : List Tree} {old mid : Place} {script : Script} {next : World → Script} where
   abbrev rest_of : AnswerTurn Later count names values old mid script next → Script
   rest_of t = run_script names (t.k + 1) (run_of t.at) next
 
+  abbrev line_of : AnswerTurn Later count names values old mid script next → List ℕ
+  line_of t = answer_line t.at.world.operators t.k names values
+
+  line_same : (t : AnswerTurn Later count names values old mid script next) (table : List Operator) → table ≡ t.at.world.operators → answer_line table count names values ≡ line_of t
+  line_same t table same = answer_same table t.at.world.operators count t.k names values same t.counts
+
   -- what writing the answer does
   abbrev pub AnswerDoes : Phase → Place → AnswerTurn Later count names values old mid script next → Result Flow Fault → Type 0
-  AnswerDoes now new t r = Does Later now mid new (Shows (Line (answer_line t.k names values)) (rest_of t)) (λ _. rest_of t) r
+  AnswerDoes now new t r = Does Later now mid new (Shows (Line (line_of t)) (rest_of t)) (λ _. rest_of t) r
 
-  pub answer_put : (now : Phase) (new : Place) (r : Result Flow Fault) (t : AnswerTurn Later count names values old mid script next)
-      → now ≡ Ready → PutsLine (answer_line count names values) flow.On mid new r → AnswerDoes now new t r
-  answer_put now new r t ready puts =
-      let line = subst (λ z. PutsLine z flow.On mid new r) (answer_same count t.k names values t.counts) puts in
-      puts_on Later now mid new (answer_line t.k names values) t.at (λ _. rest_of t) r line t.stands ready
+  pub answer_put : (now : Phase) (new : Place) (r : Result Flow Fault) (t : AnswerTurn Later count names values old mid script next) (table : List Operator)
+      → table ≡ t.at.world.operators → now ≡ Ready → PutsLine (answer_line table count names values) flow.On mid new r → AnswerDoes now new t r
+  answer_put now new r t table same ready puts =
+      let line = subst (λ z. PutsLine z flow.On mid new r) (line_same t table same) puts in
+      puts_on Later now mid new (line_of t) t.at (λ _. rest_of t) r line t.stands ready
 
-  pub answer_breaks : (now : Phase) (new : Place) (r : Result Flow Fault) (t : AnswerTurn Later count names values old mid script next)
-      → IsErr r → Begins mid.0 new.0 (piece_bytes mid.1 (Line (answer_line count names values))) → Does Later now old new script next r
-  answer_breaks now new r t failed b =
-      let line = subst (λ z. Begins mid.0 new.0 (piece_bytes mid.1 (Line z))) (answer_same count t.k names values t.counts) b in
-      breaks_after Later now old mid new script (Shows (Line (answer_line t.k names values)) (rest_of t)) next r t.advances failed
-      (begins_before mid.0 new.0 (piece_bytes mid.1 (Line (answer_line t.k names values))) (script_bytes false (rest_of t)) line)
+  pub answer_breaks : (now : Phase) (new : Place) (r : Result Flow Fault) (t : AnswerTurn Later count names values old mid script next) (table : List Operator)
+      → table ≡ t.at.world.operators → IsErr r → Begins mid.0 new.0 (piece_bytes mid.1 (Line (answer_line table count names values))) → Does Later now old new script next r
+  answer_breaks now new r t table same failed b =
+      let line = subst (λ z. Begins mid.0 new.0 (piece_bytes mid.1 (Line z))) (line_same t table same) b in
+      breaks_after Later now old mid new script (Shows (Line (line_of t)) (rest_of t)) next r t.advances failed
+      (begins_before mid.0 new.0 (piece_bytes mid.1 (Line (line_of t))) (script_bytes false (rest_of t)) line)
 
   pub answer_goes : (now : Phase) (new : Place) (t : AnswerTurn Later count names values old mid script next) → AnswerDoes now new t (Ok flow.On)
       → RunPlace Later count names old new script next

@@ -1,7 +1,6 @@
 -- Terms that are passed over in a text, and the goals of queries, by what a Rust term is.
-use Rattle.std.proofs.Common.{◌≡◌, ℕ, Bool, true, false, List, [], ◌∷◌, length, codes, refl, sym, ap, ◌∙◌, String, Vec, Global, cond}
+use Rattle.std.proofs.Common.{◌≡◌, ℕ, List, [], ◌∷◌, length, refl, sym, ap, ◌∙◌, String, Vec, Global}
 use Rattle.std.specs.String.{string_bytes}
-use Rattle.std.specs.Str.{bytes_eq}
 use Rattle.iso_model.specs.Trees.{Apply}
 use Rattle.iso_model.specs.Errors.{key}
 use Rattle.iso_model.specs.Sessions.{skips, is_skipped, query_goal}

@@ -1,54 +1,75 @@
 -- The equations of an answer, one after the other.
-use Rattle.std.proofs.Common.{◌≡◌, ℕ, ◌+◌, ◌≤◌, ◌<◌, List, [], ◌∷◌, ◌++◌, length, get_or, drop, codes, refl, sym, ap, subst, ◌∙◌, append_assoc, append-nil, String, Global}
+use Rattle.std.proofs.Common.{◌≡◌, ℕ, suc, ◌+◌, ◌≤◌, ◌<◌, List, [], ◌∷◌, ◌++◌, length, map, get_or, drop, drop-cons, add-one, codes, refl, sym, ap, ◌∙◌, append_assoc, append-nil, String, Global, Result, Ok, Err, OnOk, option_map, Option, Some, None, slice_get}
 use Rattle.std.proofs.lemmas.List.{drop_all}
+use Rattle.std.proofs.lemmas.Option.{slice_get-map, slice_get_read, slice_get_past}
+use Rattle.std.specs.Prelude.{unwrap_or}
 use Rattle.std.specs.String.{string_bytes}
-use Rattle.iso_model.specs.Trees.{Tree, row}
-use Rattle.iso_model.specs.Variables.{distinct_from, variables}
-use Rattle.iso_model.specs.Texts.{text_in}
-use Rattle.iso_model.specs.Lines.{value_at, named_values, equations, solution_text}
+use Rattle.iso_model.specs.declared.terms.Term.{Term}
+use Rattle.iso_model.specs.declared.terms.Term.TheOpen as layer
+use Rattle.iso_model.specs.declared.terms.Term.TheVariants.{Atom, rolls-Atom}
+use Rattle.iso_model.specs.declared.terms.Term.TheFolds.{fold-roll-Term}
+use Rattle.iso_ops.specs.Operators.{Operator}
+use Rattle.iso_model.specs.Trees.{Tree, Name}
+use Rattle.iso_model.specs.Terms.{term_of, term_step}
+use Rattle.iso_model.specs.Variables.{distinct_from}
+use Rattle.iso_model.specs.Lines.{text_in, value_at, equations, solution_text}
 use Rattle.iso_session.specs.Named.{names_of}
-use Rattle.iso_session.specs.Places.{Extends}
-use Rattle.iso_session.proofs.TextLemmas.{drop_item, extends_all}
 
 abbrev pub Named : Type 0
 Named = String Global × ℕ
 
--- the variables behind those of the values from this name on
-abbrev pub seen_from : List ℕ → ℕ → List Named → List Tree → List ℕ
-seen_from seen i names values = distinct_from seen (row (named_values (names_of (drop i names)) values))
+by_found : (values : List Term) (n : ℕ) (o : Option Term) → slice_get values n ≡ o → value_at (map term_of values) n ≡ unwrap_or (option_map term_of o) (Name [])
+by_found values n o h = ap (λ x. unwrap_or x (Name [])) (slice_get-map term_of values n ∙ ap (option_map term_of) h)
+
+-- the value of a variable that has one
+pub value_found : (values : List Term) (n : ℕ) (v : Term) → n < length values → v ≡ get_or values n v → value_at (map term_of values) n ≡ term_of v
+value_found values n v low e = by_found values n (Some v) (slice_get_read values (length values) n v refl low e)
+
+term_of_atom : (a : String Global) → term_of (Atom a) ≡ Name (string_bytes a)
+term_of_atom a = ap term_of (sym (rolls-Atom a)) ∙ fold-roll-Term Tree term_step (layer.Term-F.Atom a)
+
+-- what stands for the value of any other
+pub value_missing : (values : List Term) (n : ℕ) (a : String Global) → length values ≤ n → string_bytes a ≡ [] → value_at (map term_of values) n ≡ term_of (Atom a)
+value_missing values n a past none = by_found values n None (slice_get_past values n past) ∙ sym (term_of_atom a ∙ ap Name none)
+
+on_ok : {T E P Q : Type 0} (r : Result T E) → OnOk r P → (P → Q) → OnOk r Q
+on_ok (Ok x) p f = f p
+on_ok (Err e) p f = tt
+
+-- the variables behind those of the value
+pub value_seen : {T E : Type 0} (r : Result T E) (seen later : List ℕ) (t v : Tree) → v ≡ t → OnOk r (later ≡ distinct_from seen t) → OnOk r (later ≡ distinct_from seen v)
+value_seen r seen later t v same text = on_ok r text (λ e. e ∙ ap (distinct_from seen) (sym same))
+
+equation_by : (a name equals text b c d : List ℕ) → b ≡ a ++ name → c ≡ b ++ equals → d ≡ c ++ text → d ≡ a ++ (name ++ (equals ++ text))
+equation_by a name equals text b c d h k e = rw (e, k, h) (simp append_assoc)
+
+-- an equation was appended, part by part
+pub equation_text : {T E : Type 0} (r : Result T E) (table : List Operator) (seen a name b c d : List ℕ) (t v : Tree) → v ≡ t → b ≡ a ++ name → c ≡ b ++ codes " = "
+    → OnOk r (d ≡ c ++ text_in table seen t) → OnOk r (d ≡ a ++ (name ++ (codes " = " ++ text_in table seen v)))
+equation_text r table seen a name b c d t v same h k text =
+    on_ok r text (λ e. equation_by a name (codes " = ") (text_in table seen v) b c d h k (e ∙ ap (λ x. c ++ text_in table seen x) (sym same)))
+
+drop_item : {X : Type 0} (xs : List X) (i : ℕ) (x : X) → i < length xs → x ≡ get_or xs i x → drop i xs ≡ x ∷ drop (i + 1) xs
+drop_item xs i x low e = rw add-one (drop-cons xs i x low ∙ ap (λ y. y ∷ drop (suc i) xs) (sym e))
 
 regrouped : (a b c d e f : List ℕ) → ((a ++ b) ++ (c ++ (d ++ e))) ++ f ≡ a ++ (b ++ (c ++ (d ++ (e ++ f))))
 regrouped a b c d e f = simp append_assoc
 
 -- one more equation was appended
-pub equation_appended : (all before : List ℕ) (i : ℕ) (names : List Named) (x : Named) (values : List Tree) (a b c total : List ℕ) → i < length names → x ≡ get_or names i x
-    → a ++ equations before all (names_of (drop i names)) values ≡ total → b ≡ a ++ before → c ≡ b ++ (string_bytes x.0 ++ (codes " = " ++ text_in all (value_at values x.1)))
-    → c ++ equations (codes ", ") all (names_of (drop (i + 1) names)) values ≡ total
-equation_appended all before i names x values a b c total low e h p q =
-    let left = equations (codes ", ") all (names_of (drop (i + 1) names)) values in
+pub equation_appended : (table : List Operator) (before seen later : List ℕ) (i : ℕ) (names : List Named) (x : Named) (values : List Tree) (a b c total : List ℕ) → i < length names → x ≡ get_or names i x
+    → a ++ equations table before seen (names_of (drop i names)) values ≡ total → b ≡ a ++ before → c ≡ b ++ (string_bytes x.0 ++ (codes " = " ++ text_in table seen (value_at values x.1)))
+    → later ≡ distinct_from seen (value_at values x.1) → c ++ equations table (codes ", ") later (names_of (drop (i + 1) names)) values ≡ total
+equation_appended table before seen later i names x values a b c total low e h p q s =
+    let others = distinct_from seen (value_at values x.1) in
+    let left = equations table (codes ", ") others (names_of (drop (i + 1) names)) values in
     let now = rw (drop_item names i x low e) at h in
-    let written = string_bytes x.0 ++ (codes " = " ++ text_in all (value_at values x.1)) in
-    ap (λ z. z ++ left) (q ∙ ap (λ z. z ++ written) p) ∙ regrouped a before (string_bytes x.0) (codes " = ") (text_in all (value_at values x.1)) left ∙ now
-
-pub value_seen : (i : ℕ) (names : List Named) (x : Named) (values : List Tree) (seen later total : List ℕ) → i < length names → x ≡ get_or names i x
-    → seen_from seen i names values ≡ total → later ≡ distinct_from seen (value_at values x.1) → seen_from later (i + 1) names values ≡ total
-value_seen i names x values seen later total low e h s = rw s (rw (drop_item names i x low e) at h)
-
-pub extends_value : (all seen later : List ℕ) (i : ℕ) (names : List Named) (x : Named) (values : List Tree) → i < length names → x ≡ get_or names i x
-    → later ≡ distinct_from seen (value_at values x.1) → Extends all (seen_from later (i + 1) names values) → Extends all (seen_from seen i names values)
-extends_value all seen later i names x values low e s h =
-    rw (drop_item names i x low e) (subst (λ z. Extends all (distinct_from z (row (named_values (names_of (drop (i + 1) names)) values)))) s h)
-
-seen_end : (seen : List ℕ) (i : ℕ) (names : List Named) (values : List Tree) → length names ≤ i → seen_from seen i names values ≡ seen
-seen_end seen i names values low = rw (drop_all i names low) refl
+    let text = text_in table seen (value_at values x.1) in
+    let written = string_bytes x.0 ++ (codes " = " ++ text) in
+    rw s (ap (λ z. z ++ left) (q ∙ ap (λ z. z ++ written) p) ∙ regrouped a before (string_bytes x.0) (codes " = ") text left ∙ now)
 
 -- all equations were appended
-pub solution_appended : (before seen : List ℕ) (i : ℕ) (names : List Named) (values : List Tree) (a start : List ℕ) → length names ≤ i → (length names ≡ 0 → ⊥)
-    → seen_from seen i names values ≡ variables (row (named_values (names_of names) values))
-    → ((all : List ℕ) → Extends all (seen_from seen i names values) → a ++ equations before all (names_of (drop i names)) values ≡ start ++ equations (codes " ") all (names_of names) values)
-    → a ≡ start ++ solution_text (names_of names) values
-solution_appended before seen i [] values a start low some s h = absurd (some refl)
-solution_appended before seen i (n ∷ names) values a start low some s h =
-    let all = variables (row (named_values (names_of (n ∷ names)) values)) in
-    let whole = h all (rw s (extends_all all)) in
-    sym (append-nil a) ∙ (rw (drop_all i (n ∷ names) low) at whole)
+pub solution_appended : (table : List Operator) (before seen : List ℕ) (i : ℕ) (names : List Named) (values : List Tree) (a start : List ℕ) → length names ≤ i → (length names ≡ 0 → ⊥)
+    → a ++ equations table before seen (names_of (drop i names)) values ≡ start ++ equations table (codes " ") [] (names_of names) values
+    → a ≡ start ++ solution_text table (names_of names) values
+solution_appended table before seen i [] values a start low some h = absurd (some refl)
+solution_appended table before seen i (n ∷ names) values a start low some h = sym (append-nil a) ∙ (rw (drop_all i (n ∷ names) low) at h)

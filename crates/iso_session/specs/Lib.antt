@@ -1,4 +1,3 @@
-pub mod Places
 pub mod Named
 pub mod Read
 pub mod Progress

@@ -1,6 +1,7 @@
 -- How far a part of a session comes in its script.
 use Rattle.std.specs.Prelude.{◌≡◌, ℕ, min, Bool, List, [], ◌∷◌, Option, Result, Ok, Err, ◌⊎◌, false, codes}
 use Rattle.std.specs.Io.KnownBytes.{Appends}
+use Rattle.iso_ops.specs.Operators.{Operator}
 use Rattle.iso_model.specs.Engines.{Phase, Ready}
 use Rattle.iso_model.specs.Walker.{World, State}
 use Rattle.iso_model.specs.Sessions.{Piece, Line, Script, Closes, Done, Halts, prepend, piece_bytes, within_behind, pieces_bytes, script_bytes}
@@ -93,13 +94,13 @@ closing_bytes within other = []
 abbrev pub IsCount : ℕ → ℕ → Type 0
 IsCount count k = count ≡ min k 18446744073709551615
 
--- What a pause that ends its query comes to: a line, or a limit. Answers and outputs end no query, and a query that runs is not spent.
-abbrev pub EndsQuery : Pause → Place → Place → Result Flow Fault → Type 0
-EndsQuery pause.NoMore old new r = PutsLine (codes "end: no more") flow.On old new r
-EndsQuery pause.Budget old new r = PutsLine (codes "end: budget") flow.On old new r
-EndsQuery (pause.Uncaught ball) old new r = PutsLine (error_line (term_of ball.term)) flow.On old new r
-EndsQuery (pause.Halt status) old new r = PutsLine (halt_line status) (flow.Halts status) old new r
-EndsQuery pause.HeapFull old new r = (r ≡ Ok (flow.Stops limit.Heap)) × (new ≡ old)
-EndsQuery pause.FramesFull old new r = (r ≡ Ok (flow.Stops limit.Frames)) × (new ≡ old)
-EndsQuery pause.NoMemory old new r = (r ≡ Ok (flow.Stops limit.Memory)) × (new ≡ old)
-EndsQuery other old new r = Unit {0}
+-- What a pause that ends its query, where these are the operators then, comes to: a line, or a limit. Answers and outputs end no query, and a query that runs is not spent.
+abbrev pub EndsQuery : List Operator → Pause → Place → Place → Result Flow Fault → Type 0
+EndsQuery table pause.NoMore old new r = PutsLine (codes "end: no more") flow.On old new r
+EndsQuery table pause.Budget old new r = PutsLine (codes "end: budget") flow.On old new r
+EndsQuery table (pause.Uncaught ball) old new r = PutsLine (error_line table (term_of ball.term)) flow.On old new r
+EndsQuery table (pause.Halt status) old new r = PutsLine (halt_line status) (flow.Halts status) old new r
+EndsQuery table pause.HeapFull old new r = (r ≡ Ok (flow.Stops limit.Heap)) × (new ≡ old)
+EndsQuery table pause.FramesFull old new r = (r ≡ Ok (flow.Stops limit.Frames)) × (new ≡ old)
+EndsQuery table pause.NoMemory old new r = (r ≡ Ok (flow.Stops limit.Memory)) × (new ≡ old)
+EndsQuery table other old new r = Unit {0}

@@ -41,7 +41,7 @@ fn consult_term<E: Engine, W: Write>(
         Ok(()) => Ok(Flow::On),
         Err(AddFault::NoMemory) => Ok(Flow::Stops(Limit::Memory)),
         Err(AddFault::Refused(ball)) => {
-            let line = composed::refused_line(alloc, count, &ball.term);
+            let line = composed::refused_line(alloc, engine.ops(), count, &ball.term);
             put_line(out, within_line, line, Flow::On)
         }
     }

@@ -8,14 +8,11 @@ mod consulting;
 mod files;
 mod flows;
 mod items;
-mod names;
-mod places;
 mod plain_sessions;
 mod queries;
 mod sessions;
 mod statuses;
 mod terms;
-mod texts;
 pub mod words;
 mod written;
 

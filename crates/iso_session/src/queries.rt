@@ -21,26 +21,28 @@ use super::statuses::Fault;
 use super::terms::goal_of;
 use super::written::write_output;
 use iso_model::{Engine, Pause, StartFault};
+use iso_ops::OpTable;
 use iso_read::Read;
 use iso_token::Tokens;
 use std::alloc::Global;
 use std::io::Write;
 
-/// Writes what a pause ends its query with, and says how the session goes on. Answers and outputs end no query, and a
-/// query that runs is not spent.
+/// Writes what a pause ends its query with, and says how the session goes on; these are the operators then. Answers and
+/// outputs end no query, and a query that runs is not spent.
 fn end_query<W: Write>(
     alloc: Global,
+    ops: &OpTable,
     pause: Pause,
     out: &mut W,
     within_line: &mut bool,
 ) -> Result<Flow, Fault>
-    ensures { EndsQuery pause (W.contents out.old, within_line.old) (W.contents out.new, within_line.new) result }
+    ensures { EndsQuery ops.now pause (W.contents out.old, within_line.old) (W.contents out.new, within_line.new) result }
 {
     match pause {
         Pause::NoMore => put_fixed(out, within_line, b"end: no more\n", Flow::On),
         Pause::Budget => put_fixed(out, within_line, b"end: budget\n", Flow::On),
         Pause::Uncaught(ball) => {
-            let line = composed::error_line(alloc, &ball.term);
+            let line = composed::error_line(alloc, ops, &ball.term);
             put_line(out, within_line, line, Flow::On)
         }
         Pause::Halt(status) => {
@@ -75,13 +77,14 @@ fn run_pauses<E: Engine, W: Write>(
             Pause::Output(bytes) => write_output(out, within_line, bytes.as_slice())?,
             Pause::Answer(values) => {
                 count = count.saturating_add(1);
-                let line = composed::answer_line(alloc, count, names, values.as_slice());
+                let ops = engine.ops();
+                let line = composed::answer_line(alloc, ops, count, names, values.as_slice());
                 match put_line(out, within_line, line, Flow::On)? {
                     Flow::On => {}
                     flow => return Ok(flow),
                 }
             }
-            pause => return end_query(alloc, pause, out, within_line),
+            pause => return end_query(alloc, engine.ops(), pause, out, within_line),
         }
     }
 }

@@ -1,8 +1,7 @@
 //! Terms as text, in three styles (ISO/IEC 13211-1:1995, 7.10.5 and 8.14.2; layout and brackets are own).
 #![tactic(auto)]
 
-ghost use Rattle.std.specs.Prelude.{◌≡◌, ◌++◌, take, length, true, OnOk, OnErr};
-ghost use Rattle.iso_model.specs.Trees.{arities_fit};
+ghost use Rattle.std.specs.Prelude.{◌≡◌, ◌++◌, take, length, OnOk, OnErr};
 ghost use Rattle.iso_model.specs.Terms.{term_of};
 ghost use Rattle.iso_model.specs.Variables.{distinct_from};
 ghost use Rattle.iso_model.specs.Pieces.{text_at};
@@ -39,7 +38,6 @@ pub fn write_to(
     ops: &OpTable,
     seen: &mut Vec<u64>,
 ) -> Result<(), NoMemory>
-    requires { arities_fit (term_of term.now) ≡ true }
     ensures seen { OnOk result (seen.new.items ≡ distinct_from seen.old.items (term_of term.now)) }
     ensures text { OnOk result (out.new.items ≡ out.old.items ++ text_at (style_of style) ops.now (distinct_from seen.old.items (term_of term.now)) priority (term_of term.now)) }
     ensures refused { OnErr result ((out.new.items ≡ out.old.items) × (seen.new.items ≡ seen.old.items)) }

@@ -226,7 +226,8 @@ pub(crate) fn push_tail<'t>(
     if is_nil(form) {
         return push_all(todo, &[Task::Mark("]")]);
     }
-    push_all(todo, &[Task::Mark("]"), Task::Bare(tail), Task::Mark("|")])
+    let tail = Task::Placed(tail, Place::Whole(999));
+    push_all(todo, &[Task::Mark("]"), tail, Task::Mark("|")])
 }
 
 /// Puts further arguments before the other tasks.

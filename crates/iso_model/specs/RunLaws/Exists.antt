@@ -9,7 +9,7 @@ HasRun s = (r : Trace) × Run s r
 
 after_step : (s : State) (o : Outcome) (n w : ℕ) → step s ≡ o → Progress n w o → ((t : State) → Smaller n w t → HasRun t) → HasRun s
 after_step s (Goes t) n w is less on = let r = on t less in (r.0, goes is r.1)
-after_step s (Gives e t) n w is less on = let r = on t less in (Then e r.0, gives is r.1)
+after_step s (Gives e t) n w is less on = let r = on t less in (Then e t.world r.0, gives is r.1)
 after_step s (Ends e world) n w is less on = (Stops e world, ends is)
 
 module _ (n : ℕ) (fewer : (t : State) → t.steps < n → HasRun t) where

@@ -1,5 +1,5 @@
 -- A state has at most one run, so the one that it has can be named.
-use Rattle.std.proofs.Common.{◌≡◌, sym, ap₂, ◌∙◌, subst}
+use Rattle.std.proofs.Common.{◌≡◌, sym, ap, ap₂, ◌∙◌, subst}
 use Rattle.iso_model.specs.Walker.{State, Goes, Gives, Ends}
 use Rattle.iso_model.specs.Runs.{Trace, Then, Stops, Run, goes, gives, ends}
 use Rattle.iso_model.specs.RunLaws.Exists.{has_run}
@@ -17,7 +17,9 @@ one_run (gives {t = t} {e = e} a r) (gives {t = u} {e = f} {r = q} b k) =
     let both : Gives f u ≡ Gives e t = sym b ∙ a in
     let same : u ≡ t = cc in
     let event : e ≡ f = cc in
-    ap₂ Then event (one_run r (subst (λ x. Run x q) same k))
+    let behind = one_run r (subst (λ x. Run x q) same k) in
+    let world = ap (λ x. x.world) (sym same) in
+    λ i. Then (event i) (world i) (behind i)
 one_run (gives {t = t} {e = e} a r) (ends {e = f} {w = v} b) = let both : Gives e t ≡ Ends f v = sym a ∙ b in cc
 one_run (ends {e = e} {w = w} a) (goes {t = u} b k) = let both : Ends e w ≡ Goes u = sym a ∙ b in cc
 one_run (ends {e = e} {w = w} a) (gives {t = u} {e = f} b k) = let both : Ends e w ≡ Gives f u = sym a ∙ b in cc

@@ -8,7 +8,7 @@ use Rattle.iso_model.specs.RunLaws.Named.{run_of, run_of_is, run_of_only}
 pub goes_run : (s : State) {t : State} → step s ≡ Goes t → run_of s ≡ run_of t
 goes_run s {t} h = run_of_only (goes h (run_of_is t))
 
-pub gives_run : (s : State) {t : State} {e : Event} → step s ≡ Gives e t → run_of s ≡ Then e (run_of t)
+pub gives_run : (s : State) {t : State} {e : Event} → step s ≡ Gives e t → run_of s ≡ Then e t.world (run_of t)
 gives_run s {t} h = run_of_only (gives h (run_of_is t))
 
 pub ends_run : (s : State) {e : Ending} {w : World} → step s ≡ Ends e w → run_of s ≡ Stops e w
@@ -26,7 +26,7 @@ pub quiet_run : {s t : State} → Quiet s t → run_of s ≡ run_of t
 quiet_run here = refl
 quiet_run (onward q h) = quiet_run q ∙ goes_run _ h
 
-pub comes_run : {s : State} {e : Event} {P : State → Type 0} → (c : Comes s e P) → run_of s ≡ Then e (run_of c.new)
+pub comes_run : {s : State} {e : Event} {P : State → Type 0} → (c : Comes s e P) → run_of s ≡ Then e c.new.world (run_of c.new)
 comes_run c = quiet_run c.quiet ∙ gives_run c.at c.last
 
 pub finishes_run : {s : State} {e : Ending} {P : State → Type 0} → (f : Finishes s e P) → run_of s ≡ Stops e f.world
@@ -47,7 +47,7 @@ reaches_behind q r = record { at = r.at; quiet = quiet_trans q r.quiet; holds = 
 
 -- how many events there are
 abbrev pub trace_length : Trace → ℕ
-trace_length (Then e r) = suc (trace_length r)
+trace_length (Then e w r) = suc (trace_length r)
 trace_length (Stops e w) = 0
 
 -- fewer events are left behind an event

@@ -138,6 +138,14 @@ after_give (both_give {t = t} a) = (t, refl, a)
 after_end : {e : Ending} {w : World} {o : Outcome} → AlikeOut (Ends e w) o → o ≡ Ends e w
 after_end both_end = refl
 
+-- a run that begins with an event, from a state that differs from the one behind it in what was built
+gives_alike : {s t u : State} {e : Event} {r : Trace} → step s ≡ Gives e u → Alike t u → runs.Run u r → runs.Run s (runs.Then e t.world r)
+gives_alike h (alike a) r = gives h r
+
+gives_steps : (s : State) {t u : State} {e : Event} {r : Trace} → (h : step s ≡ Gives e u) → (a : Alike t u) → (run : runs.Run u r) → run_steps (gives_alike h a run) ≡ suc (run_steps run)
+unfolding gives_alike
+gives_steps s h (alike a) r = refl
+
 -- the run of the one is a run of the other
 run_alike : {s t : State} {r : Trace} → runs.Run s r → Alike s t → runs.Run t r
 run_alike {t = t} (goes h r) a =
@@ -145,7 +153,7 @@ run_alike {t = t} (goes h r) a =
     goes k.1 (run_alike r k.2)
 run_alike {t = t} (gives h r) a =
     let k = after_give (subst (λ o. AlikeOut o (step t)) h (step_alike a)) in
-    gives k.1 (run_alike r k.2)
+    gives_alike k.1 k.2 (run_alike r k.2)
 run_alike {t = t} (ends h) a = ends (after_end (subst (λ o. AlikeOut o (step t)) h (step_alike a)))
 
 pub same_run : {s t : State} → Alike s t → run_of s ≡ run_of t
@@ -154,7 +162,9 @@ same_run {s} {t} a = sym (run_of_only (run_alike (run_of_is s) a))
 steps_alike : {s t : State} {r : Trace} → (run : runs.Run s r) → (a : Alike s t) → run_steps (run_alike run a) ≡ run_steps run
 unfolding run_alike
 steps_alike {t = t} (goes h r) a = ap suc (steps_alike r (after_go (subst (λ o. AlikeOut o (step t)) h (step_alike a))).2)
-steps_alike {t = t} (gives h r) a = ap suc (steps_alike r (after_give (subst (λ o. AlikeOut o (step t)) h (step_alike a))).2)
+steps_alike {t = t} (gives h r) a =
+    let k = after_give (subst (λ o. AlikeOut o (step t)) h (step_alike a)) in
+    gives_steps t k.1 k.2 (run_alike r k.2) ∙ ap suc (steps_alike r k.2)
 steps_alike (ends h) a = refl
 
 pub same_moves : {s t : State} → Alike s t → moves s ≡ moves t

@@ -11,6 +11,6 @@ returns-in-Err-NoMemory g c = λ s stands k counts next. stops_here _ _ _ _ c.co
 pub returns-in-Err-Refused : goal.returns-in-Err-Refused
 returns-in-Err-Refused g c = λ s stands k counts next.
     let consults = rw c.in-Err-Refused.field-0-is at (c.in-Err-Refused.ensures.consults s stands) in
-    refused _ _ _ _ c.args.count k (addition (term_of c.args.term.now) s.world.database) s c.in-Err-Refused.ball next c.put_line.result
+    refused _ c.ops.result.now c.ops.ensures _ _ _ c.args.count k (addition (term_of c.args.term.now) s.world.database) s c.in-Err-Refused.ball next c.put_line.result
     consults c.consult.ensures.ready counts
-    (c.put_line.ensures (refused_line c.args.count (term_of c.in-Err-Refused.ball.term)) c.refused_line-line.ensures)
+    (c.put_line.ensures (refused_line c.ops.result.now c.args.count (term_of c.in-Err-Refused.ball.term)) c.refused_line-line.ensures)

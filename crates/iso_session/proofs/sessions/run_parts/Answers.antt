@@ -1,4 +1,3 @@
-use Rattle.std.proofs.Common.{[]}
 use Rattle.iso_model.specs.Sessions.{Closes, Done, whole_queries}
 use Rattle.iso_model.specs.Tokens.{tokens}
 use Rattle.iso_model.specs.Walker.{idle, first_world}

@@ -1,0 +1,5 @@
+use Rattle.iso_model.proofs.WorkedWriting.{canonical_written}
+use Rattle.iso_model.proofs.worked_terms.canonical_texts.Goals as goal
+
+pub returns : goal.returns
+returns c = canonical_written
