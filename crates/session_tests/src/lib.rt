@@ -13,6 +13,10 @@ mod rows;
 #[cfg(test)]
 mod sessions;
 #[cfg(test)]
+mod term_texts;
+#[cfg(test)]
 mod words;
 #[cfg(test)]
 mod writers;
+#[cfg(test)]
+mod written_terms;
