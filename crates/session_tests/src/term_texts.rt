@@ -1,11 +1,11 @@
 //! Terms in functional notation, and how each is written as `writeq` does (8.14.2; layout and brackets are own): a text
 //! worked out from the rules, under the operators that are named. A variable `_k` is the k-th of its term.
 
-/// Operators that are set, each with its priority, specifier and name.
-pub type Operators = [(i64, &'static str, &'static str)];
+/// An operator that is set, as its priority, specifier and name.
+pub type Setting = (i64, &'static str, &'static str);
 
 /// Operators of letters, of each specifier.
-pub const WORDS_SET: &Operators = &[
+pub const WORDS_SET: &[Setting] = &[
     (700, "xfx", "eq"),
     (600, "xfy", "to"),
     (500, "yfx", "plus"),
@@ -16,7 +16,7 @@ pub const WORDS_SET: &Operators = &[
 ];
 
 /// Operators of graphic characters, of each specifier.
-pub const SIGNS_SET: &Operators = &[
+pub const SIGNS_SET: &[Setting] = &[
     (700, "xfx", "==>"),
     (650, "xfy", "::"),
     (450, "yfx", "<+>"),
@@ -27,7 +27,7 @@ pub const SIGNS_SET: &Operators = &[
 ];
 
 /// Operators of each specifier whose names are quoted.
-pub const QUOTED_SET: &Operators = &[
+pub const QUOTED_SET: &[Setting] = &[
     (700, "xfx", "is a"),
     (600, "xfy", "To"),
     (500, "yfx", ""),
@@ -38,7 +38,7 @@ pub const QUOTED_SET: &Operators = &[
 ];
 
 /// Operators that are taken away.
-pub const BARE_SET: &Operators = &[
+pub const BARE_SET: &[Setting] = &[
     (0, "fy", "-"),
     (0, "yfx", "-"),
     (0, "yfx", "*"),

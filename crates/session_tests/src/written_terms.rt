@@ -1,8 +1,8 @@
 //! Terms against their texts, under several tables of operators: each is written as its text, and its text is read again as
 //! the term.
 use super::term_texts::{
-    BARE_SET, BRACES, INFIX, NAMES, NUMBERS, OWN_QUOTED, OWN_SIGNS, OWN_WORDS, Operators, PREFIX,
-    QUOTED_SET, SIGNS_SET, WITHOUT, WORDS_SET,
+    BARE_SET, BRACES, INFIX, NAMES, NUMBERS, OWN_QUOTED, OWN_SIGNS, OWN_WORDS, PREFIX, QUOTED_SET,
+    SIGNS_SET, Setting, WITHOUT, WORDS_SET,
 };
 use iso_model::Term;
 use iso_ops::{Flags, OpFault, OpTable};
@@ -14,7 +14,7 @@ use std::process::Abort;
 use std::test::Fail;
 
 /// Sets the operators.
-fn set_all(ops: &mut OpTable, operators: &Operators) -> Result<(), OpFault> {
+fn set_all(ops: &mut OpTable, operators: &[Setting]) -> Result<(), OpFault> {
     for (priority, spec, name) in operators {
         ops.add_op(*priority, spec, name)?;
     }
@@ -64,7 +64,7 @@ fn check_row(
 fn check_all(
     rt: &impl Abort,
     alloc: Global,
-    operators: &Operators,
+    operators: &[Setting],
     rows: &[(&str, &str)],
 ) -> Result<(), Fail> {
     let mut ops = OpTable::initial(alloc)?;
