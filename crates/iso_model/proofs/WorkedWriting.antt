@@ -14,7 +14,7 @@ brackets_written = (refl, refl, refl, refl, refl, refl, refl)
 
 pub words_written : TextsWithWords
 unfolding initial_entries digits
-words_written = (refl, refl, refl, refl, refl)
+words_written = (refl, refl, refl, refl, refl, refl)
 
 pub operator_written : TextsWithAnOperator
 unfolding initial_entries digits

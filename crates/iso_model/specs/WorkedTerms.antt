@@ -36,13 +36,14 @@ TextsWithBrackets =
     × IsText (two (codes "=") (atom (codes "a")) (one (codes "\\+") (atom (codes "b")))) (codes "a=(\\+b)")
     × IsText (one (codes "f") (two (codes ":-") (atom (codes "a")) (atom (codes "b")))) (codes "f((a:-b))")
 
--- Braces, operators that are words, a list, and a clause.
+-- Braces, operators that are words, lists, and a clause.
 abbrev pub TextsWithWords : Type 0
 TextsWithWords =
     IsText (one (codes "{}") (two (codes ",") (atom (codes "a")) (atom (codes "b")))) (codes "{a,b}")
     × IsText (two (codes "is") (atom (codes "a")) (two (codes "rem") (number 1) (number 2))) (codes "a is 1 rem 2")
     × IsText (one (codes "dynamic") (atom (codes "a"))) (codes "dynamic a")
     × IsText (two (codes ".") (atom (codes "a")) (two (codes ".") (atom (codes "B")) (atom (codes "c")))) (codes "[a,'B'|c]")
+    × IsText (two (codes ".") (atom (codes "a")) (two (codes ":-") (atom (codes "b")) (atom (codes "c")))) (codes "[a|(b:-c)]")
     × IsText (two (codes ":-") (atom (codes "a")) (two (codes ";") (two (codes ",") (atom (codes "b")) (atom (codes "c"))) (two (codes "->") (atom (codes "d")) (atom (codes "e"))))) (codes "a:-b,c;d->e")
 
 -- An operator that was added: `neg`, which may take an operand of its own priority, stands in brackets on the left of `+`.
