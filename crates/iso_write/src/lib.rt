@@ -20,7 +20,6 @@ mod written;
 
 use iso_model::{NoMemory, Term};
 use iso_ops::OpTable;
-pub use names::append_name;
 use std::alloc::Global;
 pub use style::Style;
 use variables::note_variables;

@@ -93,7 +93,7 @@ fn append_quoted_byte(alloc: Global, line: &mut Vec<u8>, byte: u8) -> Result<(),
 }
 
 /// Appends an atom, or a compound's name. The error is that memory was refused.
-pub fn append_name(alloc: Global, line: &mut Vec<u8>, text: &str) -> Result<(), AllocError>
+pub(crate) fn append_name(alloc: Global, line: &mut Vec<u8>, text: &str) -> Result<(), AllocError>
     ensures { OnOk result (line.new.items ≡ line.old.items ++ texts.name_text text.now) }
 {
     if is_bare(text) {
