@@ -1,10 +1,10 @@
 //! Calls with ample memory, full stores, and how many nodes are made and looked at. A refused allocation is passed on, so that
-//! a test that meets one ends in that error. This refuses the first allocation of each test, and so on with 2, 3 up to 38:
+//! a test that meets one ends in that error. This refuses the first allocation of each test, and so on with 2, 3 up to 41:
 //!
 //!     ulimit -s unlimited; rt try --test --fail-alloc 1
 //!
 //! Each test then passes or fails with the text `error: AllocError`, `error: AllocFailed { .. }` or `error: NoMemory`, and none
-//! fails in an assertion. At 38 all pass but the three of long lists: the others make 37 allocations at most. The lists of 10 000
+//! fails in an assertion. At 41 all pass but the three of long lists: the others make 40 allocations at most. The lists of 10 000
 //! elements need the deep stack under `rt try`.
 ghost use Rattle.std.specs.Prelude.{◌≡◌, true};
 
