@@ -2,7 +2,7 @@
 //! the term.
 use super::term_texts::{
     BARE_SET, BRACES, INFIX, NAMES, NUMBERS, OWN_QUOTED, OWN_SIGNS, OWN_WORDS, PREFIX, QUOTED_SET,
-    SIGNS_SET, Setting, WITHOUT, WORDS_SET,
+    SHOWN, SIGNS_SET, Setting, UNQUOTED, WITHOUT, WORDS_SET,
 };
 use iso_model::Term;
 use iso_ops::{Flags, OpFault, OpTable};
@@ -78,6 +78,7 @@ fn check_all(
 #[test]
 fn terms_have_their_texts(rt: HostRuntime) -> Result<(), Fail> {
     let alloc = rt.alloc();
+    check_all(&rt, alloc, &[], SHOWN)?;
     check_all(&rt, alloc, &[], NAMES)?;
     check_all(&rt, alloc, &[], NUMBERS)?;
     check_all(&rt, alloc, &[], BRACES)?;
@@ -92,4 +93,19 @@ fn texts_go_by_the_operators_that_stand(rt: HostRuntime) -> Result<(), Fail> {
     check_all(&rt, alloc, SIGNS_SET, OWN_SIGNS)?;
     check_all(&rt, alloc, QUOTED_SET, OWN_QUOTED)?;
     check_all(&rt, alloc, BARE_SET, WITHOUT)
+}
+
+#[test]
+fn names_stand_as_they_are_without_quotes(rt: HostRuntime) -> Result<(), Fail> {
+    let alloc = rt.alloc();
+    let ops = OpTable::initial(alloc)?;
+    for (notation, text) in UNQUOTED {
+        let Some(term) = read(alloc, notation, &ops)? else {
+            assert!(rt; false, "{notation} is no term");
+            return Ok(());
+        };
+        let plain = written(alloc, &term, Style::Write, &ops)?;
+        assert_eq!(rt; plain.as_slice(), text.as_bytes(), "{notation}");
+    }
+    Ok(())
 }
