@@ -1,5 +1,5 @@
 //! What unification, copying in and copying out need of a store.
-ghost use Rattle.std.specs.Prelude.{◌≡◌, ℕ, List, Some, slice_get, ◌+◌, ◌<◌, ◌≤◌, ◌^◌, IfOk, OnOk, length, map, true, false};
+ghost use Rattle.std.specs.Prelude.{◌≡◌, ℕ, List, Some, slice_get, ◌+◌, ◌<◌, ◌≤◌, ◌^◌, IfOk, OnOk, OnErr, length, map, true, false};
 ghost use Rattle.std.specs.List.{All};
 ghost use Rattle.iso_atoms.specs.Texts.{EachOnce, KeepsTexts, text_at};
 ghost use Rattle.iso_model.specs.Trees.{Integer, Name, Apply, Variable, row};
@@ -96,6 +96,7 @@ pub(crate) trait Cells {
     fn intern(&mut self, name: &str) -> Result<Atom, NoMemory>
         ensures place { IfOk result (λ atom. slice_get (names self.new) atom ≡ Some name.now) }
         ensures names { KeepsTexts (names self.old) (names self.new) }
+        ensures unchanged { OnErr result (names self.new ≡ names self.old) }
         ensures present { present self.new ≡ present self.old }
         ensures marks { KeepsMarks (stands self.old) (stands self.new) };
 

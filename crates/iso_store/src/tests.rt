@@ -58,8 +58,11 @@ fn unifies_and_takes_back(rt: HostRuntime) -> Result<(), Fail> {
     let both = compound(alloc, "=", vec![in alloc; left, right]?)?;
     assert!(rt; well_formed(&both));
     let equation = store.build(&both)?;
-    let equals = store.intern("=")?;
-    assert_eq!(rt; store.shape(equation), Shape::Compound(equals, 2));
+    let Shape::Compound(name, count) = store.shape(equation) else {
+        panic!(rt; "no compound");
+    };
+    assert_eq!(rt; store.text(name), "=");
+    assert_eq!(rt; count, 2usize);
     let first = store.arg(equation, 0);
     let second = store.arg(equation, 1);
     let before = store.mark();
@@ -140,23 +143,30 @@ fn forgets_and_takes_back(rt: HostRuntime) -> Result<(), Fail> {
     Ok(())
 }
 
-/// Each maker finds the store full where its node would be one too many.
+/// The makers of integers and variables find the store full where the node would be one too many.
 #[test]
 fn is_full_at_its_limit(rt: HostRuntime) -> Result<(), Fail> {
     let alloc = rt.alloc();
     let mut store = Nodes::new(alloc, 0)?;
     assert!(rt; is_full(store.int(7))?);
     let mut store = Nodes::new(alloc, 0)?;
-    let name = store.intern("a")?;
-    assert!(rt; is_full(store.atom(name))?);
-    let mut store = Nodes::new(alloc, 0)?;
     let number = store.reserve(1);
     assert!(rt; is_full(store.variable(number))?);
     let mut store = Nodes::new(alloc, 0)?;
     assert!(rt; is_full(store.fresh())?);
+    Ok(())
+}
+
+/// So do the makers of what has a name; the name itself takes no node.
+#[test]
+fn is_full_at_its_limit_for_names(rt: HostRuntime) -> Result<(), Fail> {
+    let alloc = rt.alloc();
+    let mut store = Nodes::new(alloc, 0)?;
+    let name = store.intern("a")?;
+    assert!(rt; is_full(store.atom(name))?);
     let mut store = Nodes::new(alloc, 1)?;
-    let argument = store.int(7)?;
     let name = store.intern("f")?;
+    let argument = store.int(7)?;
     assert!(rt; is_full(store.compound(name, &[argument]))?);
     Ok(())
 }
@@ -200,8 +210,11 @@ fn looks_at_each_part_once(rt: HostRuntime) -> Result<(), Fail> {
         assert!(rt; well_formed(&both));
         let mut store = Nodes::new(alloc, 50_000)?;
         let equation = store.build(&both)?;
-        let equals = Store::intern(&mut store, "=")?;
-        assert_eq!(rt; Store::shape(&store, equation), Shape::Compound(equals, 2));
+        let Shape::Compound(name, count) = Store::shape(&store, equation) else {
+            panic!(rt; "no compound");
+        };
+        assert_eq!(rt; Store::text(&store, name), "=");
+        assert_eq!(rt; count, 2usize);
         let first = Store::arg(&store, equation, 0);
         let second = Store::arg(&store, equation, 1);
         let mut counting = Counting {
