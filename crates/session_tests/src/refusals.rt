@@ -1,9 +1,9 @@
-//! Sessions of which an allocation is refused. A test can't refuse one itself; this refuses each of the first 140 of each test in turn:
+//! Sessions of which an allocation is refused. A test can't refuse one itself; this refuses each of the first 500 of each test in turn:
 //!
-//!     ulimit -s unlimited; for n in $(seq 140); do rt try --test --fail-alloc $n -- refusals; done
+//!     ulimit -s unlimited; for n in $(seq 500); do rt try --test --fail-alloc $n -- refusals; done
 //!
-//! Every test passes for every number: the writer takes no memory, so what is refused is refused to the session. The session of
-//! the full heap makes some 2,600 allocations, the others 140 at most.
+//! Every test passes for every number: the writer takes no memory, so what is refused is refused to the session. The session that
+//! answers before a full heap makes some 1,900 allocations, the others 500 at most.
 use super::rows::{Row, row_named};
 use iso_session::{Choice, session, status_of};
 use std::alloc::Global;
