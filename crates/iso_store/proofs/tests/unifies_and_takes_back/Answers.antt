@@ -10,10 +10,16 @@ copy_out-requires-2 g c =
     ap (λ p. p.holds c.arg-first.result) back ∙ c.arg-first.ensures.holds
 
 pub arg-second-requires-clause-index : goal.arg-second-requires-clause-index
-arg-second-requires-clause-index g c = let size : 1 < c.in-Compound.count = search rules in let n = c.in-Compound.ensures.shape in rw n.2 (let k = n.3 in omega arith)
+arg-second-requires-clause-index g c =
+    let size : 1 < c.in-Compound.count = search rules in
+    let here = c.in-Compound.ensures.shape in
+    rw here.2 (let whole = here.3 in omega arith)
 
 pub arg-first-requires-clause-index : goal.arg-first-requires-clause-index
-arg-first-requires-clause-index g c = let size : 0 < c.in-Compound.count = search rules in let n = c.in-Compound.ensures.shape in rw n.2 (let k = n.3 in omega arith)
+arg-first-requires-clause-index g c =
+    let size : 0 < c.in-Compound.count = search rules in
+    let here = c.in-Compound.ensures.shape in
+    rw here.2 (let whole = here.3 in omega arith)
 
 pub shape-requires : goal.shape-requires
 shape-requires g c = c.in_ok-equation.ensures.made.holds
