@@ -25,8 +25,8 @@ has_number x (Int z) = false
 has_number x (Atom a) = false
 has_number x (Compound f ws) = false
 
--- What is true of the names of the atoms, the nodes, the trail and the next number of a store. An argument stands before its compound, and a variable
--- is bound to none that is younger, so that neither arguments nor bindings lead back.
+-- What is true of the names that have an atom, the nodes, the trail and the next number of a store. An argument stands before
+-- its compound, and a variable is bound to none that is younger, so that neither arguments nor bindings lead back.
 pub record IsStore (names : List (List ℕ)) (cs : List Node) (es : List ℕ) (next : ℕ) : Type 0 where
   pub arguments : (w : ℕ) (f : _) (ws : _) → slice_get cs w ≡ Some (Compound f ws) → (k : ℕ) → k < length ws.items → slice_index_or ws.items k 0 < w
   pub arity : (w : ℕ) (f : _) (ws : _) → slice_get cs w ≡ Some (Compound f ws) → (0 < length ws.items) × (length ws.items < 256)
@@ -44,7 +44,7 @@ pub record IsStore (names : List (List ℕ)) (cs : List Node) (es : List ℕ) (n
 abbrev pub LeadsBack : List Node → ℕ → Type 0
 LeadsBack cs top = (w n j : ℕ) → slice_get cs w ≡ Some (Var n (Some j)) → w < j → j ≤ top
 
--- the node may come behind these nodes
+-- the node may come behind these nodes, where these names have an atom
 abbrev pub MayPush : List (List ℕ) → List Node → ℕ → Node → Type 0
 MayPush names cs next (Var n b) = (b ≡ None) × (n < next) × (list_any (has_number n) cs ≡ false)
 MayPush names cs next (Int z) = Unit {0}
