@@ -107,14 +107,12 @@ made_by o ps = record {
 abbrev pub is_symbolic : List ℕ → Bool
 is_symbolic name = bytes_eq name (codes ",") || (bytes_eq name (codes ";") || (is_bare name && list_all is_graphic name))
 
--- whether the first of these pieces begins with a bracket, or with a digit
+-- whether the text of these pieces begins with a bracket, or with a digit
 abbrev pub begins_open : List Piece → Bool
-begins_open [] = false
-begins_open (p ∷ ps) = slice_index p.text 0 == 40
+begins_open ps = slice_index (pieces_text ps) 0 == 40
 
 abbrev pub begins_digit : List Piece → Bool
-begins_digit [] = false
-begins_digit (p ∷ ps) = is_digit (slice_index p.text 0)
+begins_digit ps = is_digit (slice_index (pieces_text ps) 0)
 
 -- a name, quoted where the style quotes and it needs it
 abbrev pub name_bytes : Style → List ℕ → List ℕ
