@@ -1,5 +1,5 @@
 -- Written lists are read: a tail's pieces go on with elements, or end the list.
-use Rattle.std.proofs.Common.{◌≡◌, ℕ, ◌+◌, ◌≤◌, true, false, ◌||◌, List, [], ◌∷◌, ◌++◌, codes, refl, ap, subst, append_assoc}
+use Rattle.std.proofs.Common.{◌≡◌, ℕ, ◌+◌, ◌≤◌, true, false, ◌||◌, List, [], ◌∷◌, ◌++◌, codes, refl, ap, subst, append_assoc, arith}
 use Rattle.iso_ops.specs.Operators.{Operator}
 use Rattle.iso_ops.specs.declared.settings.Flags.{Flags}
 use Rattle.iso_model.specs.Trees.{Tree, Name, Apply, row}
@@ -109,7 +109,7 @@ module _ (table : List Operator) (flags : Flags) where
   -- `[a,..]`
   pub list_part : {ps qs : List Piece} {names mid behind : List (List ℕ)} {t u : Tree} → IsPlace table flags 999 ps names mid t → IsTail qs mid behind u → IsPart table flags (piece (codes "[") ∷ (ps ++ qs)) 0 false false names behind (Apply dot (row (t ∷ u ∷ [])))
   list_part {ps} {qs} {names} {mid} {behind} {t} {u} p tail = record {
-    some = tt;
+    some = (refl, omega arith);
     reads = λ b zs ts follows ends tokens.
         let x = mark_first 91 refl (b || false) ((ps ++ qs) ++ zs) ts tokens in
         let y = cell_rest p tail zs x.others x.tokens in

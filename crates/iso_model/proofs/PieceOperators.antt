@@ -20,7 +20,7 @@ use Rattle.iso_model.specs.Pieces.{Piece, Writeq, piece, is_symbolic, name_bytes
 use Rattle.iso_model.proofs.ReadingSound.{left_at}
 use Rattle.iso_model.proofs.PieceTokens.{AreTokens, Begins, IsMarkToken, IsNameToken}
 use Rattle.iso_model.proofs.PieceLexemes.{mark_first, name_first}
-use Rattle.iso_model.proofs.PieceParts.{with_space, AreSome, spaced_as, node, MayFollow, BeginOperand, IsPart, name_begins_operand, name_follows, mark_follows, mark_test, name_is}
+use Rattle.iso_model.proofs.PieceParts.{with_space, AreSome, starts_open, starts_digit, begins_open-first, begins_digit-first, name_some, spaced_as, node, MayFollow, BeginOperand, IsPart, name_begins_operand, name_follows, mark_follows, mark_test, name_is}
 use Rattle.iso_model.proofs.PieceTerms.{prefix_begins}
 use Rattle.iso_model.proofs.PiecePlaces.{unspaced, place_of_part, bracket_part}
 
@@ -95,13 +95,13 @@ module _ (table : List Operator) (flags : Flags) where
 
   front_some : (ps qs : List Piece) → AreSome ps → AreSome (ps ++ qs)
   front_some [] qs h = absurd h
-  front_some (p ∷ ps) qs h = tt
+  front_some (p ∷ ps) qs h = h
 
-  front_open : (ps qs : List Piece) → AreSome ps → begins_open (ps ++ qs) ≡ begins_open ps
+  front_open : (ps qs : List Piece) → AreSome ps → starts_open (ps ++ qs) ≡ starts_open ps
   front_open [] qs h = absurd h
   front_open (p ∷ ps) qs h = refl
 
-  front_digit : (ps qs : List Piece) → AreSome ps → begins_digit (ps ++ qs) ≡ begins_digit ps
+  front_digit : (ps qs : List Piece) → AreSome ps → starts_digit (ps ++ qs) ≡ starts_digit ps
   front_digit [] qs h = absurd h
   front_digit (p ∷ ps) qs h = refl
 
@@ -253,13 +253,13 @@ module _ (table : List Operator) (flags : Flags) where
   no_sign true false direct h = refl
   no_sign false sign direct h = refl
 
-  prefix_part : HasNoBrackets table → (o : Operator) → prefix_named table o.name ≡ Some o → (d : Bool) {r : List Piece} {names behind : List (List ℕ)} {t : Tree} → IsOperandAt (right_of o) r names behind t → (not d && begins_open r) ≡ false
-      → (bytes_eq o.name (codes "-") ≡ true → (not d && begins_digit r) ≡ false) → IsPart table flags (piece (name_text o.name) ∷ with_space d r) o.priority (is_right_open o.spec) false names behind (Apply o.name (row (t ∷ [])))
+  prefix_part : HasNoBrackets table → (o : Operator) → prefix_named table o.name ≡ Some o → (d : Bool) {r : List Piece} {names behind : List (List ℕ)} {t : Tree} → IsOperandAt (right_of o) r names behind t → (not d && starts_open r) ≡ false
+      → (bytes_eq o.name (codes "-") ≡ true → (not d && starts_digit r) ≡ false) → IsPart table flags (piece (name_text o.name) ∷ with_space d r) o.priority (is_right_open o.spec) false names behind (Apply o.name (row (t ∷ [])))
   prefix_part plain o found d {r} {names} {behind} {t} right opens counts =
       let k = one_token plain Prefix o.name o found in
       let first = right.part.begins refl in
       record {
-        some = tt;
+        some = (refl, name_some o.name);
         reads = λ b qs ts follows ends tokens.
             let x = name_first o.name k.0 k.1 (b || false) (with_space d r ++ qs) ts tokens in
             let z = right.part.reads d qs x.others follows (λ h. absurd (false≢true h)) x.tokens in
@@ -284,8 +284,9 @@ module _ (table : List Operator) (flags : Flags) where
   prefix_written plain o found {r} {names} {behind} {t} right =
       let plain_name = not (is_symbolic o.name) in
       let sign = bytes_eq o.name (codes "-") in
-      by (plain_name || (begins_open r || (sign && begins_digit r)))
-      (prefix_part plain o found (plain_name || (begins_open r || (sign && begins_digit r))) right (apart_opens plain_name (begins_open r) (sign && begins_digit r)) (λ h. apart_counts plain_name (begins_open r) sign (begins_digit r) h))
+      let apart = plain_name || (starts_open r || (sign && starts_digit r)) in
+      rw (begins_open-first r right.part.some, begins_digit-first r right.part.some)
+      (by apart (prefix_part plain o found apart right (apart_opens plain_name (starts_open r) (sign && starts_digit r)) (λ h. apart_counts plain_name (starts_open r) sign (starts_digit r) h)))
     where
       by : (d : Bool) → IsPart table flags (piece (name_text o.name) ∷ with_space d r) o.priority (is_right_open o.spec) false names behind (Apply o.name (row (t ∷ [])))
           → IsPart table flags (piece (name_bytes Writeq o.name) ∷ (if d then after_space r else r)) o.priority (is_right_open o.spec) false names behind (Apply o.name (row (t ∷ [])))

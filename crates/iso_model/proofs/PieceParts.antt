@@ -1,15 +1,16 @@
 -- Parts of what is written: what their tokens begin with, what may stand behind them, and how they are read.
-use Rattle.std.proofs.Common.{◌≡◌, ℕ, ◌+◌, Bool, true, false, ◌&&◌, ◌||◌, not, if◌then◌else◌, List, [], ◌∷◌, ◌++◌, codes, refl, ap, ◌∙◌, subst}
+use Rattle.std.proofs.Common.{◌≡◌, ℕ, ◌+◌, ◌≤◌, Bool, true, false, ◌&&◌, ◌||◌, ◌==◌, not, if◌then◌else◌, List, [], ◌∷◌, ◌++◌, length, slice_index, codes, refl, ap, ◌∙◌, subst, arith}
 use Rattle.std.specs.Fmt.{decimal}
 use Rattle.std.specs.Str.{bytes_eq}
+use Rattle.std.proofs.lemmas.Bool.{false≢true, true≢false}
 use Rattle.iso_ops.specs.Operators.{Operator}
 use Rattle.iso_ops.specs.declared.settings.Flags.{Flags}
-use Rattle.iso_model.specs.Characters.{is_punctuation}
+use Rattle.iso_model.specs.Characters.{is_punctuation, is_digit}
 use Rattle.iso_model.specs.Trees.{Tree, Variable}
 use Rattle.iso_model.specs.Token.{Shown, TokenKind, NameToken, QuotedToken}
-use Rattle.iso_model.specs.Texts.{is_bare, name_text}
+use Rattle.iso_model.specs.Texts.{is_bare, name_text, quoted_bytes}
 use Rattle.iso_model.specs.Grammar.{Node, closed, is_name, is_integer, is_punct, is_mark, opens_arguments, is_direct_integer, next_is, name_begins, begins_by, begins, number_of, with_name_by, place_of, Reads, Operand, alone, variable_at}
-use Rattle.iso_model.specs.Pieces.{Piece, piece, begins_open, begins_digit}
+use Rattle.iso_model.specs.Pieces.{Piece, piece, begins_open, begins_digit, pieces_text}
 use Rattle.iso_model.proofs.ReadingSound.{left_at}
 use Rattle.iso_model.proofs.PieceTokens.{AreTokens, IsMarkToken, IsNameToken}
 use Rattle.iso_model.proofs.PieceLexemes.{mark_first, name_first, place_first}
@@ -46,13 +47,46 @@ abbrev pub with_space : Bool → List Piece → List Piece
 with_space b [] = []
 with_space b (p ∷ ps) = record { text = p.text; spaced = b || p.spaced } ∷ ps
 
-abbrev pub AreSome : List Piece → Type 0
-AreSome [] = ⊥
-AreSome (p ∷ ps) = Unit {0}
-
 -- a piece before others
 abbrev pub spaced_as : List ℕ → Bool → Piece
 spaced_as text spaced = record { text = text; spaced = spaced }
+
+-- there is a first piece, which has a byte and stands behind no space
+abbrev pub AreSome : List Piece → Type 0
+AreSome [] = ⊥
+AreSome (p ∷ ps) = (p.spaced ≡ false) × (1 ≤ length p.text)
+
+-- whether the first of these pieces begins with a bracket, or with a digit
+abbrev pub starts_open : List Piece → Bool
+starts_open [] = false
+starts_open (p ∷ ps) = slice_index p.text 0 == 40
+
+abbrev pub starts_digit : List Piece → Bool
+starts_digit [] = false
+starts_digit (p ∷ ps) = is_digit (slice_index p.text 0)
+
+-- so does their text
+text_first : (text : List ℕ) (spaced : Bool) (ps : List Piece) → spaced ≡ false → 1 ≤ length text → slice_index (pieces_text (spaced_as text spaced ∷ ps)) 0 ≡ slice_index text 0
+text_first [] spaced ps h le = absurd (omega (arith, le))
+text_first (c ∷ z) true ps h le = absurd (true≢false h)
+text_first (c ∷ z) false ps h le = refl
+
+pub begins_open-first : (ps : List Piece) → AreSome ps → begins_open ps ≡ starts_open ps
+begins_open-first [] h = absurd h
+begins_open-first (p ∷ ps) h = ap (λ (c : ℕ). c == 40) (text_first p.text p.spaced ps h.0 h.1)
+
+pub begins_digit-first : (ps : List Piece) → AreSome ps → begins_digit ps ≡ starts_digit ps
+begins_digit-first [] h = absurd h
+begins_digit-first (p ∷ ps) h = ap is_digit (text_first p.text p.spaced ps h.0 h.1)
+
+-- a name is written as some bytes
+pub name_some : (name : List ℕ) → 1 ≤ length (name_text name)
+name_some name = by name (is_bare name) refl
+  where
+    by : (name : List ℕ) (b : Bool) → is_bare name ≡ b → 1 ≤ length (if b then name else 39 ∷ (quoted_bytes name ++ 39 ∷ []))
+    by [] true h = absurd (false≢true h)
+    by (c ∷ z) true h = omega arith
+    by name false h = omega arith
 
 abbrev pub node : Tree → ℕ → ℕ → Bool → Node
 node t priority height is_open = record { term = t; priority = priority; height = height; is_open = is_open }
@@ -70,8 +104,8 @@ module _ (table : List Operator) (flags : Flags) where
   -- pieces that may stand behind a prefix operator
   pub record BeginOperand (ps : List Piece) : Type 0 where
     pub begins : (b : Bool) (qs : List Piece) (ts : List Shown) → AreTokens (with_space b ps ++ qs) ts → begins table ts ≡ true
-    pub opens : (b : Bool) (qs : List Piece) (ts : List Shown) → AreTokens (with_space b ps ++ qs) ts → (not b && begins_open ps) ≡ false → next_is opens_arguments ts ≡ false
-    pub counts : (b : Bool) (qs : List Piece) (ts : List Shown) → AreTokens (with_space b ps ++ qs) ts → (not b && begins_digit ps) ≡ false → next_is is_direct_integer ts ≡ false
+    pub opens : (b : Bool) (qs : List Piece) (ts : List Shown) → AreTokens (with_space b ps ++ qs) ts → (not b && starts_open ps) ≡ false → next_is opens_arguments ts ≡ false
+    pub counts : (b : Bool) (qs : List Piece) (ts : List Shown) → AreTokens (with_space b ps ++ qs) ts → (not b && starts_digit ps) ≡ false → next_is is_direct_integer ts ≡ false
 
   -- The tokens begin with this term, and those of these pieces are behind it.
   pub record IsRead (ts : List Shown) (names behind : List (List ℕ)) (t : Tree) (priority : ℕ) (is_open : Bool) (qs : List Piece) : Type 0 where
@@ -128,7 +162,7 @@ module _ (table : List Operator) (flags : Flags) where
 
   pub mark_begins : (byte : ℕ) (ps : List Piece) → ((b : Bool) (qs : List Piece) (ts : List Shown) → AreTokens (with_space b ps ++ qs) ts → BeginWithMark byte b ts)
       → (bytes_eq (byte ∷ []) (codes "(") || (bytes_eq (byte ∷ []) (codes "[") || bytes_eq (byte ∷ []) (codes "{"))) ≡ true
-      → ((b : Bool) → (not b && begins_open ps) ≡ false → (bytes_eq (byte ∷ []) (codes "(") && not (b || false)) ≡ false) → BeginOperand ps
+      → ((b : Bool) → (not b && starts_open ps) ≡ false → (bytes_eq (byte ∷ []) (codes "(") && not (b || false)) ≡ false) → BeginOperand ps
   mark_begins byte ps marks is apart = record {
     begins = λ b qs ts tokens.
         let x = marks b qs ts tokens in
@@ -163,7 +197,7 @@ module _ (table : List Operator) (flags : Flags) where
 
   pub place_part : (number : ℕ) (names : List (List ℕ)) → IsPart (piece (95 ∷ decimal number) ∷ []) 0 false false names (with_name_by (95 ∷ decimal number) names (place_of (95 ∷ decimal number) names)) (Variable (number_of (95 ∷ decimal number) names))
   place_part number names = record {
-    some = tt;
+    some = (refl, omega arith);
     reads = λ b qs ts follows ends tokens.
         let x = place_first number (b || false) qs ts tokens in
         rw x.is (read_operand {height = 0} x.tokens (subst (λ text. Operand table flags (left_at (x.first ∷ x.others) names) (closed (Variable (number_of text names)) 0) (left_at x.others (with_name_by text names (place_of text names)))) x.holds.text

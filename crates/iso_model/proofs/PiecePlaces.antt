@@ -1,5 +1,5 @@
 -- Written terms in places that a closing mark stands behind: in brackets and braces, as arguments, and as elements of lists.
-use Rattle.std.proofs.Common.{◌≡◌, ℕ, ◌+◌, ◌≤◌, Bool, true, false, ◌&&◌, ◌||◌, not, List, [], ◌∷◌, ◌++◌, length, codes, inl, inr, refl, sym, ◌∙◌, subst, append_assoc}
+use Rattle.std.proofs.Common.{◌≡◌, ℕ, ◌+◌, ◌≤◌, Bool, true, false, ◌&&◌, ◌||◌, not, List, [], ◌∷◌, ◌++◌, length, codes, inl, inr, refl, sym, ◌∙◌, subst, append_assoc, arith}
 use Rattle.std.specs.Str.{bytes_eq}
 use Rattle.std.proofs.lemmas.Bool.{true≢false, cases_Bool}
 use Rattle.std.proofs.lemmas.Slice.Eq.{bytes_eq-Decides}
@@ -15,7 +15,7 @@ use Rattle.iso_model.specs.Pieces.{Piece, piece, bracketed}
 use Rattle.iso_model.proofs.ReadingSound.{left_at}
 use Rattle.iso_model.proofs.PieceTokens.{AreTokens}
 use Rattle.iso_model.proofs.PieceLexemes.{mark_first, name_first, nil_first, curly_first}
-use Rattle.iso_model.proofs.PieceParts.{with_space, node, MayFollow, MayEnd, IsPart, mark_begins, mark_follows, mark_ends, name_begins_operand, read_operand, mark_test, mark_opens, name_is}
+use Rattle.iso_model.proofs.PieceParts.{with_space, node, MayFollow, MayEnd, IsPart, mark_begins, mark_follows, mark_ends, name_begins_operand, read_operand, mark_test, mark_opens, name_is, name_some}
 use Rattle.iso_model.proofs.PieceTerms.{functor_begins}
 
 pub unspaced : (ps : List Piece) → with_space false ps ≡ ps
@@ -88,7 +88,7 @@ module _ (table : List Operator) (flags : Flags) where
 
   pub bracket_part : {ps : List Piece} {names behind : List (List ℕ)} {t : Tree} → IsPlace 1200 ps names behind t → IsPart table flags (bracketed ps) 0 false false names behind t
   bracket_part {ps} {names} {behind} {t} p = record {
-    some = tt;
+    some = (refl, omega arith);
     reads = λ b qs ts follows ends tokens.
         let x = mark_first 40 refl (b || false) ((ps ++ piece (codes ")") ∷ []) ++ qs) ts tokens in
         let y = closes_round 1200 p qs x.others (subst (λ zs. AreTokens zs x.others) (append_assoc ps (piece (codes ")") ∷ []) qs) x.tokens) in
@@ -102,7 +102,7 @@ module _ (table : List Operator) (flags : Flags) where
 
   pub braces_part : {ps : List Piece} {names behind : List (List ℕ)} {t : Tree} → IsPlace 1200 ps names behind t → IsPart table flags (piece (codes "{") ∷ (ps ++ piece (codes "}") ∷ [])) 0 false false names behind (Apply curly (row (t ∷ [])))
   braces_part {ps} {names} {behind} {t} p = record {
-    some = tt;
+    some = (refl, omega arith);
     reads = λ b qs ts follows ends tokens.
         let x = mark_first 123 refl (b || false) ((ps ++ piece (codes "}") ∷ []) ++ qs) ts tokens in
         let y = closes_curly 1200 p qs x.others (subst (λ zs. AreTokens zs x.others) (append_assoc ps (piece (codes "}") ∷ []) qs) x.tokens) in
@@ -170,7 +170,7 @@ module _ (table : List Operator) (flags : Flags) where
   named_part : (name : List ℕ) → bytes_eq name (codes "[]") ≡ false → bytes_eq name (codes "{}") ≡ false → {ps : List Piece} {names behind : List (List ℕ)} {args : List Tree} → AreArguments ps names behind args → length args ≤ 255
       → IsPart table flags (piece (name_text name) ∷ piece (codes "(") ∷ (ps ++ piece (codes ")") ∷ [])) 0 false false names behind (Apply name (row args))
   named_part name a c {ps} {names} {behind} {args} given le = record {
-    some = tt;
+    some = (refl, name_some name);
     reads = λ b qs ts follows ends tokens.
         let x = name_first name a c (b || false) (piece (codes "(") ∷ ((ps ++ piece (codes ")") ∷ []) ++ qs)) ts tokens in
         let y = named_arguments given le (is_unquoted x.first.kind) name qs x.others x.tokens in
@@ -184,7 +184,7 @@ module _ (table : List Operator) (flags : Flags) where
   nil_named_part : {ps : List Piece} {names behind : List (List ℕ)} {args : List Tree} → AreArguments ps names behind args → length args ≤ 255
       → IsPart table flags (piece (codes "[]") ∷ piece (codes "(") ∷ (ps ++ piece (codes ")") ∷ [])) 0 false false names behind (Apply nil (row args))
   nil_named_part {ps} {names} {behind} {args} given le = record {
-    some = tt;
+    some = (refl, omega arith);
     reads = λ b qs ts follows ends tokens.
         let x = nil_first (b || false) (piece (codes "(") ∷ ((ps ++ piece (codes ")") ∷ []) ++ qs)) ts tokens in
         let y = named_arguments given le false nil qs x.others x.tokens in
@@ -197,7 +197,7 @@ module _ (table : List Operator) (flags : Flags) where
   curly_named_part : {ps : List Piece} {names behind : List (List ℕ)} {args : List Tree} → AreArguments ps names behind args → length args ≤ 255
       → IsPart table flags (piece (codes "{}") ∷ piece (codes "(") ∷ (ps ++ piece (codes ")") ∷ [])) 0 false false names behind (Apply curly (row args))
   curly_named_part {ps} {names} {behind} {args} given le = record {
-    some = tt;
+    some = (refl, omega arith);
     reads = λ b qs ts follows ends tokens.
         let x = curly_first (b || false) (piece (codes "(") ∷ ((ps ++ piece (codes ")") ∷ []) ++ qs)) ts tokens in
         let y = named_arguments given le false curly qs x.others x.tokens in

@@ -21,7 +21,8 @@ use Rattle.iso_model.specs.Pieces.{Piece, piece}
 use Rattle.iso_model.proofs.ReadingSound.{left_at}
 use Rattle.iso_model.proofs.PieceTokens.{AreTokens, IsSignToken}
 use Rattle.iso_model.proofs.PieceLexemes.{name_first, nil_first, curly_first, count_first, negative_first}
-use Rattle.iso_model.proofs.PieceParts.{MayFollow, IsPart, mark_begins, name_begins_operand, read_operand, mark_test, name_is}
+use Rattle.iso_model.proofs.Integers.{integer_lone}
+use Rattle.iso_model.proofs.PieceParts.{MayFollow, IsPart, mark_begins, name_begins_operand, read_operand, mark_test, name_is, name_some}
 
 digit_of : (c : ℕ) → digit_value c < 10 → is_digit c ≡ true
 digit_of c h = grind (arith, nat_tests)
@@ -69,7 +70,7 @@ module _ (table : List Operator) (flags : Flags) where
 
   pub count_part : (n : ℕ) → n < 2 ^ 63 → (names : List (List ℕ)) → IsPart table flags (piece (signed_decimal (pos n)) ∷ []) 0 false false names names (Integer (pos n))
   count_part n small names = record {
-    some = tt;
+    some = (refl, (integer_lone n (omega arith)).some);
     reads = λ b qs ts follows ends tokens.
         let x = count_first n small (b || false) qs ts tokens in
         rw x.is (read_operand table flags {height = 0} x.tokens (integer_at {s = left_at x.others names} {t = x.first} x.holds.0.magnitude (omega arith)));
@@ -103,7 +104,7 @@ module _ (table : List Operator) (flags : Flags) where
 
   pub negative_part : (n : ℕ) → n < 2 ^ 63 → (names : List (List ℕ)) → IsPart table flags (piece (signed_decimal (negsuc n)) ∷ []) 0 false false names names (Integer (negsuc n))
   negative_part n small names = record {
-    some = tt;
+    some = (refl, omega arith);
     reads = λ b qs ts follows ends tokens.
         let x = negative_first n small (b || false) qs ts tokens in
         rw x.is (read_operand table flags {height = 0} x.tokens (name_at {s = left_at (x.second ∷ x.others) names} {t = x.first} (ap is_name x.holds.kind)
@@ -139,7 +140,7 @@ module _ (table : List Operator) (flags : Flags) where
   pub atom_part : (name : List ℕ) → bytes_eq name (codes "[]") ≡ false → bytes_eq name (codes "{}") ≡ false → (lone : Bool) → lone ≡ (is_some (prefix_named table name) || (is_some (infix_named table name) || is_some (postfix_named table name)))
       → (names : List (List ℕ)) → IsPart table flags (piece (name_text name) ∷ []) 0 false lone names names (Name name)
   atom_part name a c lone is names = record {
-    some = tt;
+    some = (refl, name_some name);
     reads = λ b qs ts follows ends tokens.
         let x = name_first name a c (b || false) qs ts tokens in
         rw x.is (read_operand table flags {height = 0} x.tokens (name_at {s = left_at x.others names} {t = x.first} (name_is name x.first x.holds)
@@ -159,7 +160,7 @@ module _ (table : List Operator) (flags : Flags) where
 
   pub nil_part : HasNoBrackets table → (names : List (List ℕ)) → IsPart table flags (piece (codes "[]") ∷ []) 0 false false names names (Name nil)
   nil_part plain names = record {
-    some = tt;
+    some = (refl, omega arith);
     reads = λ b qs ts follows ends tokens.
         let x = nil_first (b || false) qs ts tokens in
         rw x.is (read_operand table flags {height = 0} x.tokens (nil_at {s = left_at x.others names} {t = x.first} {u = x.second} (mark_test 91 (b || false) x.first (codes "[") x.holds) (mark_test 93 false x.second (codes "]") x.follows)
@@ -170,7 +171,7 @@ module _ (table : List Operator) (flags : Flags) where
 
   pub curly_part : HasNoBrackets table → (names : List (List ℕ)) → IsPart table flags (piece (codes "{}") ∷ []) 0 false false names names (Name curly)
   curly_part plain names = record {
-    some = tt;
+    some = (refl, omega arith);
     reads = λ b qs ts follows ends tokens.
         let x = curly_first (b || false) qs ts tokens in
         rw x.is (read_operand table flags {height = 0} x.tokens (curly_at {s = left_at x.others names} {t = x.first} {u = x.second} (mark_test 123 (b || false) x.first (codes "{") x.holds) (mark_test 125 false x.second (codes "}") x.follows)

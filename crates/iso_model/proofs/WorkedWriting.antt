@@ -2,7 +2,7 @@
 use Rattle.std.proofs.Common.{refl}
 use Rattle.std.specs.Fmt.{digits}
 use Rattle.iso_ops.specs.InitialOperators.{initial_entries}
-use Rattle.iso_model.specs.WorkedTerms.{TextsWithSigns, TextsWithBrackets, TextsWithWords, TextsWithAnOperator, CanonicalTexts}
+use Rattle.iso_model.specs.WorkedTerms.{TextsWithSigns, TextsWithBrackets, TextsWithWords, TextsWithAnOperator, CanonicalTexts, UnquotedTexts}
 
 pub signs_written : TextsWithSigns
 unfolding initial_entries digits
@@ -23,3 +23,7 @@ operator_written = (refl, refl)
 pub canonical_written : CanonicalTexts
 unfolding initial_entries digits
 canonical_written = (refl, refl, refl, refl)
+
+pub unquoted_written : UnquotedTexts
+unfolding initial_entries digits
+unquoted_written = (refl, refl, refl, refl)

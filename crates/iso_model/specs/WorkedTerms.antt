@@ -6,7 +6,7 @@ use Rattle.iso_ops.specs.InitialOperators.{initial_entries}
 use Rattle.iso_model.specs.Trees.{Tree, Variable, Integer, Name, Apply, row}
 use Rattle.iso_model.specs.Variables.{variables}
 use Rattle.iso_model.specs.Bodies.{one, two}
-use Rattle.iso_model.specs.Pieces.{Writeq, Canonical, text_at}
+use Rattle.iso_model.specs.Pieces.{Write, Writeq, Canonical, text_at}
 use Rattle.iso_model.specs.WorkedRuns.{number}
 use Rattle.iso_model.specs.WorkedTexts.{atom}
 
@@ -66,3 +66,15 @@ CanonicalTexts =
     IsCanonicalText (Integer (neg_ℤ (pos 5))) (codes "-5") × IsCanonicalText (Name (codes "it's")) (codes "'it\\'s'")
     × IsCanonicalText (Apply (codes "f") (row (Variable 3 ∷ two (codes "g") (atom (codes "a")) (number 1) ∷ Variable 0 ∷ Variable 3 ∷ []))) (codes "f(_1,g(a,1),_2,_1)")
     × IsCanonicalText (two (codes "-") (number 1) (two (codes ".") (atom (codes "a")) (atom (codes "b")))) (codes "-(1,[a|b])")
+
+-- The text of this term under the operators before any is set, without quotes, as a whole.
+abbrev pub IsUnquotedText : Tree → List ℕ → Type 0
+IsUnquotedText t text = text_at Write initial_entries [] 1200 t ≡ text
+
+-- The style without quotes (8.14.2): an empty name has no character, so the space behind a prefix operator goes by what follows the name.
+abbrev pub UnquotedTexts : Type 0
+UnquotedTexts =
+    IsUnquotedText (two (codes "f") (atom (codes "A b")) (atom (codes "it's"))) (codes "f(A b,it's)")
+    × IsUnquotedText (one (codes "-") (one [] (atom (codes "a")))) (codes "- (a)")
+    × IsUnquotedText (one (codes "-") (two (codes "^") (atom []) (number 1))) (codes "-^1")
+    × IsUnquotedText (one (codes "-") (atom [])) (codes "-")

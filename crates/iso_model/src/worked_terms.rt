@@ -1,5 +1,5 @@
 //! Worked terms: what they are written as. Each is the contract of a function that does nothing.
-ghost use Rattle.iso_model.specs.WorkedTerms.{TextsWithSigns, TextsWithBrackets, TextsWithWords, TextsWithAnOperator, CanonicalTexts};
+ghost use Rattle.iso_model.specs.WorkedTerms.{TextsWithSigns, TextsWithBrackets, TextsWithWords, TextsWithAnOperator, CanonicalTexts, UnquotedTexts};
 
 /// What terms with signs are written as (7.10.5).
 pub fn texts_with_signs()
@@ -24,4 +24,9 @@ pub fn texts_with_an_operator()
 /// What `write_canonical` writes -5, the atom `it's`, `f(X, g(a, 1), Y, X)` and `1 - [a|b]` as.
 pub fn canonical_texts()
     ensures { CanonicalTexts }
+{}
+
+/// What terms are written as without quotes, three of them with an empty name.
+pub fn unquoted_texts()
+    ensures { UnquotedTexts }
 {}
