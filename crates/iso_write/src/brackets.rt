@@ -28,12 +28,7 @@ fn is_operator(form: Form<'_>, style: Style, ops: &OpTable) -> bool
 }
 
 /// Whether the term stands in brackets in its place.
-pub(crate) fn has_brackets(
-    form: Form<'_>,
-    place: Place<'_>,
-    style: Style,
-    ops: &OpTable,
-) -> bool
+pub(crate) fn has_brackets(form: Form<'_>, place: Place<'_>, style: Style, ops: &OpTable) -> bool
     ensures { (seen : List ℕ) → result ≡ needs_brackets place.entry (form_written (style_of style) ops.now seen form.entry) }
 {
     let priority = form.priority();
