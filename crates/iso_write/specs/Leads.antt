@@ -1,5 +1,5 @@
 -- The first byte of a text, where it has one.
-use Rattle.std.specs.Prelude.{ℕ, List, [], ◌∷◌, Option, Some, None, slice_get, if◌then◌else◌, codes}
+use Rattle.std.specs.Prelude.{ℕ, List, Option, Some, slice_get, if◌then◌else◌, codes}
 use Rattle.std.specs.Option.{option_or}
 use Rattle.std.specs.Str.{bytes_eq}
 use Rattle.iso_ops.specs.Operators as ops

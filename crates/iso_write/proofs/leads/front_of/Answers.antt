@@ -1,11 +1,9 @@
 use Rattle.std.proofs.Common.{Some, ap, ◌∙◌}
 use Rattle.std.specs.Option.{option_or}
 use Rattle.iso_model.specs.Terms.{term_of}
-use Rattle.iso_model.specs.Pieces.{name_bytes}
 use Rattle.iso_write.specs.declared.tasks.Place.TheVariants.{Right}
 use Rattle.iso_write.specs.Styles.{style_of}
-use Rattle.iso_write.specs.Forms.{form_written, operator_of, written}
-use Rattle.iso_write.specs.Leads.{lead}
+use Rattle.iso_write.specs.Forms.{operator_of, written}
 use Rattle.iso_write.proofs.PieceLemmas.{placed_has}
 use Rattle.iso_write.proofs.LeadLemmas.{lead_prefix, lead_infix, lead_postfix}
 use Rattle.iso_write.proofs.leads.front_of.Goals as goal

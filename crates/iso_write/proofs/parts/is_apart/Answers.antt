@@ -1,4 +1,4 @@
-use Rattle.std.proofs.Common.{rules, tests, ◌≡◌, ◌==◌, ◌&&◌, ◌||◌, codes, sym, ap, ◌∙◌}
+use Rattle.std.proofs.Common.{rules, ◌≡◌, ◌==◌, ◌&&◌, ◌||◌, codes, sym, ◌∙◌}
 use Rattle.std.specs.Str.{bytes_eq}
 use Rattle.iso_model.specs.Characters.{is_digit}
 use Rattle.iso_model.specs.Terms.{term_of}
