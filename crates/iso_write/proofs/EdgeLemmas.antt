@@ -1,10 +1,8 @@
 -- A piece behind what stands before it.
-use Rattle.std.proofs.Common.{◌≡◌, ℕ, suc, ◌-◌, Bool, true, false, ◌&&◌, ◌||◌, ◌==◌, List, [], ◌∷◌, ◌++◌, length, slice_get, slice_index, unwrap_or, if◌then◌else◌, refl, ap, sym, ◌∙◌, append_assoc, append-nil, arith}
-use Rattle.iso_model.specs.Pieces.{Piece, last_byte, pieces_behind, after_space, run_together}
-use Rattle.iso_model.specs.Characters.{is_digit}
+use Rattle.std.proofs.Common.{◌≡◌, ℕ, suc, ◌-◌, Bool, true, false, ◌||◌, List, [], ◌∷◌, ◌++◌, length, slice_get, slice_index, unwrap_or, if◌then◌else◌, refl, ap, sym, ◌∙◌, append_assoc, append-nil, arith}
+use Rattle.iso_model.specs.Pieces.{Piece, last_byte, pieces_behind, after_space}
 use Rattle.iso_write.specs.declared.edges.Edge.{Edge}
-use Rattle.iso_write.specs.Edges.{edge_behind, parts, behind, with_gap, behind_prefix}
-use Rattle.iso_write.specs.Tasks.{prefixed}
+use Rattle.iso_write.specs.Edges.{edge_behind, behind, with_gap}
 
 pub last_is : (text : List ℕ) → unwrap_or (slice_get text (length text - 1)) 0 ≡ last_byte text
 last_is [] = refl
@@ -38,8 +36,8 @@ pub parted_else : (b r : Bool) (old mid new text : List ℕ) (e : Edge) (ps : Li
 parted_else true r old mid new text e ps same failed m n is = cc
 parted_else false r old mid new text e ps same failed m n is = parted_by false old mid new text e ps (m ∙ sym (append-nil old)) n is
 
-pub edge_with : {a b : ℕ} → a ≡ b → ◌≡◌ {A = Edge} record { last = a; gap = false; before_open = false; before_digit = false } record { last = b; gap = false; before_open = false; before_digit = false }
-edge_with {a} {b} e = let make = λ (n : ℕ). let edge : Edge = record { last = n; gap = false; before_open = false; before_digit = false } in edge in ap make e
+pub edge_with : {a b : ℕ} → a ≡ b → ◌≡◌ {A = Edge} record { last = a; gap = false } record { last = b; gap = false }
+edge_with {a} {b} e = let make = λ (n : ℕ). let edge : Edge = record { last = n; gap = false } in edge in ap make e
 
 spaced_by : (s : Bool) (b : Bool) (text : List ℕ) → (if true then 32 ∷ text else text) ≡ (if s || true then 32 ∷ text else text)
 spaced_by true b text = refl
@@ -49,48 +47,3 @@ spaced_by false b text = refl
 pub behind_gap : (e : Edge) (ps : List Piece) → behind e (after_space ps) ≡ behind (with_gap e) ps
 behind_gap e [] = refl
 behind_gap e (p ∷ ps) = ap (λ x. x ++ pieces_behind p.text ps) (spaced_by p.spaced true p.text)
-
--- whether a space stands before a piece: it is there in any case, there is a gap, it begins with a bracket or with a digit
--- where that matters, or the two run together
-abbrev spaces : Bool → Bool → Bool → Bool → Bool → Bool → Bool → Bool
-spaces s g o f d h r = s || (g || ((o && f) || ((d && h) || r)))
-
-test_both : (s g o f d h r m : Bool) → (if f || (m && h) then true else spaces s g o f d h r) ≡ spaces s g true f (d || m) h r
-test_both true true o true d h r m = refl
-test_both true false o true d h r m = refl
-test_both false true o true d h r m = refl
-test_both false false o true d h r m = refl
-test_both true g o false d true r true = refl
-test_both false true o false d true r true = refl
-test_both false false o false true true r true = refl
-test_both false false o false false true r true = refl
-test_both true g o false d false r true = refl
-test_both false true o false d false r true = refl
-test_both false false true false true false r true = refl
-test_both false false false false true false r true = refl
-test_both false false true false false false r true = refl
-test_both false false false false false false r true = refl
-test_both true g o false d h r false = refl
-test_both false true o false d h r false = refl
-test_both false false true false true h r false = refl
-test_both false false false false true h r false = refl
-test_both false false true false false h r false = refl
-test_both false false false false false h r false = refl
-
-prefix_by : (b : Bool) (e : Edge) (p : Piece) (ps : List Piece) → behind e (if b then after_space (p ∷ ps) else p ∷ ps)
-    ≡ (if (if b then true else p.spaced || parts e (slice_index p.text 0)) then 32 ∷ p.text else p.text) ++ pieces_behind p.text ps
-prefix_by true e p ps = refl
-prefix_by false e p ps = refl
-
--- a space before the first piece where it begins so
-pub behind_prefixed : (is_minus : Bool) (e : Edge) (ps : List Piece) → behind e (prefixed is_minus ps) ≡ behind (behind_prefix is_minus e) ps
-behind_prefixed is_minus e [] = nothing (false || (is_minus && false))
-  where
-    nothing : (b : Bool) → behind e (if b then [] else []) ≡ []
-    nothing true = refl
-    nothing false = refl
-behind_prefixed is_minus e (p ∷ ps) =
-    let first = slice_index p.text 0 in
-    prefix_by (first == 40 || (is_minus && is_digit first)) e p ps
-    ∙ ap (λ (b : Bool). (if b then 32 ∷ p.text else p.text) ++ pieces_behind p.text ps)
-    (test_both p.spaced e.gap e.before_open (first == 40) e.before_digit (is_digit first) (run_together e.last first) is_minus)

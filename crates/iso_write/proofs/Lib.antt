@@ -3,3 +3,4 @@ pub mod FormLemmas
 pub mod RowLemmas
 pub mod TaskLemmas
 pub mod PieceLemmas
+pub mod LeadLemmas

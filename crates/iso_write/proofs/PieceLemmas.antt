@@ -1,5 +1,5 @@
 -- A term has a piece, so what stands before its pieces stands before them and those behind.
-use Rattle.std.proofs.Common.{◌≡◌, ℕ, Bool, true, false, ◌&&◌, ◌||◌, not, List, [], ◌∷◌, ◌++◌, Option, Some, None, if◌then◌else◌, refl, ap, ap₂, sym, ◌∙◌, append_assoc, codes}
+use Rattle.std.proofs.Common.{◌≡◌, ℕ, Bool, true, false, List, [], ◌∷◌, ◌++◌, Option, Some, None, if◌then◌else◌, refl, ap, sym, ◌∙◌, append_assoc, codes}
 use Rattle.std.specs.Str.{bytes_eq}
 use Rattle.iso_ops.specs.Operators.{Operator}
 use Rattle.iso_model.specs.declared.terms.Term.{Term}
@@ -9,10 +9,10 @@ use Rattle.iso_model.specs.declared.terms.Term.TheFolds.{fold_out-Term}
 use Rattle.iso_model.specs.Trees.{Tree, Variable, Integer, Name, Apply, End, More}
 use Rattle.iso_model.specs.Terms.{term_of, term_step}
 use Rattle.iso_model.specs.Operators.{prefix_named, infix_named, postfix_named, right_of}
-use Rattle.iso_model.specs.Pieces.{Style, Piece, Written, piece, after_space, begins_open, begins_digit, bracketed, uses_operators, name_bytes, is_symbolic, term_written, single_written, pair_written, single_by, pair_by, infix_pieces, prefix_pieces, postfix_pieces}
+use Rattle.iso_model.specs.Pieces.{Style, Piece, Written, piece, after_space, bracketed, uses_operators, name_bytes, is_symbolic, term_written, single_written, pair_written, single_by, pair_by, infix_pieces, prefix_pieces, postfix_pieces}
 use Rattle.iso_model.specs.Pieces as pieces
 use Rattle.iso_write.specs.declared.tasks.Place.{Place}
-use Rattle.iso_write.specs.Tasks.{placed, needs_brackets, prefixed}
+use Rattle.iso_write.specs.Tasks.{placed, needs_brackets, stands_apart}
 use Rattle.iso_write.proofs.TaskLemmas.{placed_by}
 
 abbrev pub has_piece : List Piece → Bool
@@ -22,14 +22,6 @@ has_piece (p ∷ ps) = true
 pub after_space-append : (ps qs : List Piece) → has_piece ps ≡ true → after_space (ps ++ qs) ≡ after_space ps ++ qs
 after_space-append [] qs some_piece = cc
 after_space-append (p ∷ ps) qs some_piece = refl
-
-begins_open-append : (ps qs : List Piece) → has_piece ps ≡ true → begins_open (ps ++ qs) ≡ begins_open ps
-begins_open-append [] qs some_piece = cc
-begins_open-append (p ∷ ps) qs some_piece = refl
-
-begins_digit-append : (ps qs : List Piece) → has_piece ps ≡ true → begins_digit (ps ++ qs) ≡ begins_digit ps
-begins_digit-append [] qs some_piece = cc
-begins_digit-append (p ∷ ps) qs some_piece = refl
 
 has_piece-append : (ps qs : List Piece) → has_piece qs ≡ true → has_piece (ps ++ qs) ≡ true
 has_piece-append [] qs some_piece = some_piece
@@ -97,30 +89,15 @@ prefix_either : (b : Bool) (right after : List Piece) → has_piece right ≡ tr
 prefix_either true right after h = after_space-append right after h
 prefix_either false right after h = refl
 
--- the test of what stands behind a prefix operator looks no further than the operand
-prefixed-append : (is_minus : Bool) (right after : List Piece) → has_piece right ≡ true
-    → prefixed is_minus (right ++ after) ≡ (if begins_open right || (is_minus && begins_digit right) then after_space right else right) ++ after
-prefixed-append is_minus right after h =
-    let test = ap₂ (λ (f d : Bool). f || (is_minus && d)) (begins_open-append right after h) (begins_digit-append right after h) in
-    ap (λ (b : Bool). if b then after_space (right ++ after) else right ++ after) test ∙ prefix_either _ right after h
-
 module _ (style : Style) (table : List Operator) (seen : List ℕ) where
-  -- a prefix operator without a space of its own
-  pub prefix_symbolic : (o : Operator) (w : Written) (after : List Piece) (is_minus : Bool) → has_piece (pieces.operand_at (right_of o) w) ≡ true → is_symbolic o.name ≡ true
-      → is_minus ≡ bytes_eq o.name (codes "-") → piece (name_bytes style o.name) ∷ prefixed is_minus (pieces.operand_at (right_of o) w ++ after) ≡ prefix_pieces style table seen o w ++ after
-  prefix_symbolic o w after is_minus h symbolic is =
+  -- a prefix operator with its operand
+  pub prefix_by : (apart : Bool) (o : Operator) (w : Written) (after : List Piece) → has_piece (pieces.operand_at (right_of o) w) ≡ true → apart ≡ stands_apart o w
+      → piece (name_bytes style o.name) ∷ (if apart then after_space (pieces.operand_at (right_of o) w ++ after) else pieces.operand_at (right_of o) w ++ after)
+      ≡ prefix_pieces style table seen o w ++ after
+  prefix_by apart o w after h is =
       let right = pieces.operand_at (right_of o) w in
-      let shape = λ (s m : Bool). piece (name_bytes style o.name) ∷ ((if not s || (begins_open right || (m && begins_digit right)) then after_space right else right) ++ after) in
-      ap (λ (z : List Piece). piece (name_bytes style o.name) ∷ z) (prefixed-append is_minus right after h) ∙ ap₂ shape (sym symbolic) is
-
-  -- any other prefix operator
-  pub prefix_word : (o : Operator) (w : Written) (after : List Piece) → has_piece (pieces.operand_at (right_of o) w) ≡ true → is_symbolic o.name ≡ false
-      → piece (name_bytes style o.name) ∷ after_space (pieces.operand_at (right_of o) w ++ after) ≡ prefix_pieces style table seen o w ++ after
-  prefix_word o w after h symbolic =
-      let right = pieces.operand_at (right_of o) w in
-      let shape = λ (s : Bool). piece (name_bytes style o.name)
-      ∷ ((if not s || (begins_open right || (bytes_eq o.name (codes "-") && begins_digit right)) then after_space right else right) ++ after) in
-      ap (λ (z : List Piece). piece (name_bytes style o.name) ∷ z) (after_space-append right after h) ∙ ap shape (sym symbolic)
+      let shape = λ (b : Bool). (if b then after_space right else right) ++ after in
+      ap (λ (z : List Piece). piece (name_bytes style o.name) ∷ z) (prefix_either apart right after h ∙ ap shape is)
 
   -- an infix operator that is no symbol
   pub infix_word : (o : Operator) (l r : Written) (after : List Piece) → has_piece (pieces.operand_at (right_of o) r) ≡ true → is_symbolic o.name ≡ false

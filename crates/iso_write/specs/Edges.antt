@@ -1,12 +1,11 @@
 -- What stands before the next piece, and the text of the pieces behind it.
-use Rattle.std.specs.Prelude.{ℕ, List, [], ◌∷◌, ◌++◌, Bool, true, false, ◌&&◌, ◌||◌, ◌==◌, slice_index, if◌then◌else◌}
-use Rattle.iso_model.specs.Characters.{is_digit}
+use Rattle.std.specs.Prelude.{ℕ, List, [], ◌∷◌, ◌++◌, Bool, true, false, ◌||◌, slice_index, if◌then◌else◌}
 use Rattle.iso_model.specs.Pieces.{Piece, last_byte, run_together, pieces_behind}
 use Rattle.iso_write.specs.declared.edges.Edge.{Edge}
 
 -- behind a piece of this text
 abbrev pub edge_behind : List ℕ → Edge
-edge_behind text = record { last = last_byte text; gap = false; before_open = false; before_digit = false }
+edge_behind text = record { last = last_byte text; gap = false }
 
 -- where no piece stands before
 abbrev pub start : Edge
@@ -14,15 +13,11 @@ start = edge_behind []
 
 -- with a space before the next piece
 abbrev pub with_gap : Edge → Edge
-with_gap e = record { last = e.last; gap = true; before_open = e.before_open; before_digit = e.before_digit }
-
--- behind a prefix operator, which is `-` or isn't
-abbrev pub behind_prefix : Bool → Edge → Edge
-behind_prefix is_minus e = record { last = e.last; gap = e.gap; before_open = true; before_digit = e.before_digit || is_minus }
+with_gap e = record { last = e.last; gap = true }
 
 -- whether a space stands before a piece that begins with this byte
 abbrev pub parts : Edge → ℕ → Bool
-parts e first = e.gap || ((e.before_open && first == 40) || ((e.before_digit && is_digit first) || run_together e.last first))
+parts e first = e.gap || run_together e.last first
 
 -- the text of pieces
 abbrev pub behind : Edge → List Piece → List ℕ

@@ -2,4 +2,5 @@ pub mod Styles
 pub mod Forms
 pub mod Edges
 pub mod Tasks
+pub mod Leads
 pub mod Rows

@@ -1,6 +1,7 @@
 -- The pieces that tasks stand for, last first.
-use Rattle.std.specs.Prelude.{ℕ, ◌+◌, List, [], ◌∷◌, ◌++◌, Bool, ◌&&◌, ◌||◌, ◌==◌, nat_lt, if◌then◌else◌}
+use Rattle.std.specs.Prelude.{ℕ, ◌+◌, List, [], ◌∷◌, ◌++◌, Bool, not, ◌&&◌, ◌||◌, ◌==◌, nat_lt, codes}
 use Rattle.std.specs.Fmt.{signed_decimal}
+use Rattle.std.specs.Str.{bytes_eq}
 use Rattle.iso_ops.specs.Operators as ops
 use Rattle.iso_model.specs.Trees.{Tree}
 use Rattle.iso_model.specs.Trees as trees
@@ -13,7 +14,7 @@ use Rattle.iso_write.specs.declared.forms.Form.TheVariants as form
 use Rattle.iso_write.specs.declared.tasks.Place.{Place}
 use Rattle.iso_write.specs.declared.tasks.Place.TheVariants.{Whole, Left, Right}
 use Rattle.iso_write.specs.declared.tasks.Task.{Task}
-use Rattle.iso_write.specs.declared.tasks.Task.TheVariants.{Mark, Name, Variable, Integer, Gap, BehindPrefix, Placed, Bare, Tail, Others}
+use Rattle.iso_write.specs.declared.tasks.Task.TheVariants.{Mark, Name, Variable, Integer, Gap, Placed, Bare, Tail, Others}
 use Rattle.iso_write.specs.Forms.{operator_of, written}
 
 -- what is written of a term in a place
@@ -28,9 +29,11 @@ needs_brackets (Whole most) w = nat_lt most w.priority
 needs_brackets (Left o) w = (w.is_open && (w.priority == o.priority && takes_equal o.spec)) || (w.is_operator || nat_lt (left_of (operator_of o)) w.priority)
 needs_brackets (Right o) w = w.is_operator || nat_lt (right_of (operator_of o)) w.priority
 
--- pieces behind a prefix operator
-abbrev pub prefixed : Bool → List pieces.Piece → List pieces.Piece
-prefixed is_minus ps = if pieces.begins_open ps || (is_minus && pieces.begins_digit ps) then pieces.after_space ps else ps
+-- whether a space stands between a prefix operator and its operand
+abbrev pub stands_apart : ops.Operator → pieces.Written → Bool
+stands_apart o w =
+    let right = pieces.operand_at (right_of o) w in
+    not (pieces.is_symbolic o.name) || (pieces.begins_open right || (bytes_eq o.name (codes "-") && pieces.begins_digit right))
 
 module _ (style : pieces.Style) (table : List ops.Operator) (seen : List ℕ) where
   -- the pieces of a task, before these
@@ -40,7 +43,6 @@ module _ (style : pieces.Style) (table : List ops.Operator) (seen : List ℕ) wh
   with_task (Variable n) after = pieces.piece (variable_text seen n) ∷ after
   with_task (Integer z) after = pieces.piece (signed_decimal z) ∷ after
   with_task Gap after = pieces.after_space after
-  with_task (BehindPrefix is_minus) after = prefixed is_minus after
   with_task (Placed t place) after = placed place (written style table seen (term_of t.now)) ++ after
   with_task (Bare t) after = (written style table seen (term_of t.now)).bare ++ after
   with_task (Tail t) after = (written style table seen (term_of t.now)).tail ++ after
@@ -80,7 +82,6 @@ task_load (Name name) = 1
 task_load (Variable n) = 1
 task_load (Integer z) = 1
 task_load Gap = 1
-task_load (BehindPrefix is_minus) = 1
 task_load (Placed t place) = 3 + load (term_of t.now)
 task_load (Bare t) = load (term_of t.now)
 task_load (Tail t) = 7 + load (term_of t.now)

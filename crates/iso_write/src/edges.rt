@@ -1,7 +1,7 @@
 //! What stands before the next piece of a text, and the space that parts the two.
 ghost use Rattle.std.specs.Prelude.{◌≡◌, ℕ, List, ◌∷◌, ◌++◌, take, length, slice_index, true, ◌||◌, IfOk};
 ghost use Rattle.iso_model.specs.Pieces as pieces;
-ghost use Rattle.iso_write.specs.Edges.{edge_behind, parts, behind, start, with_gap, behind_prefix};
+ghost use Rattle.iso_write.specs.Edges.{edge_behind, parts, behind, start, with_gap};
 
 use super::names::{is_alphanumeric, is_graphic};
 use std::alloc::AllocError;
@@ -13,10 +13,6 @@ pub(crate) struct Edge {
     pub(crate) last: u8,
     /// Whether a space stands there in any case.
     pub(crate) gap: bool,
-    /// Whether a space stands there if the next piece begins with a bracket.
-    pub(crate) before_open: bool,
-    /// Whether a space stands there if the next piece begins with a digit.
-    pub(crate) before_digit: bool,
 }
 
 impl Edge {
@@ -34,8 +30,6 @@ impl Edge {
         Edge {
             last: text.last().copied().unwrap_or(0),
             gap: false,
-            before_open: false,
-            before_digit: false,
         }
     }
 
@@ -44,17 +38,6 @@ impl Edge {
         ensures { result ≡ with_gap self }
     {
         Edge { gap: true, ..self }
-    }
-
-    /// Behind a prefix operator, whose operand's bracket, and behind `-` also its digit, stands behind a space.
-    pub(crate) fn behind_prefix(self, is_minus: bool) -> Edge
-        ensures { result ≡ behind_prefix is_minus self }
-    {
-        Edge {
-            before_open: true,
-            before_digit: self.before_digit || is_minus,
-            ..self
-        }
     }
 
     /// Whether the two neighbours are both letters, digits or `_`, both graphic, a digit and a quote, or both quotes.
@@ -71,10 +54,7 @@ impl Edge {
     fn parts(self, first: u8) -> bool
         ensures { result ≡ parts self first }
     {
-        self.gap
-            || self.before_open && first == b'('
-            || self.before_digit && first.is_ascii_digit()
-            || self.runs_into(first)
+        self.gap || self.runs_into(first)
     }
 }
 

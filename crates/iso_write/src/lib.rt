@@ -7,8 +7,10 @@ ghost use Rattle.iso_model.specs.Variables.{distinct_from};
 ghost use Rattle.iso_model.specs.Pieces.{text_at};
 ghost use Rattle.iso_write.specs.Styles.{style_of};
 
+mod brackets;
 mod edges;
 mod forms;
+mod leads;
 mod names;
 mod parts;
 mod style;

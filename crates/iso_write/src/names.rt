@@ -2,6 +2,7 @@
 ghost use Rattle.std.specs.Prelude.{◌≡◌, ◌++◌, ◌∷◌, OnOk};
 ghost use Rattle.std.specs.List.{list_all};
 ghost use Rattle.iso_model.specs.Characters as characters;
+ghost use Rattle.iso_model.specs.Pieces as pieces;
 ghost use Rattle.iso_model.specs.Texts as texts;
 
 use std::alloc::{AllocError, Global};
@@ -38,7 +39,7 @@ fn are_alphanumeric(bytes: &[u8]) -> bool
 }
 
 /// Whether all of the bytes are graphic characters.
-pub(crate) fn are_graphic(bytes: &[u8]) -> bool
+fn are_graphic(bytes: &[u8]) -> bool
     ensures { result ≡ list_all characters.is_graphic bytes.now }
 {
     bytes.iter().all(|byte| is_graphic(*byte))
@@ -60,6 +61,13 @@ pub(crate) fn is_bare(text: &str) -> bool
     ensures { result ≡ texts.is_bare text.now }
 {
     text == "[]" || text == "{}" || text == "!" || text == ";" || is_bare_run(text)
+}
+
+/// Whether the name is written as an operator without spaces: a bare run of graphic characters, `,` or `;`.
+pub(crate) fn is_symbolic(name: &str) -> bool
+    ensures { result ≡ pieces.is_symbolic name.now }
+{
+    name == "," || name == ";" || is_bare(name) && are_graphic(name.as_bytes())
 }
 
 /// Appends a backslash and this byte.

@@ -5,55 +5,17 @@ ghost use Rattle.iso_model.specs.Terms.{term_of, row_of};
 ghost use Rattle.iso_model.specs.Pieces as pieces;
 ghost use Rattle.iso_write.specs.Styles.{style_of};
 ghost use Rattle.iso_write.specs.Forms.{form_written, arguments_written, written, is_nil, operator_of};
-ghost use Rattle.iso_write.specs.Tasks.{placed, needs_brackets, pieces_of, with_tasks, load, form_load, tasks_load};
+ghost use Rattle.iso_write.specs.Tasks.{placed, stands_apart, pieces_of, with_tasks, load, form_load, tasks_load};
 
+use super::brackets::has_brackets;
 use super::forms::{Form, Operator, form_of};
-use super::names::{are_graphic, is_bare};
+use super::leads::leading_byte;
+use super::names::is_symbolic;
 use super::style::Style;
 use super::tasks::{Place, Task};
 use iso_model::Term;
 use iso_ops::OpTable;
 use std::alloc::AllocError;
-
-/// Whether the name is written as an operator without spaces: a bare run of graphic characters, `,` or `;`.
-fn is_symbolic(name: &str) -> bool
-    ensures { result ≡ pieces.is_symbolic name.now }
-{
-    name == "," || name == ";" || is_bare(name) && are_graphic(name.as_bytes())
-}
-
-/// Whether the name is an operator of some kind.
-fn is_operator_name(name: &str, ops: &OpTable) -> bool
-    ensures { (style : pieces.Style) (seen : List ℕ) → result ≡ pieces.is_operator_name style ops.now seen name.now }
-{
-    ops.prefix(name).is_some() || ops.infix(name).is_some() || ops.postfix(name).is_some()
-}
-
-/// Whether what is written is an atom that is an operator.
-fn is_operator(form: Form<'_>, style: Style, ops: &OpTable) -> bool
-    ensures { (seen : List ℕ) → result ≡ (form_written (style_of style) ops.now seen form.entry).is_operator }
-{
-    match form {
-        Form::Atom(name) => is_operator_name(name, ops) && style.uses_operators(),
-        _ => false,
-    }
-}
-
-/// Whether the term stands in brackets in its place.
-fn has_brackets(form: Form<'_>, place: Place<'_>, style: Style, ops: &OpTable) -> bool
-    ensures { (seen : List ℕ) → result ≡ needs_brackets place.entry (form_written (style_of style) ops.now seen form.entry) }
-{
-    let priority = form.priority();
-    match place {
-        Place::Whole(most) => most < priority,
-        Place::Left(operator) => {
-            form.is_open() && priority == operator.priority && operator.takes_equal()
-                || is_operator(form, style, ops)
-                || operator.left() < priority
-        }
-        Place::Right(operator) => is_operator(form, style, ops) || operator.right() < priority,
-    }
-}
 
 /// Puts tasks before the other tasks, the last of them first.
 fn push_all<'t>(todo: &mut Vec<Task<'t>>, tasks: &[Task<'t>]) -> Result<(), AllocError>
@@ -106,23 +68,36 @@ fn push_infix<'t>(
     }
 }
 
+/// Whether a space stands between a prefix operator and its operand: the operator is no symbol, or the operand's text begins
+/// with a bracket or, behind `-`, with a digit.
+fn is_apart<'t>(operator: Operator<'t>, term: &'t Term, style: Style, ops: &OpTable) -> bool
+    ensures { (seen : List ℕ) → result ≡ stands_apart (operator_of operator.entry) (written (style_of style) ops.now seen (term_of term.now)) }
+{
+    if !is_symbolic(operator.name) {
+        return true;
+    }
+    let first = leading_byte(term, Place::Right(operator), style, ops).unwrap_or(0);
+    first == b'(' || operator.name == "-" && first.is_ascii_digit()
+}
+
 /// Puts a prefix operator and its operand before the other tasks.
 fn push_prefix<'t>(
     todo: &mut Vec<Task<'t>>,
     operator: Operator<'t>,
     term: &'t Term,
+    style: Style,
+    ops: &OpTable,
 ) -> Result<(), AllocError>
-    ensures pieces { OnOk result ((style : pieces.Style) (table : List ops.Operator) (seen : List ℕ) → pieces_of style table seen todo.new.items
-        ≡ pieces.prefix_pieces style table seen (operator_of operator.entry) (written style table seen (term_of term.now)) ++ pieces_of style table seen todo.old.items) }
+    ensures pieces { OnOk result ((seen : List ℕ) → pieces_of (style_of style) ops.now seen todo.new.items
+        ≡ pieces.prefix_pieces (style_of style) ops.now seen (operator_of operator.entry) (written (style_of style) ops.now seen (term_of term.now)) ++ pieces_of (style_of style) ops.now seen todo.old.items) }
     ensures load { OnOk result (tasks_load todo.new.items < 16 + load (term_of term.now) + tasks_load todo.old.items) }
 {
     let behind = Task::Placed(term, Place::Right(operator));
-    let space = if is_symbolic(operator.name) {
-        Task::BehindPrefix(operator.name == "-")
+    if is_apart(operator, term, style, ops) {
+        push_all(todo, &[behind, Task::Gap, Task::Name(operator.name)])
     } else {
-        Task::Gap
-    };
-    push_all(todo, &[behind, space, Task::Name(operator.name)])
+        push_all(todo, &[behind, Task::Name(operator.name)])
+    }
 }
 
 /// Puts a postfix operator and its operand before the other tasks.
@@ -173,9 +148,14 @@ fn push_compound<'t>(
 }
 
 /// Puts what is written in a form before the other tasks.
-pub(crate) fn push_form<'t>(todo: &mut Vec<Task<'t>>, form: Form<'t>) -> Result<(), AllocError>
-    ensures pieces { OnOk result ((style : pieces.Style) (table : List ops.Operator) (seen : List ℕ) → pieces_of style table seen todo.new.items
-        ≡ (form_written style table seen form.entry).bare ++ pieces_of style table seen todo.old.items) }
+pub(crate) fn push_form<'t>(
+    todo: &mut Vec<Task<'t>>,
+    form: Form<'t>,
+    style: Style,
+    ops: &OpTable,
+) -> Result<(), AllocError>
+    ensures pieces { OnOk result ((seen : List ℕ) → pieces_of (style_of style) ops.now seen todo.new.items
+        ≡ (form_written (style_of style) ops.now seen form.entry).bare ++ pieces_of (style_of style) ops.now seen todo.old.items) }
     ensures load { OnOk result (tasks_load todo.new.items < form_load form.entry + tasks_load todo.old.items) }
 {
     match form {
@@ -190,7 +170,7 @@ pub(crate) fn push_form<'t>(todo: &mut Vec<Task<'t>>, form: Form<'t>) -> Result<
             let term = Task::Placed(term, Place::Whole(1200));
             push_all(todo, &[Task::Mark("}"), term, Task::Mark("{")])
         }
-        Form::Prefix(operator, term) => push_prefix(todo, operator, term),
+        Form::Prefix(operator, term) => push_prefix(todo, operator, term, style, ops),
         Form::Infix(operator, left, right) => push_infix(todo, operator, left, right),
         Form::Postfix(operator, term) => push_postfix(todo, operator, term),
         Form::Compound(name, arguments) => push_compound(todo, name, arguments),

@@ -28,8 +28,6 @@ pub(crate) enum Task<'t> {
     Integer(i64),
     /// A space before the next piece.
     Gap,
-    /// A space before the next piece if that begins with a bracket or, behind `-`, with a digit.
-    BehindPrefix(bool),
     /// A term in its place, in brackets where it needs them.
     Placed(&'t Term, Place<'t>),
     /// A term without brackets.

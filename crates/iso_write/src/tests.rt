@@ -29,6 +29,14 @@ fn with_neg(alloc: Global) -> Result<OpTable, OpFault> {
     Ok(ops)
 }
 
+/// The operators before any is set, with `to` as an operator of 200 xfx and `??` as one of 200 yf.
+fn with_tight(alloc: Global) -> Result<OpTable, OpFault> {
+    let mut ops = OpTable::initial(alloc)?;
+    ops.add_op(200, "xfx", "to")?;
+    ops.add_op(200, "yf", "??")?;
+    Ok(ops)
+}
+
 fn text_of(
     alloc: Global,
     term: &Term,
@@ -96,6 +104,41 @@ fn signs(rt: HostRuntime) -> Result<(), Fail> {
     let minus_1 = one(alloc, "-", Term::Int(1))?;
     expect(&rt, alloc, one(alloc, "-", minus_1)?, "- - 1")?;
     expect(&rt, alloc, Term::Int(i64::MIN), "-9223372036854775808")
+}
+
+/// Checks the text of `-(operand)` as a whole, where no name is quoted and `to` and `??` are operators too.
+fn expect_minus(rt: &impl Abort, alloc: Global, operand: Term, expected: &str) -> Result<(), Fail> {
+    let ops = with_tight(alloc).map_err(|_| Fail::from("no operator"))?;
+    let term = one(alloc, "-", operand)?;
+    let text = text_of(alloc, &term, Style::Write, 1200, &ops)?;
+    assert_eq!(rt; text.as_slice(), expected.as_bytes());
+    Ok(())
+}
+
+/// An empty name that is not quoted: what the operand's text begins with is what stands behind the name.
+#[test]
+fn empty_names(rt: HostRuntime) -> Result<(), Fail> {
+    let alloc = rt.alloc();
+    let call = one(alloc, "", atom(alloc, "a")?)?;
+    expect_minus(&rt, alloc, call, "- (a)")?;
+    let call = one(alloc, "", atom(alloc, "a")?)?;
+    expect(&rt, alloc, one(alloc, "-", call)?, "-''(a)")?;
+    let call = one(alloc, "", atom(alloc, "a")?)?;
+    expect_minus(&rt, alloc, one(alloc, "-", call)?, "- - (a)")?;
+    expect_minus(&rt, alloc, atom(alloc, "")?, "-")?;
+    let call = one(alloc, "", atom(alloc, "a")?)?;
+    let power = two(alloc, "^", call, atom(alloc, "b")?)?;
+    expect_minus(&rt, alloc, power, "- (a)^b")?;
+    let call = one(alloc, "", atom(alloc, "a")?)?;
+    expect_minus(&rt, alloc, one(alloc, "??", call)?, "- (a)??")?;
+    let power = two(alloc, "^", atom(alloc, "")?, atom(alloc, "a")?)?;
+    expect_minus(&rt, alloc, power, "-^a")?;
+    let word = two(alloc, "to", atom(alloc, "")?, atom(alloc, "b")?)?;
+    expect_minus(&rt, alloc, word, "- to b")?;
+    let number = one(alloc, "??", Term::Int(1))?;
+    expect_minus(&rt, alloc, number, "- 1??")?;
+    let sum = two(alloc, "+", atom(alloc, "")?, atom(alloc, "b")?)?;
+    expect_minus(&rt, alloc, sum, "- (+b)")
 }
 
 #[test]

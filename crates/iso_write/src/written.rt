@@ -98,13 +98,12 @@ fn take_turn<'t>(
         Task::Variable(number) => append_variable(alloc, out, edge, number, seen),
         Task::Integer(value) => append_integer(out, edge, value),
         Task::Gap => Ok(edge.with_gap()),
-        Task::BehindPrefix(is_minus) => Ok(edge.behind_prefix(is_minus)),
         Task::Placed(term, place) => {
             push_placed(todo, term, place, style, ops)?;
             Ok(edge)
         }
         Task::Bare(term) => {
-            push_form(todo, form_of(term, style, ops))?;
+            push_form(todo, form_of(term, style, ops), style, ops)?;
             Ok(edge)
         }
         Task::Tail(tail) => {

@@ -1,6 +1,6 @@
 use Rattle.std.proofs.Common.{sym, ◌∙◌}
 use Rattle.iso_write.specs.Styles.{style_of}
-use Rattle.iso_write.proofs.parts.is_operator.Goals as goal
+use Rattle.iso_write.proofs.brackets.is_operator.Goals as goal
 
 pub returns-then-is_operator_name : goal.returns-then-is_operator_name
 returns-then-is_operator_name c = λ seen.
