@@ -1,12 +1,13 @@
 -- What a session has written when it ends (own): all of its text, or a beginning of it where a limit or the writer ends it.
-use Rattle.std.specs.Prelude.{◌≡◌, ◌<◌, ℕ, false, List, [], ◌∷◌, ◌++◌, length, Option, codes}
+use Rattle.std.specs.Prelude.{◌≡◌, ◌<◌, ◌+◌, ℕ, false, List, [], ◌∷◌, ◌++◌, length, Option, codes}
 use Rattle.std.specs.Io.KnownBytes.{Appends}
 use Rattle.iso_model.specs.Grammar.{Clause}
 use Rattle.iso_model.specs.Items.{Readable}
-use Rattle.iso_model.specs.Walker.{World, State}
+use Rattle.iso_model.specs.Walker.{World, State, idle, started}
+use Rattle.iso_model.specs.Runs.{HasGiven}
 use Rattle.iso_model.specs.Engines.{Phase, Spent}
 use Rattle.iso_model.specs.RunLaws.{run_of}
-use Rattle.iso_model.specs.Sessions.{Piece, Line, Script, SessionEnd, prepend, pieces_bytes, script_bytes, script_end, run_script, query_script, session_script}
+use Rattle.iso_model.specs.Sessions.{Piece, Line, Script, Shows, SessionEnd, prepend, pieces_bytes, script_bytes, script_end, run_script, query_goal, query_script, session_script}
 
 -- a writer's bytes, where they are known, grew by a beginning of these, behind which something is left
 pub record Begins (old new : Option (List ℕ)) (whole : List ℕ) : Type 0 where
@@ -63,22 +64,25 @@ Writes script Stops old new (Closed ending) = Appends old new (script_bytes fals
 Writes script Stops old new (Limited limit) = IsCut script limit (Stops limit) old new
 Writes script Stops old new Broken = IsBroken script Stops old new
 
--- What the rest of a script begins with where an engine stopped in this state: the rest of the state's run, or a query that was not started.
-pub data StopsAt (s : State) : Script → Type 0 where
-  within_run : (names : List (List ℕ × ℕ)) (k : ℕ) (next : World → Script) → StopsAt s (run_script names k (run_of s) next)
-  before_run : (query : Clause) (budget : ℕ) (next : World → Script) → StopsAt s (query_script budget (Readable query) s.world next)
+-- Where in a script an engine stopped that stands for this state: at a query that it did not start, or within a query's run, behind all that the
+-- run gave so far, some pieces further on; and what is left of the script there.
+pub data StopsAt (budget : ℕ) (s : State) : Script → Script → Type 0 where
+  before_run : (query : Clause) (w : World) (next : World → Script) → s ≡ idle w → StopsAt budget s (query_script budget (Readable query) w next) (query_script budget (Readable query) w next)
+  within_run : (query : Clause) (w : World) (next : World → Script) (k : ℕ) → HasGiven (started (query_goal query.term) budget w) k s
+      → StopsAt budget s (query_script budget (Readable query) w next) (run_script query.names (k + 1) (run_of s) next)
+  further_on : (p : Piece) {script rest : Script} → StopsAt budget s script rest → StopsAt budget s (Shows p script) rest
 
--- the rest of a script begins where an engine stopped that stands for states of which P holds
-pub record StopsIn (P : State → Type 0) (rest : Script) : Type 0 where
+-- an engine stopped there that stands for states of which P holds
+pub record StopsIn (budget : ℕ) (P : State → Type 0) (script rest : Script) : Type 0 where
   pub at : State
   pub stands : P at
-  pub stops : StopsAt at rest
+  pub stops : StopsAt budget at script rest
 
 -- Heap and frames stop an engine; memory may also be refused to the session itself.
-abbrev pub EngineStops : (State → Type 0) → Phase → Limit → Script → Type 0
-EngineStops Stands now Heap rest = StopsIn Stands rest
-EngineStops Stands now Frames rest = StopsIn Stands rest
-EngineStops Stands now Memory rest = now ≡ Spent → StopsIn Stands rest
+abbrev pub EngineStops : ℕ → (State → Type 0) → Phase → Script → Limit → Script → Type 0
+EngineStops budget Stands now script Heap rest = StopsIn budget Stands script rest
+EngineStops budget Stands now script Frames rest = StopsIn budget Stands script rest
+EngineStops budget Stands now script Memory rest = now ≡ Spent → StopsIn budget Stands script rest
 
 -- For every program text, every list of queries and every budget, the bytes that a session writes are those of the standard's search, walked
 -- depth first and left to right: each output, answer and error, in order, with repetitions; a session that heap, frames or memory end has

@@ -1,6 +1,7 @@
 -- Runs of the search: what it shows, in order, and how it ends (ISO/IEC 13211-1:1995, 7.7).
-use Rattle.std.specs.Prelude.{◌≡◌}
-use Rattle.iso_model.specs.Walker.{State, World, Event, Ending, Goes, Gives, Ends, step, idle}
+use Rattle.std.specs.Prelude.{◌≡◌, ℕ, ◌+◌, List}
+use Rattle.iso_model.specs.Trees.{Tree}
+use Rattle.iso_model.specs.Walker.{State, World, Event, Ending, Answered, Wrote, Goes, Gives, Ends, step, idle}
 
 -- events in order, each with the world behind it, and then the ending with what outlives the run
 pub data Trace : Type 0 where
@@ -17,6 +18,12 @@ pub data Run : State → Trace → Type 0 where
 pub data Quiet : State → State → Type 0 where
   here : {s : State} → Quiet s s
   onward : {s t u : State} → Quiet s t → step t ≡ Goes u → Quiet s u
+
+-- Behind so many answers, and the outputs between them, the run of the first state stands at the second: it has just begun, or just given one.
+pub data HasGiven (s : State) : ℕ → State → Type 0 where
+  begun : HasGiven s 0 s
+  gave_answer : {k : ℕ} {t u v : State} {values : List Tree} → HasGiven s k t → Quiet t u → step u ≡ Gives (Answered values) v → HasGiven s (k + 1) v
+  gave_output : {k : ℕ} {t u v : State} {bytes : List ℕ} → HasGiven s k t → Quiet t u → step u ≡ Gives (Wrote bytes) v → HasGiven s k v
 
 -- Some steps without an event, and then this event, lead to a state that the relation holds of.
 pub record Comes (old : State) (event : Event) (Stands : State → Type 0) : Type 0 where

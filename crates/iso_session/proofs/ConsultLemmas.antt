@@ -33,58 +33,58 @@ abbrev unreadable_by : List ℕ → List ℕ
 unreadable_by number = codes "syntax error in clause " ++ number
 
 -- the term could not be read
-pub unreadable : (Stands : State → Type 0) (now : Phase) (old new : Place) (count k : ℕ) (s : State) (next : World → Script) (r : Result Flow Fault)
-    → Stands s → now ≡ Ready → IsCount count k → PutsLine (syntax_error_line count) flow.On old new r
-    → Does Stands now old new (term_script k Unreadable s.world next) next r
-unreadable Stands now old new count k s next r stands ready counts puts =
+pub unreadable : (budget : ℕ) (Stands : State → Type 0) (now : Phase) (old new : Place) (count k : ℕ) (w : World) (next : World → Script) (r : Result Flow Fault)
+    → Stands (idle w) → now ≡ Ready → IsCount count k → PutsLine (syntax_error_line count) flow.On old new r
+    → Does budget Stands now old new (term_script k Unreadable w next) next r
+unreadable budget Stands now old new count k w next r stands ready counts puts =
     let line = subst (λ z. PutsLine z flow.On old new r) (ap unreadable_by (counted_same count k counts)) puts in
-    puts_on Stands now old new (syntax_error_line k) s next r line stands ready
+    puts_on budget Stands now old new (syntax_error_line k) w next r line stands ready
 
 abbrev skipped_as : List ℕ → List ℕ
 skipped_as number = codes "clause " ++ (number ++ codes " skipped")
 
 -- the term is passed over
-pub skipped : (Stands : State → Type 0) (now : Phase) (old new : Place) (count k : ℕ) (t : Tree) (s : State) (next : World → Script) (r : Result Flow Fault)
-    → Stands s → now ≡ Ready → IsCount count k → is_skipped t ≡ true → PutsLine (skipped_line count) flow.On old new r
-    → Does Stands now old new (read_script k t s.world next) next r
-skipped Stands now old new count k t s next r stands ready counts is puts =
+pub skipped : (budget : ℕ) (Stands : State → Type 0) (now : Phase) (old new : Place) (count k : ℕ) (t : Tree) (w : World) (next : World → Script) (r : Result Flow Fault)
+    → Stands (idle w) → now ≡ Ready → IsCount count k → is_skipped t ≡ true → PutsLine (skipped_line count) flow.On old new r
+    → Does budget Stands now old new (read_script k t w next) next r
+skipped budget Stands now old new count k t w next r stands ready counts is puts =
     let line = subst (λ z. PutsLine z flow.On old new r) (ap skipped_as (counted_same count k counts)) puts in
-    rw is (puts_on Stands now old new (skipped_line k) s next r line stands ready)
+    rw is (puts_on budget Stands now old new (skipped_line k) w next r line stands ready)
 
 -- any other term is a clause
 pub not_skipped : (k : ℕ) (t : Tree) (w : World) (next : World → Script) → is_skipped t ≡ false → read_script k t w next ≡ added_script k (addition t w.database) w next
 not_skipped k t w next is = rw is refl
 
 -- the clause was refused with this ball, where these are the operators of what the engine stands for
-pub refused : (Stands : State → Type 0) (table : List Operator) → ((t : State) → Stands t → table ≡ t.world.operators) → (now : Phase) (old new : Place) (count k : ℕ) (a : Addition) (s : State) (ball : Ball) (next : World → Script) (r : Result Flow Fault)
-    → Consults a s (Err (add.Refused ball)) Stands → now ≡ Ready → IsCount count k → PutsLine (refused_line table count (term_of ball.term)) flow.On old new r
-    → Does Stands now old new (added_script k a s.world next) next r
-refused Stands table ops now old new count k (Adds db) s ball next r c ready counts puts = absurd c
-refused Stands table ops now old new count k (Refuses error) s ball next r c ready counts puts =
-    let same = ap (λ z. refused_by table z (term_of ball.term)) (counted_same count k counts) ∙ ap₂ (λ o z. refused_line o k z) (ops (idle s.world) c.1) c.0 in
+pub refused : (budget : ℕ) (Stands : State → Type 0) (table : List Operator) → ((t : State) → Stands t → table ≡ t.world.operators) → (now : Phase) (old new : Place) (count k : ℕ) (a : Addition) (w : World) (ball : Ball) (next : World → Script) (r : Result Flow Fault)
+    → Consults a (idle w) (Err (add.Refused ball)) Stands → now ≡ Ready → IsCount count k → PutsLine (refused_line table count (term_of ball.term)) flow.On old new r
+    → Does budget Stands now old new (added_script k a w next) next r
+refused budget Stands table ops now old new count k (Adds db) w ball next r c ready counts puts = absurd c
+refused budget Stands table ops now old new count k (Refuses error) w ball next r c ready counts puts =
+    let same = ap (λ z. refused_by table z (term_of ball.term)) (counted_same count k counts) ∙ ap₂ (λ o z. refused_line o k z) (ops (idle w) c.1) c.0 in
     let line = subst (λ z. PutsLine z flow.On old new r) same puts in
-    puts_on Stands now old new (refused_line s.world.operators k error) (idle s.world) next r line c.1 ready
+    puts_on budget Stands now old new (refused_line w.operators k error) w next r line c.1 ready
 
 -- How far the text was consulted: what is left of it, and where its script is.
 pub record TextPlace (Stands : State → Type 0) (count : ℕ) (ts : List Shown) (old new : Place) (script : Script) (next : World → Script) : Type 0 where
-  pub at : State
-  pub stands : Stands at
+  pub at : World
+  pub stands : Stands (idle at)
   pub done : ℕ
   pub turns : ℕ
   pub counts : IsCount count done
   pub enough : length ts ≤ turns
-  pub advances : Advances old new script (text_script turns (done + 1) ts at.world next)
+  pub advances : Advances old new script (text_script turns (done + 1) ts at next)
 
-pub text_begins : (Stands : State → Type 0) (s : State) (ts : List Shown) (old : Place) (next : World → Script) → Stands s
-    → TextPlace Stands 0 ts old old (text_script (length ts) 1 ts s.world next) next
-text_begins Stands s ts old next stands = record {
-  at = s;
+pub text_begins : (Stands : State → Type 0) (w : World) (ts : List Shown) (old : Place) (next : World → Script) → Stands (idle w)
+    → TextPlace Stands 0 ts old old (text_script (length ts) 1 ts w next) next
+text_begins Stands w ts old next stands = record {
+  at = w;
   stands = stands;
   done = 0;
   turns = length ts;
   counts = refl;
   enough = omega arith;
-  advances = advance_none old (text_script (length ts) 1 ts s.world next);
+  advances = advance_none old (text_script (length ts) 1 ts w next);
 }
 
 text_over : (turns k : ℕ) (w : World) (next : World → Script) → text_script turns k [] w next ≡ next w
@@ -98,9 +98,9 @@ empty_by table flags (t ∷ ts) h = cc
 
 -- no item is left
 pub text_ends : (Stands : State → Type 0) (now : Phase) (count : ℕ) (ts : List Shown) (old new : Place) (script : Script) (next : World → Script)
-    → (p : TextPlace Stands count ts old new script next) → now ≡ Ready → next_item p.at.world.operators p.at.world.flags ts ≡ None → GoesOn Stands now old new script next
+    → (p : TextPlace Stands count ts old new script next) → now ≡ Ready → next_item p.at.operators p.at.flags ts ≡ None → GoesOn Stands now old new script next
 text_ends Stands now count ts old new script next p ready none =
-    let over = ap (λ z. text_script p.turns (p.done + 1) z p.at.world next) (empty_by p.at.world.operators p.at.world.flags ts none) ∙ text_over p.turns (p.done + 1) p.at.world next in
+    let over = ap (λ z. text_script p.turns (p.done + 1) z p.at next) (empty_by p.at.operators p.at.flags ts none) ∙ text_over p.turns (p.done + 1) p.at next in
     record { at = p.at; stands = p.stands; ready = ready; advances = subst (λ z. Advances old new script z) over p.advances }
 
 item_script : (turns k : ℕ) (ts : List Shown) (x : Taken) (w : World) (next : World → Script) → next_item w.operators w.flags ts ≡ Some x
@@ -110,21 +110,21 @@ item_script turns k ts x w next h = ap (λ o. text_by k w o next (λ behind v. t
 
 -- the next item, and the script behind it
 pub record TextTurn (Stands : State → Type 0) (count : ℕ) (i : Item) (behind : List Shown) (old mid : Place) (script : Script) (next : World → Script) : Type 0 where
-  pub at : State
-  pub stands : Stands at
+  pub at : World
+  pub stands : Stands (idle at)
   pub k : ℕ
   pub turns : ℕ
   pub counts : IsCount count k
   pub enough : length behind ≤ turns
-  pub advances : Advances old mid script (term_script k i at.world (λ v. text_script turns (k + 1) behind v next))
+  pub advances : Advances old mid script (term_script k i at (λ v. text_script turns (k + 1) behind v next))
 
 pub text_turns : (Stands : State → Type 0) (count later : ℕ) (ts : List Shown) (x : Taken) (old mid : Place) (script : Script) (next : World → Script)
-    → (p : TextPlace Stands count ts old mid script next) → next_item p.at.world.operators p.at.world.flags ts ≡ Some x → length x.behind < length ts → later ≡ min (count + 1) 18446744073709551615
+    → (p : TextPlace Stands count ts old mid script next) → next_item p.at.operators p.at.flags ts ≡ Some x → length x.behind < length ts → later ≡ min (count + 1) 18446744073709551615
     → TextTurn Stands later x.item x.behind old mid script next
 text_turns Stands count later ts x old mid script next p item shorter counted =
     let some = p.turns - 1 in
     let turn : p.turns ≡ suc some = omega (arith, p.enough, shorter) in
-    let whole = ap (λ n. text_script n (p.done + 1) ts p.at.world next) turn ∙ item_script some (p.done + 1) ts x p.at.world next item in
+    let whole = ap (λ n. text_script n (p.done + 1) ts p.at next) turn ∙ item_script some (p.done + 1) ts x p.at next item in
     record {
       at = p.at;
       stands = p.stands;
@@ -138,7 +138,7 @@ text_turns Stands count later ts x old mid script next p item shorter counted =
 -- the item was consulted, and the session goes on
 pub text_goes : (Stands Later : State → Type 0) (now : Phase) (count : ℕ) (i : Item) (behind : List Shown) (old mid new : Place) (script : Script) (next : World → Script)
     → (t : TextTurn Stands count i behind old mid script next)
-    → GoesOn Later now mid new (term_script t.k i t.at.world (λ v. text_script t.turns (t.k + 1) behind v next)) (λ v. text_script t.turns (t.k + 1) behind v next)
+    → GoesOn Later now mid new (term_script t.k i t.at (λ v. text_script t.turns (t.k + 1) behind v next)) (λ v. text_script t.turns (t.k + 1) behind v next)
     → (now ≡ Ready) × TextPlace Later count behind old new script next
 text_goes Stands Later now count i behind old mid new script next t g = (
   g.ready,
@@ -163,7 +163,7 @@ nothing_found table flags ts later o item none = item ∙ nothing_by o later non
 
 -- the turn of the item that was found
 pub text_found : (Stands : State → Type 0) (count later : ℕ) (ts behind : List Shown) (o : Option RustItem) (i : RustItem) (old mid : Place) (script : Script) (next : World → Script)
-    → (p : TextPlace Stands count ts old mid script next) → next_item p.at.world.operators p.at.world.flags ts ≡ found o behind → o ≡ Some i → IfSome o (λ _. length behind < length ts)
+    → (p : TextPlace Stands count ts old mid script next) → next_item p.at.operators p.at.flags ts ≡ found o behind → o ≡ Some i → IfSome o (λ _. length behind < length ts)
     → later ≡ min (count + 1) 18446744073709551615 → TextTurn Stands later (item_read i) behind old mid script next
 text_found Stands count later ts behind o i old mid script next p item some shorter counted =
     let here = rw some at item in

@@ -65,29 +65,29 @@ all_begun P old mid new script ending h none =
     all_broken P old new script (rw same (begins_behind old mid.0 new (pieces_bytes false h.gave) [] h.bytes none))
 
 -- the session was closed behind its last part
-pub closes : (Stands : State → Type 0) (now : Phase) (old : Option (List ℕ)) (mid : Place) (new : Option (List ℕ)) (script : Script) (f : Flow) (r : Result Ended Fault)
-    → Does Stands now (old, false) mid script (λ _. Closes Done) (Ok f) → IfOk r (λ e. e ≡ ended_of f)
+pub closes : (budget : ℕ) (Stands : State → Type 0) (now : Phase) (old : Option (List ℕ)) (mid : Place) (new : Option (List ℕ)) (script : Script) (f : Flow) (r : Result Ended Fault)
+    → Does budget Stands now (old, false) mid script (λ _. Closes Done) (Ok f) → IfOk r (λ e. e ≡ ended_of f)
     → OnOk r (Appends mid.0 new (closing_bytes mid.1 f)) → OnErr r (Begins mid.0 new (closing_bytes mid.1 f))
-    → Writes script (EngineStops Stands now) old new (outcome_of r)
-closes Stands now old mid new script flow.On (Ok e) d is ok err = rw is (all_written old mid new script Done d.advances ok)
-closes Stands now old mid new script (flow.Halts n) (Ok e) d is ok err = rw is (all_written old mid new script (Halts n) d ok)
-closes Stands now old mid new script (flow.Stops limit.Heap) (Ok e) d is ok err =
+    → Writes script (EngineStops budget Stands now script) old new (outcome_of r)
+closes budget Stands now old mid new script flow.On (Ok e) d is ok err = rw is (all_written old mid new script Done d.advances ok)
+closes budget Stands now old mid new script (flow.Halts n) (Ok e) d is ok err = rw is (all_written old mid new script (Halts n) d ok)
+closes budget Stands now old mid new script (flow.Stops limit.Heap) (Ok e) d is ok err =
     rw is (record { gave = d.advances.gave; rest = d.rest; is = d.advances.is; bytes = cut_written old mid new script d.rest session.Heap d.advances ok; stands = d.stops })
-closes Stands now old mid new script (flow.Stops limit.Frames) (Ok e) d is ok err =
+closes budget Stands now old mid new script (flow.Stops limit.Frames) (Ok e) d is ok err =
     rw is (record { gave = d.advances.gave; rest = d.rest; is = d.advances.is; bytes = cut_written old mid new script d.rest session.Frames d.advances ok; stands = d.stops })
-closes Stands now old mid new script (flow.Stops limit.Memory) (Ok e) d is ok err =
+closes budget Stands now old mid new script (flow.Stops limit.Memory) (Ok e) d is ok err =
     rw is (record { gave = d.advances.gave; rest = d.rest; is = d.advances.is; bytes = cut_written old mid new script d.rest session.Memory d.advances ok; stands = d.stops })
-closes Stands now old mid new script flow.On (Err e) d is ok err = all_begun (EngineStops Stands now) old mid new script Done d.advances err
-closes Stands now old mid new script (flow.Halts n) (Err e) d is ok err = all_begun (EngineStops Stands now) old mid new script (Halts n) d err
-closes Stands now old mid new script (flow.Stops limit.Heap) (Err e) d is ok err = cut_begun (EngineStops Stands now) old mid new script d.rest session.Heap d.advances d.stops err
-closes Stands now old mid new script (flow.Stops limit.Frames) (Err e) d is ok err = cut_begun (EngineStops Stands now) old mid new script d.rest session.Frames d.advances d.stops err
-closes Stands now old mid new script (flow.Stops limit.Memory) (Err e) d is ok err = cut_begun (EngineStops Stands now) old mid new script d.rest session.Memory d.advances d.stops err
+closes budget Stands now old mid new script flow.On (Err e) d is ok err = all_begun (EngineStops budget Stands now script) old mid new script Done d.advances err
+closes budget Stands now old mid new script (flow.Halts n) (Err e) d is ok err = all_begun (EngineStops budget Stands now script) old mid new script (Halts n) d err
+closes budget Stands now old mid new script (flow.Stops limit.Heap) (Err e) d is ok err = cut_begun (EngineStops budget Stands now script) old mid new script d.rest session.Heap d.advances d.stops err
+closes budget Stands now old mid new script (flow.Stops limit.Frames) (Err e) d is ok err = cut_begun (EngineStops budget Stands now script) old mid new script d.rest session.Frames d.advances d.stops err
+closes budget Stands now old mid new script (flow.Stops limit.Memory) (Err e) d is ok err = cut_begun (EngineStops budget Stands now script) old mid new script d.rest session.Memory d.advances d.stops err
 
 -- a write failed before the session was closed
-pub breaks : (Stands : State → Type 0) (now : Phase) (old new : Option (List ℕ)) (script : Script) (r : Result Ended Fault)
-    → IsErr r → Begins old new (script_bytes false script) → Writes script (EngineStops Stands now) old new (outcome_of r)
-breaks Stands now old new script (Ok e) failed b = cc
-breaks Stands now old new script (Err e) failed b = all_broken (EngineStops Stands now) old new script b
+pub breaks : (budget : ℕ) (Stands : State → Type 0) (now : Phase) (old new : Option (List ℕ)) (script : Script) (r : Result Ended Fault)
+    → IsErr r → Begins old new (script_bytes false script) → Writes script (EngineStops budget Stands now script) old new (outcome_of r)
+breaks budget Stands now old new script (Ok e) failed b = cc
+breaks budget Stands now old new script (Err e) failed b = all_broken (EngineStops budget Stands now script) old new script b
 
 any_written : {script : Script} {P : Limit → Script → Type 0} {text : List ℕ} → IsWritten script P text → IsWritten script AnyRest text
 any_written whole = whole
@@ -104,6 +104,6 @@ pub refused_session : (script : Script) (old new : Option (List ℕ)) (r : Resul
     → OnOk r (Appends old new (closing_bytes false (flow.Stops limit.Memory))) → OnErr r (Begins old new (closing_bytes false (flow.Stops limit.Memory)))
     → Writes script AnyRest old new (outcome_of r)
 refused_session script old new r is ok err =
-    let stops : Does (λ s. ⊥) Ready (old, false) (old, false) script (λ w. Closes Done) (Ok (flow.Stops limit.Memory)) =
-    stops_before (λ s. ⊥) Ready Memory (old, false) script (λ spent. absurd (cc)) in
-    any_rest script (EngineStops (λ s. ⊥) Ready) old new (outcome_of r) (closes (λ s. ⊥) Ready old (old, false) new script (flow.Stops limit.Memory) r stops is ok err)
+    let stops : Does 0 (λ s. ⊥) Ready (old, false) (old, false) script (λ w. Closes Done) (Ok (flow.Stops limit.Memory)) =
+    stops_before 0 (λ s. ⊥) Ready Memory (old, false) script (λ spent. absurd (cc)) in
+    any_rest script (EngineStops 0 (λ s. ⊥) Ready script) old new (outcome_of r) (closes 0 (λ s. ⊥) Ready old (old, false) new script (flow.Stops limit.Memory) r stops is ok err)

@@ -3,7 +3,7 @@ use Rattle.std.specs.Prelude.{◌≡◌, ℕ, min, Bool, List, [], ◌∷◌, Op
 use Rattle.std.specs.Io.KnownBytes.{Appends}
 use Rattle.iso_ops.specs.Operators.{Operator}
 use Rattle.iso_model.specs.Engines.{Phase, Ready}
-use Rattle.iso_model.specs.Walker.{World, State}
+use Rattle.iso_model.specs.Walker.{World, State, idle}
 use Rattle.iso_model.specs.Sessions.{Piece, Line, Script, Closes, Done, Halts, prepend, piece_bytes, within_behind, pieces_bytes, script_bytes}
 use Rattle.iso_model.specs.Beginnings as session
 use Rattle.iso_model.specs.Beginnings.{Begins, EngineStops, Outcome, Closed, Limited, Broken}
@@ -50,26 +50,26 @@ pub record Advances (old new : Place) (before after : Script) : Type 0 where
   pub within : new.1 ≡ within_after old.1 gave
   pub is : before ≡ prepend gave after
 
--- The part was done: the session goes on behind it over what world its engine stands for.
+-- The part was done: no goal runs, and the session goes on behind it over this world, for which its engine stands.
 pub record GoesOn (Stands : State → Type 0) (now : Phase) (old new : Place) (script : Script) (behind : World → Script) : Type 0 where
-  pub at : State
-  pub stands : Stands at
+  pub at : World
+  pub stands : Stands (idle at)
   pub ready : now ≡ Ready
-  pub advances : Advances old new script (behind at.world)
+  pub advances : Advances old new script (behind at)
 
 -- A limit stopped the session within the part.
-pub record Stops (Stands : State → Type 0) (now : Phase) (limit : session.Limit) (old new : Place) (script : Script) : Type 0 where
+pub record Stops (budget : ℕ) (Stands : State → Type 0) (now : Phase) (limit : session.Limit) (old new : Place) (script : Script) : Type 0 where
   pub rest : Script
   pub advances : Advances old new script rest
-  pub stops : EngineStops Stands now limit rest
+  pub stops : EngineStops budget Stands now script limit rest
 
--- What a part of a session with this script has done that answers so, where `behind` is the script of what follows it: it goes on, ends the
--- script, or stops within it; a failed write leaves a beginning.
-abbrev pub Does : (State → Type 0) → Phase → Place → Place → Script → (World → Script) → Result Flow Fault → Type 0
-Does Stands now old new script behind (Ok flow.On) = GoesOn Stands now old new script behind
-Does Stands now old new script behind (Ok (flow.Halts status)) = Advances old new script (Closes (Halts status))
-Does Stands now old new script behind (Ok (flow.Stops limit)) = Stops Stands now (limit_of limit) old new script
-Does Stands now old new script behind (Err fault) = Begins old.0 new.0 (script_bytes old.1 script)
+-- What a part of a session with this script has done that answers so, where its queries have this budget and `behind` is the script of what
+-- follows it: it goes on, ends the script, or stops within it; a failed write leaves a beginning.
+abbrev pub Does : ℕ → (State → Type 0) → Phase → Place → Place → Script → (World → Script) → Result Flow Fault → Type 0
+Does budget Stands now old new script behind (Ok flow.On) = GoesOn Stands now old new script behind
+Does budget Stands now old new script behind (Ok (flow.Halts status)) = Advances old new script (Closes (Halts status))
+Does budget Stands now old new script behind (Ok (flow.Stops limit)) = Stops budget Stands now (limit_of limit) old new script
+Does budget Stands now old new script behind (Err fault) = Begins old.0 new.0 (script_bytes old.1 script)
 
 -- A line was written, and the session goes on so; or memory for it was refused, and nothing was written.
 abbrev pub PutsLine : List ℕ → Flow → Place → Place → Result Flow Fault → Type 0

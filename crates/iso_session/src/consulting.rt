@@ -6,7 +6,7 @@ ghost use Rattle.iso_model.specs.Sessions.{Script, added_script, read_script, te
 ghost use Rattle.iso_model.specs.Terms.{term_of};
 ghost use Rattle.iso_model.specs.Tokens.{tokens};
 ghost use Rattle.iso_model.specs.Trees.{arities_fit};
-ghost use Rattle.iso_model.specs.Walker.{State, World};
+ghost use Rattle.iso_model.specs.Walker.{World, idle};
 ghost use Rattle.iso_session.specs.Progress.{Does, IsCount};
 ghost use Rattle.iso_session.specs.Read.{item_read, Fits};
 
@@ -30,12 +30,12 @@ fn consult_term<E: Engine, W: Write>(
     within_line: &mut bool,
 ) -> Result<Flow, Fault>
     requires ready { E.phase engine.old ≡ Ready }
-    requires stands { (s : State) × E.stands_for engine.old s }
+    requires stands { (w : World) × E.stands_for engine.old (idle w) }
     requires fits { arities_fit (term_of term.now) ≡ true }
-    ensures { (s : State) → E.stands_for engine.old s → (k : ℕ) → IsCount count k → (next : World → Script)
-        → Does (E.stands_for engine.new) (E.phase engine.new)
+    ensures { (w : World) → E.stands_for engine.old (idle w) → (k : ℕ) → IsCount count k → (budget : ℕ) (next : World → Script)
+        → Does budget (E.stands_for engine.new) (E.phase engine.new)
         (W.contents out.old, within_line.old) (W.contents out.new, within_line.new)
-        (added_script k (addition (term_of term.now) s.world.database) s.world next) next result }
+        (added_script k (addition (term_of term.now) w.database) w next) next result }
 {
     match engine.consult(term) {
         Ok(()) => Ok(Flow::On),
@@ -57,12 +57,12 @@ fn consult_read<E: Engine, W: Write>(
     within_line: &mut bool,
 ) -> Result<Flow, Fault>
     requires ready { E.phase engine.old ≡ Ready }
-    requires stands { (s : State) × E.stands_for engine.old s }
+    requires stands { (w : World) × E.stands_for engine.old (idle w) }
     requires fits { arities_fit (term_of term.now) ≡ true }
-    ensures { (s : State) → E.stands_for engine.old s → (k : ℕ) → IsCount count k → (next : World → Script)
-        → Does (E.stands_for engine.new) (E.phase engine.new)
+    ensures { (w : World) → E.stands_for engine.old (idle w) → (k : ℕ) → IsCount count k → (budget : ℕ) (next : World → Script)
+        → Does budget (E.stands_for engine.new) (E.phase engine.new)
         (W.contents out.old, within_line.old) (W.contents out.new, within_line.new)
-        (read_script k (term_of term.now) s.world next) next result }
+        (read_script k (term_of term.now) w next) next result }
 {
     if is_skipped(term) {
         let line = composed::skipped_line(alloc, count);
@@ -81,12 +81,12 @@ fn consult_item<E: Engine, W: Write>(
     within_line: &mut bool,
 ) -> Result<Flow, Fault>
     requires ready { E.phase engine.old ≡ Ready }
-    requires stands { (s : State) × E.stands_for engine.old s }
+    requires stands { (w : World) × E.stands_for engine.old (idle w) }
     requires fits { Fits item }
-    ensures { (s : State) → E.stands_for engine.old s → (k : ℕ) → IsCount count k → (next : World → Script)
-        → Does (E.stands_for engine.new) (E.phase engine.new)
+    ensures { (w : World) → E.stands_for engine.old (idle w) → (k : ℕ) → IsCount count k → (budget : ℕ) (next : World → Script)
+        → Does budget (E.stands_for engine.new) (E.phase engine.new)
         (W.contents out.old, within_line.old) (W.contents out.new, within_line.new)
-        (term_script k (item_read item) s.world next) next result }
+        (term_script k (item_read item) w next) next result }
 {
     match item {
         Item::Readable(read) => consult_read(alloc, engine, count, &read.term, out, within_line),
@@ -106,11 +106,11 @@ pub fn consult_text<E: Engine, W: Write>(
     within_line: &mut bool,
 ) -> Result<Flow, Fault>
     requires ready { E.phase engine.old ≡ Ready }
-    requires stands { (s : State) × E.stands_for engine.old s }
-    ensures { (s : State) → E.stands_for engine.old s → (next : World → Script)
-        → Does (E.stands_for engine.new) (E.phase engine.new)
+    requires stands { (w : World) × E.stands_for engine.old (idle w) }
+    ensures { (w : World) → E.stands_for engine.old (idle w) → (budget : ℕ) (next : World → Script)
+        → Does budget (E.stands_for engine.new) (E.phase engine.new)
         (W.contents out.old, within_line.old) (W.contents out.new, within_line.new)
-        (text_script (length (tokens text.now)) 1 (tokens text.now) s.world next) next result }
+        (text_script (length (tokens text.now)) 1 (tokens text.now) w next) next result }
 {
     let mut tokens = Tokens::new(text);
     let mut count: u64 = 0;

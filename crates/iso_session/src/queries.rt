@@ -1,14 +1,14 @@
 //! Running the queries, each to its end.
-ghost use Rattle.std.specs.Prelude.{◌≡◌, ◌≢◌, true, length};
+ghost use Rattle.std.specs.Prelude.{◌≡◌, ◌≢◌, ℕ, true, length};
 ghost use Rattle.iso_model.specs.Engines.{Ready, Spent};
+ghost use Rattle.iso_model.specs.Grammar.{Clause};
 ghost use Rattle.iso_model.specs.Items.{Readable};
-ghost use Rattle.iso_model.specs.RunLaws.{run_of};
-ghost use Rattle.iso_model.specs.Sessions.{Script, Closes, Done, run_script, query_script, queries_script};
+ghost use Rattle.iso_model.specs.Sessions.{Script, Closes, Done, query_goal, query_script, queries_script};
 ghost use Rattle.iso_model.specs.Terms.{term_of};
 ghost use Rattle.iso_model.specs.Copies.{IsNumbered};
 ghost use Rattle.iso_model.specs.Tokens.{tokens};
 ghost use Rattle.iso_model.specs.Trees.{arities_fit};
-ghost use Rattle.iso_model.specs.Walker.{State, World};
+ghost use Rattle.iso_model.specs.Walker.{State, World, idle, started};
 ghost use Rattle.iso_read.specs.Answers.{clause_read};
 ghost use Rattle.iso_session.specs.Named.{names_of};
 ghost use Rattle.iso_session.specs.Progress.{Does, EndsQuery};
@@ -66,10 +66,11 @@ fn run_pauses<E: Engine, W: Write>(
 ) -> Result<Flow, Fault>
     requires awake { E.phase engine.old ≢ Spent }
     requires stands { (s : State) × E.stands_for engine.old s }
-    ensures { (s : State) → E.stands_for engine.old s → (next : World → Script)
-        → Does (E.stands_for engine.new) (E.phase engine.new)
+    ensures { (query : Clause) (w : World) (budget : ℕ) → names_of names.now ≡ query.names
+        → E.stands_for engine.old (started (query_goal query.term) budget w) → (next : World → Script)
+        → Does budget (E.stands_for engine.new) (E.phase engine.new)
         (W.contents out.old, within_line.old) (W.contents out.new, within_line.new)
-        (run_script (names_of names.now) 1 (run_of s) next) next result }
+        (query_script budget (Readable query) w next) next result }
 {
     let mut count: u64 = 0;
     loop {
@@ -99,13 +100,13 @@ fn run_query<E: Engine, W: Write>(
     within_line: &mut bool,
 ) -> Result<Flow, Fault>
     requires ready { E.phase engine.old ≡ Ready }
-    requires stands { (s : State) × E.stands_for engine.old s }
+    requires stands { (w : World) × E.stands_for engine.old (idle w) }
     requires fits { arities_fit (term_of read.now.term) ≡ true }
     requires numbered { IsNumbered (term_of read.now.term) }
-    ensures { (s : State) → E.stands_for engine.old s → (next : World → Script)
-        → Does (E.stands_for engine.new) (E.phase engine.new)
+    ensures { (w : World) → E.stands_for engine.old (idle w) → (next : World → Script)
+        → Does budget (E.stands_for engine.new) (E.phase engine.new)
         (W.contents out.old, within_line.old) (W.contents out.new, within_line.new)
-        (query_script budget (Readable (clause_read read.now)) s.world next) next result }
+        (query_script budget (Readable (clause_read read.now)) w next) next result }
 {
     match engine.start(goal_of(&read.term), budget) {
         Ok(()) => run_pauses(alloc, engine, read.names.as_slice(), out, within_line),
@@ -124,12 +125,12 @@ fn run_item<E: Engine, W: Write>(
     within_line: &mut bool,
 ) -> Result<Flow, Fault>
     requires ready { E.phase engine.old ≡ Ready }
-    requires stands { (s : State) × E.stands_for engine.old s }
+    requires stands { (w : World) × E.stands_for engine.old (idle w) }
     requires fits { Fits item }
-    ensures { (s : State) → E.stands_for engine.old s → (next : World → Script)
-        → Does (E.stands_for engine.new) (E.phase engine.new)
+    ensures { (w : World) → E.stands_for engine.old (idle w) → (next : World → Script)
+        → Does budget (E.stands_for engine.new) (E.phase engine.new)
         (W.contents out.old, within_line.old) (W.contents out.new, within_line.new)
-        (query_script budget (item_read item) s.world next) next result }
+        (query_script budget (item_read item) w next) next result }
 {
     match item {
         Item::Readable(read) => run_query(alloc, engine, &read, budget, out, within_line),
@@ -147,11 +148,11 @@ pub fn run_queries<E: Engine, W: Write>(
     within_line: &mut bool,
 ) -> Result<Flow, Fault>
     requires ready { E.phase engine.old ≡ Ready }
-    requires stands { (s : State) × E.stands_for engine.old s }
-    ensures { (s : State) → E.stands_for engine.old s
-        → Does (E.stands_for engine.new) (E.phase engine.new)
+    requires stands { (w : World) × E.stands_for engine.old (idle w) }
+    ensures { (w : World) → E.stands_for engine.old (idle w)
+        → Does budget (E.stands_for engine.new) (E.phase engine.new)
         (W.contents out.old, within_line.old) (W.contents out.new, within_line.new)
-        (queries_script (length (tokens queries.now)) budget (tokens queries.now) s.world) (λ _. Closes Done) result }
+        (queries_script (length (tokens queries.now)) budget (tokens queries.now) w) (λ _. Closes Done) result }
 {
     let mut tokens = Tokens::new(queries);
     loop {

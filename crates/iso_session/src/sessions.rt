@@ -27,7 +27,7 @@ fn run_parts<E: Engine, W: Write>(
 ) -> Result<Flow, Fault>
     requires ready { E.phase engine.old ≡ Ready }
     requires new { E.stands_for engine.old (idle first_world) }
-    ensures { Does (E.stands_for engine.new) (E.phase engine.new)
+    ensures { Does budget (E.stands_for engine.new) (E.phase engine.new)
         (W.contents out.old, within_line.old) (W.contents out.new, within_line.new)
         (session_script text.now queries.now budget) (λ _. Closes Done) result }
 {
@@ -49,7 +49,7 @@ pub fn session_on<E: Engine, W: Write>(
 ) -> Result<Ended, Fault>
     requires ready { E.phase engine.old ≡ Ready }
     requires new { E.stands_for engine.old (idle first_world) }
-    ensures { SessionWrites text.now queries.now budget (EngineStops (E.stands_for engine.new) (E.phase engine.new))
+    ensures { SessionWrites text.now queries.now budget (EngineStops budget (E.stands_for engine.new) (E.phase engine.new) (session_script text.now queries.now budget))
         (W.contents out.old) (W.contents out.new) (outcome_of result) }
 {
     let mut within_line = false;

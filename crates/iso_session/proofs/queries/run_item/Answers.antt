@@ -3,8 +3,8 @@ use Rattle.iso_session.proofs.ProgressLemmas.{puts_on}
 use Rattle.iso_session.proofs.queries.run_item.Goals as goal
 
 pub returns-in-Readable : goal.returns-in-Readable
-returns-in-Readable g c = λ s stands next. rw c.in-Readable.is (c.run_query.ensures s stands next)
+returns-in-Readable g c = λ w stands next. rw c.in-Readable.is (c.run_query.ensures w stands next)
 
 pub returns-in-Unreadable : goal.returns-in-Unreadable
-returns-in-Unreadable g c = λ s stands next.
-    rw c.in-Unreadable.is (puts_on _ _ _ _ (codes "end: syntax error") s next c.put_fixed.result (c.put_fixed.ensures (codes "end: syntax error") refl) stands c.requires.ready)
+returns-in-Unreadable g c = λ w stands next.
+    rw c.in-Unreadable.is (puts_on _ _ _ _ _ (codes "end: syntax error") w next c.put_fixed.result (c.put_fixed.ensures (codes "end: syntax error") refl) stands c.requires.ready)

@@ -1,9 +1,9 @@
 -- The script is left where the run is, and the engine stands for its state.
-use Rattle.std.proofs.Common.{◌≢◌}
+use Rattle.std.proofs.Common.{◌≡◌, ◌≢◌, ℕ}
 use Rattle.iso_model.specs.Engines.{Spent}
-use Rattle.iso_model.specs.RunLaws.{run_of}
-use Rattle.iso_model.specs.Sessions.{Script, run_script}
-use Rattle.iso_model.specs.Walker.{State, World}
+use Rattle.iso_model.specs.Grammar.{Clause}
+use Rattle.iso_model.specs.Sessions.{Script, query_goal}
+use Rattle.iso_model.specs.Walker.{State, World, started}
 use Rattle.iso_session.specs.Named.{names_of}
 use Rattle.iso_session.proofs.QueryLemmas.{RunPlace}
 use Rattle.iso_session.proofs.queries.run_pauses.Given as goal
@@ -12,9 +12,8 @@ abbrev pub invariant-loop-bytes : goal.invariant-loop-bytes
 invariant-loop-bytes g l = record {
   awake : g.E.Engine.phase l.engine ≢ Spent;
   stands : (t : State) × g.E.Engine.stands_for l.engine t;
-  place : (s : State) → g.E.Engine.stands_for l.fn.engine s → (next : World → Script)
-      → RunPlace (g.E.Engine.stands_for l.engine) l.count (names_of l.names) (g.W.Write.contents l.fn.out, l.fn.within_line) (g.W.Write.contents l.out, l.within_line)
-      (run_script (names_of l.names) 1 (run_of s) next) next;
+  place : (query : Clause) (w : World) (budget : ℕ) → names_of l.names ≡ query.names → g.E.Engine.stands_for l.fn.engine (started (query_goal query.term) budget w) → (next : World → Script)
+      → RunPlace (g.E.Engine.stands_for l.engine) l.count query w budget (g.W.Write.contents l.fn.out, l.fn.within_line) (g.W.Write.contents l.out, l.within_line) next;
 }
 
 abbrev pub decreases-loop-bytes : goal.decreases-loop-bytes

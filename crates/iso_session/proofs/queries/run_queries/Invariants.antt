@@ -3,17 +3,17 @@ use Rattle.std.proofs.Common.{◌≡◌, length}
 use Rattle.iso_model.specs.Engines.{Ready}
 use Rattle.iso_model.specs.Sessions.{queries_script}
 use Rattle.iso_model.specs.Tokens.{tokens}
-use Rattle.iso_model.specs.Walker.{State}
+use Rattle.iso_model.specs.Walker.{World, idle}
 use Rattle.iso_session.proofs.QueryLemmas.{QueriesPlace}
 use Rattle.iso_session.proofs.queries.run_queries.Given as goal
 
 abbrev pub invariant-loop-next : goal.invariant-loop-next
 invariant-loop-next g l = record {
   ready : g.E.Engine.phase l.engine ≡ Ready;
-  stands : (t : State) × g.E.Engine.stands_for l.engine t;
-  place : (s : State) → g.E.Engine.stands_for l.fn.engine s
+  stands : (v : World) × g.E.Engine.stands_for l.engine (idle v);
+  place : (w : World) → g.E.Engine.stands_for l.fn.engine (idle w)
       → QueriesPlace (g.E.Engine.stands_for l.engine) l.budget l.tokens (g.W.Write.contents l.fn.out, l.fn.within_line) (g.W.Write.contents l.out, l.within_line)
-      (queries_script (length (tokens l.queries)) l.budget (tokens l.queries) s.world);
+      (queries_script (length (tokens l.queries)) l.budget (tokens l.queries) w);
 }
 
 abbrev pub decreases-loop-next : goal.decreases-loop-next
