@@ -90,6 +90,7 @@ fn front_of<'t>(form: Form<'t>, style: Style) -> Front<'t>
         Form::Atom(name) => Front::Byte(name_byte(name, style)),
         Form::List(..) => Front::Byte(Some(b'[')),
         Form::Braces(_) => Front::Byte(Some(b'{')),
+        // An empty name is no symbol, so a space stands behind it.
         Form::Prefix(operator, _) => Front::Byte(name_byte(operator.name, style).or(Some(b' '))),
         Form::Infix(operator, left, _) => {
             Front::Left(operator, left, infix_byte(operator.name, style))
