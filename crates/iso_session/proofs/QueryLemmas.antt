@@ -108,17 +108,27 @@ run_begins Stands query w budget old next stands = record {
   advances = advance_none old (query_script budget (Readable query) w next);
 }
 
-module _ {query : Clause} {w : World} {budget : ℕ} {old mid : Place} {next : World → Script} where
-  -- the run gave an output, which is to be written
-  pub record OutputTurn (Later : State → Type 0) (count : ℕ) (bytes : List ℕ) : Type 0 where
-    pub at : State
-    pub stands : Later at
-    pub done : ℕ
-    pub counts : IsCount count done
-    pub gave : Runs query w budget done at
-    pub advances : Advances old mid (query_script budget (Readable query) w next) (Shows (Output bytes) (script_from query done at next))
+-- the run gave an output, which is to be written
+pub record OutputTurn (Later : State → Type 0) (count : ℕ) (bytes : List ℕ) (query : Clause) (w : World) (budget : ℕ) (old mid : Place) (next : World → Script) : Type 0 where
+  pub at : State
+  pub stands : Later at
+  pub done : ℕ
+  pub counts : IsCount count done
+  pub gave : Runs query w budget done at
+  pub advances : Advances old mid (query_script budget (Readable query) w next) (Shows (Output bytes) (script_from query done at next))
 
-  pub output_comes : {Stands Later : State → Type 0} {count : ℕ} {bytes : List ℕ} → (p : RunPlace Stands count query w budget old mid next) → Comes p.at (Wrote bytes) Later → OutputTurn Later count bytes
+-- the run gave an answer, which is to be written
+pub record AnswerTurn (Later : State → Type 0) (count : ℕ) (values : List Tree) (query : Clause) (w : World) (budget : ℕ) (old mid : Place) (next : World → Script) : Type 0 where
+  pub at : State
+  pub stands : Later at
+  pub k : ℕ
+  pub counts : IsCount count k
+  pub gave : Runs query w budget k at
+  pub advances : Advances old mid (query_script budget (Readable query) w next) (Shows (Line (answer_line at.world.operators k query.names values)) (script_from query k at next))
+
+module _ {query : Clause} {w : World} {budget : ℕ} {old mid : Place} {next : World → Script} where
+  pub output_comes : {Stands Later : State → Type 0} {count : ℕ} {bytes : List ℕ} → (p : RunPlace Stands count query w budget old mid next) → Comes p.at (Wrote bytes) Later
+      → OutputTurn Later count bytes query w budget old mid next
   output_comes p c = record {
     at = c.new;
     stands = c.stands;
@@ -129,13 +139,13 @@ module _ {query : Clause} {w : World} {budget : ℕ} {old mid : Place} {next : W
   }
 
   pub output_breaks : {Later : State → Type 0} {count : ℕ} {bytes : List ℕ} → (Stands : State → Type 0) (now : Phase) (new : Place) (behind : World → Script) (r : Result Flow Fault)
-      → OutputTurn Later count bytes → IsErr r → Begins mid.0 new.0 bytes → Does budget Stands now old new (query_script budget (Readable query) w next) behind r
+      → OutputTurn Later count bytes query w budget old mid next → IsErr r → Begins mid.0 new.0 bytes → Does budget Stands now old new (query_script budget (Readable query) w next) behind r
   output_breaks {bytes = bytes} Stands now new behind r t failed b =
       let rest = script_from query t.done t.at next in
       breaks_after budget Stands now old mid new (query_script budget (Readable query) w next) (Shows (Output bytes) rest) behind r t.advances failed
       (begins_before mid.0 new.0 bytes (script_bytes (ends_within mid.1 bytes) rest) b)
 
-  pub output_goes : {Later : State → Type 0} {count : ℕ} {bytes : List ℕ} → (new : Place) → OutputTurn Later count bytes → Appends mid.0 new.0 bytes → new.1 ≡ ends_within mid.1 bytes
+  pub output_goes : {Later : State → Type 0} {count : ℕ} {bytes : List ℕ} → (new : Place) → OutputTurn Later count bytes query w budget old mid next → Appends mid.0 new.0 bytes → new.1 ≡ ends_within mid.1 bytes
       → RunPlace Later count query w budget old new next
   output_goes {bytes = bytes} new t written within = record {
     at = t.at;
@@ -146,17 +156,8 @@ module _ {query : Clause} {w : World} {budget : ℕ} {old mid : Place} {next : W
     advances = advance_on t.advances (advance_piece mid new (Output bytes) (script_from query t.done t.at next) written within);
   }
 
-  -- the run gave an answer, which is to be written
-  pub record AnswerTurn (Later : State → Type 0) (count : ℕ) (values : List Tree) : Type 0 where
-    pub at : State
-    pub stands : Later at
-    pub k : ℕ
-    pub counts : IsCount count k
-    pub gave : Runs query w budget k at
-    pub advances : Advances old mid (query_script budget (Readable query) w next) (Shows (Line (answer_line at.world.operators k query.names values)) (script_from query k at next))
-
   pub answer_comes : {Stands Later : State → Type 0} {count : ℕ} {values : List Tree} → (later : ℕ) (p : RunPlace Stands count query w budget old mid next) → Comes p.at (Answered values) Later
-      → later ≡ min (count + 1) 18446744073709551615 → AnswerTurn Later later values
+      → later ≡ min (count + 1) 18446744073709551615 → AnswerTurn Later later values query w budget old mid next
   answer_comes later p c counted = record {
     at = c.new;
     stands = c.stands;
@@ -174,26 +175,23 @@ answer_same : (table operators : List Operator) (count k : ℕ) (names : List (L
 answer_same table operators count k names values same counts = ap₂ (λ o z. answer_by o z names values) same (counted_same count k counts)
 
 module _ {Later : State → Type 0} {count : ℕ} {values : List Tree} {query : Clause} {w : World} {budget : ℕ} {old mid : Place} {next : World → Script} where
-  abbrev Turn : Type 0
-  Turn = AnswerTurn {query = query} {w = w} {budget = budget} {old = old} {mid = mid} {next = next} Later count values
-
-  abbrev rest_of : Turn → Script
+  abbrev rest_of : AnswerTurn Later count values query w budget old mid next → Script
   rest_of t = script_from query t.k t.at next
 
-  abbrev line_of : Turn → List ℕ
+  abbrev line_of : AnswerTurn Later count values query w budget old mid next → List ℕ
   line_of t = answer_line t.at.world.operators t.k query.names values
 
-  line_same : (t : Turn) (table : List Operator) → table ≡ t.at.world.operators → answer_line table count query.names values ≡ line_of t
+  line_same : (t : AnswerTurn Later count values query w budget old mid next) (table : List Operator) → table ≡ t.at.world.operators → answer_line table count query.names values ≡ line_of t
   line_same t table same = answer_same table t.at.world.operators count t.k query.names values same t.counts
 
   -- the answer was written, or memory for its line was refused
-  pub answer_stops : (now : Phase) (new : Place) (f : Flow) (t : Turn) (table : List Operator) → table ≡ t.at.world.operators → now ≡ Ready → (f ≡ flow.On → ⊥)
+  pub answer_stops : (now : Phase) (new : Place) (f : Flow) (t : AnswerTurn Later count values query w budget old mid next) (table : List Operator) → table ≡ t.at.world.operators → now ≡ Ready → (f ≡ flow.On → ⊥)
       → PutsLine (answer_line table count query.names values) flow.On mid new (Ok f) → Does budget Later now old new (query_script budget (Readable query) w next) next (Ok f)
   answer_stops now new f t table same ready ends (inl puts) = absurd (ends puts.0)
   answer_stops now new f t table same ready ends (inr puts) =
       rw (puts.0, puts.1) (record { rest = Shows (Line (line_of t)) (rest_of t); advances = t.advances; stops = λ spent. awake now ready spent })
 
-  pub answer_breaks : (now : Phase) (new : Place) (r : Result Flow Fault) (t : Turn) (table : List Operator)
+  pub answer_breaks : (now : Phase) (new : Place) (r : Result Flow Fault) (t : AnswerTurn Later count values query w budget old mid next) (table : List Operator)
       → table ≡ t.at.world.operators → IsErr r → Begins mid.0 new.0 (piece_bytes mid.1 (Line (answer_line table count query.names values)))
       → Does budget Later now old new (query_script budget (Readable query) w next) next r
   answer_breaks now new r t table same failed b =
@@ -201,7 +199,7 @@ module _ {Later : State → Type 0} {count : ℕ} {values : List Tree} {query : 
       breaks_after budget Later now old mid new (query_script budget (Readable query) w next) (Shows (Line (line_of t)) (rest_of t)) next r t.advances failed
       (begins_before mid.0 new.0 (piece_bytes mid.1 (Line (line_of t))) (script_bytes false (rest_of t)) line)
 
-  pub answer_goes : (new : Place) (t : Turn) (table : List Operator) → table ≡ t.at.world.operators → PutsLine (answer_line table count query.names values) flow.On mid new (Ok flow.On)
+  pub answer_goes : (new : Place) (t : AnswerTurn Later count values query w budget old mid next) (table : List Operator) → table ≡ t.at.world.operators → PutsLine (answer_line table count query.names values) flow.On mid new (Ok flow.On)
       → RunPlace Later count query w budget old new next
   answer_goes new t table same (inl puts) =
       let line = subst (λ z. Appends mid.0 new.0 (piece_bytes mid.1 (Line z))) (line_same t table same) puts.1 in

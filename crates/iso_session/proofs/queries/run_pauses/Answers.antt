@@ -7,8 +7,15 @@ use Rattle.iso_model.specs.Walker.{World, started}
 use Rattle.iso_session.specs.Named.{names_of}
 use Rattle.iso_session.specs.declared.flows.Flow.TheVariants as flow
 use Rattle.iso_session.proofs.ProgressLemmas.{ready_awake, midway_awake}
-use Rattle.iso_session.proofs.QueryLemmas.{query_ends, output_comes, output_breaks, output_goes, answer_comes, answer_stops, answer_breaks, answer_goes}
+use Rattle.iso_session.proofs.QueryLemmas.{query_ends, run_begins, output_comes, output_breaks, output_goes, answer_comes, answer_stops, answer_breaks, answer_goes}
 use Rattle.iso_session.proofs.queries.run_pauses.Goals as goal
+
+pub loop-bytes-init : goal.loop-bytes-init
+loop-bytes-init g c = record {
+  awake = c.requires.awake;
+  stands = c.requires.stands;
+  place = λ query w budget named stands next. run_begins _ query w budget _ next stands;
+}
 
 pub returns-in_err-write_output-in-Output : goal.returns-in_err-write_output-in-Output
 returns-in_err-write_output-in-Output g c = λ query w budget named stands next.
