@@ -1,15 +1,14 @@
 -- Marks of punctuation, and the operators that a token is.
-use Rattle.std.proofs.Common.{◌≡◌, ℕ, ◌+◌, ◌<◌, ◌≤◌, Bool, true, false, not, ◌&&◌, ◌||◌, cond, List, [], ◌∷◌, Option, Some, None, codes, refl, sym, ◌∙◌, ap, arith}
+use Rattle.std.proofs.Common.{◌≡◌, ℕ, ◌<◌, Bool, true, false, List, [], ◌∷◌, Some, None, codes, refl, sym, arith}
 use Rattle.std.proofs.lemmas.Bool.{and_parts, cond_both}
 use Rattle.std.proofs.lemmas.Slice.Eq.{bytes_eq-Decides}
 use Rattle.std.specs.Str.{bytes_eq}
-use Rattle.std.specs.Prelude.{find}
 use Rattle.iso_ops.specs.declared.specifiers.Kind.{Kind}
 use Rattle.iso_ops.specs.declared.specifiers.Kind.TheVariants as op_kind
 use Rattle.iso_ops.specs.Specifiers.{kind_of, same_kind}
-use Rattle.iso_ops.specs.Operators.{Operator, is_for, find_op, HasPriorities, IsOpTable, comma}
-use Rattle.iso_model.specs.Token.{Shown, TokenKind, NameToken, QuotedToken, DoubleToken, VariableToken, IntegerToken, PunctToken, EndToken, BadToken, magnitude_by, content, content_of}
-use Rattle.iso_model.specs.Grammar.{Left, before, is_name, is_integer, is_punct, is_mark, is_direct_integer, opens_arguments, next_is, negates, infix_at, postfix_at}
+use Rattle.iso_ops.specs.Operators.{Operator, is_for, find_op, HasPriorities}
+use Rattle.iso_model.specs.Token.{Shown, TokenKind, NameToken, QuotedToken, DoubleToken, VariableToken, IntegerToken, PunctToken, EndToken, BadToken, magnitude_by}
+use Rattle.iso_model.specs.Grammar.{is_name, is_integer, is_punct, is_mark, opens_arguments, negates, infix_at, postfix_at}
 
 pub punct_kind : (k : TokenKind) → is_punct k ≡ true → k ≡ PunctToken
 punct_kind NameToken h = cc

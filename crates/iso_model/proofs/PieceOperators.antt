@@ -1,5 +1,5 @@
 -- Written terms of operators are read.
-use Rattle.std.proofs.Common.{◌≡◌, ℕ, ◌+◌, ◌-◌, ◌≤◌, Bool, true, false, ◌&&◌, ◌||◌, ◌==◌, not, nat_lt, if◌then◌else◌, List, [], ◌∷◌, ◌++◌, Option, Some, None, is_some, codes, inl, inr, refl, sym, ap, ◌∙◌, subst, arith, append_assoc}
+use Rattle.std.proofs.Common.{◌≡◌, ℕ, ◌+◌, ◌≤◌, Bool, true, false, ◌&&◌, ◌||◌, ◌==◌, not, nat_lt, if◌then◌else◌, List, [], ◌∷◌, ◌++◌, Option, Some, None, is_some, codes, inl, inr, refl, sym, ap, ◌∙◌, subst, arith, append_assoc}
 use Rattle.std.specs.Str.{bytes_eq}
 use Rattle.std.proofs.lemmas.Bool.{cases_Bool, false≢true}
 use Rattle.std.proofs.lemmas.Bool.Decides.{nat_tests}
@@ -15,7 +15,7 @@ use Rattle.iso_model.specs.Operators.{prefix_named, infix_named, postfix_named, 
 use Rattle.iso_model.specs.Trees.{Tree, Apply, row}
 use Rattle.iso_model.specs.Token.{Shown, content, content_of}
 use Rattle.iso_model.specs.Texts.{name_text}
-use Rattle.iso_model.specs.Grammar.{is_name, is_unquoted, is_direct_integer, next_is, infix_at, postfix_at, begins, TakesLeft, Reads, Named, alone, between, behind, name_at, operator_before}
+use Rattle.iso_model.specs.Grammar.{is_name, is_unquoted, is_direct_integer, next_is, infix_at, postfix_at, TakesLeft, Reads, Named, alone, between, behind, name_at, operator_before}
 use Rattle.iso_model.specs.Pieces.{Piece, Writeq, piece, is_symbolic, name_bytes, operator_bytes, after_space, begins_open, begins_digit, bracketed}
 use Rattle.iso_model.proofs.ReadingSound.{left_at}
 use Rattle.iso_model.proofs.PieceTokens.{AreTokens, Begins, IsMarkToken, IsNameToken}

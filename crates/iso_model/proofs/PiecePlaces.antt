@@ -7,7 +7,7 @@ use Rattle.iso_ops.specs.Operators.{Operator}
 use Rattle.iso_ops.specs.declared.settings.Flags.{Flags}
 use Rattle.iso_model.specs.Characters.{is_punctuation}
 use Rattle.iso_model.specs.Trees.{Tree, Apply, row}
-use Rattle.iso_model.specs.Token.{Shown, content}
+use Rattle.iso_model.specs.Token.{Shown}
 use Rattle.iso_model.specs.Lists.{nil, curly}
 use Rattle.iso_model.specs.Texts.{name_text}
 use Rattle.iso_model.specs.Grammar.{Row, closed, is_mark, is_unquoted, opens_arguments, next_is, Reads, Named, Elements, name_at, nil_at, curly_at, brackets_at, braces_at, compound_of, last_of, more_of}

@@ -13,7 +13,7 @@ use Rattle.iso_ops.specs.declared.specifiers.Kind.TheVariants.{Prefix}
 use Rattle.iso_model.specs.Characters.{is_digit}
 use Rattle.iso_model.specs.Operators.{prefix_named, infix_named, postfix_named}
 use Rattle.iso_model.specs.Trees.{Integer, Name}
-use Rattle.iso_model.specs.Token.{Shown, magnitude, content}
+use Rattle.iso_model.specs.Token.{Shown, content}
 use Rattle.iso_model.specs.Texts.{name_text}
 use Rattle.iso_model.specs.Lists.{nil, curly}
 use Rattle.iso_model.specs.Grammar.{closed, is_name, is_unquoted, is_integer, opens_arguments, is_direct_integer, next_is, negates, name_begins, begins_by, begins, Named, integer_at, name_at, nil_at, curly_at, literal_of, atom_of, operator_alone}

@@ -1,13 +1,12 @@
 -- The tokens of written pieces: each piece has the tokens of its text, and layout stands before the first where the piece is parted
 -- from the one before it.
-use Rattle.std.proofs.Common.{◌≡◌, ℕ, ◌+◌, ◌<◌, ◌≤◌, ◌^◌, Bool, true, false, ◌||◌, ◌==◌, if◌then◌else◌, List, [], ◌∷◌, ◌++◌, length, slice_index, refl, Some, codes, pos, negsuc, ℤ}
+use Rattle.std.proofs.Common.{◌≡◌, ℕ, ◌+◌, Bool, true, false, ◌||◌, if◌then◌else◌, List, [], ◌∷◌, ◌++◌, length, slice_index, Some, codes, ℤ}
 use Rattle.std.specs.Fmt.{decimal, signed_decimal}
 use Rattle.iso_model.specs.Characters.{is_punctuation}
-use Rattle.iso_model.specs.Token.{Shown, TokenKind, NameToken, QuotedToken, VariableToken, IntegerToken, PunctToken, EndToken, content, magnitude}
+use Rattle.iso_model.specs.Token.{Shown, NameToken, QuotedToken, VariableToken, IntegerToken, PunctToken, content, magnitude}
 use Rattle.iso_model.specs.Tokens.{tokens}
-use Rattle.iso_model.specs.Grammar.{is_mark}
 use Rattle.iso_model.specs.Texts.{is_bare, name_text}
-use Rattle.iso_model.specs.Pieces.{Piece, run_together, last_byte, pieces_text}
+use Rattle.iso_model.specs.Pieces.{Piece, run_together, last_byte}
 use Rattle.iso_model.specs.WritingLaws.{integer_fits}
 
 -- the tokens of a piece that begins at this place, behind layout or not

@@ -1,18 +1,18 @@
 -- What the grammar gives, the reading by precedence gives too.
-use Rattle.std.proofs.Common.{◌≡◌, ℕ, zero, suc, ◌+◌, ◌-◌, ◌<◌, ◌≤◌, max, Bool, true, false, ◌&&◌, ◌||◌, ◌==◌, cond, nat_le, List, [], ◌∷◌, length, Option, Some, None, pos, neg_ℤ, codes, refl, sym, ◌∙◌, ap, arith}
-use Rattle.std.proofs.lemmas.Bool.{and_parts, le-leb}
+use Rattle.std.proofs.Common.{◌≡◌, ℕ, zero, suc, ◌+◌, ◌-◌, ◌<◌, ◌≤◌, max, Bool, true, false, ◌&&◌, ◌||◌, ◌==◌, cond, nat_le, List, [], ◌∷◌, length, Option, Some, None, pos, neg_ℤ, codes, refl, ◌∙◌, ap, arith}
+use Rattle.std.proofs.lemmas.Bool.{le-leb}
 use Rattle.std.proofs.lemmas.Bool.Decides.{nat_tests}
 use Rattle.std.specs.Str.{bytes_eq}
 use Rattle.iso_ops.specs.declared.specifiers.Kind.TheVariants as op_kind
 use Rattle.iso_ops.specs.declared.settings.Flags.{Flags}
 use Rattle.iso_ops.specs.Operators.{Operator, IsOpTable, comma}
-use Rattle.iso_model.specs.Operators.{prefix_named, left_of, right_of, takes_equal, is_right_open}
+use Rattle.iso_model.specs.Operators.{prefix_named, left_of, right_of, takes_equal}
 use Rattle.iso_model.specs.Token.{Shown, TokenKind, NameToken, QuotedToken, DoubleToken, VariableToken, IntegerToken, PunctToken, EndToken, BadToken, magnitude, content}
 use Rattle.iso_model.specs.Trees.{Variable, Integer, Name, Apply, row}
 use Rattle.iso_model.specs.Lists.{nil, curly, list_before, quoted_term}
-use Rattle.iso_model.specs.Grammar.{Left, before, Node, Row, closed, joined, applied, no_terms, with_first, with_name, number_of, is_name, is_unquoted, is_mark, opens_arguments, next_is, negates, begins, max_integer, infix_at, postfix_at, TakesLeft, Reads, Operand, Named, Elements, alone, between, behind, variable_at, integer_at, double_at, name_at, nil_at, curly_at, brackets_at, braces_at, list_at, list_with_tail_at, compound_of, literal_of, atom_of, operator_alone, operator_before, last_of, more_of}
-use Rattle.iso_model.specs.Reading.{Outcome, ◌>>=◌, Reader, sees, closing, further, elements, compound, bracketed, braced, list_end, listed, integer, literal, negative, prefixed, named, punctuated, operand_by, operand, fits, Following, Between, Behind, operator_of, following_by, if_fits, next_operator, operator_behind, extended_by, extended, climb_by, continued, term}
-use Rattle.iso_model.proofs.MarkLemmas.{magnitude_kind, integer_kind, name_is_no_punct, no_mark, other_mark, digits_open_nothing, mark_is_no_infix, mark_is_no_postfix, comma_is_infix, found_positive, mark_parts}
+use Rattle.iso_model.specs.Grammar.{Left, before, Node, Row, closed, joined, applied, no_terms, with_first, with_name, number_of, is_name, is_unquoted, is_mark, opens_arguments, next_is, negates, max_integer, infix_at, postfix_at, TakesLeft, Reads, Operand, Named, Elements, alone, between, behind, variable_at, integer_at, double_at, name_at, nil_at, curly_at, brackets_at, braces_at, list_at, list_with_tail_at, compound_of, literal_of, atom_of, operator_alone, operator_before, last_of, more_of}
+use Rattle.iso_model.specs.Reading.{Outcome, ◌>>=◌, Reader, sees, closing, further, elements, compound, bracketed, braced, list_end, listed, integer, prefixed, named, punctuated, operand_by, operand, fits, Following, Between, Behind, operator_of, following_by, if_fits, next_operator, operator_behind, extended, climb_by, continued, term}
+use Rattle.iso_model.proofs.MarkLemmas.{magnitude_kind, name_is_no_punct, no_mark, other_mark, digits_open_nothing, mark_is_no_infix, mark_is_no_postfix, comma_is_infix, found_positive, mark_parts}
 use Rattle.iso_model.proofs.ReadingSound.{term_sound}
 use Rattle.iso_model.proofs.ReadingSteps.{further_comma, further_end, continued-step}
 

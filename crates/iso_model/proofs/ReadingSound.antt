@@ -1,5 +1,5 @@
 -- What the reading by precedence gives, the grammar gives too.
-use Rattle.std.proofs.Common.{◌≡◌, ℕ, zero, suc, ◌+◌, ◌-◌, ◌<◌, ◌≤◌, Bool, true, false, not, ◌&&◌, cond, nat_le, nat_lt, List, [], ◌∷◌, length, drop, Option, Some, None, IfSome, codes, refl, sym, subst, ap, arith}
+use Rattle.std.proofs.Common.{◌≡◌, ℕ, zero, suc, ◌+◌, ◌-◌, ◌<◌, ◌≤◌, Bool, true, false, not, ◌&&◌, cond, nat_le, nat_lt, List, [], ◌∷◌, length, drop, Option, Some, None, IfSome, codes, refl, sym, subst, arith}
 use Rattle.std.proofs.lemmas.Bool.{and_parts, cond_both, leb-true, ltb-true}
 use Rattle.iso_ops.specs.Operators.{Operator}
 use Rattle.iso_ops.specs.declared.settings.Flags.{Flags}
@@ -8,7 +8,7 @@ use Rattle.iso_model.specs.Token.{Shown, TokenKind, NameToken, QuotedToken, Doub
 use Rattle.iso_model.specs.Trees.{Apply, row}
 use Rattle.iso_model.specs.Lists.{nil, curly}
 use Rattle.iso_model.specs.Grammar.{Left, before, Node, Row, closed, no_terms, with_first, is_name, is_unquoted, is_mark, opens_arguments, next_is, negates, begins, max_integer, infix_at, postfix_at, Reads, Operand, Named, Elements, alone, between, behind, variable_at, integer_at, double_at, name_at, nil_at, curly_at, brackets_at, braces_at, list_at, list_with_tail_at, compound_of, literal_of, atom_of, operator_alone, operator_before, last_of, more_of}
-use Rattle.iso_model.specs.Reading.{Outcome, ◌>>=◌, Reader, closing, further, elements, compound, bracketed, braced, list_end, listed, integer, literal, negative, prefixed, named, punctuated, operand_by, operand, fits, Following, Between, Behind, operator_of, following_by, if_fits, operator_behind, extended_by, extended, climb_by, climb, continued, term}
+use Rattle.iso_model.specs.Reading.{Outcome, ◌>>=◌, Reader, closing, further, elements, compound, bracketed, braced, list_end, listed, integer, literal, prefixed, named, punctuated, operand_by, operand, fits, Following, Between, Behind, operator_of, following_by, if_fits, operator_behind, extended_by, extended, climb_by, climb, continued, term}
 
 pub bind_if : {A B : Type 0} (o : Option A) (f : A → Option B) (P : A → Type 0) (Q : B → Type 0) → IfSome o P → ((x : A) → P x → IfSome (f x) Q) → IfSome (o >>= f) Q
 bind_if None f P Q a b = tt

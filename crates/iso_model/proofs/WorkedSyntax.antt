@@ -1,5 +1,5 @@
 -- What worked texts of all forms are read as.
-use Rattle.std.proofs.Common.{◌≡◌, ℤ, List, [], ◌∷◌, ℕ, refl, codes, None, Some, pos, neg_ℤ}
+use Rattle.std.proofs.Common.{◌≡◌, List, [], ◌∷◌, ℕ, refl, codes, None, Some, pos, neg_ℤ}
 use Rattle.std.specs.Str.{chars}
 use Rattle.std.specs.Char.{encode_utf8}
 use Rattle.iso_ops.specs.InitialOperators.{initial_entries}

@@ -1,7 +1,7 @@
 -- Operators in the grammar (ISO/IEC 13211-1:1995, 6.3.4): which one a name is, and which operands it takes.
 use Rattle.std.specs.Prelude.{ℕ, ◌-◌, Bool, true, false, if◌then◌else◌, List, Option}
 use Rattle.iso_ops.specs.declared.specifiers.Spec.{Spec}
-use Rattle.iso_ops.specs.declared.specifiers.Spec.TheVariants.{Xfx, Xfy, Yfx, Fx, Fy, Xf, Yf}
+use Rattle.iso_ops.specs.declared.specifiers.Spec.TheVariants.{Xfy, Yfx, Fy, Yf}
 use Rattle.iso_ops.specs.declared.specifiers.Kind.TheVariants.{Prefix, Infix, Postfix}
 use Rattle.iso_ops.specs.Operators.{Operator, find_op}
 

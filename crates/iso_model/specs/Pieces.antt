@@ -1,6 +1,6 @@
 -- The text of a term in three styles, as the pieces that are written one after the other (ISO/IEC 13211-1:1995, 7.10.5; layout and
 -- brackets are own). Bytes stand as their codes: `(` is 40, `)` 41, a space 32, `'` 39, `-` 45, `_` 95.
-use Rattle.std.specs.Prelude.{ℕ, ◌+◌, List, [], ◌∷◌, ◌++◌, Bool, true, false, ◌&&◌, ◌||◌, ◌==◌, not, nat_lt, slice_index, length, codes, if◌then◌else◌, Option, Some, None, is_some}
+use Rattle.std.specs.Prelude.{ℕ, List, [], ◌∷◌, ◌++◌, Bool, true, false, ◌&&◌, ◌||◌, ◌==◌, not, nat_lt, slice_index, codes, if◌then◌else◌, Option, Some, None, is_some}
 use Rattle.std.specs.Fmt.{signed_decimal}
 use Rattle.std.specs.List.{list_all}
 use Rattle.std.specs.Str.{bytes_eq}

@@ -1,7 +1,6 @@
 -- Reading by precedence: the grammar as a function of the tokens. An operand is read first; then the operators behind
 -- it are taken as long as they may stand there.
 use Rattle.std.specs.Prelude.{ℕ, zero, suc, ◌+◌, ◌-◌, max, Bool, true, false, not, ◌&&◌, ◌==◌, if◌then◌else◌, nat_le, nat_lt, List, [], ◌∷◌, length, drop, Option, Some, None, option_map, pos, neg_ℤ, codes}
-use Rattle.std.specs.Str.{bytes_eq}
 use Rattle.iso_ops.specs.Operators.{Operator}
 use Rattle.iso_ops.specs.declared.settings.Flags.{Flags}
 use Rattle.iso_model.specs.Operators.{prefix_named, left_of, right_of, takes_equal}
