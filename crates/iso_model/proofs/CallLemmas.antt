@@ -8,7 +8,8 @@ use Rattle.iso_model.specs.Unification.Unique.{unifier_unique}
 use Rattle.iso_model.specs.Copies.{renamed}
 use Rattle.iso_model.specs.Bodies.{map_body}
 use Rattle.iso_model.specs.Databases.{Clause}
-use Rattle.iso_model.specs.Walker.{State, Member, Fail, Alternative, Equates, before, entered, equated, clause_size, with_others, tried, fails, run_goal}
+use Rattle.iso_model.specs.Walker.{State, Member, Fail, Alternative, Goes, before, entered, equated, replied, clause_size, with_others, tried, fails}
+use Rattle.iso_model.specs.BuiltIns.{Equates}
 use Rattle.iso_model.proofs.UnifierLemmas.{unifier_of_is}
 
 answer_same : (a b : Tree) (u : Subst) (found : Option Subst) → Unifier a b u → IsUnifierOf a b found → found ≡ Some u
@@ -68,13 +69,14 @@ tried_missed call c (d ∷ ds) rest s never =
     ap (λ o. entered o c s.next (length s.stack) rest (counted c p)) (unify_none s.subst call (renamed s.next c.head) never)
 
 -- an equation's terms have this unifier
-pub run_equation : (a b t : Tree) (rest : List Member) (s : State) (u : Subst) → Unifier (apply s.subst a) (apply s.subst b) u
-    → run_goal (Equates a b) t rest s ≡ record s { list = rest; subst = compose s.subst u; built = s.built + 2 }
-run_equation a b t rest s u h = ap (λ o. equated o rest (record s { built = s.built + 2 })) (unify_found s.subst a b h)
+pub run_equation : (a b : Tree) (rest : List Member) (s : State) (u : Subst) → Unifier (apply s.subst a) (apply s.subst b) u
+    → replied (Equates a b) rest s ≡ Goes (record s { list = rest; subst = compose s.subst u; built = s.built + 2 })
+run_equation a b rest s u h = ap (λ o. Goes (equated o rest (record s { built = s.built + 2 }))) (unify_found s.subst a b h)
 
 -- they are never equal
-pub run_equation_missed : (a b t : Tree) (rest : List Member) (s : State) → NeverEqual (apply s.subst a) (apply s.subst b) → run_goal (Equates a b) t rest s ≡ record s { list = Fail ∷ []; built = s.built + 2 }
-run_equation_missed a b t rest s never = ap (λ o. equated o rest (record s { built = s.built + 2 })) (unify_none s.subst a b never)
+pub run_equation_missed : (a b : Tree) (rest : List Member) (s : State) → NeverEqual (apply s.subst a) (apply s.subst b)
+    → replied (Equates a b) rest s ≡ Goes (record s { list = Fail ∷ []; built = s.built + 2 })
+run_equation_missed a b rest s never = ap (λ o. Goes (equated o rest (record s { built = s.built + 2 }))) (unify_none s.subst a b never)
 
 -- the state behind failure, at which the newest alternative's clauses are tried
 abbrev pub retry_from : List Alternative → State → State

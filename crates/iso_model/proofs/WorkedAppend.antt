@@ -15,10 +15,11 @@ use Rattle.std.proofs.lemmas.Bool.{ne_eqb}
 use Rattle.iso_model.proofs.CallLemmas.{found, retry, tried_found, tried_missed}
 
 abbrev base : Clause
-base = record { head = app nil (Variable 0) (Variable 0); body = Run (Name (codes "true")); variables = 1 }
+base = record { number = 0; head = app nil (Variable 0) (Variable 0); body = Run (Name (codes "true")); variables = 1 }
 
 abbrev longer : Clause
 longer = record {
+  number = 1;
   head = app (cons (Variable 0) (Variable 1)) (Variable 2) (cons (Variable 0) (Variable 3));
   body = Run (app (Variable 1) (Variable 2) (Variable 3));
   variables = 4;

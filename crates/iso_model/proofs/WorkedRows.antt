@@ -7,19 +7,19 @@ use Rattle.iso_model.specs.Unification.Applied.{never_inside}
 use Rattle.iso_model.specs.Unification.Composed.{unifier_same, unifier_apply, unifier_bound, unifier_more}
 use Rattle.iso_model.specs.Bodies.{Run, one, two}
 use Rattle.iso_model.specs.Databases.{Clause}
-use Rattle.iso_model.specs.Walker.{State, Goal, Budget, Goes, NoMore, step, started}
+use Rattle.iso_model.specs.Walker.{State, Goal, Budget, Goes, NoMore, charged, step, asked, started}
 use Rattle.iso_model.specs.Runs.{goes, gives, ends}
 use Rattle.iso_model.specs.Runs as runs
 use Rattle.iso_model.specs.WorkedRuns.{endless, EndlessUsesItsBudget, number, facts, answers, FactsAreAnswered, equal, NothingHoldsItself, EquationsAreChecked, empty, UnknownIsAnError, NumbersAreNoGoals, EachGoalTakesAStep}
 use Rattle.iso_model.proofs.CallLemmas.{found, retry, tried_found, tried_missed, run_equation_missed}
 
 abbrev loop_clause : Clause
-loop_clause = record { head = Name (codes "l"); body = Run (Name (codes "l")); variables = 0 }
+loop_clause = record { number = 0; head = Name (codes "l"); body = Run (Name (codes "l")); variables = 0 }
 
 -- the endless program's only goal, whatever was made before
 abbrev loop_state : ℕ → ℕ → ℕ → Subst → State
 loop_state budget next built r =
-    record { list = Goal (Run (Name (codes "l"))) 0 ∷ []; subst = r; next = next; built = built; query = Name (codes "l"); stack = []; world = endless; steps = budget }
+    record { list = Goal (Run (Name (codes "l"))) 0 ∷ []; subst = r; next = next; built = built; query = Name (codes "l"); stack = []; world = asked endless; steps = budget }
 
 goes_round : (budget next built : ℕ) (r : Subst) → runs.Run (loop_state budget next built r) (answers [] Budget endless)
 unfolding step
@@ -31,8 +31,8 @@ goes_round (suc n) next built r =
 pub endless_run : EndlessUsesItsBudget
 endless_run budget = goes_round budget 0 0 Variable
 
-abbrev fact : Tree → Clause
-fact head = record { head = head; body = Run (Name (codes "true")); variables = 0 }
+abbrev fact : ℕ → Tree → Clause
+fact n head = record { number = n; head = head; body = Run (Name (codes "true")); variables = 0 }
 
 abbrev p_of : Tree → Tree
 p_of t = one (codes "p") t
@@ -48,13 +48,13 @@ module _ (n : ℕ) where
   first = started (p_of (Variable 0)) (suc n) facts
 
   abbrev one_found : State
-  one_found = record (found (p_of (Variable 0)) (fact (p_of (number 1))) (fact (p_of (number 2)) ∷ fact (p_of (number 1)) ∷ []) [] first (binds 1)) { steps = n }
+  one_found = record (found (p_of (Variable 0)) (fact 0 (p_of (number 1))) (fact 1 (p_of (number 2)) ∷ fact 2 (p_of (number 1)) ∷ []) [] first (binds 1)) { steps = n }
 
   abbrev two_found : State
-  two_found = found (p_of (Variable 0)) (fact (p_of (number 2))) (fact (p_of (number 1)) ∷ []) [] (retry one_found) (binds 2)
+  two_found = found (p_of (Variable 0)) (fact 1 (p_of (number 2))) (fact 2 (p_of (number 1)) ∷ []) [] (retry one_found) (binds 2)
 
   abbrev three_found : State
-  three_found = found (p_of (Variable 0)) (fact (p_of (number 1))) [] [] (retry two_found) (binds 1)
+  three_found = found (p_of (Variable 0)) (fact 2 (p_of (number 1))) [] [] (retry two_found) (binds 1)
 
   three_run : runs.Run three_found (answers ((number 1 ∷ []) ∷ []) NoMore facts)
   unfolding step
@@ -64,19 +64,19 @@ module _ (n : ℕ) where
   unfolding step
   two_run =
       gives refl
-      (goes (ap Goes (tried_found (p_of (Variable 0)) (fact (p_of (number 1))) [] [] (retry two_found) (binds 1) (fact_unifier 1))) three_run)
+      (goes (ap Goes (tried_found (p_of (Variable 0)) (fact 2 (p_of (number 1))) [] [] (retry two_found) (binds 1) (fact_unifier 1))) three_run)
 
   one_run : runs.Run one_found (answers ((number 1 ∷ []) ∷ (number 2 ∷ []) ∷ (number 1 ∷ []) ∷ []) NoMore facts)
   unfolding step
   one_run =
       gives refl
-      (goes (ap Goes (tried_found (p_of (Variable 0)) (fact (p_of (number 2))) (fact (p_of (number 1)) ∷ []) [] (retry one_found) (binds 2) (fact_unifier 2))) two_run)
+      (goes (ap Goes (tried_found (p_of (Variable 0)) (fact 1 (p_of (number 2))) (fact 2 (p_of (number 1)) ∷ []) [] (retry one_found) (binds 2) (fact_unifier 2))) two_run)
 
   facts_from : runs.Run first (answers ((number 1 ∷ []) ∷ (number 2 ∷ []) ∷ (number 1 ∷ []) ∷ []) NoMore facts)
   unfolding step
   facts_from =
       goes
-      (ap (λ s. Goes (record s { steps = n })) (tried_found (p_of (Variable 0)) (fact (p_of (number 1))) (fact (p_of (number 2)) ∷ fact (p_of (number 1)) ∷ []) [] first (binds 1) (fact_unifier 1)))
+      (ap (λ s. Goes (record s { steps = n })) (tried_found (p_of (Variable 0)) (fact 0 (p_of (number 1))) (fact 1 (p_of (number 2)) ∷ fact 2 (p_of (number 1)) ∷ []) [] first (binds 1) (fact_unifier 1)))
       one_run
 
 pub facts_run : FactsAreAnswered
@@ -94,7 +94,7 @@ never_self t e =
 pub equal_run : NothingHoldsItself
 unfolding step
 equal_run n =
-    let clause : Clause = record { head = two (codes "eq") (Variable 0) (Variable 0); body = Run (Name (codes "true")); variables = 1 } in
+    let clause : Clause = record { number = 0; head = two (codes "eq") (Variable 0) (Variable 0); body = Run (Name (codes "true")); variables = 1 } in
     goes (ap (λ s. Goes (record s { steps = n })) (tried_missed self clause [] [] (started self (suc n) equal) never_self)) (ends refl)
 
 never_within : NeverEqual (Variable 0) (one (codes "f") (Variable 0))
@@ -104,7 +104,7 @@ pub equation_run : EquationsAreChecked
 unfolding step
 equation_run n =
     let goal = two (codes "=") (Variable 0) (one (codes "f") (Variable 0)) in
-    goes (ap (λ s. Goes (record s { steps = n })) (run_equation_missed (Variable 0) (one (codes "f") (Variable 0)) goal [] (started goal (suc n) empty) never_within)) (ends refl)
+    goes (ap (charged n) (run_equation_missed (Variable 0) (one (codes "f") (Variable 0)) [] (started goal (suc n) empty) never_within)) (ends refl)
 
 pub unknown_run : UnknownIsAnError
 unfolding step

@@ -1,50 +1,48 @@
 -- The database: procedures with their clauses (ISO/IEC 13211-1:1995, 7.5).
-use Rattle.std.specs.Prelude.{ℕ, List, [], ◌∷◌, ◌++◌, ◌==◌, Bool, ◌&&◌, Option, Some, None, codes, if◌then◌else◌, ◌||◌}
-use Rattle.std.specs.Str.{bytes_eq}
-use Rattle.iso_model.specs.Trees.{Tree, Variable, Integer, Name, Apply, End, More, count}
+use Rattle.std.specs.Prelude.{ℕ, List, [], ◌∷◌, ◌++◌, Option, Some, None, if◌then◌else◌}
+use Rattle.iso_model.specs.Trees.{Tree}
 use Rattle.iso_model.specs.Bodies.{Body}
+pub use Rattle.iso_model.specs.Keys.{Key, key, key_of, same_key}
 
--- A clause: its head, its converted body, and how many variables it has. They are 0, 1, .. by first occurrence.
+-- A clause: a number of its own, its head, its converted body, and how many variables it has. They are 0, 1, .. by first occurrence.
 pub record Clause : Type 0 where
+  pub number : ℕ
   pub head : Tree
   pub body : Body
   pub variables : ℕ
 
--- A procedure's name and number of arguments (7.1.6.6).
-pub record Key : Type 0 where
-  pub name : List ℕ
-  pub arity : ℕ
+-- which procedures there are: those of a text are static (7.5.2)
+pub data Kind : Type 0 where
+  Static : Kind
 
 -- a user procedure with its clauses in order
 pub record Procedure : Type 0 where
   pub key : Key
+  pub kind : Kind
   pub clauses : List Clause
 
-abbrev pub Database : Type 0
-Database = List Procedure
+-- the procedures, and how many clauses were ever added: the number of the next one
+pub record Database : Type 0 where
+  pub procedures : List Procedure
+  pub added : ℕ
 
--- the name and the number of arguments of a callable term
-abbrev pub key_of : Tree → Option Key
-key_of (Variable n) = None
-key_of (Integer z) = None
-key_of (Name a) = Some (record { name = a; arity = 0 })
-key_of (Apply f ts) = Some (record { name = f; arity = count ts })
-key_of End = None
-key_of (More t ts) = None
-
-abbrev pub same_key : Key → Key → Bool
-same_key a b = a.arity == b.arity && bytes_eq a.name b.name
-
--- whether this is the key of a built-in or of a control construct, which no clause may be added to
-abbrev pub is_built_in : Key → Bool
-is_built_in k = (k.arity == 0 && (bytes_eq k.name (codes "true") || bytes_eq k.name (codes "fail"))) || (k.arity == 2 && (bytes_eq k.name (codes ",") || bytes_eq k.name (codes "=")))
+-- no procedure
+abbrev pub no_clauses : Database
+no_clauses = record { procedures = []; added = 0 }
 
 -- the clauses of the procedure with this key, where there is one
-abbrev pub clauses_at : Database → Key → Option (List Clause)
+abbrev pub clauses_at : List Procedure → Key → Option (List Clause)
 clauses_at [] k = None
 clauses_at (p ∷ ps) k = if same_key p.key k then Some p.clauses else clauses_at ps k
 
--- the clause added at the end of its procedure, which is made where there is none
-abbrev pub with_clause : Database → Key → Clause → Database
-with_clause [] k c = record { key = k; clauses = c ∷ [] } ∷ []
-with_clause (p ∷ ps) k c = if same_key p.key k then record p { clauses = p.clauses ++ c ∷ [] } ∷ ps else p ∷ with_clause ps k c
+-- where a clause that is added comes among those of its procedure
+abbrev pub Place : Type 0
+Place = Clause → List Clause → List Clause
+
+abbrev pub at_end : Place
+at_end c cs = cs ++ c ∷ []
+
+-- the clause added to its procedure, which is made where there is none
+abbrev pub with_clause : Place → List Procedure → Key → Clause → List Procedure
+with_clause place [] k c = record { key = k; kind = Static; clauses = c ∷ [] } ∷ []
+with_clause place (p ∷ ps) k c = if same_key p.key k then record p { clauses = place c p.clauses } ∷ ps else p ∷ with_clause place ps k c

@@ -2,15 +2,11 @@
 use Rattle.std.specs.Prelude.{ℕ, List, codes, pos}
 use Rattle.iso_model.specs.Trees.{Tree, Integer, Name, Apply, End, More}
 use Rattle.iso_model.specs.Bodies.{one, two}
-use Rattle.iso_model.specs.Databases.{Key}
+pub use Rattle.iso_model.specs.Keys.{Key, key}
 
 -- Name/Arity
 abbrev pub indicator : Key → Tree
 indicator k = two (codes "/") (Name k.name) (Integer (pos k.arity))
-
--- the procedure of this name and arity
-abbrev pub key : List ℕ → ℕ → Key
-key f n = record { name = f; arity = n }
 
 abbrev pub raised : Tree → Key → Tree
 raised what k = two (codes "error") what (indicator k)

@@ -11,6 +11,9 @@ pub mod Copies
 pub mod Numbering
 pub mod Order
 pub mod Bodies
+pub mod Keys
+pub mod Arguments
+pub mod BuiltIns
 pub mod Databases
 pub mod Errors
 pub mod Additions

@@ -1,7 +1,7 @@
 -- Runs of the search: what it shows, in order, and how it ends (ISO/IEC 13211-1:1995, 7.7).
-use Rattle.std.specs.Prelude.{◌≡◌, ℕ, ◌+◌, List}
+use Rattle.std.specs.Prelude.{◌≡◌, ◌<◌, ℕ, ◌+◌, List}
 use Rattle.iso_model.specs.Trees.{Tree}
-use Rattle.iso_model.specs.Walker.{State, World, Event, Ending, Answered, Wrote, Goes, Gives, Ends, step, idle}
+use Rattle.iso_model.specs.Walker.{State, World, Event, Ending, Answered, Wrote, Goes, Gives, Ends, step, idle, alternative_count}
 
 -- events in order, each with the world behind it, and then the ending with what outlives the run
 pub data Trace : Type 0 where
@@ -46,3 +46,7 @@ pub record Reaches (old : State) (P : State → Type 0) : Type 0 where
   pub at : State
   pub quiet : Quiet old at
   pub holds : P at
+
+-- Some steps without an event lead to a state with more alternatives than this.
+abbrev pub ComesOver : ℕ → State → Type 0
+ComesOver most s = Reaches s (λ t. most < alternative_count t)

@@ -8,7 +8,7 @@ use Rattle.iso_model.specs.Tokens.{tokens}
 use Rattle.iso_model.specs.Trees.{Tree, Apply, End, More}
 use Rattle.iso_model.specs.Items.{Item, Readable, Unreadable, Taken, next_item}
 use Rattle.iso_model.specs.Databases.{Key, key_of}
-use Rattle.iso_model.specs.Additions.{Addition, Adds, Refuses, addition}
+use Rattle.iso_model.specs.Additions.{Addition, Adds, Refuses, consulted}
 use Rattle.iso_model.specs.Walker.{World, first_world, Answered, Wrote, NoMore, Budget, Uncaught, Halted, started}
 use Rattle.iso_model.specs.Runs.{Trace, Then, Stops}
 use Rattle.iso_model.specs.RunLaws.{run_of}
@@ -103,7 +103,7 @@ is_skipped t = skips_by (key_of t)
 
 -- the k-th term of the text, which could be read
 abbrev pub read_script : ℕ → Tree → World → (World → Script) → Script
-read_script k t w next = if is_skipped t then Shows (Line (skipped_line k)) (next w) else added_script k (addition t w.database) w next
+read_script k t w next = if is_skipped t then Shows (Line (skipped_line k)) (next w) else added_script k (consulted t w.database) w next
 
 abbrev pub term_script : ℕ → Item → World → (World → Script) → Script
 term_script k Unreadable w next = Shows (Line (syntax_error_line k)) (next w)

@@ -1,29 +1,34 @@
 -- The standard's search, step by step (ISO/IEC 13211-1:1995, 7.7): depth first, clauses in their order, goals from left to right.
-use Rattle.std.specs.Prelude.{ℕ, zero, suc, ◌+◌, List, [], ◌∷◌, length, map, Bool, false, Option, Some, None, codes, if◌then◌else◌}
-use Rattle.std.specs.Str.{bytes_eq}
+use Rattle.std.specs.Prelude.{ℕ, zero, suc, ◌+◌, List, [], ◌∷◌, length, map, Option, Some, None, codes, if◌then◌else◌}
 use Rattle.iso_ops.specs.Operators.{Operator}
 use Rattle.iso_ops.specs.InitialOperators.{initial_entries}
 use Rattle.iso_ops.specs.declared.settings.Flags.{Flags}
+use Rattle.iso_ops.specs.declared.settings.Unknown.{Unknown}
+use Rattle.iso_ops.specs.declared.settings.Unknown.TheVariants as on_unknown
 use Rattle.iso_ops.specs.Settings.{initial_flags}
-use Rattle.iso_model.specs.Trees.{Tree, Variable, Name, Apply, End, More}
+use Rattle.iso_model.specs.Trees.{Tree, Variable, Name, Apply}
 use Rattle.iso_model.specs.Sizes.{size}
 use Rattle.iso_model.specs.Variables.{variables, variable_count}
 use Rattle.iso_model.specs.Substitutions.{Subst}
 use Rattle.iso_model.specs.Unification.{unify_under}
 use Rattle.iso_model.specs.Copies.{renamed}
 use Rattle.iso_model.specs.Bodies.{Body, Run, And, converted, body_term, map_body, is_true}
-use Rattle.iso_model.specs.Databases.{Clause, Key, Database, key_of, clauses_at}
-use Rattle.iso_model.specs.Errors.{key, type_error_callable, existence_error}
+use Rattle.iso_model.specs.Databases.{Clause, Key, Database, key, key_of, no_clauses, clauses_at}
+use Rattle.iso_model.specs.BuiltIns.{Reply, Fails, Succeeds, Equates, built_in, reply}
+use Rattle.iso_model.specs.Errors.{type_error_callable, existence_error}
+use Rattle.iso_model.specs.declared.built_ins.BuiltIn.{BuiltIn}
 
--- what outlives a run: the database (7.5), the operators (6.3.4.4) and the flags (7.11)
+-- What outlives a run: the database (7.5), the operators (6.3.4.4) and the flags (7.11); and how many runs were started, by which equal
+-- runs are told apart.
 pub record World : Type 0 where
   pub database : Database
   pub operators : List Operator
   pub flags : Flags
+  pub runs : ℕ
 
 -- the world before a text is consulted
 abbrev pub first_world : World
-first_world = record { database = []; operators = initial_entries; flags = initial_flags }
+first_world = record { database = no_clauses; operators = initial_entries; flags = initial_flags; runs = 0 }
 
 -- A member of the list of goals: a goal with its cut mark (a height of the stack), failure, or a thrown ball (7.7.3, 7.8.10).
 pub data Member : Type 0 where
@@ -130,69 +135,60 @@ abbrev pub tried : Tree → List Clause → List Member → State → State
 tried call [] rest s = fails s
 tried call (c ∷ cs) rest s = tried_clause call c (length s.stack) rest (with_others call cs rest s)
 
--- failure goes on with the newest alternative; where there is none the search ends
-abbrev pub retried : Left → State → State
-retried (Clauses call cs) s = tried call cs s.list s
+-- what is left at an alternative is tried: a further solution may be one that is paid for
+abbrev pub retried : Left → State → Outcome
+retried (Clauses call cs) s = Goes (tried call cs s.list s)
 
+-- failure goes on with the newest alternative; where there is none the search ends
 abbrev pub backtracked : List Alternative → State → Outcome
 backtracked [] s = Ends NoMore s.world
-backtracked (a ∷ below) s = Goes (retried a.left (record s { list = a.list; subst = a.subst; next = a.next; built = a.built; stack = below }))
+backtracked (a ∷ below) s = retried a.left (record s { list = a.list; subst = a.subst; next = a.next; built = a.built; stack = below })
 
--- the procedures of the language itself, and all others
-pub data Selected : Type 0 where
-  Succeeds : Selected
-  Fails : Selected
-  Equates : (left : Tree) → (right : Tree) → Selected
-  User : Selected
+-- A call of an unknown procedure raises an error, or fails, as the flag `unknown` says (7.7.7, 7.11.2.4).
+abbrev pub unknown_called : Unknown → Key → List Member → State → State
+unknown_called on_unknown.Error k rest s = record s { list = Raise (existence_error k) ∷ rest }
+unknown_called on_unknown.Fail k rest s = fails s
 
-abbrev pub is_name : List ℕ → Tree → Bool
-is_name f (Name a) = bytes_eq a f
-is_name f t = false
-
-abbrev pub selected_two : List ℕ → Tree → Tree → Selected
-selected_two f a b = if bytes_eq f (codes "=") then Equates a b else User
-
-abbrev pub selected_compound : Tree → Selected
-selected_compound (Apply f (More a (More b End))) = selected_two f a b
-selected_compound t = User
-
-abbrev pub selected : Tree → Selected
-selected t = if is_name (codes "true") t then Succeeds else (if is_name (codes "fail") t then Fails else selected_compound t)
-
--- the ball of a call of an unknown procedure
-abbrev pub unknown : Option Key → Tree → Tree
-unknown (Some k) t = existence_error k
-unknown None t = t
-
--- a call of a user procedure: its clauses are taken as they are now; where there is no such procedure an error is raised
-abbrev pub called : Option (List Clause) → Tree → List Member → State → State
-called (Some cs) t rest s = tried t cs rest s
-called None t rest s = record s { list = Raise (unknown (key_of t) t) ∷ rest }
+-- a call of a user procedure: its clauses are taken as they are now
+abbrev pub called : Option (List Clause) → Key → Tree → List Member → State → State
+called (Some cs) k t rest s = tried t cs rest s
+called None k t rest s = unknown_called s.world.flags.unknown k rest s
 
 -- two terms were unified, or not (8.2.1)
 abbrev pub equated : Option Subst → List Member → State → State
 equated None rest s = fails s
 equated (Some u) rest s = record s { list = rest; subst = u }
 
-abbrev pub clauses_for : Option Key → Database → Option (List Clause)
-clauses_for None db = None
-clauses_for (Some k) db = clauses_at db k
+-- a goal of a built-in comes to this
+abbrev pub replied : Reply → List Member → State → Outcome
+replied Fails rest s = Goes (fails s)
+replied Succeeds rest s = Goes (record s { list = rest })
+replied (Equates a b) rest s = Goes (equated (unify_under s.subst a b) rest (record s { built = s.built + 2 }))
 
-abbrev pub run_goal : Selected → Tree → List Member → State → State
-run_goal Succeeds t rest s = record s { list = rest }
-run_goal Fails t rest s = fails s
-run_goal (Equates a b) t rest s = equated (unify_under s.subst a b) rest (record s { built = s.built + 2 })
-run_goal User t rest s = called (clauses_for (key_of t) s.world.database) t rest s
+-- what a goal of this name and arity runs: a built-in where there is one, else a user procedure
+abbrev pub selected : Option BuiltIn → Key → Tree → List Member → State → Outcome
+selected (Some b) k t rest s = replied (reply b t) rest s
+selected None k t rest s = Goes (called (clauses_at s.world.database.procedures k) k t rest s)
+
+-- a goal is run; no converted body has one without a name
+abbrev pub run_goal : Option Key → Tree → List Member → State → Outcome
+run_goal (Some k) t rest s = selected (built_in k) k t rest s
+run_goal None t rest s = Goes (fails s)
+
+-- A ball is thrown: what follows it in the list is passed over, and nothing catches it (7.8.10).
+abbrev pub thrown : Tree → List Member → State → Outcome
+thrown ball [] s = Ends (Uncaught ball) s.world
+thrown ball (m ∷ rest) s = thrown ball rest s
 
 -- a control step, or a goal's
 abbrev pub step_goal : Body → ℕ → List Member → State → Outcome
 step_goal (And a b) mark rest s = Goes (record s { list = Goal a mark ∷ Goal b mark ∷ rest })
-step_goal (Run t) mark rest s = paid s.steps s (Goes (run_goal (selected t) t rest s))
+step_goal (Run t) mark rest s = paid s.steps s (run_goal (key_of t) t rest s)
 
 abbrev pub step_list : List Member → State → Outcome
 step_list [] s = Gives (Answered (values s)) (fails s)
 step_list (Fail ∷ rest) s = backtracked s.stack s
-step_list (Raise ball ∷ rest) s = Ends (Uncaught ball) s.world
+step_list (Raise ball ∷ rest) s = thrown ball rest s
 step_list (Goal b mark ∷ rest) s = step_goal b mark rest s
 
 -- One step: it takes the first member of the list. An empty list is a solution, and failure comes next.
@@ -212,6 +208,10 @@ abbrev pub shown_query : Tree → Option Body → Tree
 shown_query goal None = goal
 shown_query goal (Some b) = body_term b
 
+-- the world with one run more
+abbrev pub asked : World → World
+asked w = record w { runs = w.runs + 1 }
+
 -- The goal is started over this database with this budget. Its variables are 0, 1, .. by first occurrence.
 abbrev pub started : Tree → ℕ → World → State
 started goal budget w = record {
@@ -221,7 +221,7 @@ started goal budget w = record {
   built = 0;
   query = shown_query goal (converted goal);
   stack = [];
-  world = w;
+  world = asked w;
   steps = budget;
 }
 

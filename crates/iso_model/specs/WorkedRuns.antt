@@ -2,9 +2,9 @@
 use Rattle.std.specs.Prelude.{ℕ, suc, List, [], ◌∷◌, pos, codes}
 use Rattle.iso_model.specs.Trees.{Tree, Variable, Integer, Name, Apply, End, More}
 use Rattle.iso_model.specs.Bodies.{one, two}
-use Rattle.iso_model.specs.Databases.{Database}
-use Rattle.iso_model.specs.Additions.{Addition, Adds, Refuses, addition}
-use Rattle.iso_model.specs.Walker.{World, first_world, Answered, Ending, NoMore, Budget, Uncaught, started}
+use Rattle.iso_model.specs.Databases.{Database, no_clauses}
+use Rattle.iso_model.specs.Additions.{Addition, Adds, Refuses, consulted}
+use Rattle.iso_model.specs.Walker.{World, first_world, Answered, Ending, NoMore, Budget, Uncaught, asked, started}
 use Rattle.iso_model.specs.Runs.{Trace, Then, Stops, Run}
 
 -- the term with this name and these three arguments
@@ -23,16 +23,20 @@ after (Refuses error) old = old
 -- these clauses, added in their order
 abbrev pub with_clauses : List Tree → Database → Database
 with_clauses [] db = db
-with_clauses (t ∷ ts) db = with_clauses ts (after (addition t db) db)
+with_clauses (t ∷ ts) db = with_clauses ts (after (consulted t db) db)
 
 -- only these clauses
 abbrev pub program : List Tree → World
-program ts = record first_world { database = with_clauses ts [] }
+program ts = record first_world { database = with_clauses ts no_clauses }
 
--- these answers in their order, and then this ending
+-- these answers in their order, and then this ending, in this world
+abbrev pub answers_in : World → List (List Tree) → Ending → Trace
+answers_in w [] ending = Stops ending w
+answers_in w (values ∷ others) ending = Then (Answered values) w (answers_in w others ending)
+
+-- those of the first run that is started over this world
 abbrev pub answers : List (List Tree) → Ending → World → Trace
-answers [] ending w = Stops ending w
-answers (values ∷ others) ending w = Then (Answered values) w (answers others ending w)
+answers values ending w = answers_in (asked w) values ending
 
 -- `l :- l.`
 abbrev pub endless : World

@@ -5,8 +5,12 @@ use Rattle.iso_model.specs.Substitutions.{Subst}
 use Rattle.iso_model.specs.Unification.{unify_under}
 use Rattle.iso_model.specs.Copies.{renamed}
 use Rattle.iso_model.specs.Bodies.{Body, Run, And}
-use Rattle.iso_model.specs.Databases.{Clause, key_of}
-use Rattle.iso_model.specs.Walker.{State, World, Member, Goal, Fail, Raise, Left, Clauses, Alternative, Event, Ending, Outcome, Goes, Gives, Ends, charged, paid, entered, tried_clause, with_others, tried, retried, backtracked, Selected, Succeeds, Fails, Equates, User, equated, selected, called, clauses_for, run_goal, step_goal, step_list, step}
+use Rattle.iso_model.specs.Databases.{Clause, Key, key_of, clauses_at}
+use Rattle.iso_ops.specs.declared.settings.Unknown.{Unknown}
+use Rattle.iso_ops.specs.declared.settings.Unknown.TheVariants as on_unknown
+use Rattle.iso_model.specs.BuiltIns.{Reply, Fails, Succeeds, Equates, built_in, reply}
+use Rattle.iso_model.specs.declared.built_ins.BuiltIn.{BuiltIn}
+use Rattle.iso_model.specs.Walker.{State, World, Member, Goal, Fail, Raise, Left, Clauses, Alternative, Event, Ending, Outcome, Goes, Gives, Ends, charged, paid, entered, tried_clause, with_others, tried, retried, backtracked, unknown_called, called, equated, replied, selected, run_goal, thrown, step_goal, step_list, step}
 use Rattle.iso_model.specs.Runs.{Trace, goes, gives, ends}
 use Rattle.iso_model.specs.Runs as runs
 use Rattle.iso_model.specs.RunLaws.Exists.{has_run}
@@ -85,26 +89,41 @@ tried_alike {s} {t} call (c ∷ cs) rest a =
     subst (λ m. Alike (tried_clause call c (length s.stack) rest (with_others call cs rest s)) (tried_clause call c m rest (with_others call cs rest t))) (height_alike a)
     (clause_alike call c (length s.stack) rest (others_alike call cs rest a))
 
-retried_alike : {s t : State} (l : Left) → Alike s t → Alike (retried l s) (retried l t)
-retried_alike (Clauses call cs) (alike {list = rest} a) = tried_alike call cs rest (alike a)
+retried_alike : {s t : State} (l : Left) → Alike s t → AlikeOut (retried l s) (retried l t)
+retried_alike (Clauses call cs) (alike {list = rest} a) = both_go (tried_alike call cs rest (alike a))
 
 failing_alike : {s t : State} → Alike s t → AlikeOut (backtracked s.stack s) (backtracked t.stack t)
 failing_alike (alike none) = both_end
-failing_alike (alike (one {left = l} a)) = both_go (retried_alike l (alike a))
+failing_alike (alike (one {left = l} a)) = retried_alike l (alike a)
 
-called_alike : {s t : State} (cs : Option (List Clause)) (g : Tree) (rest : List Member) → Alike s t → Alike (called cs g rest s) (called cs g rest t)
-called_alike (Some cs) g rest a = tried_alike g cs rest a
-called_alike None g rest (alike a) = alike a
+unknown_alike : {s t : State} (u : Unknown) (k : Key) (rest : List Member) → Alike s t → Alike (unknown_called u k rest s) (unknown_called u k rest t)
+unknown_alike on_unknown.Error k rest (alike a) = alike a
+unknown_alike on_unknown.Fail k rest (alike a) = alike a
+
+called_alike : {s t : State} (cs : Option (List Clause)) (k : Key) (g : Tree) (rest : List Member) → Alike s t → Alike (called cs k g rest s) (called cs k g rest t)
+called_alike (Some cs) k g rest a = tried_alike g cs rest a
+called_alike None k g rest (alike {world = w} a) = unknown_alike w.flags.unknown k rest (alike a)
 
 equated_alike : {s t : State} (u : Option Subst) (rest : List Member) → Alike s t → Alike (equated u rest s) (equated u rest t)
 equated_alike None rest (alike a) = alike a
 equated_alike (Some u) rest (alike a) = alike a
 
-goal_alike : {s t : State} (k : Selected) (g : Tree) (rest : List Member) → Alike s t → Alike (run_goal k g rest s) (run_goal k g rest t)
-goal_alike Succeeds g rest (alike a) = alike a
-goal_alike Fails g rest (alike a) = alike a
-goal_alike (Equates x y) g rest (alike {subst = r} a) = equated_alike (unify_under r x y) rest (alike a)
-goal_alike User g rest (alike {world = w} a) = called_alike (clauses_for (key_of g) w.database) g rest (alike a)
+replied_alike : {s t : State} (r : Reply) (rest : List Member) → Alike s t → AlikeOut (replied r rest s) (replied r rest t)
+replied_alike Fails rest (alike a) = both_go (alike a)
+replied_alike Succeeds rest (alike a) = both_go (alike a)
+replied_alike (Equates x y) rest (alike {subst = r} a) = both_go (equated_alike (unify_under r x y) rest (alike a))
+
+selected_alike : {s t : State} (b : Option BuiltIn) (k : Key) (g : Tree) (rest : List Member) → Alike s t → AlikeOut (selected b k g rest s) (selected b k g rest t)
+selected_alike (Some b) k g rest a = replied_alike (reply b g) rest a
+selected_alike None k g rest (alike {world = w} a) = both_go (called_alike (clauses_at w.database.procedures k) k g rest (alike a))
+
+goal_alike : {s t : State} (k : Option Key) (g : Tree) (rest : List Member) → Alike s t → AlikeOut (run_goal k g rest s) (run_goal k g rest t)
+goal_alike (Some k) g rest a = selected_alike (built_in k) k g rest a
+goal_alike None g rest (alike a) = both_go (alike a)
+
+thrown_alike : {s t : State} (ball : Tree) (rest : List Member) → Alike s t → AlikeOut (thrown ball rest s) (thrown ball rest t)
+thrown_alike ball [] (alike a) = both_end
+thrown_alike ball (m ∷ rest) a = thrown_alike ball rest a
 
 charged_alike : {o p : Outcome} (n : ℕ) → AlikeOut o p → AlikeOut (charged n o) (charged n p)
 charged_alike n (both_go (alike a)) = both_go (alike a)
@@ -117,12 +136,12 @@ paid_alike (suc n) a out = charged_alike n out
 
 body_alike : {s t : State} (b : Body) (mark : ℕ) (rest : List Member) → Alike s t → AlikeOut (step_goal b mark rest s) (step_goal b mark rest t)
 body_alike (And x y) mark rest (alike a) = both_go (alike a)
-body_alike (Run g) mark rest (alike {steps = n} a) = paid_alike n (alike a) (both_go (goal_alike (selected g) g rest (alike a)))
+body_alike (Run g) mark rest (alike {steps = n} a) = paid_alike n (alike a) (goal_alike (key_of g) g rest (alike a))
 
 list_alike : {s t : State} (list : List Member) → Alike s t → AlikeOut (step_list list s) (step_list list t)
 list_alike [] (alike a) = both_give (alike a)
 list_alike (Fail ∷ rest) a = failing_alike a
-list_alike (Raise ball ∷ rest) (alike a) = both_end
+list_alike (Raise ball ∷ rest) a = thrown_alike ball rest a
 list_alike (Goal b mark ∷ rest) a = body_alike b mark rest a
 
 step_alike : {s t : State} → Alike s t → AlikeOut (step s) (step t)

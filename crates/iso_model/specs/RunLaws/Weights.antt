@@ -1,13 +1,13 @@
 -- A number that falls at each step that takes none of the budget: it counts the control constructs and the clauses that are left. A
 -- substitution doesn't change it.
-use Rattle.std.proofs.Common.{◌≡◌, ◌<◌, ◌≤◌, ◌+◌, ℕ, zero, suc, List, [], ◌∷◌, true, false, Option, Some, None, ◌⊎◌, inl, inr, refl, ap, ◌∙◌, arith, length, if◌then◌else◌}
+use Rattle.std.proofs.Common.{◌≡◌, ◌<◌, ◌≤◌, ◌+◌, ℕ, zero, suc, List, [], ◌∷◌, true, false, Option, Some, None, ◌⊎◌, inl, inr, refl, ap, ◌∙◌, subst, arith, length, if◌then◌else◌}
 use Rattle.iso_model.specs.Trees.{Tree, Variable}
 use Rattle.iso_model.specs.Substitutions.{Subst}
 use Rattle.iso_model.specs.Unification.{unify_under}
 use Rattle.iso_model.specs.Copies.{renamed}
 use Rattle.iso_model.specs.Bodies.{Body, Run, And, map_body, is_true}
-use Rattle.iso_model.specs.Databases.{Clause}
-use Rattle.iso_model.specs.Walker.{State, Member, Goal, Fail, Raise, Left, Clauses, Alternative, Outcome, Goes, Gives, Ends, charged, paid, before, entered, with_others, tried, retried, backtracked, step_goal, step_list, step, run_goal, selected, clause_size}
+use Rattle.iso_model.specs.Databases.{Clause, key_of}
+use Rattle.iso_model.specs.Walker.{State, Member, Goal, Fail, Raise, Left, Clauses, Alternative, Outcome, Goes, Gives, Ends, charged, paid, before, entered, with_others, tried, retried, backtracked, thrown, step_goal, step_list, step, run_goal, clause_size}
 
 -- a body, before what weighs r
 abbrev pub body_weight : Body → ℕ → ℕ
@@ -18,7 +18,7 @@ body_weight (And a b) r = suc (body_weight a (body_weight b r))
 abbrev pub list_weight : List Member → ℕ
 list_weight [] = 1
 list_weight (Fail ∷ rest) = 0
-list_weight (Raise ball ∷ rest) = 0
+list_weight (Raise ball ∷ rest) = 1
 list_weight (Goal b mark ∷ rest) = body_weight b (list_weight rest)
 
 -- clauses, each before what weighs r
@@ -95,15 +95,16 @@ tried_lighter call (c ∷ cs) rest s =
     let light = t.lighter in
     record { steps = t.steps ∙ others.0; lighter = omega arith }
 
-retried_lighter : (l : Left) (s : State) → Lighter s.steps (left_weight l (list_weight s.list) + stack_weight s.stack) (retried l s)
-retried_lighter (Clauses call cs) s = tried_lighter call cs s.list s
+retried_progress : (l : Left) (s : State) → Progress s.steps (left_weight l (list_weight s.list) + stack_weight s.stack) (retried l s)
+retried_progress (Clauses call cs) s = inr (tried_lighter call cs s.list s)
 
-backtracked_progress : (stack : List Alternative) (s : State) → Progress s.steps (0 + stack_weight stack) (backtracked stack s)
+backtracked_progress : (stack : List Alternative) (s : State) → Progress s.steps (stack_weight stack) (backtracked stack s)
 backtracked_progress [] s = tt
-backtracked_progress (a ∷ below) s =
-    let t = retried_lighter a.left (record s { list = a.list; subst = a.subst; next = a.next; built = a.built; stack = below }) in
-    let light = t.lighter in
-    inr (record { steps = t.steps; lighter = omega arith })
+backtracked_progress (a ∷ below) s = retried_progress a.left (record s { list = a.list; subst = a.subst; next = a.next; built = a.built; stack = below })
+
+thrown_progress : (ball : Tree) (rest : List Member) (n w : ℕ) (s : State) → Progress n w (thrown ball rest s)
+thrown_progress ball [] n w s = tt
+thrown_progress ball (m ∷ rest) n w s = thrown_progress ball rest n w s
 
 charged_progress : (n k w : ℕ) (o : Outcome) → k < n → Progress n w (charged k o)
 charged_progress n k w (Goes t) h = inl h
@@ -119,12 +120,14 @@ goal_progress : (b : Body) (mark : ℕ) (rest : List Member) (s : State)
     → Progress s.steps (body_weight b (list_weight rest) + stack_weight s.stack) (step_goal b mark rest s)
 goal_progress (And a b) mark rest s = inr (record { steps = refl; lighter = omega arith })
 goal_progress (Run t) mark rest s =
-    paid_progress s.steps (body_weight (Run t) (list_weight rest) + stack_weight s.stack) s (Goes (run_goal (selected t) t rest s))
+    paid_progress s.steps (body_weight (Run t) (list_weight rest) + stack_weight s.stack) s (run_goal (key_of t) t rest s)
 
 list_progress : (list : List Member) (s : State) → Progress s.steps (list_weight list + stack_weight s.stack) (step_list list s)
 list_progress [] s = inr (record { steps = refl; lighter = omega arith })
-list_progress (Fail ∷ rest) s = backtracked_progress s.stack s
-list_progress (Raise ball ∷ rest) s = tt
+list_progress (Fail ∷ rest) s =
+    let none : stack_weight s.stack ≡ 0 + stack_weight s.stack = omega arith in
+    subst (λ w. Progress s.steps w (backtracked s.stack s)) none (backtracked_progress s.stack s)
+list_progress (Raise ball ∷ rest) s = thrown_progress ball rest s.steps (1 + stack_weight s.stack) s
 list_progress (Goal b mark ∷ rest) s = goal_progress b mark rest s
 
 pub step_progress : (s : State) → Progress s.steps (weight s) (step s)
