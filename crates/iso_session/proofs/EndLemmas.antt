@@ -2,10 +2,11 @@
 use Rattle.std.proofs.Common.{◌≡◌, ℕ, Bool, false, List, [], ◌∷◌, ◌++◌, Option, Result, Ok, Err, IfOk, OnOk, OnErr, inl, inr, refl, sym, ap, subst, ◌∙◌, append-nil}
 use Rattle.std.specs.Io.KnownBytes.{Appends}
 use Rattle.std.specs.Result.{IsErr}
-use Rattle.iso_model.specs.Engines.{Phase, KeepsLimits}
+use Rattle.iso_model.specs.Engines.{Phase, Ready, MayMeet, KeepsLimits}
 use Rattle.iso_model.specs.Walker.{State, started}
+use Rattle.iso_model.specs.Runs.{ComesOver}
 use Rattle.iso_model.specs.Sessions.{Piece, Line, Script, Closes, Done, Halts, SessionEnd, prepend, piece_bytes, pieces_bytes, script_bytes, script_end, query_goal}
-use Rattle.iso_model.specs.Beginnings.{Begins, IsWritten, whole, cut, cut_text, limit_line, IsBroken, Writes, StopsAt, before_run, within_run, further_on, EngineStops, Outcome, Closed, Limited, Broken}
+use Rattle.iso_model.specs.Beginnings.{Begins, IsWritten, whole, cut, cut_text, limit_line, IsBroken, Writes, StopsAt, before_run, within_run, further_on, EngineStops, WalkStops, Outcome, Closed, Limited, Broken}
 use Rattle.iso_model.specs.declared.limit.Limit.{Limit}
 use Rattle.iso_model.specs.declared.limit.Limit.TheVariants as limit
 use Rattle.iso_session.specs.declared.flows.Flow.{Flow}
@@ -14,7 +15,7 @@ use Rattle.iso_session.specs.declared.statuses.Ended.{Ended}
 use Rattle.iso_session.specs.declared.statuses.Fault.{Fault}
 use Rattle.iso_session.specs.Progress.{Place, outcome_of, within_after, Advances, Does, ended_of, closing_bytes}
 use Rattle.iso_session.proofs.WrittenLemmas.{appends_more, begins_behind}
-use Rattle.iso_session.proofs.ProgressLemmas.{pieces_bytes-append, script_bytes-prepend}
+use Rattle.iso_session.proofs.ProgressLemmas.{pieces_bytes-append, script_bytes-prepend, stops_here}
 
 script_end-prepend : (ps : List Piece) (s : Script) → script_end (prepend ps s) ≡ script_end s
 script_end-prepend [] s = refl
@@ -122,3 +123,25 @@ pub writes_kept : (budget : ℕ) (Stands : State → Type 0) (Old New : Limit �
     → Writes script (EngineStops budget Stands New now script) old new outcome → Writes script (EngineStops budget Stands Old now script) old new outcome
 writes_kept budget Stands Old New now script old new outcome keeps h =
     writes_by script (EngineStops budget Stands New now script) (EngineStops budget Stands Old now script) old new outcome (engine_stops-kept budget Stands Old New now script keeps) h
+
+-- what is said of the plain engine's limits, where it names the pieces of its frames so
+walk_stops : (budget frames : ℕ) (Stands : State → Type 0) (May : Limit → State → Type 0) (now : Phase) (script : Script) → ((s : State) → May limit.Frames s → ComesOver frames s) → (l : Limit) (rest : Script)
+    → EngineStops budget Stands May now script l rest → WalkStops budget frames script l rest
+walk_stops budget frames Stands May now script over limit.Heap rest h = (h.at, stops_by budget May (MayMeet (λ t. Unit {0}) (ComesOver frames)) limit.Heap h.at (λ t may. tt) h.stops)
+walk_stops budget frames Stands May now script over limit.Frames rest h = (h.at, stops_by budget May (MayMeet (λ t. Unit {0}) (ComesOver frames)) limit.Frames h.at over h.stops)
+walk_stops budget frames Stands May now script over limit.Memory rest h = tt
+
+pub writes_walk : (budget frames : ℕ) (Stands : State → Type 0) (May : Limit → State → Type 0) (now : Phase) (script : Script) (old new : Option (List ℕ)) (outcome : Outcome)
+    → ((s : State) → May limit.Frames s → ComesOver frames s) → Writes script (EngineStops budget Stands May now script) old new outcome → Writes script (WalkStops budget frames script) old new outcome
+writes_walk budget frames Stands May now script old new outcome over h =
+    writes_by script (EngineStops budget Stands May now script) (WalkStops budget frames script) old new outcome (walk_stops budget frames Stands May now script over) h
+
+-- memory was refused before a session began
+pub refused_session : (budget frames : ℕ) (script : Script) (old new : Option (List ℕ)) (r : Result Ended Fault) → IfOk r (λ e. e ≡ ended_of (flow.Stops limit.Memory))
+    → OnOk r (Appends old new (closing_bytes false (flow.Stops limit.Memory))) → OnErr r (Begins old new (closing_bytes false (flow.Stops limit.Memory)))
+    → Writes script (WalkStops budget frames script) old new (outcome_of r)
+refused_session budget frames script old new r is ok err =
+    let stops : Does budget (λ s. ⊥) (λ l s. ⊥) Ready (old, false) (old, false) script (λ w. Closes Done) (Ok (flow.Stops limit.Memory)) =
+    stops_here budget (λ s. ⊥) (λ l s. ⊥) Ready (old, false) script refl in
+    writes_walk budget frames (λ s. ⊥) (λ l s. ⊥) Ready script old new (outcome_of r) (λ s never. absurd never)
+    (closes budget (λ s. ⊥) (λ l s. ⊥) Ready old (old, false) new script (flow.Stops limit.Memory) r stops is ok err)
