@@ -21,9 +21,12 @@ pub record Procedure : Type 0 where
   pub kind : Kind
   pub clauses : List Clause
 
+abbrev pub Procedures : Type 0
+Procedures = List Procedure
+
 -- the procedures, and how many clauses were ever added: the number of the next one
 pub record Database : Type 0 where
-  pub procedures : List Procedure
+  pub procedures : Procedures
   pub added : ℕ
 
 -- no procedure
@@ -31,7 +34,7 @@ abbrev pub no_clauses : Database
 no_clauses = record { procedures = []; added = 0 }
 
 -- the clauses of the procedure with this key, where there is one
-abbrev pub clauses_at : List Procedure → Key → Option (List Clause)
+abbrev pub clauses_at : Procedures → Key → Option (List Clause)
 clauses_at [] k = None
 clauses_at (p ∷ ps) k = if same_key p.key k then Some p.clauses else clauses_at ps k
 
@@ -43,6 +46,6 @@ abbrev pub at_end : Place
 at_end c cs = cs ++ c ∷ []
 
 -- the clause added to its procedure, which is made where there is none
-abbrev pub with_clause : Place → List Procedure → Key → Clause → List Procedure
+abbrev pub with_clause : Place → Procedures → Key → Clause → Procedures
 with_clause place [] k c = record { key = k; kind = Static; clauses = c ∷ [] } ∷ []
 with_clause place (p ∷ ps) k c = if same_key p.key k then record p { clauses = place c p.clauses } ∷ ps else p ∷ with_clause place ps k c

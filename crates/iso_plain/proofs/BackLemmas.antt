@@ -36,7 +36,7 @@ module _ {S W M : Type 0} (present : S → Present W) (stands : S → M → Pres
       let n = newest c last is.choices in
       let h = n.here in
       let at : h.present ≡ present store = sym (back h.present h.mark) in
-      let below : StandsForChoices (stands store) older e.base (left_at l.world.database) e.query.items l.query (take c.frames e.frames.items) (take (length e.choices.items - 1) e.choices.items) n.below =
+      let below : StandsForChoices (stands store) older e.base (left_at l.world.database.procedures) e.query.items l.query (take c.frames e.frames.items) (take (length e.choices.items - 1) e.choices.items) n.below =
       choices_keep (λ d p among stood. marks d.mark p (n.newer d among) stood) n.stands_below in
       let b = is.base in
       let fs = sym kept_frames in
@@ -61,7 +61,7 @@ module _ {S W M : Type 0} (present : S → Present W) (stands : S → M → Pres
           variables = subst (λ (p : Present W). AreVariables p e.query.items l.query) at h.words;
           newer_base = h.newer;
           newer = n.newer;
-          stands_below = subst (λ (xs : List (Frame W)). StandsForChoices (stands store) older e.base (left_at l.world.database) e.query.items l.query xs (take (length e.choices.items - 1) e.choices.items) n.below) fs below;
+          stands_below = subst (λ (xs : List (Frame W)). StandsForChoices (stands store) older e.base (left_at l.world.database.procedures) e.query.items l.query xs (take (length e.choices.items - 1) e.choices.items) n.below) fs below;
           room = subst (λ (ks : List Choice). HaveRoom e.steps ks) n.is is.room;
         };
       }

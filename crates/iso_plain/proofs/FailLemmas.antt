@@ -1,9 +1,10 @@
 -- The engine fails: it goes on with the newest choice, or the run ends.
-use Rattle.std.proofs.Common.{◌≡◌, ◌≢◌, ℕ, ◌<◌, List, [], ◌∷◌, length, Option, Some, None, refl, ap, sym, subst, arith, inl, inr}
+use Rattle.std.proofs.Common.{◌≡◌, ℕ, ◌<◌, List, [], ◌∷◌, length, Option, Some, None, refl, ap, sym, subst, arith, inl, inr}
 use Rattle.std.specs.Prelude.{option_map}
 use Rattle.iso_model.specs.Terms.{term_of}
 use Rattle.iso_model.specs.Databases as databases
 use Rattle.iso_model.specs.Walker.{State, World, idle}
+use Rattle.iso_model.specs.Engines.{IsAwake}
 use Rattle.iso_model.specs.declared.pauses.Pause.TheVariants as pause
 use Rattle.iso_store.specs.Presents.{Present}
 use Rattle.iso_plain.specs.declared.parts.Choice as kept
@@ -20,10 +21,10 @@ use Rattle.iso_plain.proofs.StandingLemmas.{no_choices}
 use Rattle.iso_plain.proofs.LinkedMoves.{fails_last, retries_missed, retries_entered}
 
 -- behind a clause that was tried the engine is awake
-pub awake_entered : (entered : Option (Option ℕ)) → now_entered entered ≢ now.Spent
-awake_entered None = λ h. cc
-awake_entered (Some None) = λ h. cc
-awake_entered (Some (Some i)) = λ h. cc
+pub awake_entered : (entered : Option (Option ℕ)) → IsAwake (phase_of (now_entered entered))
+awake_entered None = tt
+awake_entered (Some None) = tt
+awake_entered (Some (Some i)) = tt
 
 no_items : {X : Type 0} (xs : List X) → length xs ≡ 0 → xs ≡ []
 no_items [] h = refl
@@ -70,7 +71,7 @@ module _ {S W M : Type 0} (present : S → Present W) (stands : S → M → Pres
   -- the clause at the newest choice was tried
   pub tries_on : (e new : Plain S W M) (s : State) (r : Represents present stands older e s) (k : Choice) (below : List Choice) (c : databases.Clause) (cs : List databases.Clause)
       → e.now ≡ now.Failing → r.search.stack ≡ k ∷ below → k.clauses ≡ c ∷ cs
-      → Tried present stands older new (record r.search { subst = k.subst; next = k.next; stack = below }) k.call c cs k.behind → new.now ≢ now.Spent → Moves present stands older move.Goes s new
+      → Tried present stands older new (record r.search { subst = k.subst; next = k.next; stack = below }) k.call c cs k.behind → IsAwake (phase_of new.now) → Moves present stands older move.Goes s new
   tries_on e new s r k below c cs is stack clauses (inl (never, engine)) awake =
       let o = retries_missed r.search s k below c cs r.state.around (does_fail e s r is) stack clauses never in
       (o.new, o.quiet, record { search = _; engine = engine; state = o.is }, awake)

@@ -10,7 +10,7 @@ use Rattle.iso_model.specs.Variables.{occurs}
 use Rattle.iso_model.specs.Copies.{renamed}
 use Rattle.iso_model.specs.Bodies.{Body, Run, And, map_body, is_true}
 use Rattle.iso_model.specs.Databases as databases
-use Rattle.iso_model.specs.Databases.{Database}
+use Rattle.iso_model.specs.Databases.{Procedures}
 use Rattle.iso_plain.specs.declared.clauses.Clause.{Clause}
 use Rattle.iso_plain.specs.declared.procedures.Procedure.{Procedure}
 use Rattle.iso_plain.specs.Goals.{leaves, terms_of}
@@ -43,7 +43,7 @@ pub record KeptAt (ps : List Procedure) (i j : ℕ) (c : databases.Clause) : Typ
   pub within : i < length ps
   pub clause : (p : Procedure) → p ≡ get_or ps i p → ClauseAt p.clauses.items j c
 
-pub kept_at : (ps : List Procedure) (db : Database) (i j : ℕ) (c : databases.Clause) (others : List databases.Clause) → IsDatabase ps db → left_at db i j ≡ c ∷ others → KeptAt ps i j c
+pub kept_at : (ps : List Procedure) (db : Procedures) (i j : ℕ) (c : databases.Clause) (others : List databases.Clause) → IsDatabase ps db → left_at db i j ≡ c ∷ others → KeptAt ps i j c
 kept_at ps db i j c others no_procedures h = absurd (cc)
 kept_at ps db zero j c others (more_procedures {kept = p} {p = q} {ks = ps'} {ps = db'} is more) h = record {
   within = omega arith;

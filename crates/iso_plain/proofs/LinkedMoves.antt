@@ -1,16 +1,24 @@
 -- Each move of a search with its goals linked is some steps of the search.
-use Rattle.std.proofs.Common.{◌≡◌, ℕ, suc, ◌+◌, List, [], ◌∷◌, ◌++◌, Bool, true, false, Option, Some, None, map, length, refl, ap, sym, ◌∙◌, subst, append_assoc}
+use Rattle.std.proofs.Common.{◌≡◌, ◌<◌, ◌≤◌, arith, ℕ, suc, ◌+◌, List, [], ◌∷◌, ◌++◌, Bool, true, false, Option, Some, None, map, length, refl, ap, sym, ◌∙◌, subst, append_assoc}
 use Rattle.iso_model.specs.Trees.{Tree, Variable}
 use Rattle.iso_model.specs.Substitutions.{Subst, apply, compose}
 use Rattle.iso_model.specs.Unifiers.{Unifier, NeverEqual}
+use Rattle.iso_model.specs.Unification.{unify_under}
 use Rattle.iso_model.specs.Copies.{renamed}
 use Rattle.iso_model.specs.Bodies.{Body, Run, And, map_body, is_true}
-use Rattle.iso_model.specs.Databases.{Clause, key_of}
-use Rattle.iso_model.specs.Walker.{State, World, Alternative, Member, Goal, Fail, Raise, Goes, Gives, Ends, Answered, NoMore, Budget, Uncaught, Selected, Succeeds, Fails, User, selected, run_goal, called, clauses_for, unknown, paid, step, step_list, backtracked, before, tried, with_others, fails, values, idle}
-use Rattle.iso_model.specs.Runs.{Quiet, here, onward, Comes, Finishes}
+use Rattle.iso_ops.specs.declared.settings.Unknown.{Unknown}
+use Rattle.iso_ops.specs.declared.settings.Unknown.TheVariants as on_unknown
+use Rattle.iso_model.specs.Databases.{Clause, Key, key_of, clauses_at}
+use Rattle.iso_model.specs.Errors.{existence_error}
+use Rattle.iso_model.specs.BuiltIns.{built_in, reply}
+use Rattle.iso_model.specs.declared.built_ins.BuiltIn.{BuiltIn}
+use Rattle.iso_model.specs.declared.built_ins.BuiltIn.TheVariants as own
+use Rattle.iso_model.specs.Walker.{State, World, Alternative, Member, Goal, Fail, Raise, Outcome, Goes, Gives, Ends, Answered, NoMore, Budget, Uncaught, run_goal, selected, replied, called, unknown_called, thrown, charged, paid, step, step_list, backtracked, before, entered, tried, with_others, clause_size, fails, values, idle}
+use Rattle.iso_model.specs.Runs.{Quiet, here, onward, Comes, Finishes, ComesOver}
 use Rattle.iso_model.specs.RunLaws.Quiets.{quiet_one, quiet_trans}
 use Rattle.iso_model.proofs.CallLemmas.{found, tried_found, tried_missed}
 use Rattle.iso_plain.specs.Goals.{leaves}
+use Rattle.iso_plain.specs.Called.{IsBuiltIn, IsUser}
 use Rattle.iso_plain.specs.Linked.{goals_of, clause_goals, Links, nothing, linked, Choice, AreChoices, no_choice, one_choice, Running, Failing, Raising, Does, Linked, IsAround, IsState, idle_linked, with_choice, linked_missed, linked_entered}
 
 -- ---- goals
@@ -193,9 +201,13 @@ answers l s at links =
       stands = record { list = ([], refl); around = record { subst = at.subst; next = at.next; query = at.query; stack = at.stack; world = at.world; steps = at.steps } };
     }
 
+thrown_on : (ball : Tree) (others : List Member) (s : State) → thrown ball others s ≡ Ends (Uncaught ball) s.world
+thrown_on ball [] s = refl
+thrown_on ball (m ∷ others) s = thrown_on ball others s
+
 raise_step : (s : State) (ball : Tree) (others : List Member) → s.list ≡ Raise ball ∷ others → step s ≡ Ends (Uncaught ball) s.world
 unfolding step
-raise_step s ball others e = ap (λ (ms : List Member). step_list ms s) e
+raise_step s ball others e = ap (λ (ms : List Member). step_list ms s) e ∙ thrown_on ball others s
 
 -- nothing catches the ball
 pub raises : (l : Linked) (s : State) (ball : Tree) → IsAround l s → Does (Raising ball) s.list → Finishes s (Uncaught ball) (IsState (idle_linked l.world))
@@ -232,7 +244,7 @@ fronted l s g gs at links =
       quiet = o.quiet;
     }
 
-goal_step : (s : State) (g : Tree) (mark : ℕ) (others : List Member) → s.list ≡ Goal (Run g) mark ∷ others → step s ≡ paid s.steps s (Goes (run_goal (selected g) g others s))
+goal_step : (s : State) (g : Tree) (mark : ℕ) (others : List Member) → s.list ≡ Goal (Run g) mark ∷ others → step s ≡ paid s.steps s (run_goal (key_of g) g others s)
 unfolding step
 goal_step s g mark others e = ap (λ (ms : List Member). step_list ms s) e
 
@@ -244,16 +256,16 @@ spends_all l s g gs at links none =
       at = f.from;
       world = f.from.world;
       quiet = f.quiet;
-      last = goal_step f.from g f.mark f.others f.list ∙ ap (λ (n : ℕ). paid n f.from (Goes (run_goal (selected g) g f.others f.from))) (f.around.steps ∙ none);
+      last = goal_step f.from g f.mark f.others f.list ∙ ap (λ (n : ℕ). paid n f.from (run_goal (key_of g) g f.others f.from)) (f.around.steps ∙ none);
       stands = is_idle f.from.world l.world f.around.world;
     }
 
 -- what a goal that takes a step goes to
-goal_goes : (l : Linked) (s : State) (g : Tree) (gs : List Tree) (n : ℕ) (f : Fronted l g gs s) (t : State) → l.steps ≡ suc n → run_goal (selected g) g f.others f.from ≡ t
+goal_goes : (l : Linked) (s : State) (g : Tree) (gs : List Tree) (n : ℕ) (f : Fronted l g gs s) (t : State) → l.steps ≡ suc n → run_goal (key_of g) g f.others f.from ≡ Goes t
     → step f.from ≡ Goes (record t { steps = n })
 goal_goes l s g gs n f t left is =
     goal_step f.from g f.mark f.others f.list
-    ∙ (ap (λ (k : ℕ). paid k f.from (Goes (run_goal (selected g) g f.others f.from))) (f.around.steps ∙ left) ∙ ap (λ (x : State). Goes (record x { steps = n })) is)
+    ∙ (ap (λ (k : ℕ). paid k f.from (run_goal (key_of g) g f.others f.from)) (f.around.steps ∙ left) ∙ ap (λ (o : Outcome). charged n o) is)
 
 -- The search goes on, without an event, to a state that is this one.
 pub record Onward (l : Linked) (s : State) : Type 0 where
@@ -268,7 +280,7 @@ fewer_steps l t n h = record {
   around = record { subst = h.around.subst; next = h.around.next; query = h.around.query; stack = h.around.stack; world = h.around.world; steps = refl };
 }
 
-pub goes_onward : (l m : Linked) (s : State) (g : Tree) (gs : List Tree) (n : ℕ) (f : Fronted l g gs s) (t : State) → l.steps ≡ suc n → run_goal (selected g) g f.others f.from ≡ t
+pub goes_onward : (l m : Linked) (s : State) (g : Tree) (gs : List Tree) (n : ℕ) (f : Fronted l g gs s) (t : State) → l.steps ≡ suc n → run_goal (key_of g) g f.others f.from ≡ Goes t
     → IsState m t → Onward (record m { steps = n }) s
 goes_onward l m s g gs n f t left is h = record {
   new = record t { steps = n };
@@ -276,40 +288,58 @@ goes_onward l m s g gs n f t left is h = record {
   is = fewer_steps m t n h;
 }
 
+-- what a goal of a built-in is run as
+pub own_goal : (g : Tree) (rest : List Member) (s : State) (b : BuiltIn) → IsBuiltIn g b → run_goal (key_of g) g rest s ≡ replied (reply b g) rest s
+own_goal g rest s b is =
+    ap (λ (o : Option Key). run_goal o g rest s) is.named ∙ ap (λ (o : Option BuiltIn). selected o is.key g rest s) is.found
+
 -- `true`
-pub succeeds : (l : Linked) (s : State) (g : Tree) (gs : List Tree) (n : ℕ) → IsAround l s → Links (g ∷ gs) s.list → l.steps ≡ suc n → selected g ≡ Succeeds
+pub succeeds : (l : Linked) (s : State) (g : Tree) (gs : List Tree) (n : ℕ) → IsAround l s → Links (g ∷ gs) s.list → l.steps ≡ suc n → IsBuiltIn g own.True
     → Onward (record l { doing = Running gs; steps = n }) s
 succeeds l s g gs n at links left is =
     let f = fronted l s g gs at links in
     let a = f.around in
-    goes_onward l (record l { doing = Running gs }) s g gs n f (record f.from { list = f.others }) left (ap (λ (x : Selected). run_goal x g f.others f.from) is)
+    goes_onward l (record l { doing = Running gs }) s g gs n f (record f.from { list = f.others }) left (own_goal g f.others f.from own.True is)
     (record { list = f.links; around = record { subst = a.subst; next = a.next; query = a.query; stack = a.stack; world = a.world; steps = a.steps } })
 
+-- the goal fails
+failing : (l : Linked) (s : State) (g : Tree) (gs : List Tree) (n : ℕ) (f : Fronted l g gs s) → l.steps ≡ suc n → run_goal (key_of g) g f.others f.from ≡ Goes (fails f.from)
+    → Onward (record l { doing = Failing; steps = n }) s
+failing l s g gs n f left is =
+    let a = f.around in
+    goes_onward l (record l { doing = Failing }) s g gs n f (fails f.from) left is
+    (record { list = ([], refl); around = record { subst = a.subst; next = a.next; query = a.query; stack = a.stack; world = a.world; steps = a.steps } })
+
 -- `fail`
-pub fails_at_once : (l : Linked) (s : State) (g : Tree) (gs : List Tree) (n : ℕ) → IsAround l s → Links (g ∷ gs) s.list → l.steps ≡ suc n → selected g ≡ Fails
+pub fails_at_once : (l : Linked) (s : State) (g : Tree) (gs : List Tree) (n : ℕ) → IsAround l s → Links (g ∷ gs) s.list → l.steps ≡ suc n → IsBuiltIn g own.Fail
     → Onward (record l { doing = Failing; steps = n }) s
 fails_at_once l s g gs n at links left is =
     let f = fronted l s g gs at links in
-    let a = f.around in
-    goes_onward l (record l { doing = Failing }) s g gs n f (fails f.from) left (ap (λ (x : Selected). run_goal x g f.others f.from) is)
-    (record { list = ([], refl); around = record { subst = a.subst; next = a.next; query = a.query; stack = a.stack; world = a.world; steps = a.steps } })
+    failing l s g gs n f left (own_goal g f.others f.from own.Fail is)
 
 -- what a goal of a user procedure is run as
-user_goal : (l : Linked) (s : State) (g : Tree) (gs : List Tree) (f : Fronted l g gs s) (clauses : Option (List Clause)) → selected g ≡ User → clauses_for (key_of g) l.world.database ≡ clauses
-    → run_goal (selected g) g f.others f.from ≡ called clauses g f.others f.from
-user_goal l s g gs f clauses is found =
-    ap (λ (x : Selected). run_goal x g f.others f.from) is
-    ∙ ap (λ (x : Option (List Clause)). called x g f.others f.from) (ap (λ (w : World). clauses_for (key_of g) w.database) f.around.world ∙ found)
+user_goal : (l : Linked) (s : State) (g : Tree) (gs : List Tree) (f : Fronted l g gs s) (k : Key) (clauses : Option (List Clause)) → IsUser g k → clauses_at l.world.database.procedures k ≡ clauses
+    → run_goal (key_of g) g f.others f.from ≡ Goes (called clauses k g f.others f.from)
+user_goal l s g gs f k clauses is found =
+    ap (λ (o : Option Key). run_goal o g f.others f.from) is.named
+    ∙ (ap (λ (o : Option BuiltIn). selected o k g f.others f.from) is.none
+    ∙ ap (λ (x : Option (List Clause)). Goes (called x k g f.others f.from)) (ap (λ (w : World). clauses_at w.database.procedures k) f.around.world ∙ found))
 
--- an unknown procedure
-pub raises_unknown : (l : Linked) (s : State) (g : Tree) (gs : List Tree) (n : ℕ) → IsAround l s → Links (g ∷ gs) s.list → l.steps ≡ suc n → selected g ≡ User
-    → clauses_for (key_of g) l.world.database ≡ None → Finishes s (Uncaught (unknown (key_of g) g)) (IsState (idle_linked l.world))
-raises_unknown l s g gs n at links left is none =
+-- an unknown procedure, by the flag `unknown`
+unknown_goal : (l : Linked) (s : State) (g : Tree) (gs : List Tree) (f : Fronted l g gs s) (k : Key) (u : Unknown) → IsUser g k → clauses_at l.world.database.procedures k ≡ None → l.world.flags.unknown ≡ u
+    → run_goal (key_of g) g f.others f.from ≡ Goes (unknown_called u k f.others f.from)
+unknown_goal l s g gs f k u is none flag =
+    user_goal l s g gs f k None is none
+    ∙ ap (λ (x : Unknown). Goes (unknown_called x k f.others f.from)) (ap (λ (w : World). w.flags.unknown) f.around.world ∙ flag)
+
+pub raises_unknown : (l : Linked) (s : State) (g : Tree) (gs : List Tree) (n : ℕ) (k : Key) → IsAround l s → Links (g ∷ gs) s.list → l.steps ≡ suc n → IsUser g k
+    → clauses_at l.world.database.procedures k ≡ None → l.world.flags.unknown ≡ on_unknown.Error → Finishes s (Uncaught (existence_error k)) (IsState (idle_linked l.world))
+raises_unknown l s g gs n k at links left is none flag =
     let f = fronted l s g gs at links in
     let a = f.around in
-    let ball = unknown (key_of g) g in
+    let ball = existence_error k in
     let t = record f.from { list = Raise ball ∷ f.others } in
-    let goes = goal_goes l s g gs n f t left (user_goal l s g gs f None is none) in
+    let goes = goal_goes l s g gs n f t left (unknown_goal l s g gs f k on_unknown.Error is none flag) in
     record {
       at = record t { steps = n };
       world = f.from.world;
@@ -318,31 +348,61 @@ raises_unknown l s g gs n at links left is none =
       stands = is_idle f.from.world l.world a.world;
     }
 
--- a procedure without clauses
-pub fails_without_clauses : (l : Linked) (s : State) (g : Tree) (gs : List Tree) (n : ℕ) → IsAround l s → Links (g ∷ gs) s.list → l.steps ≡ suc n → selected g ≡ User
-    → clauses_for (key_of g) l.world.database ≡ Some [] → Onward (record l { doing = Failing; steps = n }) s
-fails_without_clauses l s g gs n at links left is none =
+pub fails_unknown : (l : Linked) (s : State) (g : Tree) (gs : List Tree) (n : ℕ) (k : Key) → IsAround l s → Links (g ∷ gs) s.list → l.steps ≡ suc n → IsUser g k
+    → clauses_at l.world.database.procedures k ≡ None → l.world.flags.unknown ≡ on_unknown.Fail → Onward (record l { doing = Failing; steps = n }) s
+fails_unknown l s g gs n k at links left is none flag =
     let f = fronted l s g gs at links in
-    let a = f.around in
-    goes_onward l (record l { doing = Failing }) s g gs n f (fails f.from) left (user_goal l s g gs f (Some []) is none)
-    (record { list = ([], refl); around = record { subst = a.subst; next = a.next; query = a.query; stack = a.stack; world = a.world; steps = a.steps } })
+    failing l s g gs n f left (unknown_goal l s g gs f k on_unknown.Fail is none flag)
 
 -- a call whose first clause isn't entered
-pub calls_missed : (l : Linked) (s : State) (g : Tree) (gs : List Tree) (n : ℕ) (c : Clause) (cs : List Clause) → IsAround l s → Links (g ∷ gs) s.list → l.steps ≡ suc n → selected g ≡ User
-    → clauses_for (key_of g) l.world.database ≡ Some (c ∷ cs) → NeverEqual (apply l.subst g) (apply l.subst (renamed l.next c.head)) → Onward (record (linked_missed g c cs gs l) { steps = n }) s
-calls_missed l s g gs n c cs at links left is found never =
+pub calls_missed : (l : Linked) (s : State) (g : Tree) (gs : List Tree) (n : ℕ) (k : Key) (c : Clause) (cs : List Clause) → IsAround l s → Links (g ∷ gs) s.list → l.steps ≡ suc n → IsUser g k
+    → clauses_at l.world.database.procedures k ≡ Some (c ∷ cs) → NeverEqual (apply l.subst g) (apply l.subst (renamed l.next c.head)) → Onward (record (linked_missed g c cs gs l) { steps = n }) s
+calls_missed l s g gs n k c cs at links left is found never =
     let f = fronted l s g gs at links in
-    goes_onward l (linked_missed g c cs gs l) s g gs n f (tried g (c ∷ cs) f.others f.from) left (user_goal l s g gs f (Some (c ∷ cs)) is found)
+    goes_onward l (linked_missed g c cs gs l) s g gs n f (tried g (c ∷ cs) f.others f.from) left (user_goal l s g gs f k (Some (c ∷ cs)) is found)
     (is_missed g c cs gs f.others l f.from f.links f.around never)
 
 -- a call whose first clause is entered
-pub calls_entered : (l : Linked) (s : State) (g : Tree) (gs : List Tree) (n : ℕ) (c : Clause) (cs : List Clause) (u : Subst) → IsAround l s → Links (g ∷ gs) s.list → l.steps ≡ suc n
-    → selected g ≡ User → clauses_for (key_of g) l.world.database ≡ Some (c ∷ cs) → Unifier (apply l.subst g) (apply l.subst (renamed l.next c.head)) u
+pub calls_entered : (l : Linked) (s : State) (g : Tree) (gs : List Tree) (n : ℕ) (k : Key) (c : Clause) (cs : List Clause) (u : Subst) → IsAround l s → Links (g ∷ gs) s.list → l.steps ≡ suc n
+    → IsUser g k → clauses_at l.world.database.procedures k ≡ Some (c ∷ cs) → Unifier (apply l.subst g) (apply l.subst (renamed l.next c.head)) u
     → Onward (record (linked_entered g c cs gs l (compose l.subst u)) { steps = n }) s
-calls_entered l s g gs n c cs u at links left is found unifies =
+calls_entered l s g gs n k c cs u at links left is found unifies =
     let f = fronted l s g gs at links in
-    goes_onward l (linked_entered g c cs gs l (compose l.subst u)) s g gs n f (tried g (c ∷ cs) f.others f.from) left (user_goal l s g gs f (Some (c ∷ cs)) is found)
+    goes_onward l (linked_entered g c cs gs l (compose l.subst u)) s g gs n f (tried g (c ∷ cs) f.others f.from) left (user_goal l s g gs f k (Some (c ∷ cs)) is found)
     (is_entered g c cs gs f.others l f.from u f.links f.around unifies)
+
+-- a clause that is tried leaves the stack as it is
+entered_stack : (u : Option Subst) (c : Clause) (n mark : ℕ) (rest : List Member) (s : State) → (entered u c n mark rest s).stack ≡ s.stack
+entered_stack None c n mark rest s = refl
+entered_stack (Some u) c n mark rest s = refl
+
+tried_stack : (call : Tree) (c : Clause) (cs : List Clause) (rest : List Member) (s : State) → (tried call (c ∷ cs) rest s).stack ≡ (with_others call cs rest s).stack
+tried_stack call c cs rest s =
+    let p = with_others call cs rest s in
+    entered_stack (unify_under p.subst call (renamed p.next c.head)) c p.next (length s.stack) rest (record p { next = p.next + c.variables; built = p.built + clause_size c })
+
+others_more : (call : Tree) (cs : List Clause) (rest : List Member) (s : State) → 0 < length cs → length (with_others call cs rest s).stack ≡ suc (length s.stack)
+others_more call [] rest s some = absurd (omega (arith, some))
+others_more call (c ∷ cs) rest s some = refl
+
+choices_many : {ks : List Choice} {others : List Alternative} → AreChoices ks others → length ks ≡ length others
+choices_many no_choice = refl
+choices_many (one_choice links more) = ap suc (choices_many more)
+
+-- a call of a procedure of several clauses comes to one alternative more
+pub calls_over : (l : Linked) (s : State) (g : Tree) (gs : List Tree) (n : ℕ) (k : Key) (c : Clause) (cs : List Clause) (most : ℕ) → IsAround l s → Links (g ∷ gs) s.list → l.steps ≡ suc n
+    → IsUser g k → clauses_at l.world.database.procedures k ≡ Some (c ∷ cs) → 0 < length cs → most ≤ length l.stack → ComesOver most s
+calls_over l s g gs n k c cs most at links left is found some full =
+    let f = fronted l s g gs at links in
+    let t = tried g (c ∷ cs) f.others f.from in
+    let goes = goal_goes l s g gs n f t left (user_goal l s g gs f k (Some (c ∷ cs)) is found) in
+    let many = choices_many f.around.stack in
+    let more = ap length (tried_stack g c cs f.others f.from) ∙ others_more g cs f.others f.from some in
+    record {
+      at = record t { steps = n };
+      quiet = onward f.quiet goes;
+      holds = omega (arith, many, more, full);
+    }
 
 -- ---- the clauses of the newest choice
 

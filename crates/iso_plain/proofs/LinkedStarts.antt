@@ -5,7 +5,7 @@ use Rattle.iso_model.specs.Trees.{Tree, Variable, Integer, Name, Apply, End, Mor
 use Rattle.iso_model.specs.Variables.{distinct_from, variables, variable_count}
 use Rattle.iso_model.specs.Bodies.{Body, Run, And, converted, both, body_term, one, two}
 use Rattle.iso_model.specs.Errors.{key, type_error_callable}
-use Rattle.iso_model.specs.Walker.{World, started, opening, shown_query}
+use Rattle.iso_model.specs.Walker.{World, asked, started, opening, shown_query}
 use Rattle.iso_plain.specs.Goals.{leaves}
 use Rattle.iso_plain.specs.Linked.{Links, nothing, linked, no_choice, Running, Raising, IsState}
 
@@ -52,7 +52,7 @@ leaves_alone b = sym (append-nil (leaves b))
 
 -- a goal that can be converted
 pub starts_goals : (goal : Tree) (budget : ℕ) (w : World) (b : Body) → converted goal ≡ Some b
-    → IsState (record { doing = Running (leaves b); subst = Variable; next = variable_count goal; query = variables goal; stack = []; world = w; steps = budget }) (started goal budget w)
+    → IsState (record { doing = Running (leaves b); subst = Variable; next = variable_count goal; query = variables goal; stack = []; world = asked w; steps = budget }) (started goal budget w)
 starts_goals goal budget w b is =
     let list : Links (leaves b) (opening goal (converted goal)) = rw is (linked {mark = 0} (leaves_alone b) nothing) in
     let query : variables (shown_query goal (converted goal)) ≡ variables goal = rw is (converted_same goal b [] is) in
@@ -63,7 +63,7 @@ starts_goals goal budget w b is =
 
 -- a goal that can't be converted is raised as an error
 pub starts_error : (goal : Tree) (budget : ℕ) (w : World) → converted goal ≡ None
-    → IsState (record { doing = Raising (type_error_callable goal (key (codes "call") 1)); subst = Variable; next = variable_count goal; query = variables goal; stack = []; world = w; steps = budget }) (started goal budget w)
+    → IsState (record { doing = Raising (type_error_callable goal (key (codes "call") 1)); subst = Variable; next = variable_count goal; query = variables goal; stack = []; world = asked w; steps = budget }) (started goal budget w)
 starts_error goal budget w is =
     record {
       list = ([], ap (opening goal) is);

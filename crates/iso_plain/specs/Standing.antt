@@ -91,4 +91,4 @@ DoesNext p frames query now.Failing raised l = l.doing ≡ Failing
 DoesNext p frames query now.Answering raised l = (l.doing ≡ Running []) × Goes p query l
 DoesNext p frames query (now.Running place) raised l = (gs : List Tree) × (l.doing ≡ Running gs) × Chain p frames (Some place) gs × Goes p query l
 DoesNext p frames query now.Raising raised l = (ball : Tree) × (l.doing ≡ Raising ball) × (raised ≡ Some ball)
-DoesNext p frames query now.Spent raised l = Unit {0}
+DoesNext p frames query (now.Spent limit) raised l = Unit {0}

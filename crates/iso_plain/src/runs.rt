@@ -1,14 +1,15 @@
 //! The engine's move at a goal: it takes a step of the budget (7.7.4 to 7.7.7).
-ghost use Rattle.std.specs.Prelude.{◌≡◌, ◌+◌, ◌*◌, ◌≤◌, IfOk, List, length};
+ghost use Rattle.std.specs.Prelude.{◌≡◌, ◌+◌, ◌*◌, ◌<◌, ◌≤◌, IfOk, List, length};
 ghost use Rattle.iso_model.specs.Trees.{Tree};
 ghost use Rattle.iso_model.specs.Databases as databases;
-ghost use Rattle.iso_model.specs.Walker.{State, alternative_count};
+ghost use Rattle.iso_model.specs.Walker.{State};
+ghost use Rattle.iso_model.specs.Runs.{ComesOver};
 
 use super::calls::Called;
 use super::entries;
 use super::parts::{Attempt, Now, at, unified};
 use super::plain::{Move, Plain};
-use iso_model::Pause;
+use iso_model::{BuiltIn, Limit, Pause};
 use iso_store::{Store, StoreFault};
 
 impl<S: Store + Drop> Plain<S> {
@@ -24,7 +25,7 @@ impl<S: Store + Drop> Plain<S> {
         ensures moves { (s : State) → Represents S.present S.stands S.older self.old s
             → IfOk result (λ m. Moves S.present S.stands S.older m s self.new) }
         ensures falls { IfOk result (λ m. Falls m (weight self.old) (weight self.new)) }
-        ensures frames { (s : State) → Represents S.present S.stands S.older self.old s → ResultFull (self.old.limit ≤ alternative_count s) result }
+        ensures frames { (s : State) → Represents S.present S.stands S.older self.old s → ResultFull (ComesOver self.old.limit s) result }
         ensures met { ResultMet S.full result self.new }
         ensures limit { self.new.limit ≡ self.old.limit }
         ensures settings { settings_of self.new ≡ settings_of self.old }
@@ -38,17 +39,23 @@ impl<S: Store + Drop> Plain<S> {
         let called = self.called(frame.goal)?;
         self.steps -= 1;
         match called {
-            Called::True => {
-                self.now = at(frame.next);
-                Ok(Move::Goes)
-            }
-            Called::Fail => {
+            Called::BuiltIn(built_in) => match built_in {
+                BuiltIn::True => {
+                    self.now = at(frame.next);
+                    Ok(Move::Goes)
+                }
+                BuiltIn::Fail => {
+                    self.now = Now::Failing;
+                    Ok(Move::Goes)
+                }
+                BuiltIn::Unify => {
+                    let equal = entries::equate(&mut self.store, frame.goal)?;
+                    self.now = unified(equal, frame.next);
+                    Ok(Move::Goes)
+                }
+            },
+            Called::Fails => {
                 self.now = Now::Failing;
-                Ok(Move::Goes)
-            }
-            Called::Equates => {
-                let equal = entries::equate(&mut self.store, frame.goal)?;
-                self.now = unified(equal, frame.next);
                 Ok(Move::Goes)
             }
             Called::Unknown(ball) => {
@@ -72,7 +79,9 @@ impl<S: Store + Drop> Plain<S> {
             → Calls S.present S.stands S.older self.old attempt l call c cs behind
             → IfOk result (λ m. WasCalled S.present S.stands S.older m self.new l call c cs behind) }
         ensures falls { IfOk result (λ m. Falls m (weight self.old + (2 * most_clauses self.old.procedures.items + 1)) (weight self.new)) }
-        ensures frames { ResultFull (self.old.limit ≤ length self.old.choices.items) result }
+        ensures frames { (l : Linked) (call : Tree) (c : databases.Clause) (cs : List databases.Clause) (behind : List Tree)
+            → Calls S.present S.stands S.older self.old attempt l call c cs behind
+            → ResultFull ((self.old.limit ≤ length self.old.choices.items) × (0 < length cs)) result }
         ensures met { ResultMet S.full result self.new }
         ensures limit { self.new.limit ≡ self.old.limit }
         ensures settings { settings_of self.new ≡ settings_of self.old }
@@ -81,7 +90,7 @@ impl<S: Store + Drop> Plain<S> {
         if self.call(attempt)? {
             return Ok(Move::Goes);
         }
-        self.now = Now::Spent;
+        self.now = Now::Spent(Limit::Frames);
         Ok(Move::Pauses(Pause::FramesFull))
     }
 }

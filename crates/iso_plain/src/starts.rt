@@ -5,7 +5,7 @@ ghost use Rattle.iso_model.specs.Terms.{term_of};
 ghost use Rattle.iso_model.specs.Variables.{variable_count};
 ghost use Rattle.iso_model.specs.Copies.{IsNumbered};
 ghost use Rattle.iso_model.specs.Bodies.{Body, converted};
-ghost use Rattle.iso_model.specs.Additions.{addition};
+ghost use Rattle.iso_model.specs.Additions.{consulted};
 ghost use Rattle.iso_model.specs.Walker.{World, first_world, started};
 ghost use Rattle.iso_plain.specs.Goals.{leaves, terms_of};
 
@@ -143,7 +143,7 @@ impl<S: Store + Drop> Plain<S> {
         requires fits { arities_fit (term_of clause.now) ≡ true }
         requires now { self.old.now ≡ Idle }
         ensures comes { (w : World) → IsEngine S.present S.stands S.older self.old (idle_linked w)
-            → Comes S.present S.stands S.older (addition (term_of clause.now) w.database) w result self.new }
+            → Comes S.present S.stands S.older (consulted (term_of clause.now) w.database) w result self.new }
         ensures now { self.new.now ≡ self.old.now }
         ensures limit { self.new.limit ≡ self.old.limit }
         ensures within { IsWithin self.old → IsWithin self.new }

@@ -9,3 +9,6 @@ enter-requires g c =
 pub returns-clause-tried : goal.returns-clause-tried
 returns-clause-tried g c = λ l call k ks gs t done.
     c.in_ok-enter.ensures.tried l call k ks gs (c.in_ok-push_choice.ensures.tries l call k ks gs t (ap Ok c.if-not-branch.false))
+
+pub returns-then-not-branch-clause-frames : goal.returns-then-not-branch-clause-frames
+returns-then-not-branch-clause-frames g c = λ l call k ks gs t done. c.in_ok-push_choice.ensures.frames l call k ks gs t (ap Ok c.if-not-branch.true)

@@ -6,6 +6,7 @@ use Rattle.iso_model.specs.Copies.{numbers_from}
 use Rattle.iso_model.proofs.CopyLemmas.{length-numbers_from}
 use Rattle.iso_plain.specs.Goals.{leaves}
 use Rattle.iso_plain.specs.Linked.{Linked, Running}
+use Rattle.iso_model.specs.Walker.{asked}
 use Rattle.iso_plain.specs.Standing.{AreVariables, none_kept}
 use Rattle.iso_plain.specs.Entering.{Links, renamed_terms}
 use Rattle.iso_plain.proofs.LinkedStarts.{starts_goals}
@@ -57,11 +58,11 @@ returns-clause-started g c = λ w fresh.
     let links : Links (g.S.Store.present c.new_variables.new.store) c.args.self.now.frames.items None q c.link.new.frames.items c.in_ok-first.first (leaves b) =
     subst (λ (ts : List Tree). Links (g.S.Store.present c.new_variables.new.store) c.args.self.now.frames.items None q c.link.new.frames.items c.in_ok-first.first ts) first_is (c.in_ok-first.ensures.links p.next here) in
     let goals : AreGoals (leaves b) = query_callable query b c.requires.goals.1 (meaning_is_term c.args.query.now ∙ c.requires.fits) in
-    let l : Linked = record { doing = Running (leaves b); subst = Variable; next = variable_count query; query = variables query; stack = []; world = w; steps = steps } in
+    let l : Linked = record { doing = Running (leaves b); subst = Variable; next = variable_count query; query = variables query; stack = []; world = asked w; steps = steps } in
     record {
       search = l;
       engine = record {
-        world = fresh.world;
+        world = record { procedures_are = fresh.world.procedures_are; operators_are = fresh.world.operators_are; flags_are = fresh.world.flags_are };
         steps = refl;
         base = record { present = base.present; stands_for = c.in_ok-first.ensures.marks _ _ (c.in_ok-variables.ensures.marks _ _ base.stands_for); substitution = base.substitution; next = base.next };
         choices = rw fresh.choices none_kept;

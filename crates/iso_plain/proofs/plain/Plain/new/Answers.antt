@@ -5,7 +5,7 @@ use Rattle.iso_plain.proofs.plain.Plain.new.Goals as goal
 
 pub returns-clause-engine : goal.returns-clause-engine
 returns-clause-engine g c = record {
-  world = record { database = rw c.new.ensures.items no_procedures; operators_are = c.in_ok-ops.ensures.entries; flags_are = c.initial-2.ensures };
+  world = record { procedures_are = rw c.new.ensures.items no_procedures; operators_are = c.in_ok-ops.ensures.entries; flags_are = c.initial-2.ensures };
   steps = refl;
   base = record { present = g.S.Store.present c.args.store; stands_for = c.mark-base.ensures.stands; substitution = c.requires.substitution; next = c.requires.next };
   choices = rw c.new-3.ensures.items none_kept;

@@ -6,7 +6,7 @@ use Rattle.iso_plain.proofs.plain.Plain.push_later.Goals as goal
 pub overflow_add-clause : goal.overflow_add-clause
 overflow_add-clause g c =
     let t = c.requires.6 in
-    let many = clauses_counted c.args.self.now.procedures.items c.requires.0.world.database c.args.attempt.procedure c.args.attempt.clause c.requires.2 c.requires.3 t.world.database t.clauses in
+    let many = clauses_counted c.args.self.now.procedures.items c.requires.0.world.database.procedures c.args.attempt.procedure c.args.attempt.clause c.requires.2 c.requires.3 t.world.procedures_are t.clauses in
     let small = count_fits c.args.self.now.procedures.items c.args.attempt.procedure in
     omega (arith, many, small)
 
@@ -19,12 +19,12 @@ returns-clause-tries g c = λ l call k ks gs t many.
 pub returns-clause-fewer : goal.returns-clause-fewer
 returns-clause-fewer g c =
     let t = c.requires.6 in
-    rw c.in_ok-push.ensures.items (left_pushed c.args.self.now.procedures.items c.requires.0.world.database c.args.self.now.choices.items
+    rw c.in_ok-push.ensures.items (left_pushed c.args.self.now.procedures.items c.requires.0.world.database.procedures c.args.self.now.choices.items
     (record { mark = c.mark-mark.result; frames = c.len-frames.result; attempt = record c.args.attempt { clause = c.args.attempt.clause + 1 } }) c.args.attempt.clause c.requires.2 c.requires.3
-    t.world.database t.clauses refl)
+    t.world.procedures_are t.clauses refl)
 
 pub returns-in_err-push-clause-fewer : goal.returns-in_err-push-clause-fewer
 returns-in_err-push-clause-fewer g c =
     let t = c.requires.6 in
-    rw c.in_err-push.ensures.items (left_same c.args.self.now.procedures.items c.requires.0.world.database c.args.self.now.choices.items c.args.attempt.procedure c.args.attempt.clause c.requires.2
-    c.requires.3 t.world.database t.clauses)
+    rw c.in_err-push.ensures.items (left_same c.args.self.now.procedures.items c.requires.0.world.database.procedures c.args.self.now.choices.items c.args.attempt.procedure c.args.attempt.clause c.requires.2
+    c.requires.3 t.world.procedures_are t.clauses)

@@ -5,6 +5,7 @@ use Rattle.iso_model.specs.Variables.{variables, variable_count}
 use Rattle.iso_model.specs.Errors.{key, type_error_callable}
 use Rattle.std.specs.Prelude.{codes}
 use Rattle.iso_plain.specs.Linked.{Raising}
+use Rattle.iso_model.specs.Walker.{asked}
 use Rattle.iso_plain.specs.Standing.{none_kept}
 use Rattle.iso_plain.proofs.LinkedStarts.{starts_error}
 use Rattle.iso_plain.proofs.plain.Plain.raise_query.Goals as goal
@@ -15,9 +16,9 @@ returns-clause-started g c = λ w fresh.
     let error = type_error_callable goal (key (codes "call") 1) in
     let ball : term_of c.in_ok-ball.ball.term ≡ error = c.in_ok-ball.ensures ∙ ap (λ t. type_error_callable t (key (codes "call") 1)) c.in_ok-culprit.ensures in
     record {
-      search = record { doing = Raising error; subst = Variable; next = variable_count goal; query = variables goal; stack = []; world = w; steps = c.args.self.now.steps };
+      search = record { doing = Raising error; subst = Variable; next = variable_count goal; query = variables goal; stack = []; world = asked w; steps = c.args.self.now.steps };
       engine = record {
-        world = fresh.world;
+        world = record { procedures_are = fresh.world.procedures_are; operators_are = fresh.world.operators_are; flags_are = fresh.world.flags_are };
         steps = refl;
         base = fresh.base;
         choices = rw fresh.choices none_kept;

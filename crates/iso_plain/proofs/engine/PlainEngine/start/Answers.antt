@@ -1,0 +1,16 @@
+use Rattle.std.proofs.Common.{sym, subst, ap}
+use Rattle.iso_model.specs.Terms.{term_of}
+use Rattle.iso_model.specs.Walker.{World, started}
+use Rattle.iso_plain.specs.EngineStates.{StandsFor}
+use Rattle.iso_plain.proofs.EngineMoves.{ready_stands, represents_stands}
+use Rattle.iso_plain.proofs.engine.PlainEngine.start.Goals as goal
+
+pub returns-in_default-clause-starts : goal.returns-in_default-clause-starts
+returns-in_default-clause-starts g c = λ s r.
+    (let before = ready_stands g.S.Store.present g.S.Store.stands g.S.Store.older c.args.self.now.now c.args.self.now s c.requires.ready r in
+    let w = before.search.world in
+    let new = c.begin.new.self in
+    let stands = represents_stands g.S.Store.present g.S.Store.stands g.S.Store.older new.now new (started (term_of c.args.goal.now) c.args.budget w) (c.in_default.ensures.started w (c.clear.ensures.idle w before.engine.world)) in (
+      subst (λ (v : World). StandsFor g.S.Store.present g.S.Store.stands g.S.Store.older new (started (term_of c.args.goal.now) c.args.budget v)) (sym before.state.around.world) stands,
+      c.in_default.ensures.midway,
+    ))
