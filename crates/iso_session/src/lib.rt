@@ -8,6 +8,7 @@ mod consulting;
 mod files;
 mod flows;
 mod items;
+mod plain_sessions;
 mod queries;
 mod sessions;
 mod statuses;
@@ -16,6 +17,7 @@ pub mod words;
 mod written;
 
 pub use files::{TextFault, read_text};
+pub use plain_sessions::session;
 pub use sessions::session_on;
 pub use statuses::{Choice, Ended, Fault, status_of};
 pub use words::{Words, WordsFault, read_words};

@@ -1,0 +1,67 @@
+//! Sessions with the engines that the program has.
+ghost use Rattle.std.specs.Prelude.{◌≡◌, IfOk, []};
+ghost use Rattle.iso_model.specs.Beginnings.{SessionWrites, WalkStops};
+ghost use Rattle.iso_model.specs.Engines.{Ready};
+ghost use Rattle.iso_model.specs.Runs.{ComesOver};
+ghost use Rattle.iso_model.specs.Sessions.{session_script};
+ghost use Rattle.iso_model.specs.Walker.{State, idle, first_world};
+ghost use Rattle.iso_session.specs.Progress.{outcome_of};
+
+use super::flows::{Flow, close};
+use super::sessions::session_on;
+use super::statuses::{Choice, Ended, Fault};
+use iso_model::{Engine, Limit, Limits, NoMemory};
+use iso_plain::plain::Plain;
+use iso_store::{Nodes, Store};
+use std::alloc::Global;
+use std::io::Write;
+
+/// A session with the engine of this choice, within these limits: the bytes written are those of the standard's search, or, where
+/// heap, frames or memory end it, a beginning of them and the line that says which; the frames end it only where the search comes to
+/// more alternatives than there are frames. The error: a write of at least one byte answered
+/// an error or took 0 bytes; what was written is a beginning.
+pub fn session<W: Write>(
+    alloc: Global,
+    text: &str,
+    queries: &str,
+    limits: &Limits,
+    choice: Choice,
+    out: &mut W,
+) -> Result<Ended, Fault>
+    ensures { SessionWrites text.now queries.now limits.now.budget
+        (WalkStops limits.now.budget limits.now.frames (session_script text.now queries.now limits.now.budget))
+        (W.contents out.old) (W.contents out.new) (outcome_of result) }
+{
+    match choice {
+        Choice::Plain => plain_session(alloc, text, queries, limits, out),
+    }
+}
+
+/// A session with the plain engine over nodes.
+fn plain_session<W: Write>(
+    alloc: Global,
+    text: &str,
+    queries: &str,
+    limits: &Limits,
+    out: &mut W,
+) -> Result<Ended, Fault>
+    ensures { SessionWrites text.now queries.now limits.now.budget
+        (WalkStops limits.now.budget limits.now.frames (session_script text.now queries.now limits.now.budget))
+        (W.contents out.old) (W.contents out.new) (outcome_of result) }
+{
+    let Ok(mut engine) = plain_engine(alloc, limits) else {
+        return close(Flow::Stops(Limit::Memory), out, &mut false);
+    };
+    session_on(alloc, &mut engine, text, queries, limits.budget, out)
+}
+
+/// A new plain engine over nodes. The error is that memory was refused.
+fn plain_engine(alloc: Global, limits: &Limits) -> Result<Plain<Nodes>, NoMemory>
+    ensures ready { IfOk result (λ engine. ⟦<Plain<Nodes> as Engine>⟧.phase engine ≡ Ready) }
+    ensures new { IfOk result (λ engine. ⟦<Plain<Nodes> as Engine>⟧.stands_for engine (idle first_world)) }
+    ensures frames { IfOk result (λ engine. (s : State) → ⟦<Plain<Nodes> as Engine>⟧.frames_pieces engine s → ComesOver limits.now.frames s) }
+    ensures cells { IfOk result (λ engine. (⟦<Nodes as Store>⟧.present engine.store).limit ≡ limits.now.cells) }
+{
+    let store = Nodes::new(alloc, limits.cells)?;
+    Plain::new(alloc, store, limits.frames)
+}
