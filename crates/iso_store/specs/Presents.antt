@@ -67,11 +67,16 @@ pub record MovesOn {W : Type 0} (p q : Present W) (count : ℕ) : Type 0 where
   pub next : q.next ≡ p.next + count
   pub taken : (n : ℕ) → n < p.next → q.taken n ≡ p.taken n
 
--- At most so many cells are made, and never more than there may be.
+-- At most so many cells are made and none goes, and there are never more than there may be.
 pub record Grows {W : Type 0} (p q : Present W) (count : ℕ) : Type 0 where
   pub cells : q.cells ≤ p.cells + count
+  pub keeps : p.cells ≤ q.cells
   pub limit : q.limit ≡ p.limit
   pub within : p.cells ≤ p.limit → q.cells ≤ q.limit
+
+-- A cell was made for each number that was used: the next number moved on by no more than the cells grew.
+abbrev pub NumbersHaveCells : {W : Type 0} → Present W → Present W → Type 0
+NumbersHaveCells p q = q.next + p.cells ≤ p.next + q.cells
 
 -- The bindings s come to those that there are.
 pub record Binds {W : Type 0} (p q : Present W) (s : Subst) : Type 0 where
