@@ -9,7 +9,7 @@ ghost use Rattle.iso_model.specs.Sizes.{size};
 ghost use Rattle.iso_model.specs.Variables.{variable_count};
 ghost use Rattle.iso_model.specs.Substitutions.{IsSubstitution};
 ghost use Rattle.iso_model.specs.Copies.{copy_from};
-ghost use Rattle.iso_store.specs.Presents.{Present, Holds, meaning, KeepsWords, Makes, KeepsNumbers, TakesNumber, MovesOn, Grows, NumbersHaveCells, IsUnification, KeepsMarks};
+ghost use Rattle.iso_store.specs.Presents.{Present, Holds, meaning, KeepsWords, Makes, KeepsNumbers, TakesNumber, MovesOn, Grows, NumbersHaveCells, IsUnification, KeepsMarks, Untouched};
 ghost use Rattle.iso_store.specs.Arguments.{arity, argument};
 ghost use Rattle.iso_store.specs.Shapes.{IsShape};
 
@@ -183,6 +183,9 @@ pub trait Store {
         requires { Holds (present self.now) word }
         ensures value { IfOk result (λ t. term_of t ≡ meaning (present self.now) word) }
         ensures well_formed { IfOk result (λ t. arities_fit (term_of t) ≡ true) };
+
+    // a number that no variable has, as one that is only reserved, stands for itself and is in no term that a word stands for
+    ghost untouched: { (s : Self) (n : ℕ) → (present s).taken n ≡ false → Untouched (present s) n };
 
     // it is full only where that many cells were made: each other cell that is used is a binding of one of these
     ghost full_used: { (s : Self) → full s → (present s).limit ≤ 2 * (present s).cells };
