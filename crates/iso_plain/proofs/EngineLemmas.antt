@@ -33,7 +33,7 @@ module _ {S W M : Type 0} (present : S → Present W) (stands : S → M → Pres
   pub base_kept : (old new : M → Present W → Type 0) (base : M) → KeepsMarks old new → IsBase old base → IsBase new base
   base_kept old new base keeps b = record { present = b.present; stands_for = keeps base b.present b.stands_for; substitution = b.substitution; next = b.next }
 
-  choices_on : (e : Plain S W M) (attempt : Attempt W) (l : Linked) (call : Tree) (c : databases.Clause) (cs : List databases.Clause) (behind : List Tree) (store : S) (frames : Vec (Frame W) Global)
+  pub choices_on : (e : Plain S W M) (attempt : Attempt W) (l : Linked) (call : Tree) (c : databases.Clause) (cs : List databases.Clause) (behind : List Tree) (store : S) (frames : Vec (Frame W) Global)
       → Tries present stands older e attempt l call c cs behind → KeepsMarks (stands e.store) (stands store) → AddsFrames e.frames.items frames.items
       → StandsForChoices (stands store) older e.base (left_at l.world.database.procedures) e.query.items l.query frames.items e.choices.items (with_choice call cs behind l.subst l.next l.stack)
   choices_on e attempt l call c cs behind store frames t keeps adds =

@@ -131,4 +131,4 @@ module _ {S W M : Type 0} (present : S → Present W) (stands : S → M → Pres
       let links : Links ((present e.store).term frame.goal ∷ x.first.behind) s.list = rw same (links_at present stands older e l place s x r.state) in
       let here : NeverEqual (apply l.subst a) (apply l.subst b) = subst (λ (y : Subst). NeverEqual (apply y a) (apply y b)) x.goes.subst h in
       let o = equates_never l s ((present e.store).term frame.goal) x.first.behind (e.steps - 1) a b r.state.around links (r.engine.steps ∙ one_less e.steps more) is here in
-            rw next_is (o.new, o.quiet, record { search = record l { doing = Failing; steps = e.steps - 1 }; engine = apart_engine e store l (e.steps - 1) (one_less e.steps more) keeps r.engine; state = o.is }, tt)
+      rw next_is (o.new, o.quiet, record { search = record l { doing = Failing; steps = e.steps - 1 }; engine = apart_engine e store l (e.steps - 1) (one_less e.steps more) keeps r.engine; state = o.is }, tt)

@@ -12,13 +12,14 @@ use Rattle.iso_plain.specs.declared.parts.Now.{Now}
 use Rattle.iso_plain.specs.declared.parts.Now.TheVariants as now
 use Rattle.iso_plain.specs.declared.plain.Move.TheVariants as move
 use Rattle.iso_plain.specs.declared.plain.Plain.{Plain}
-use Rattle.iso_plain.specs.Linked.{Linked, Choice, Doing, Failing, Does, idle_linked}
+use Rattle.iso_plain.specs.Linked.{Linked, Choice, Doing, Failing, Does, idle_linked, with_choice}
 use Rattle.iso_plain.specs.Standing.{DoesNext}
 use Rattle.iso_plain.specs.Programs.{IsWorld}
 use Rattle.iso_plain.specs.Next.{now_entered}
-use Rattle.iso_plain.specs.EngineStates.{IsEngine, Represents, StandsBy, Tries, Tried, WentBack, Moves, phase_of}
+use Rattle.iso_plain.specs.EngineStates.{IsEngine, Represents, Keeps, Stopped, StandsBy, Tries, Tried, WentBack, Moves, phase_of}
 use Rattle.iso_plain.proofs.StandingLemmas.{no_choices}
-use Rattle.iso_plain.proofs.LinkedMoves.{fails_last, retries_missed, retries_entered}
+use Rattle.iso_plain.proofs.LinkedMoves.{fails_last, retries_missed, retries_entered, retries_halfway}
+use Rattle.iso_plain.proofs.StoppedLemmas.{stopped_by}
 
 -- behind a clause that was tried the engine is awake
 pub awake_entered : (entered : Option (Option ℕ)) → IsAwake (phase_of (now_entered entered))
@@ -78,6 +79,13 @@ module _ {S W M : Type 0} (present : S → Present W) (stands : S → M → Pres
   tries_on e new s r k below c cs is stack clauses (inr (u, unifies, engine)) awake =
       let o = retries_entered r.search s k below c cs u r.state.around (does_fail e s r is) stack clauses unifies in
       (o.new, o.quiet, record { search = _; engine = engine; state = o.is }, awake)
+
+  -- it was refused
+  pub stops_on : (e new : Plain S W M) (s : State) (r : Represents present stands older e s) (k : Choice) (below : List Choice) (c : databases.Clause) (cs : List databases.Clause)
+      → e.now ≡ now.Failing → r.search.stack ≡ k ∷ below → k.clauses ≡ c ∷ cs → Keeps present stands older new r.search.world (with_choice k.call cs k.behind k.subst k.next below)
+      → Stopped present stands older new s
+  stops_on e new s r k below c cs is stack clauses keeps =
+      stopped_by present stands older new r.search s _ r.state.around (retries_halfway r.search s k below c cs r.state.around (does_fail e s r is) stack clauses) keeps
 
   -- What the clause at the newest choice is tried for, from the search before.
   pub record Retries (went left : Plain S W M) (c : kept.Choice W M) (l : Linked) : Type 0 where

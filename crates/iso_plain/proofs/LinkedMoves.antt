@@ -404,6 +404,60 @@ calls_over l s g gs n k c cs most at links left is found some full =
       holds = omega (arith, many, more, full);
     }
 
+-- ---- halfway through a step
+
+-- The search comes, without an event, to a state with these alternatives.
+pub record Halfway (l : Linked) (s : State) (choices : List Choice) : Type 0 where
+  pub at : State
+  pub quiet : Quiet s at
+  pub stack : AreChoices choices at.stack
+  pub world : at.world ≡ l.world
+
+entered_world : (u : Option Subst) (c : Clause) (n mark : ℕ) (rest : List Member) (s : State) → (entered u c n mark rest s).world ≡ s.world
+entered_world None c n mark rest s = refl
+entered_world (Some u) c n mark rest s = refl
+
+others_world : (call : Tree) (cs : List Clause) (rest : List Member) (s : State) → (with_others call cs rest s).world ≡ s.world
+others_world call [] rest s = refl
+others_world call (c ∷ cs) rest s = refl
+
+tried_world : (call : Tree) (c : Clause) (cs : List Clause) (rest : List Member) (s : State) → (tried call (c ∷ cs) rest s).world ≡ s.world
+tried_world call c cs rest s =
+    let p = with_others call cs rest s in
+    entered_world (unify_under p.subst call (renamed p.next c.head)) c p.next (length s.stack) rest (record p { next = p.next + c.variables; built = p.built + clause_size c })
+    ∙ others_world call cs rest s
+
+tried_halfway : (call : Tree) (c : Clause) (cs : List Clause) (gs : List Tree) (ms : List Member) (l : Linked) (s : State) → Links gs ms → IsAround l s
+    → AreChoices (with_choice call cs gs l.subst l.next l.stack) (tried call (c ∷ cs) ms s).stack
+tried_halfway call c cs gs ms l s links at =
+    subst (λ (xs : List Alternative). AreChoices (with_choice call cs gs l.subst l.next l.stack) xs) (sym (tried_stack call c cs ms s)) (choices_kept call cs gs ms l s links at)
+
+-- in a call
+pub calls_halfway : (l : Linked) (s : State) (g : Tree) (gs : List Tree) (n : ℕ) (k : Key) (c : Clause) (cs : List Clause) → IsAround l s → Links (g ∷ gs) s.list → l.steps ≡ suc n
+    → IsUser g k → clauses_at l.world.database.procedures k ≡ Some (c ∷ cs) → Halfway l s (with_choice g cs gs l.subst l.next l.stack)
+calls_halfway l s g gs n k c cs at links left is found =
+    let f = fronted l s g gs at links in
+    let t = tried g (c ∷ cs) f.others f.from in
+    record {
+      at = record t { steps = n };
+      quiet = onward f.quiet (goal_goes l s g gs n f t left (user_goal l s g gs f k (Some (c ∷ cs)) is found));
+      stack = tried_halfway g c cs gs f.others l f.from f.links f.around;
+      world = tried_world g c cs f.others f.from ∙ f.around.world;
+    }
+
+-- where the newest choice is tried again
+pub retries_halfway : (l : Linked) (s : State) (k : Choice) (below : List Choice) (c : Clause) (cs : List Clause) → IsAround l s → Does Failing s.list → l.stack ≡ k ∷ below → k.clauses ≡ c ∷ cs
+    → Halfway l s (with_choice k.call cs k.behind k.subst k.next below)
+retries_halfway l s k below c cs at doing e clauses =
+    let r = retries l k below s at doing e in
+    let goes = r.goes ∙ ap (λ (x : List Clause). Goes (tried k.call x r.members r.from)) clauses in
+    record {
+      at = tried k.call (c ∷ cs) r.members r.from;
+      quiet = quiet_one goes;
+      stack = tried_halfway k.call c cs k.behind r.members (record l { subst = k.subst; next = k.next; stack = below }) r.from r.links r.around;
+      world = tried_world k.call c cs r.members r.from ∙ r.around.world;
+    }
+
 -- ---- the clauses of the newest choice
 
 pub retries_missed : (l : Linked) (s : State) (k : Choice) (below : List Choice) (c : Clause) (cs : List Clause) → IsAround l s → Does Failing s.list → l.stack ≡ k ∷ below → k.clauses ≡ c ∷ cs

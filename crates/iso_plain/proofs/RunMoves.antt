@@ -21,13 +21,14 @@ use Rattle.iso_plain.specs.declared.plain.Plain.{Plain}
 use Rattle.iso_plain.specs.Linked.{Linked, Links, Does, Running, Failing, IsState, idle_linked}
 use Rattle.iso_plain.specs.Next.{now_behind}
 use Rattle.iso_plain.specs.Programs.{IsWorld}
-use Rattle.iso_plain.specs.EngineStates.{IsEngine, Represents, StandsFor, Calls, WasCalled, Moves, phase_of, left_at, settings_of}
+use Rattle.iso_plain.specs.EngineStates.{IsEngine, Represents, StandsFor, Stopped, Calls, WasCalled, WasRefused, Moves, phase_of, left_at}
 use Rattle.iso_plain.specs.Callable.{IsGoal}
 use Rattle.iso_plain.specs.declared.plain.Move.{Move}
-use Rattle.iso_plain.proofs.EngineMoves.{spent_stands, represents_stands, stands_settings}
+use Rattle.iso_plain.proofs.EngineMoves.{spent_stands}
+use Rattle.iso_plain.proofs.StoppedLemmas.{stopped_by, stopped_here}
 use Rattle.iso_plain.proofs.BackLemmas.{get_at}
 use Rattle.iso_plain.proofs.EndLemmas.{finishes_engine}
-use Rattle.iso_plain.proofs.LinkedMoves.{Onward, spends_all, succeeds, fails_at_once, fails_unknown, raises_unknown, calls_missed, calls_entered, calls_over}
+use Rattle.iso_plain.proofs.LinkedMoves.{Onward, spends_all, succeeds, fails_at_once, fails_unknown, raises_unknown, calls_missed, calls_entered, calls_over, calls_halfway}
 use Rattle.iso_plain.proofs.LimitLemmas.{choices_count}
 use Rattle.iso_plain.proofs.RunLemmas.{AtGoal, at_goal, failed_engine, succeeded_engine, calls_engine}
 
@@ -146,9 +147,9 @@ module _ {S W M : Type 0} (present : S → Present W) (stands : S → M → Pres
   -- what the call comes to
   pub called_on : (e new : Plain S W M) (s : State) (place : ℕ) (frame : Frame W) (doing : e.now ≡ now.Running place) (more : e.steps ≢ 0) (read : frame ≡ get_or e.frames.items place frame) (r : Represents present stands older e s)
       (k : Key) (c : databases.Clause) (cs : List databases.Clause) → IsUser ((present e.store).term frame.goal) k → clauses_at r.search.world.database.procedures k ≡ Some (c ∷ cs)
-      → settings_of new ≡ settings_of e → (m : Move) → WasCalled present stands older m new (record r.search { steps = e.steps - 1 }) ((present e.store).term frame.goal) c cs (at_goal present stands older e r.search place doing r.engine).first.behind
+      → (m : Move) → WasCalled present stands older m new (record r.search { steps = e.steps - 1 }) ((present e.store).term frame.goal) c cs (at_goal present stands older e r.search place doing r.engine).first.behind
       → Moves present stands older m s new
-  called_on e new s place frame doing more read r k c cs user found same move.Goes was =
+  called_on e new s place frame doing more read r k c cs user found move.Goes was =
       let l = r.search in
       let a = at_goal present stands older e l place doing r.engine in
       let links : Links ((present e.store).term frame.goal ∷ a.first.behind) s.list = rw (frame_is e l place a frame read) (links_at e l place s a r.state) in
@@ -159,5 +160,18 @@ module _ {S W M : Type 0} (present : S → Present W) (stands : S → M → Pres
         | inr h ↦ (let o = calls_entered l s ((present e.store).term frame.goal) a.first.behind (e.steps - 1) k c cs h.0 r.state.around links left user found h.1 in
             (o.new, o.quiet, record { search = _; engine = h.2; state = o.is }, was.1))
       ]
-  called_on e new s place frame doing more read r k c cs user found same (move.Pauses p) was =
-      rw was.0 (spent_stands present stands older limit.Frames new.now new s (ap phase_of was.1) (same ∙ stands_settings present stands older e.now e s (represents_stands present stands older e.now e s r)), ap phase_of was.1)
+  called_on e new s place frame doing more read r k c cs user found (move.Pauses p) was =
+      rw was.0 (spent_stands present stands older limit.Frames new.now new s (ap phase_of was.1) (stopped_here present stands older new r.search s r.state.around was.2), ap phase_of was.1)
+
+  -- the call was refused
+  pub refused_on : (e new : Plain S W M) (s : State) (place : ℕ) (frame : Frame W) (doing : e.now ≡ now.Running place) (more : e.steps ≢ 0) (read : frame ≡ get_or e.frames.items place frame) (r : Represents present stands older e s)
+      (k : Key) (c : databases.Clause) (cs : List databases.Clause) → IsUser ((present e.store).term frame.goal) k → clauses_at r.search.world.database.procedures k ≡ Some (c ∷ cs)
+      → WasRefused present stands older new (record r.search { steps = e.steps - 1 }) ((present e.store).term frame.goal) cs (at_goal present stands older e r.search place doing r.engine).first.behind
+      → Stopped present stands older new s
+  refused_on e new s place frame doing more read r k c cs user found (inl keeps) = stopped_here present stands older new r.search s r.state.around keeps
+  refused_on e new s place frame doing more read r k c cs user found (inr keeps) =
+      let l = r.search in
+      let a = at_goal present stands older e l place doing r.engine in
+      let links : Links ((present e.store).term frame.goal ∷ a.first.behind) s.list = rw (frame_is e l place a frame read) (links_at e l place s a r.state) in
+      stopped_by present stands older new l s _ r.state.around
+      (calls_halfway l s ((present e.store).term frame.goal) a.first.behind (e.steps - 1) k c cs r.state.around links (r.engine.steps ∙ one_less e.steps more) user found) keeps

@@ -16,7 +16,7 @@ use Rattle.iso_model.specs.Engines.{Phase, Ready, Midway, IsAwake}
 use Rattle.iso_model.specs.declared.pauses.Pause.TheVariants as pause
 use Rattle.iso_model.specs.declared.limit.Limit.TheVariants as limit
 use Rattle.iso_store.specs.Presents.{Present}
-use Rattle.iso_plain.specs.Linked.{Linked, Choice, IsState, with_choice, linked_missed, linked_entered}
+use Rattle.iso_plain.specs.Linked.{Linked, Choice, AreChoices, IsState, with_choice, linked_missed, linked_entered}
 use Rattle.iso_plain.specs.Standing.{Among, Chain, AreVariables, StandsForChoices, HaveRoom, DoesNext, most_numbers, numbers_a_step}
 use Rattle.iso_plain.specs.Programs.{IsWorld}
 use Rattle.iso_plain.specs.declared.procedures.Procedure.{Procedure}
@@ -73,9 +73,24 @@ module _ {S W M : Type 0} (present : S → Present W) (stands : S → M → Pres
     pub engine : IsEngine e search
     pub state : IsState search s
 
-  -- A spent engine may be any state with its operators and flags, so also the one behind the last event.
+  -- Of an engine that was stopped within a move its world and its choices are left, each with what it brings back.
+  abbrev pub Keeps : Plain S W M → World → List Choice → Type 0
+  Keeps e w choices =
+      IsWorld e w × IsBase (stands e.store) e.base
+      × ((named : List ℕ) × StandsForChoices (stands e.store) older e.base (left_at w.database.procedures) e.query.items named e.frames.items e.choices.items choices)
+
+  -- A spent engine stands for a state from which the search came, without an event, to one that has this world and these alternatives; where a
+  -- goal was not started none is left. It keeps the operators and the flags of the state that it stands for.
+  pub record Stopped (e : Plain S W M) (s : State) : Type 0 where
+    pub at : State
+    pub quiet : Quiet s at
+    pub choices : List Choice
+    pub keeps : Keeps e at.world choices
+    pub alternatives : AreChoices choices at.stack ⊎ (choices ≡ [])
+    pub settings : settings_of e ≡ settings_in s.world
+
   abbrev pub StandsBy : Now → Plain S W M → State → Type 0
-  StandsBy (now.Spent limit) e s = settings_of e ≡ settings_in s.world
+  StandsBy (now.Spent limit) e s = Stopped e s
   StandsBy now.Idle e s = Represents e s
   StandsBy now.Failing e s = Represents e s
   StandsBy now.Answering e s = Represents e s
@@ -190,4 +205,8 @@ module _ {S W M : Type 0} (present : S → Present W) (stands : S → M → Pres
   -- what a call comes to: the first clause was tried, or the engine is spent since no choice may be made any more
   abbrev pub WasCalled : Move → Plain S W M → Linked → Tree → Clause → List Clause → List Tree → Type 0
   WasCalled move.Goes e l call c cs behind = Tried present stands older e l call c cs behind × IsAwake (phase_of e.now)
-  WasCalled (move.Pauses p) e l call c cs behind = (p ≡ pause.FramesFull) × (e.now ≡ now.Spent limit.Frames)
+  WasCalled (move.Pauses p) e l call c cs behind = (p ≡ pause.FramesFull) × (e.now ≡ now.Spent limit.Frames) × Keeps present stands older e l.world l.stack
+
+  -- The call was refused: before its later clauses became a choice, or behind that.
+  abbrev pub WasRefused : Plain S W M → Linked → Tree → List Clause → List Tree → Type 0
+  WasRefused e l call cs behind = Keeps present stands older e l.world l.stack ⊎ Keeps present stands older e l.world (with_choice call cs behind l.subst l.next l.stack)

@@ -37,7 +37,9 @@ impl<S: Store + Drop> Plain<S> {
         ensures { IfOk result (IsNamed self.entry.now.procedures.items self.entry.now.flags (key name.now arity)) }
     {
         match self.flags.unknown {
-            Unknown::Error => Ok(Called::Unknown(balls::unknown_procedure(self.alloc, name, arity)?)),
+            Unknown::Error => Ok(Called::Unknown(balls::unknown_procedure(
+                self.alloc, name, arity,
+            )?)),
             Unknown::Fail => Ok(Called::Fails),
         }
     }

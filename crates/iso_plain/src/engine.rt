@@ -1,5 +1,5 @@
 //! The plain engine is an engine: a call of `resume` is moves up to an event (7.7).
-ghost use Rattle.std.specs.Prelude.{◌≡◌, ◌≢◌, ℕ, IfOk, true, Err, ◌≤◌};
+ghost use Rattle.std.specs.Prelude.{◌≡◌, ◌≢◌, ℕ, IfOk, OnErr, true, Err, ◌≤◌};
 ghost use Rattle.iso_model.specs.Trees.{arities_fit};
 ghost use Rattle.iso_model.specs.Terms.{term_of};
 ghost use Rattle.iso_model.specs.Copies.{IsNumbered};
@@ -15,14 +15,14 @@ use iso_ops::{Flags, OpTable};
 use iso_store::{Store, StoreFault};
 
 impl<S: Store + Drop> Plain<S> {
-    ghost use Rattle.iso_plain.specs.EngineStates.{StandsFor, Moves, Falls, weight, phase_of, settings_of, settings_in};
+    ghost use Rattle.iso_plain.specs.EngineStates.{StandsFor, Moves, Falls, Stopped, weight, phase_of, settings_of};
     ghost use Rattle.iso_model.specs.Engines.{IsAwake, Pauses, FallsAtEvent};
     ghost use Rattle.iso_plain.specs.Limits.{IsWithin, LimitMet, MoveMet, ResultMet, WhereFull, MoveFull, ResultFull};
     ghost use Rattle.iso_model.specs.Runs.{ComesOver};
 
     /// Ends at a limit: the engine is spent.
     fn stop(&mut self, fault: StoreFault) -> Pause
-        ensures moves { (s : State) → settings_of self.old ≡ settings_in s.world → Moves S.present S.stands S.older (moved.Pauses result) s self.new }
+        ensures moves { (s : State) → Stopped S.present S.stands S.older self.old s → Moves S.present S.stands S.older (moved.Pauses result) s self.new }
         ensures falls { (old new : ℕ) → FallsAtEvent result old new }
         ensures frames { WhereFull ⊥ result }
         ensures met { (fault ≡ StoreFault.Full → S.full self.old.store) → LimitMet S.full result self.new }
@@ -48,6 +48,7 @@ impl<S: Store + Drop> Plain<S> {
         requires stands { (s : State) × StandsFor S.present S.stands S.older self.old s }
         ensures moves { (s : State) → StandsFor S.present S.stands S.older self.old s
             → IfOk result (λ m. Moves S.present S.stands S.older m s self.new) }
+        ensures stopped { (s : State) → StandsFor S.present S.stands S.older self.old s → OnErr result (Stopped S.present S.stands S.older self.new s) }
         ensures falls { IfOk result (λ m. Falls m (weight self.old) (weight self.new)) }
         ensures frames { (s : State) → StandsFor S.present S.stands S.older self.old s → ResultFull (ComesOver self.old.limit s) result }
         ensures met { ResultMet S.full result self.new }

@@ -1,5 +1,5 @@
 //! The engine's moves: each is some steps of the standard's search (7.7).
-ghost use Rattle.std.specs.Prelude.{◌≡◌, ◌<◌, ◌≤◌, ◌+◌, true, false, IfOk, OnOk, Ok, List, ◌∷◌, length, Err};
+ghost use Rattle.std.specs.Prelude.{◌≡◌, ◌<◌, ◌≤◌, ◌+◌, true, false, IfOk, OnOk, OnErr, Ok, List, ◌∷◌, length, Err};
 ghost use Rattle.iso_model.specs.Trees.{Tree};
 ghost use Rattle.iso_model.specs.Databases as databases;
 ghost use Rattle.iso_model.specs.Databases.{Procedures};
@@ -39,7 +39,7 @@ fn clause_count(procedures: &[Procedure], place: usize) -> usize
 impl<S: Store + Drop> Plain<S> {
     ghost use Rattle.iso_plain.specs.Linked.{Linked};
     ghost use Rattle.iso_plain.specs.Linked as search;
-    ghost use Rattle.iso_plain.specs.EngineStates.{IsBase, IsEngine, Represents, Tries, Tried, Calls, WentBack, Moves, Falls, clauses_left, most_clauses, weight, phase_of, settings_of};
+    ghost use Rattle.iso_plain.specs.EngineStates.{IsBase, IsEngine, Represents, Keeps, Stopped, WasRefused, Tries, Tried, Calls, WentBack, Moves, Falls, clauses_left, most_clauses, weight, phase_of, settings_of};
     ghost use Rattle.iso_model.specs.Engines.{IsAwake};
     ghost use Rattle.iso_plain.specs.Limits.{IsWithin, ResultMet, ResultFull};
     ghost use Rattle.iso_plain.specs.declared.parts.Now.TheVariants as now;
@@ -51,6 +51,9 @@ impl<S: Store + Drop> Plain<S> {
         ensures tried { (l : Linked) (call : Tree) (c : databases.Clause) (cs : List databases.Clause) (behind : List Tree)
             → Tries S.present S.stands S.older self.old attempt l call c cs behind
             → OnOk result (Tried S.present S.stands S.older self.new l call c cs behind) }
+        ensures kept { (l : Linked) (call : Tree) (c : databases.Clause) (cs : List databases.Clause) (behind : List Tree)
+            → Tries S.present S.stands S.older self.old attempt l call c cs behind
+            → OnErr result (Keeps S.present S.stands S.older self.new l.world (search.with_choice call cs behind l.subst l.next l.stack)) }
         ensures steps { self.new.steps ≡ self.old.steps }
         ensures awake { OnOk result (IsAwake (phase_of self.new.now)) }
         ensures full { result ≡ Err StoreFault.Full → S.full self.new.store }
@@ -104,6 +107,9 @@ impl<S: Store + Drop> Plain<S> {
         ensures tries { (l : Linked) (call : Tree) (c : databases.Clause) (cs : List databases.Clause) (behind : List Tree)
             → Calls S.present S.stands S.older self.old attempt l call c cs behind → 0 < length cs
             → OnOk result (Tries S.present S.stands S.older self.new attempt l call c cs behind) }
+        ensures kept { (l : Linked) (call : Tree) (c : databases.Clause) (cs : List databases.Clause) (behind : List Tree)
+            → Calls S.present S.stands S.older self.old attempt l call c cs behind
+            → OnErr result (Keeps S.present S.stands S.older self.new l.world l.stack) }
         ensures steps { self.new.steps ≡ self.old.steps }
         ensures base { IsBase (S.stands self.old.store) self.old.base → IsBase (S.stands self.new.store) self.new.base }
         ensures procedures { self.new.procedures ≡ self.old.procedures }
@@ -153,6 +159,7 @@ impl<S: Store + Drop> Plain<S> {
         requires represents { (s : State) × Represents S.present S.stands S.older self.old s }
         requires failing { self.old.now ≡ now.Failing }
         ensures moves { (s : State) → Represents S.present S.stands S.older self.old s → IfOk result (λ m. Moves S.present S.stands S.older m s self.new) }
+        ensures stopped { (s : State) → Represents S.present S.stands S.older self.old s → OnErr result (Stopped S.present S.stands S.older self.new s) }
         ensures falls { IfOk result (λ m. Falls m (weight self.old) (weight self.new)) }
         ensures frames { ResultFull ⊥ result }
         ensures met { ResultMet S.full result self.new }
@@ -178,6 +185,9 @@ impl<S: Store + Drop> Plain<S> {
         ensures tries { (l : Linked) (call : Tree) (c : databases.Clause) (cs : List databases.Clause) (behind : List Tree)
             → Calls S.present S.stands S.older self.old attempt l call c cs behind → result ≡ Ok true
             → Tries S.present S.stands S.older self.new attempt l call c cs behind }
+        ensures kept { (l : Linked) (call : Tree) (c : databases.Clause) (cs : List databases.Clause) (behind : List Tree)
+            → Calls S.present S.stands S.older self.old attempt l call c cs behind
+            → OnErr result (Keeps S.present S.stands S.older self.new l.world l.stack) }
         ensures refused { result ≡ Ok false → self.new ≡ self.old }
         ensures frames { (l : Linked) (call : Tree) (c : databases.Clause) (cs : List databases.Clause) (behind : List Tree)
             → Calls S.present S.stands S.older self.old attempt l call c cs behind → result ≡ Ok false
@@ -210,6 +220,9 @@ impl<S: Store + Drop> Plain<S> {
         ensures tried { (l : Linked) (call : Tree) (c : databases.Clause) (cs : List databases.Clause) (behind : List Tree)
             → Calls S.present S.stands S.older self.old attempt l call c cs behind → result ≡ Ok true
             → Tried S.present S.stands S.older self.new l call c cs behind }
+        ensures kept { (l : Linked) (call : Tree) (c : databases.Clause) (cs : List databases.Clause) (behind : List Tree)
+            → Calls S.present S.stands S.older self.old attempt l call c cs behind
+            → OnErr result (WasRefused S.present S.stands S.older self.new l call cs behind) }
         ensures awake { result ≡ Ok true → IsAwake (phase_of self.new.now) }
         ensures refused { result ≡ Ok false → self.new ≡ self.old }
         ensures frames { (l : Linked) (call : Tree) (c : databases.Clause) (cs : List databases.Clause) (behind : List Tree)

@@ -1,5 +1,5 @@
 //! The engine's move at a goal: it takes a step of the budget (7.7.4 to 7.7.7).
-ghost use Rattle.std.specs.Prelude.{◌≡◌, ◌+◌, ◌*◌, ◌<◌, ◌≤◌, IfOk, List, length};
+ghost use Rattle.std.specs.Prelude.{◌≡◌, ◌+◌, ◌*◌, ◌<◌, ◌≤◌, IfOk, OnErr, List, length};
 ghost use Rattle.iso_model.specs.Trees.{Tree};
 ghost use Rattle.iso_model.specs.Databases as databases;
 ghost use Rattle.iso_model.specs.Walker.{State};
@@ -13,7 +13,7 @@ use iso_model::{BuiltIn, Limit, Pause};
 use iso_store::{Store, StoreFault};
 
 impl<S: Store + Drop> Plain<S> {
-    ghost use Rattle.iso_plain.specs.EngineStates.{Represents, Moves, Falls, Calls, WasCalled, weight, most_clauses, settings_of};
+    ghost use Rattle.iso_plain.specs.EngineStates.{Represents, Stopped, WasRefused, Moves, Falls, Calls, WasCalled, weight, most_clauses, settings_of};
     ghost use Rattle.iso_plain.specs.Limits.{IsWithin, ResultMet, ResultFull};
     ghost use Rattle.iso_plain.specs.Linked.{Linked};
     ghost use Rattle.iso_plain.specs.declared.parts.Now.TheVariants as now;
@@ -24,6 +24,7 @@ impl<S: Store + Drop> Plain<S> {
         requires stands { (s : State) × Represents S.present S.stands S.older self.old s }
         ensures moves { (s : State) → Represents S.present S.stands S.older self.old s
             → IfOk result (λ m. Moves S.present S.stands S.older m s self.new) }
+        ensures stopped { (s : State) → Represents S.present S.stands S.older self.old s → OnErr result (Stopped S.present S.stands S.older self.new s) }
         ensures falls { IfOk result (λ m. Falls m (weight self.old) (weight self.new)) }
         ensures frames { (s : State) → Represents S.present S.stands S.older self.old s → ResultFull (ComesOver self.old.limit s) result }
         ensures met { ResultMet S.full result self.new }
@@ -78,6 +79,9 @@ impl<S: Store + Drop> Plain<S> {
         ensures called { (l : Linked) (call : Tree) (c : databases.Clause) (cs : List databases.Clause) (behind : List Tree)
             → Calls S.present S.stands S.older self.old attempt l call c cs behind
             → IfOk result (λ m. WasCalled S.present S.stands S.older m self.new l call c cs behind) }
+        ensures kept { (l : Linked) (call : Tree) (c : databases.Clause) (cs : List databases.Clause) (behind : List Tree)
+            → Calls S.present S.stands S.older self.old attempt l call c cs behind
+            → OnErr result (WasRefused S.present S.stands S.older self.new l call cs behind) }
         ensures falls { IfOk result (λ m. Falls m (weight self.old + (2 * most_clauses self.old.procedures.items + 1)) (weight self.new)) }
         ensures frames { (l : Linked) (call : Tree) (c : databases.Clause) (cs : List databases.Clause) (behind : List Tree)
             → Calls S.present S.stands S.older self.old attempt l call c cs behind

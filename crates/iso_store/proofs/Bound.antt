@@ -39,6 +39,7 @@ binds-meaning {W} {p} {q} {r} h w holds =
 pub grows-then : {W : Type 0} {p q u : Present W} → Grows p q 0 → Grows q u 0 → Grows p u 0
 grows-then first second = record {
   cells = let a = first.cells in let b = second.cells in omega arith;
+  keeps = let a = first.keeps in let b = second.keeps in omega arith;
   limit = second.limit ∙ first.limit;
   within = λ h. second.within (first.within h);
 }

@@ -52,6 +52,7 @@ numbers-then first second = record { next = second.next ∙ first.next; taken = 
 pub grows-on : {W : Type 0} {p q r : Present W} {m n : ℕ} (k : ℕ) → Grows p q m → Grows q r n → m + n ≤ k → Grows p r k
 grows-on k first second within = record {
   cells = let a = first.cells in let b = second.cells in omega arith;
+  keeps = let a = first.keeps in let b = second.keeps in omega arith;
   limit = second.limit ∙ first.limit;
   within = λ h. second.within (first.within h);
 }
@@ -176,4 +177,4 @@ moved-on r number (Ok w) is moved taken = record {
 moved-on r number (Err e) is moved taken = taken
 
 pub grows-within : {W : Type 0} {p q : Present W} {m : ℕ} (k : ℕ) → Grows p q m → m ≤ k → Grows p q k
-grows-within k grows more = record { cells = let a = grows.cells in omega arith; limit = grows.limit; within = grows.within }
+grows-within k grows more = record { cells = let a = grows.cells in omega arith; keeps = grows.keeps; limit = grows.limit; within = grows.within }

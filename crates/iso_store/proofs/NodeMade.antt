@@ -9,7 +9,7 @@ use Rattle.iso_store.specs.declared.shapes.StoreFault.{StoreFault}
 use Rattle.iso_store.specs.Presents.{Makes}
 use Rattle.iso_store.specs.NodeTerms.{node_term, terms_from}
 use Rattle.iso_store.specs.NodeStores.{IsStore, MayPush, has_number, present_of}
-use Rattle.iso_store.proofs.NodeLemmas.{term_at-push, term_at-pushed}
+use Rattle.iso_store.specs.NodeLemmas.{term_at-push, term_at-pushed}
 use Rattle.iso_store.proofs.NodeChanges.{pushed-substitution}
 
 node-untaken : (n : ℕ) (c : Node) → ((m : ℕ) (b : _) → c ≡ Var m b → m < n) → has_number n c ≡ false

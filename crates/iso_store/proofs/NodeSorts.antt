@@ -17,8 +17,8 @@ use Rattle.iso_store.specs.declared.nodes.Node.{Node}
 use Rattle.iso_store.specs.declared.nodes.Node.TheVariants.{Var, Int, Atom, Compound}
 use Rattle.iso_store.specs.NodeTerms.{term_at, binding_of, binding_at, bindings, bind_all, substitution_of}
 use Rattle.iso_store.specs.NodeStores.{IsStore}
-use Rattle.iso_store.proofs.NodeLemmas.{term_at-variable, term_at-integer, term_at-atom, term_at-compound}
-use Rattle.iso_store.proofs.NodeReads.{trail_parts}
+use Rattle.iso_store.specs.NodeLemmas.{term_at-variable, term_at-integer, term_at-atom, term_at-compound}
+use Rattle.iso_store.specs.NodeNumbers.{trail_parts}
 
 pub row-count : (f : ℕ → Tree) (ws : List ℕ) → count (row (map f ws)) ≡ length ws
 row-count f [] = refl

@@ -135,6 +135,7 @@ pub(crate) trait Cells {
         ensures made { IfOk result (λ w. Makes (present self.old) (present self.new) w (Variable number)) }
         ensures numbers { OnOk result (TakesNumber (present self.old) (present self.new) number) }
         ensures cells { Grows (present self.old) (present self.new) 1 }
+        ensures cell { OnOk result ((present self.old).cells < (present self.new).cells) }
         ensures full { result ≡ Err StoreFault.Full → full self.new }
         ensures names { names self.new ≡ names self.old }
         ensures marks { KeepsMarks (stands self.old) (stands self.new) };

@@ -15,7 +15,7 @@ unify-loop-number-init g t c = record {
   first_holds = c.requires.first;
   second_holds = c.requires.second;
   bound = (Variable, left_whole _ _, binds-none _);
-  cells = record { cells = omega arith; limit = refl; within = λ h. h };
+  cells = record { cells = omega arith; keeps = omega arith; limit = refl; within = λ h. h };
   names = refl;
   marks = λ m p h. h;
 }
@@ -98,7 +98,7 @@ unify-loop-number-preserved g t c =
 pub unify_before-loop-index-init : goal.unify_before-loop-index-init
 unify_before-loop-index-init g t c = record {
   bound = (Variable, unifier_same _, binds-none _);
-  cells = record { cells = omega arith; limit = refl; within = λ h. h };
+  cells = record { cells = omega arith; keeps = omega arith; limit = refl; within = λ h. h };
   names = refl;
   marks = λ m p h. h;
 }

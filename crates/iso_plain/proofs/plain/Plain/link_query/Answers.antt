@@ -9,6 +9,7 @@ use Rattle.iso_plain.specs.Linked.{Linked, Running}
 use Rattle.iso_model.specs.Walker.{asked}
 use Rattle.iso_plain.specs.Standing.{AreVariables, none_kept}
 use Rattle.iso_plain.specs.Entering.{Links, renamed_terms}
+use Rattle.iso_plain.proofs.StoppedLemmas.{behind_error, keeps_none, keeps_store, keeps_more}
 use Rattle.iso_plain.proofs.LinkedStarts.{starts_goals}
 use Rattle.iso_plain.proofs.StandingLemmas.{variables_more}
 use Rattle.iso_plain.proofs.EnteringLemmas.{variables_length}
@@ -72,3 +73,18 @@ returns-clause-started g c = λ w fresh.
       };
       state = starts_goals query steps w b c.requires.goals.1;
     })
+
+pub returns-in_err-count-clause-kept : goal.returns-in_err-count-clause-kept
+returns-in_err-count-clause-kept g c = λ w fresh. behind_error c.from_residual.result (keeps_none g.S.Store.present g.S.Store.stands g.S.Store.older c.args.self.now w fresh)
+
+pub returns-in_err-variables-clause-kept : goal.returns-in_err-variables-clause-kept
+returns-in_err-variables-clause-kept g c = λ w fresh.
+    behind_error c.from_residual-in_err-variables.result
+    (keeps_store g.S.Store.present g.S.Store.stands g.S.Store.older c.args.self.now c.new_variables.new.store w [] (keeps_none g.S.Store.present g.S.Store.stands g.S.Store.older c.args.self.now w fresh) c.in_err-variables.ensures.marks)
+
+pub returns-in_err-first-clause-kept : goal.returns-in_err-first-clause-kept
+returns-in_err-first-clause-kept g c = λ w fresh.
+    (let e = c.args.self.now in
+    let made = keeps_store g.S.Store.present g.S.Store.stands g.S.Store.older e c.new_variables.new.store w [] (keeps_none g.S.Store.present g.S.Store.stands g.S.Store.older e w fresh) c.in_ok-variables.ensures.marks in
+    behind_error c.from_residual-in_err-first.result
+    (keeps_more g.S.Store.present g.S.Store.stands g.S.Store.older (record e { store = c.new_variables.new.store }) c.link.new.store c.link.new.frames w [] made c.in_err-first.ensures.marks c.in_err-first.ensures.frames))

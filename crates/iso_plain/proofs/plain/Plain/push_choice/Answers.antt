@@ -1,4 +1,5 @@
 use Rattle.std.proofs.Common.{◌≡◌, length, arith}
+use Rattle.iso_plain.proofs.StoppedLemmas.{behind_error}
 use Rattle.iso_plain.proofs.KeptLemmas.{kept_at}
 use Rattle.iso_plain.proofs.CountLemmas.{clauses_counted}
 use Rattle.iso_plain.proofs.CallLemmas.{tries_last, left_same}
@@ -68,3 +69,6 @@ returns-then-len-self-clause-frames g c = λ l call k ks gs t done. (
       let more = c.if-attempt-count.false in
       omega (arith, many, count, more)),
 )
+
+pub returns-in_err-push_later-clause-kept : goal.returns-in_err-push_later-clause-kept
+returns-in_err-push_later-clause-kept g c = λ l call k ks gs t. behind_error c.from_residual.result (c.in_err-push_later.ensures.kept l call k ks gs t)

@@ -1,4 +1,7 @@
 use Rattle.std.proofs.Common.{◌≡◌, ◌+◌, length, arith, refl}
+use Rattle.iso_plain.proofs.StandingLemmas.{choices_keep}
+use Rattle.iso_plain.proofs.EngineLemmas.{base_kept}
+use Rattle.iso_plain.proofs.StoppedLemmas.{behind_error}
 use Rattle.iso_plain.proofs.CountLemmas.{clauses_counted, count_fits}
 use Rattle.iso_plain.proofs.CallLemmas.{tries_later, left_pushed, left_same}
 use Rattle.iso_plain.proofs.plain.Plain.push_later.Goals as goal
@@ -28,3 +31,11 @@ returns-in_err-push-clause-fewer g c =
     let t = c.requires.6 in
     rw c.in_err-push.ensures.items (left_same c.args.self.now.procedures.items c.requires.0.world.database.procedures c.args.self.now.choices.items c.args.attempt.procedure c.args.attempt.clause c.requires.2
     c.requires.3 t.world.procedures_are t.clauses)
+
+pub returns-in_err-push-clause-kept : goal.returns-in_err-push-clause-kept
+returns-in_err-push-clause-kept g c = λ l call k ks gs t.
+    behind_error c.from_residual.result (
+      t.world,
+      base_kept g.S.Store.present g.S.Store.stands g.S.Store.older (g.S.Store.stands c.args.self.now.store) (g.S.Store.stands c.mark-mark.new.self) c.args.self.now.base c.mark-mark.ensures.marks t.base,
+      (l.query, rw c.in_err-push.ensures.items (choices_keep (λ d p among stood. c.mark-mark.ensures.marks d.mark p stood) t.choices)),
+    )

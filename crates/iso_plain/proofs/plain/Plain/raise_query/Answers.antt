@@ -7,6 +7,7 @@ use Rattle.std.specs.Prelude.{codes}
 use Rattle.iso_plain.specs.Linked.{Raising}
 use Rattle.iso_model.specs.Walker.{asked}
 use Rattle.iso_plain.specs.Standing.{none_kept}
+use Rattle.iso_plain.proofs.StoppedLemmas.{behind_error, keeps_none}
 use Rattle.iso_plain.proofs.LinkedStarts.{starts_error}
 use Rattle.iso_plain.proofs.plain.Plain.raise_query.Goals as goal
 
@@ -27,3 +28,9 @@ returns-clause-started g c = λ w fresh.
       };
       state = starts_error goal c.args.self.now.steps w c.requires;
     })
+
+pub returns-in_err-culprit-clause-kept : goal.returns-in_err-culprit-clause-kept
+returns-in_err-culprit-clause-kept g c = λ w fresh. behind_error c.from_residual.result (keeps_none g.S.Store.present g.S.Store.stands g.S.Store.older c.args.self.now w fresh)
+
+pub returns-in_err-ball-clause-kept : goal.returns-in_err-ball-clause-kept
+returns-in_err-ball-clause-kept g c = λ w fresh. behind_error c.from_residual-in_err-ball.result (keeps_none g.S.Store.present g.S.Store.stands g.S.Store.older c.args.self.now w fresh)

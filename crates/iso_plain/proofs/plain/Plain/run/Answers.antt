@@ -1,10 +1,12 @@
-use Rattle.std.proofs.Common.{◌<◌, length, ap, subst, arith}
+use Rattle.std.proofs.Common.{◌<◌, ◌-◌, length, ap, subst, arith}
 use Rattle.iso_model.specs.declared.built_ins.BuiltIn.{BuiltIn}
 use Rattle.iso_plain.specs.Called.{IsBuiltIn}
 use Rattle.iso_model.specs.Terms.{term_of}
 use Rattle.iso_plain.specs.EngineStates.{phase_of}
+use Rattle.std.proofs.lemmas.Result.{on_err_weaker}
+use Rattle.iso_plain.proofs.StoppedLemmas.{behind_error, keeps_all, keeps_store, stopped_here}
 use Rattle.iso_plain.proofs.RunLemmas.{at_goal}
-use Rattle.iso_plain.proofs.RunMoves.{within, spends, goal_holds, goal_is, succeeds_on, fails_on, raises_error, fails_unknown_on, calls_it, called_on, over, if_ok_map}
+use Rattle.iso_plain.proofs.RunMoves.{within, spends, goal_holds, goal_is, succeeds_on, fails_on, raises_error, fails_unknown_on, calls_it, called_on, refused_on, over, if_ok_map}
 use Rattle.iso_plain.proofs.CalledLemmas.{equation_of}
 use Rattle.iso_plain.proofs.EquationMoves.{equates_on}
 use Rattle.iso_plain.proofs.LimitLemmas.{result_full}
@@ -103,7 +105,7 @@ returns-in-User-clause-moves g c = λ s r.
     let user = rw c.in-User.is at what in
     let was = c.call_first.ensures.called _ _ user.first user.others a.first.behind
     (calls_it g.S.Store.present g.S.Store.stands g.S.Store.older e r.search c.args.place a c.index-frame.result.now c.in-User.procedure user.first user.others c.if-self-eq0.false c.index-frame.ensures user.left r.engine) in
-    if_ok_map _ _ c.call_first.result (called_on g.S.Store.present g.S.Store.stands g.S.Store.older e c.call_first.new.self s c.args.place c.index-frame.result.now c.requires.now c.if-self-eq0.false c.index-frame.ensures r user.key user.first user.others user.user user.found c.call_first.ensures.settings) was)
+    if_ok_map _ _ c.call_first.result (called_on g.S.Store.present g.S.Store.stands g.S.Store.older e c.call_first.new.self s c.args.place c.index-frame.result.now c.requires.now c.if-self-eq0.false c.index-frame.ensures r user.key user.first user.others user.user user.found) was)
 
 pub returns-in-User-clause-frames : goal.returns-in-User-clause-frames
 returns-in-User-clause-frames g c = λ s r.
@@ -113,3 +115,22 @@ returns-in-User-clause-frames g c = λ s r.
     result_full c.call_first.result (λ h. over g.S.Store.present g.S.Store.stands g.S.Store.older e s c.args.place c.index-frame.result.now c.requires.now c.if-self-eq0.false c.index-frame.ensures r at.key at.first at.others at.user at.found h.0 h.1)
     (c.call_first.ensures.frames _ _ at.first at.others a.first.behind
     (calls_it g.S.Store.present g.S.Store.stands g.S.Store.older e r.search c.args.place a c.index-frame.result.now c.in-User.procedure at.first at.others c.if-self-eq0.false c.index-frame.ensures at.left r.engine)))
+
+pub returns-in_err-called-clause-stopped : goal.returns-in_err-called-clause-stopped
+returns-in_err-called-clause-stopped g c = λ s r.
+    behind_error c.from_residual.result (stopped_here g.S.Store.present g.S.Store.stands g.S.Store.older c.args.self.now r.search s r.state.around (keeps_all g.S.Store.present g.S.Store.stands g.S.Store.older c.args.self.now r.search r.engine))
+
+pub returns-in_err-equal-in-Unify-clause-stopped : goal.returns-in_err-equal-in-Unify-clause-stopped
+returns-in_err-equal-in-Unify-clause-stopped g c = λ s r.
+    behind_error c.from_residual-in_err-equal-in-Unify.result
+    (stopped_here g.S.Store.present g.S.Store.stands g.S.Store.older (record c.args.self.now { store = c.equate.new.store; steps = c.args.self.now.steps - 1 }) r.search s r.state.around
+    (keeps_store g.S.Store.present g.S.Store.stands g.S.Store.older c.args.self.now c.equate.new.store r.search.world r.search.stack (keeps_all g.S.Store.present g.S.Store.stands g.S.Store.older c.args.self.now r.search r.engine) c.in_err-equal-in-Unify.ensures.marks))
+
+pub returns-in-User-clause-stopped : goal.returns-in-User-clause-stopped
+returns-in-User-clause-stopped g c = λ s r.
+    (let e = c.args.self.now in
+    let a = at_goal g.S.Store.present g.S.Store.stands g.S.Store.older e r.search c.args.place c.requires.now r.engine in
+    let user = rw c.in-User.is at (c.in_ok-called.ensures r.search.world r.engine.world (goal_is g.S.Store.present g.S.Store.stands g.S.Store.older e r.search c.args.place a c.index-frame.result.now c.index-frame.ensures)) in
+    on_err_weaker c.call_first.result (λ was. refused_on g.S.Store.present g.S.Store.stands g.S.Store.older e c.call_first.new.self s c.args.place c.index-frame.result.now c.requires.now c.if-self-eq0.false c.index-frame.ensures r user.key user.first user.others user.user user.found was)
+    (c.call_first.ensures.kept _ _ user.first user.others a.first.behind
+    (calls_it g.S.Store.present g.S.Store.stands g.S.Store.older e r.search c.args.place a c.index-frame.result.now c.in-User.procedure user.first user.others c.if-self-eq0.false c.index-frame.ensures user.left r.engine)))

@@ -1,4 +1,4 @@
-use Rattle.std.proofs.Common.{ℕ, ◌<◌, length, get_or, map, ap, ◌∙◌}
+use Rattle.std.proofs.Common.{ℕ, ◌<◌, length, get_or, map, ap}
 use Rattle.std.proofs.lemmas.Bool.{ltb-true}
 use Rattle.iso_atoms.specs.Texts.{text_at}
 use Rattle.iso_model.specs.Trees.{Apply, row}
