@@ -1,7 +1,7 @@
 //! The built-ins, by name and arity.
 ghost use Rattle.std.specs.Prelude.{◌≡◌};
-ghost use Rattle.iso_model.specs.Keys.{key};
-ghost use Rattle.iso_model.specs.BuiltIns as table;
+ghost use Rattle.iso_model.specs.Search.Keys.{key};
+ghost use Rattle.iso_model.specs.Search.BuiltIns as table;
 
 /// A procedure of the language itself (7.8, 8).
 #[derive(Clone, Copy, Debug, PartialEq, Eq)]

@@ -1,11 +1,11 @@
 //! The trait that both engines meet.
 ghost use Rattle.std.specs.Prelude.{◌≡◌, ℕ, true};
-ghost use Rattle.iso_model.specs.Trees.{arities_fit};
-ghost use Rattle.iso_model.specs.Terms.{term_of};
-ghost use Rattle.iso_model.specs.Copies.{IsNumbered};
-ghost use Rattle.iso_model.specs.Additions.{consulted};
-ghost use Rattle.iso_model.specs.Walker.{State, started};
-ghost use Rattle.iso_model.specs.Engines.{Phase, Ready, IsAwake, Spent, Starts, Pauses, StaysSpent, Consults, FallsAtEvent, MayMeet, RefusesStart, MeetsLimit, KeepsLimits};
+ghost use Rattle.iso_model.specs.Terms.Trees.{arities_fit};
+ghost use Rattle.iso_model.specs.Terms.TermOf.{term_of};
+ghost use Rattle.iso_model.specs.Terms.Copies.{IsNumbered};
+ghost use Rattle.iso_model.specs.Search.Additions.{consulted};
+ghost use Rattle.iso_model.specs.Search.Walker.{State, started};
+ghost use Rattle.iso_model.specs.Search.Engines.{Phase, Ready, IsAwake, Spent, Starts, Pauses, StaysSpent, Consults, FallsAtEvent, MayMeet, RefusesStart, MeetsLimit, KeepsLimits};
 ghost use Rattle.iso_model.specs.declared.limit.Limit.{Limit};
 
 use super::pauses::{AddFault, Pause, StartFault};

@@ -1,8 +1,8 @@
 -- The engine calls a procedure: the clauses behind the first are kept as a choice.
 use Rattle.std.proofs.Common.{◌≡◌, ℕ, ◌+◌, ◌<◌, ◌≤◌, List, [], ◌∷◌, ◌++◌, length, refl, sym, subst, arith, inl, inr, ◌⊎◌, Vec, Global}
-use Rattle.iso_model.specs.Trees.{Tree}
-use Rattle.iso_model.specs.Databases as databases
-use Rattle.iso_model.specs.Databases.{Procedures}
+use Rattle.iso_model.specs.Terms.Trees.{Tree}
+use Rattle.iso_model.specs.Search.Databases as databases
+use Rattle.iso_model.specs.Search.Databases.{Procedures}
 use Rattle.iso_store.specs.Presents.{Present, KeepsMarks}
 use Rattle.iso_plain.specs.declared.parts.Frame.{Frame}
 use Rattle.iso_plain.specs.declared.parts.Attempt.{Attempt}

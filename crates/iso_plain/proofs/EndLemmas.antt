@@ -1,9 +1,9 @@
 -- What is true behind an answer, behind a ball that nothing catches, and in an idle engine.
 use Rattle.std.proofs.Common.{◌≡◌, ℕ, zero, suc, ◌<◌, List, [], ◌∷◌, length, get_or, map, Some, None, true, refl, ap, sym, ◌∙◌, subst, arith, Vec, Global}
 use Rattle.std.specs.Prelude.{option_map}
-use Rattle.iso_model.specs.Terms.{term_of}
-use Rattle.iso_model.specs.Walker.{State, World, Ending, NoMore, Uncaught}
-use Rattle.iso_model.specs.Runs.{Finishes}
+use Rattle.iso_model.specs.Terms.TermOf.{term_of}
+use Rattle.iso_model.specs.Search.Walker.{State, World, Ending, NoMore, Uncaught}
+use Rattle.iso_model.specs.Search.Runs.{Finishes}
 use Rattle.iso_model.specs.declared.terms.Term.{Term}
 use Rattle.iso_model.specs.declared.pauses.Ball.{Ball}
 use Rattle.iso_model.specs.declared.pauses.Pause.TheVariants as pause

@@ -1,12 +1,12 @@
 -- The engine's parts behind a clause that was tried.
 use Rattle.std.proofs.Common.{◌≡◌, ℕ, ◌+◌, List, ◌++◌, Option, Some, None, refl, ap, ◌∙◌, arith, inl, inr, Vec, Global}
 use Rattle.std.specs.Prelude.{option_map}
-use Rattle.iso_model.specs.Trees.{Tree}
-use Rattle.iso_model.specs.Terms.{term_of}
-use Rattle.iso_model.specs.Substitutions.{Subst, apply, compose}
-use Rattle.iso_model.specs.Unifiers.{Unifier, NeverEqual}
-use Rattle.iso_model.specs.Copies.{renamed}
-use Rattle.iso_model.specs.Databases as databases
+use Rattle.iso_model.specs.Terms.Trees.{Tree}
+use Rattle.iso_model.specs.Terms.TermOf.{term_of}
+use Rattle.iso_model.specs.Terms.Substitutions.{Subst, apply, compose}
+use Rattle.iso_model.specs.Terms.Unifiers.{Unifier, NeverEqual}
+use Rattle.iso_model.specs.Terms.Copies.{renamed}
+use Rattle.iso_model.specs.Search.Databases as databases
 use Rattle.iso_store.specs.Presents.{Present, KeepsWords, KeepsMarks}
 use Rattle.iso_plain.specs.declared.clauses.Clause.{Clause}
 use Rattle.iso_plain.specs.declared.parts.Frame.{Frame}

@@ -2,14 +2,14 @@
 use Rattle.std.proofs.Common.{◌≡◌, ◌≤◌, ℕ, List, refl, ap, ap₂, sym, ◌∙◌, arith, Result, Ok, Err}
 use Rattle.iso_ops.specs.Operators.{Operator}
 use Rattle.iso_ops.specs.declared.settings.Flags.{Flags}
-use Rattle.iso_model.specs.Walker.{State, World, idle}
-use Rattle.iso_model.specs.Additions.{Addition, Adds, Refuses}
+use Rattle.iso_model.specs.Search.Walker.{State, World, idle}
+use Rattle.iso_model.specs.Search.Additions.{Addition, Adds, Refuses}
 use Rattle.iso_model.specs.declared.pauses.AddFault.{AddFault}
 use Rattle.iso_model.specs.declared.pauses.AddFault.TheVariants as add
 use Rattle.iso_plain.specs.Starts.{Comes}
-use Rattle.iso_model.specs.Runs.{Quiet}
-use Rattle.iso_model.specs.RunLaws.{comes_behind, finishes_behind}
-use Rattle.iso_model.specs.Engines as engines
+use Rattle.iso_model.specs.Search.Runs.{Quiet}
+use Rattle.iso_model.specs.Search.RunLaws.{comes_behind, finishes_behind}
+use Rattle.iso_model.specs.Search.Engines as engines
 use Rattle.iso_model.specs.declared.limit.Limit.{Limit}
 use Rattle.iso_model.specs.declared.pauses.Pause.{Pause}
 use Rattle.iso_model.specs.declared.pauses.Pause.TheVariants as pause

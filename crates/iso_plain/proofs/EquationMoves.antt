@@ -1,15 +1,15 @@
 -- Two terms are unified, or the goal that says that they are equal fails.
 use Rattle.std.proofs.Common.{◌≡◌, ◌≢◌, ◌+◌, ◌-◌, ℕ, suc, List, [], ◌∷◌, Bool, true, false, get_or, refl, ap, sym, ◌∙◌, subst, arith, IfOk, Result}
 use Rattle.std.specs.Prelude.{option_map}
-use Rattle.iso_model.specs.Trees.{Tree}
-use Rattle.iso_model.specs.Terms.{term_of}
-use Rattle.iso_model.specs.Substitutions.{Subst, apply, compose}
-use Rattle.iso_model.specs.Unifiers.{Unifier, NeverEqual}
-use Rattle.iso_model.specs.Databases.{key_of}
-use Rattle.iso_model.specs.BuiltIns.{Reply, Equates, reply}
+use Rattle.iso_model.specs.Terms.Trees.{Tree}
+use Rattle.iso_model.specs.Terms.TermOf.{term_of}
+use Rattle.iso_model.specs.Terms.Substitutions.{Subst, apply, compose}
+use Rattle.iso_model.specs.Terms.Unifiers.{Unifier, NeverEqual}
+use Rattle.iso_model.specs.Search.Databases.{key_of}
+use Rattle.iso_model.specs.Search.BuiltIns.{Reply, Equates, reply}
 use Rattle.iso_model.specs.declared.built_ins.BuiltIn.TheVariants.{Unify}
-use Rattle.iso_model.specs.Walker.{State, Fail, Goes, run_goal, replied}
-use Rattle.iso_model.proofs.CallLemmas.{run_equation, run_equation_missed}
+use Rattle.iso_model.specs.Search.Walker.{State, Fail, Goes, run_goal, replied}
+use Rattle.iso_model.proofs.Search.CallLemmas.{run_equation, run_equation_missed}
 use Rattle.iso_store.specs.Arguments.{argument}
 use Rattle.iso_store.specs.Presents.{Present, KeepsMarks, IsUnification, Binds, meaning}
 use Rattle.iso_plain.specs.declared.parts.Frame.{Frame}

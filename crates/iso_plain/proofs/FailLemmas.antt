@@ -1,10 +1,10 @@
 -- The engine fails: it goes on with the newest choice, or the run ends.
 use Rattle.std.proofs.Common.{◌≡◌, ℕ, ◌<◌, List, [], ◌∷◌, length, Option, Some, None, refl, ap, sym, subst, arith, inl, inr}
 use Rattle.std.specs.Prelude.{option_map}
-use Rattle.iso_model.specs.Terms.{term_of}
-use Rattle.iso_model.specs.Databases as databases
-use Rattle.iso_model.specs.Walker.{State, World, idle}
-use Rattle.iso_model.specs.Engines.{IsAwake}
+use Rattle.iso_model.specs.Terms.TermOf.{term_of}
+use Rattle.iso_model.specs.Search.Databases as databases
+use Rattle.iso_model.specs.Search.Walker.{State, World, idle}
+use Rattle.iso_model.specs.Search.Engines.{IsAwake}
 use Rattle.iso_model.specs.declared.pauses.Pause.TheVariants as pause
 use Rattle.iso_store.specs.Presents.{Present}
 use Rattle.iso_plain.specs.declared.parts.Choice as kept

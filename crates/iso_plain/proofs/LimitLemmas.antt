@@ -1,9 +1,9 @@
 -- Where the frames are full the search has as many alternatives.
 use Rattle.std.proofs.Common.{◌≡◌, ℕ, suc, List, length, refl, ap, subst, arith, Result, Ok, Err}
-use Rattle.iso_model.specs.Walker.{State}
-use Rattle.iso_model.specs.Runs.{ComesOver}
-use Rattle.iso_model.specs.Engines.{MayMeet, RefusesStart, MeetsLimit, KeepsLimits}
-use Rattle.iso_model.specs.Databases.{Clause}
+use Rattle.iso_model.specs.Search.Walker.{State}
+use Rattle.iso_model.specs.Search.Runs.{ComesOver}
+use Rattle.iso_model.specs.Search.Engines.{MayMeet, RefusesStart, MeetsLimit, KeepsLimits}
+use Rattle.iso_model.specs.Search.Databases.{Clause}
 use Rattle.iso_model.specs.declared.limit.Limit.TheVariants as limit
 use Rattle.iso_model.specs.declared.pauses.StartFault.{StartFault}
 use Rattle.iso_model.specs.declared.pauses.StartFault.TheVariants as start

@@ -1,22 +1,22 @@
 -- Each move of a search with its goals linked is some steps of the search.
 use Rattle.std.proofs.Common.{◌≡◌, ◌<◌, ◌≤◌, arith, ℕ, suc, ◌+◌, List, [], ◌∷◌, ◌++◌, Bool, true, false, Option, Some, None, map, length, refl, ap, sym, ◌∙◌, subst, append_assoc}
-use Rattle.iso_model.specs.Trees.{Tree, Variable}
-use Rattle.iso_model.specs.Substitutions.{Subst, apply, compose}
-use Rattle.iso_model.specs.Unifiers.{Unifier, NeverEqual}
-use Rattle.iso_model.specs.Unification.{unify_under}
-use Rattle.iso_model.specs.Copies.{renamed}
-use Rattle.iso_model.specs.Bodies.{Body, Run, And, map_body, is_true}
+use Rattle.iso_model.specs.Terms.Trees.{Tree, Variable}
+use Rattle.iso_model.specs.Terms.Substitutions.{Subst, apply, compose}
+use Rattle.iso_model.specs.Terms.Unifiers.{Unifier, NeverEqual}
+use Rattle.iso_model.specs.Terms.Unification.{unify_under}
+use Rattle.iso_model.specs.Terms.Copies.{renamed}
+use Rattle.iso_model.specs.Search.Bodies.{Body, Run, And, map_body, is_true}
 use Rattle.iso_ops.specs.declared.settings.Unknown.{Unknown}
 use Rattle.iso_ops.specs.declared.settings.Unknown.TheVariants as on_unknown
-use Rattle.iso_model.specs.Databases.{Clause, Key, key_of, clauses_at}
-use Rattle.iso_model.specs.Errors.{existence_error}
-use Rattle.iso_model.specs.BuiltIns.{built_in, reply}
+use Rattle.iso_model.specs.Search.Databases.{Clause, Key, key_of, clauses_at}
+use Rattle.iso_model.specs.Search.Errors.{existence_error}
+use Rattle.iso_model.specs.Search.BuiltIns.{built_in, reply}
 use Rattle.iso_model.specs.declared.built_ins.BuiltIn.{BuiltIn}
 use Rattle.iso_model.specs.declared.built_ins.BuiltIn.TheVariants as own
-use Rattle.iso_model.specs.Walker.{State, World, Alternative, Member, Goal, Fail, Raise, Outcome, Goes, Gives, Ends, Answered, NoMore, Budget, Uncaught, run_goal, selected, replied, called, unknown_called, thrown, charged, paid, step, step_list, backtracked, before, entered, tried, with_others, clause_size, fails, values, idle}
-use Rattle.iso_model.specs.Runs.{Quiet, here, onward, Comes, Finishes, ComesOver}
-use Rattle.iso_model.specs.RunLaws.Quiets.{quiet_one, quiet_trans}
-use Rattle.iso_model.proofs.CallLemmas.{found, tried_found, tried_missed}
+use Rattle.iso_model.specs.Search.Walker.{State, World, Alternative, Member, Goal, Fail, Raise, Outcome, Goes, Gives, Ends, Answered, NoMore, Budget, Uncaught, run_goal, selected, replied, called, unknown_called, thrown, charged, paid, step, step_list, backtracked, before, entered, tried, with_others, clause_size, fails, values, idle}
+use Rattle.iso_model.specs.Search.Runs.{Quiet, here, onward, Comes, Finishes, ComesOver}
+use Rattle.iso_model.specs.Search.RunLaws.Quiets.{quiet_one, quiet_trans}
+use Rattle.iso_model.proofs.Search.CallLemmas.{found, tried_found, tried_missed}
 use Rattle.iso_plain.specs.Goals.{leaves}
 use Rattle.iso_plain.specs.Called.{IsBuiltIn, IsUser}
 use Rattle.iso_plain.specs.Linked.{goals_of, clause_goals, Links, nothing, linked, Choice, AreChoices, no_choice, one_choice, Running, Failing, Raising, Does, Linked, IsAround, IsState, idle_linked, with_choice, linked_missed, linked_entered}

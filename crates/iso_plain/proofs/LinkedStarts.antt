@@ -1,11 +1,11 @@
 -- A goal that is started, as a search with its goals linked.
 use Rattle.std.proofs.Common.{◌≡◌, ℕ, List, [], ◌++◌, Bool, true, false, cond, Option, Some, None, refl, ap, sym, ◌∙◌, codes, append-nil}
 use Rattle.std.specs.Str.{bytes_eq}
-use Rattle.iso_model.specs.Trees.{Tree, Variable, Integer, Name, Apply, End, More}
-use Rattle.iso_model.specs.Variables.{distinct_from, variables, variable_count}
-use Rattle.iso_model.specs.Bodies.{Body, Run, And, converted, both, body_term, one, two}
-use Rattle.iso_model.specs.Errors.{key, type_error_callable}
-use Rattle.iso_model.specs.Walker.{World, asked, started, opening, shown_query}
+use Rattle.iso_model.specs.Terms.Trees.{Tree, Variable, Integer, Name, Apply, End, More}
+use Rattle.iso_model.specs.Terms.Variables.{distinct_from, variables, variable_count}
+use Rattle.iso_model.specs.Search.Bodies.{Body, Run, And, converted, both, body_term, one, two}
+use Rattle.iso_model.specs.Search.Errors.{key, type_error_callable}
+use Rattle.iso_model.specs.Search.Walker.{World, asked, started, opening, shown_query}
 use Rattle.iso_plain.specs.Goals.{leaves}
 use Rattle.iso_plain.specs.Linked.{Links, nothing, linked, no_choice, Running, Raising, IsState}
 

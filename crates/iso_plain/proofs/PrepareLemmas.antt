@@ -2,18 +2,18 @@
 use Rattle.std.proofs.Common.{◌≡◌, ◌<◌, ◌≤◌, ℕ, ◌+◌, List, [], ◌∷◌, ◌++◌, map, length, refl, sym, ap, ap₂, ◌∙◌, subst, arith, true, false, ◌&&◌, ◌||◌, inl, inr, Option, Some, None, option_map, codes, nat_lt, zero-add, ◌==◌, rules, Result, Ok, Err, IsErrAnd}
 use Rattle.std.specs.Str.{bytes_eq}
 use Rattle.std.proofs.lemmas.Bool.{cases_Bool, eqb-true, and_parts, or_cases, or_left, or_right, false≢true}
-use Rattle.iso_model.specs.Trees.{Tree, Variable, Integer, Name, Apply, End, More, row, count}
-use Rattle.iso_model.specs.Sorts.{is_term}
-use Rattle.iso_model.specs.Terms.{term_of, row_of}
-use Rattle.iso_model.specs.Variables.{occurs, distinct_from, variables, variable_count}
-use Rattle.iso_model.specs.Substitutions.{Subst, apply}
-use Rattle.iso_model.specs.Unification.Applied.{apply_same, occurs_from}
-use Rattle.iso_model.specs.Unification.Listed.{Covers, distinct_covers}
-use Rattle.iso_model.specs.Copies.{place_of, copy_from}
-use Rattle.iso_model.specs.Bodies.{Body, Run, And, converted, both, two, map_body, is_true}
-use Rattle.iso_model.specs.Databases.{Key, key_of}
-use Rattle.iso_model.specs.BuiltIns.{is_built_in}
-use Rattle.iso_model.specs.Additions.{head_of, body_of, most_variables, consult_key, Check, Faulty, NotCallable, TooManyVariables, NotUser, checked, checked_head, checked_body, checked_user, fault_error}
+use Rattle.iso_model.specs.Terms.Trees.{Tree, Variable, Integer, Name, Apply, End, More, row, count}
+use Rattle.iso_model.specs.Terms.Sorts.{is_term}
+use Rattle.iso_model.specs.Terms.TermOf.{term_of, row_of}
+use Rattle.iso_model.specs.Terms.Variables.{occurs, distinct_from, variables, variable_count}
+use Rattle.iso_model.specs.Terms.Substitutions.{Subst, apply}
+use Rattle.iso_model.specs.Terms.Unification.Applied.{apply_same, occurs_from}
+use Rattle.iso_model.specs.Terms.Unification.Listed.{Covers, distinct_covers}
+use Rattle.iso_model.specs.Terms.Copies.{place_of, copy_from}
+use Rattle.iso_model.specs.Search.Bodies.{Body, Run, And, converted, both, two, map_body, is_true}
+use Rattle.iso_model.specs.Search.Databases.{Key, key_of}
+use Rattle.iso_model.specs.Search.BuiltIns.{is_built_in}
+use Rattle.iso_model.specs.Search.Additions.{head_of, body_of, most_variables, consult_key, Check, Faulty, NotCallable, TooManyVariables, NotUser, checked, checked_head, checked_body, checked_user, fault_error}
 use Rattle.iso_plain.specs.declared.clauses.Clause.{Clause}
 use Rattle.iso_plain.specs.Goals.{leaves, terms_of}
 use Rattle.iso_plain.specs.Linked.{goals_of}

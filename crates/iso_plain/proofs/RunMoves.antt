@@ -1,16 +1,16 @@
 -- What running a goal comes to.
 use Rattle.std.proofs.Common.{◌≡◌, ◌≢◌, ◌<◌, ◌≤◌, ◌-◌, ℕ, zero, suc, List, ◌∷◌, Option, Some, None, get_or, length, refl, ap, sym, ◌∙◌, subst, arith, inl, inr, true, Result, Ok, Err, IfOk}
 use Rattle.std.proofs.lemmas.Option.{slice_get_within}
-use Rattle.iso_model.specs.Trees.{Tree}
-use Rattle.iso_model.specs.Databases as databases
+use Rattle.iso_model.specs.Terms.Trees.{Tree}
+use Rattle.iso_model.specs.Search.Databases as databases
 use Rattle.iso_ops.specs.declared.settings.Unknown.TheVariants as on_unknown
-use Rattle.iso_model.specs.Databases.{Key, clauses_at}
-use Rattle.iso_model.specs.Errors.{existence_error}
-use Rattle.iso_model.specs.Engines.{IsAwake}
+use Rattle.iso_model.specs.Search.Databases.{Key, clauses_at}
+use Rattle.iso_model.specs.Search.Errors.{existence_error}
+use Rattle.iso_model.specs.Search.Engines.{IsAwake}
 use Rattle.iso_model.specs.declared.built_ins.BuiltIn.TheVariants as own
-use Rattle.iso_model.specs.Walker.{State, World, Budget, Uncaught}
+use Rattle.iso_model.specs.Search.Walker.{State, World, Budget, Uncaught}
 use Rattle.iso_plain.specs.Called.{IsBuiltIn, IsUser}
-use Rattle.iso_model.specs.Runs.{Finishes, ComesOver}
+use Rattle.iso_model.specs.Search.Runs.{Finishes, ComesOver}
 use Rattle.iso_model.specs.declared.limit.Limit.TheVariants as limit
 use Rattle.iso_store.specs.Presents.{Present}
 use Rattle.iso_plain.specs.declared.parts.Frame.{Frame}

@@ -3,15 +3,15 @@ use Rattle.std.proofs.Common.{◌≡◌, ℕ, ◌+◌, List, [], ◌∷◌, ◌+
 use Rattle.std.specs.Str.{bytes_eq}
 use Rattle.std.proofs.lemmas.Bool.{cases_Bool}
 use Rattle.iso_model.specs.declared.terms.Term.{Term}
-use Rattle.iso_model.specs.Trees.{Tree, Variable, Integer, Name, Apply, End, More, row, arities_fit}
-use Rattle.iso_model.specs.Terms.{term_of}
-use Rattle.iso_model.specs.Variables.{is_in, variables, variable_count}
-use Rattle.iso_model.specs.Copies.{renamed, numbers_from, IsNumbered}
-use Rattle.iso_model.specs.Unification.Applied.{apply_alone}
-use Rattle.iso_model.specs.Bodies.{Body, Run, And, converted, both, two}
-use Rattle.iso_model.proofs.VariableLemmas.{listed_occurring}
-use Rattle.iso_model.proofs.CopyLemmas.{in_numbers_from}
-use Rattle.iso_model.specs.Databases.{Clause, at_end}
+use Rattle.iso_model.specs.Terms.Trees.{Tree, Variable, Integer, Name, Apply, End, More, row, arities_fit}
+use Rattle.iso_model.specs.Terms.TermOf.{term_of}
+use Rattle.iso_model.specs.Terms.Variables.{is_in, variables, variable_count}
+use Rattle.iso_model.specs.Terms.Copies.{renamed, numbers_from, IsNumbered}
+use Rattle.iso_model.specs.Terms.Unification.Applied.{apply_alone}
+use Rattle.iso_model.specs.Search.Bodies.{Body, Run, And, converted, both, two}
+use Rattle.iso_model.proofs.OnTerms.VariableLemmas.{listed_occurring}
+use Rattle.iso_model.proofs.OnTerms.CopyLemmas.{in_numbers_from}
+use Rattle.iso_model.specs.Search.Databases.{Clause, at_end}
 use Rattle.iso_store.specs.Presents.{Present}
 use Rattle.iso_plain.specs.declared.parts.Frame.{Frame}
 use Rattle.iso_plain.specs.declared.parts.Choice as kept
@@ -22,8 +22,8 @@ use Rattle.iso_plain.specs.Next.{now_behind}
 use Rattle.iso_plain.specs.Linked.{Choice, Linked, Running}
 use Rattle.iso_plain.specs.Standing.{StandsForChoices, none_kept, one_kept, Chain, ends, Goes, DoesNext}
 use Rattle.std.specs.Prelude.{Result, Ok, Err, IsErrAnd}
-use Rattle.iso_model.specs.Walker.{World}
-use Rattle.iso_model.specs.Additions.{Addition, Adds, Refuses, Check, Fits, Faulty, checked, addition_by, consulted, consult_key}
+use Rattle.iso_model.specs.Search.Walker.{World}
+use Rattle.iso_model.specs.Search.Additions.{Addition, Adds, Refuses, Check, Fits, Faulty, checked, addition_by, consulted, consult_key}
 use Rattle.iso_model.specs.declared.pauses.AddFault.{AddFault}
 use Rattle.iso_model.specs.declared.pauses.AddFault.TheVariants as add
 use Rattle.iso_plain.specs.declared.plain.Plain.{Plain}

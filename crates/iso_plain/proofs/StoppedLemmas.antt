@@ -2,12 +2,12 @@
 use Rattle.std.proofs.Common.{◌≡◌, ℕ, List, [], ◌∷◌, refl, ap, ap₂, sym, ◌∙◌, subst, inl, inr, ◌⊎◌, Vec, Global, Result, Ok, Err, OnErr}
 use Rattle.iso_ops.specs.Operators.{Operator}
 use Rattle.iso_ops.specs.declared.settings.Flags.{Flags}
-use Rattle.iso_model.specs.Trees.{Tree}
-use Rattle.iso_model.specs.Databases as databases
-use Rattle.iso_model.specs.Databases.{Key, clauses_at}
-use Rattle.iso_model.specs.Walker.{State, World}
-use Rattle.iso_model.specs.Runs.{Quiet, here}
-use Rattle.iso_model.specs.RunLaws.{quiet_trans}
+use Rattle.iso_model.specs.Terms.Trees.{Tree}
+use Rattle.iso_model.specs.Search.Databases as databases
+use Rattle.iso_model.specs.Search.Databases.{Key, clauses_at}
+use Rattle.iso_model.specs.Search.Walker.{State, World}
+use Rattle.iso_model.specs.Search.Runs.{Quiet, here}
+use Rattle.iso_model.specs.Search.RunLaws.{quiet_trans}
 use Rattle.iso_store.specs.Presents.{Present, KeepsMarks}
 use Rattle.iso_plain.specs.declared.parts.Frame.{Frame}
 use Rattle.iso_plain.specs.declared.plain.Plain.{Plain}

@@ -2,13 +2,13 @@
 use Rattle.std.specs.Prelude.{◌≡◌, ◌<◌, List, ◌∷◌, length, Some, None}
 use Rattle.iso_ops.specs.declared.settings.Flags.{Flags}
 use Rattle.iso_ops.specs.declared.settings.Unknown.TheVariants as on_unknown
-use Rattle.iso_model.specs.Trees.{Tree}
-use Rattle.iso_model.specs.Terms.{term_of}
-use Rattle.iso_model.specs.Errors.{existence_error}
-use Rattle.iso_model.specs.Databases as databases
-use Rattle.iso_model.specs.Databases.{Key, key_of, clauses_at}
-use Rattle.iso_model.specs.BuiltIns.{built_in}
-use Rattle.iso_model.specs.Walker.{World}
+use Rattle.iso_model.specs.Terms.Trees.{Tree}
+use Rattle.iso_model.specs.Terms.TermOf.{term_of}
+use Rattle.iso_model.specs.Search.Errors.{existence_error}
+use Rattle.iso_model.specs.Search.Databases as databases
+use Rattle.iso_model.specs.Search.Databases.{Key, key_of, clauses_at}
+use Rattle.iso_model.specs.Search.BuiltIns.{built_in}
+use Rattle.iso_model.specs.Search.Walker.{World}
 use Rattle.iso_model.specs.declared.built_ins.BuiltIn.{BuiltIn}
 use Rattle.iso_plain.specs.declared.procedures.Procedure.{Procedure}
 use Rattle.iso_plain.specs.declared.calls.Called.{Called}

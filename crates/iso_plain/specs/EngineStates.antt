@@ -1,18 +1,18 @@
 -- Which states of the search the engine stands for, what its moves come to, and by what they fall.
 use Rattle.std.specs.Prelude.{◌≡◌, ℕ, zero, suc, ◌+◌, ◌*◌, ◌-◌, ◌<◌, ◌≤◌, List, [], ◌∷◌, length, take, drop, Some, option_map, true, ◌⊎◌}
 use Rattle.std.specs.List.{slice_get}
-use Rattle.iso_model.specs.Trees.{Tree, Variable}
-use Rattle.iso_model.specs.Terms.{term_of}
-use Rattle.iso_model.specs.Substitutions.{Subst, apply, compose}
-use Rattle.iso_model.specs.Unifiers.{Unifier, NeverEqual}
-use Rattle.iso_model.specs.Copies.{renamed}
-use Rattle.iso_model.specs.Databases.{Clause, Procedures}
-use Rattle.iso_model.specs.Walker.{State, World}
+use Rattle.iso_model.specs.Terms.Trees.{Tree, Variable}
+use Rattle.iso_model.specs.Terms.TermOf.{term_of}
+use Rattle.iso_model.specs.Terms.Substitutions.{Subst, apply, compose}
+use Rattle.iso_model.specs.Terms.Unifiers.{Unifier, NeverEqual}
+use Rattle.iso_model.specs.Terms.Copies.{renamed}
+use Rattle.iso_model.specs.Search.Databases.{Clause, Procedures}
+use Rattle.iso_model.specs.Search.Walker.{State, World}
 use Rattle.iso_ops.specs.Operators.{Operator}
 use Rattle.iso_ops.specs.declared.settings.Flags.{Flags}
-use Rattle.iso_model.specs.Runs.{Quiet}
-use Rattle.iso_model.specs.Engines as engines
-use Rattle.iso_model.specs.Engines.{Phase, Ready, Midway, IsAwake}
+use Rattle.iso_model.specs.Search.Runs.{Quiet}
+use Rattle.iso_model.specs.Search.Engines as engines
+use Rattle.iso_model.specs.Search.Engines.{Phase, Ready, Midway, IsAwake}
 use Rattle.iso_model.specs.declared.pauses.Pause.TheVariants as pause
 use Rattle.iso_model.specs.declared.limit.Limit.TheVariants as limit
 use Rattle.iso_store.specs.Presents.{Present}

@@ -1,7 +1,7 @@
 -- Goals that say that two terms are equal (8.2.1).
 use Rattle.std.specs.Prelude.{◌≡◌, ℕ, List}
-use Rattle.iso_model.specs.Trees.{Tree}
-use Rattle.iso_model.specs.Bodies.{two}
+use Rattle.iso_model.specs.Terms.Trees.{Tree}
+use Rattle.iso_model.specs.Search.Bodies.{two}
 use Rattle.iso_model.specs.declared.built_ins.BuiltIn.TheVariants.{Unify}
 use Rattle.iso_plain.specs.Called.{IsBuiltIn}
 

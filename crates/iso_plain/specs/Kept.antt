@@ -1,17 +1,17 @@
 -- Clauses as the engine keeps them, and the checks by which they come.
 use Rattle.std.specs.Prelude.{◌≡◌, ℕ, ◌<◌, ◌≤◌, List, [], ◌∷◌, Option, Some, None, Result, Ok, Err, true, false, codes}
-use Rattle.iso_model.specs.Trees.{Tree, Variable, Name, More, row}
-use Rattle.iso_model.specs.Sorts.{is_term}
-use Rattle.iso_model.specs.Terms.{term_of, row_of}
-use Rattle.iso_model.specs.Variables.{occurs, variables, variable_count}
-use Rattle.iso_model.specs.Substitutions.{Subst, apply}
-use Rattle.iso_model.specs.Copies.{place_of}
-use Rattle.iso_model.specs.Bodies.{Body, two, converted}
-use Rattle.iso_model.specs.Databases as databases
-use Rattle.iso_model.specs.Databases.{Key, key_of}
-use Rattle.iso_model.specs.BuiltIns.{is_built_in}
-use Rattle.iso_model.specs.Errors.{type_error_callable, permission_error}
-use Rattle.iso_model.specs.Additions.{head_of, body_of, most_variables, consult_key, Check, Fits, Faulty, checked, checked_head, fault_error, clause_of}
+use Rattle.iso_model.specs.Terms.Trees.{Tree, Variable, Name, More, row}
+use Rattle.iso_model.specs.Terms.Sorts.{is_term}
+use Rattle.iso_model.specs.Terms.TermOf.{term_of, row_of}
+use Rattle.iso_model.specs.Terms.Variables.{occurs, variables, variable_count}
+use Rattle.iso_model.specs.Terms.Substitutions.{Subst, apply}
+use Rattle.iso_model.specs.Terms.Copies.{place_of}
+use Rattle.iso_model.specs.Search.Bodies.{Body, two, converted}
+use Rattle.iso_model.specs.Search.Databases as databases
+use Rattle.iso_model.specs.Search.Databases.{Key, key_of}
+use Rattle.iso_model.specs.Search.BuiltIns.{is_built_in}
+use Rattle.iso_model.specs.Search.Errors.{type_error_callable, permission_error}
+use Rattle.iso_model.specs.Search.Additions.{head_of, body_of, most_variables, consult_key, Check, Fits, Faulty, checked, checked_head, fault_error, clause_of}
 use Rattle.iso_model.specs.declared.terms.Term.{Term}
 use Rattle.iso_model.specs.declared.pauses.AddFault.{AddFault}
 use Rattle.iso_model.specs.declared.pauses.AddFault.TheVariants as add

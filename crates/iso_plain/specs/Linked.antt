@@ -1,13 +1,13 @@
 -- The search with its goals linked one behind the other, as an engine keeps it: conjunctions are taken apart at once, and neither cut marks
 -- nor what was built is kept.
 use Rattle.std.specs.Prelude.{◌≡◌, ℕ, ◌+◌, List, [], ◌∷◌, ◌++◌, if◌then◌else◌}
-use Rattle.iso_model.specs.Trees.{Tree, Variable}
-use Rattle.iso_model.specs.Variables.{variables}
-use Rattle.iso_model.specs.Substitutions.{Subst}
-use Rattle.iso_model.specs.Bodies.{Body, map_body, is_true}
+use Rattle.iso_model.specs.Terms.Trees.{Tree, Variable}
+use Rattle.iso_model.specs.Terms.Variables.{variables}
+use Rattle.iso_model.specs.Terms.Substitutions.{Subst}
+use Rattle.iso_model.specs.Search.Bodies.{Body, map_body, is_true}
 use Rattle.iso_plain.specs.Goals.{leaves}
-use Rattle.iso_model.specs.Databases.{Clause}
-use Rattle.iso_model.specs.Walker.{State, World, Alternative, Member, Goal, Fail, Raise, Clauses}
+use Rattle.iso_model.specs.Search.Databases.{Clause}
+use Rattle.iso_model.specs.Search.Walker.{State, World, Alternative, Member, Goal, Fail, Raise, Clauses}
 
 -- the goals that a clause's body brings: none where it is `true` alone
 abbrev pub goals_of : Body → List Tree

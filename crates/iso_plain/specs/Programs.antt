@@ -2,9 +2,9 @@
 use Rattle.std.specs.Prelude.{◌≡◌, ℕ, ◌<◌, List, [], ◌∷◌, Bool, ◌&&◌, ◌==◌, length, position, Option}
 use Rattle.std.specs.String.{string_bytes}
 use Rattle.std.specs.Str.{bytes_eq}
-use Rattle.iso_model.specs.Databases as databases
-use Rattle.iso_model.specs.Databases.{Key, Procedures}
-use Rattle.iso_model.specs.Walker.{World}
+use Rattle.iso_model.specs.Search.Databases as databases
+use Rattle.iso_model.specs.Search.Databases.{Key, Procedures}
+use Rattle.iso_model.specs.Search.Walker.{World}
 use Rattle.iso_ops.specs.Operators.{Operator}
 use Rattle.iso_ops.specs.declared.settings.Flags.{Flags}
 use Rattle.iso_plain.specs.declared.clauses.Clause.{Clause}

@@ -1,8 +1,8 @@
 //! What a goal calls (7.7.7).
 ghost use Rattle.std.specs.Prelude.{◌≡◌, ◌<◌, None, IfOk};
-ghost use Rattle.iso_model.specs.BuiltIns.{built_in};
-ghost use Rattle.iso_model.specs.Walker.{World};
-ghost use Rattle.iso_model.specs.Errors.{key};
+ghost use Rattle.iso_model.specs.Search.BuiltIns.{built_in};
+ghost use Rattle.iso_model.specs.Search.Walker.{World};
+ghost use Rattle.iso_model.specs.Search.Errors.{key};
 ghost use Rattle.iso_store.specs.Presents.{Holds};
 ghost use Rattle.iso_plain.specs.Programs.{KeepsWorld, place_at};
 ghost use Rattle.iso_plain.specs.Callable.{IsGoal};

@@ -1,13 +1,13 @@
 //! Clauses as the engine keeps them: checked, converted, with their variables numbered 0, 1, .. (7.4, 7.6).
 ghost use Rattle.std.specs.Prelude.{◌≡◌, ◌<◌, ◌↔◌, IsTrue, IfOk, IfErr, OnOk, MatchOption, codes, true, option_map, ◌==◌, position};
-ghost use Rattle.iso_model.specs.Trees.{Variable, Name, arities_fit};
-ghost use Rattle.iso_model.specs.Terms.{term_of, row_of};
-ghost use Rattle.iso_model.specs.Variables.{distinct_from};
-ghost use Rattle.iso_model.specs.Substitutions.{apply};
-ghost use Rattle.iso_model.specs.Copies as copies;
-ghost use Rattle.iso_model.specs.Databases.{key_of};
-ghost use Rattle.iso_model.specs.Errors.{key};
-ghost use Rattle.iso_model.specs.Additions as additions;
+ghost use Rattle.iso_model.specs.Terms.Trees.{Variable, Name, arities_fit};
+ghost use Rattle.iso_model.specs.Terms.TermOf.{term_of, row_of};
+ghost use Rattle.iso_model.specs.Terms.Variables.{distinct_from};
+ghost use Rattle.iso_model.specs.Terms.Substitutions.{apply};
+ghost use Rattle.iso_model.specs.Terms.Copies as copies;
+ghost use Rattle.iso_model.specs.Search.Databases.{key_of};
+ghost use Rattle.iso_model.specs.Search.Errors.{key};
+ghost use Rattle.iso_model.specs.Search.Additions as additions;
 ghost use Rattle.iso_plain.specs.Goals.{terms_of};
 ghost use Rattle.iso_plain.specs.Kept.{numbers, IsRenamed, Splits, GoalsOf, RefusesHead, ChecksUser, Prepares};
 

@@ -1,7 +1,7 @@
 //! The engine's moves that give the caller an answer, or a ball that nothing catches (7.7).
 ghost use Rattle.std.specs.Prelude.{◌≡◌, ℕ, IfOk, OnErr, List, map};
-ghost use Rattle.iso_model.specs.Terms.{term_of};
-ghost use Rattle.iso_model.specs.Walker.{State};
+ghost use Rattle.iso_model.specs.Terms.TermOf.{term_of};
+ghost use Rattle.iso_model.specs.Search.Walker.{State};
 ghost use Rattle.iso_plain.specs.Standing.{AreVariables};
 
 use super::parts::Now;

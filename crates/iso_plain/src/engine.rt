@@ -1,10 +1,10 @@
 //! The plain engine is an engine: a call of `resume` is moves up to an event (7.7).
 ghost use Rattle.std.specs.Prelude.{◌≡◌, ◌≢◌, ℕ, IfOk, OnErr, true, Err, ◌≤◌};
-ghost use Rattle.iso_model.specs.Trees.{arities_fit};
-ghost use Rattle.iso_model.specs.Terms.{term_of};
-ghost use Rattle.iso_model.specs.Copies.{IsNumbered};
-ghost use Rattle.iso_model.specs.Additions.{consulted};
-ghost use Rattle.iso_model.specs.Walker.{State};
+ghost use Rattle.iso_model.specs.Terms.Trees.{arities_fit};
+ghost use Rattle.iso_model.specs.Terms.TermOf.{term_of};
+ghost use Rattle.iso_model.specs.Terms.Copies.{IsNumbered};
+ghost use Rattle.iso_model.specs.Search.Additions.{consulted};
+ghost use Rattle.iso_model.specs.Search.Walker.{State};
 ghost use Rattle.iso_model.specs.declared.pauses.Pause.TheVariants as pause;
 ghost use Rattle.iso_plain.specs.declared.plain.Move.TheVariants as moved;
 
@@ -16,9 +16,9 @@ use iso_store::{Store, StoreFault};
 
 impl<S: Store + Drop> Plain<S> {
     ghost use Rattle.iso_plain.specs.EngineStates.{StandsFor, Moves, Falls, Stopped, weight, phase_of, settings_of};
-    ghost use Rattle.iso_model.specs.Engines.{IsAwake, Pauses, FallsAtEvent};
+    ghost use Rattle.iso_model.specs.Search.Engines.{IsAwake, Pauses, FallsAtEvent};
     ghost use Rattle.iso_plain.specs.Limits.{IsWithin, LimitMet, MoveMet, ResultMet, WhereFull, MoveFull, ResultFull};
-    ghost use Rattle.iso_model.specs.Runs.{ComesOver};
+    ghost use Rattle.iso_model.specs.Search.Runs.{ComesOver};
 
     /// Ends at a limit: the engine is spent.
     fn stop(&mut self, fault: StoreFault) -> Pause
@@ -108,10 +108,10 @@ impl<S: Store + Drop> Plain<S> {
 impl<S: Store + Drop> Engine for Plain<S> {
     ghost use Rattle.iso_plain.specs.EngineStates.{StandsFor, weight, phase_of};
     ghost use Rattle.iso_plain.specs.Limits.{IsWithin, LimitMet};
-    ghost use Rattle.iso_model.specs.Engines.{Ready, Spent, IsAwake, Starts, Pauses, StaysSpent, FallsAtEvent, Consults, MayMeet, RefusesStart, MeetsLimit, KeepsLimits};
+    ghost use Rattle.iso_model.specs.Search.Engines.{Ready, Spent, IsAwake, Starts, Pauses, StaysSpent, FallsAtEvent, Consults, MayMeet, RefusesStart, MeetsLimit, KeepsLimits};
     ghost use Rattle.iso_model.specs.declared.limit.Limit.{Limit};
-    ghost use Rattle.iso_model.specs.Walker.{started};
-    ghost use Rattle.iso_model.specs.Runs.{ComesOver};
+    ghost use Rattle.iso_model.specs.Search.Walker.{started};
+    ghost use Rattle.iso_model.specs.Search.Runs.{ComesOver};
 
     ghost stands_for = { StandsFor S.present S.stands S.older };
 

@@ -1,12 +1,12 @@
 //! The engine's moves: each is some steps of the standard's search (7.7).
 ghost use Rattle.std.specs.Prelude.{◌≡◌, ◌<◌, ◌≤◌, ◌+◌, true, false, IfOk, OnOk, OnErr, Ok, List, ◌∷◌, length, Err};
-ghost use Rattle.iso_model.specs.Trees.{Tree};
-ghost use Rattle.iso_model.specs.Databases as databases;
-ghost use Rattle.iso_model.specs.Databases.{Procedures};
+ghost use Rattle.iso_model.specs.Terms.Trees.{Tree};
+ghost use Rattle.iso_model.specs.Search.Databases as databases;
+ghost use Rattle.iso_model.specs.Search.Databases.{Procedures};
 ghost use Rattle.iso_plain.specs.Kept.{IsClause};
 ghost use Rattle.iso_plain.specs.Programs.{IsDatabase};
 ghost use Rattle.iso_plain.specs.EngineStates.{left_at, clauses_at_place};
-ghost use Rattle.iso_model.specs.Walker.{State};
+ghost use Rattle.iso_model.specs.Search.Walker.{State};
 
 use super::clauses::Clause;
 use super::entries;
@@ -40,7 +40,7 @@ impl<S: Store + Drop> Plain<S> {
     ghost use Rattle.iso_plain.specs.Linked.{Linked};
     ghost use Rattle.iso_plain.specs.Linked as search;
     ghost use Rattle.iso_plain.specs.EngineStates.{IsBase, IsEngine, Represents, Keeps, Stopped, WasRefused, Tries, Tried, Calls, WentBack, Moves, Falls, clauses_left, most_clauses, weight, phase_of, settings_of};
-    ghost use Rattle.iso_model.specs.Engines.{IsAwake};
+    ghost use Rattle.iso_model.specs.Search.Engines.{IsAwake};
     ghost use Rattle.iso_plain.specs.Limits.{IsWithin, ResultMet, ResultFull};
     ghost use Rattle.iso_plain.specs.declared.parts.Now.TheVariants as now;
 

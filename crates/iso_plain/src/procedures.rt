@@ -1,10 +1,10 @@
 //! The database: procedures with their clauses in the order of their text (7.5).
 ghost use Rattle.std.specs.Prelude.{◌≡◌, ◌∷◌, [], ◌++◌, OnOk, OnErr, IfOk, Some};
 ghost use Rattle.std.specs.String.{string_bytes};
-ghost use Rattle.iso_model.specs.Terms.{term_of};
-ghost use Rattle.iso_model.specs.Databases as databases;
-ghost use Rattle.iso_model.specs.Databases.{Key, Procedures, key_of, at_end, with_clause};
-ghost use Rattle.iso_model.specs.Errors.{key};
+ghost use Rattle.iso_model.specs.Terms.TermOf.{term_of};
+ghost use Rattle.iso_model.specs.Search.Databases as databases;
+ghost use Rattle.iso_model.specs.Search.Databases.{Key, Procedures, key_of, at_end, with_clause};
+ghost use Rattle.iso_model.specs.Search.Errors.{key};
 ghost use Rattle.iso_plain.specs.Kept.{IsClause};
 ghost use Rattle.iso_plain.specs.Programs.{IsDatabase, place_at};
 

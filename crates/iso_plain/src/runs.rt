@@ -1,9 +1,9 @@
 //! The engine's move at a goal: it takes a step of the budget (7.7.4 to 7.7.7).
 ghost use Rattle.std.specs.Prelude.{◌≡◌, ◌+◌, ◌*◌, ◌<◌, ◌≤◌, IfOk, OnErr, List, length};
-ghost use Rattle.iso_model.specs.Trees.{Tree};
-ghost use Rattle.iso_model.specs.Databases as databases;
-ghost use Rattle.iso_model.specs.Walker.{State};
-ghost use Rattle.iso_model.specs.Runs.{ComesOver};
+ghost use Rattle.iso_model.specs.Terms.Trees.{Tree};
+ghost use Rattle.iso_model.specs.Search.Databases as databases;
+ghost use Rattle.iso_model.specs.Search.Walker.{State};
+ghost use Rattle.iso_model.specs.Search.Runs.{ComesOver};
 
 use super::calls::Called;
 use super::entries;

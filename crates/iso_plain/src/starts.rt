@@ -1,12 +1,12 @@
 //! How an engine is made, and how a goal is started and a clause added (7.5, 7.7).
 ghost use Rattle.std.specs.Prelude.{◌≡◌, ◌<◌, ◌^◌, IfOk, OnOk, OnErr, Some, true, [], Err};
-ghost use Rattle.iso_model.specs.Trees.{arities_fit};
-ghost use Rattle.iso_model.specs.Terms.{term_of};
-ghost use Rattle.iso_model.specs.Variables.{variable_count};
-ghost use Rattle.iso_model.specs.Copies.{IsNumbered};
-ghost use Rattle.iso_model.specs.Bodies.{Body, converted};
-ghost use Rattle.iso_model.specs.Additions.{consulted};
-ghost use Rattle.iso_model.specs.Walker.{World, first_world, idle, started};
+ghost use Rattle.iso_model.specs.Terms.Trees.{arities_fit};
+ghost use Rattle.iso_model.specs.Terms.TermOf.{term_of};
+ghost use Rattle.iso_model.specs.Terms.Variables.{variable_count};
+ghost use Rattle.iso_model.specs.Terms.Copies.{IsNumbered};
+ghost use Rattle.iso_model.specs.Search.Bodies.{Body, converted};
+ghost use Rattle.iso_model.specs.Search.Additions.{consulted};
+ghost use Rattle.iso_model.specs.Search.Walker.{World, first_world, idle, started};
 ghost use Rattle.iso_plain.specs.Goals.{leaves, terms_of};
 
 use super::bodies::{self, BodyFault};
@@ -30,11 +30,11 @@ fn count_variables(alloc: Global, term: &Term) -> Result<usize, AllocError>
 
 impl<S: Store + Drop> Plain<S> {
     ghost use Rattle.iso_plain.specs.Limits.{IsWithin};
-    ghost use Rattle.iso_model.specs.Trees.{Variable};
+    ghost use Rattle.iso_model.specs.Terms.Trees.{Variable};
     ghost use Rattle.iso_plain.specs.Linked.{idle_linked};
     ghost use Rattle.iso_plain.specs.EngineStates.{IsEngine, Represents, Keeps, StandsFor, phase_of, settings_of};
     ghost use Rattle.iso_plain.specs.Starts.{IsFresh, Comes};
-    ghost use Rattle.iso_model.specs.Engines.{Ready, Midway};
+    ghost use Rattle.iso_model.specs.Search.Engines.{Ready, Midway};
     ghost use Rattle.iso_plain.specs.declared.parts.Now.TheVariants.{Idle};
 
     /// An engine that no goal was started on, without clauses, with the operators and flags before any is set, over this empty store, in which at most so many

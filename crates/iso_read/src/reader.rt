@@ -1,11 +1,11 @@
 //! Terms from tokens: an operand, and then the operators that go on from it, by precedence (6.3).
 ghost use Rattle.std.specs.Prelude.{◌≡◌, ◌<◌, ◌≤◌, ◌+◌, ◌^◌, codes, length, map, max, option_map, IfOk, OnOk};
 ghost use Rattle.std.specs.String.{string_bytes};
-ghost use Rattle.iso_model.specs.Grammar as grammar;
-ghost use Rattle.iso_model.specs.Lists as lists;
-ghost use Rattle.iso_model.specs.Operators.{prefix_named};
-ghost use Rattle.iso_model.specs.Reading as reading;
-ghost use Rattle.iso_model.specs.Terms.{term_of};
+ghost use Rattle.iso_model.specs.Syntax.Grammar as grammar;
+ghost use Rattle.iso_model.specs.Syntax.Lists as lists;
+ghost use Rattle.iso_model.specs.Syntax.Operators.{prefix_named};
+ghost use Rattle.iso_model.specs.Syntax.Reading as reading;
+ghost use Rattle.iso_model.specs.Terms.TermOf.{term_of};
 ghost use Rattle.iso_read.specs.Gives.{Gives};
 ghost use Rattle.iso_read.specs.Views.{node_of, row_of, following_of, terms_in};
 ghost use Rattle.iso_token.specs.Shows.{shown};

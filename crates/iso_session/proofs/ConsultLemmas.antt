@@ -1,17 +1,17 @@
 -- What consulting a term comes to.
 use Rattle.std.proofs.Common.{◌≡◌, ℕ, zero, suc, ◌+◌, ◌-◌, ◌≤◌, ◌<◌, min, true, false, List, [], ◌∷◌, ◌++◌, length, codes, Option, Some, None, Result, Err, IfSome, refl, ap, ap₂, subst, ◌∙◌, arith}
 use Rattle.std.specs.Fmt.{decimal}
-use Rattle.iso_model.specs.Trees.{Tree}
-use Rattle.iso_model.specs.Terms.{term_of}
-use Rattle.iso_model.specs.Additions.{Addition, Adds, Refuses, consulted}
-use Rattle.iso_model.specs.Engines.{Phase, Ready, Consults}
-use Rattle.iso_model.specs.Walker.{World, State, idle}
-use Rattle.iso_model.specs.Lines.{counted, text_of, refused_line, skipped_line, syntax_error_line}
-use Rattle.iso_model.specs.Token.{Shown}
+use Rattle.iso_model.specs.Terms.Trees.{Tree}
+use Rattle.iso_model.specs.Terms.TermOf.{term_of}
+use Rattle.iso_model.specs.Search.Additions.{Addition, Adds, Refuses, consulted}
+use Rattle.iso_model.specs.Search.Engines.{Phase, Ready, Consults}
+use Rattle.iso_model.specs.Search.Walker.{World, State, idle}
+use Rattle.iso_model.specs.Session.Lines.{counted, text_of, refused_line, skipped_line, syntax_error_line}
+use Rattle.iso_model.specs.Syntax.Token.{Shown}
 use Rattle.iso_ops.specs.Operators.{Operator}
 use Rattle.iso_ops.specs.declared.settings.Flags.{Flags}
-use Rattle.iso_model.specs.Items.{Item, Unreadable, Taken, next_item}
-use Rattle.iso_model.specs.Sessions.{Script, is_skipped, added_script, read_script, term_script, text_by, text_script}
+use Rattle.iso_model.specs.Syntax.Items.{Item, Unreadable, Taken, next_item}
+use Rattle.iso_model.specs.Session.Sessions.{Script, is_skipped, added_script, read_script, term_script, text_by, text_script}
 use Rattle.iso_model.specs.declared.pauses.Ball.{Ball}
 use Rattle.iso_model.specs.declared.pauses.AddFault.TheVariants as add
 use Rattle.iso_model.specs.declared.limit.Limit.{Limit}

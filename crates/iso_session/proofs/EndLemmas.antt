@@ -2,11 +2,11 @@
 use Rattle.std.proofs.Common.{◌≡◌, ℕ, Bool, false, List, [], ◌∷◌, ◌++◌, Option, Result, Ok, Err, IfOk, OnOk, OnErr, inl, inr, refl, sym, ap, subst, ◌∙◌, append-nil}
 use Rattle.std.specs.Io.KnownBytes.{Appends}
 use Rattle.std.specs.Result.{IsErr}
-use Rattle.iso_model.specs.Engines.{Phase, Ready, MayMeet, KeepsLimits}
-use Rattle.iso_model.specs.Walker.{State, started}
-use Rattle.iso_model.specs.Runs.{ComesOver}
-use Rattle.iso_model.specs.Sessions.{Piece, Line, Script, Closes, Done, Halts, SessionEnd, prepend, piece_bytes, pieces_bytes, script_bytes, script_end, query_goal}
-use Rattle.iso_model.specs.Beginnings.{Begins, IsWritten, whole, cut, cut_text, limit_line, IsBroken, Writes, StopsAt, before_run, within_run, further_on, EngineStops, WalkStops, Outcome, Closed, Limited, Broken}
+use Rattle.iso_model.specs.Search.Engines.{Phase, Ready, MayMeet, KeepsLimits}
+use Rattle.iso_model.specs.Search.Walker.{State, started}
+use Rattle.iso_model.specs.Search.Runs.{ComesOver}
+use Rattle.iso_model.specs.Session.Sessions.{Piece, Line, Script, Closes, Done, Halts, SessionEnd, prepend, piece_bytes, pieces_bytes, script_bytes, script_end, query_goal}
+use Rattle.iso_model.specs.Session.Beginnings.{Begins, IsWritten, whole, cut, cut_text, limit_line, IsBroken, Writes, StopsAt, before_run, within_run, further_on, EngineStops, WalkStops, Outcome, Closed, Limited, Broken}
 use Rattle.iso_model.specs.declared.limit.Limit.{Limit}
 use Rattle.iso_model.specs.declared.limit.Limit.TheVariants as limit
 use Rattle.iso_session.specs.declared.flows.Flow.{Flow}

@@ -2,10 +2,10 @@
 use Rattle.std.proofs.Common.{◌≡◌, ℕ, Bool, false, List, [], ◌∷◌, ◌++◌, Option, Result, Ok, Err, inl, inr, refl, sym, ap, ◌∙◌, append_assoc, append-nil}
 use Rattle.std.specs.Io.KnownBytes.{Appends}
 use Rattle.std.specs.Result.{IsErr}
-use Rattle.iso_model.specs.Engines.{Phase, Ready, Midway, IsAwake, KeepsLimits}
-use Rattle.iso_model.specs.Walker.{World, State, idle}
-use Rattle.iso_model.specs.Sessions.{Piece, Line, Script, Shows, Closes, Halts, prepend, piece_bytes, within_behind, pieces_bytes, script_bytes}
-use Rattle.iso_model.specs.Beginnings.{Begins, EngineStops, StopsIn, further_on}
+use Rattle.iso_model.specs.Search.Engines.{Phase, Ready, Midway, IsAwake, KeepsLimits}
+use Rattle.iso_model.specs.Search.Walker.{World, State, idle}
+use Rattle.iso_model.specs.Session.Sessions.{Piece, Line, Script, Shows, Closes, Halts, prepend, piece_bytes, within_behind, pieces_bytes, script_bytes}
+use Rattle.iso_model.specs.Session.Beginnings.{Begins, EngineStops, StopsIn, further_on}
 use Rattle.iso_model.specs.declared.limit.Limit.{Limit}
 use Rattle.iso_model.specs.declared.limit.Limit.TheVariants as limit
 use Rattle.iso_session.specs.declared.flows.Flow.{Flow}

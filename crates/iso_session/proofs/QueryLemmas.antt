@@ -3,19 +3,19 @@ use Rattle.std.proofs.Common.{◌≡◌, ℕ, zero, suc, ◌+◌, ◌-◌, ◌�
 use Rattle.std.specs.Result.{IsErr}
 use Rattle.std.specs.Io.KnownBytes.{Appends}
 use Rattle.iso_ops.specs.Operators.{Operator}
-use Rattle.iso_model.specs.Trees.{Tree}
-use Rattle.iso_model.specs.Terms.{term_of}
-use Rattle.iso_model.specs.Engines.{Phase, Ready, Spent, Pauses, MeetsLimit}
-use Rattle.iso_model.specs.Grammar.{Clause}
-use Rattle.iso_model.specs.Token.{Shown}
-use Rattle.iso_model.specs.Items.{Item, Readable, Taken, next_item}
-use Rattle.iso_model.specs.Lines.{answer_line, solution_text, error_line, halt_line}
-use Rattle.iso_model.specs.Walker.{World, State, Ending, Answered, Wrote, NoMore, Budget, Uncaught, idle, started}
-use Rattle.iso_model.specs.Runs as runs
-use Rattle.iso_model.specs.Runs.{Trace, Then, HasGiven, begun, gave_answer, gave_output, Comes, Finishes}
-use Rattle.iso_model.specs.RunLaws.{run_of, comes_run, finishes_run}
-use Rattle.iso_model.specs.Sessions.{ends_within, piece_bytes, script_bytes, Script, Shows, Closes, Line, Output, Done, run_script, query_goal, query_script, queries_by, queries_script}
-use Rattle.iso_model.specs.Beginnings.{Begins, MayRefuse, EngineStops, StopsIn, within_run, before_run}
+use Rattle.iso_model.specs.Terms.Trees.{Tree}
+use Rattle.iso_model.specs.Terms.TermOf.{term_of}
+use Rattle.iso_model.specs.Search.Engines.{Phase, Ready, Spent, Pauses, MeetsLimit}
+use Rattle.iso_model.specs.Syntax.Grammar.{Clause}
+use Rattle.iso_model.specs.Syntax.Token.{Shown}
+use Rattle.iso_model.specs.Syntax.Items.{Item, Readable, Taken, next_item}
+use Rattle.iso_model.specs.Session.Lines.{answer_line, solution_text, error_line, halt_line}
+use Rattle.iso_model.specs.Search.Walker.{World, State, Ending, Answered, Wrote, NoMore, Budget, Uncaught, idle, started}
+use Rattle.iso_model.specs.Search.Runs as runs
+use Rattle.iso_model.specs.Search.Runs.{Trace, Then, HasGiven, begun, gave_answer, gave_output, Comes, Finishes}
+use Rattle.iso_model.specs.Search.RunLaws.{run_of, comes_run, finishes_run}
+use Rattle.iso_model.specs.Session.Sessions.{ends_within, piece_bytes, script_bytes, Script, Shows, Closes, Line, Output, Done, run_script, query_goal, query_script, queries_by, queries_script}
+use Rattle.iso_model.specs.Session.Beginnings.{Begins, MayRefuse, EngineStops, StopsIn, within_run, before_run}
 use Rattle.iso_model.specs.declared.terms.Term.{Term}
 use Rattle.iso_model.specs.declared.limit.Limit.{Limit}
 use Rattle.iso_model.specs.declared.limit.Limit.TheVariants as limit

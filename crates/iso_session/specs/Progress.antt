@@ -2,12 +2,12 @@
 use Rattle.std.specs.Prelude.{◌≡◌, ℕ, min, Bool, List, [], ◌∷◌, Option, Result, Ok, Err, ◌⊎◌, false, codes}
 use Rattle.std.specs.Io.KnownBytes.{Appends}
 use Rattle.iso_ops.specs.Operators.{Operator}
-use Rattle.iso_model.specs.Engines.{Phase, Ready}
-use Rattle.iso_model.specs.Walker.{World, State, idle}
-use Rattle.iso_model.specs.Sessions.{Piece, Line, Script, Closes, Done, Halts, prepend, piece_bytes, within_behind, pieces_bytes, script_bytes}
-use Rattle.iso_model.specs.Beginnings.{Begins, EngineStops, limit_line, Outcome, Closed, Limited, Broken}
-use Rattle.iso_model.specs.Terms.{term_of}
-use Rattle.iso_model.specs.Lines.{error_line, halt_line}
+use Rattle.iso_model.specs.Search.Engines.{Phase, Ready}
+use Rattle.iso_model.specs.Search.Walker.{World, State, idle}
+use Rattle.iso_model.specs.Session.Sessions.{Piece, Line, Script, Closes, Done, Halts, prepend, piece_bytes, within_behind, pieces_bytes, script_bytes}
+use Rattle.iso_model.specs.Session.Beginnings.{Begins, EngineStops, limit_line, Outcome, Closed, Limited, Broken}
+use Rattle.iso_model.specs.Terms.TermOf.{term_of}
+use Rattle.iso_model.specs.Session.Lines.{error_line, halt_line}
 use Rattle.iso_model.specs.declared.pauses.Pause.{Pause}
 use Rattle.iso_model.specs.declared.pauses.Pause.TheVariants as pause
 use Rattle.iso_model.specs.declared.limit.Limit.{Limit}

@@ -1,12 +1,12 @@
 //! Consulting the program text (7.4).
 ghost use Rattle.std.specs.Prelude.{◌≡◌, ℕ, true, length};
-ghost use Rattle.iso_model.specs.Additions.{consulted};
-ghost use Rattle.iso_model.specs.Engines.{Ready, MayMeet, KeepsLimits};
-ghost use Rattle.iso_model.specs.Sessions.{Script, added_script, read_script, term_script, text_script};
-ghost use Rattle.iso_model.specs.Terms.{term_of};
-ghost use Rattle.iso_model.specs.Tokens.{tokens};
-ghost use Rattle.iso_model.specs.Trees.{arities_fit};
-ghost use Rattle.iso_model.specs.Walker.{World, idle};
+ghost use Rattle.iso_model.specs.Search.Additions.{consulted};
+ghost use Rattle.iso_model.specs.Search.Engines.{Ready, MayMeet, KeepsLimits};
+ghost use Rattle.iso_model.specs.Session.Sessions.{Script, added_script, read_script, term_script, text_script};
+ghost use Rattle.iso_model.specs.Terms.TermOf.{term_of};
+ghost use Rattle.iso_model.specs.Syntax.Tokens.{tokens};
+ghost use Rattle.iso_model.specs.Terms.Trees.{arities_fit};
+ghost use Rattle.iso_model.specs.Search.Walker.{World, idle};
 ghost use Rattle.iso_session.specs.Progress.{Does, IsCount};
 ghost use Rattle.iso_session.specs.Read.{item_read, Fits};
 

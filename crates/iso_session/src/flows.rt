@@ -1,8 +1,8 @@
 //! How a session goes on behind a part of it, and the lines that it writes.
 ghost use Rattle.std.specs.Prelude.{◌≡◌, ℕ, List, [], ◌∷◌, ◌++◌, IfOk, OnOk, OnErr};
 ghost use Rattle.std.specs.Io.KnownBytes.{Appends};
-ghost use Rattle.iso_model.specs.Beginnings as session;
-ghost use Rattle.iso_model.specs.Beginnings.{Begins};
+ghost use Rattle.iso_model.specs.Session.Beginnings as session;
+ghost use Rattle.iso_model.specs.Session.Beginnings.{Begins};
 ghost use Rattle.iso_session.specs.Progress.{PutsLine, ended_of, closing_bytes};
 
 use super::statuses::{Ended, Fault};

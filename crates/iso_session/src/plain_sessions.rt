@@ -1,10 +1,10 @@
 //! Sessions with the engines that the program has.
 ghost use Rattle.std.specs.Prelude.{◌≡◌, IfOk, []};
-ghost use Rattle.iso_model.specs.Beginnings.{SessionWrites, WalkStops};
-ghost use Rattle.iso_model.specs.Engines.{Ready};
-ghost use Rattle.iso_model.specs.Runs.{ComesOver};
-ghost use Rattle.iso_model.specs.Sessions.{session_script};
-ghost use Rattle.iso_model.specs.Walker.{State, idle, first_world};
+ghost use Rattle.iso_model.specs.Session.Beginnings.{SessionWrites, WalkStops};
+ghost use Rattle.iso_model.specs.Search.Engines.{Ready};
+ghost use Rattle.iso_model.specs.Search.Runs.{ComesOver};
+ghost use Rattle.iso_model.specs.Session.Sessions.{session_script};
+ghost use Rattle.iso_model.specs.Search.Walker.{State, idle, first_world};
 ghost use Rattle.iso_session.specs.Progress.{outcome_of};
 
 use super::flows::{Flow, close};

@@ -1,14 +1,14 @@
 //! Running the queries, each to its end.
 ghost use Rattle.std.specs.Prelude.{◌≡◌, ℕ, true, length};
-ghost use Rattle.iso_model.specs.Engines.{Ready, IsAwake, MayMeet, KeepsLimits};
-ghost use Rattle.iso_model.specs.Grammar.{Clause};
-ghost use Rattle.iso_model.specs.Items.{Readable};
-ghost use Rattle.iso_model.specs.Sessions.{Script, Closes, Done, query_goal, query_script, queries_script};
-ghost use Rattle.iso_model.specs.Terms.{term_of};
-ghost use Rattle.iso_model.specs.Copies.{IsNumbered};
-ghost use Rattle.iso_model.specs.Tokens.{tokens};
-ghost use Rattle.iso_model.specs.Trees.{arities_fit};
-ghost use Rattle.iso_model.specs.Walker.{State, World, idle, started};
+ghost use Rattle.iso_model.specs.Search.Engines.{Ready, IsAwake, MayMeet, KeepsLimits};
+ghost use Rattle.iso_model.specs.Syntax.Grammar.{Clause};
+ghost use Rattle.iso_model.specs.Syntax.Items.{Readable};
+ghost use Rattle.iso_model.specs.Session.Sessions.{Script, Closes, Done, query_goal, query_script, queries_script};
+ghost use Rattle.iso_model.specs.Terms.TermOf.{term_of};
+ghost use Rattle.iso_model.specs.Terms.Copies.{IsNumbered};
+ghost use Rattle.iso_model.specs.Syntax.Tokens.{tokens};
+ghost use Rattle.iso_model.specs.Terms.Trees.{arities_fit};
+ghost use Rattle.iso_model.specs.Search.Walker.{State, World, idle, started};
 ghost use Rattle.iso_read.specs.Answers.{clause_read};
 ghost use Rattle.iso_session.specs.Named.{names_of};
 ghost use Rattle.iso_session.specs.Progress.{Does, EndsQuery};

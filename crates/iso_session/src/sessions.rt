@@ -1,9 +1,9 @@
 //! A session: the text is consulted, then each query is run to its end.
 ghost use Rattle.std.specs.Prelude.{◌≡◌, []};
-ghost use Rattle.iso_model.specs.Engines.{Ready, MayMeet, KeepsLimits};
-ghost use Rattle.iso_model.specs.Sessions.{Closes, Done, session_script};
-ghost use Rattle.iso_model.specs.Walker.{idle, first_world};
-ghost use Rattle.iso_model.specs.Beginnings.{SessionWrites, EngineStops};
+ghost use Rattle.iso_model.specs.Search.Engines.{Ready, MayMeet, KeepsLimits};
+ghost use Rattle.iso_model.specs.Session.Sessions.{Closes, Done, session_script};
+ghost use Rattle.iso_model.specs.Search.Walker.{idle, first_world};
+ghost use Rattle.iso_model.specs.Session.Beginnings.{SessionWrites, EngineStops};
 ghost use Rattle.iso_session.specs.Progress.{Does, outcome_of};
 
 use super::bodies::body_of_text;

@@ -1,10 +1,10 @@
 -- Bindings that come one after another.
 use Rattle.std.proofs.Common.{◌≡◌, ℕ, ◌<◌, Bool, true, false, refl, ap, sym, ◌∙◌, IfOk, Result, Ok, Err, arith}
-use Rattle.iso_model.specs.Trees.{Tree, Variable}
-use Rattle.iso_model.specs.Substitutions.{Subst, apply, compose}
-use Rattle.iso_model.specs.Unification.Applied.{apply_apply}
-use Rattle.iso_model.specs.Unification.Composed.{unifier_sym, never_sym}
-use Rattle.iso_model.proofs.UnifierLemmas.{compose_compose}
+use Rattle.iso_model.specs.Terms.Trees.{Tree, Variable}
+use Rattle.iso_model.specs.Terms.Substitutions.{Subst, apply, compose}
+use Rattle.iso_model.specs.Terms.Unification.Applied.{apply_apply}
+use Rattle.iso_model.specs.Terms.Unification.Composed.{unifier_sym, never_sym}
+use Rattle.iso_model.proofs.OnTerms.UnifierLemmas.{compose_compose}
 use Rattle.iso_store.specs.declared.shapes.StoreFault.{StoreFault}
 use Rattle.iso_store.specs.Presents.{Present, Holds, meaning, Grows, Binds, IsUnification}
 use Rattle.iso_store.specs.Arguments.{arity, argument}

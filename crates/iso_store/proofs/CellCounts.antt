@@ -1,8 +1,8 @@
 -- How many cells a copy takes: no more nodes than the size of its term, and a cell for each number that it uses.
 use Rattle.std.proofs.Common.{ℕ, ◌+◌, ◌<◌, ◌≤◌, List, [], ◌∷◌, ◌++◌, length, Bool, true, false, arith, length-append, if◌then◌else◌, OnOk, Result, Ok, Err}
-use Rattle.iso_model.specs.Trees.{Tree, Variable, Integer, Name, Apply, End, More}
-use Rattle.iso_model.specs.Sizes.{size}
-use Rattle.iso_model.specs.Variables.{is_in, distinct_from, variable_count}
+use Rattle.iso_model.specs.Terms.Trees.{Tree, Variable, Integer, Name, Apply, End, More}
+use Rattle.iso_model.specs.Terms.Sizes.{size}
+use Rattle.iso_model.specs.Terms.Variables.{is_in, distinct_from, variable_count}
 use Rattle.iso_store.specs.Copying.{cells_of}
 use Rattle.iso_store.specs.Presents.{Present, KeepsNumbers, TakesNumber, TakesFrom, MovesOn, Grows, NumbersHaveCells}
 

@@ -2,12 +2,12 @@
 use Rattle.std.proofs.Common.{◌≡◌, ℕ, zero, suc, ◌+◌, ◌<◌, ◌≤◌, List, [], ◌∷◌, ◌++◌, length, map, take, get_or, true, false, refl, ap, ap₂, sym, ◌∙◌, subst, arith, IfOk, OnOk, Result, Ok, Err, Some}
 use Rattle.std.proofs.lemmas.List.{length-map, map-append, take_all, get_or-map}
 use Rattle.std.proofs.Math.Seq.{take-suc}
-use Rattle.iso_model.specs.Trees.{Tree, Variable, Apply, End, row}
-use Rattle.iso_model.specs.Variables.{occurs, variables, variable_count}
-use Rattle.iso_model.specs.Copies.{place_of, copy_from, numbers_from}
-use Rattle.iso_model.specs.Unification.Applied.{apply_same}
-use Rattle.iso_model.specs.Unification.Listed.{distinct_covers}
-use Rattle.iso_model.specs.Substitutions.{apply}
+use Rattle.iso_model.specs.Terms.Trees.{Tree, Variable, Apply, End, row}
+use Rattle.iso_model.specs.Terms.Variables.{occurs, variables, variable_count}
+use Rattle.iso_model.specs.Terms.Copies.{place_of, copy_from, numbers_from}
+use Rattle.iso_model.specs.Terms.Unification.Applied.{apply_same}
+use Rattle.iso_model.specs.Terms.Unification.Listed.{distinct_covers}
+use Rattle.iso_model.specs.Terms.Substitutions.{apply}
 use Rattle.iso_store.specs.Places.{place_in}
 use Rattle.iso_store.specs.Copying.{placed_terms}
 use Rattle.iso_store.proofs.Parts.{place-found, place-within}

@@ -2,7 +2,7 @@
 use Rattle.std.proofs.Common.{◌≡◌, ℕ, ◌<◌, List, [], ◌∷◌, ◌++◌, length, false, refl, ap, ◌∙◌, arith, length-append, IfOk, is_ok, if◌then◌else◌, Result, Ok, Err, Some, suc}
 use Rattle.std.specs.List.{slice_get, list_any}
 use Rattle.std.proofs.lemmas.Bool.{lt-ltb, ltb-true, ne_eqb, or_from}
-use Rattle.iso_model.specs.Trees.{Tree}
+use Rattle.iso_model.specs.Terms.Trees.{Tree}
 use Rattle.iso_store.specs.declared.nodes.Node.{Node}
 use Rattle.iso_store.specs.declared.nodes.Node.TheVariants.{Var, Int, Atom, Compound}
 use Rattle.iso_store.specs.declared.shapes.StoreFault.{StoreFault}

@@ -1,10 +1,10 @@
 -- Bindings one after another: what they keep, and that a variable and what it is bound to stand for one term.
 use Rattle.std.proofs.Common.{◌≡◌, ◌≢◌, ℕ, ◌==◌, List, [], ◌∷◌, ◌++◌, Bool, true, false, not, ◌&&◌, refl, ap, ap₂, sym, ◌∙◌, ◌⊎◌, inl, inr, subst}
 use Rattle.std.proofs.lemmas.Bool.{and_parts, and_from, or_cases, eqb-true, eq-eqb, cases_eq, not-true, false≢true, false_from_ne_true}
-use Rattle.iso_model.specs.Trees.{Tree, Variable, Integer, Name, Apply, End, More}
-use Rattle.iso_model.specs.Variables.{occurs, is_in}
-use Rattle.iso_model.specs.Substitutions.{Subst, apply, compose, single}
-use Rattle.iso_model.specs.Unification.Applied.{apply_apply, apply_absorbs, alone_at, single_at, single_other, apply_single_absent}
+use Rattle.iso_model.specs.Terms.Trees.{Tree, Variable, Integer, Name, Apply, End, More}
+use Rattle.iso_model.specs.Terms.Variables.{occurs, is_in}
+use Rattle.iso_model.specs.Terms.Substitutions.{Subst, apply, compose, single}
+use Rattle.iso_model.specs.Terms.Unification.Applied.{apply_apply, apply_absorbs, alone_at, single_at, single_other, apply_single_absent}
 use Rattle.iso_store.specs.declared.nodes.Node.{Node}
 use Rattle.iso_store.specs.NodeTerms.{binding_at, bindings, bind_all, is_variable, may_bind, all_may_bind}
 

@@ -1,7 +1,7 @@
 -- The arguments of a compound, by their places.
 use Rattle.std.specs.Prelude.{ℕ, zero, suc}
-use Rattle.iso_model.specs.Trees.{Tree, End, More}
-pub use Rattle.iso_model.specs.Arguments.{arguments, arity, member, argument}
+use Rattle.iso_model.specs.Terms.Trees.{Tree, End, More}
+pub use Rattle.iso_model.specs.Terms.Arguments.{arguments, arity, member, argument}
 
 -- the first members of a list of terms, so many
 abbrev pub front : ℕ → Tree → Tree

@@ -3,10 +3,10 @@ use Rattle.std.proofs.Common.{◌≡◌, ℕ, zero, suc, ◌<◌, ◌≤◌, Lis
 use Rattle.std.specs.List.{slice_get}
 use Rattle.std.proofs.lemmas.Bool.{false≢true, or_cases, eqb-true, cases_eq}
 use Rattle.std.proofs.lemmas.Option.{slice_get_cases}
-use Rattle.iso_model.specs.Trees.{Tree, Variable, row}
-use Rattle.iso_model.specs.Variables.{occurs}
-use Rattle.iso_model.specs.Substitutions.{Subst, apply, compose, single}
-use Rattle.iso_model.specs.Unification.Applied.{occurs_from, single_at, single_other}
+use Rattle.iso_model.specs.Terms.Trees.{Tree, Variable, row}
+use Rattle.iso_model.specs.Terms.Variables.{occurs}
+use Rattle.iso_model.specs.Terms.Substitutions.{Subst, apply, compose, single}
+use Rattle.iso_model.specs.Terms.Unification.Applied.{occurs_from, single_at, single_other}
 use Rattle.iso_store.specs.declared.nodes.Node.{Node}
 use Rattle.iso_store.specs.declared.nodes.Node.TheVariants.{Var, Int, Atom, Compound}
 use Rattle.iso_store.specs.NodeTerms.{term_at, binding_at, bindings, bind_all, substitution_of}

@@ -2,12 +2,12 @@
 ghost use Rattle.std.specs.Prelude.{◌≡◌, ℕ, ◌+◌, ◌<◌, ◌≤◌, ◌^◌, IfOk, OnOk, length, map, true, false};
 ghost use Rattle.std.specs.List.{All};
 ghost use Rattle.iso_atoms.specs.Texts.{KeepsTexts};
-ghost use Rattle.iso_model.specs.Trees.{Variable, arities_fit};
-ghost use Rattle.iso_model.specs.Terms.{term_of};
-ghost use Rattle.iso_model.specs.Variables.{variable_count};
-ghost use Rattle.iso_model.specs.Substitutions.{apply};
-ghost use Rattle.iso_model.specs.Copies.{copy_from, numbers_from};
-ghost use Rattle.iso_model.specs.Unification.Listed.{Covers};
+ghost use Rattle.iso_model.specs.Terms.Trees.{Variable, arities_fit};
+ghost use Rattle.iso_model.specs.Terms.TermOf.{term_of};
+ghost use Rattle.iso_model.specs.Terms.Variables.{variable_count};
+ghost use Rattle.iso_model.specs.Terms.Substitutions.{apply};
+ghost use Rattle.iso_model.specs.Terms.Copies.{copy_from, numbers_from};
+ghost use Rattle.iso_model.specs.Terms.Unification.Listed.{Covers};
 ghost use Rattle.iso_store.specs.Presents.{Holds, meaning, Gathers, Makes, KeepsNumbers, MovesOn, TakesFrom, Grows, NumbersHaveCells, KeepsMarks};
 ghost use Rattle.iso_store.specs.Places.{IsPlaced};
 ghost use Rattle.iso_store.specs.Copying.{placed_terms, cells_of};

@@ -3,7 +3,7 @@
 ghost use Rattle.std.specs.Prelude.{◌≡◌, false, if◌then◌else◌, IfOk};
 ghost use Rattle.iso_ops.specs.InitialOperators.{initial_entries};
 ghost use Rattle.iso_ops.specs.Settings.{initial_flags};
-ghost use Rattle.iso_model.specs.Engines.{Phase, Ready, Spent};
+ghost use Rattle.iso_model.specs.Search.Engines.{Phase, Ready, Spent};
 ghost use Rattle.iso_model.specs.declared.limit.Limit.TheVariants.{Heap};
 
 use iso_model::{AddFault, Engine, NoMemory, Pause, StartFault, Term};

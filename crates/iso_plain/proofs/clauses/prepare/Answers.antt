@@ -1,8 +1,8 @@
 use Rattle.std.proofs.Common.{◌∙◌, sym, ap, arith}
-use Rattle.iso_model.specs.Terms.{term_of}
-use Rattle.iso_model.specs.Additions.{TooManyVariables}
+use Rattle.iso_model.specs.Terms.TermOf.{term_of}
+use Rattle.iso_model.specs.Search.Additions.{TooManyVariables}
 use Rattle.iso_plain.proofs.PrepareLemmas.{refuses, refused_goals, refused_large, refused_built_in, count_of_clause, prepared}
-use Rattle.iso_model.proofs.MeaningLemmas.{meaning_is_term}
+use Rattle.iso_model.proofs.OnTerms.MeaningLemmas.{meaning_is_term}
 use Rattle.iso_plain.proofs.clauses.prepare.Goals as goal
 
 pub returns-in_err-goals : goal.returns-in_err-goals

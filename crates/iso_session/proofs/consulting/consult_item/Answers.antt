@@ -1,4 +1,4 @@
-use Rattle.iso_model.specs.Lines.{syntax_error_line}
+use Rattle.iso_model.specs.Session.Lines.{syntax_error_line}
 use Rattle.iso_session.proofs.ConsultLemmas.{unreadable}
 use Rattle.iso_session.proofs.consulting.consult_item.Goals as goal
 

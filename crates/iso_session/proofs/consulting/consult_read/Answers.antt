@@ -1,6 +1,6 @@
 use Rattle.std.proofs.Common.{◌∙◌, sym}
-use Rattle.iso_model.specs.Lines.{skipped_line}
-use Rattle.iso_model.specs.Terms.{term_of}
+use Rattle.iso_model.specs.Session.Lines.{skipped_line}
+use Rattle.iso_model.specs.Terms.TermOf.{term_of}
 use Rattle.iso_session.proofs.ConsultLemmas.{skipped, not_skipped}
 use Rattle.iso_session.proofs.consulting.consult_read.Goals as goal
 

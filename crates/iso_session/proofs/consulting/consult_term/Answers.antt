@@ -1,7 +1,7 @@
-use Rattle.iso_model.specs.Walker.{idle}
-use Rattle.iso_model.specs.Additions.{consulted}
-use Rattle.iso_model.specs.Terms.{term_of}
-use Rattle.iso_model.specs.Lines.{refused_line}
+use Rattle.iso_model.specs.Search.Walker.{idle}
+use Rattle.iso_model.specs.Search.Additions.{consulted}
+use Rattle.iso_model.specs.Terms.TermOf.{term_of}
+use Rattle.iso_model.specs.Session.Lines.{refused_line}
 use Rattle.iso_session.proofs.ProgressLemmas.{stops_here}
 use Rattle.iso_session.proofs.ConsultLemmas.{refused}
 use Rattle.iso_session.proofs.consulting.consult_term.Goals as goal

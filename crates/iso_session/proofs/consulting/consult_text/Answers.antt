@@ -1,6 +1,6 @@
 use Rattle.std.proofs.Common.{ℕ, ◌+◌}
-use Rattle.iso_model.specs.Sessions.{Script, Closes, Done, text_script}
-use Rattle.iso_model.specs.Walker.{World, idle}
+use Rattle.iso_model.specs.Session.Sessions.{Script, Closes, Done, text_script}
+use Rattle.iso_model.specs.Search.Walker.{World, idle}
 use Rattle.iso_session.proofs.ProgressLemmas.{stops_after, breaks_after, keeps_limits-both}
 use Rattle.iso_session.proofs.ConsultLemmas.{text_ends, text_found, text_goes, nothing_found}
 use Rattle.iso_session.proofs.consulting.consult_text.Goals as goal

@@ -1,9 +1,9 @@
 -- The script is left where the text is, and the engine stands for what was consulted so far.
 use Rattle.std.proofs.Common.{◌≡◌, ℕ, length}
-use Rattle.iso_model.specs.Engines.{Ready, MayMeet, KeepsLimits}
-use Rattle.iso_model.specs.Sessions.{Script, text_script}
-use Rattle.iso_model.specs.Tokens.{tokens}
-use Rattle.iso_model.specs.Walker.{World, idle}
+use Rattle.iso_model.specs.Search.Engines.{Ready, MayMeet, KeepsLimits}
+use Rattle.iso_model.specs.Session.Sessions.{Script, text_script}
+use Rattle.iso_model.specs.Syntax.Tokens.{tokens}
+use Rattle.iso_model.specs.Search.Walker.{World, idle}
 use Rattle.iso_session.proofs.ConsultLemmas.{TextPlace}
 use Rattle.iso_session.proofs.consulting.consult_text.Given as goal
 

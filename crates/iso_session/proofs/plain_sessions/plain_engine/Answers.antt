@@ -1,6 +1,6 @@
 use Rattle.std.proofs.Common.{subst}
-use Rattle.iso_model.specs.Runs.{ComesOver}
-use Rattle.iso_model.specs.Walker.{first_world}
+use Rattle.iso_model.specs.Search.Runs.{ComesOver}
+use Rattle.iso_model.specs.Search.Walker.{first_world}
 use Rattle.iso_plain.proofs.EngineMoves.{idle_stands}
 use Rattle.iso_plain.proofs.RunMoves.{if_ok_map}
 use Rattle.iso_session.proofs.plain_sessions.plain_engine.Goals as goal

@@ -1,4 +1,4 @@
-use Rattle.iso_model.specs.Sessions.{session_script}
+use Rattle.iso_model.specs.Session.Sessions.{session_script}
 use Rattle.iso_session.specs.Progress.{outcome_of}
 use Rattle.iso_session.proofs.EndLemmas.{writes_walk, refused_session}
 use Rattle.iso_session.proofs.plain_sessions.plain_session.Goals as goal

@@ -1,9 +1,9 @@
 use Rattle.std.proofs.Common.{◌≡◌, ℕ, map}
-use Rattle.iso_model.specs.Grammar.{Clause}
-use Rattle.iso_model.specs.Terms.{term_of}
-use Rattle.iso_model.specs.Lines.{answer_line}
-use Rattle.iso_model.specs.Sessions.{Script, query_goal}
-use Rattle.iso_model.specs.Walker.{World, started}
+use Rattle.iso_model.specs.Syntax.Grammar.{Clause}
+use Rattle.iso_model.specs.Terms.TermOf.{term_of}
+use Rattle.iso_model.specs.Session.Lines.{answer_line}
+use Rattle.iso_model.specs.Session.Sessions.{Script, query_goal}
+use Rattle.iso_model.specs.Search.Walker.{World, started}
 use Rattle.iso_session.specs.Named.{names_of}
 use Rattle.iso_session.proofs.ProgressLemmas.{ready_awake, midway_awake, keeps_limits-both}
 use Rattle.iso_session.proofs.QueryLemmas.{query_ends, run_begins, output_comes, output_breaks, output_goes, answer_comes, answer_stops, answer_breaks, answer_goes}

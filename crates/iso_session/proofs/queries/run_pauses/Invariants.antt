@@ -1,9 +1,9 @@
 -- The script is left where the run is, and the engine stands for its state.
 use Rattle.std.proofs.Common.{◌≡◌, ℕ}
-use Rattle.iso_model.specs.Engines.{IsAwake, MayMeet, KeepsLimits}
-use Rattle.iso_model.specs.Grammar.{Clause}
-use Rattle.iso_model.specs.Sessions.{Script, query_goal}
-use Rattle.iso_model.specs.Walker.{State, World, started}
+use Rattle.iso_model.specs.Search.Engines.{IsAwake, MayMeet, KeepsLimits}
+use Rattle.iso_model.specs.Syntax.Grammar.{Clause}
+use Rattle.iso_model.specs.Session.Sessions.{Script, query_goal}
+use Rattle.iso_model.specs.Search.Walker.{State, World, started}
 use Rattle.iso_session.specs.Named.{names_of}
 use Rattle.iso_session.proofs.QueryLemmas.{RunPlace}
 use Rattle.iso_session.proofs.queries.run_pauses.Given as goal

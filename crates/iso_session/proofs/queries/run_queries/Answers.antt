@@ -1,5 +1,5 @@
-use Rattle.iso_model.specs.Sessions.{Closes, Done, queries_script}
-use Rattle.iso_model.specs.Walker.{World, idle}
+use Rattle.iso_model.specs.Session.Sessions.{Closes, Done, queries_script}
+use Rattle.iso_model.specs.Search.Walker.{World, idle}
 use Rattle.iso_session.proofs.ProgressLemmas.{stops_after, breaks_after, keeps_limits-both}
 use Rattle.iso_session.proofs.ConsultLemmas.{nothing_found}
 use Rattle.iso_session.proofs.QueryLemmas.{queries_end, query_found, query_goes}

@@ -1,9 +1,9 @@
 -- The script is left where the queries are, and the engine stands for what they are run over.
 use Rattle.std.proofs.Common.{◌≡◌, length}
-use Rattle.iso_model.specs.Engines.{Ready, MayMeet, KeepsLimits}
-use Rattle.iso_model.specs.Sessions.{queries_script}
-use Rattle.iso_model.specs.Tokens.{tokens}
-use Rattle.iso_model.specs.Walker.{World, idle}
+use Rattle.iso_model.specs.Search.Engines.{Ready, MayMeet, KeepsLimits}
+use Rattle.iso_model.specs.Session.Sessions.{queries_script}
+use Rattle.iso_model.specs.Syntax.Tokens.{tokens}
+use Rattle.iso_model.specs.Search.Walker.{World, idle}
 use Rattle.iso_session.proofs.QueryLemmas.{QueriesPlace}
 use Rattle.iso_session.proofs.queries.run_queries.Given as goal
 

@@ -1,5 +1,5 @@
 use Rattle.std.proofs.Common.{ap, inl}
-use Rattle.iso_model.specs.Walker.{idle}
+use Rattle.iso_model.specs.Search.Walker.{idle}
 use Rattle.iso_model.specs.declared.limit.Limit.TheVariants.{Heap, Memory}
 use Rattle.iso_read.specs.Answers.{clause_read}
 use Rattle.iso_session.specs.Named.{names_of}

@@ -1,6 +1,6 @@
-use Rattle.iso_model.specs.Sessions.{Closes, Done, whole_queries}
-use Rattle.iso_model.specs.Tokens.{tokens}
-use Rattle.iso_model.specs.Walker.{first_world}
+use Rattle.iso_model.specs.Session.Sessions.{Closes, Done, whole_queries}
+use Rattle.iso_model.specs.Syntax.Tokens.{tokens}
+use Rattle.iso_model.specs.Search.Walker.{first_world}
 use Rattle.iso_session.proofs.ProgressLemmas.{advance_none, does_after, stops_after, breaks_after}
 use Rattle.iso_session.proofs.sessions.run_parts.Goals as goal
 

@@ -1,4 +1,4 @@
-use Rattle.iso_model.specs.Sessions.{session_script}
+use Rattle.iso_model.specs.Session.Sessions.{session_script}
 use Rattle.iso_session.specs.Progress.{outcome_of}
 use Rattle.iso_session.proofs.EndLemmas.{closes, breaks, writes_kept}
 use Rattle.iso_session.proofs.sessions.session_on.Goals as goal

@@ -1,7 +1,7 @@
 use Rattle.std.proofs.Common.{[], length, ap, ◌∙◌, arith}
-use Rattle.iso_model.specs.Terms.{term_of}
-use Rattle.iso_model.specs.Variables.{distinct_from}
-use Rattle.iso_model.specs.Unification.Listed.{distinct_covers}
+use Rattle.iso_model.specs.Terms.TermOf.{term_of}
+use Rattle.iso_model.specs.Terms.Variables.{distinct_from}
+use Rattle.iso_model.specs.Terms.Unification.Listed.{distinct_covers}
 use Rattle.iso_store.proofs.CellCounts.{built-counted}
 use Rattle.iso_store.proofs.Gathering.{built-made, variables-count}
 use Rattle.iso_store.proofs.copies.build.Goals as goal

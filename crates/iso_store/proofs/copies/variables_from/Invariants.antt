@@ -1,7 +1,7 @@
 -- The words so far are those of the first numbers.
 use Rattle.std.proofs.Common.{◌≡◌, ◌≤◌, ◌+◌, ℕ, map, false}
-use Rattle.iso_model.specs.Trees.{Variable}
-use Rattle.iso_model.specs.Copies.{numbers_from}
+use Rattle.iso_model.specs.Terms.Trees.{Variable}
+use Rattle.iso_model.specs.Terms.Copies.{numbers_from}
 use Rattle.iso_store.specs.Presents.{Gathers, TakesFrom, Grows, KeepsMarks}
 use Rattle.iso_store.proofs.copies.variables_from.Given as goal
 

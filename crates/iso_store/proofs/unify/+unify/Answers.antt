@@ -1,8 +1,8 @@
 use Rattle.std.proofs.Common.{rules, ◌-◌, ◌<◌, ◌≤◌, ◌∙◌, refl, add-one, arith}
-use Rattle.iso_model.specs.Trees.{Variable}
-use Rattle.iso_model.specs.Substitutions.{compose}
-use Rattle.iso_model.specs.Unification.Composed.{unifier_same}
-use Rattle.iso_model.proofs.Cost.{cost}
+use Rattle.iso_model.specs.Terms.Trees.{Variable}
+use Rattle.iso_model.specs.Terms.Substitutions.{compose}
+use Rattle.iso_model.specs.Terms.Unification.Composed.{unifier_same}
+use Rattle.iso_model.proofs.OnTerms.Cost.{cost}
 use Rattle.iso_store.specs.Presents.{meaning}
 use Rattle.iso_store.specs.Arguments.{arguments, arity}
 use Rattle.iso_store.proofs.Members.{arity-grows}

@@ -1,7 +1,7 @@
 use Rattle.std.proofs.Common.{sym, subst}
-use Rattle.iso_model.specs.Terms.{term_of}
-use Rattle.iso_model.specs.Walker.{World}
-use Rattle.iso_model.specs.Additions.{consulted}
+use Rattle.iso_model.specs.Terms.TermOf.{term_of}
+use Rattle.iso_model.specs.Search.Walker.{World}
+use Rattle.iso_model.specs.Search.Additions.{consulted}
 use Rattle.iso_plain.specs.Starts.{Comes}
 use Rattle.iso_plain.proofs.EngineMoves.{ready_stands, consults_stand}
 use Rattle.iso_plain.proofs.engine.PlainEngine.consult.Goals as goal

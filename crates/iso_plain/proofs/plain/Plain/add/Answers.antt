@@ -1,6 +1,6 @@
 use Rattle.std.proofs.Common.{refl}
-use Rattle.iso_model.specs.Terms.{term_of}
-use Rattle.iso_model.specs.Additions.{clause_of}
+use Rattle.iso_model.specs.Terms.TermOf.{term_of}
+use Rattle.iso_model.specs.Search.Additions.{clause_of}
 use Rattle.iso_plain.proofs.StartLemmas.{idle_again}
 use Rattle.iso_plain.proofs.plain.Plain.add.Goals as goal
 

@@ -1,19 +1,19 @@
 use Rattle.std.proofs.Common.{◌≡◌, ℕ, ◌+◌, ◌*◌, ◌≤◌, List, [], length, refl, sym, ap, ap₂, ◌∙◌, subst, arith, None}
-use Rattle.iso_model.specs.Trees.{Tree, Variable}
-use Rattle.iso_model.specs.Terms.{term_of}
-use Rattle.iso_model.specs.Variables.{variables, variable_count}
-use Rattle.iso_model.specs.Copies.{numbers_from}
-use Rattle.iso_model.proofs.CopyLemmas.{length-numbers_from}
+use Rattle.iso_model.specs.Terms.Trees.{Tree, Variable}
+use Rattle.iso_model.specs.Terms.TermOf.{term_of}
+use Rattle.iso_model.specs.Terms.Variables.{variables, variable_count}
+use Rattle.iso_model.specs.Terms.Copies.{numbers_from}
+use Rattle.iso_model.proofs.OnTerms.CopyLemmas.{length-numbers_from}
 use Rattle.iso_plain.specs.Goals.{leaves}
 use Rattle.iso_plain.specs.Linked.{Linked, Running}
-use Rattle.iso_model.specs.Walker.{asked}
+use Rattle.iso_model.specs.Search.Walker.{asked}
 use Rattle.iso_plain.specs.Standing.{AreVariables, none_kept}
 use Rattle.iso_plain.specs.Entering.{Links, renamed_terms}
 use Rattle.iso_plain.proofs.StoppedLemmas.{behind_error, keeps_none, keeps_store, keeps_more}
 use Rattle.iso_plain.proofs.LinkedStarts.{starts_goals}
 use Rattle.iso_plain.proofs.StandingLemmas.{variables_more}
 use Rattle.iso_plain.proofs.EnteringLemmas.{variables_length}
-use Rattle.iso_model.proofs.MeaningLemmas.{meaning_is_term}
+use Rattle.iso_model.proofs.OnTerms.MeaningLemmas.{meaning_is_term}
 use Rattle.iso_plain.specs.Callable.{AreGoals}
 use Rattle.iso_plain.proofs.CallableLemmas.{query_callable}
 use Rattle.iso_plain.proofs.StartLemmas.{numbered_below, leaves_below, leaves_fit, terms_not_renamed, does_goals}

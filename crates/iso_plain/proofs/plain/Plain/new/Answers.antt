@@ -1,5 +1,5 @@
 use Rattle.std.proofs.Common.{refl}
-use Rattle.iso_model.specs.Walker.{first_world}
+use Rattle.iso_model.specs.Search.Walker.{first_world}
 use Rattle.iso_plain.specs.Linked.{idle_linked}
 use Rattle.iso_plain.specs.Standing.{none_kept}
 use Rattle.iso_plain.specs.Programs.{no_procedures}

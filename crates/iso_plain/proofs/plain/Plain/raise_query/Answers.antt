@@ -1,11 +1,11 @@
 use Rattle.std.proofs.Common.{◌≡◌, refl, ap, ◌∙◌, Some, []}
-use Rattle.iso_model.specs.Trees.{Variable}
-use Rattle.iso_model.specs.Terms.{term_of}
-use Rattle.iso_model.specs.Variables.{variables, variable_count}
-use Rattle.iso_model.specs.Errors.{key, type_error_callable}
+use Rattle.iso_model.specs.Terms.Trees.{Variable}
+use Rattle.iso_model.specs.Terms.TermOf.{term_of}
+use Rattle.iso_model.specs.Terms.Variables.{variables, variable_count}
+use Rattle.iso_model.specs.Search.Errors.{key, type_error_callable}
 use Rattle.std.specs.Prelude.{codes}
 use Rattle.iso_plain.specs.Linked.{Raising}
-use Rattle.iso_model.specs.Walker.{asked}
+use Rattle.iso_model.specs.Search.Walker.{asked}
 use Rattle.iso_plain.specs.Standing.{none_kept}
 use Rattle.iso_plain.proofs.StoppedLemmas.{behind_error, keeps_none}
 use Rattle.iso_plain.proofs.LinkedStarts.{starts_error}

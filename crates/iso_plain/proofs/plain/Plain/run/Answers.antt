@@ -1,7 +1,7 @@
 use Rattle.std.proofs.Common.{◌<◌, ◌-◌, length, ap, subst, arith}
 use Rattle.iso_model.specs.declared.built_ins.BuiltIn.{BuiltIn}
 use Rattle.iso_plain.specs.Called.{IsBuiltIn}
-use Rattle.iso_model.specs.Terms.{term_of}
+use Rattle.iso_model.specs.Terms.TermOf.{term_of}
 use Rattle.iso_plain.specs.EngineStates.{phase_of}
 use Rattle.std.proofs.lemmas.Result.{on_err_weaker}
 use Rattle.iso_plain.proofs.StoppedLemmas.{behind_error, keeps_all, keeps_store, stopped_here}

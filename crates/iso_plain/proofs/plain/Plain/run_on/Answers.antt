@@ -1,6 +1,6 @@
 use Rattle.std.proofs.Common.{ℕ, arith, refl, subst, ◌∙◌}
-use Rattle.iso_model.specs.Runs.{here, ComesOver}
-use Rattle.iso_model.specs.RunLaws.{quiet_trans, reaches_behind}
+use Rattle.iso_model.specs.Search.Runs.{here, ComesOver}
+use Rattle.iso_model.specs.Search.RunLaws.{quiet_trans, reaches_behind}
 use Rattle.iso_plain.proofs.EngineMoves.{represents_stands, stands_settings, pauses_behind}
 use Rattle.iso_plain.proofs.LimitLemmas.{where_full}
 use Rattle.iso_plain.proofs.plain.Plain.run_on.Goals as goal

@@ -1,10 +1,10 @@
 -- Steps without an event led to a state that the engine stands for.
 use Rattle.std.proofs.Common.{◌≡◌, ◌≤◌}
-use Rattle.iso_model.specs.Walker.{State}
-use Rattle.iso_model.specs.Runs.{Quiet}
+use Rattle.iso_model.specs.Search.Walker.{State}
+use Rattle.iso_model.specs.Search.Runs.{Quiet}
 use Rattle.iso_plain.specs.Limits.{IsWithin}
 use Rattle.iso_plain.specs.EngineStates.{StandsFor, weight, phase_of, settings_of}
-use Rattle.iso_model.specs.Engines.{IsAwake}
+use Rattle.iso_model.specs.Search.Engines.{IsAwake}
 use Rattle.iso_plain.proofs.plain.Plain.run_on.Given as goal
 
 abbrev pub invariant-loop-pause : goal.invariant-loop-pause
