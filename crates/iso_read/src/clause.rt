@@ -76,7 +76,7 @@ fn clause_from<'t>(
 }
 
 /// The term that all of these tokens are.
-#[tactic(auto, unfolding(iso_model::specs::Reading::clause_of))]
+#[tactic(auto, unfolding(iso_model::specs::Syntax::Reading::clause_of))]
 fn whole(language: Language<'_>, clause: &[Token<'_>]) -> Result<Read, ReadFault>
     ensures { IsWhole (clause_of language.entry.ops.now language.entry.flags.now (map shown clause.now)) result }
 {

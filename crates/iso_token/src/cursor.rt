@@ -30,7 +30,7 @@ impl<'t> Model for Tokens<'t> {
 
 impl<'t> Tokens<'t> {
     /// All tokens of the text. It takes no memory.
-    #[tactic(auto, using(iso_model::proofs::PlaceLemmas::tokens_stand))]
+    #[tactic(auto, using(iso_model::proofs::Syntax::PlaceLemmas::tokens_stand))]
     pub fn new(text: &'t str) -> Tokens<'t>
         ensures all { result ≡ tokens text.now }
         ensures places { StandInOrder text.now 0 result }

@@ -153,7 +153,7 @@ fn symbol(bytes: &[u8]) -> Lexeme
 }
 
 /// The lexeme at the front of a text that isn't empty.
-#[tactic(auto, unfolding(iso_model::specs::Lexemes::lexeme))]
+#[tactic(auto, unfolding(iso_model::specs::Syntax::Lexemes::lexeme))]
 pub fn first_lexeme(bytes: &[u8]) -> Lexeme
     requires { 0 < length bytes.now }
     ensures value { lexeme_of result ≡ spec.lexeme bytes.now }

@@ -52,7 +52,7 @@ fn escaped(bytes: &[u8]) -> Piece
 }
 
 /// The piece at the front of a text that isn't empty, between such quotes.
-#[tactic(auto, unfolding(iso_model::specs::Quoted::piece_at))]
+#[tactic(auto, unfolding(iso_model::specs::Syntax::Quoted::piece_at))]
 fn piece_at(quote: u8, bytes: &[u8]) -> Piece
     requires nonempty { 0 < length bytes.now }
     requires ascii { (0 < quote) × (quote < 128) }
