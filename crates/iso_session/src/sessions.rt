@@ -38,8 +38,9 @@ fn run_parts<E: Engine, W: Write>(
     }
 }
 
-/// Consults the text and runs the queries on a new engine, each query with the whole budget. The error: a write of at
-/// least one byte answered an error or took 0 bytes; what was written is a beginning.
+/// Consults the text and runs the queries on a new engine, each query with the whole budget. Heap or frames end it only
+/// where the engine is spent by them, in a piece of the walk that it named for them as it was given. The error: a write
+/// of at least one byte answered an error or took 0 bytes; what was written is a beginning.
 pub fn session_on<E: Engine, W: Write>(
     alloc: Global,
     engine: &mut E,
