@@ -60,8 +60,9 @@ in_turn_unifier =
     (unifier_apply (codes "c") (unifier_more (unifier_sym (bound_to 2 (number 1) refl (λ m e. cc))) (unifier_more (unifier_sym (bound_to 5 nil refl (λ m e. cc))) (unifier_same End))))
     (unifier_same End))))
 
+-- the value of the body's goal
 abbrev goal : Tree
-goal = app (Variable 3) (Variable 4) (Variable 5)
+goal = app (Variable 3) (Variable 1) nil
 
 abbrev then_nil : Subst
 then_nil = compose (single 3 nil) (compose (single 6 (Variable 1)) (compose (single 1 nil) Variable))

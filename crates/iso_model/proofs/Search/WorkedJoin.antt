@@ -55,36 +55,36 @@ module _ (n : ℕ) where
   both = record within { list = Goal (Run (p_of (Variable 1))) 0 ∷ Goal (Run (q_of (Variable 1))) 0 ∷ [] }
 
   abbrev with_one : State
-  with_one = record (found (p_of (Variable 1)) (fact 0 (p_of (number 1))) (fact 1 (p_of (number 2)) ∷ []) (Goal (Run (q_of (Variable 1))) 0 ∷ []) both (binds 1)) { steps = suc (suc n) }
+  with_one = record (found (p_of (Variable 0)) (fact 0 (p_of (number 1))) (fact 1 (p_of (number 2)) ∷ []) (Goal (Run (q_of (Variable 1))) 0 ∷ []) both (binds 1)) { steps = suc (suc n) }
 
   abbrev failed : State
-  failed = record (missed (q_of (Variable 1)) (fact 2 (q_of (number 2))) [] [] with_one) { steps = suc n }
+  failed = record (missed (q_of (number 1)) (fact 2 (q_of (number 2))) [] [] with_one) { steps = suc n }
 
   abbrev with_two : State
-  with_two = found (p_of (Variable 1)) (fact 1 (p_of (number 2))) [] (Goal (Run (q_of (Variable 1))) 0 ∷ []) (retry failed) (binds 2)
+  with_two = found (p_of (Variable 0)) (fact 1 (p_of (number 2))) [] (Goal (Run (q_of (Variable 1))) 0 ∷ []) (retry failed) (binds 2)
 
   abbrev solved : State
-  solved = record (found (q_of (Variable 1)) (fact 2 (q_of (number 2))) [] [] with_two Variable) { steps = n }
+  solved = record (found (q_of (number 2)) (fact 2 (q_of (number 2))) [] [] with_two Variable) { steps = n }
 
   two_run : runs.Run with_two (answers ((number 2 ∷ []) ∷ []) NoMore joined)
   unfolding step
   two_run =
-      goes (ap (λ s. Goes (record s { steps = n })) (tried_found (q_of (Variable 1)) (fact 2 (q_of (number 2))) [] [] with_two Variable (unifier_same (q_of (number 2)))))
+      goes (ap (λ s. Goes (record s { steps = n })) (tried_found (q_of (number 2)) (fact 2 (q_of (number 2))) [] [] with_two Variable (unifier_same (q_of (number 2)))))
       (gives refl (ends refl))
 
   failed_run : runs.Run failed (answers ((number 2 ∷ []) ∷ []) NoMore joined)
   unfolding step
-  failed_run = goes (ap Goes (tried_found (p_of (Variable 1)) (fact 1 (p_of (number 2))) [] (Goal (Run (q_of (Variable 1))) 0 ∷ []) (retry failed) (binds 2) (fact_unifier 2))) two_run
+  failed_run = goes (ap Goes (tried_found (p_of (Variable 0)) (fact 1 (p_of (number 2))) [] (Goal (Run (q_of (Variable 1))) 0 ∷ []) (retry failed) (binds 2) (fact_unifier 2))) two_run
 
   one_run : runs.Run with_one (answers ((number 2 ∷ []) ∷ []) NoMore joined)
   unfolding step
-  one_run = goes (ap (λ s. Goes (record s { steps = suc n })) (tried_missed (q_of (Variable 1)) (fact 2 (q_of (number 2))) [] [] with_one never_two)) failed_run
+  one_run = goes (ap (λ s. Goes (record s { steps = suc n })) (tried_missed (q_of (number 1)) (fact 2 (q_of (number 2))) [] [] with_one never_two)) failed_run
 
   both_run : runs.Run both (answers ((number 2 ∷ []) ∷ []) NoMore joined)
   unfolding step
   both_run =
       goes
-      (ap (λ s. Goes (record s { steps = suc (suc n) })) (tried_found (p_of (Variable 1)) (fact 0 (p_of (number 1))) (fact 1 (p_of (number 2)) ∷ []) (Goal (Run (q_of (Variable 1))) 0 ∷ []) both (binds 1) (fact_unifier 1)))
+      (ap (λ s. Goes (record s { steps = suc (suc n) })) (tried_found (p_of (Variable 0)) (fact 0 (p_of (number 1))) (fact 1 (p_of (number 2)) ∷ []) (Goal (Run (q_of (Variable 1))) 0 ∷ []) both (binds 1) (fact_unifier 1)))
       one_run
 
   join_from : runs.Run first (answers ((number 2 ∷ []) ∷ []) NoMore joined)

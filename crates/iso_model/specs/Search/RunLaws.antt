@@ -4,11 +4,14 @@ pub mod Exists
 pub mod Named
 pub mod Quiets
 pub mod Moves
-pub mod Unbuilt
+pub mod Sameness
+pub mod SameSteps
+pub mod SameRuns
+pub mod SameLaws
 use Rattle.std.specs.Prelude.{◌≡◌}
 use Rattle.iso_model.specs.Search.Walker.{State, World, Event, Ending, Goes, Gives, Ends, step}
 use Rattle.iso_model.specs.Search.Runs.{Trace, Then, Stops, Run, Quiet}
-use Rattle.iso_model.specs.Search.RunLaws.Unbuilt.{Alike}
+use Rattle.iso_model.specs.Search.RunLaws.Sameness.{Same}
 pub use Rattle.iso_model.specs.Search.RunLaws.Named.{one_run, run_of, run_of_is, run_of_only}
 pub use Rattle.iso_model.specs.Search.RunLaws.Exists.{has_run}
 pub use Rattle.iso_model.specs.Search.RunLaws.Quiets.{goes_run, gives_run, ends_run, quiet_one, quiet_trans, quiet_run, comes_run, finishes_run, reaches_run, comes_behind, finishes_behind, reaches_behind, trace_length, comes_fewer}
@@ -33,6 +36,6 @@ EventsBeginTheRun = (s at t : State) (e : Event) → Quiet s at → step at ≡ 
 abbrev pub EndingsAreTheRun : Type 0
 EndingsAreTheRun = (s at : State) (e : Ending) (w : World) → Quiet s at → step at ≡ Ends e w → run_of s ≡ Stops e w
 
--- what was built has no part in the run
-abbrev pub BuiltIsNotInTheRun : Type 0
-BuiltIsNotInTheRun = (s t : State) → Alike s t → run_of s ≡ run_of t
+-- States that are the same have one run: what was built, the marks that nothing reads, and how conjunctions are grouped have no part in it.
+abbrev pub SameStatesHaveOneRun : Type 0
+SameStatesHaveOneRun = (s t : State) → Same s t → run_of s ≡ run_of t

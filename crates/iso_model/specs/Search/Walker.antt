@@ -1,5 +1,5 @@
 -- The standard's search, step by step (ISO/IEC 13211-1:1995, 7.7): depth first, clauses in their order, goals from left to right.
-use Rattle.std.specs.Prelude.{ℕ, zero, suc, ◌+◌, List, [], ◌∷◌, length, map, Option, Some, None, codes, if◌then◌else◌}
+use Rattle.std.specs.Prelude.{ℕ, zero, suc, ◌+◌, List, [], ◌∷◌, length, map, Option, Some, None, option_map, codes, if◌then◌else◌}
 use Rattle.iso_ops.specs.Operators.{Operator}
 use Rattle.iso_ops.specs.InitialOperators.{initial_entries}
 use Rattle.iso_ops.specs.declared.settings.Flags.{Flags}
@@ -9,8 +9,8 @@ use Rattle.iso_ops.specs.Settings.{initial_flags}
 use Rattle.iso_model.specs.Terms.Trees.{Tree, Variable, Name, Apply}
 use Rattle.iso_model.specs.Terms.Sizes.{size}
 use Rattle.iso_model.specs.Terms.Variables.{variables, variable_count}
-use Rattle.iso_model.specs.Terms.Substitutions.{Subst}
-use Rattle.iso_model.specs.Terms.Unification.{unify_under}
+use Rattle.iso_model.specs.Terms.Substitutions.{Subst, apply, compose}
+use Rattle.iso_model.specs.Terms.Unification.{unifier_of}
 use Rattle.iso_model.specs.Terms.Copies.{renamed}
 use Rattle.iso_model.specs.Search.Bodies.{Body, Run, And, converted, body_term, map_body, is_true}
 use Rattle.iso_model.specs.Search.Databases.{Clause, Key, Database, key, key_of, no_clauses, clauses_at}
@@ -113,16 +113,20 @@ clause_size c = c.variables + (arguments_size c.head + body_size c.body)
 abbrev pub before : Body → ℕ → List Member → List Member
 before b mark rest = if is_true b then rest else Goal b mark ∷ rest
 
+-- a unifier of terms that are under the substitution r, composed with r
+abbrev pub under : Subst → Option Subst → Option Subst
+under r u = option_map (compose r) u
+
 -- the clause's head was unified with the call, or not
 abbrev pub entered : Option Subst → Clause → ℕ → ℕ → List Member → State → State
 entered None c n mark rest s = fails s
 entered (Some u) c n mark rest s = record s { list = before (map_body (λ k. Variable (n + k)) c.body) mark rest; subst = u }
 
--- The first clause is tried: its variables are numbered from the next number on, what it makes is counted, its head is unified with the
--- call, and its body comes before the rest, with the height at the call as its cut mark.
+-- The first clause is tried for this call, which is the value of a goal under the substitution: its variables are numbered from the next number
+-- on, what it makes is counted, its head is unified with the call, and its body comes before the rest, with the height at the call as its cut mark.
 abbrev pub tried_clause : Tree → Clause → ℕ → List Member → State → State
 tried_clause call c mark rest s =
-    entered (unify_under s.subst call (renamed s.next c.head)) c s.next mark rest (record s { next = s.next + c.variables; built = s.built + clause_size c })
+    entered (under s.subst (unifier_of call (apply s.subst (renamed s.next c.head)))) c s.next mark rest (record s { next = s.next + c.variables; built = s.built + clause_size c })
 
 -- the clauses behind the first are one alternative, where there are any
 abbrev pub with_others : Tree → List Clause → List Member → State → State
@@ -163,7 +167,7 @@ equated (Some u) rest s = record s { list = rest; subst = u }
 abbrev pub replied : Reply → List Member → State → Outcome
 replied Fails rest s = Goes (fails s)
 replied Succeeds rest s = Goes (record s { list = rest })
-replied (Equates a b) rest s = Goes (equated (unify_under s.subst a b) rest (record s { built = s.built + 2 }))
+replied (Equates a b) rest s = Goes (equated (under s.subst (unifier_of a b)) rest (record s { built = s.built + 2 }))
 
 -- what a goal of this name and arity runs: a built-in where there is one, else a user procedure
 abbrev pub selected : Option BuiltIn → Key → Tree → List Member → State → Outcome
@@ -180,10 +184,14 @@ abbrev pub thrown : Tree → List Member → State → Outcome
 thrown ball [] s = Ends (Uncaught ball) s.world
 thrown ball (m ∷ rest) s = thrown ball rest s
 
+-- A goal is selected by its value under the substitution, which has the name and the arity that the goal was made with.
+abbrev pub run_value : Tree → List Member → State → Outcome
+run_value t rest s = run_goal (key_of t) t rest s
+
 -- a control step, or a goal's
 abbrev pub step_goal : Body → ℕ → List Member → State → Outcome
 step_goal (And a b) mark rest s = Goes (record s { list = Goal a mark ∷ Goal b mark ∷ rest })
-step_goal (Run t) mark rest s = paid s.steps s (run_goal (key_of t) t rest s)
+step_goal (Run t) mark rest s = paid s.steps s (run_value (apply s.subst t) rest s)
 
 abbrev pub step_list : List Member → State → Outcome
 step_list [] s = Gives (Answered (values s)) (fails s)

@@ -2,12 +2,12 @@
 -- substitution doesn't change it.
 use Rattle.std.proofs.Common.{◌≡◌, ◌<◌, ◌≤◌, ◌+◌, ℕ, zero, suc, List, [], ◌∷◌, true, false, Option, Some, None, ◌⊎◌, inl, inr, refl, ap, ◌∙◌, subst, arith, length, if◌then◌else◌}
 use Rattle.iso_model.specs.Terms.Trees.{Tree, Variable}
-use Rattle.iso_model.specs.Terms.Substitutions.{Subst}
-use Rattle.iso_model.specs.Terms.Unification.{unify_under}
+use Rattle.iso_model.specs.Terms.Substitutions.{Subst, apply}
+use Rattle.iso_model.specs.Terms.Unification.{unifier_of}
 use Rattle.iso_model.specs.Terms.Copies.{renamed}
 use Rattle.iso_model.specs.Search.Bodies.{Body, Run, And, map_body, is_true}
-use Rattle.iso_model.specs.Search.Databases.{Clause, key_of}
-use Rattle.iso_model.specs.Search.Walker.{State, Member, Goal, Fail, Raise, Left, Clauses, Alternative, Outcome, Goes, Gives, Ends, charged, paid, before, entered, with_others, tried, retried, backtracked, thrown, step_goal, step_list, step, run_goal, clause_size}
+use Rattle.iso_model.specs.Search.Databases.{Clause}
+use Rattle.iso_model.specs.Search.Walker.{State, Member, Goal, Fail, Raise, Left, Clauses, Alternative, Outcome, Goes, Gives, Ends, charged, paid, before, entered, with_others, tried, retried, backtracked, thrown, step_goal, step_list, step, run_value, under, clause_size}
 
 -- a body, before what weighs r
 abbrev pub body_weight : Body → ℕ → ℕ
@@ -91,7 +91,7 @@ tried_lighter call (c ∷ cs) rest s =
     let others = others_weight call cs rest s in
     let below = others.1 in
     let q : State = record p { next = p.next + c.variables; built = p.built + clause_size c } in
-    let t = entered_lighter (unify_under p.subst call (renamed p.next c.head)) c p.next (length s.stack) rest q in
+    let t = entered_lighter (under p.subst (unifier_of call (apply p.subst (renamed p.next c.head)))) c p.next (length s.stack) rest q in
     let light = t.lighter in
     record { steps = t.steps ∙ others.0; lighter = omega arith }
 
@@ -120,7 +120,7 @@ goal_progress : (b : Body) (mark : ℕ) (rest : List Member) (s : State)
     → Progress s.steps (body_weight b (list_weight rest) + stack_weight s.stack) (step_goal b mark rest s)
 goal_progress (And a b) mark rest s = inr (record { steps = refl; lighter = omega arith })
 goal_progress (Run t) mark rest s =
-    paid_progress s.steps (body_weight (Run t) (list_weight rest) + stack_weight s.stack) s (run_goal (key_of t) t rest s)
+    paid_progress s.steps (body_weight (Run t) (list_weight rest) + stack_weight s.stack) s (run_value (apply s.subst t) rest s)
 
 list_progress : (list : List Member) (s : State) → Progress s.steps (list_weight list + stack_weight s.stack) (step_list list s)
 list_progress [] s = inr (record { steps = refl; lighter = omega arith })
