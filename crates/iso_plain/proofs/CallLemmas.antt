@@ -1,5 +1,6 @@
 -- The engine calls a procedure: the clauses behind the first are kept as a choice.
 use Rattle.std.proofs.Common.{◌≡◌, ℕ, ◌+◌, ◌<◌, ◌≤◌, List, [], ◌∷◌, ◌++◌, length, refl, sym, subst, arith, inl, inr, ◌⊎◌, Vec, Global}
+use Rattle.iso_model.specs.Terms.Variables.{variables}
 use Rattle.iso_model.specs.Terms.Trees.{Tree}
 use Rattle.iso_model.specs.Search.Databases as databases
 use Rattle.iso_model.specs.Search.Databases.{Procedures}
@@ -92,9 +93,9 @@ module _ {S W M : Type 0} (present : S → Present W) (stands : S → M → Pres
   tries_later e attempt l call c (d ∷ cs) behind store choices mark t many same stood newest keeps pushed =
       let b = t.base in
       let k : Choice = record { call = call; clauses = d ∷ cs; behind = behind; subst = l.subst; next = l.next } in
-      let old : StandsForChoices (stands store) older e.base (left_at l.world.database.procedures) e.query.items l.query e.frames.items e.choices.items l.stack =
+      let old : StandsForChoices (stands store) older e.base (left_at l.world.database.procedures) e.query.items (variables l.query) e.frames.items e.choices.items l.stack =
       choices_keep (λ x p among there. keeps x.mark p there) t.choices in
-      let here : StandsForChoice (stands store) older e.base (left_at l.world.database.procedures) e.query.items l.query e.frames.items (later e attempt mark) k = record {
+      let here : StandsForChoice (stands store) older e.base (left_at l.world.database.procedures) e.query.items (variables l.query) e.frames.items (later e attempt mark) k = record {
         present = present e.store;
         mark = stood;
         newer = newest e.base b.present b.stands_for;

@@ -1,6 +1,7 @@
 -- The engine's parts behind a clause that was tried.
 use Rattle.std.proofs.Common.{◌≡◌, ℕ, ◌+◌, List, ◌++◌, Option, Some, None, refl, ap, ◌∙◌, arith, inl, inr, Vec, Global}
 use Rattle.std.specs.Prelude.{option_map}
+use Rattle.iso_model.specs.Terms.Variables.{variables}
 use Rattle.iso_model.specs.Terms.Trees.{Tree}
 use Rattle.iso_model.specs.Terms.TermOf.{term_of}
 use Rattle.iso_model.specs.Terms.Substitutions.{Subst, apply, compose}
@@ -35,7 +36,7 @@ module _ {S W M : Type 0} (present : S → Present W) (stands : S → M → Pres
 
   pub choices_on : (e : Plain S W M) (attempt : Attempt W) (l : Linked) (call : Tree) (c : databases.Clause) (cs : List databases.Clause) (behind : List Tree) (store : S) (frames : Vec (Frame W) Global)
       → Tries present stands older e attempt l call c cs behind → KeepsMarks (stands e.store) (stands store) → AddsFrames e.frames.items frames.items
-      → StandsForChoices (stands store) older e.base (left_at l.world.database.procedures) e.query.items l.query frames.items e.choices.items (with_choice call cs behind l.subst l.next l.stack)
+      → StandsForChoices (stands store) older e.base (left_at l.world.database.procedures) e.query.items (variables l.query) frames.items e.choices.items (with_choice call cs behind l.subst l.next l.stack)
   choices_on e attempt l call c cs behind store frames t keeps adds =
       rw adds.1 (choices_more adds.0 (choices_keep (λ d p among stood. keeps d.mark p stood) t.choices))
 

@@ -19,7 +19,7 @@ use Rattle.iso_plain.specs.EngineStates.{IsEngine, Represents, Stopped, StandsBy
 use Rattle.iso_plain.specs.declared.parts.Now.{Now}
 use Rattle.iso_plain.specs.declared.parts.Now.TheVariants as now
 use Rattle.iso_plain.specs.declared.plain.Plain.{Plain}
-use Rattle.iso_plain.proofs.LinkedMoves.{is_idle}
+use Rattle.iso_plain.proofs.LinkedMoves.{is_idle, world_is}
 use Rattle.iso_plain.proofs.StoppedLemmas.{world_settings, keeps_all, stopped_here, stopped_behind}
 
 -- a number that falls does so behind others that fall
@@ -55,7 +55,7 @@ module _ {S W M : Type 0} (present : S → Present W) (stands : S → M → Pres
 
   -- an engine keeps the operators and the flags of the states that it stands for
   represents_settings : (e : Plain S W M) (s : State) → Represents present stands older e s → settings_of e ≡ settings_in s.world
-  represents_settings e s r = world_settings present stands older e r.search.world r.engine.world ∙ ap settings_in (sym r.state.around.world)
+  represents_settings e s r = world_settings present stands older e r.search.world r.engine.world ∙ ap settings_in (sym (world_is r.search s r.state))
 
   pub stands_settings : (n : Now) (e : Plain S W M) (s : State) → StandsBy present stands older n e s → settings_of e ≡ settings_in s.world
   stands_settings now.Idle e s r = represents_settings e s r
@@ -71,7 +71,7 @@ module _ {S W M : Type 0} (present : S → Present W) (stands : S → M → Pres
   represents_stands now.Answering e s r = r
   represents_stands (now.Running place) e s r = r
   represents_stands now.Raising e s r = r
-  represents_stands (now.Spent limit) e s r = stopped_here present stands older e r.search s r.state.around (keeps_all present stands older e r.search r.engine)
+  represents_stands (now.Spent limit) e s r = stopped_here present stands older e r.search s r.state (keeps_all present stands older e r.search r.engine)
 
   -- a spent engine
   pub spent_stands : (limit : Limit) (n : Now) (e : Plain S W M) (s : State) → phase_of n ≡ engines.Spent limit → Stopped present stands older e s → StandsBy present stands older n e s

@@ -12,7 +12,7 @@ use Rattle.iso_plain.specs.declared.parts.Now.{Now}
 use Rattle.iso_plain.specs.declared.parts.Now.TheVariants as now
 use Rattle.iso_plain.specs.declared.plain.Move.TheVariants as move
 use Rattle.iso_plain.specs.declared.plain.Plain.{Plain}
-use Rattle.iso_plain.specs.Linked.{Linked, Choice, Doing, Failing, Does, idle_linked, with_choice}
+use Rattle.iso_plain.specs.Linked.{Linked, Choice, Doing, Failing, idle_linked, with_choice}
 use Rattle.iso_plain.specs.Standing.{DoesNext}
 use Rattle.iso_plain.specs.Programs.{IsWorld}
 use Rattle.iso_plain.specs.Next.{now_entered}
@@ -48,16 +48,13 @@ module _ {S W M : Type 0} (present : S → Present W) (stands : S → M → Pres
   failing e l is engine =
       subst (λ (n : Now). DoesNext (present e.store) e.frames.items e.query.items n (option_map (λ b. term_of b.term) e.raised) l) is engine.next
 
-  does_fail : (e : Plain S W M) (s : State) (r : Represents present stands older e s) → e.now ≡ now.Failing → Does Failing s.list
-  does_fail e s r is = subst (λ (d : Doing). Does d s.list) (failing e r.search is r.engine) r.state.list
-
   -- no choice is left: the run ends
   pub ends_run : (e new : Plain S W M) (s : State) (r : Represents present stands older e s) → e.now ≡ now.Failing → length e.choices.items ≡ 0
       → ((w : World) → IsWorld e w → IsEngine present stands older new (idle_linked w)) → new.now ≡ now.Idle
       → Moves present stands older (move.Pauses pause.NoMore) s new
   ends_run e new s r is none idles rests =
       let l = r.search in
-      let f = fails_last l s r.state.around (does_fail e s r is) (no_choices (no_items e.choices.items none) r.engine.choices) in
+      let f = fails_last l s r.state (failing e l is r.engine) (no_choices (no_items e.choices.items none) r.engine.choices) in
       let here : Represents present stands older new (idle f.world) = record { search = idle_linked l.world; engine = idles l.world r.engine.world; state = f.stands } in (
         record {
           at = f.at;
@@ -74,10 +71,10 @@ module _ {S W M : Type 0} (present : S → Present W) (stands : S → M → Pres
       → e.now ≡ now.Failing → r.search.stack ≡ k ∷ below → k.clauses ≡ c ∷ cs
       → Tried present stands older new (record r.search { subst = k.subst; next = k.next; stack = below }) k.call c cs k.behind → IsAwake (phase_of new.now) → Moves present stands older move.Goes s new
   tries_on e new s r k below c cs is stack clauses (inl (never, engine)) awake =
-      let o = retries_missed r.search s k below c cs r.state.around (does_fail e s r is) stack clauses never in
+      let o = retries_missed r.search s k below c cs r.state (failing e r.search is r.engine) stack clauses never in
       (o.new, o.quiet, record { search = _; engine = engine; state = o.is }, awake)
   tries_on e new s r k below c cs is stack clauses (inr (u, unifies, engine)) awake =
-      let o = retries_entered r.search s k below c cs u r.state.around (does_fail e s r is) stack clauses unifies in
+      let o = retries_entered r.search s k below c cs u r.state (failing e r.search is r.engine) stack clauses unifies in
       (o.new, o.quiet, record { search = _; engine = engine; state = o.is }, awake)
 
   -- it was refused
@@ -85,7 +82,7 @@ module _ {S W M : Type 0} (present : S → Present W) (stands : S → M → Pres
       → e.now ≡ now.Failing → r.search.stack ≡ k ∷ below → k.clauses ≡ c ∷ cs → Keeps present stands older new r.search.world (with_choice k.call cs k.behind k.subst k.next below)
       → Stopped present stands older new s
   stops_on e new s r k below c cs is stack clauses keeps =
-      stopped_by present stands older new r.search s _ r.state.around (retries_halfway r.search s k below c cs r.state.around (does_fail e s r is) stack clauses) keeps
+      stopped_by present stands older new r.search s _ r.state (retries_halfway r.search s k below c cs r.state (failing e r.search is r.engine) stack clauses) keeps
 
   -- What the clause at the newest choice is tried for, from the search before.
   pub record Retries (went left : Plain S W M) (c : kept.Choice W M) (l : Linked) : Type 0 where

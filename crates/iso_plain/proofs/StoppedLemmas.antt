@@ -1,5 +1,6 @@
 -- What a spent engine stands for.
 use Rattle.std.proofs.Common.{◌≡◌, ℕ, List, [], ◌∷◌, refl, ap, ap₂, sym, ◌∙◌, subst, inl, inr, ◌⊎◌, Vec, Global, Result, Ok, Err, OnErr}
+use Rattle.iso_model.specs.Terms.Variables.{variables}
 use Rattle.iso_ops.specs.Operators.{Operator}
 use Rattle.iso_ops.specs.declared.settings.Flags.{Flags}
 use Rattle.iso_model.specs.Terms.Trees.{Tree}
@@ -14,10 +15,10 @@ use Rattle.iso_plain.specs.declared.plain.Plain.{Plain}
 use Rattle.iso_plain.specs.Entering.{AddsFrames}
 use Rattle.iso_plain.specs.Standing.{none_kept}
 use Rattle.iso_plain.specs.Starts.{IsFresh}
-use Rattle.iso_plain.specs.Linked.{Linked, Choice, IsAround}
+use Rattle.iso_plain.specs.Linked.{Linked, Choice, IsState}
 use Rattle.iso_plain.specs.Programs.{IsWorld}
 use Rattle.iso_plain.specs.EngineStates.{IsEngine, Represents, Keeps, Stopped, settings_of, settings_in}
-use Rattle.iso_plain.proofs.LinkedMoves.{Halfway}
+use Rattle.iso_plain.proofs.LinkedMoves.{world_is, Halfway, halfway_here}
 use Rattle.iso_plain.proofs.StandingLemmas.{choices_more, choices_keep}
 use Rattle.iso_plain.proofs.EngineLemmas.{base_kept}
 
@@ -33,7 +34,7 @@ module _ {S W M : Type 0} (present : S → Present W) (stands : S → M → Pres
 
   -- the parts of an engine that is awake
   pub keeps_all : (e : Plain S W M) (l : Linked) → IsEngine present stands older e l → Keeps present stands older e l.world l.stack
-  keeps_all e l is = (is.world, is.base, (l.query, is.choices))
+  keeps_all e l is = (is.world, is.base, (variables l.query, is.choices))
 
   -- those of one that was cleared
   pub keeps_none : (e : Plain S W M) (w : World) → IsFresh present stands older e w → Keeps present stands older e w []
@@ -51,19 +52,19 @@ module _ {S W M : Type 0} (present : S → Present W) (stands : S → M → Pres
       (k.0, base_kept present stands older (stands e.store) (stands store) e.base keeps k.1, (k.2.0, choices_keep (λ d p among stood. keeps d.mark p stood) k.2.1))
 
   -- the search came halfway to where the engine stopped
-  pub stopped_by : (e : Plain S W M) (l : Linked) (s : State) (choices : List Choice) → IsAround l s → Halfway l s choices → Keeps present stands older e l.world choices → Stopped present stands older e s
+  pub stopped_by : (e : Plain S W M) (l : Linked) (s : State) (choices : List Choice) → IsState l s → Halfway l s choices → Keeps present stands older e l.world choices → Stopped present stands older e s
   stopped_by e l s choices at h keeps = record {
     at = h.at;
     quiet = h.quiet;
     choices = choices;
     keeps = subst (λ (w : World). Keeps present stands older e w choices) (sym h.world) keeps;
-    alternatives = inl h.stack;
-    settings = world_settings e l.world keeps.0 ∙ ap settings_in (sym at.world);
+    alternatives = inl (h.named, h.stack);
+    settings = world_settings e l.world keeps.0 ∙ ap settings_in (sym (world_is l s at));
   }
 
   -- it stopped where it was
-  pub stopped_here : (e : Plain S W M) (l : Linked) (s : State) → IsAround l s → Keeps present stands older e l.world l.stack → Stopped present stands older e s
-  stopped_here e l s at keeps = stopped_by e l s l.stack at (record { at = s; quiet = here; stack = at.stack; world = at.world }) keeps
+  pub stopped_here : (e : Plain S W M) (l : Linked) (s : State) → IsState l s → Keeps present stands older e l.world l.stack → Stopped present stands older e s
+  stopped_here e l s at keeps = stopped_by e l s l.stack at (halfway_here l s at) keeps
 
   -- no goal was started
   pub stopped_before : (e : Plain S W M) (s : State) → Keeps present stands older e s.world [] → Stopped present stands older e s

@@ -2,6 +2,8 @@
 use Rattle.std.specs.Prelude.{◌≡◌, ℕ, zero, suc, ◌+◌, ◌*◌, ◌-◌, ◌<◌, ◌≤◌, List, [], ◌∷◌, length, take, drop, Some, option_map, true, ◌⊎◌}
 use Rattle.std.specs.List.{slice_get}
 use Rattle.iso_model.specs.Terms.Trees.{Tree, Variable}
+use Rattle.iso_model.specs.Terms.Variables.{variables}
+use Rattle.iso_model.specs.Search.RunLaws.Sameness.{SameStack}
 use Rattle.iso_model.specs.Terms.TermOf.{term_of}
 use Rattle.iso_model.specs.Terms.Substitutions.{Subst, apply, compose}
 use Rattle.iso_model.specs.Terms.Unifiers.{Unifier, NeverEqual}
@@ -16,7 +18,7 @@ use Rattle.iso_model.specs.Search.Engines.{Phase, Ready, Midway, IsAwake}
 use Rattle.iso_model.specs.declared.pauses.Pause.TheVariants as pause
 use Rattle.iso_model.specs.declared.limit.Limit.TheVariants as limit
 use Rattle.iso_store.specs.Presents.{Present}
-use Rattle.iso_plain.specs.Linked.{Linked, Choice, AreChoices, IsState, with_choice, linked_missed, linked_entered}
+use Rattle.iso_plain.specs.Linked.{Linked, Choice, alternatives_of, IsState, with_choice, linked_missed, linked_entered}
 use Rattle.iso_plain.specs.Standing.{Among, Chain, AreVariables, StandsForChoices, HaveRoom, DoesNext, most_numbers, numbers_a_step}
 use Rattle.iso_plain.specs.Programs.{IsWorld}
 use Rattle.iso_plain.specs.declared.procedures.Procedure.{Procedure}
@@ -63,7 +65,7 @@ module _ {S W M : Type 0} (present : S → Present W) (stands : S → M → Pres
     pub world : IsWorld e l.world
     pub steps : l.steps ≡ e.steps
     pub base : IsBase (stands e.store) e.base
-    pub choices : StandsForChoices (stands e.store) older e.base (left_at l.world.database.procedures) e.query.items l.query e.frames.items e.choices.items l.stack
+    pub choices : StandsForChoices (stands e.store) older e.base (left_at l.world.database.procedures) e.query.items (variables l.query) e.frames.items e.choices.items l.stack
     pub room : HaveRoom e.steps l.stack
     pub next : DoesNext (present e.store) e.frames.items e.query.items e.now (option_map (λ b. term_of b.term) e.raised) l
 
@@ -86,7 +88,7 @@ module _ {S W M : Type 0} (present : S → Present W) (stands : S → M → Pres
     pub quiet : Quiet s at
     pub choices : List Choice
     pub keeps : Keeps e at.world choices
-    pub alternatives : AreChoices choices at.stack ⊎ (choices ≡ [])
+    pub alternatives : ((named : List ℕ) × SameStack named (variables at.query) (alternatives_of choices) at.stack) ⊎ (choices ≡ [])
     pub settings : settings_of e ≡ settings_in s.world
 
   abbrev pub StandsBy : Now → Plain S W M → State → Type 0
@@ -106,7 +108,7 @@ module _ {S W M : Type 0} (present : S → Present W) (stands : S → M → Pres
     pub world : IsWorld e l.world
     pub steps : l.steps ≡ e.steps
     pub base : IsBase (stands e.store) e.base
-    pub choices : StandsForChoices (stands e.store) older e.base (left_at l.world.database.procedures) e.query.items l.query e.frames.items e.choices.items (with_choice call cs behind l.subst l.next l.stack)
+    pub choices : StandsForChoices (stands e.store) older e.base (left_at l.world.database.procedures) e.query.items (variables l.query) e.frames.items e.choices.items (with_choice call cs behind l.subst l.next l.stack)
     pub room : HaveRoom e.steps (with_choice call cs behind l.subst l.next l.stack)
     pub space : l.next + numbers_a_step * (e.steps + 1) ≤ most_numbers
     pub subst : (present e.store).substitution ≡ l.subst
@@ -114,7 +116,7 @@ module _ {S W M : Type 0} (present : S → Present W) (stands : S → M → Pres
     pub holds : (present e.store).holds attempt.goal ≡ true
     pub call_is : (present e.store).term attempt.goal ≡ call
     pub links : Chain (present e.store) e.frames.items attempt.rest behind
-    pub variables : AreVariables (present e.store) e.query.items l.query
+    pub variables : AreVariables (present e.store) e.query.items (variables l.query)
     pub clauses : left_at l.world.database.procedures attempt.procedure attempt.clause ≡ c ∷ cs
 
   -- The clause was tried: its head had no unifier with the call, or the engine goes on behind it.
@@ -170,7 +172,7 @@ module _ {S W M : Type 0} (present : S → Present W) (stands : S → M → Pres
     pub world : IsWorld e l.world
     pub steps : l.steps ≡ e.steps
     pub base : IsBase (stands e.store) e.base
-    pub choices : StandsForChoices (stands e.store) older e.base (left_at l.world.database.procedures) e.query.items l.query e.frames.items e.choices.items l.stack
+    pub choices : StandsForChoices (stands e.store) older e.base (left_at l.world.database.procedures) e.query.items (variables l.query) e.frames.items e.choices.items l.stack
     pub room : HaveRoom e.steps l.stack
     pub space : l.next + numbers_a_step * (e.steps + 1) ≤ most_numbers
     pub subst : (present e.store).substitution ≡ l.subst
@@ -178,7 +180,7 @@ module _ {S W M : Type 0} (present : S → Present W) (stands : S → M → Pres
     pub holds : (present e.store).holds attempt.goal ≡ true
     pub call_is : (present e.store).term attempt.goal ≡ call
     pub links : Chain (present e.store) e.frames.items attempt.rest behind
-    pub variables : AreVariables (present e.store) e.query.items l.query
+    pub variables : AreVariables (present e.store) e.query.items (variables l.query)
     pub clauses : left_at l.world.database.procedures attempt.procedure attempt.clause ≡ c ∷ cs
 
   -- The engine went back to its newest choice, which is still there.
@@ -196,10 +198,10 @@ module _ {S W M : Type 0} (present : S → Present W) (stands : S → M → Pres
     pub links : Chain (present e.store) e.frames.items c.attempt.rest k.behind
     pub clauses : k.clauses ≡ left_at l.world.database.procedures c.attempt.procedure c.attempt.clause
     pub some : 0 < length k.clauses
-    pub variables : AreVariables (present e.store) e.query.items l.query
+    pub words : AreVariables (present e.store) e.query.items (variables l.query)
     pub newer_base : older e.base c.mark
     pub newer : (d : kept.Choice W M) → Among d (take (length e.choices.items - 1) e.choices.items) → older d.mark c.mark
-    pub stands_below : StandsForChoices (stands e.store) older e.base (left_at l.world.database.procedures) e.query.items l.query e.frames.items (take (length e.choices.items - 1) e.choices.items) below
+    pub stands_below : StandsForChoices (stands e.store) older e.base (left_at l.world.database.procedures) e.query.items (variables l.query) e.frames.items (take (length e.choices.items - 1) e.choices.items) below
     pub room : HaveRoom e.steps (k ∷ below)
 
   -- what a call comes to: the first clause was tried, or the engine is spent since no choice may be made any more

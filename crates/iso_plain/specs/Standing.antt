@@ -2,6 +2,7 @@
 use Rattle.std.specs.Prelude.{◌≡◌, ℕ, ◌+◌, ◌*◌, ◌-◌, ◌≤◌, ◌<◌, List, [], ◌∷◌, ◌++◌, length, take, Option, Some, None, true, ◌⊎◌}
 use Rattle.std.specs.List.{slice_get}
 use Rattle.iso_model.specs.Terms.Trees.{Tree, Variable}
+use Rattle.iso_model.specs.Terms.Variables.{variables}
 use Rattle.iso_model.specs.Search.Databases.{Clause}
 use Rattle.iso_store.specs.Presents.{Present}
 use Rattle.iso_plain.specs.Callable.{IsGoal}
@@ -82,7 +83,7 @@ pub record Goes {W : Type 0} (p : Present W) (query : List W) (l : Linked) : Typ
   pub subst : p.substitution ≡ l.subst
   pub next : p.next ≡ l.next
   pub room : l.next + numbers_a_step * l.steps ≤ most_numbers
-  pub words : AreVariables p query l.query
+  pub words : AreVariables p query (variables l.query)
 
 -- What comes next, as the engine has it.
 abbrev pub DoesNext : {W : Type 0} → Present W → List (Frame W) → List W → Now → Option Tree → Linked → Type 0

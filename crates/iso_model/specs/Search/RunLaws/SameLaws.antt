@@ -1,11 +1,11 @@
 -- The same in both directions, and one after the other.
-use Rattle.std.proofs.Common.{◌≡◌, ℕ, List, [], ◌∷◌, refl, sym, ap, ◌∙◌, arith}
+use Rattle.std.proofs.Common.{suc, length, ◌≡◌, ℕ, List, [], ◌∷◌, refl, sym, ap, ◌∙◌, arith}
 use Rattle.iso_model.specs.Terms.Substitutions.{Subst}
 use Rattle.iso_model.specs.Search.Bodies.{Body, Run, And}
 use Rattle.iso_model.specs.Search.Walker.{State, Member, Goal, Fail, Raise, Alternative}
 use Rattle.iso_model.specs.Search.RunLaws.Sameness.{put, flat, SameList, no_member, same_goal, same_failure, same_ball, Agree, SameStack, no_alternative, same_alternative, Beside, Same, going, failing}
 
-list_back : {r q : Subst} {ms ns : List Member} → SameList r q ms ns → SameList q r ns ms
+pub list_back : {r q : Subst} {ms ns : List Member} → SameList r q ms ns → SameList q r ns ms
 list_back no_member = no_member
 list_back (same_goal same others) = same_goal (sym same) (list_back others)
 list_back same_failure = same_failure
@@ -70,3 +70,13 @@ same_on s t u (going at list) (going at' list') =
 same_on s t u (going at list) (failing ms ns is are h) = let first = failing_left s t ms list is in failing first.0 ns first.1 are (beside_on at.beside h)
 same_on s t u (failing ms ns is are h) (going at list) = let last = failing_left u t ns (list_back list) are in failing ms last.0 is last.1 (beside_on h at.beside)
 same_on s t u (failing ms ns is are h) (failing ms' ns' is' are' h') = failing ms ns' is are' (beside_on h h')
+
+-- ---- what the same states have in common
+
+pub same_beside : (s t : State) → Same s t → Beside s t
+same_beside s t (going at list) = at.beside
+same_beside s t (failing ms ns is are h) = h
+
+pub stack_length : {vs ws : List ℕ} {xs ys : List Alternative} → SameStack vs ws xs ys → length xs ≡ length ys
+stack_length no_alternative = refl
+stack_length (same_alternative agree next list left others) = ap suc (stack_length others)

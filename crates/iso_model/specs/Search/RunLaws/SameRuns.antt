@@ -89,12 +89,12 @@ same_goes u v s first h same =
     let k = after_go (subst (λ (o : Outcome). SameOut o (step (opened s))) h (same_out u s first same)) in
     (k.0, onward (opens s) k.1, k.2)
 
-pub same_gives : (u v s : State) (e : Event) → Open u.list → step u ≡ Gives e v → Same u s → Comes s e (Same v)
-same_gives u v s e first h same =
+pub same_gives : (u v s : State) (e : Event) (P : State → Type 0) → Open u.list → step u ≡ Gives e v → ((t : State) → Same v t → P t) → Same u s → Comes s e P
+same_gives u v s e P first h stands same =
     let k = after_give (subst (λ (o : Outcome). SameOut o (step (opened s))) h (same_out u s first same)) in
-    record { at = opened s; new = k.0; quiet = opens s; last = k.1; stands = k.2 }
+    record { at = opened s; new = k.0; quiet = opens s; last = k.1; stands = stands k.0 k.2 }
 
-pub same_ends : (u s : State) (e : Ending) (w : World) → Open u.list → step u ≡ Ends e w → Same u s → Finishes s e (λ t. t ≡ idle w)
-same_ends u s e w first h same =
+pub same_ends : (u s : State) (e : Ending) (w : World) (P : State → Type 0) → Open u.list → step u ≡ Ends e w → P (idle w) → Same u s → Finishes s e P
+same_ends u s e w P first h stands same =
     let k = after_end (subst (λ (o : Outcome). SameOut o (step (opened s))) h (same_out u s first same)) in
-    record { at = opened s; world = w; quiet = opens s; last = k; stands = refl }
+    record { at = opened s; world = w; quiet = opens s; last = k; stands = stands }

@@ -67,13 +67,13 @@ put_same : {r : Subst} {ms ns : List Member} (b : Body) (mark : ℕ) → SameLis
 put_same (Run t) mark others = same_goal refl others
 put_same (And a b) mark others = put_same a mark (put_same b mark others)
 
-list_same : {r : Subst} (ms : List Member) → SameList r r (flat ms) (flat ms)
+pub list_same : {r : Subst} (ms : List Member) → SameList r r (flat ms) (flat ms)
 list_same [] = no_member
 list_same (Goal b mark ∷ ms) = put_same b mark (list_same ms)
 list_same (Fail ∷ ms) = same_failure
 list_same (Raise ball ∷ ms) = same_ball
 
-stack_same : (vs : List ℕ) (xs : List Alternative) → SameStack vs vs xs xs
+pub stack_same : (vs : List ℕ) (xs : List Alternative) → SameStack vs vs xs xs
 stack_same vs [] = no_alternative
 stack_same vs (a ∷ xs) = same_alternative (record { shown = refl; beyond = λ x more. refl }) refl (list_same a.list) refl (stack_same vs xs)
 
@@ -160,7 +160,7 @@ run_same s t ms ns (Some k) v at list = selected_same s t ms ns (built_in k) k v
 run_same s t ms ns None v at list = both_go (fails_same at.beside)
 
 -- with as many steps left
-steps_same : {s t : State} (n : ℕ) → Same s t → Same (record s { steps = n }) (record t { steps = n })
+pub steps_same : {s t : State} (n : ℕ) → Same s t → Same (record s { steps = n }) (record t { steps = n })
 steps_same n (going at list) = going (record { agree = at.agree; next = at.next; beside = record { stack = at.beside.stack; world = at.beside.world; steps = refl } }) list
 steps_same n (failing ms ns first second h) = failing ms ns first second (record { stack = h.stack; world = h.world; steps = refl })
 

@@ -8,4 +8,4 @@ returns-clause-moves g c = λ s r.
 
 pub returns-in_err-values-clause-stopped : goal.returns-in_err-values-clause-stopped
 returns-in_err-values-clause-stopped g c = λ s r.
-    behind_error c.from_residual.result (stopped_here g.S.Store.present g.S.Store.stands g.S.Store.older c.args.self.now r.search s r.state.around (keeps_all g.S.Store.present g.S.Store.stands g.S.Store.older c.args.self.now r.search r.engine))
+    behind_error c.from_residual.result (stopped_here g.S.Store.present g.S.Store.stands g.S.Store.older c.args.self.now r.search s r.state (keeps_all g.S.Store.present g.S.Store.stands g.S.Store.older c.args.self.now r.search r.engine))

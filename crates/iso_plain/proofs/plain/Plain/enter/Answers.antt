@@ -1,4 +1,5 @@
 use Rattle.std.proofs.Common.{arith}
+use Rattle.iso_model.specs.Terms.Variables.{variables}
 use Rattle.iso_plain.proofs.StoppedLemmas.{behind_error}
 use Rattle.iso_plain.proofs.KeptLemmas.{kept_at, can_be_entered}
 use Rattle.iso_plain.proofs.EngineLemmas.{base_kept, choices_on, tried_engine}
@@ -55,5 +56,5 @@ returns-in_err-entered-clause-kept g c = λ l call k ks gs t.
     behind_error c.from_residual.result (
       t.world,
       base_kept g.S.Store.present g.S.Store.stands g.S.Store.older (g.S.Store.stands c.args.self.now.store) (g.S.Store.stands c.enter.new.store) c.args.self.now.base c.in_err-entered.ensures.marks t.base,
-      (l.query, choices_on g.S.Store.present g.S.Store.stands g.S.Store.older c.args.self.now c.args.attempt l call k ks gs c.enter.new.store c.enter.new.frames t c.in_err-entered.ensures.marks c.in_err-entered.ensures.frames),
+      (variables l.query, choices_on g.S.Store.present g.S.Store.stands g.S.Store.older c.args.self.now c.args.attempt l call k ks gs c.enter.new.store c.enter.new.frames t c.in_err-entered.ensures.marks c.in_err-entered.ensures.frames),
     )

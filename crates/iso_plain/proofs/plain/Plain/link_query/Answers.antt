@@ -59,7 +59,7 @@ returns-clause-started g c = λ w fresh.
     let links : Links (g.S.Store.present c.new_variables.new.store) c.args.self.now.frames.items None q c.link.new.frames.items c.in_ok-first.first (leaves b) =
     subst (λ (ts : List Tree). Links (g.S.Store.present c.new_variables.new.store) c.args.self.now.frames.items None q c.link.new.frames.items c.in_ok-first.first ts) first_is (c.in_ok-first.ensures.links p.next here) in
     let goals : AreGoals (leaves b) = query_callable query b c.requires.goals.1 (meaning_is_term c.args.query.now ∙ c.requires.fits) in
-    let l : Linked = record { doing = Running (leaves b); subst = Variable; next = variable_count query; query = variables query; stack = []; world = asked w; steps = steps } in
+    let l : Linked = record { doing = Running (leaves b); subst = Variable; next = variable_count query; query = query; stack = []; world = asked w; steps = steps } in
     record {
       search = l;
       engine = record {

@@ -1,4 +1,5 @@
 use Rattle.std.proofs.Common.{◌≡◌, ◌+◌, length, arith, refl}
+use Rattle.iso_model.specs.Terms.Variables.{variables}
 use Rattle.iso_plain.proofs.StandingLemmas.{choices_keep}
 use Rattle.iso_plain.proofs.EngineLemmas.{base_kept}
 use Rattle.iso_plain.proofs.StoppedLemmas.{behind_error}
@@ -37,5 +38,5 @@ returns-in_err-push-clause-kept g c = λ l call k ks gs t.
     behind_error c.from_residual.result (
       t.world,
       base_kept g.S.Store.present g.S.Store.stands g.S.Store.older (g.S.Store.stands c.args.self.now.store) (g.S.Store.stands c.mark-mark.new.self) c.args.self.now.base c.mark-mark.ensures.marks t.base,
-      (l.query, rw c.in_err-push.ensures.items (choices_keep (λ d p among stood. c.mark-mark.ensures.marks d.mark p stood) t.choices)),
+      (variables l.query, rw c.in_err-push.ensures.items (choices_keep (λ d p among stood. c.mark-mark.ensures.marks d.mark p stood) t.choices)),
     )

@@ -17,7 +17,7 @@ returns-clause-started g c = λ w fresh.
     let error = type_error_callable goal (key (codes "call") 1) in
     let ball : term_of c.in_ok-ball.ball.term ≡ error = c.in_ok-ball.ensures ∙ ap (λ t. type_error_callable t (key (codes "call") 1)) c.in_ok-culprit.ensures in
     record {
-      search = record { doing = Raising error; subst = Variable; next = variable_count goal; query = variables goal; stack = []; world = asked w; steps = c.args.self.now.steps };
+      search = record { doing = Raising error; subst = Variable; next = variable_count goal; query = goal; stack = []; world = asked w; steps = c.args.self.now.steps };
       engine = record {
         world = record { procedures_are = fresh.world.procedures_are; operators_are = fresh.world.operators_are; flags_are = fresh.world.flags_are };
         steps = refl;

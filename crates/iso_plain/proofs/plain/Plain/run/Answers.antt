@@ -118,12 +118,12 @@ returns-in-User-clause-frames g c = λ s r.
 
 pub returns-in_err-called-clause-stopped : goal.returns-in_err-called-clause-stopped
 returns-in_err-called-clause-stopped g c = λ s r.
-    behind_error c.from_residual.result (stopped_here g.S.Store.present g.S.Store.stands g.S.Store.older c.args.self.now r.search s r.state.around (keeps_all g.S.Store.present g.S.Store.stands g.S.Store.older c.args.self.now r.search r.engine))
+    behind_error c.from_residual.result (stopped_here g.S.Store.present g.S.Store.stands g.S.Store.older c.args.self.now r.search s r.state (keeps_all g.S.Store.present g.S.Store.stands g.S.Store.older c.args.self.now r.search r.engine))
 
 pub returns-in_err-equal-in-Unify-clause-stopped : goal.returns-in_err-equal-in-Unify-clause-stopped
 returns-in_err-equal-in-Unify-clause-stopped g c = λ s r.
     behind_error c.from_residual-in_err-equal-in-Unify.result
-    (stopped_here g.S.Store.present g.S.Store.stands g.S.Store.older (record c.args.self.now { store = c.equate.new.store; steps = c.args.self.now.steps - 1 }) r.search s r.state.around
+    (stopped_here g.S.Store.present g.S.Store.stands g.S.Store.older (record c.args.self.now { store = c.equate.new.store; steps = c.args.self.now.steps - 1 }) r.search s r.state
     (keeps_store g.S.Store.present g.S.Store.stands g.S.Store.older c.args.self.now c.equate.new.store r.search.world r.search.stack (keeps_all g.S.Store.present g.S.Store.stands g.S.Store.older c.args.self.now r.search r.engine) c.in_err-equal-in-Unify.ensures.marks))
 
 pub returns-in-User-clause-stopped : goal.returns-in-User-clause-stopped
