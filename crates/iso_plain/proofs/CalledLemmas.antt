@@ -1,5 +1,5 @@
 -- What a goal calls, by its name and arity.
-use Rattle.std.proofs.Common.{◌≡◌, ℕ, ◌<◌, List, [], ◌∷◌, length, Bool, true, false, ◌&&◌, ◌==◌, nat_le, Option, Some, refl, ap, sym, ◌∙◌, subst, arith, codes, ◌⊎◌, inl, inr, IfOk, Result, Ok, Err}
+use Rattle.std.proofs.Common.{◌≡◌, ℕ, ◌<◌, List, [], ◌∷◌, length, Bool, true, false, ◌&&◌, ◌==◌, nat_le, Some, refl, ap, sym, ◌∙◌, arith, codes, ◌⊎◌, inl, inr, IfOk, Result, Ok, Err}
 use Rattle.std.specs.Str.{bytes_eq}
 use Rattle.std.proofs.lemmas.Bool.{cases_Bool, eqb-true}
 use Rattle.iso_ops.specs.Operators.{Operator}
@@ -7,9 +7,9 @@ use Rattle.iso_ops.specs.declared.settings.Flags.{Flags}
 use Rattle.iso_model.specs.Terms.Trees.{Tree, Variable, Integer, Name, Apply, End, More, count}
 use Rattle.iso_model.specs.Terms.Sorts.{is_term, is_row}
 use Rattle.iso_model.specs.Terms.Substitutions.{Subst, apply}
-use Rattle.iso_model.specs.Search.Bodies.{two}
 use Rattle.iso_model.specs.Search.Databases as databases
 use Rattle.iso_model.specs.Search.Databases.{Key, Procedures, key, key_of, same_key, clauses_at}
+use Rattle.iso_model.specs.Terms.Arguments.{arity}
 use Rattle.iso_model.specs.Search.BuiltIns.{built_in, built_in_among}
 use Rattle.iso_model.specs.declared.built_ins.BuiltIn.{BuiltIn}
 use Rattle.iso_model.specs.declared.built_ins.BuiltIn.TheVariants.{True, Fail, Unify}
@@ -22,8 +22,6 @@ use Rattle.iso_plain.specs.declared.calls.Called.TheVariants as call
 use Rattle.iso_plain.specs.Programs.{IsDatabase, KeepsWorld, has_key, place_at, AreClauses, no_clauses, more_clauses, no_procedures, more_procedures}
 use Rattle.iso_plain.specs.EngineStates.{left_at}
 use Rattle.iso_plain.specs.Called.{IsNamed, IsCalled, IsBuiltIn}
-use Rattle.iso_plain.specs.Equations.{IsEquation}
-use Rattle.iso_plain.specs.Callable.{IsGoal}
 use Rattle.iso_plain.proofs.ProgramLemmas.{found_procedure, no_procedure, found_cases, same_test}
 
 some_same : {X : Type 0} {x y : X} → Some x ≡ Some y → x ≡ y
@@ -46,26 +44,7 @@ key_kept s (Apply f ts) k is h = ap (λ (n : ℕ). Some (key f n)) (count-apply 
 key_kept s End k is h = absurd cc
 key_kept s (More t ts) k is h = absurd cc
 
--- ---- equations
-
--- a compound of two arguments
-two_arguments : (f : List ℕ) (ts : Tree) → is_row ts ≡ true → count ts ≡ 2 → (a b : Tree) × (Apply f ts ≡ two f a b)
-two_arguments f (Variable n) h many = absurd cc
-two_arguments f (Integer z) h many = absurd cc
-two_arguments f (Name g) h many = absurd cc
-two_arguments f (Apply g us) h many = absurd cc
-two_arguments f End h many = absurd (omega (arith, many))
-two_arguments f (More a (Variable n)) h many = absurd (cc ((both_of (is_term a) false h).1))
-two_arguments f (More a (Integer z)) h many = absurd (cc ((both_of (is_term a) false h).1))
-two_arguments f (More a (Name g)) h many = absurd (cc ((both_of (is_term a) false h).1))
-two_arguments f (More a (Apply g us)) h many = absurd (cc ((both_of (is_term a) false h).1))
-two_arguments f (More a End) h many = absurd (omega (arith, many))
-two_arguments f (More a (More b End)) h many = (a, b, refl)
-two_arguments f (More a (More b (More d us))) h many = absurd (omega (arith, many))
-two_arguments f (More a (More b (Variable n))) h many = absurd (cc ((both_of (is_term b) false (both_of (is_term a) (is_row (More b (Variable n))) h).1).1))
-two_arguments f (More a (More b (Integer z))) h many = absurd (cc ((both_of (is_term b) false (both_of (is_term a) (is_row (More b (Integer z))) h).1).1))
-two_arguments f (More a (More b (Name g))) h many = absurd (cc ((both_of (is_term b) false (both_of (is_term a) (is_row (More b (Name g))) h).1).1))
-two_arguments f (More a (More b (Apply g us))) h many = absurd (cc ((both_of (is_term b) false (both_of (is_term a) (is_row (More b (Apply g us))) h).1).1))
+-- ---- built-ins and their arguments
 
 same_arity : (a b : Key) → same_key a b ≡ true → a.arity ≡ b.arity
 same_arity a b h = eqb-true a.arity b.arity (both_of (a.arity == b.arity) (bytes_eq a.name b.name) h).0
@@ -91,20 +70,17 @@ unify_arity k h =
       ])
     ]
 
-pub equation_of : (t : Tree) → is_term t ≡ true → IsBuiltIn t Unify → (a b : Tree) × IsEquation t a b
-equation_of (Variable n) is h = absurd (let e = h.named in cc e)
-equation_of (Integer z) is h = absurd (let e = h.named in cc e)
-equation_of (Name f) is h =
+pub unify_arguments : (v : Tree) → IsBuiltIn v Unify → arity v ≡ 2
+unify_arguments (Variable n) h = absurd (let e = h.named in cc e)
+unify_arguments (Integer z) h = absurd (let e = h.named in cc e)
+unify_arguments (Name f) h =
     let same : key f 0 ≡ h.key = some_same h.named in
-    let many : 0 ≡ 2 = ap (λ (k : Key). k.arity) same ∙ unify_arity h.key h.found in
-    absurd (omega (arith, many))
-equation_of (Apply f ts) is h =
+    ap (λ (k : Key). k.arity) same ∙ unify_arity h.key h.found
+unify_arguments (Apply f ts) h =
     let same : key f (count ts) ≡ h.key = some_same h.named in
-    let many : count ts ≡ 2 = ap (λ (k : Key). k.arity) same ∙ unify_arity h.key h.found in
-    let parts = two_arguments f ts (row_of_goal f ts is) many in
-    (parts.0, parts.1, record { name = f; is = parts.2; equates = h })
-equation_of End is h = absurd (let e = h.named in cc e)
-equation_of (More t ts) is h = absurd (let e = h.named in cc e)
+    ap (λ (k : Key). k.arity) same ∙ unify_arity h.key h.found
+unify_arguments End h = absurd (let e = h.named in cc e)
+unify_arguments (More t ts) h = absurd (let e = h.named in cc e)
 
 -- ---- the clauses at a place
 
@@ -154,11 +130,8 @@ named_calls ps ops flags w t k call.Fails is named h =
 named_calls ps ops flags w t k (call.Unknown ball) is named h =
     (k, record { named = named; none = h.0 }, no_procedure k is.procedures_are h.1, ap (λ (f : Flags). f.unknown) (sym is.flags_are) ∙ h.2, h.3)
 
-key_by : (s : Subst) (t : Tree) (k : Key) → IsGoal t → key_of (apply s t) ≡ Some k → key_of t ≡ Some k
-key_by s t k goal h = goal.key.1 ∙ (sym (key_kept s t goal.key.0 goal.is goal.key.1) ∙ h)
-
 -- The goal that bindings have given this name and arity calls what these call.
-pub calls_shown : {E : Type 0} (ps : List Procedure) (ops : List Operator) (flags : Flags) (w : World) (s : Subst) (t : Tree) (k : Key) (r : Result Called E) → KeepsWorld ps ops flags w → IsGoal t → key_of (apply s t) ≡ Some k
-    → IfOk r (IsNamed ps flags k) → IfOk r (IsCalled ps w t)
-calls_shown ps ops flags w s t k (Ok c) is goal shown named = named_calls ps ops flags w t k c is (key_by s t k goal shown) named
-calls_shown ps ops flags w s t k (Err e) is goal shown named = tt
+pub calls_shown : {E : Type 0} (ps : List Procedure) (ops : List Operator) (flags : Flags) (w : World) (v : Tree) (k : Key) (r : Result Called E) → KeepsWorld ps ops flags w → key_of v ≡ Some k
+    → IfOk r (IsNamed ps flags k) → IfOk r (IsCalled ps w v)
+calls_shown ps ops flags w v k (Ok c) is shown named = named_calls ps ops flags w v k c is shown named
+calls_shown ps ops flags w v k (Err e) is shown named = tt

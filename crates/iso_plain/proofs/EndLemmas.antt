@@ -13,7 +13,7 @@ use Rattle.iso_plain.specs.declared.parts.Now.{Now}
 use Rattle.iso_plain.specs.declared.parts.Now.TheVariants as now
 use Rattle.iso_plain.specs.declared.plain.Move.TheVariants as move
 use Rattle.iso_plain.specs.declared.plain.Plain.{Plain}
-use Rattle.iso_plain.specs.Linked.{Linked, Running, Failing, Raising, IsState, idle_linked}
+use Rattle.iso_plain.specs.Linked.{Linked, Failing, IsState, idle_linked}
 use Rattle.iso_plain.specs.Standing.{AreVariables, no_word, one_word, DoesNext}
 use Rattle.iso_plain.specs.Programs.{IsWorld}
 use Rattle.iso_plain.specs.EngineStates.{IsEngine, Represents, StandsBy, StandsFor, Moves}

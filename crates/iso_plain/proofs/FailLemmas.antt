@@ -12,7 +12,7 @@ use Rattle.iso_plain.specs.declared.parts.Now.{Now}
 use Rattle.iso_plain.specs.declared.parts.Now.TheVariants as now
 use Rattle.iso_plain.specs.declared.plain.Move.TheVariants as move
 use Rattle.iso_plain.specs.declared.plain.Plain.{Plain}
-use Rattle.iso_plain.specs.Linked.{Linked, Choice, Doing, Failing, idle_linked, with_choice}
+use Rattle.iso_plain.specs.Linked.{Linked, Choice, Failing, idle_linked, with_choice}
 use Rattle.iso_plain.specs.Standing.{DoesNext}
 use Rattle.iso_plain.specs.Programs.{IsWorld}
 use Rattle.iso_plain.specs.Next.{now_entered}

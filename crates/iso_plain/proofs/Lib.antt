@@ -22,6 +22,6 @@ pub mod ChoiceLemmas
 pub mod FailLemmas
 pub mod EngineMoves
 pub mod RunMoves
-pub mod EquationMoves
+pub mod ReplyMoves
 pub mod LimitLemmas
 pub mod StoppedLemmas

@@ -1,5 +1,5 @@
 -- Each move of the plain engine's own state is a step of it, and so some steps of the search.
-use Rattle.std.proofs.Common.{◌≡◌, ◌<◌, ◌≤◌, ℕ, zero, suc, ◌+◌, List, [], ◌∷◌, ◌++◌, Bool, true, false, Option, Some, None, map, length, refl, ap, sym, ◌∙◌, subst, arith, append_assoc}
+use Rattle.std.proofs.Common.{◌≡◌, ◌<◌, ◌≤◌, ℕ, suc, ◌+◌, List, [], ◌∷◌, ◌++◌, Bool, true, false, Option, Some, None, map, length, refl, ap, sym, ◌∙◌, subst, arith, append_assoc}
 use Rattle.iso_ops.specs.declared.settings.Unknown.{Unknown}
 use Rattle.iso_ops.specs.declared.settings.Unknown.TheVariants as on_unknown
 use Rattle.iso_model.specs.Terms.Trees.{Tree, Variable}
@@ -9,22 +9,21 @@ use Rattle.iso_model.specs.Terms.Unifiers.{Unifier, NeverEqual}
 use Rattle.iso_model.specs.Terms.Unification.{unifier_of}
 use Rattle.iso_model.specs.Terms.Copies.{renamed}
 use Rattle.iso_model.specs.Search.Bodies.{Body, Run, And, map_body, is_true}
-use Rattle.iso_model.specs.Search.Databases.{Clause, Key, key_of, clauses_at}
+use Rattle.iso_model.specs.Search.Databases.{Clause, Key, clauses_at}
 use Rattle.iso_model.specs.Search.Errors.{existence_error}
-use Rattle.iso_model.specs.Search.BuiltIns.{built_in, reply}
+use Rattle.iso_model.specs.Search.BuiltIns.{Reply, reply}
 use Rattle.iso_model.specs.declared.built_ins.BuiltIn.{BuiltIn}
-use Rattle.iso_model.specs.declared.built_ins.BuiltIn.TheVariants as own
-use Rattle.iso_model.specs.Search.Walker.{State, World, Alternative, Member, Goal, Fail, Raise, Outcome, Goes, Gives, Ends, Ending, Answered, NoMore, Budget, Uncaught, run_goal, run_value, selected, replied, called, unknown_called, charged, paid, step, step_list, before, under, entered, tried, with_others, clause_size, fails, values, idle}
+use Rattle.iso_model.specs.Search.Walker.{State, World, Alternative, Member, Raise, Outcome, Goes, Gives, Ends, Ending, Answered, NoMore, Budget, Uncaught, run_goal, run_value, selected, replied, called, unknown_called, charged, paid, step, before, under, entered, tried, with_others, clause_size, fails, idle}
 use Rattle.iso_model.specs.Search.Runs.{Quiet, here, Comes, Finishes, ComesOver}
 use Rattle.iso_model.specs.Search.RunLaws.{finishes_behind}
-use Rattle.iso_model.specs.Search.RunLaws.Sameness.{put, flat, SameList, same_goal, same_ball, SameStack, Beside, Same, going, failing}
+use Rattle.iso_model.specs.Search.RunLaws.Sameness.{put, flat, SameList, same_goal, same_ball, SameStack, Same, going, failing}
 use Rattle.iso_model.specs.Search.RunLaws.SameSteps.{list_same, stack_same, steps_same, same_itself, Open, open_end, open_goal, open_failure, open_ball}
 use Rattle.iso_model.specs.Search.RunLaws.SameRuns.{same_goes, same_gives, same_ends, same_world}
 use Rattle.iso_model.specs.Search.RunLaws.SameLaws.{same_back, same_on, same_beside, stack_length}
 use Rattle.iso_model.proofs.Search.CallLemmas.{found, missed, tried_found, tried_missed}
 use Rattle.iso_plain.specs.Goals.{leaves}
 use Rattle.iso_plain.specs.Called.{IsBuiltIn, IsUser}
-use Rattle.iso_plain.specs.Linked.{goals_of, clause_goals, Choice, Doing, Running, Failing, Raising, Linked, running, list_of, alternatives_of, state_of, IsState, idle_linked, with_choice, linked_missed, linked_entered}
+use Rattle.iso_plain.specs.Linked.{goals_of, Choice, Doing, Running, Failing, Raising, Linked, running, list_of, alternatives_of, state_of, IsState, idle_linked, with_choice, linked_missed, linked_entered}
 
 -- ---- the search behind a step of the engine's own state
 
@@ -191,26 +190,15 @@ pub runs_onward : (l m : Linked) (s : State) (g : Tree) (gs : List Tree) (n : �
 runs_onward l m s g gs n t is doing left goes same =
     goes_onward (record l { doing = Running (g ∷ gs) }) (record m { steps = n }) s (record t { steps = n }) (does l s (Running (g ∷ gs)) is doing) open_goal (goal_goes l g gs n t left goes) (steps_same n same)
 
--- what a goal of a built-in is run as
-pub own_goal : (v : Tree) (rest : List Member) (s : State) (b : BuiltIn) → IsBuiltIn v b → run_value v rest s ≡ replied (reply b v) rest s
-own_goal v rest s b is =
-    ap (λ (o : Option Key). run_goal o v rest s) is.named ∙ ap (λ (o : Option BuiltIn). selected o is.key v rest s) is.found
-
--- `true`
-pub succeeds : (l : Linked) (s : State) (g : Tree) (gs : List Tree) (n : ℕ) → IsState l s → l.doing ≡ Running (g ∷ gs) → l.steps ≡ suc n → IsBuiltIn (apply l.subst g) own.True
-    → Onward (record l { doing = Running gs; steps = n }) s
-succeeds l s g gs n is doing left goal =
-    runs_onward l (record l { doing = Running gs }) s g gs n (state_of (record l { doing = Running gs })) is doing left (own_goal (apply l.subst g) (running gs) (front l g gs) own.True goal) (same_itself _)
+-- what a goal of a built-in is run as, by its reply
+pub own_goal : (v : Tree) (rest : List Member) (s : State) (b : BuiltIn) (r : Reply) → IsBuiltIn v b → reply b v ≡ r → run_value v rest s ≡ replied r rest s
+own_goal v rest s b r is e =
+    ap (λ (o : Option Key). run_goal o v rest s) is.named ∙ (ap (λ (o : Option BuiltIn). selected o is.key v rest s) is.found ∙ ap (λ (x : Reply). replied x rest s) e)
 
 -- the goal fails
-failing_goal : (l : Linked) (s : State) (g : Tree) (gs : List Tree) (n : ℕ) → IsState l s → l.doing ≡ Running (g ∷ gs) → l.steps ≡ suc n
+pub failing_goal : (l : Linked) (s : State) (g : Tree) (gs : List Tree) (n : ℕ) → IsState l s → l.doing ≡ Running (g ∷ gs) → l.steps ≡ suc n
     → run_value (apply l.subst g) (running gs) (front l g gs) ≡ Goes (fails (front l g gs)) → Onward (record l { doing = Failing; steps = n }) s
 failing_goal l s g gs n is doing left goes = runs_onward l (record l { doing = Failing }) s g gs n (fails (front l g gs)) is doing left goes (same_itself _)
-
--- `fail`
-pub fails_at_once : (l : Linked) (s : State) (g : Tree) (gs : List Tree) (n : ℕ) → IsState l s → l.doing ≡ Running (g ∷ gs) → l.steps ≡ suc n → IsBuiltIn (apply l.subst g) own.Fail
-    → Onward (record l { doing = Failing; steps = n }) s
-fails_at_once l s g gs n is doing left fail = failing_goal l s g gs n is doing left (own_goal (apply l.subst g) (running gs) (front l g gs) own.Fail fail)
 
 -- what a goal of a user procedure is run as
 user_goal : (l : Linked) (g : Tree) (gs : List Tree) (k : Key) (clauses : Option (List Clause)) → IsUser (apply l.subst g) k → clauses_at l.world.database.procedures k ≡ clauses

@@ -5,7 +5,7 @@ use Rattle.iso_model.specs.Terms.Trees.{Tree, Variable, Integer, Name, Apply, En
 use Rattle.iso_model.specs.Terms.Variables.{distinct_from, variables, variable_count}
 use Rattle.iso_model.specs.Search.Bodies.{Body, Run, And, converted, both, body_term, one, two}
 use Rattle.iso_model.specs.Search.Errors.{key, type_error_callable}
-use Rattle.iso_model.specs.Search.Walker.{World, asked, started, opening, shown_query}
+use Rattle.iso_model.specs.Search.Walker.{World, asked, started}
 use Rattle.iso_plain.specs.Goals.{leaves}
 use Rattle.iso_model.specs.Search.Walker.{Goal}
 use Rattle.iso_model.specs.Search.RunLaws.Sameness.{put, flat, SameList, no_member, no_alternative, Same, going}

@@ -1,11 +1,8 @@
 -- What a spent engine stands for.
-use Rattle.std.proofs.Common.{◌≡◌, ℕ, List, [], ◌∷◌, refl, ap, ap₂, sym, ◌∙◌, subst, inl, inr, ◌⊎◌, Vec, Global, Result, Ok, Err, OnErr}
+use Rattle.std.proofs.Common.{◌≡◌, List, [], refl, ap, ap₂, sym, ◌∙◌, subst, inl, inr, Vec, Global, Result, Ok, Err, OnErr}
 use Rattle.iso_model.specs.Terms.Variables.{variables}
 use Rattle.iso_ops.specs.Operators.{Operator}
 use Rattle.iso_ops.specs.declared.settings.Flags.{Flags}
-use Rattle.iso_model.specs.Terms.Trees.{Tree}
-use Rattle.iso_model.specs.Search.Databases as databases
-use Rattle.iso_model.specs.Search.Databases.{Key, clauses_at}
 use Rattle.iso_model.specs.Search.Walker.{State, World}
 use Rattle.iso_model.specs.Search.Runs.{Quiet, here}
 use Rattle.iso_model.specs.Search.RunLaws.{quiet_trans}
@@ -17,7 +14,7 @@ use Rattle.iso_plain.specs.Standing.{none_kept}
 use Rattle.iso_plain.specs.Starts.{IsFresh}
 use Rattle.iso_plain.specs.Linked.{Linked, Choice, IsState}
 use Rattle.iso_plain.specs.Programs.{IsWorld}
-use Rattle.iso_plain.specs.EngineStates.{IsEngine, Represents, Keeps, Stopped, settings_of, settings_in}
+use Rattle.iso_plain.specs.EngineStates.{IsEngine, Keeps, Stopped, settings_of, settings_in}
 use Rattle.iso_plain.proofs.LinkedMoves.{world_is, Halfway, halfway_here}
 use Rattle.iso_plain.proofs.StandingLemmas.{choices_more, choices_keep}
 use Rattle.iso_plain.proofs.EngineLemmas.{base_kept}

@@ -44,7 +44,7 @@ pub record CallsAt (ps : List Procedure) (w : World) (t : Tree) (place : _) : Ty
   pub found : clauses_at w.database.procedures key ≡ Some (first ∷ others)
   pub left : left_at w.database.procedures place 0 ≡ first ∷ others
 
--- what the goal calls, over this world, whose procedures these are
+-- what the goal, by its value, calls over this world, whose procedures these are
 abbrev pub IsCalled : List Procedure → World → Tree → Called → Type 0
 IsCalled ps w t (call.BuiltIn b) = IsBuiltIn t b
 IsCalled ps w t (call.User place) = CallsAt ps w t place

@@ -9,5 +9,5 @@ pub mod EngineStates
 pub mod Limits
 pub mod Starts
 pub mod Callable
-pub mod Equations
+pub mod Replies
 pub mod Called

@@ -1,5 +1,5 @@
 -- What the engine says of its limits: full frames only where its choices are as many as there may be, and a full heap only where its store is full.
-use Rattle.std.specs.Prelude.{ℕ, ◌≤◌, length, Result, Ok, Err}
+use Rattle.std.specs.Prelude.{◌≤◌, length, Result, Ok, Err}
 use Rattle.iso_model.specs.declared.pauses.Pause.{Pause}
 use Rattle.iso_model.specs.declared.pauses.Pause.TheVariants as pause
 use Rattle.iso_store.specs.declared.shapes.StoreFault.{StoreFault}

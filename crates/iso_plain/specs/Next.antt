@@ -13,7 +13,7 @@ abbrev pub now_entered : Option (Option ℕ) → Now
 now_entered None = now.Failing
 now_entered (Some place) = now_behind place
 
--- behind two terms that were unified, or not, with the place of the goal behind them
-abbrev pub now_unified : Bool → Option ℕ → Now
-now_unified false place = now.Failing
-now_unified true place = now_behind place
+-- behind a goal that went on, or failed, with the place of the goal behind it
+abbrev pub now_replied : Bool → Option ℕ → Now
+now_replied false place = now.Failing
+now_replied true place = now_behind place

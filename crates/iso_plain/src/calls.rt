@@ -3,7 +3,7 @@ ghost use Rattle.std.specs.Prelude.{◌≡◌, ◌<◌, None, IfOk};
 ghost use Rattle.iso_model.specs.Search.BuiltIns.{built_in};
 ghost use Rattle.iso_model.specs.Search.Walker.{World};
 ghost use Rattle.iso_model.specs.Search.Errors.{key};
-ghost use Rattle.iso_store.specs.Presents.{Holds};
+ghost use Rattle.iso_store.specs.Presents.{Holds, meaning};
 ghost use Rattle.iso_plain.specs.Programs.{KeepsWorld, place_at};
 ghost use Rattle.iso_plain.specs.Callable.{IsGoal};
 ghost use Rattle.iso_plain.specs.Called.{IsNamed, IsCalled};
@@ -63,7 +63,7 @@ impl<S: Store + Drop> Plain<S> {
         requires { Holds (S.present self.now.store) goal }
         ensures { (w : World) → KeepsWorld self.entry.now.procedures.items self.entry.now.ops self.entry.now.flags w
             → IsGoal ((S.present self.entry.now.store).term goal)
-            → IfOk result (IsCalled self.entry.now.procedures.items w ((S.present self.entry.now.store).term goal)) }
+            → IfOk result (IsCalled self.entry.now.procedures.items w (meaning (S.present self.entry.now.store) goal)) }
     {
         match self.store.shape(goal) {
             Shape::Atom(name) => self.named(self.store.text(name), 0),

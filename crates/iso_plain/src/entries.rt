@@ -1,12 +1,10 @@
 //! The entry of a clause: its variables get new numbers, its head is unified with the goal, and its goals are
-//! linked before the rest (7.7.10, 7.7.11). And the unification of a goal's two arguments (8.2.1).
+//! linked before the rest (7.7.10, 7.7.11).
 ghost use Rattle.std.specs.Prelude.{◌≡◌, ℕ, ◌+◌, ◌<◌, ◌≤◌, ◌^◌, IfOk, OnOk, length, true, Err};
-ghost use Rattle.iso_model.specs.Terms.Trees.{Tree, arities_fit};
+ghost use Rattle.iso_model.specs.Terms.Trees.{arities_fit};
 ghost use Rattle.iso_model.specs.Terms.TermOf.{term_of, row_of};
 ghost use Rattle.iso_model.specs.Terms.Copies.{renamed, numbers_from};
-ghost use Rattle.iso_model.specs.Terms.Substitutions.{apply};
-ghost use Rattle.iso_store.specs.Presents.{KeepsMarks, KeepsNumbers, Makes, Holds, IsUnification};
-ghost use Rattle.iso_plain.specs.Equations.{IsEquation};
+ghost use Rattle.iso_store.specs.Presents.{KeepsMarks, KeepsNumbers, Makes, Holds};
 ghost use Rattle.iso_plain.specs.Standing.{AreVariables};
 ghost use Rattle.iso_plain.specs.Entering.{Enters, Extends, is_below, Links, AddsFrames, renamed_terms};
 
@@ -140,19 +138,4 @@ pub fn enter<S: Store>(
         rest,
     )?;
     Ok(Some(first))
-}
-
-/// Whether the goal's two arguments unify (8.2.1); then their unifier is bound. The errors: the store is full, or memory was
-/// refused.
-pub fn equate<S: Store>(store: &mut S, goal: S::Word) -> Result<bool, StoreFault>
-    requires goal { Holds (S.present store.old) goal }
-    requires equation { (a : Tree) × (b : Tree) × IsEquation ((S.present store.old).term goal) a b }
-    ensures equates { (a b : Tree) → IsEquation ((S.present store.old).term goal) a b
-        → IfOk result (IsUnification (S.present store.old) (S.present store.new) (apply (S.present store.old).substitution a) (apply (S.present store.old).substitution b)) }
-    ensures full { result ≡ Err StoreFault.Full → S.full store.new }
-    ensures marks { KeepsMarks (S.stands store.old) (S.stands store.new) }
-{
-    let left = store.arg(goal, 0);
-    let right = store.arg(goal, 1);
-    store.unify(left, right)
 }

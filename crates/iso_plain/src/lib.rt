@@ -14,6 +14,7 @@ pub mod entries;
 pub mod moves;
 pub mod parts;
 pub mod plain;
+pub mod replies;
 pub mod runs;
 // what the callers call
 pub mod engine;

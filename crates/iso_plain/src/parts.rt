@@ -1,6 +1,6 @@
 //! The engine's parts: linked goals, and choices.
 ghost use Rattle.std.specs.Prelude.{◌≡◌};
-ghost use Rattle.iso_plain.specs.Next.{now_behind, now_entered, now_unified};
+ghost use Rattle.iso_plain.specs.Next.{now_behind, now_entered, now_replied};
 
 use iso_model::Limit;
 
@@ -67,9 +67,9 @@ pub(crate) fn behind(entered: Option<Option<usize>>) -> Now
     }
 }
 
-/// What to do behind two terms that were unified, or not, with the place of the goal behind them.
-pub(crate) fn unified(equal: bool, next: Option<usize>) -> Now
-    ensures { result ≡ now_unified equal next }
+/// What to do behind a goal that went on, or failed, with the place of the goal behind it.
+pub(crate) fn replied(goes_on: bool, next: Option<usize>) -> Now
+    ensures { result ≡ now_replied goes_on next }
 {
-    if equal { at(next) } else { Now::Failing }
+    if goes_on { at(next) } else { Now::Failing }
 }

@@ -6,10 +6,10 @@ ghost use Rattle.iso_model.specs.Search.Walker.{State};
 ghost use Rattle.iso_model.specs.Search.Runs.{ComesOver};
 
 use super::calls::Called;
-use super::entries;
-use super::parts::{Attempt, Now, at, unified};
+use super::parts::{Attempt, Now, replied};
 use super::plain::{Move, Plain};
-use iso_model::{BuiltIn, Limit, Pause};
+use super::replies;
+use iso_model::{Limit, Pause};
 use iso_store::{Store, StoreFault};
 
 impl<S: Store + Drop> Plain<S> {
@@ -40,21 +40,11 @@ impl<S: Store + Drop> Plain<S> {
         let called = self.called(frame.goal)?;
         self.steps -= 1;
         match called {
-            Called::BuiltIn(built_in) => match built_in {
-                BuiltIn::True => {
-                    self.now = at(frame.next);
-                    Ok(Move::Goes)
-                }
-                BuiltIn::Fail => {
-                    self.now = Now::Failing;
-                    Ok(Move::Goes)
-                }
-                BuiltIn::Unify => {
-                    let equal = entries::equate(&mut self.store, frame.goal)?;
-                    self.now = unified(equal, frame.next);
-                    Ok(Move::Goes)
-                }
-            },
+            Called::BuiltIn(built_in) => {
+                let goes_on = replies::reply(&mut self.store, built_in, frame.goal)?;
+                self.now = replied(goes_on, frame.next);
+                Ok(Move::Goes)
+            }
             Called::Fails => {
                 self.now = Now::Failing;
                 Ok(Move::Goes)

@@ -1,4 +1,4 @@
-use Rattle.std.proofs.Common.{◌∙◌, sym, ap, arith}
+use Rattle.std.proofs.Common.{◌∙◌, sym, arith}
 use Rattle.iso_model.specs.Terms.TermOf.{term_of}
 use Rattle.iso_model.specs.Search.Additions.{TooManyVariables}
 use Rattle.iso_plain.proofs.PrepareLemmas.{refuses, refused_goals, refused_large, refused_built_in, count_of_clause, prepared}

@@ -1,7 +1,7 @@
 use Rattle.std.proofs.Common.{◌≡◌, refl, ap, ◌∙◌, Some, []}
 use Rattle.iso_model.specs.Terms.Trees.{Variable}
 use Rattle.iso_model.specs.Terms.TermOf.{term_of}
-use Rattle.iso_model.specs.Terms.Variables.{variables, variable_count}
+use Rattle.iso_model.specs.Terms.Variables.{variable_count}
 use Rattle.iso_model.specs.Search.Errors.{key, type_error_callable}
 use Rattle.std.specs.Prelude.{codes}
 use Rattle.iso_plain.specs.Linked.{Raising}

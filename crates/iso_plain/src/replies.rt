@@ -1,0 +1,28 @@
+//! What goals of the language's own procedures come to (7.8, 8).
+ghost use Rattle.std.specs.Prelude.{◌≡◌, IfOk, Err};
+ghost use Rattle.iso_model.specs.Search.BuiltIns as table;
+ghost use Rattle.iso_store.specs.Presents.{Holds, meaning, KeepsMarks};
+ghost use Rattle.iso_plain.specs.Called.{IsBuiltIn};
+ghost use Rattle.iso_plain.specs.Replies.{IsReply};
+
+use iso_model::BuiltIn;
+use iso_store::{Store, StoreFault};
+
+/// Runs the goal of this built-in: whether the search goes on behind it, with what it bound. The errors: the store is full, or memory was refused.
+pub fn reply<S: Store>(store: &mut S, built_in: BuiltIn, goal: S::Word) -> Result<bool, StoreFault>
+    requires goal { Holds (S.present store.old) goal }
+    requires built_in { IsBuiltIn (meaning (S.present store.old) goal) built_in }
+    ensures replies { IfOk result (IsReply (S.present store.old) (S.present store.new) (table.reply built_in (meaning (S.present store.old) goal))) }
+    ensures full { result ≡ Err StoreFault.Full → S.full store.new }
+    ensures marks { KeepsMarks (S.stands store.old) (S.stands store.new) }
+{
+    match built_in {
+        BuiltIn::True => Ok(true),
+        BuiltIn::Fail => Ok(false),
+        BuiltIn::Unify => {
+            let left = store.arg(goal, 0);
+            let right = store.arg(goal, 1);
+            store.unify(left, right)
+        }
+    }
+}
