@@ -10,7 +10,7 @@ use Rattle.iso_model.specs.Terms.Substitutions.{Subst, apply}
 use Rattle.iso_model.specs.Search.Databases as databases
 use Rattle.iso_model.specs.Search.Databases.{Key, Procedures, key, key_of, same_key, clauses_at}
 use Rattle.iso_model.specs.Terms.Arguments.{arity}
-use Rattle.iso_model.specs.Search.BuiltIns.{built_in, built_in_among}
+use Rattle.iso_model.specs.Search.BuiltIns.{built_ins, built_in_among}
 use Rattle.iso_model.specs.declared.built_ins.BuiltIn.{BuiltIn}
 use Rattle.iso_model.specs.declared.built_ins.BuiltIn.TheVariants.{True, Fail, Unify}
 use Rattle.iso_model.specs.Search.Walker.{World}
@@ -49,38 +49,35 @@ key_kept s (More t ts) k is h = absurd cc
 same_arity : (a b : Key) → same_key a b ≡ true → a.arity ≡ b.arity
 same_arity a b h = eqb-true a.arity b.arity (both_of (a.arity == b.arity) (bytes_eq a.name b.name) h).0
 
-first_built_in : (k : Key) (e : Key × BuiltIn) (es : List (Key × BuiltIn)) (b : BuiltIn) → built_in_among (e ∷ es) k ≡ Some b → ((same_key e.0 k ≡ true) × (e.1 ≡ b)) ⊎ (built_in_among es k ≡ Some b)
-first_built_in k e es b h =
+-- how many arguments a built-in has
+abbrev pub arity_of : BuiltIn → ℕ
+arity_of True = 0
+arity_of Fail = 0
+arity_of Unify = 2
+
+abbrev FitRows : List (Key × BuiltIn) → Type 0
+FitRows [] = Unit {0}
+FitRows (e ∷ es) = ((e.0).arity ≡ arity_of e.1) × FitRows es
+
+rows_fit : FitRows built_ins
+rows_fit = (refl, refl, refl, tt)
+
+arity_among : (es : List (Key × BuiltIn)) → FitRows es → (k : Key) (b : BuiltIn) → built_in_among es k ≡ Some b → k.arity ≡ arity_of b
+arity_among [] fit k b h = absurd cc
+arity_among (e ∷ es) fit k b h =
     elim (cases_Bool (same_key e.0 k)) [
-      | inl here ↦ (let is : Some e.1 ≡ Some b = rw here at h in inl (here, some_same is))
-      | inr later ↦ inr (rw later at h)
+      | inl here ↦ (let is : Some e.1 ≡ Some b = rw here at h in sym (same_arity e.0 k here) ∙ (fit.0 ∙ ap arity_of (some_same is)))
+      | inr later ↦ arity_among es fit.1 k b (rw later at h)
     ]
 
--- the built-in that unifies has two arguments
-unify_arity : (k : Key) → built_in k ≡ Some Unify → k.arity ≡ 2
-unify_arity k h =
-    elim (first_built_in k (key (codes "true") 0, True) ((key (codes "fail") 0, Fail) ∷ (key (codes "=") 2, Unify) ∷ []) Unify h) [
-      | inl here ↦ absurd (cc (here.1))
-      | inr second ↦ (elim (first_built_in k (key (codes "fail") 0, Fail) ((key (codes "=") 2, Unify) ∷ []) Unify second) [
-        | inl here ↦ absurd (cc (here.1))
-        | inr third ↦ (elim (first_built_in k (key (codes "=") 2, Unify) [] Unify third) [
-          | inl here ↦ sym (same_arity (key (codes "=") 2) k here.0)
-          | inr none ↦ absurd (cc none)
-        ])
-      ])
-    ]
-
-pub unify_arguments : (v : Tree) → IsBuiltIn v Unify → arity v ≡ 2
-unify_arguments (Variable n) h = absurd (let e = h.named in cc e)
-unify_arguments (Integer z) h = absurd (let e = h.named in cc e)
-unify_arguments (Name f) h =
-    let same : key f 0 ≡ h.key = some_same h.named in
-    ap (λ (k : Key). k.arity) same ∙ unify_arity h.key h.found
-unify_arguments (Apply f ts) h =
-    let same : key f (count ts) ≡ h.key = some_same h.named in
-    ap (λ (k : Key). k.arity) same ∙ unify_arity h.key h.found
-unify_arguments End h = absurd (let e = h.named in cc e)
-unify_arguments (More t ts) h = absurd (let e = h.named in cc e)
+-- a goal of a built-in has its arguments
+pub built_in_arguments : (v : Tree) (b : BuiltIn) → IsBuiltIn v b → arity v ≡ arity_of b
+built_in_arguments (Variable n) b h = absurd (let e = h.named in cc e)
+built_in_arguments (Integer z) b h = absurd (let e = h.named in cc e)
+built_in_arguments (Name f) b h = ap (λ (k : Key). k.arity) (some_same h.named) ∙ arity_among built_ins rows_fit h.key b h.found
+built_in_arguments (Apply f ts) b h = ap (λ (k : Key). k.arity) (some_same h.named) ∙ arity_among built_ins rows_fit h.key b h.found
+built_in_arguments End b h = absurd (let e = h.named in cc e)
+built_in_arguments (More t ts) b h = absurd (let e = h.named in cc e)
 
 -- ---- the clauses at a place
 
