@@ -12,6 +12,8 @@ pub enum BuiltIn {
     Fail,
     /// `=/2`: its two arguments are unified (8.2.1).
     Unify,
+    /// `\=/2`: its two arguments don't unify (8.2.3).
+    Differ,
 }
 
 /// The built-in of this name and arity, where there is one.
@@ -22,6 +24,7 @@ pub fn built_in(name: &str, arity: usize) -> Option<BuiltIn>
         ("true", 0) => Some(BuiltIn::True),
         ("fail", 0) => Some(BuiltIn::Fail),
         ("=", 2) => Some(BuiltIn::Unify),
+        ("\\=", 2) => Some(BuiltIn::Differ),
         _ => None,
     }
 }

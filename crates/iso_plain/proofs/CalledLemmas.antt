@@ -12,7 +12,7 @@ use Rattle.iso_model.specs.Search.Databases.{Key, Procedures, key, key_of, same_
 use Rattle.iso_model.specs.Terms.Arguments.{arity}
 use Rattle.iso_model.specs.Search.BuiltIns.{built_ins, built_in_among}
 use Rattle.iso_model.specs.declared.built_ins.BuiltIn.{BuiltIn}
-use Rattle.iso_model.specs.declared.built_ins.BuiltIn.TheVariants.{True, Fail, Unify}
+use Rattle.iso_model.specs.declared.built_ins.BuiltIn.TheVariants.{True, Fail, Unify, Differ}
 use Rattle.iso_model.specs.Search.Walker.{World}
 use Rattle.iso_model.proofs.OnTerms.SortLemmas.{count-apply}
 use Rattle.iso_plain.specs.declared.clauses.Clause.{Clause}
@@ -54,13 +54,14 @@ abbrev pub arity_of : BuiltIn → ℕ
 arity_of True = 0
 arity_of Fail = 0
 arity_of Unify = 2
+arity_of Differ = 2
 
 abbrev FitRows : List (Key × BuiltIn) → Type 0
 FitRows [] = Unit {0}
 FitRows (e ∷ es) = ((e.0).arity ≡ arity_of e.1) × FitRows es
 
 rows_fit : FitRows built_ins
-rows_fit = (refl, refl, refl, tt)
+rows_fit = (refl, (refl, (refl, (refl, tt))))
 
 arity_among : (es : List (Key × BuiltIn)) → FitRows es → (k : Key) (b : BuiltIn) → built_in_among es k ≡ Some b → k.arity ≡ arity_of b
 arity_among [] fit k b h = absurd cc

@@ -1,5 +1,6 @@
 //! What goals of the language's own procedures come to (7.8, 8).
 ghost use Rattle.std.specs.Prelude.{◌≡◌, IfOk, Err};
+ghost use Rattle.iso_model.specs.Terms.Unification.{unifier_of};
 ghost use Rattle.iso_model.specs.Search.BuiltIns as table;
 ghost use Rattle.iso_store.specs.Presents.{Holds, meaning, KeepsMarks};
 ghost use Rattle.iso_plain.specs.Called.{IsBuiltIn};
@@ -24,5 +25,26 @@ pub fn reply<S: Store>(store: &mut S, built_in: BuiltIn, goal: S::Word) -> Resul
             let right = store.arg(goal, 1);
             store.unify(left, right)
         }
+        BuiltIn::Differ => {
+            let left = store.arg(goal, 0);
+            let right = store.arg(goal, 1);
+            differ(store, left, right)
+        }
     }
+}
+
+/// Whether the two terms don't unify (8.2.3); nothing is bound. The errors are those of `reply`.
+fn differ<S: Store>(store: &mut S, left: S::Word, right: S::Word) -> Result<bool, StoreFault>
+    requires left { Holds (S.present store.old) left }
+    requires right { Holds (S.present store.old) right }
+    ensures differs { IfOk result (IsReply (S.present store.old) (S.present store.new)
+        (table.differ (unifier_of (meaning (S.present store.old) left) (meaning (S.present store.old) right)))) }
+    ensures full { result ≡ Err StoreFault.Full → S.full store.new }
+    ensures marks { KeepsMarks (S.stands store.old) (S.stands store.new) }
+{
+    let mark = store.mark();
+    let equal = store.unify(left, right)?;
+    store.undo(mark);
+    store.forget(mark);
+    Ok(!equal)
 }

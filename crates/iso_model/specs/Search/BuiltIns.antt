@@ -2,14 +2,16 @@
 -- each comes to.
 use Rattle.std.specs.Prelude.{List, [], ◌∷◌, Bool, true, false, ◌||◌, Option, Some, None, codes, if◌then◌else◌}
 use Rattle.iso_model.specs.Terms.Trees.{Tree}
+use Rattle.iso_model.specs.Terms.Substitutions.{Subst}
+use Rattle.iso_model.specs.Terms.Unification.{unifier_of}
 use Rattle.iso_model.specs.Search.Keys.{Key, key, same_key}
 use Rattle.iso_model.specs.Terms.Arguments.{argument}
 use Rattle.iso_model.specs.declared.built_ins.BuiltIn.{BuiltIn}
-use Rattle.iso_model.specs.declared.built_ins.BuiltIn.TheVariants.{True, Fail, Unify}
+use Rattle.iso_model.specs.declared.built_ins.BuiltIn.TheVariants.{True, Fail, Unify, Differ}
 
 -- the built-ins by name and arity
 abbrev pub built_ins : List (Key × BuiltIn)
-built_ins = (key (codes "true") 0, True) ∷ (key (codes "fail") 0, Fail) ∷ (key (codes "=") 2, Unify) ∷ []
+built_ins = (key (codes "true") 0, True) ∷ (key (codes "fail") 0, Fail) ∷ (key (codes "=") 2, Unify) ∷ (key (codes "\\=") 2, Differ) ∷ []
 
 abbrev pub built_in_among : List (Key × BuiltIn) → Key → Option BuiltIn
 built_in_among [] k = None
@@ -37,8 +39,14 @@ pub data Reply : Type 0 where
   Succeeds : Reply
   Equates : (left : Tree) → (right : Tree) → Reply
 
--- what this goal of the built-in comes to (7.8.1, 7.8.2, 8.2.1)
+-- nothing is bound where terms have a unifier or have none
+abbrev pub differ : Option Subst → Reply
+differ None = Succeeds
+differ (Some u) = Fails
+
+-- what this goal of the built-in comes to (7.8.1, 7.8.2, 8.2.1, 8.2.3)
 abbrev pub reply : BuiltIn → Tree → Reply
 reply True t = Succeeds
 reply Fail t = Fails
 reply Unify t = Equates (argument 0 t) (argument 1 t)
+reply Differ t = differ (unifier_of (argument 0 t) (argument 1 t))
