@@ -10,6 +10,8 @@ mod read;
 #[cfg(test)]
 mod read_texts;
 #[cfg(test)]
+mod store;
+#[cfg(test)]
 mod token;
 #[cfg(test)]
 mod write;
