@@ -5,8 +5,6 @@ mod initial;
 pub mod settings;
 pub mod specifiers;
 pub mod table;
-#[cfg(test)]
-mod tests;
 
 pub use settings::{DoubleQuotes, FlagValue, Flags, Unknown};
 pub use specifiers::{Kind, Spec};

@@ -12,8 +12,3 @@ mod reader;
 mod simple;
 
 pub use clause::{Read, ReadFault, read_clause};
-
-#[cfg(test)]
-mod tests;
-#[cfg(test)]
-mod texts;

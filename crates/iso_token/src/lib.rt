@@ -11,6 +11,3 @@ mod quoted;
 pub use cursor::Tokens;
 pub use iso_model::NoMemory;
 pub use kinds::{Kind, Token};
-
-#[cfg(test)]
-mod tests;

@@ -15,8 +15,6 @@ mod names;
 mod parts;
 mod style;
 mod tasks;
-#[cfg(test)]
-mod tests;
 mod variables;
 mod written;
 

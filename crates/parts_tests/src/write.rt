@@ -1,6 +1,6 @@
-use crate::{Style, write_to};
 use iso_model::{Term, well_formed};
 use iso_ops::{OpFault, OpTable};
+use iso_write::{Style, write_to};
 use std::alloc::{AllocError, Global};
 use std::process::Abort;
 use std::test::Fail;

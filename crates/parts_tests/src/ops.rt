@@ -1,5 +1,5 @@
 //! The tables' rows. Each test holds too where any one allocation is refused.
-use crate::{DoubleQuotes, FlagValue, Flags, NoMemory, OpFault, OpTable, Spec, Unknown};
+use iso_ops::{DoubleQuotes, FlagValue, Flags, NoMemory, OpFault, OpTable, Spec, Unknown};
 use std::alloc::Global;
 use std::process::Abort;
 use std::test::Fail;

@@ -1,10 +1,10 @@
-use crate::texts::{
+use super::read_texts::{
     ATOMS, BRACKETS, COMPOUNDS, DOUBLE_AS_ATOMS, DOUBLE_AS_CHARACTERS, ENDS, INFIX, LISTS,
     LITERALS, OPERATIONS, OWN_OPERATORS, PREFIX, QUOTED, SIMPLE,
 };
-use crate::{Read, read_clause};
 use iso_model::Term;
 use iso_ops::{Flags, OpFault, OpTable};
+use iso_read::{Read, read_clause};
 use iso_token::Tokens;
 use std::alloc::{AllocError, Global};
 use std::fmt::Write;

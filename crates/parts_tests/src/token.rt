@@ -1,4 +1,4 @@
-use crate::{Kind, NoMemory, Token, Tokens};
+use iso_token::{Kind, Token, Tokens};
 use std::alloc::Global;
 use std::fmt::Write;
 use std::process::Abort;

@@ -1,0 +1,17 @@
+//! Tests of the single crates, by their public calls alone: printed texts, tables, limits, and each call on its happy path.
+#![tactic(auto)]
+
+#[cfg(test)]
+mod atoms;
+#[cfg(test)]
+mod ops;
+#[cfg(test)]
+mod read;
+#[cfg(test)]
+mod read_texts;
+#[cfg(test)]
+mod store;
+#[cfg(test)]
+mod token;
+#[cfg(test)]
+mod write;
