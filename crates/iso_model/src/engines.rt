@@ -1,11 +1,12 @@
 //! The trait that both engines meet.
-ghost use Rattle.std.specs.Prelude.{◌≡◌, ◌≢◌, ℕ, true};
-ghost use Rattle.iso_model.specs.Trees.{arities_fit};
-ghost use Rattle.iso_model.specs.Terms.{term_of};
-ghost use Rattle.iso_model.specs.Copies.{IsNumbered};
-ghost use Rattle.iso_model.specs.Additions.{addition};
-ghost use Rattle.iso_model.specs.Walker.{State};
-ghost use Rattle.iso_model.specs.Engines.{Phase, Ready, Spent, Starts, Pauses, StaysSpent, Consults, FallsAtEvent};
+ghost use Rattle.std.specs.Prelude.{◌≡◌, ℕ, true};
+ghost use Rattle.iso_model.specs.Terms.Trees.{arities_fit};
+ghost use Rattle.iso_model.specs.Terms.TermOf.{term_of};
+ghost use Rattle.iso_model.specs.Terms.Copies.{IsNumbered};
+ghost use Rattle.iso_model.specs.Search.Additions.{consulted};
+ghost use Rattle.iso_model.specs.Search.Walker.{State, started};
+ghost use Rattle.iso_model.specs.Search.Engines.{Phase, Ready, IsAwake, Spent, Starts, Pauses, StaysSpent, Consults, FallsAtEvent, MayMeet, RefusesStart, MeetsLimit, KeepsLimits};
+ghost use Rattle.iso_model.specs.declared.limit.Limit.{Limit};
 
 use super::pauses::{AddFault, Pause, StartFault};
 use super::terms::Term;
@@ -20,6 +21,11 @@ pub trait Engine {
     ghost phase: { Self → Phase };
     /// A number that falls at each event.
     ghost left: { Self → ℕ };
+    /// The pieces of a walk, each from a start or an event to the next event or the ending, in which the heap may be full. A piece is
+    /// named by the state that it begins at.
+    ghost heap_pieces: { Self → State → Type 0 };
+    /// The pieces of a walk in which the frames may be full.
+    ghost frames_pieces: { Self → State → Type 0 };
 
     /// Begins the search for the solutions of the goal, whose variables are numbered 0, 1, .. by first occurrence; the rest
     /// of a run is dropped. The errors: the cells are used up, or memory was refused; the engine is spent then.
@@ -29,15 +35,20 @@ pub trait Engine {
         requires fits { arities_fit (term_of goal.now) ≡ true }
         requires numbered { IsNumbered (term_of goal.now) }
         ensures starts { (s : State) → stands_for self.old s
-            → Starts (term_of goal.now) budget s result (stands_for self.new) (phase self.new) };
+            → Starts (term_of goal.now) budget s result (stands_for self.new) (phase self.new) }
+        ensures limit { (s : State) → stands_for self.old s
+            → RefusesStart (MayMeet (heap_pieces self.new) (frames_pieces self.new)) (started (term_of goal.now) budget s.world) result }
+        ensures limits { KeepsLimits (MayMeet (heap_pieces self.old) (frames_pieces self.old)) (MayMeet (heap_pieces self.new) (frames_pieces self.new)) };
 
     /// Goes on to the next event of the search, or to its end. An idle engine answers NoMore, a spent one Spent.
     fn resume(&mut self) -> Pause
         requires { (s : State) × stands_for self.old s }
-        ensures pauses { (s : State) → stands_for self.old s → phase self.old ≢ Spent
+        ensures pauses { (s : State) → stands_for self.old s → IsAwake (phase self.old)
             → Pauses s result (stands_for self.new) (phase self.new) }
-        ensures spent { (s : State) → stands_for self.old s → phase self.old ≡ Spent
-            → StaysSpent s result (stands_for self.new) (phase self.new) }
+        ensures spent { (s : State) → stands_for self.old s → (limit : Limit) → phase self.old ≡ Spent limit
+            → StaysSpent s limit result (stands_for self.new) (phase self.new) }
+        ensures limit { (s : State) → stands_for self.old s → MeetsLimit (MayMeet (heap_pieces self.new) (frames_pieces self.new)) s result }
+        ensures limits { KeepsLimits (MayMeet (heap_pieces self.old) (frames_pieces self.old)) (MayMeet (heap_pieces self.new) (frames_pieces self.new)) }
         ensures left { FallsAtEvent result (left self.old) (left self.new) };
 
     /// The operators as they are now.
@@ -55,6 +66,7 @@ pub trait Engine {
         requires stands { (s : State) × stands_for self.old s }
         requires fits { arities_fit (term_of clause.now) ≡ true }
         ensures consults { (s : State) → stands_for self.old s
-            → Consults (addition (term_of clause.now) s.world.database) s result (stands_for self.new) }
-        ensures ready { phase self.new ≡ Ready };
+            → Consults (consulted (term_of clause.now) s.world.database) s result (stands_for self.new) }
+        ensures ready { phase self.new ≡ Ready }
+        ensures limits { KeepsLimits (MayMeet (heap_pieces self.old) (frames_pieces self.old)) (MayMeet (heap_pieces self.new) (frames_pieces self.new)) };
 }

@@ -1,5 +1,5 @@
 //! Laws of copies of terms: each is the contract of a function that does nothing.
-ghost use Rattle.iso_model.specs.CopyLaws.{VariablesOfCopy, RangeOfCopy, CopyIsVariant, CopyOfNumbered, CopyFromZero, CopyOfCopy, SizeOfCopy, SizeOfRenamed, VariablesOfRenamed};
+ghost use Rattle.iso_model.specs.Terms.CopyLaws.{VariablesOfCopy, RangeOfCopy, CopyIsVariant, CopyOfNumbered, CopyFromZero, CopyOfCopy, SizeOfCopy, SizeOfRenamed, VariablesOfRenamed};
 
 /// The variables of a copy are n, n + 1, .. by first occurrence, as many as the term has.
 pub fn variables_of_copy()

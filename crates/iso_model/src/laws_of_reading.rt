@@ -1,5 +1,5 @@
 //! Laws of the definitions of reading. Each is the contract of a function that does nothing.
-ghost use Rattle.iso_model.specs.ReadingLaws.{AtMostOneClause, ReadsTheClause, ReadsTheNextClause, ClausesAreWellRead};
+ghost use Rattle.iso_model.specs.Syntax.ReadingLaws.{AtMostOneClause, ReadsTheClause, ReadsTheNextClause, ClausesAreWellRead};
 
 /// Tokens are at most one clause (own).
 pub fn at_most_one_clause()

@@ -1,5 +1,5 @@
 //! Laws of runs: each is the contract of a function that does nothing.
-ghost use Rattle.iso_model.specs.RunLaws.{EveryStateHasOneRun, RunOfIsTheRun, QuietStepsKeepTheRun, EventsBeginTheRun, EndingsAreTheRun, BuiltIsNotInTheRun};
+ghost use Rattle.iso_model.specs.Search.RunLaws.{EveryStateHasOneRun, RunOfIsTheRun, QuietStepsKeepTheRun, EventsBeginTheRun, EndingsAreTheRun, SameStatesHaveOneRun};
 
 /// Every state of the search has exactly one run: the search is deterministic, and its budget makes it end.
 pub fn one_run_each()
@@ -26,7 +26,7 @@ pub fn ending_alone()
     ensures { EndingsAreTheRun }
 {}
 
-/// What was built has no part in the run.
-pub fn built_is_free()
-    ensures { BuiltIsNotInTheRun }
+/// States whose goals, with conjunctions taken apart, have the same values under each state's own substitution have one run.
+pub fn same_states()
+    ensures { SameStatesHaveOneRun }
 {}

@@ -1,5 +1,5 @@
 //! Laws of which trees are terms: each is the contract of a function that does nothing.
-ghost use Rattle.iso_model.specs.TermLaws.{MeaningIsTerm, ImageIsTerm, UnifierGivesTerms, UnifyingGivesTerms, CopyIsTerm, NoUnifierAtClash};
+ghost use Rattle.iso_model.specs.Terms.TermLaws.{MeaningIsTerm, ImageIsTerm, UnifierGivesTerms, UnifyingGivesTerms, CopyIsTerm, NoUnifierAtClash};
 
 /// What a Rust term means is a term exactly where each compound in it has 1 to 255 arguments.
 pub fn meaning_is_term()

@@ -1,5 +1,5 @@
 //! Laws of unifiers: each is the contract of a function that does nothing.
-ghost use Rattle.iso_model.specs.UnifierLaws.{AtMostOneUnifier, UnifierOrNone, UnifierIsMostGeneral, UnifierIsSubstitution, UnifierConcernsItsTerms, NoUnifierInside, UnifyingUnder, UnifyingUnderNothing, UnifyingEitherWay, UnifyingArguments, UnifyingKeepsAge, UnifyingStaysBelow, UnifyingInTurn};
+ghost use Rattle.iso_model.specs.Terms.UnifierLaws.{AtMostOneUnifier, UnifierOrNone, UnifierIsMostGeneral, UnifierIsSubstitution, UnifierConcernsItsTerms, NoUnifierInside, UnifyingUnder, UnifyingUnderNothing, UnifyingEitherWay, UnifyingArguments, UnifyingKeepsAge, UnifyingStaysBelow, UnifyingInTurn};
 
 /// Two terms have at most one unifier.
 pub fn at_most_one_unifier()

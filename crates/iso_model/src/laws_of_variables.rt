@@ -1,5 +1,5 @@
 //! Laws of variables and of substitutions: each is the contract of a function that does nothing.
-ghost use Rattle.iso_model.specs.VariableLaws.{ListedAreOccurring, ListedOnce, ComposedApplies, ComposingInAnyOrder, ImagesAgree, VariablesOfImage};
+ghost use Rattle.iso_model.specs.Terms.VariableLaws.{ListedAreOccurring, ListedOnce, ComposedApplies, ComposingInAnyOrder, ImagesAgree, VariablesOfImage};
 
 /// The list of a term's variables has those that occur in it.
 pub fn listed_are_occurring()

@@ -2,6 +2,7 @@
 //! must write, said without any engine: ISO/IEC 13211-1:1995, clauses 6 to 9, in this project's profile.
 #![tactic(auto)]
 
+pub mod built_ins;
 pub mod engines;
 pub mod laws_of_copies;
 pub mod laws_of_order;
@@ -18,8 +19,9 @@ pub mod worked_runs;
 pub mod worked_terms;
 pub mod worked_texts;
 
+pub use built_ins::{BuiltIn, built_in, is_built_in};
 pub use engines::Engine;
-pub use limit::Limits;
+pub use limit::{Limit, Limits};
 pub use pauses::{AddFault, Ball, Ending, Indicator, Pause, Program, StartFault};
 pub use std::alloc::AllocError as NoMemory;
 pub use terms::{MAX_ARITY, Term, copied, well_formed};

@@ -23,3 +23,14 @@ impl Limits {
     /// The most frames that may be asked for.
     pub const MOST_FRAMES: u32 = 16_777_216;
 }
+
+/// What ends a run, and with it the session, before its end.
+#[derive(Clone, Copy, Debug, PartialEq, Eq)]
+pub enum Limit {
+    /// The cells (or nodes) were used up.
+    Heap,
+    /// The frames were used up.
+    Frames,
+    /// Memory was refused.
+    Memory,
+}

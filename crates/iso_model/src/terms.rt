@@ -1,7 +1,7 @@
 //! Terms (ISO/IEC 13211-1:1995, 6.1.2 and 7.1) as Rust data.
 ghost use Rattle.std.specs.Prelude.{◌≡◌, ◌&&◌, nat_le, IfOk};
-ghost use Rattle.iso_model.specs.Trees.{arities_fit};
-ghost use Rattle.iso_model.specs.Terms.{term_of};
+ghost use Rattle.iso_model.specs.Terms.Trees.{arities_fit};
+ghost use Rattle.iso_model.specs.Terms.TermOf.{term_of};
 
 use std::alloc::{AllocError, Global};
 

@@ -1,5 +1,5 @@
 //! Worked runs: what small programs answer by the definitions. Each is the contract of a function that does nothing.
-ghost use Rattle.iso_model.specs.WorkedRuns.{EndlessUsesItsBudget, FactsAreAnswered, NothingHoldsItself, EquationsAreChecked, AppendSplits, UnknownIsAnError, NumbersAreNoGoals, EachGoalTakesAStep, JoinIsSearched};
+ghost use Rattle.iso_model.specs.Search.WorkedRuns.{EndlessUsesItsBudget, FactsAreAnswered, NothingHoldsItself, EquationsAreChecked, AppendSplits, UnknownIsAnError, NumbersAreNoGoals, EachGoalTakesAStep, JoinIsSearched};
 
 /// `l :- l.` with the query `l` uses up its budget, however large, and shows nothing.
 pub fn endless()

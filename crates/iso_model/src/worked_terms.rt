@@ -1,5 +1,5 @@
 //! Worked terms: what they are written as. Each is the contract of a function that does nothing.
-ghost use Rattle.iso_model.specs.WorkedTerms.{TextsWithSigns, TextsWithBrackets, TextsWithWords, TextsWithAnOperator, CanonicalTexts, UnquotedTexts};
+ghost use Rattle.iso_model.specs.Syntax.WorkedTerms.{TextsWithSigns, TextsWithBrackets, TextsWithWords, TextsWithAnOperator, CanonicalTexts, UnquotedTexts};
 
 /// What terms with signs are written as (7.10.5).
 pub fn texts_with_signs()

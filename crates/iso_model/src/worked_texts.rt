@@ -1,5 +1,5 @@
 //! Worked texts: the tokens and the reading of short clauses. Each is the contract of a function that does nothing.
-ghost use Rattle.iso_model.specs.WorkedTexts.{TokensOfThreeClauses, TokensOfAllForms, ReadingOfThreeClauses, NoClauses, ReadingOfSigns, ReadingOfBrackets, ReadingOfIntegers, NoTerms};
+ghost use Rattle.iso_model.specs.Syntax.WorkedTexts.{TokensOfThreeClauses, TokensOfAllForms, ReadingOfThreeClauses, NoClauses, ReadingOfSigns, ReadingOfBrackets, ReadingOfIntegers, NoTerms};
 
 /// The tokens of `eq(X, X).`, of `p(Y, _) :- q, r(1, Y).` and of `l:-l. % again`, each with its place (6.4).
 pub fn tokens_of_three_clauses()

@@ -1,6 +1,7 @@
 -- The engine goes back to its newest choice, and enters the next clause there.
 use Rattle.std.proofs.Common.{◌≡◌, ℕ, zero, suc, ◌-◌, ◌<◌, ◌≤◌, List, [], ◌∷◌, length, take, get_or, Some, true, refl, ap, sym, ◌∙◌, subst, arith, Vec, Global}
 use Rattle.std.specs.List.{slice_get}
+use Rattle.iso_model.specs.Terms.Variables.{variables}
 use Rattle.iso_store.specs.Presents.{Present}
 use Rattle.iso_plain.specs.declared.parts.Frame.{Frame}
 use Rattle.iso_plain.specs.declared.parts.Choice as kept
@@ -36,7 +37,7 @@ module _ {S W M : Type 0} (present : S → Present W) (stands : S → M → Pres
       let n = newest c last is.choices in
       let h = n.here in
       let at : h.present ≡ present store = sym (back h.present h.mark) in
-      let below : StandsForChoices (stands store) older e.base (left_at l.world.database) e.query.items l.query (take c.frames e.frames.items) (take (length e.choices.items - 1) e.choices.items) n.below =
+      let below : StandsForChoices (stands store) older e.base (left_at l.world.database.procedures) e.query.items (variables l.query) (take c.frames e.frames.items) (take (length e.choices.items - 1) e.choices.items) n.below =
       choices_keep (λ d p among stood. marks d.mark p (n.newer d among) stood) n.stands_below in
       let b = is.base in
       let fs = sym kept_frames in
@@ -58,10 +59,10 @@ module _ {S W M : Type 0} (present : S → Present W) (stands : S → M → Pres
           links = subst (λ (xs : List (Frame W)). Chain (present store) xs c.attempt.rest n.choice.behind) fs (subst (λ (p : Present W). Chain p (take c.frames e.frames.items) c.attempt.rest n.choice.behind) at h.behind);
           clauses = h.clauses;
           some = h.some;
-          variables = subst (λ (p : Present W). AreVariables p e.query.items l.query) at h.words;
+          words = subst (λ (p : Present W). AreVariables p e.query.items (variables l.query)) at h.words;
           newer_base = h.newer;
           newer = n.newer;
-          stands_below = subst (λ (xs : List (Frame W)). StandsForChoices (stands store) older e.base (left_at l.world.database) e.query.items l.query xs (take (length e.choices.items - 1) e.choices.items) n.below) fs below;
+          stands_below = subst (λ (xs : List (Frame W)). StandsForChoices (stands store) older e.base (left_at l.world.database.procedures) e.query.items (variables l.query) xs (take (length e.choices.items - 1) e.choices.items) n.below) fs below;
           room = subst (λ (ks : List Choice). HaveRoom e.steps ks) n.is is.room;
         };
       }

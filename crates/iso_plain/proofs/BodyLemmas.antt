@@ -4,10 +4,10 @@ use Rattle.std.specs.String.{string_bytes}
 use Rattle.std.specs.Str.{bytes_eq}
 use Rattle.iso_model.specs.declared.terms.Term.{Term}
 use Rattle.iso_model.specs.declared.terms.Term.TheVariants.{Compound}
-use Rattle.iso_model.specs.Trees.{Tree, Apply, row}
-use Rattle.iso_model.specs.Terms.{term_of}
-use Rattle.iso_model.specs.Bodies.{Body, Run, both, two, converted}
-use Rattle.iso_model.proofs.RowLemmas.{term_of_compound}
+use Rattle.iso_model.specs.Terms.Trees.{Tree, Apply, row}
+use Rattle.iso_model.specs.Terms.TermOf.{term_of}
+use Rattle.iso_model.specs.Search.Bodies.{Body, Run, both, two, converted}
+use Rattle.iso_model.proofs.OnTerms.RowLemmas.{term_of_compound}
 use Rattle.iso_plain.specs.declared.bodies.BodyFault.{BodyFault}
 use Rattle.iso_plain.specs.declared.bodies.BodyFault.TheVariants.{NotCallable, NoMemory}
 use Rattle.iso_plain.specs.Goals.{leaves, AppendsGoals}

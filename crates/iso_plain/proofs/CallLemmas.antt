@@ -1,8 +1,9 @@
 -- The engine calls a procedure: the clauses behind the first are kept as a choice.
 use Rattle.std.proofs.Common.{◌≡◌, ℕ, ◌+◌, ◌<◌, ◌≤◌, List, [], ◌∷◌, ◌++◌, length, refl, sym, subst, arith, inl, inr, ◌⊎◌, Vec, Global}
-use Rattle.iso_model.specs.Trees.{Tree}
-use Rattle.iso_model.specs.Databases as databases
-use Rattle.iso_model.specs.Databases.{Database}
+use Rattle.iso_model.specs.Terms.Variables.{variables}
+use Rattle.iso_model.specs.Terms.Trees.{Tree}
+use Rattle.iso_model.specs.Search.Databases as databases
+use Rattle.iso_model.specs.Search.Databases.{Procedures}
 use Rattle.iso_store.specs.Presents.{Present, KeepsMarks}
 use Rattle.iso_plain.specs.declared.parts.Frame.{Frame}
 use Rattle.iso_plain.specs.declared.parts.Attempt.{Attempt}
@@ -19,7 +20,7 @@ use Rattle.iso_plain.proofs.StandingLemmas.{choices_keep, choices_push}
 -- ---- how many clauses are left
 
 -- A choice of a call leaves fewer clauses than the procedures have.
-pub left_pushed : {W M : Type 0} (ps : List Procedure) (db : Database) (cs : List (kept.Choice W M)) (c : kept.Choice W M) (j : ℕ) (d : databases.Clause) (others : List databases.Clause)
+pub left_pushed : {W M : Type 0} (ps : List Procedure) (db : Procedures) (cs : List (kept.Choice W M)) (c : kept.Choice W M) (j : ℕ) (d : databases.Clause) (others : List databases.Clause)
     → IsDatabase ps db → left_at db c.attempt.procedure j ≡ d ∷ others → c.attempt.clause ≡ j + 1 → clauses_left ps (cs ++ c ∷ []) + 1 ≤ clauses_left ps cs + most_clauses ps
 left_pushed ps db cs c j d others is h next =
     let more = left_last ps cs c in
@@ -28,7 +29,7 @@ left_pushed ps db cs c j d others is h next =
     omega (arith, more, many, most, next)
 
 -- Where there is a clause to be tried, the procedures have one.
-pub left_same : {W M : Type 0} (ps : List Procedure) (db : Database) (cs : List (kept.Choice W M)) (i j : ℕ) (d : databases.Clause) (others : List databases.Clause)
+pub left_same : {W M : Type 0} (ps : List Procedure) (db : Procedures) (cs : List (kept.Choice W M)) (i j : ℕ) (d : databases.Clause) (others : List databases.Clause)
     → IsDatabase ps db → left_at db i j ≡ d ∷ others → clauses_left ps cs + 1 ≤ clauses_left ps cs + most_clauses ps
 left_same ps db cs i j d others is h =
     let many = clauses_counted ps db i j d others is h in
@@ -92,9 +93,9 @@ module _ {S W M : Type 0} (present : S → Present W) (stands : S → M → Pres
   tries_later e attempt l call c (d ∷ cs) behind store choices mark t many same stood newest keeps pushed =
       let b = t.base in
       let k : Choice = record { call = call; clauses = d ∷ cs; behind = behind; subst = l.subst; next = l.next } in
-      let old : StandsForChoices (stands store) older e.base (left_at l.world.database) e.query.items l.query e.frames.items e.choices.items l.stack =
+      let old : StandsForChoices (stands store) older e.base (left_at l.world.database.procedures) e.query.items (variables l.query) e.frames.items e.choices.items l.stack =
       choices_keep (λ x p among there. keeps x.mark p there) t.choices in
-      let here : StandsForChoice (stands store) older e.base (left_at l.world.database) e.query.items l.query e.frames.items (later e attempt mark) k = record {
+      let here : StandsForChoice (stands store) older e.base (left_at l.world.database.procedures) e.query.items (variables l.query) e.frames.items (later e attempt mark) k = record {
         present = present e.store;
         mark = stood;
         newer = newest e.base b.present b.stands_for;
@@ -103,7 +104,7 @@ module _ {S W M : Type 0} (present : S → Present W) (stands : S → M → Pres
         goal = t.holds;
         call = sym t.call_is;
         behind = t.links;
-        clauses = sym (left_next l.world.database attempt.procedure attempt.clause c (d ∷ cs) t.clauses);
+        clauses = sym (left_next l.world.database.procedures attempt.procedure attempt.clause c (d ∷ cs) t.clauses);
         some = many;
         words = t.variables;
       } in

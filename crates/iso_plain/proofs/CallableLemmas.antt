@@ -1,13 +1,13 @@
 -- Which goals can be run: those of a clause, and those of a query.
 use Rattle.std.proofs.Common.{◌≡◌, ℕ, ◌+◌, List, [], ◌∷◌, ◌++◌, length, map, Some, true, sym, ◌∙◌}
-use Rattle.iso_model.specs.Trees.{Tree}
-use Rattle.iso_model.specs.Sorts.{is_term}
-use Rattle.iso_model.specs.Substitutions.{apply}
-use Rattle.iso_model.specs.Variables.{variables}
-use Rattle.iso_model.specs.Copies.{renamed, place_of}
-use Rattle.iso_model.specs.Bodies.{Body, converted}
-use Rattle.iso_model.specs.Databases as databases
-use Rattle.iso_model.specs.Unification.Listed.{distinct_covers}
+use Rattle.iso_model.specs.Terms.Trees.{Tree}
+use Rattle.iso_model.specs.Terms.Sorts.{is_term}
+use Rattle.iso_model.specs.Terms.Substitutions.{apply}
+use Rattle.iso_model.specs.Terms.Variables.{variables}
+use Rattle.iso_model.specs.Terms.Copies.{renamed, place_of}
+use Rattle.iso_model.specs.Search.Bodies.{Body, converted}
+use Rattle.iso_model.specs.Search.Databases as databases
+use Rattle.iso_model.specs.Terms.Unification.Listed.{distinct_covers}
 use Rattle.iso_plain.specs.declared.clauses.Clause.{Clause}
 use Rattle.iso_plain.specs.Goals.{leaves}
 use Rattle.iso_plain.specs.Linked.{goals_of, clause_goals}

@@ -1,25 +1,33 @@
 -- What a goal calls, by its name and arity.
-use Rattle.std.proofs.Common.{◌≡◌, ℕ, ◌<◌, List, [], ◌∷◌, length, Bool, true, false, ◌&&◌, nat_le, Option, Some, refl, ap, sym, ◌∙◌, subst, arith, codes, inl, inr, IfOk, Result, Ok, Err}
+use Rattle.std.proofs.Common.{◌≡◌, ℕ, ◌<◌, List, [], ◌∷◌, length, Bool, true, false, ◌&&◌, ◌==◌, nat_le, Option, Some, refl, ap, sym, ◌∙◌, subst, arith, codes, ◌⊎◌, inl, inr, IfOk, Result, Ok, Err}
 use Rattle.std.specs.Str.{bytes_eq}
-use Rattle.std.proofs.lemmas.Bool.{cases_Bool, ne_eqb}
-use Rattle.iso_model.specs.Trees.{Tree, Variable, Integer, Name, Apply, End, More, count}
-use Rattle.iso_model.specs.Sorts.{is_term, is_row}
-use Rattle.iso_model.specs.Substitutions.{Subst, apply}
-use Rattle.iso_model.specs.Errors.{key}
-use Rattle.iso_model.specs.Databases as databases
-use Rattle.iso_model.specs.Databases.{Key, Database, key_of, same_key, clauses_at}
-use Rattle.iso_model.specs.Walker.{Succeeds, Fails, User, selected, unknown, clauses_for}
-use Rattle.iso_model.proofs.SortLemmas.{count-apply}
+use Rattle.std.proofs.lemmas.Bool.{cases_Bool, eqb-true}
+use Rattle.iso_ops.specs.Operators.{Operator}
+use Rattle.iso_ops.specs.declared.settings.Flags.{Flags}
+use Rattle.iso_model.specs.Terms.Trees.{Tree, Variable, Integer, Name, Apply, End, More, count}
+use Rattle.iso_model.specs.Terms.Sorts.{is_term, is_row}
+use Rattle.iso_model.specs.Terms.Substitutions.{Subst, apply}
+use Rattle.iso_model.specs.Search.Bodies.{two}
+use Rattle.iso_model.specs.Search.Databases as databases
+use Rattle.iso_model.specs.Search.Databases.{Key, Procedures, key, key_of, same_key, clauses_at}
+use Rattle.iso_model.specs.Search.BuiltIns.{built_in, built_in_among}
+use Rattle.iso_model.specs.declared.built_ins.BuiltIn.{BuiltIn}
+use Rattle.iso_model.specs.declared.built_ins.BuiltIn.TheVariants.{True, Fail, Unify}
+use Rattle.iso_model.specs.Search.Walker.{World}
+use Rattle.iso_model.proofs.OnTerms.SortLemmas.{count-apply}
 use Rattle.iso_plain.specs.declared.clauses.Clause.{Clause}
 use Rattle.iso_plain.specs.declared.procedures.Procedure.{Procedure}
 use Rattle.iso_plain.specs.declared.calls.Called.{Called}
 use Rattle.iso_plain.specs.declared.calls.Called.TheVariants as call
-use Rattle.iso_plain.specs.Programs.{IsDatabase, has_key, place_at, AreClauses, no_clauses, more_clauses, no_procedures, more_procedures}
+use Rattle.iso_plain.specs.Programs.{IsDatabase, KeepsWorld, has_key, place_at, AreClauses, no_clauses, more_clauses, no_procedures, more_procedures}
 use Rattle.iso_plain.specs.EngineStates.{left_at}
-use Rattle.iso_plain.specs.Called.{Own, OwnTrue, OwnFail, OwnEquation, NotOwn, own_goal, IsNamed, IsCalled}
+use Rattle.iso_plain.specs.Called.{IsNamed, IsCalled, IsBuiltIn}
 use Rattle.iso_plain.specs.Equations.{IsEquation}
 use Rattle.iso_plain.specs.Callable.{IsGoal}
 use Rattle.iso_plain.proofs.ProgramLemmas.{found_procedure, no_procedure, found_cases, same_test}
+
+some_same : {X : Type 0} {x y : X} → Some x ≡ Some y → x ≡ y
+some_same h = cc
 
 -- ---- bindings keep a goal's name and arity
 
@@ -38,92 +46,81 @@ key_kept s (Apply f ts) k is h = ap (λ (n : ℕ). Some (key f n)) (count-apply 
 key_kept s End k is h = absurd cc
 key_kept s (More t ts) k is h = absurd cc
 
--- ---- the language's own goals
+-- ---- equations
 
--- a goal is one of the language's own, or it isn't
-abbrev pub IsOwn : Own → Tree → Type 0
-IsOwn OwnTrue t = selected t ≡ Succeeds
-IsOwn OwnFail t = selected t ≡ Fails
-IsOwn OwnEquation t = (a b : Tree) × IsEquation t a b
-IsOwn NotOwn t = selected t ≡ User
+-- a compound of two arguments
+two_arguments : (f : List ℕ) (ts : Tree) → is_row ts ≡ true → count ts ≡ 2 → (a b : Tree) × (Apply f ts ≡ two f a b)
+two_arguments f (Variable n) h many = absurd cc
+two_arguments f (Integer z) h many = absurd cc
+two_arguments f (Name g) h many = absurd cc
+two_arguments f (Apply g us) h many = absurd cc
+two_arguments f End h many = absurd (omega (arith, many))
+two_arguments f (More a (Variable n)) h many = absurd (cc ((both_of (is_term a) false h).1))
+two_arguments f (More a (Integer z)) h many = absurd (cc ((both_of (is_term a) false h).1))
+two_arguments f (More a (Name g)) h many = absurd (cc ((both_of (is_term a) false h).1))
+two_arguments f (More a (Apply g us)) h many = absurd (cc ((both_of (is_term a) false h).1))
+two_arguments f (More a End) h many = absurd (omega (arith, many))
+two_arguments f (More a (More b End)) h many = (a, b, refl)
+two_arguments f (More a (More b (More d us))) h many = absurd (omega (arith, many))
+two_arguments f (More a (More b (Variable n))) h many = absurd (cc ((both_of (is_term b) false (both_of (is_term a) (is_row (More b (Variable n))) h).1).1))
+two_arguments f (More a (More b (Integer z))) h many = absurd (cc ((both_of (is_term b) false (both_of (is_term a) (is_row (More b (Integer z))) h).1).1))
+two_arguments f (More a (More b (Name g))) h many = absurd (cc ((both_of (is_term b) false (both_of (is_term a) (is_row (More b (Name g))) h).1).1))
+two_arguments f (More a (More b (Apply g us))) h many = absurd (cc ((both_of (is_term b) false (both_of (is_term a) (is_row (More b (Apply g us))) h).1).1))
 
-own_as : (o : Own) (k : Key) (t : Tree) → own_goal k ≡ o → IsOwn o t → IsOwn (own_goal k) t
-own_as o k t e h = subst (λ (x : Own). IsOwn x t) (sym e) h
+same_arity : (a b : Key) → same_key a b ≡ true → a.arity ≡ b.arity
+same_arity a b h = eqb-true a.arity b.arity (both_of (a.arity == b.arity) (bytes_eq a.name b.name) h).0
 
-own_name : (f : List ℕ) → IsOwn (own_goal (key f 0)) (Name f)
-own_name f =
-    elim (cases_Bool (bytes_eq f (codes "true"))) [
-      | inl same ↦ own_as OwnTrue (key f 0) (Name f) (rw same refl) (rw same refl)
-      | inr other ↦ (elim (cases_Bool (bytes_eq f (codes "fail"))) [
-        | inl same ↦ own_as OwnFail (key f 0) (Name f) (rw (other, same) refl) (rw (other, same) refl)
-        | inr neither ↦ own_as NotOwn (key f 0) (Name f) (rw (other, neither) refl) (rw (other, neither) refl)
+first_built_in : (k : Key) (e : Key × BuiltIn) (es : List (Key × BuiltIn)) (b : BuiltIn) → built_in_among (e ∷ es) k ≡ Some b → ((same_key e.0 k ≡ true) × (e.1 ≡ b)) ⊎ (built_in_among es k ≡ Some b)
+first_built_in k e es b h =
+    elim (cases_Bool (same_key e.0 k)) [
+      | inl here ↦ (let is : Some e.1 ≡ Some b = rw here at h in inl (here, some_same is))
+      | inr later ↦ inr (rw later at h)
+    ]
+
+-- the built-in that unifies has two arguments
+unify_arity : (k : Key) → built_in k ≡ Some Unify → k.arity ≡ 2
+unify_arity k h =
+    elim (first_built_in k (key (codes "true") 0, True) ((key (codes "fail") 0, Fail) ∷ (key (codes "=") 2, Unify) ∷ []) Unify h) [
+      | inl here ↦ absurd (cc (here.1))
+      | inr second ↦ (elim (first_built_in k (key (codes "fail") 0, Fail) ((key (codes "=") 2, Unify) ∷ []) Unify second) [
+        | inl here ↦ absurd (cc (here.1))
+        | inr third ↦ (elim (first_built_in k (key (codes "=") 2, Unify) [] Unify third) [
+          | inl here ↦ sym (same_arity (key (codes "=") 2) k here.0)
+          | inr none ↦ absurd (cc none)
+        ])
       ])
     ]
 
--- a name with two arguments
-own_two : (f : List ℕ) (a b : Tree) → IsOwn (own_goal (key f 2)) (Apply f (More a (More b End)))
-own_two f a b =
-    elim (cases_Bool (bytes_eq f (codes "="))) [
-      | inl same ↦ own_as OwnEquation (key f 2) (Apply f (More a (More b End))) (rw same refl) (a, b, record { name = f; is = refl; equates = rw same refl })
-      | inr other ↦ own_as NotOwn (key f 2) (Apply f (More a (More b End))) (rw other refl) (rw other refl)
-    ]
-
--- with neither none nor two
-none_own : (f : List ℕ) (n : ℕ) → (n ≡ 0 → ⊥) → (n ≡ 2 → ⊥) → own_goal (key f n) ≡ NotOwn
-none_own f n some many = rw (ne_eqb n 0 some, ne_eqb n 2 many) refl
-
-own_row : (f : List ℕ) (a ts : Tree) → is_row ts ≡ true → IsOwn (own_goal (key f (count (More a ts)))) (Apply f (More a ts))
-own_row f a (Variable n) h = absurd cc
-own_row f a (Integer z) h = absurd cc
-own_row f a (Name g) h = absurd cc
-own_row f a (Apply g us) h = absurd cc
-own_row f a End h = refl
-own_row f a (More b (Variable n)) h = absurd (cc ((both_of (is_term b) false h).1))
-own_row f a (More b (Integer z)) h = absurd (cc ((both_of (is_term b) false h).1))
-own_row f a (More b (Name g)) h = absurd (cc ((both_of (is_term b) false h).1))
-own_row f a (More b (Apply g us)) h = absurd (cc ((both_of (is_term b) false h).1))
-own_row f a (More b End) h = own_two f a b
-own_row f a (More b (More d us)) h =
-    own_as NotOwn (key f (count (More a (More b (More d us))))) (Apply f (More a (More b (More d us))))
-    (none_own f (count (More a (More b (More d us)))) (λ e. omega (arith, e)) (λ e. omega (arith, e))) refl
-
-own_compound : (f : List ℕ) (ts : Tree) → is_term (Apply f ts) ≡ true → IsOwn (own_goal (key f (count ts))) (Apply f ts)
-own_compound f (Variable n) is = absurd cc
-own_compound f (Integer z) is = absurd cc
-own_compound f (Name g) is = absurd cc
-own_compound f (Apply g us) is = absurd cc
-own_compound f End is = absurd cc
-own_compound f (More a ts) is = own_row f a ts (both_of (is_term a) (is_row ts) (row_of_goal f (More a ts) is)).1
-
-some_same : {X : Type 0} {x y : X} → Some x ≡ Some y → x ≡ y
-some_same h = cc
-
-own_by_key : (t : Tree) (k : Key) → is_term t ≡ true → key_of t ≡ Some k → IsOwn (own_goal k) t
-own_by_key (Variable n) k is h = absurd cc
-own_by_key (Integer z) k is h = absurd cc
-own_by_key (Name f) k is h = subst (λ (x : Key). IsOwn (own_goal x) (Name f)) (some_same h) (own_name f)
-own_by_key (Apply f ts) k is h = subst (λ (x : Key). IsOwn (own_goal x) (Apply f ts)) (some_same h) (own_compound f ts is)
-own_by_key End k is h = absurd cc
-own_by_key (More t ts) k is h = absurd cc
-
-pub own_is : (t : Tree) (k : Key) (o : Own) → is_term t ≡ true → key_of t ≡ Some k → own_goal k ≡ o → IsOwn o t
-own_is t k o is named h = subst (λ (x : Own). IsOwn x t) h (own_by_key t k is named)
+pub equation_of : (t : Tree) → is_term t ≡ true → IsBuiltIn t Unify → (a b : Tree) × IsEquation t a b
+equation_of (Variable n) is h = absurd (let e = h.named in cc e)
+equation_of (Integer z) is h = absurd (let e = h.named in cc e)
+equation_of (Name f) is h =
+    let same : key f 0 ≡ h.key = some_same h.named in
+    let many : 0 ≡ 2 = ap (λ (k : Key). k.arity) same ∙ unify_arity h.key h.found in
+    absurd (omega (arith, many))
+equation_of (Apply f ts) is h =
+    let same : key f (count ts) ≡ h.key = some_same h.named in
+    let many : count ts ≡ 2 = ap (λ (k : Key). k.arity) same ∙ unify_arity h.key h.found in
+    let parts = two_arguments f ts (row_of_goal f ts is) many in
+    (parts.0, parts.1, record { name = f; is = parts.2; equates = h })
+equation_of End is h = absurd (let e = h.named in cc e)
+equation_of (More t ts) is h = absurd (let e = h.named in cc e)
 
 -- ---- the clauses at a place
 
 -- the clauses of the procedure with this key, which are some
-pub record Clauses (db : Database) (k : Key) (n : ℕ) : Type 0 where
+pub record Clauses (db : Procedures) (k : Key) (n : ℕ) : Type 0 where
   pub first : databases.Clause
   pub others : List databases.Clause
   pub found : clauses_at db k ≡ Some (first ∷ others)
   pub there : left_at db n 0 ≡ first ∷ others
 
-clauses_some : {ks : List Clause} {cs : List databases.Clause} (db : Database) (k : Key) (n : ℕ) → AreClauses ks cs → 0 < length ks → clauses_at db k ≡ Some cs → left_at db n 0 ≡ cs → Clauses db k n
+clauses_some : {ks : List Clause} {cs : List databases.Clause} (db : Procedures) (k : Key) (n : ℕ) → AreClauses ks cs → 0 < length ks → clauses_at db k ≡ Some cs → left_at db n 0 ≡ cs → Clauses db k n
 clauses_some db k n no_clauses some found there = absurd (omega (arith, some))
 clauses_some db k n (more_clauses {c = c} {cs = cs} is others) some found there = record { first = c; others = cs; found = found; there = there }
 
 -- the place of the key's procedure in the database
-left_here : {ps : List Procedure} {db : Database} (k : Key) (n : ℕ) (cs : List databases.Clause) → IsDatabase ps db → place_at ps k ≡ Some n → clauses_at db k ≡ Some cs → left_at db n 0 ≡ cs
+left_here : {ps : List Procedure} {db : Procedures} (k : Key) (n : ℕ) (cs : List databases.Clause) → IsDatabase ps db → place_at ps k ≡ Some n → clauses_at db k ≡ Some cs → left_at db n 0 ≡ cs
 left_here k n cs no_procedures h found = absurd cc
 left_here {ps = kept ∷ ks} {db = p ∷ qs} k n cs (more_procedures i rest) h found =
     elim (found_cases (has_key k) kept ks n h) [
@@ -135,7 +132,7 @@ left_here {ps = kept ∷ ks} {db = p ∷ qs} k n cs (more_procedures i rest) h f
           rw later.2 (left_here k later.0 cs rest later.3 is))
     ]
 
-pub clauses_there : {ps : List Procedure} {db : Database} (k : Key) (n : ℕ) (d : Procedure) → IsDatabase ps db → place_at ps k ≡ Some n → Clauses db k n
+pub clauses_there : {ps : List Procedure} {db : Procedures} (k : Key) (n : ℕ) (d : Procedure) → IsDatabase ps db → place_at ps k ≡ Some n → Clauses db k n
 clauses_there {db = db} k n d is h =
     let f = found_procedure k n is h in
     let kept = f.is d in
@@ -147,21 +144,21 @@ first_of : {n : ℕ} (ps : List Procedure) → n < length ps → Procedure
 first_of [] h = absurd (omega (arith, h))
 first_of (p ∷ ps) h = p
 
-pub named_calls : (ps : List Procedure) (db : Database) (t : Tree) (k : Key) (c : Called) → IsDatabase ps db → is_term t ≡ true → key_of t ≡ Some k → IsNamed ps k c → IsCalled ps db t c
-named_calls ps db t k call.True is goal named h = own_is t k OwnTrue goal named h
-named_calls ps db t k call.Fail is goal named h = own_is t k OwnFail goal named h
-named_calls ps db t k call.Equates is goal named h = own_is t k OwnEquation goal named h
-named_calls ps db t k (call.User place) is goal named h =
-    let at = clauses_there k place (first_of ps (found_procedure k place is h.1).within) is h.1 in
-    (at.first, at.others, own_is t k NotOwn goal named h.0, (found_procedure k place is h.1).within, ap (λ (o : Option Key). clauses_for o db) named ∙ at.found, at.there)
-named_calls ps db t k (call.Unknown ball) is goal named h =
-    (own_is t k NotOwn goal named h.0, ap (λ (o : Option Key). clauses_for o db) named ∙ no_procedure k is h.1, h.2 ∙ ap (λ (o : Option Key). unknown o t) (sym named))
+pub named_calls : (ps : List Procedure) (ops : List Operator) (flags : Flags) (w : World) (t : Tree) (k : Key) (c : Called) → KeepsWorld ps ops flags w → key_of t ≡ Some k → IsNamed ps flags k c → IsCalled ps w t c
+named_calls ps ops flags w t k (call.BuiltIn b) is named h = record { key = k; named = named; found = h }
+named_calls ps ops flags w t k (call.User place) is named h =
+    let at = clauses_there k place (first_of ps (found_procedure k place is.procedures_are h.1).within) is.procedures_are h.1 in
+    record { key = k; first = at.first; others = at.others; user = record { named = named; none = h.0 }; within = (found_procedure k place is.procedures_are h.1).within; found = at.found; left = at.there }
+named_calls ps ops flags w t k call.Fails is named h =
+    (k, record { named = named; none = h.0 }, no_procedure k is.procedures_are h.1, ap (λ (f : Flags). f.unknown) (sym is.flags_are) ∙ h.2)
+named_calls ps ops flags w t k (call.Unknown ball) is named h =
+    (k, record { named = named; none = h.0 }, no_procedure k is.procedures_are h.1, ap (λ (f : Flags). f.unknown) (sym is.flags_are) ∙ h.2, h.3)
 
 key_by : (s : Subst) (t : Tree) (k : Key) → IsGoal t → key_of (apply s t) ≡ Some k → key_of t ≡ Some k
 key_by s t k goal h = goal.key.1 ∙ (sym (key_kept s t goal.key.0 goal.is goal.key.1) ∙ h)
 
 -- The goal that bindings have given this name and arity calls what these call.
-pub calls_shown : {E : Type 0} (ps : List Procedure) (db : Database) (s : Subst) (t : Tree) (k : Key) (r : Result Called E) → IsDatabase ps db → IsGoal t → key_of (apply s t) ≡ Some k
-    → IfOk r (IsNamed ps k) → IfOk r (IsCalled ps db t)
-calls_shown ps db s t k (Ok c) is goal shown named = named_calls ps db t k c is goal.is (key_by s t k goal shown) named
-calls_shown ps db s t k (Err e) is goal shown named = tt
+pub calls_shown : {E : Type 0} (ps : List Procedure) (ops : List Operator) (flags : Flags) (w : World) (s : Subst) (t : Tree) (k : Key) (r : Result Called E) → KeepsWorld ps ops flags w → IsGoal t → key_of (apply s t) ≡ Some k
+    → IfOk r (IsNamed ps flags k) → IfOk r (IsCalled ps w t)
+calls_shown ps ops flags w s t k (Ok c) is goal shown named = named_calls ps ops flags w t k c is (key_by s t k goal shown) named
+calls_shown ps ops flags w s t k (Err e) is goal shown named = tt

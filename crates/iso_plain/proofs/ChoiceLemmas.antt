@@ -1,8 +1,9 @@
 -- The newest choice is left at its next clause, or is taken away with its last one.
 use Rattle.std.proofs.Common.{◌≡◌, ℕ, zero, suc, ◌+◌, ◌-◌, ◌<◌, ◌≤◌, List, [], ◌∷◌, ◌++◌, length, take, get_or, slice_set, Some, true, refl, ap, sym, ◌∙◌, subst, arith, Vec, Global}
 use Rattle.std.specs.List.{slice_get}
-use Rattle.iso_model.specs.Databases as databases
-use Rattle.iso_model.specs.Databases.{Database}
+use Rattle.iso_model.specs.Terms.Variables.{variables}
+use Rattle.iso_model.specs.Search.Databases as databases
+use Rattle.iso_model.specs.Search.Databases.{Procedures}
 use Rattle.iso_plain.specs.declared.procedures.Procedure.{Procedure}
 use Rattle.iso_plain.specs.declared.parts.Choice as kept
 use Rattle.iso_plain.specs.Programs.{IsDatabase}
@@ -16,12 +17,12 @@ use Rattle.iso_plain.proofs.CountLemmas.{clauses_counted, left_next, left_last}
 use Rattle.iso_plain.proofs.StandingLemmas.{choices_push, choices_keep}
 
 -- The clauses behind the one at this place.
-pub record Rest (ps : List Procedure) (db : Database) (i j : ℕ) (cs : List databases.Clause) : Type 0 where
+pub record Rest (ps : List Procedure) (db : Procedures) (i j : ℕ) (cs : List databases.Clause) : Type 0 where
   pub within : i < length ps
   pub next : left_at db i (j + 1) ≡ cs
   pub count : clauses_at_place ps i ≡ j + 1 + length cs
 
-pub rest_at : (ps : List Procedure) (db : Database) (i j : ℕ) (c : databases.Clause) (cs : List databases.Clause) → IsDatabase ps db → left_at db i j ≡ c ∷ cs → Rest ps db i j cs
+pub rest_at : (ps : List Procedure) (db : Procedures) (i j : ℕ) (c : databases.Clause) (cs : List databases.Clause) → IsDatabase ps db → left_at db i j ≡ c ∷ cs → Rest ps db i j cs
 rest_at ps db i j c cs is h = record {
   within = (kept_at ps db i j c cs is h).within;
   next = left_next db i j c cs h;
@@ -84,8 +85,8 @@ fewer_choices ps before c within = (let old = left_last ps before c in omega (ar
 module _ {S W M : Type 0} (present : S → Present W) (stands : S → M → Present W → Type 0) (older : M → M → Type 0) where
   -- the clauses behind the one that is tried
   pub rest_of : (e : Plain S W M) (c : kept.Choice W M) (l : Linked) (k : Choice) (below : List Choice) (x : databases.Clause) (xs : List databases.Clause)
-      → WentBack present stands older e c l k below → k.clauses ≡ x ∷ xs → Rest e.procedures.items l.world.database c.attempt.procedure c.attempt.clause xs
-  rest_of e c l k below x xs w is = rest_at e.procedures.items l.world.database c.attempt.procedure c.attempt.clause x xs w.world.database (sym w.clauses ∙ is)
+      → WentBack present stands older e c l k below → k.clauses ≡ x ∷ xs → Rest e.procedures.items l.world.database.procedures c.attempt.procedure c.attempt.clause xs
+  rest_of e c l k below x xs w is = rest_at e.procedures.items l.world.database.procedures c.attempt.procedure c.attempt.clause x xs w.world.procedures_are (sym w.clauses ∙ is)
 
   -- what is left at the choice, whatever it is
   pub record Within (e : Plain S W M) (c : kept.Choice W M) : Type 0 where
@@ -111,11 +112,11 @@ module _ {S W M : Type 0} (present : S → Present W) (stands : S → M → Pres
   next_choices : (e : Plain S W M) (c : kept.Choice W M) (l : Linked) (k : Choice) (below : List Choice) (x : databases.Clause) (xs : List databases.Clause) (new : List (kept.Choice W M))
       → WentBack present stands older e c l k below → k.clauses ≡ x ∷ xs → c.attempt.clause + 1 < clauses_at_place e.procedures.items c.attempt.procedure
       → new ≡ take (length e.choices.items - 1) e.choices.items ++ next_of c ∷ []
-      → StandsForChoices (stands e.store) older e.base (left_at l.world.database) e.query.items l.query e.frames.items new (with_choice k.call xs k.behind k.subst k.next below)
+      → StandsForChoices (stands e.store) older e.base (left_at l.world.database.procedures) e.query.items (variables l.query) e.frames.items new (with_choice k.call xs k.behind k.subst k.next below)
   next_choices e c l k below x [] new w is more made = absurd (let r = rest_of e c l k below x [] w is in let many = r.count in omega (arith, many, more))
   next_choices e c l k below x (y ∷ ys) new w is more made =
       let r = rest_of e c l k below x (y ∷ ys) w is in
-      subst (λ (ds : List (kept.Choice W M)). StandsForChoices (stands e.store) older e.base (left_at l.world.database) e.query.items l.query e.frames.items ds
+      subst (λ (ds : List (kept.Choice W M)). StandsForChoices (stands e.store) older e.base (left_at l.world.database.procedures) e.query.items (variables l.query) e.frames.items ds
       (record { call = k.call; clauses = y ∷ ys; behind = k.behind; subst = k.subst; next = k.next } ∷ below)) (sym made)
       (choices_push (next_of c) (record { call = k.call; clauses = y ∷ ys; behind = k.behind; subst = k.subst; next = k.next }) w.kept_frames
       (record {
@@ -129,7 +130,7 @@ module _ {S W M : Type 0} (present : S → Present W) (stands : S → M → Pres
         behind = w.links;
         clauses = sym r.next;
         some = omega arith;
-        words = w.variables;
+        words = w.words;
       }) w.newer w.stands_below)
 
   room_with : (steps : ℕ) (k : Choice) (below : List Choice) (xs : List databases.Clause) → HaveRoom steps (k ∷ below) → HaveRoom steps (with_choice k.call xs k.behind k.subst k.next below)
@@ -153,17 +154,17 @@ module _ {S W M : Type 0} (present : S → Present W) (stands : S → M → Pres
     holds = w.holds;
     call_is = sym w.call_is;
     links = w.links;
-    variables = w.variables;
+    variables = w.words;
     clauses = sym w.clauses ∙ is;
   }
 
   last_choices : (e : Plain S W M) (store : S) (c : kept.Choice W M) (l : Linked) (k : Choice) (below : List Choice) (x : databases.Clause) (xs : List databases.Clause) (new : List (kept.Choice W M))
       → WentBack present stands older e c l k below → k.clauses ≡ x ∷ xs → clauses_at_place e.procedures.items c.attempt.procedure ≤ c.attempt.clause + 1
       → ((m : M) (p : Present W) → older m c.mark → stands e.store m p → stands store m p) → new ≡ take (length e.choices.items - 1) e.choices.items
-      → StandsForChoices (stands store) older e.base (left_at l.world.database) e.query.items l.query e.frames.items new (with_choice k.call xs k.behind k.subst k.next below)
+      → StandsForChoices (stands store) older e.base (left_at l.world.database.procedures) e.query.items (variables l.query) e.frames.items new (with_choice k.call xs k.behind k.subst k.next below)
   last_choices e store c l k below x (y ∷ ys) new w is none marks made = absurd (let r = rest_of e c l k below x (y ∷ ys) w is in let many = r.count in omega (arith, many, none))
   last_choices e store c l k below x [] new w is none marks made =
-      subst (λ (ds : List (kept.Choice W M)). StandsForChoices (stands store) older e.base (left_at l.world.database) e.query.items l.query e.frames.items ds below) (sym made)
+      subst (λ (ds : List (kept.Choice W M)). StandsForChoices (stands store) older e.base (left_at l.world.database.procedures) e.query.items (variables l.query) e.frames.items ds below) (sym made)
       (choices_keep (λ d p among stood. marks d.mark p (w.newer d among) stood) w.stands_below)
 
   -- the newest choice was taken away with its last clause
@@ -187,6 +188,6 @@ module _ {S W M : Type 0} (present : S → Present W) (stands : S → M → Pres
         holds = subst (λ (p : Present W). p.holds c.attempt.goal ≡ true) back w.holds;
         call_is = subst (λ (p : Present W). p.term c.attempt.goal ≡ k.call) back (sym w.call_is);
         links = subst (λ (p : Present W). Chain p e.frames.items c.attempt.rest k.behind) back w.links;
-        variables = subst (λ (p : Present W). AreVariables p e.query.items l.query) back w.variables;
+        variables = subst (λ (p : Present W). AreVariables p e.query.items (variables l.query)) back w.words;
         clauses = sym w.clauses ∙ is;
       }

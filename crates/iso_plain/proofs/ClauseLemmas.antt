@@ -6,13 +6,13 @@ use Rattle.std.proofs.lemmas.Bool.{cases_Bool}
 use Rattle.std.proofs.lemmas.Slice.Eq.{bytes_eq-Decides}
 use Rattle.iso_model.specs.declared.terms.Term.{Term}
 use Rattle.iso_model.specs.declared.terms.Term.TheVariants.{Compound}
-use Rattle.iso_model.specs.Trees.{Tree, Variable, Integer, Name, Apply, End, More, row}
-use Rattle.iso_model.specs.Terms.{term_of}
-use Rattle.iso_model.specs.Bodies.{Body, Run, And, converted, both, one, two, is_true}
-use Rattle.iso_model.specs.Databases.{key_of}
-use Rattle.iso_model.specs.Errors.{key}
-use Rattle.iso_model.specs.Additions.{head_of, body_of}
-use Rattle.iso_model.proofs.RowLemmas.{term_of_compound, count_row_of}
+use Rattle.iso_model.specs.Terms.Trees.{Tree, Variable, Integer, Name, Apply, End, More, row}
+use Rattle.iso_model.specs.Terms.TermOf.{term_of}
+use Rattle.iso_model.specs.Search.Bodies.{Body, Run, And, converted, both, one, two, is_true}
+use Rattle.iso_model.specs.Search.Databases.{key_of}
+use Rattle.iso_model.specs.Search.Errors.{key}
+use Rattle.iso_model.specs.Search.Additions.{head_of, body_of}
+use Rattle.iso_model.proofs.OnTerms.RowLemmas.{term_of_compound, count_row_of}
 use Rattle.iso_plain.specs.declared.bodies.BodyFault.TheVariants.{NotCallable}
 use Rattle.iso_plain.specs.Goals.{AppendsGoals}
 use Rattle.iso_plain.specs.Linked.{goals_of}

@@ -1,7 +1,7 @@
 -- How many clauses a procedure has, and how many are left at the choices.
 use Rattle.std.proofs.Common.{◌≡◌, ℕ, zero, suc, ◌+◌, ◌-◌, ◌^◌, ◌<◌, ◌≤◌, List, [], ◌∷◌, ◌++◌, length, drop, get_or, refl, ap, ◌∙◌, subst, arith}
-use Rattle.iso_model.specs.Databases as databases
-use Rattle.iso_model.specs.Databases.{Database}
+use Rattle.iso_model.specs.Search.Databases as databases
+use Rattle.iso_model.specs.Search.Databases.{Procedures}
 use Rattle.iso_plain.specs.declared.clauses.Clause.{Clause}
 use Rattle.iso_plain.specs.declared.parts.Choice as kept
 use Rattle.iso_plain.specs.declared.procedures.Procedure.{Procedure}
@@ -34,14 +34,14 @@ dropped_next (d ∷ cs) zero c others h = cc
 dropped_next (d ∷ cs) (suc j) c others h = dropped_next cs j c others h
 
 -- The clauses of the procedure at a place: those before the attempt's, that one and those behind it.
-pub clauses_counted : (ps : List Procedure) (db : Database) (i j : ℕ) (c : databases.Clause) (others : List databases.Clause) → IsDatabase ps db → left_at db i j ≡ c ∷ others
+pub clauses_counted : (ps : List Procedure) (db : Procedures) (i j : ℕ) (c : databases.Clause) (others : List databases.Clause) → IsDatabase ps db → left_at db i j ≡ c ∷ others
     → clauses_at_place ps i ≡ j + 1 + length others
 clauses_counted ps db i j c others no_procedures h = absurd (cc)
 clauses_counted ps db zero j c others (more_procedures {kept = p} {p = q} is more) h = as_many p.clauses.items q.clauses is.clauses ∙ length_dropped q.clauses j c others h
 clauses_counted ps db (suc i) j c others (more_procedures {ks = ps'} {ps = db'} is more) h = clauses_counted ps' db' i j c others more h
 
 -- what is left behind a clause
-pub left_next : (db : Database) (i j : ℕ) (c : databases.Clause) (others : List databases.Clause) → left_at db i j ≡ c ∷ others → left_at db i (j + 1) ≡ others
+pub left_next : (db : Procedures) (i j : ℕ) (c : databases.Clause) (others : List databases.Clause) → left_at db i j ≡ c ∷ others → left_at db i (j + 1) ≡ others
 left_next [] i j c others h = absurd (cc)
 left_next (p ∷ db) zero j c others h =
     let next : suc j ≡ j + 1 = omega arith in

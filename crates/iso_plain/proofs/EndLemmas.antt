@@ -1,9 +1,10 @@
 -- What is true behind an answer, behind a ball that nothing catches, and in an idle engine.
 use Rattle.std.proofs.Common.{◌≡◌, ℕ, zero, suc, ◌<◌, List, [], ◌∷◌, length, get_or, map, Some, None, true, refl, ap, sym, ◌∙◌, subst, arith, Vec, Global}
 use Rattle.std.specs.Prelude.{option_map}
-use Rattle.iso_model.specs.Terms.{term_of}
-use Rattle.iso_model.specs.Walker.{State, World, Ending, NoMore, Uncaught}
-use Rattle.iso_model.specs.Runs.{Finishes}
+use Rattle.iso_model.specs.Terms.Variables.{variables}
+use Rattle.iso_model.specs.Terms.TermOf.{term_of}
+use Rattle.iso_model.specs.Search.Walker.{State, World, Ending, NoMore, Uncaught}
+use Rattle.iso_model.specs.Search.Runs.{Finishes}
 use Rattle.iso_model.specs.declared.terms.Term.{Term}
 use Rattle.iso_model.specs.declared.pauses.Ball.{Ball}
 use Rattle.iso_model.specs.declared.pauses.Pause.TheVariants as pause
@@ -12,7 +13,7 @@ use Rattle.iso_plain.specs.declared.parts.Now.{Now}
 use Rattle.iso_plain.specs.declared.parts.Now.TheVariants as now
 use Rattle.iso_plain.specs.declared.plain.Move.TheVariants as move
 use Rattle.iso_plain.specs.declared.plain.Plain.{Plain}
-use Rattle.iso_plain.specs.Linked.{Linked, Running, Failing, Raising, IsState, Does, idle_linked}
+use Rattle.iso_plain.specs.Linked.{Linked, Running, Failing, Raising, IsState, idle_linked}
 use Rattle.iso_plain.specs.Standing.{AreVariables, no_word, one_word, DoesNext}
 use Rattle.iso_plain.specs.Programs.{IsWorld}
 use Rattle.iso_plain.specs.EngineStates.{IsEngine, Represents, StandsBy, StandsFor, Moves}
@@ -49,9 +50,8 @@ module _ {S W M : Type 0} (present : S → Present W) (stands : S → M → Pres
   answers_engine e s values doing are r =
       let l = r.search in
       let next : DoesNext (present e.store) e.frames.items e.query.items now.Answering (option_map (λ b. term_of b.term) e.raised) l = rw doing at r.engine.next in
-      let shown : map term_of values.items ≡ map l.subst l.query = are l.query next.1.words ∙ ap (λ f. map f l.query) next.1.subst in
-      let list : Does (Running []) s.list = subst (λ d. Does d s.list) next.0 r.state.list in
-      let c = answers l s r.state.around list in (
+      let shown : map term_of values.items ≡ map l.subst (variables l.query) = are (variables l.query) next.1.words ∙ ap (λ f. map f (variables l.query)) next.1.subst in
+      let c = answers l s r.state next.0 in (
         rw shown (record {
           at = c.at;
           new = c.new;
@@ -94,8 +94,7 @@ module _ {S W M : Type 0} (present : S → Present W) (stands : S → M → Pres
       let l = r.search in
       let next : DoesNext (present e.store) e.frames.items e.query.items now.Raising (option_map (λ b. term_of b.term) e.raised) l = rw doing at r.engine.next in
       let same : term_of ball.term ≡ next.0 = cc (ap (option_map (λ b. term_of b.term)) kept, next.2) in
-      let list : Does (Raising next.0) s.list = subst (λ d. Does d s.list) next.1 r.state.list in
-      (rw same (finishes_engine new s (Uncaught next.0) l.world idle (cleared l.world r.engine.world) (raises l s next.0 r.state.around list)), rw idle refl)
+      (rw same (finishes_engine new s (Uncaught next.0) l.world idle (cleared l.world r.engine.world) (raises l s next.0 r.state next.1)), rw idle refl)
 
   -- ---- an idle engine
 
@@ -104,6 +103,5 @@ module _ {S W M : Type 0} (present : S → Present W) (stands : S → M → Pres
       let l = r.search in
       let same : l ≡ idle_linked l.world = rw doing at r.engine.next in
       let is : IsEngine present stands older e (idle_linked l.world) = subst (λ m. IsEngine present stands older e m) same r.engine in
-      let list : Does Failing s.list = subst (λ m. Does m.doing s.list) same r.state.list in
       let none : l.stack ≡ [] = ap (λ m. m.stack) same in
-      (finishes_engine e s NoMore l.world doing is (fails_last l s r.state.around list none), rw doing refl)
+      (finishes_engine e s NoMore l.world doing is (fails_last l s r.state (ap (λ m. m.doing) same) none), rw doing refl)

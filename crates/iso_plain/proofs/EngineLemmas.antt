@@ -1,12 +1,13 @@
 -- The engine's parts behind a clause that was tried.
 use Rattle.std.proofs.Common.{◌≡◌, ℕ, ◌+◌, List, ◌++◌, Option, Some, None, refl, ap, ◌∙◌, arith, inl, inr, Vec, Global}
 use Rattle.std.specs.Prelude.{option_map}
-use Rattle.iso_model.specs.Trees.{Tree}
-use Rattle.iso_model.specs.Terms.{term_of}
-use Rattle.iso_model.specs.Substitutions.{Subst, apply, compose}
-use Rattle.iso_model.specs.Unifiers.{Unifier, NeverEqual}
-use Rattle.iso_model.specs.Copies.{renamed}
-use Rattle.iso_model.specs.Databases as databases
+use Rattle.iso_model.specs.Terms.Variables.{variables}
+use Rattle.iso_model.specs.Terms.Trees.{Tree}
+use Rattle.iso_model.specs.Terms.TermOf.{term_of}
+use Rattle.iso_model.specs.Terms.Substitutions.{Subst, apply, compose}
+use Rattle.iso_model.specs.Terms.Unifiers.{Unifier, NeverEqual}
+use Rattle.iso_model.specs.Terms.Copies.{renamed}
+use Rattle.iso_model.specs.Search.Databases as databases
 use Rattle.iso_store.specs.Presents.{Present, KeepsWords, KeepsMarks}
 use Rattle.iso_plain.specs.declared.clauses.Clause.{Clause}
 use Rattle.iso_plain.specs.declared.parts.Frame.{Frame}
@@ -33,9 +34,9 @@ module _ {S W M : Type 0} (present : S → Present W) (stands : S → M → Pres
   pub base_kept : (old new : M → Present W → Type 0) (base : M) → KeepsMarks old new → IsBase old base → IsBase new base
   base_kept old new base keeps b = record { present = b.present; stands_for = keeps base b.present b.stands_for; substitution = b.substitution; next = b.next }
 
-  choices_on : (e : Plain S W M) (attempt : Attempt W) (l : Linked) (call : Tree) (c : databases.Clause) (cs : List databases.Clause) (behind : List Tree) (store : S) (frames : Vec (Frame W) Global)
+  pub choices_on : (e : Plain S W M) (attempt : Attempt W) (l : Linked) (call : Tree) (c : databases.Clause) (cs : List databases.Clause) (behind : List Tree) (store : S) (frames : Vec (Frame W) Global)
       → Tries present stands older e attempt l call c cs behind → KeepsMarks (stands e.store) (stands store) → AddsFrames e.frames.items frames.items
-      → StandsForChoices (stands store) older e.base (left_at l.world.database) e.query.items l.query frames.items e.choices.items (with_choice call cs behind l.subst l.next l.stack)
+      → StandsForChoices (stands store) older e.base (left_at l.world.database.procedures) e.query.items (variables l.query) frames.items e.choices.items (with_choice call cs behind l.subst l.next l.stack)
   choices_on e attempt l call c cs behind store frames t keeps adds =
       rw adds.1 (choices_more adds.0 (choices_keep (λ d p among stood. keeps d.mark p stood) t.choices))
 

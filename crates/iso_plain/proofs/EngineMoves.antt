@@ -1,24 +1,26 @@
 -- A call of `resume` is moves up to an event.
-use Rattle.std.proofs.Common.{◌≡◌, ◌≢◌, ◌≤◌, ℕ, List, refl, ap, ap₂, sym, ◌∙◌, arith, Result, Ok, Err}
+use Rattle.std.proofs.Common.{◌≡◌, ◌≤◌, ℕ, List, refl, ap, ap₂, sym, ◌∙◌, arith, Result, Ok, Err}
 use Rattle.iso_ops.specs.Operators.{Operator}
 use Rattle.iso_ops.specs.declared.settings.Flags.{Flags}
-use Rattle.iso_model.specs.Walker.{State, World, idle}
-use Rattle.iso_model.specs.Additions.{Addition, Adds, Refuses}
+use Rattle.iso_model.specs.Search.Walker.{State, World, idle}
+use Rattle.iso_model.specs.Search.Additions.{Addition, Adds, Refuses}
 use Rattle.iso_model.specs.declared.pauses.AddFault.{AddFault}
 use Rattle.iso_model.specs.declared.pauses.AddFault.TheVariants as add
 use Rattle.iso_plain.specs.Starts.{Comes}
-use Rattle.iso_model.specs.Runs.{Quiet}
-use Rattle.iso_model.specs.RunLaws.{comes_behind, finishes_behind}
-use Rattle.iso_model.specs.Engines as engines
+use Rattle.iso_model.specs.Search.Runs.{Quiet}
+use Rattle.iso_model.specs.Search.RunLaws.{comes_behind, finishes_behind}
+use Rattle.iso_model.specs.Search.Engines as engines
+use Rattle.iso_model.specs.declared.limit.Limit.{Limit}
 use Rattle.iso_model.specs.declared.pauses.Pause.{Pause}
 use Rattle.iso_model.specs.declared.pauses.Pause.TheVariants as pause
 use Rattle.iso_store.specs.Presents.{Present}
 use Rattle.iso_plain.specs.Linked.{idle_linked}
-use Rattle.iso_plain.specs.EngineStates.{IsEngine, Represents, StandsBy, StandsFor, phase_of, settings_of, settings_in}
+use Rattle.iso_plain.specs.EngineStates.{IsEngine, Represents, Stopped, StandsBy, StandsFor, phase_of, settings_of, settings_in}
 use Rattle.iso_plain.specs.declared.parts.Now.{Now}
 use Rattle.iso_plain.specs.declared.parts.Now.TheVariants as now
 use Rattle.iso_plain.specs.declared.plain.Plain.{Plain}
-use Rattle.iso_plain.proofs.LinkedMoves.{is_idle}
+use Rattle.iso_plain.proofs.LinkedMoves.{is_idle, world_is}
+use Rattle.iso_plain.proofs.StoppedLemmas.{world_settings, keeps_all, stopped_here, stopped_behind}
 
 -- a number that falls does so behind others that fall
 pub falls_behind : (p : Pause) (a b c : ℕ) → b ≤ a → engines.FallsAtEvent p b c → engines.FallsAtEvent p a c
@@ -35,13 +37,13 @@ falls_behind pause.Spent a b c h falls = falls
 
 module _ {S W M : Type 0} (present : S → Present W) (stands : S → M → Present W → Type 0) (older : M → M → Type 0) where
   -- an engine that is awake stands for what it represents
-  pub awake_stands : (n : Now) (e : Plain S W M) (s : State) → n ≢ now.Spent → StandsBy present stands older n e s → Represents present stands older e s
+  pub awake_stands : (n : Now) (e : Plain S W M) (s : State) → engines.IsAwake (phase_of n) → StandsBy present stands older n e s → Represents present stands older e s
   awake_stands now.Idle e s awake r = r
   awake_stands now.Failing e s awake r = r
   awake_stands now.Answering e s awake r = r
   awake_stands (now.Running place) e s awake r = r
   awake_stands now.Raising e s awake r = r
-  awake_stands now.Spent e s awake r = absurd (awake refl)
+  awake_stands (now.Spent limit) e s awake r = absurd awake
 
   pub ready_stands : (n : Now) (e : Plain S W M) (s : State) → phase_of n ≡ engines.Ready → StandsBy present stands older n e s → Represents present stands older e s
   ready_stands now.Idle e s ready r = r
@@ -49,13 +51,11 @@ module _ {S W M : Type 0} (present : S → Present W) (stands : S → M → Pres
   ready_stands now.Answering e s ready r = r
   ready_stands (now.Running place) e s ready r = r
   ready_stands now.Raising e s ready r = r
-  ready_stands now.Spent e s ready r = absurd (cc)
+  ready_stands (now.Spent limit) e s ready r = absurd (cc)
 
   -- an engine keeps the operators and the flags of the states that it stands for
   represents_settings : (e : Plain S W M) (s : State) → Represents present stands older e s → settings_of e ≡ settings_in s.world
-  represents_settings e s r =
-      let w = r.engine.world in
-      ap₂ (λ (ops : List Operator) (flags : Flags). (ops, flags)) w.operators_are w.flags_are ∙ ap settings_in (sym r.state.around.world)
+  represents_settings e s r = world_settings present stands older e r.search.world r.engine.world ∙ ap settings_in (sym (world_is r.search s r.state))
 
   pub stands_settings : (n : Now) (e : Plain S W M) (s : State) → StandsBy present stands older n e s → settings_of e ≡ settings_in s.world
   stands_settings now.Idle e s r = represents_settings e s r
@@ -63,7 +63,7 @@ module _ {S W M : Type 0} (present : S → Present W) (stands : S → M → Pres
   stands_settings now.Answering e s r = represents_settings e s r
   stands_settings (now.Running place) e s r = represents_settings e s r
   stands_settings now.Raising e s r = represents_settings e s r
-  stands_settings now.Spent e s r = r
+  stands_settings (now.Spent limit) e s r = r.settings
 
   pub represents_stands : (n : Now) (e : Plain S W M) (s : State) → Represents present stands older e s → StandsBy present stands older n e s
   represents_stands now.Idle e s r = r
@@ -71,16 +71,24 @@ module _ {S W M : Type 0} (present : S → Present W) (stands : S → M → Pres
   represents_stands now.Answering e s r = r
   represents_stands (now.Running place) e s r = r
   represents_stands now.Raising e s r = r
-  represents_stands now.Spent e s r = represents_settings e s r
+  represents_stands (now.Spent limit) e s r = stopped_here present stands older e r.search s r.state (keeps_all present stands older e r.search r.engine)
 
-  -- a spent engine stands for any state with its operators and flags
-  pub spent_stands : (n : Now) (e : Plain S W M) (s : State) → phase_of n ≡ engines.Spent → settings_of e ≡ settings_in s.world → StandsBy present stands older n e s
-  spent_stands now.Idle e s h same = absurd (cc h)
-  spent_stands now.Failing e s h same = absurd (cc h)
-  spent_stands now.Answering e s h same = absurd (cc h)
-  spent_stands (now.Running place) e s h same = absurd (cc h)
-  spent_stands now.Raising e s h same = absurd (cc h)
-  spent_stands now.Spent e s h same = same
+  -- a spent engine
+  pub spent_stands : (limit : Limit) (n : Now) (e : Plain S W M) (s : State) → phase_of n ≡ engines.Spent limit → Stopped present stands older e s → StandsBy present stands older n e s
+  spent_stands limit now.Idle e s h stopped = absurd (cc h)
+  spent_stands limit now.Failing e s h stopped = absurd (cc h)
+  spent_stands limit now.Answering e s h stopped = absurd (cc h)
+  spent_stands limit (now.Running place) e s h stopped = absurd (cc h)
+  spent_stands limit now.Raising e s h stopped = absurd (cc h)
+  spent_stands limit (now.Spent k) e s h stopped = stopped
+
+  spent_behind : (limit : Limit) (n : Now) (e : Plain S W M) (s t : State) → phase_of n ≡ engines.Spent limit → settings_of e ≡ settings_in s.world → Quiet s t → StandsBy present stands older n e t → StandsBy present stands older n e s
+  spent_behind limit now.Idle e s t h same q stopped = absurd (cc h)
+  spent_behind limit now.Failing e s t h same q stopped = absurd (cc h)
+  spent_behind limit now.Answering e s t h same q stopped = absurd (cc h)
+  spent_behind limit (now.Running place) e s t h same q stopped = absurd (cc h)
+  spent_behind limit now.Raising e s t h same q stopped = absurd (cc h)
+  spent_behind limit (now.Spent k) e s t h same q stopped = stopped_behind present stands older e s t same q stopped
 
   -- what comes behind steps without an event
   pub pauses_behind : (e : Plain S W M) (s t : State) (p : Pause) → settings_of e ≡ settings_in s.world → Quiet s t → engines.Pauses t p (StandsFor present stands older e) (phase_of e.now)
@@ -91,9 +99,9 @@ module _ {S W M : Type 0} (present : S → Present W) (stands : S → M → Pres
   pauses_behind e s t pause.Budget same q h = (finishes_behind q h.0, h.1)
   pauses_behind e s t (pause.Uncaught ball) same q h = (finishes_behind q h.0, h.1)
   pauses_behind e s t (pause.Halt status) same q h = (finishes_behind q h.0, h.1)
-  pauses_behind e s t pause.HeapFull same q h = (spent_stands e.now e s h.1 same, h.1)
-  pauses_behind e s t pause.FramesFull same q h = (spent_stands e.now e s h.1 same, h.1)
-  pauses_behind e s t pause.NoMemory same q h = (spent_stands e.now e s h.1 same, h.1)
+  pauses_behind e s t pause.HeapFull same q h = (spent_behind _ e.now e s t h.1 same q h.0, h.1)
+  pauses_behind e s t pause.FramesFull same q h = (spent_behind _ e.now e s t h.1 same q h.0, h.1)
+  pauses_behind e s t pause.NoMemory same q h = (spent_behind _ e.now e s t h.1 same q h.0, h.1)
   pauses_behind e s t pause.Spent same q h = absurd h
 
   pub idle_stands : (e : Plain S W M) (w : World) → IsEngine present stands older e (idle_linked w) → StandsFor present stands older e (idle w)

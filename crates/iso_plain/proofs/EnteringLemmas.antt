@@ -8,12 +8,12 @@ use Rattle.iso_model.specs.declared.terms.Term.{Term}
 use Rattle.iso_model.specs.declared.terms.Term.TheOpen.{Term-F}
 use Rattle.iso_model.specs.declared.terms.Term.TheVariants.{Var, rolls-Var}
 use Rattle.iso_model.specs.declared.terms.Term.TheFolds.{fold-roll-Term}
-use Rattle.iso_model.specs.Terms.{term_of, row_of, term_step}
-use Rattle.iso_model.specs.Trees.{Tree, Variable, Apply, More, row, count, arities_fit}
-use Rattle.iso_model.proofs.RowLemmas.{count_row_of}
-use Rattle.iso_model.specs.Substitutions.{Subst, apply, compose}
-use Rattle.iso_model.specs.Unifiers.{Unifier, NeverEqual}
-use Rattle.iso_model.specs.Copies.{numbers_from, renamed}
+use Rattle.iso_model.specs.Terms.TermOf.{term_of, row_of, term_step}
+use Rattle.iso_model.specs.Terms.Trees.{Tree, Variable, Apply, More, row, count, arities_fit}
+use Rattle.iso_model.proofs.OnTerms.RowLemmas.{count_row_of}
+use Rattle.iso_model.specs.Terms.Substitutions.{Subst, apply, compose}
+use Rattle.iso_model.specs.Terms.Unifiers.{Unifier, NeverEqual}
+use Rattle.iso_model.specs.Terms.Copies.{numbers_from, renamed}
 use Rattle.iso_store.specs.Presents.{Present, meaning, IsUnification, Binds, Holds, KeepsWords, Makes, MovesOn, KeepsNumbers}
 use Rattle.iso_plain.specs.Standing.{Chain, ends, leads, AreVariables, no_word, one_word}
 use Rattle.iso_plain.specs.Entering.{Extends, AreTerms, no_terms, one_more, is_below, Links, AddsFrames, renamed_terms}

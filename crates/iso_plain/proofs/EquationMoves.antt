@@ -1,12 +1,18 @@
 -- Two terms are unified, or the goal that says that they are equal fails.
 use Rattle.std.proofs.Common.{◌≡◌, ◌≢◌, ◌+◌, ◌-◌, ℕ, suc, List, [], ◌∷◌, Bool, true, false, get_or, refl, ap, sym, ◌∙◌, subst, arith, IfOk, Result}
 use Rattle.std.specs.Prelude.{option_map}
-use Rattle.iso_model.specs.Trees.{Tree}
-use Rattle.iso_model.specs.Terms.{term_of}
-use Rattle.iso_model.specs.Substitutions.{Subst, apply, compose}
-use Rattle.iso_model.specs.Unifiers.{Unifier, NeverEqual}
-use Rattle.iso_model.specs.Walker.{State, Selected, Equates, Fail, selected, run_goal}
-use Rattle.iso_model.proofs.CallLemmas.{run_equation, run_equation_missed}
+use Rattle.iso_model.specs.Terms.Trees.{Tree}
+use Rattle.iso_model.specs.Terms.TermOf.{term_of}
+use Rattle.iso_model.specs.Terms.Substitutions.{Subst, apply, compose}
+use Rattle.iso_model.specs.Terms.Unifiers.{Unifier, NeverEqual}
+use Rattle.iso_model.specs.Terms.Variables.{variables}
+use Rattle.iso_model.specs.Search.RunLaws.Sameness.{Same, going, failing}
+use Rattle.iso_model.specs.Search.RunLaws.SameSteps.{list_same, stack_same}
+use Rattle.iso_plain.specs.Called.{IsBuiltIn}
+use Rattle.iso_model.specs.Search.BuiltIns.{Reply, Equates, reply}
+use Rattle.iso_model.specs.declared.built_ins.BuiltIn.TheVariants.{Unify}
+use Rattle.iso_model.specs.Search.Walker.{State, Fail, run_value, replied}
+use Rattle.iso_model.proofs.Search.CallLemmas.{run_equation, run_equation_missed}
 use Rattle.iso_store.specs.Arguments.{argument}
 use Rattle.iso_store.specs.Presents.{Present, KeepsMarks, IsUnification, Binds, meaning}
 use Rattle.iso_plain.specs.declared.parts.Frame.{Frame}
@@ -15,45 +21,40 @@ use Rattle.iso_plain.specs.declared.parts.Now.TheVariants as now
 use Rattle.iso_plain.specs.declared.plain.Move.TheVariants as move
 use Rattle.iso_plain.specs.declared.plain.Plain.{Plain}
 use Rattle.iso_plain.specs.Equations.{IsEquation}
-use Rattle.iso_plain.specs.Linked.{Linked, Links, Running, Failing, IsAround}
+use Rattle.iso_plain.specs.Linked.{Linked, Running, Failing, running, alternatives_of, state_of, IsState}
 use Rattle.iso_plain.specs.Next.{now_behind, now_unified}
 use Rattle.iso_plain.specs.EngineStates.{IsEngine, Represents, Moves}
-use Rattle.iso_plain.proofs.LinkedMoves.{Onward, fronted, goes_onward}
+use Rattle.iso_plain.proofs.LinkedMoves.{Onward, front, runs_onward, own_goal}
 use Rattle.iso_plain.proofs.StandingLemmas.{choices_keep, variables_more, next_behind}
 use Rattle.iso_plain.proofs.EnteringLemmas.{chain_keep}
 use Rattle.iso_plain.proofs.EngineLemmas.{base_kept}
 use Rattle.iso_plain.proofs.RunLemmas.{AtGoal, at_goal, room_less}
-use Rattle.iso_plain.proofs.RunMoves.{frame_is, links_at, one_less, awake_behind}
+use Rattle.iso_plain.proofs.RunMoves.{frame_is, goal_is, comes_first, value_built_in, one_less, awake_behind}
 
 -- ---- the search
 
+-- what the goal is run as, whose arguments have these values
+equation_goal : (r : Subst) (g a b : Tree) (rest : _) (s : State) → IsEquation g a b → IsBuiltIn (apply r g) Unify → run_value (apply r g) rest s ≡ replied (Equates (apply r a) (apply r b)) rest s
+equation_goal r g a b rest s is value = own_goal (apply r g) rest s Unify value ∙ ap (λ (t : Tree). replied (reply Unify (apply r t)) rest s) is.is
+
 -- the two have this unifier
-pub equates : (l : Linked) (s : State) (g : Tree) (gs : List Tree) (n : ℕ) (a b : Tree) (u : Subst) → IsAround l s → Links (g ∷ gs) s.list → l.steps ≡ suc n → selected g ≡ Equates a b
+pub equates : (l : Linked) (s : State) (g : Tree) (gs : List Tree) (n : ℕ) (a b : Tree) (u : Subst) → IsState l s → l.doing ≡ Running (g ∷ gs) → l.steps ≡ suc n → IsEquation g a b → IsBuiltIn (apply l.subst g) Unify
     → Unifier (apply l.subst a) (apply l.subst b) u → Onward (record l { doing = Running gs; subst = compose l.subst u; steps = n }) s
-equates l s g gs n a b u at links left is unifies =
-    let f = fronted l s g gs at links in
-    let x = f.around in
-    let here : Unifier (apply f.from.subst a) (apply f.from.subst b) u = subst (λ (r : Subst). Unifier (apply r a) (apply r b) u) (sym x.subst) unifies in
-    goes_onward l (record l { doing = Running gs; subst = compose l.subst u }) s g gs n f (record f.from { list = f.others; subst = compose f.from.subst u; built = f.from.built + 2 }) left
-    (ap (λ (y : Selected). run_goal y g f.others f.from) is ∙ run_equation a b g f.others f.from u here)
-    (record {
-      list = f.links;
-      around = record { subst = ap (λ (r : Subst). compose r u) x.subst; next = x.next; query = x.query; stack = x.stack; world = x.world; steps = x.steps };
-    })
+equates l s g gs n a b u is doing left equation value unifies =
+    let rest = running gs in
+    let m = record l { doing = Running gs; subst = compose l.subst u } in
+    let same : Same (record (front l g gs) { list = rest; subst = compose l.subst u; built = 2 }) (state_of m) =
+    going (record { agree = record { shown = refl; beyond = λ x more. refl }; next = refl; beside = record { stack = stack_same (variables l.query) (alternatives_of l.stack); world = refl; steps = refl } }) (list_same rest) in
+    runs_onward l m s g gs n _ is doing left (equation_goal l.subst g a b rest (front l g gs) equation value ∙ run_equation (apply l.subst a) (apply l.subst b) rest (front l g gs) u unifies) same
 
 -- they are never equal
-pub equates_never : (l : Linked) (s : State) (g : Tree) (gs : List Tree) (n : ℕ) (a b : Tree) → IsAround l s → Links (g ∷ gs) s.list → l.steps ≡ suc n → selected g ≡ Equates a b
+pub equates_never : (l : Linked) (s : State) (g : Tree) (gs : List Tree) (n : ℕ) (a b : Tree) → IsState l s → l.doing ≡ Running (g ∷ gs) → l.steps ≡ suc n → IsEquation g a b → IsBuiltIn (apply l.subst g) Unify
     → NeverEqual (apply l.subst a) (apply l.subst b) → Onward (record l { doing = Failing; steps = n }) s
-equates_never l s g gs n a b at links left is never =
-    let f = fronted l s g gs at links in
-    let x = f.around in
-    let here : NeverEqual (apply f.from.subst a) (apply f.from.subst b) = subst (λ (r : Subst). NeverEqual (apply r a) (apply r b)) (sym x.subst) never in
-    goes_onward l (record l { doing = Failing }) s g gs n f (record f.from { list = Fail ∷ []; built = f.from.built + 2 }) left
-    (ap (λ (y : Selected). run_goal y g f.others f.from) is ∙ run_equation_missed a b g f.others f.from here)
-    (record {
-      list = ([], refl);
-      around = record { subst = x.subst; next = x.next; query = x.query; stack = x.stack; world = x.world; steps = x.steps };
-    })
+equates_never l s g gs n a b is doing left equation value never =
+    let rest = running gs in
+    let m = record l { doing = Failing } in
+    let same : Same (record (front l g gs) { list = Fail ∷ []; built = 2 }) (state_of m) = failing [] [] refl refl (record { stack = stack_same (variables l.query) (alternatives_of l.stack); world = refl; steps = refl }) in
+    runs_onward l m s g gs n _ is doing left (equation_goal l.subst g a b rest (front l g gs) equation value ∙ run_equation_missed (apply l.subst a) (apply l.subst b) rest (front l g gs) never) same
 
 -- ---- the store
 
@@ -110,10 +111,11 @@ module _ {S W M : Type 0} (present : S → Present W) (stands : S → M → Pres
       let l = r.search in
       let x = at_goal present stands older e l place doing r.engine in
       let same = frame_is present stands older e l place x frame read in
-      let links : Links ((present e.store).term frame.goal ∷ x.first.behind) s.list = rw same (links_at present stands older e l place s x r.state) in
+      let links : l.doing ≡ Running ((present e.store).term frame.goal ∷ x.first.behind) = rw same (comes_first present stands older e l place x) in
+      let value = value_built_in l.subst ((present e.store).term frame.goal) Unify (goal_is present stands older e l place x frame read) is.equates in
       let u = h.0 in
       let here : Unifier (apply l.subst a) (apply l.subst b) u = subst (λ (y : Subst). Unifier (apply y a) (apply y b) u) x.goes.subst h.1 in
-      let o = equates l s ((present e.store).term frame.goal) x.first.behind (e.steps - 1) a b u r.state.around links (r.engine.steps ∙ one_less e.steps more) is.equates here in
+      let o = equates l s ((present e.store).term frame.goal) x.first.behind (e.steps - 1) a b u r.state links (r.engine.steps ∙ one_less e.steps more) is value here in
       let engine : IsEngine present stands older (record e { store = store; steps = e.steps - 1; now = now_behind frame.next }) (record l { doing = Running x.first.behind; subst = compose l.subst u; steps = e.steps - 1 }) =
       rw same (unified_engine e store l place (e.steps - 1) u x (one_less e.steps more) keeps h.2 r.engine) in
       rw next_is (o.new, o.quiet, record { search = record l { doing = Running x.first.behind; subst = compose l.subst u; steps = e.steps - 1 }; engine = engine; state = o.is }, awake_behind frame.next)
@@ -121,8 +123,8 @@ module _ {S W M : Type 0} (present : S → Present W) (stands : S → M → Pres
       let l = r.search in
       let x = at_goal present stands older e l place doing r.engine in
       let same = frame_is present stands older e l place x frame read in
-      let links : Links ((present e.store).term frame.goal ∷ x.first.behind) s.list = rw same (links_at present stands older e l place s x r.state) in
+      let links : l.doing ≡ Running ((present e.store).term frame.goal ∷ x.first.behind) = rw same (comes_first present stands older e l place x) in
+      let value = value_built_in l.subst ((present e.store).term frame.goal) Unify (goal_is present stands older e l place x frame read) is.equates in
       let here : NeverEqual (apply l.subst a) (apply l.subst b) = subst (λ (y : Subst). NeverEqual (apply y a) (apply y b)) x.goes.subst h in
-      let o = equates_never l s ((present e.store).term frame.goal) x.first.behind (e.steps - 1) a b r.state.around links (r.engine.steps ∙ one_less e.steps more) is.equates here in
-      let awake : now.Failing ≢ now.Spent = λ e. cc e in
-      rw next_is (o.new, o.quiet, record { search = record l { doing = Failing; steps = e.steps - 1 }; engine = apart_engine e store l (e.steps - 1) (one_less e.steps more) keeps r.engine; state = o.is }, awake)
+      let o = equates_never l s ((present e.store).term frame.goal) x.first.behind (e.steps - 1) a b r.state links (r.engine.steps ∙ one_less e.steps more) is value here in
+      rw next_is (o.new, o.quiet, record { search = record l { doing = Failing; steps = e.steps - 1 }; engine = apart_engine e store l (e.steps - 1) (one_less e.steps more) keeps r.engine; state = o.is }, tt)

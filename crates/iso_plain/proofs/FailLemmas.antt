@@ -1,9 +1,10 @@
 -- The engine fails: it goes on with the newest choice, or the run ends.
-use Rattle.std.proofs.Common.{◌≡◌, ◌≢◌, ℕ, ◌<◌, List, [], ◌∷◌, length, Option, Some, None, refl, ap, sym, subst, arith, inl, inr}
+use Rattle.std.proofs.Common.{◌≡◌, ℕ, ◌<◌, List, [], ◌∷◌, length, Option, Some, None, refl, ap, sym, subst, arith, inl, inr}
 use Rattle.std.specs.Prelude.{option_map}
-use Rattle.iso_model.specs.Terms.{term_of}
-use Rattle.iso_model.specs.Databases as databases
-use Rattle.iso_model.specs.Walker.{State, World, idle}
+use Rattle.iso_model.specs.Terms.TermOf.{term_of}
+use Rattle.iso_model.specs.Search.Databases as databases
+use Rattle.iso_model.specs.Search.Walker.{State, World, idle}
+use Rattle.iso_model.specs.Search.Engines.{IsAwake}
 use Rattle.iso_model.specs.declared.pauses.Pause.TheVariants as pause
 use Rattle.iso_store.specs.Presents.{Present}
 use Rattle.iso_plain.specs.declared.parts.Choice as kept
@@ -11,19 +12,20 @@ use Rattle.iso_plain.specs.declared.parts.Now.{Now}
 use Rattle.iso_plain.specs.declared.parts.Now.TheVariants as now
 use Rattle.iso_plain.specs.declared.plain.Move.TheVariants as move
 use Rattle.iso_plain.specs.declared.plain.Plain.{Plain}
-use Rattle.iso_plain.specs.Linked.{Linked, Choice, Doing, Failing, Does, idle_linked}
+use Rattle.iso_plain.specs.Linked.{Linked, Choice, Doing, Failing, idle_linked, with_choice}
 use Rattle.iso_plain.specs.Standing.{DoesNext}
 use Rattle.iso_plain.specs.Programs.{IsWorld}
 use Rattle.iso_plain.specs.Next.{now_entered}
-use Rattle.iso_plain.specs.EngineStates.{IsEngine, Represents, StandsBy, Tries, Tried, WentBack, Moves, phase_of}
+use Rattle.iso_plain.specs.EngineStates.{IsEngine, Represents, Keeps, Stopped, StandsBy, Tries, Tried, WentBack, Moves, phase_of}
 use Rattle.iso_plain.proofs.StandingLemmas.{no_choices}
-use Rattle.iso_plain.proofs.LinkedMoves.{fails_last, retries_missed, retries_entered}
+use Rattle.iso_plain.proofs.LinkedMoves.{fails_last, retries_missed, retries_entered, retries_halfway}
+use Rattle.iso_plain.proofs.StoppedLemmas.{stopped_by}
 
 -- behind a clause that was tried the engine is awake
-pub awake_entered : (entered : Option (Option ℕ)) → now_entered entered ≢ now.Spent
-awake_entered None = λ h. cc
-awake_entered (Some None) = λ h. cc
-awake_entered (Some (Some i)) = λ h. cc
+pub awake_entered : (entered : Option (Option ℕ)) → IsAwake (phase_of (now_entered entered))
+awake_entered None = tt
+awake_entered (Some None) = tt
+awake_entered (Some (Some i)) = tt
 
 no_items : {X : Type 0} (xs : List X) → length xs ≡ 0 → xs ≡ []
 no_items [] h = refl
@@ -46,16 +48,13 @@ module _ {S W M : Type 0} (present : S → Present W) (stands : S → M → Pres
   failing e l is engine =
       subst (λ (n : Now). DoesNext (present e.store) e.frames.items e.query.items n (option_map (λ b. term_of b.term) e.raised) l) is engine.next
 
-  does_fail : (e : Plain S W M) (s : State) (r : Represents present stands older e s) → e.now ≡ now.Failing → Does Failing s.list
-  does_fail e s r is = subst (λ (d : Doing). Does d s.list) (failing e r.search is r.engine) r.state.list
-
   -- no choice is left: the run ends
   pub ends_run : (e new : Plain S W M) (s : State) (r : Represents present stands older e s) → e.now ≡ now.Failing → length e.choices.items ≡ 0
       → ((w : World) → IsWorld e w → IsEngine present stands older new (idle_linked w)) → new.now ≡ now.Idle
       → Moves present stands older (move.Pauses pause.NoMore) s new
   ends_run e new s r is none idles rests =
       let l = r.search in
-      let f = fails_last l s r.state.around (does_fail e s r is) (no_choices (no_items e.choices.items none) r.engine.choices) in
+      let f = fails_last l s r.state (failing e l is r.engine) (no_choices (no_items e.choices.items none) r.engine.choices) in
       let here : Represents present stands older new (idle f.world) = record { search = idle_linked l.world; engine = idles l.world r.engine.world; state = f.stands } in (
         record {
           at = f.at;
@@ -70,13 +69,20 @@ module _ {S W M : Type 0} (present : S → Present W) (stands : S → M → Pres
   -- the clause at the newest choice was tried
   pub tries_on : (e new : Plain S W M) (s : State) (r : Represents present stands older e s) (k : Choice) (below : List Choice) (c : databases.Clause) (cs : List databases.Clause)
       → e.now ≡ now.Failing → r.search.stack ≡ k ∷ below → k.clauses ≡ c ∷ cs
-      → Tried present stands older new (record r.search { subst = k.subst; next = k.next; stack = below }) k.call c cs k.behind → new.now ≢ now.Spent → Moves present stands older move.Goes s new
+      → Tried present stands older new (record r.search { subst = k.subst; next = k.next; stack = below }) k.call c cs k.behind → IsAwake (phase_of new.now) → Moves present stands older move.Goes s new
   tries_on e new s r k below c cs is stack clauses (inl (never, engine)) awake =
-      let o = retries_missed r.search s k below c cs r.state.around (does_fail e s r is) stack clauses never in
+      let o = retries_missed r.search s k below c cs r.state (failing e r.search is r.engine) stack clauses never in
       (o.new, o.quiet, record { search = _; engine = engine; state = o.is }, awake)
   tries_on e new s r k below c cs is stack clauses (inr (u, unifies, engine)) awake =
-      let o = retries_entered r.search s k below c cs u r.state.around (does_fail e s r is) stack clauses unifies in
+      let o = retries_entered r.search s k below c cs u r.state (failing e r.search is r.engine) stack clauses unifies in
       (o.new, o.quiet, record { search = _; engine = engine; state = o.is }, awake)
+
+  -- it was refused
+  pub stops_on : (e new : Plain S W M) (s : State) (r : Represents present stands older e s) (k : Choice) (below : List Choice) (c : databases.Clause) (cs : List databases.Clause)
+      → e.now ≡ now.Failing → r.search.stack ≡ k ∷ below → k.clauses ≡ c ∷ cs → Keeps present stands older new r.search.world (with_choice k.call cs k.behind k.subst k.next below)
+      → Stopped present stands older new s
+  stops_on e new s r k below c cs is stack clauses keeps =
+      stopped_by present stands older new r.search s _ r.state (retries_halfway r.search s k below c cs r.state (failing e r.search is r.engine) stack clauses) keeps
 
   -- What the clause at the newest choice is tried for, from the search before.
   pub record Retries (went left : Plain S W M) (c : kept.Choice W M) (l : Linked) : Type 0 where

@@ -2,15 +2,15 @@
 use Rattle.std.proofs.Common.{◌≡◌, ℕ, zero, suc, ◌+◌, ◌<◌, List, [], ◌∷◌, ◌++◌, length, drop, get_or, map, Bool, true, false, ◌&&◌, cond, refl, ap, ap₂, sym, ◌∙◌, subst, arith}
 use Rattle.std.proofs.lemmas.Bool.{lt-ltb, eq-eqb, or_left, or_right}
 use Rattle.std.proofs.lemmas.List.{map-append}
-use Rattle.iso_model.proofs.SortLemmas.{term_fits}
+use Rattle.iso_model.proofs.OnTerms.SortLemmas.{term_fits}
 use Rattle.iso_model.specs.declared.terms.Term.{Term}
-use Rattle.iso_model.specs.Trees.{Tree, Variable, Integer, Name, Apply, End, More, row, arities_fit}
-use Rattle.iso_model.specs.Terms.{term_of, row_of}
-use Rattle.iso_model.specs.Variables.{occurs}
-use Rattle.iso_model.specs.Copies.{renamed}
-use Rattle.iso_model.specs.Bodies.{Body, Run, And, map_body, is_true}
-use Rattle.iso_model.specs.Databases as databases
-use Rattle.iso_model.specs.Databases.{Database}
+use Rattle.iso_model.specs.Terms.Trees.{Tree, Variable, Integer, Name, Apply, End, More, row, arities_fit}
+use Rattle.iso_model.specs.Terms.TermOf.{term_of, row_of}
+use Rattle.iso_model.specs.Terms.Variables.{occurs}
+use Rattle.iso_model.specs.Terms.Copies.{renamed}
+use Rattle.iso_model.specs.Search.Bodies.{Body, Run, And, map_body, is_true}
+use Rattle.iso_model.specs.Search.Databases as databases
+use Rattle.iso_model.specs.Search.Databases.{Procedures}
 use Rattle.iso_plain.specs.declared.clauses.Clause.{Clause}
 use Rattle.iso_plain.specs.declared.procedures.Procedure.{Procedure}
 use Rattle.iso_plain.specs.Goals.{leaves, terms_of}
@@ -43,7 +43,7 @@ pub record KeptAt (ps : List Procedure) (i j : ℕ) (c : databases.Clause) : Typ
   pub within : i < length ps
   pub clause : (p : Procedure) → p ≡ get_or ps i p → ClauseAt p.clauses.items j c
 
-pub kept_at : (ps : List Procedure) (db : Database) (i j : ℕ) (c : databases.Clause) (others : List databases.Clause) → IsDatabase ps db → left_at db i j ≡ c ∷ others → KeptAt ps i j c
+pub kept_at : (ps : List Procedure) (db : Procedures) (i j : ℕ) (c : databases.Clause) (others : List databases.Clause) → IsDatabase ps db → left_at db i j ≡ c ∷ others → KeptAt ps i j c
 kept_at ps db i j c others no_procedures h = absurd (cc)
 kept_at ps db zero j c others (more_procedures {kept = p} {p = q} {ks = ps'} {ps = db'} is more) h = record {
   within = omega arith;

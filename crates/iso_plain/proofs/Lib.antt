@@ -24,3 +24,4 @@ pub mod EngineMoves
 pub mod RunMoves
 pub mod EquationMoves
 pub mod LimitLemmas
+pub mod StoppedLemmas

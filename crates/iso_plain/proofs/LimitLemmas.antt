@@ -1,7 +1,12 @@
 -- Where the frames are full the search has as many alternatives.
-use Rattle.std.proofs.Common.{◌≡◌, ℕ, suc, List, length, refl, ap, ◌∙◌, arith, Result, Ok, Err}
-use Rattle.iso_model.specs.Walker.{State, Alternative, alternative_count}
-use Rattle.iso_model.specs.Databases.{Clause}
+use Rattle.std.proofs.Common.{◌≡◌, ℕ, suc, List, length, refl, ap, subst, arith, Result, Ok, Err}
+use Rattle.iso_model.specs.Search.Walker.{State}
+use Rattle.iso_model.specs.Search.Runs.{ComesOver}
+use Rattle.iso_model.specs.Search.Engines.{MayMeet, RefusesStart, MeetsLimit, KeepsLimits}
+use Rattle.iso_model.specs.Search.Databases.{Clause}
+use Rattle.iso_model.specs.declared.limit.Limit.TheVariants as limit
+use Rattle.iso_model.specs.declared.pauses.StartFault.{StartFault}
+use Rattle.iso_model.specs.declared.pauses.StartFault.TheVariants as start
 use Rattle.iso_model.specs.declared.pauses.Pause.{Pause}
 use Rattle.iso_model.specs.declared.pauses.Pause.TheVariants as pause
 use Rattle.iso_store.specs.Presents.{Present}
@@ -10,16 +15,14 @@ use Rattle.iso_plain.specs.declared.parts.Frame.{Frame}
 use Rattle.iso_plain.specs.declared.parts.Choice as kept
 use Rattle.iso_plain.specs.declared.plain.Move.{Move}
 use Rattle.iso_plain.specs.declared.plain.Move.TheVariants as move
-use Rattle.iso_plain.specs.declared.plain.Plain.{Plain}
-use Rattle.iso_plain.specs.Linked.{Choice, AreChoices, no_choice, one_choice}
+use Rattle.iso_plain.specs.Linked.{Choice}
 use Rattle.iso_plain.specs.Standing.{StandsForChoices, none_kept, one_kept}
-use Rattle.iso_plain.specs.EngineStates.{Represents}
 use Rattle.iso_plain.specs.Limits.{WhereFull, MoveFull, ResultFull}
 use Rattle.iso_plain.proofs.StandingLemmas.{length_last}
 
 -- ---- as many choices as alternatives
 
-choices_count : {W M : Type 0} {stands : M → Present W → Type 0} {older : M → M → Type 0} {base : M} {left : ℕ → ℕ → List Clause} {query : List W} {named : List ℕ} {frames : List (Frame W)}
+pub choices_count : {W M : Type 0} {stands : M → Present W → Type 0} {older : M → M → Type 0} {base : M} {left : ℕ → ℕ → List Clause} {query : List W} {named : List ℕ} {frames : List (Frame W)}
     {cs : List (kept.Choice W M)} {ks : List Choice} → StandsForChoices stands older base left query named frames cs ks → length cs ≡ length ks
 choices_count none_kept = refl
 choices_count (one_kept {before = before} {c = c} is within here newer below) =
@@ -27,15 +30,6 @@ choices_count (one_kept {before = before} {c = c} is within here newer below) =
     let more = length_last before c in
     let others = choices_count below in
     omega (arith, last, more, others)
-
-alternatives_count : {ks : List Choice} {others : List Alternative} → AreChoices ks others → length ks ≡ length others
-alternatives_count no_choice = refl
-alternatives_count (one_choice links more) = ap suc (alternatives_count more)
-
-module _ {S W M : Type 0} (present : S → Present W) (stands : S → M → Present W → Type 0) (older : M → M → Type 0) where
-  -- the engine has as many choices as the search has alternatives
-  pub as_many : (e : Plain S W M) (s : State) → Represents present stands older e s → length e.choices.items ≡ alternative_count s
-  as_many e s r = choices_count r.engine.choices ∙ alternatives_count r.state.around.stack
 
 -- ---- a fact for another
 
@@ -58,3 +52,28 @@ move_full (move.Pauses p) f h = where_full p f h
 pub result_full : {A B : Type 0} (r : Result Move StoreFault) → (A → B) → ResultFull A r → ResultFull B r
 result_full (Ok m) f h = move_full m f h
 result_full (Err e) f h = tt
+
+-- ---- limits by the piece of the walk
+
+pub meets_limit : (most : ℕ) (s : State) (p : Pause) → WhereFull (ComesOver most s) p → MeetsLimit (MayMeet (λ t. Unit {0}) (ComesOver most)) s p
+meets_limit most s (pause.Answer values) h = tt
+meets_limit most s (pause.Output bytes) h = tt
+meets_limit most s pause.NoMore h = tt
+meets_limit most s pause.Budget h = tt
+meets_limit most s (pause.Uncaught ball) h = tt
+meets_limit most s (pause.Halt status) h = tt
+meets_limit most s pause.HeapFull h = tt
+meets_limit most s pause.FramesFull h = h
+meets_limit most s pause.NoMemory h = tt
+meets_limit most s pause.Spent h = tt
+
+-- as many frames
+pub same_limits : (old new : ℕ) → new ≡ old → KeepsLimits (MayMeet (λ t. Unit {0}) (ComesOver old)) (MayMeet (λ t. Unit {0}) (ComesOver new))
+same_limits old new same limit.Heap s h = tt
+same_limits old new same limit.Frames s h = subst (λ (n : ℕ). ComesOver n s) same h
+same_limits old new same limit.Memory s h = tt
+
+pub refuses_start : (most : ℕ) (s : State) (r : Result Unit StartFault) → RefusesStart (MayMeet (λ t. Unit {0}) (ComesOver most)) s r
+refuses_start most s (Ok u) = tt
+refuses_start most s (Err start.HeapFull) = tt
+refuses_start most s (Err start.NoMemory) = tt

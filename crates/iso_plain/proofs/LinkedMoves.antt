@@ -1,259 +1,36 @@
--- Each move of a search with its goals linked is some steps of the search.
-use Rattle.std.proofs.Common.{◌≡◌, ℕ, suc, ◌+◌, List, [], ◌∷◌, ◌++◌, Bool, true, false, Option, Some, None, map, length, refl, ap, sym, ◌∙◌, subst, append_assoc}
-use Rattle.iso_model.specs.Trees.{Tree, Variable}
-use Rattle.iso_model.specs.Substitutions.{Subst, apply, compose}
-use Rattle.iso_model.specs.Unifiers.{Unifier, NeverEqual}
-use Rattle.iso_model.specs.Copies.{renamed}
-use Rattle.iso_model.specs.Bodies.{Body, Run, And, map_body, is_true}
-use Rattle.iso_model.specs.Databases.{Clause, key_of}
-use Rattle.iso_model.specs.Walker.{State, World, Alternative, Member, Goal, Fail, Raise, Goes, Gives, Ends, Answered, NoMore, Budget, Uncaught, Selected, Succeeds, Fails, User, selected, run_goal, called, clauses_for, unknown, paid, step, step_list, backtracked, before, tried, with_others, fails, values, idle}
-use Rattle.iso_model.specs.Runs.{Quiet, here, onward, Comes, Finishes}
-use Rattle.iso_model.specs.RunLaws.Quiets.{quiet_one, quiet_trans}
-use Rattle.iso_model.proofs.CallLemmas.{found, tried_found, tried_missed}
+-- Each move of the plain engine's own state is a step of it, and so some steps of the search.
+use Rattle.std.proofs.Common.{◌≡◌, ◌<◌, ◌≤◌, ℕ, zero, suc, ◌+◌, List, [], ◌∷◌, ◌++◌, Bool, true, false, Option, Some, None, map, length, refl, ap, sym, ◌∙◌, subst, arith, append_assoc}
+use Rattle.iso_ops.specs.declared.settings.Unknown.{Unknown}
+use Rattle.iso_ops.specs.declared.settings.Unknown.TheVariants as on_unknown
+use Rattle.iso_model.specs.Terms.Trees.{Tree, Variable}
+use Rattle.iso_model.specs.Terms.Variables.{variables}
+use Rattle.iso_model.specs.Terms.Substitutions.{Subst, apply, compose}
+use Rattle.iso_model.specs.Terms.Unifiers.{Unifier, NeverEqual}
+use Rattle.iso_model.specs.Terms.Unification.{unifier_of}
+use Rattle.iso_model.specs.Terms.Copies.{renamed}
+use Rattle.iso_model.specs.Search.Bodies.{Body, Run, And, map_body, is_true}
+use Rattle.iso_model.specs.Search.Databases.{Clause, Key, key_of, clauses_at}
+use Rattle.iso_model.specs.Search.Errors.{existence_error}
+use Rattle.iso_model.specs.Search.BuiltIns.{built_in, reply}
+use Rattle.iso_model.specs.declared.built_ins.BuiltIn.{BuiltIn}
+use Rattle.iso_model.specs.declared.built_ins.BuiltIn.TheVariants as own
+use Rattle.iso_model.specs.Search.Walker.{State, World, Alternative, Member, Goal, Fail, Raise, Outcome, Goes, Gives, Ends, Ending, Answered, NoMore, Budget, Uncaught, run_goal, run_value, selected, replied, called, unknown_called, charged, paid, step, step_list, before, under, entered, tried, with_others, clause_size, fails, values, idle}
+use Rattle.iso_model.specs.Search.Runs.{Quiet, here, Comes, Finishes, ComesOver}
+use Rattle.iso_model.specs.Search.RunLaws.{finishes_behind}
+use Rattle.iso_model.specs.Search.RunLaws.Sameness.{put, flat, SameList, same_goal, same_ball, SameStack, Beside, Same, going, failing}
+use Rattle.iso_model.specs.Search.RunLaws.SameSteps.{list_same, stack_same, steps_same, same_itself, Open, open_end, open_goal, open_failure, open_ball}
+use Rattle.iso_model.specs.Search.RunLaws.SameRuns.{same_goes, same_gives, same_ends, same_world}
+use Rattle.iso_model.specs.Search.RunLaws.SameLaws.{same_back, same_on, same_beside, stack_length}
+use Rattle.iso_model.proofs.Search.CallLemmas.{found, missed, tried_found, tried_missed}
 use Rattle.iso_plain.specs.Goals.{leaves}
-use Rattle.iso_plain.specs.Linked.{goals_of, clause_goals, Links, nothing, linked, Choice, AreChoices, no_choice, one_choice, Running, Failing, Raising, Does, Linked, IsAround, IsState, idle_linked, with_choice, linked_missed, linked_entered}
+use Rattle.iso_plain.specs.Called.{IsBuiltIn, IsUser}
+use Rattle.iso_plain.specs.Linked.{goals_of, clause_goals, Choice, Doing, Running, Failing, Raising, Linked, running, list_of, alternatives_of, state_of, IsState, idle_linked, with_choice, linked_missed, linked_entered}
 
--- ---- goals
+-- ---- the search behind a step of the engine's own state
 
--- the state with this list
-abbrev pub at_list : State → List Member → State
-at_list s ms = record s { list = ms }
-
--- The first goal stands at the front of the list behind some quiet steps.
-pub record Opened (s : State) (ms : List Member) (g : Tree) (gs : List Tree) : Type 0 where
-  pub mark : ℕ
-  pub others : List Member
-  pub links : Links gs others
-  pub quiet : Quiet (at_list s ms) (at_list s (Goal (Run g) mark ∷ others))
-
-conjunction_step : (s : State) (a b : Body) (mark : ℕ) (ms : List Member) → step (at_list s (Goal (And a b) mark ∷ ms)) ≡ Goes (at_list s (Goal a mark ∷ Goal b mark ∷ ms))
-unfolding step
-conjunction_step s a b mark ms = refl
-
-first_same : (t g : Tree) (gs hs : List Tree) → t ∷ gs ≡ g ∷ hs → t ≡ g
-first_same t g gs hs h = cc
-
-others_same : (t g : Tree) (gs hs : List Tree) → t ∷ gs ≡ g ∷ hs → gs ≡ hs
-others_same t g gs hs h = cc
-
-opens_body : (s : State) (b : Body) (mark : ℕ) (ms : List Member) (gs : List Tree) (g : Tree) (hs : List Tree) → Links gs ms → leaves b ++ gs ≡ g ∷ hs → Opened s (Goal b mark ∷ ms) g hs
-opens_body s (Run t) mark ms gs g hs links e =
-    let same = first_same t g gs hs e in
-    record {
-      mark = mark;
-      others = ms;
-      links = subst (λ (xs : List Tree). Links xs ms) (others_same t g gs hs e) links;
-      quiet = subst (λ (x : Tree). Quiet (at_list s (Goal (Run t) mark ∷ ms)) (at_list s (Goal (Run x) mark ∷ ms))) same here;
-    }
-opens_body s (And a b) mark ms gs g hs links e =
-    let inner = opens_body s a mark (Goal b mark ∷ ms) (leaves b ++ gs) g hs (linked refl links) (sym (append_assoc (leaves a) (leaves b) gs) ∙ e) in
-    record {
-      mark = inner.mark;
-      others = inner.others;
-      links = inner.links;
-      quiet = quiet_trans (quiet_one (conjunction_step s a b mark ms)) inner.quiet;
-    }
-
-leaves_some : (b : Body) (gs : List Tree) → [] ≡ leaves b ++ gs → ⊥
-leaves_some (Run t) gs h = cc
-leaves_some (And a b) gs h = leaves_some a (leaves b ++ gs) (h ∙ append_assoc (leaves a) (leaves b) gs)
-
-pub opens : (s : State) (ms : List Member) (g : Tree) (gs : List Tree) → Links (g ∷ gs) ms → Opened s ms g gs
-opens s ms g gs (linked {gs = hs} {ms = ns} {b = b} {mark = mark} e links) = opens_body s b mark ns hs g gs links (sym e)
-
--- no goals: an empty list
-no_members : (ms : List Member) → Links [] ms → ms ≡ []
-no_members ms nothing = refl
-no_members ms (linked {gs = hs} {ms = ns} {b = b} {mark = mark} e links) = absurd (leaves_some b hs e)
-
--- ---- a clause is tried
-
--- a body before the members that stand for these goals
-links_before : (b : Body) (mark : ℕ) (gs : List Tree) (ms : List Member) → Links gs ms → Links (goals_of b ++ gs) (before b mark ms)
-links_before b mark gs ms links = by_truth b mark gs ms links (is_true b) refl where
-  by_truth : (b : Body) (mark : ℕ) (gs : List Tree) (ms : List Member) → Links gs ms → (t : Bool) → is_true b ≡ t → Links (goals_of b ++ gs) (before b mark ms)
-  by_truth b mark gs ms links true e = rw e links
-  by_truth b mark gs ms links false e = rw e (linked {mark = mark} refl links)
-
--- the choices with those of the clauses behind the first
-choices_with : (call : Tree) (cs : List Clause) (gs : List Tree) (ms : List Member) (s : State) (choices : List Choice) → Links gs ms → AreChoices choices s.stack
-    → AreChoices (with_choice call cs gs s.subst s.next choices) (with_others call cs ms s).stack
-choices_with call [] gs ms s choices links stack = stack
-choices_with call (c ∷ cs) gs ms s choices links stack = one_choice links stack
-
--- the choices as they are kept
-choices_kept : (call : Tree) (cs : List Clause) (gs : List Tree) (ms : List Member) (l : Linked) (s : State) → Links gs ms → IsAround l s
-    → AreChoices (with_choice call cs gs l.subst l.next l.stack) (with_others call cs ms s).stack
-choices_kept call cs gs ms l s links at =
-    subst (λ (r : Subst). AreChoices (with_choice call cs gs r l.next l.stack) (with_others call cs ms s).stack) at.subst
-    (subst (λ (n : ℕ). AreChoices (with_choice call cs gs s.subst n l.stack) (with_others call cs ms s).stack) at.next
-    (choices_with call cs gs ms s l.stack links at.stack))
-
--- The clause's head is never equal to the call: what comes next is failure.
-pub is_missed : (call : Tree) (c : Clause) (cs : List Clause) (gs : List Tree) (ms : List Member) (l : Linked) (s : State) → Links gs ms → IsAround l s
-    → NeverEqual (apply l.subst call) (apply l.subst (renamed l.next c.head)) → IsState (linked_missed call c cs gs l) (tried call (c ∷ cs) ms s)
-is_missed call c cs gs ms l s links at never =
-    let P : Subst → ℕ → Type 0 = λ r n. NeverEqual (apply r call) (apply r (renamed n c.head)) in
-    let here : P s.subst s.next = rw (at.subst, at.next) never in
-    rw (tried_missed call c cs ms s here) (record {
-      list = ([], refl);
-      around = record {
-        subst = at.subst;
-        next = ap (λ (n : ℕ). n + c.variables) at.next;
-        query = at.query;
-        stack = choices_kept call cs gs ms l s links at;
-        world = at.world;
-        steps = at.steps;
-      };
-    })
-
--- The clause's head has this unifier with the call: its goals come before those behind the call.
-pub is_entered : (call : Tree) (c : Clause) (cs : List Clause) (gs : List Tree) (ms : List Member) (l : Linked) (s : State) (u : Subst) → Links gs ms → IsAround l s
-    → Unifier (apply l.subst call) (apply l.subst (renamed l.next c.head)) u → IsState (linked_entered call c cs gs l (compose l.subst u)) (tried call (c ∷ cs) ms s)
-is_entered call c cs gs ms l s u links at unifies =
-    let P : Subst → ℕ → Type 0 = λ r n. Unifier (apply r call) (apply r (renamed n c.head)) u in
-    let here : P s.subst s.next = rw (at.subst, at.next) unifies in
-    let goals : ℕ → Type 0 = λ n. Links (clause_goals n c ++ gs) (before (map_body (λ k. Variable (s.next + k)) c.body) (length s.stack) ms) in
-    rw (tried_found call c cs ms s u here) (record {
-      list = subst goals at.next (links_before (map_body (λ k. Variable (s.next + k)) c.body) (length s.stack) gs ms links);
-      around = record {
-        subst = ap (λ (r : Subst). compose r u) at.subst;
-        next = ap (λ (n : ℕ). n + c.variables) at.next;
-        query = at.query;
-        stack = choices_kept call cs gs ms l s links at;
-        world = at.world;
-        steps = at.steps;
-      };
-    })
-
--- ---- failure
-
-no_alternatives : (alternatives : List Alternative) → AreChoices [] alternatives → alternatives ≡ []
-no_alternatives alternatives no_choice = refl
-
--- an idle engine
-pub is_idle : (w v : World) → w ≡ v → IsState (idle_linked v) (idle w)
-is_idle w v e = record {
-  list = ([], refl);
-  around = record { subst = refl; next = refl; query = refl; stack = no_choice; world = e; steps = refl };
-}
-
-fail_step : (s : State) (others : List Member) → s.list ≡ Fail ∷ others → step s ≡ backtracked s.stack s
-unfolding step
-fail_step s others e = ap (λ (ms : List Member). step_list ms s) e
-
--- no alternative is left
-pub fails_last : (l : Linked) (s : State) → IsAround l s → Does Failing s.list → l.stack ≡ [] → Finishes s NoMore (IsState (idle_linked l.world))
-fails_last l s at doing e =
-    let none = no_alternatives s.stack (subst (λ (cs : List Choice). AreChoices cs s.stack) e at.stack) in
-    record {
-      at = s;
-      world = s.world;
-      quiet = here;
-      last = fail_step s doing.0 doing.1 ∙ ap (λ (alternatives : List Alternative). backtracked alternatives s) none;
-      stands = is_idle s.world l.world at.world;
-    }
-
--- The clauses left at the newest choice are tried, with everything as it was then.
-pub record Retried (l : Linked) (c : Choice) (below : List Choice) (s : State) : Type 0 where
-  pub members : List Member
-  pub from : State
-  pub links : Links c.behind members
-  pub around : IsAround (record l { subst = c.subst; next = c.next; stack = below }) from
-  pub goes : step s ≡ Goes (tried c.call c.clauses members from)
-
-retries_from : (l : Linked) (c : Choice) (below : List Choice) (s : State) (others : List Member) (alternatives : List Alternative) → IsAround l s → s.list ≡ Fail ∷ others → s.stack ≡ alternatives
-    → AreChoices (c ∷ below) alternatives → Retried l c below s
-retries_from l c below s others alternatives at list is (one_choice {c = c'} {cs = cs'} {list = ms} {built = b} {others = as'} links stack) = record {
-  members = ms;
-  from = record s { list = ms; subst = c.subst; next = c.next; built = b; stack = as' };
-  links = links;
-  around = record { subst = refl; next = refl; query = at.query; stack = stack; world = at.world; steps = at.steps };
-  goes = fail_step s others list ∙ ap (λ (alternatives : List Alternative). backtracked alternatives s) is;
-}
-
-pub retries : (l : Linked) (c : Choice) (below : List Choice) (s : State) → IsAround l s → Does Failing s.list → l.stack ≡ c ∷ below → Retried l c below s
-retries l c below s at doing e = retries_from l c below s doing.0 s.stack at doing.1 refl (subst (λ (cs : List Choice). AreChoices cs s.stack) e at.stack)
-
--- ---- an answer, and a ball
-
-answer_step : (s : State) → s.list ≡ [] → step s ≡ Gives (Answered (values s)) (fails s)
-unfolding step
-answer_step s e = ap (λ (ms : List Member). step_list ms s) e
-
--- no goal is left: the values of the query's variables
-pub answers : (l : Linked) (s : State) → IsAround l s → Links [] s.list → Comes s (Answered (map l.subst l.query)) (IsState (record l { doing = Failing }))
-answers l s at links =
-    let shown : values s ≡ map l.subst l.query = rw (at.subst, at.query) refl in
-    record {
-      at = s;
-      new = fails s;
-      quiet = here;
-      last = rw (← shown) (answer_step s (no_members s.list links));
-      stands = record { list = ([], refl); around = record { subst = at.subst; next = at.next; query = at.query; stack = at.stack; world = at.world; steps = at.steps } };
-    }
-
-raise_step : (s : State) (ball : Tree) (others : List Member) → s.list ≡ Raise ball ∷ others → step s ≡ Ends (Uncaught ball) s.world
-unfolding step
-raise_step s ball others e = ap (λ (ms : List Member). step_list ms s) e
-
--- nothing catches the ball
-pub raises : (l : Linked) (s : State) (ball : Tree) → IsAround l s → Does (Raising ball) s.list → Finishes s (Uncaught ball) (IsState (idle_linked l.world))
-raises l s ball at doing = record {
-  at = s;
-  world = s.world;
-  quiet = here;
-  last = raise_step s ball doing.0 doing.1;
-  stands = is_idle s.world l.world at.world;
-}
-
--- ---- the first goal is run
-
--- Some quiet steps bring the first goal to the front of the list; nothing else changes.
-pub record Fronted (l : Linked) (g : Tree) (gs : List Tree) (s : State) : Type 0 where
-  pub mark : ℕ
-  pub others : List Member
-  pub from : State
-  pub list : from.list ≡ Goal (Run g) mark ∷ others
-  pub links : Links gs others
-  pub around : IsAround l from
-  pub quiet : Quiet s from
-
-pub fronted : (l : Linked) (s : State) (g : Tree) (gs : List Tree) → IsAround l s → Links (g ∷ gs) s.list → Fronted l g gs s
-fronted l s g gs at links =
-    let o = opens s s.list g gs links in
-    record {
-      mark = o.mark;
-      others = o.others;
-      from = at_list s (Goal (Run g) o.mark ∷ o.others);
-      list = refl;
-      links = o.links;
-      around = record { subst = at.subst; next = at.next; query = at.query; stack = at.stack; world = at.world; steps = at.steps };
-      quiet = o.quiet;
-    }
-
-goal_step : (s : State) (g : Tree) (mark : ℕ) (others : List Member) → s.list ≡ Goal (Run g) mark ∷ others → step s ≡ paid s.steps s (Goes (run_goal (selected g) g others s))
-unfolding step
-goal_step s g mark others e = ap (λ (ms : List Member). step_list ms s) e
-
--- a step is needed and none is left
-pub spends_all : (l : Linked) (s : State) (g : Tree) (gs : List Tree) → IsAround l s → Links (g ∷ gs) s.list → l.steps ≡ 0 → Finishes s Budget (IsState (idle_linked l.world))
-spends_all l s g gs at links none =
-    let f = fronted l s g gs at links in
-    record {
-      at = f.from;
-      world = f.from.world;
-      quiet = f.quiet;
-      last = goal_step f.from g f.mark f.others f.list ∙ ap (λ (n : ℕ). paid n f.from (Goes (run_goal (selected g) g f.others f.from))) (f.around.steps ∙ none);
-      stands = is_idle f.from.world l.world f.around.world;
-    }
-
--- what a goal that takes a step goes to
-goal_goes : (l : Linked) (s : State) (g : Tree) (gs : List Tree) (n : ℕ) (f : Fronted l g gs s) (t : State) → l.steps ≡ suc n → run_goal (selected g) g f.others f.from ≡ t
-    → step f.from ≡ Goes (record t { steps = n })
-goal_goes l s g gs n f t left is =
-    goal_step f.from g f.mark f.others f.list
-    ∙ (ap (λ (k : ℕ). paid k f.from (Goes (run_goal (selected g) g f.others f.from))) (f.around.steps ∙ left) ∙ ap (λ (x : State). Goes (record x { steps = n })) is)
+-- by what comes next
+pub does : (l : Linked) (s : State) (d : Doing) → IsState l s → l.doing ≡ d → IsState (record l { doing = d }) s
+does l s d is e = subst (λ (x : Doing). IsState (record l { doing = x }) s) e is
 
 -- The search goes on, without an event, to a state that is this one.
 pub record Onward (l : Linked) (s : State) : Type 0 where
@@ -261,111 +38,304 @@ pub record Onward (l : Linked) (s : State) : Type 0 where
   pub quiet : Quiet s new
   pub is : IsState l new
 
--- a state with fewer steps left
-fewer_steps : (l : Linked) (t : State) (n : ℕ) → IsState l t → IsState (record l { steps = n }) (record t { steps = n })
-fewer_steps l t n h = record {
-  list = h.list;
-  around = record { subst = h.around.subst; next = h.around.next; query = h.around.query; stack = h.around.stack; world = h.around.world; steps = refl };
-}
+goes_onward : (l m : Linked) (s v : State) → IsState l s → Open (list_of l.doing) → step (state_of l) ≡ Goes v → Same v (state_of m) → Onward m s
+goes_onward l m s v is first goes same =
+    let k = same_goes (state_of l) v s first goes is in
+    record { new = k.0; quiet = k.1; is = same_on (state_of m) v k.0 (same_back v (state_of m) same) k.2 }
 
-pub goes_onward : (l m : Linked) (s : State) (g : Tree) (gs : List Tree) (n : ℕ) (f : Fronted l g gs s) (t : State) → l.steps ≡ suc n → run_goal (selected g) g f.others f.from ≡ t
-    → IsState m t → Onward (record m { steps = n }) s
-goes_onward l m s g gs n f t left is h = record {
-  new = record t { steps = n };
-  quiet = onward f.quiet (goal_goes l s g gs n f t left is);
-  is = fewer_steps m t n h;
-}
+-- the world that both have
+pub world_is : (l : Linked) (s : State) → IsState l s → s.world ≡ l.world
+world_is l s is = sym (same_world is)
 
--- `true`
-pub succeeds : (l : Linked) (s : State) (g : Tree) (gs : List Tree) (n : ℕ) → IsAround l s → Links (g ∷ gs) s.list → l.steps ≡ suc n → selected g ≡ Succeeds
-    → Onward (record l { doing = Running gs; steps = n }) s
-succeeds l s g gs n at links left is =
-    let f = fronted l s g gs at links in
-    let a = f.around in
-    goes_onward l (record l { doing = Running gs }) s g gs n f (record f.from { list = f.others }) left (ap (λ (x : Selected). run_goal x g f.others f.from) is)
-    (record { list = f.links; around = record { subst = a.subst; next = a.next; query = a.query; stack = a.stack; world = a.world; steps = a.steps } })
+-- an idle engine
+pub is_idle : (w v : World) → w ≡ v → IsState (idle_linked v) (idle w)
+is_idle w v e = subst (λ (x : World). Same (idle v) (idle x)) (sym e) (same_itself (idle v))
 
--- `fail`
-pub fails_at_once : (l : Linked) (s : State) (g : Tree) (gs : List Tree) (n : ℕ) → IsAround l s → Links (g ∷ gs) s.list → l.steps ≡ suc n → selected g ≡ Fails
-    → Onward (record l { doing = Failing; steps = n }) s
-fails_at_once l s g gs n at links left is =
-    let f = fronted l s g gs at links in
-    let a = f.around in
-    goes_onward l (record l { doing = Failing }) s g gs n f (fails f.from) left (ap (λ (x : Selected). run_goal x g f.others f.from) is)
-    (record { list = ([], refl); around = record { subst = a.subst; next = a.next; query = a.query; stack = a.stack; world = a.world; steps = a.steps } })
+ends_idle : (l : Linked) (s : State) (e : Ending) → IsState l s → Open (list_of l.doing) → step (state_of l) ≡ Ends e l.world → Finishes s e (IsState (idle_linked l.world))
+ends_idle l s e is first ends = same_ends (state_of l) s e l.world (IsState (idle_linked l.world)) first ends (is_idle l.world l.world refl) is
 
--- what a goal of a user procedure is run as
-user_goal : (l : Linked) (s : State) (g : Tree) (gs : List Tree) (f : Fronted l g gs s) (clauses : Option (List Clause)) → selected g ≡ User → clauses_for (key_of g) l.world.database ≡ clauses
-    → run_goal (selected g) g f.others f.from ≡ called clauses g f.others f.from
-user_goal l s g gs f clauses is found =
-    ap (λ (x : Selected). run_goal x g f.others f.from) is
-    ∙ ap (λ (x : Option (List Clause)). called x g f.others f.from) (ap (λ (w : World). clauses_for (key_of g) w.database) f.around.world ∙ found)
+-- ---- goals of bodies
 
--- an unknown procedure
-pub raises_unknown : (l : Linked) (s : State) (g : Tree) (gs : List Tree) (n : ℕ) → IsAround l s → Links (g ∷ gs) s.list → l.steps ≡ suc n → selected g ≡ User
-    → clauses_for (key_of g) l.world.database ≡ None → Finishes s (Uncaught (unknown (key_of g) g)) (IsState (idle_linked l.world))
-raises_unknown l s g gs n at links left is none =
-    let f = fronted l s g gs at links in
-    let a = f.around in
-    let ball = unknown (key_of g) g in
-    let t = record f.from { list = Raise ball ∷ f.others } in
-    let goes = goal_goes l s g gs n f t left (user_goal l s g gs f None is none) in
-    record {
-      at = record t { steps = n };
-      world = f.from.world;
-      quiet = onward f.quiet goes;
-      last = raise_step (record t { steps = n }) ball f.others refl;
-      stands = is_idle f.from.world l.world a.world;
-    }
+pub leaves_flat : {r : Subst} (b : Body) (mark : ℕ) (ms : List Member) (gs : List Tree) → SameList r r ms (flat (running gs)) → SameList r r (put b mark ms) (flat (running (leaves b ++ gs)))
+leaves_flat (Run t) mark ms gs same = same_goal refl same
+leaves_flat {r} (And a b) mark ms gs same =
+    subst (λ (hs : List Tree). SameList r r (put a mark (put b mark ms)) (flat (running hs))) (sym (append_assoc (leaves a) (leaves b) gs))
+    (leaves_flat a mark (put b mark ms) (leaves b ++ gs) (leaves_flat b mark ms gs same))
 
--- a procedure without clauses
-pub fails_without_clauses : (l : Linked) (s : State) (g : Tree) (gs : List Tree) (n : ℕ) → IsAround l s → Links (g ∷ gs) s.list → l.steps ≡ suc n → selected g ≡ User
-    → clauses_for (key_of g) l.world.database ≡ Some [] → Onward (record l { doing = Failing; steps = n }) s
-fails_without_clauses l s g gs n at links left is none =
-    let f = fronted l s g gs at links in
-    let a = f.around in
-    goes_onward l (record l { doing = Failing }) s g gs n f (fails f.from) left (user_goal l s g gs f (Some []) is none)
-    (record { list = ([], refl); around = record { subst = a.subst; next = a.next; query = a.query; stack = a.stack; world = a.world; steps = a.steps } })
+-- a body before the goals behind it
+pub before_flat : {r : Subst} (b : Body) (mark : ℕ) (gs : List Tree) → SameList r r (flat (before b mark (running gs))) (flat (running (goals_of b ++ gs)))
+before_flat {r} b mark gs = by_truth (is_true b) refl where
+  by_truth : (t : Bool) → is_true b ≡ t → SameList r r (flat (before b mark (running gs))) (flat (running (goals_of b ++ gs)))
+  by_truth true e = rw e (list_same (running gs))
+  by_truth false e = rw e (leaves_flat b mark (flat (running gs)) gs (list_same (running gs)))
 
--- a call whose first clause isn't entered
-pub calls_missed : (l : Linked) (s : State) (g : Tree) (gs : List Tree) (n : ℕ) (c : Clause) (cs : List Clause) → IsAround l s → Links (g ∷ gs) s.list → l.steps ≡ suc n → selected g ≡ User
-    → clauses_for (key_of g) l.world.database ≡ Some (c ∷ cs) → NeverEqual (apply l.subst g) (apply l.subst (renamed l.next c.head)) → Onward (record (linked_missed g c cs gs l) { steps = n }) s
-calls_missed l s g gs n c cs at links left is found never =
-    let f = fronted l s g gs at links in
-    goes_onward l (linked_missed g c cs gs l) s g gs n f (tried g (c ∷ cs) f.others f.from) left (user_goal l s g gs f (Some (c ∷ cs)) is found)
-    (is_missed g c cs gs f.others l f.from f.links f.around never)
+-- ---- a clause is tried
 
--- a call whose first clause is entered
-pub calls_entered : (l : Linked) (s : State) (g : Tree) (gs : List Tree) (n : ℕ) (c : Clause) (cs : List Clause) (u : Subst) → IsAround l s → Links (g ∷ gs) s.list → l.steps ≡ suc n
-    → selected g ≡ User → clauses_for (key_of g) l.world.database ≡ Some (c ∷ cs) → Unifier (apply l.subst g) (apply l.subst (renamed l.next c.head)) u
-    → Onward (record (linked_entered g c cs gs l (compose l.subst u)) { steps = n }) s
-calls_entered l s g gs n c cs u at links left is found unifies =
-    let f = fronted l s g gs at links in
-    goes_onward l (linked_entered g c cs gs l (compose l.subst u)) s g gs n f (tried g (c ∷ cs) f.others f.from) left (user_goal l s g gs f (Some (c ∷ cs)) is found)
-    (is_entered g c cs gs f.others l f.from u f.links f.around unifies)
+stack_is : (g : Tree) (cs : List Clause) (gs : List Tree) (l : Linked) (ms : List Member)
+    → (with_others (apply l.subst g) cs (running gs) (record (state_of l) { list = ms })).stack ≡ alternatives_of (with_choice g cs gs l.subst l.next l.stack)
+stack_is g [] gs l ms = refl
+stack_is g (c ∷ cs) gs l ms = refl
 
--- ---- the clauses of the newest choice
+others_world : (call : Tree) (cs : List Clause) (rest : List Member) (s : State) → (with_others call cs rest s).world ≡ s.world
+others_world call [] rest s = refl
+others_world call (c ∷ cs) rest s = refl
 
-pub retries_missed : (l : Linked) (s : State) (k : Choice) (below : List Choice) (c : Clause) (cs : List Clause) → IsAround l s → Does Failing s.list → l.stack ≡ k ∷ below → k.clauses ≡ c ∷ cs
+-- The clause's head is never equal to the call: what comes next is failure.
+is_missed : (l : Linked) (g : Tree) (c : Clause) (cs : List Clause) (gs : List Tree) (ms : List Member) → NeverEqual (apply l.subst g) (apply l.subst (renamed l.next c.head))
+    → Same (tried (apply l.subst g) (c ∷ cs) (running gs) (record (state_of l) { list = ms })) (state_of (linked_missed g c cs gs l))
+is_missed l g c cs gs ms never =
+    let s : State = record (state_of l) { list = ms } in
+    let stack = subst (λ (xs : List Alternative). SameStack (variables l.query) (variables l.query) (with_others (apply l.subst g) cs (running gs) s).stack xs) (stack_is g cs gs l ms) (stack_same (variables l.query) _) in
+    let new : Same (missed (apply l.subst g) c cs (running gs) s) (state_of (linked_missed g c cs gs l)) = failing [] [] refl refl (record { stack = stack; world = refl; steps = refl }) in
+    subst (λ (x : State). Same x (state_of (linked_missed g c cs gs l))) (sym (tried_missed (apply l.subst g) c cs (running gs) s never)) new
+
+-- The clause's head has this unifier with the call: its goals come before those behind the call.
+is_entered : (l : Linked) (g : Tree) (c : Clause) (cs : List Clause) (gs : List Tree) (ms : List Member) (u : Subst) → Unifier (apply l.subst g) (apply l.subst (renamed l.next c.head)) u
+    → Same (tried (apply l.subst g) (c ∷ cs) (running gs) (record (state_of l) { list = ms })) (state_of (linked_entered g c cs gs l (compose l.subst u)))
+is_entered l g c cs gs ms u unifies =
+    let s : State = record (state_of l) { list = ms } in
+    let stack = subst (λ (xs : List Alternative). SameStack (variables l.query) (variables l.query) (with_others (apply l.subst g) cs (running gs) s).stack xs) (stack_is g cs gs l ms) (stack_same (variables l.query) _) in
+    let new : Same (found (apply l.subst g) c cs (running gs) s u) (state_of (linked_entered g c cs gs l (compose l.subst u))) =
+    going (record { agree = record { shown = refl; beyond = λ x more. refl }; next = refl; beside = record { stack = stack; world = refl; steps = refl } })
+    (before_flat (map_body (λ k. Variable (l.next + k)) c.body) (length s.stack) gs) in
+    subst (λ (x : State). Same x (state_of (linked_entered g c cs gs l (compose l.subst u)))) (sym (tried_found (apply l.subst g) c cs (running gs) s u unifies)) new
+
+-- ---- failure
+
+fail_step : (l : Linked) → step (state_of (record l { doing = Failing; stack = [] })) ≡ Ends NoMore l.world
+unfolding step
+fail_step l = refl
+
+-- by the choices that stand
+pub stacked : (l : Linked) (s : State) (ks : List Choice) → IsState l s → l.stack ≡ ks → IsState (record l { stack = ks }) s
+stacked l s ks is e = subst (λ (xs : List Choice). IsState (record l { stack = xs }) s) e is
+
+-- no alternative is left
+pub fails_last : (l : Linked) (s : State) → IsState l s → l.doing ≡ Failing → l.stack ≡ [] → Finishes s NoMore (IsState (idle_linked l.world))
+fails_last l s is doing none =
+    ends_idle (record l { doing = Failing; stack = [] }) s NoMore (stacked (record l { doing = Failing }) s [] (does l s Failing is doing) none) open_failure (fail_step l)
+
+-- the newest choice is tried again
+retry_step : (l : Linked) (k : Choice) (below : List Choice) → step (state_of (record l { doing = Failing; stack = k ∷ below }))
+    ≡ Goes (tried (apply k.subst k.call) k.clauses (running k.behind) (record (state_of (record l { subst = k.subst; next = k.next; stack = below })) { list = running k.behind }))
+unfolding step
+retry_step l k below = refl
+
+retried_with : (l : Linked) (k : Choice) (below : List Choice) (c : Clause) (cs : List Clause) → k.clauses ≡ c ∷ cs → step (state_of (record l { doing = Failing; stack = k ∷ below }))
+    ≡ Goes (tried (apply k.subst k.call) (c ∷ cs) (running k.behind) (record (state_of (record l { subst = k.subst; next = k.next; stack = below })) { list = running k.behind }))
+retried_with l k below c cs e =
+    retry_step l k below
+    ∙ ap (λ (xs : List Clause). Goes (tried (apply k.subst k.call) xs (running k.behind) (record (state_of (record l { subst = k.subst; next = k.next; stack = below })) { list = running k.behind }))) e
+
+pub retries_missed : (l : Linked) (s : State) (k : Choice) (below : List Choice) (c : Clause) (cs : List Clause) → IsState l s → l.doing ≡ Failing → l.stack ≡ k ∷ below → k.clauses ≡ c ∷ cs
     → NeverEqual (apply k.subst k.call) (apply k.subst (renamed k.next c.head))
     → Onward (linked_missed k.call c cs k.behind (record l { subst = k.subst; next = k.next; stack = below })) s
-retries_missed l s k below c cs at doing e clauses never =
-    let r = retries l k below s at doing e in
-    let goes = r.goes ∙ ap (λ (x : List Clause). Goes (tried k.call x r.members r.from)) clauses in
-    record {
-      new = tried k.call (c ∷ cs) r.members r.from;
-      quiet = quiet_one goes;
-      is = is_missed k.call c cs k.behind r.members (record l { subst = k.subst; next = k.next; stack = below }) r.from r.links r.around never;
-    }
+retries_missed l s k below c cs is doing stack clauses never =
+    goes_onward (record l { doing = Failing; stack = k ∷ below }) (linked_missed k.call c cs k.behind (record l { subst = k.subst; next = k.next; stack = below })) s _
+    (stacked (record l { doing = Failing }) s (k ∷ below) (does l s Failing is doing) stack) open_failure (retried_with l k below c cs clauses)
+    (is_missed (record l { subst = k.subst; next = k.next; stack = below }) k.call c cs k.behind (running k.behind) never)
 
-pub retries_entered : (l : Linked) (s : State) (k : Choice) (below : List Choice) (c : Clause) (cs : List Clause) (u : Subst) → IsAround l s → Does Failing s.list → l.stack ≡ k ∷ below
+pub retries_entered : (l : Linked) (s : State) (k : Choice) (below : List Choice) (c : Clause) (cs : List Clause) (u : Subst) → IsState l s → l.doing ≡ Failing → l.stack ≡ k ∷ below
     → k.clauses ≡ c ∷ cs → Unifier (apply k.subst k.call) (apply k.subst (renamed k.next c.head)) u
     → Onward (linked_entered k.call c cs k.behind (record l { subst = k.subst; next = k.next; stack = below }) (compose k.subst u)) s
-retries_entered l s k below c cs u at doing e clauses unifies =
-    let r = retries l k below s at doing e in
-    let goes = r.goes ∙ ap (λ (x : List Clause). Goes (tried k.call x r.members r.from)) clauses in
+retries_entered l s k below c cs u is doing stack clauses unifies =
+    goes_onward (record l { doing = Failing; stack = k ∷ below }) (linked_entered k.call c cs k.behind (record l { subst = k.subst; next = k.next; stack = below }) (compose k.subst u)) s _
+    (stacked (record l { doing = Failing }) s (k ∷ below) (does l s Failing is doing) stack) open_failure (retried_with l k below c cs clauses)
+    (is_entered (record l { subst = k.subst; next = k.next; stack = below }) k.call c cs k.behind (running k.behind) u unifies)
+
+-- ---- an answer, and a ball
+
+answer_step : (l : Linked) → step (state_of (record l { doing = Running [] })) ≡ Gives (Answered (map l.subst (variables l.query))) (state_of (record l { doing = Failing }))
+unfolding step
+answer_step l = refl
+
+-- no goal is left: the values of the query's variables
+pub answers : (l : Linked) (s : State) → IsState l s → l.doing ≡ Running [] → Comes s (Answered (map l.subst (variables l.query))) (IsState (record l { doing = Failing }))
+answers l s is doing =
+    same_gives (state_of (record l { doing = Running [] })) (state_of (record l { doing = Failing })) s (Answered (map l.subst (variables l.query))) (IsState (record l { doing = Failing })) open_end (answer_step l) (λ t h. h)
+    (does l s (Running []) is doing)
+
+raise_step : (l : Linked) (ball : Tree) → step (state_of (record l { doing = Raising ball })) ≡ Ends (Uncaught ball) l.world
+unfolding step
+raise_step l ball = refl
+
+-- nothing catches the ball
+pub raises : (l : Linked) (s : State) (ball : Tree) → IsState l s → l.doing ≡ Raising ball → Finishes s (Uncaught ball) (IsState (idle_linked l.world))
+raises l s ball is doing = ends_idle (record l { doing = Raising ball }) s (Uncaught ball) (does l s (Raising ball) is doing) open_ball (raise_step l ball)
+
+-- ---- the first goal is run
+
+-- the engine's own state with this goal first
+abbrev pub front : Linked → Tree → List Tree → State
+front l g gs = state_of (record l { doing = Running (g ∷ gs) })
+
+goal_step : (l : Linked) (g : Tree) (gs : List Tree) → step (front l g gs) ≡ paid l.steps (front l g gs) (run_value (apply l.subst g) (running gs) (front l g gs))
+unfolding step
+goal_step l g gs = refl
+
+-- a step is needed and none is left
+pub spends_all : (l : Linked) (s : State) (g : Tree) (gs : List Tree) → IsState l s → l.doing ≡ Running (g ∷ gs) → l.steps ≡ 0 → Finishes s Budget (IsState (idle_linked l.world))
+spends_all l s g gs is doing none =
+    ends_idle (record l { doing = Running (g ∷ gs) }) s Budget (does l s (Running (g ∷ gs)) is doing) open_goal
+    (goal_step l g gs ∙ ap (λ (n : ℕ). paid n (front l g gs) (run_value (apply l.subst g) (running gs) (front l g gs))) none)
+
+-- what a goal that takes a step goes to
+goal_goes : (l : Linked) (g : Tree) (gs : List Tree) (n : ℕ) (t : State) → l.steps ≡ suc n → run_value (apply l.subst g) (running gs) (front l g gs) ≡ Goes t
+    → step (front l g gs) ≡ Goes (record t { steps = n })
+goal_goes l g gs n t left is =
+    goal_step l g gs
+    ∙ (ap (λ (k : ℕ). paid k (front l g gs) (run_value (apply l.subst g) (running gs) (front l g gs))) left ∙ ap (λ (o : Outcome). charged n o) is)
+
+pub runs_onward : (l m : Linked) (s : State) (g : Tree) (gs : List Tree) (n : ℕ) (t : State) → IsState l s → l.doing ≡ Running (g ∷ gs) → l.steps ≡ suc n
+    → run_value (apply l.subst g) (running gs) (front l g gs) ≡ Goes t → Same t (state_of m) → Onward (record m { steps = n }) s
+runs_onward l m s g gs n t is doing left goes same =
+    goes_onward (record l { doing = Running (g ∷ gs) }) (record m { steps = n }) s (record t { steps = n }) (does l s (Running (g ∷ gs)) is doing) open_goal (goal_goes l g gs n t left goes) (steps_same n same)
+
+-- what a goal of a built-in is run as
+pub own_goal : (v : Tree) (rest : List Member) (s : State) (b : BuiltIn) → IsBuiltIn v b → run_value v rest s ≡ replied (reply b v) rest s
+own_goal v rest s b is =
+    ap (λ (o : Option Key). run_goal o v rest s) is.named ∙ ap (λ (o : Option BuiltIn). selected o is.key v rest s) is.found
+
+-- `true`
+pub succeeds : (l : Linked) (s : State) (g : Tree) (gs : List Tree) (n : ℕ) → IsState l s → l.doing ≡ Running (g ∷ gs) → l.steps ≡ suc n → IsBuiltIn (apply l.subst g) own.True
+    → Onward (record l { doing = Running gs; steps = n }) s
+succeeds l s g gs n is doing left goal =
+    runs_onward l (record l { doing = Running gs }) s g gs n (state_of (record l { doing = Running gs })) is doing left (own_goal (apply l.subst g) (running gs) (front l g gs) own.True goal) (same_itself _)
+
+-- the goal fails
+failing_goal : (l : Linked) (s : State) (g : Tree) (gs : List Tree) (n : ℕ) → IsState l s → l.doing ≡ Running (g ∷ gs) → l.steps ≡ suc n
+    → run_value (apply l.subst g) (running gs) (front l g gs) ≡ Goes (fails (front l g gs)) → Onward (record l { doing = Failing; steps = n }) s
+failing_goal l s g gs n is doing left goes = runs_onward l (record l { doing = Failing }) s g gs n (fails (front l g gs)) is doing left goes (same_itself _)
+
+-- `fail`
+pub fails_at_once : (l : Linked) (s : State) (g : Tree) (gs : List Tree) (n : ℕ) → IsState l s → l.doing ≡ Running (g ∷ gs) → l.steps ≡ suc n → IsBuiltIn (apply l.subst g) own.Fail
+    → Onward (record l { doing = Failing; steps = n }) s
+fails_at_once l s g gs n is doing left fail = failing_goal l s g gs n is doing left (own_goal (apply l.subst g) (running gs) (front l g gs) own.Fail fail)
+
+-- what a goal of a user procedure is run as
+user_goal : (l : Linked) (g : Tree) (gs : List Tree) (k : Key) (clauses : Option (List Clause)) → IsUser (apply l.subst g) k → clauses_at l.world.database.procedures k ≡ clauses
+    → run_value (apply l.subst g) (running gs) (front l g gs) ≡ Goes (called clauses k (apply l.subst g) (running gs) (front l g gs))
+user_goal l g gs k clauses is found =
+    ap (λ (o : Option Key). run_goal o (apply l.subst g) (running gs) (front l g gs)) is.named
+    ∙ (ap (λ (o : Option BuiltIn). selected o k (apply l.subst g) (running gs) (front l g gs)) is.none
+    ∙ ap (λ (x : Option (List Clause)). Goes (called x k (apply l.subst g) (running gs) (front l g gs))) found)
+
+-- an unknown procedure, by the flag `unknown`
+unknown_goal : (l : Linked) (g : Tree) (gs : List Tree) (k : Key) (u : Unknown) → IsUser (apply l.subst g) k → clauses_at l.world.database.procedures k ≡ None → l.world.flags.unknown ≡ u
+    → run_value (apply l.subst g) (running gs) (front l g gs) ≡ Goes (unknown_called u k (running gs) (front l g gs))
+unknown_goal l g gs k u is none flag =
+    user_goal l g gs k None is none ∙ ap (λ (x : Unknown). Goes (unknown_called x k (running gs) (front l g gs))) flag
+
+-- the ball comes before the goals behind the call; what follows a ball doesn't count
+raised_same : (l : Linked) (g : Tree) (gs : List Tree) (ball : Tree) → Same (record (front l g gs) { list = Raise ball ∷ running gs }) (state_of (record l { doing = Raising ball }))
+raised_same l g gs ball =
+    going (record { agree = record { shown = refl; beyond = λ x more. refl }; next = refl; beside = record { stack = stack_same (variables l.query) (alternatives_of l.stack); world = refl; steps = refl } }) same_ball
+
+pub raises_unknown : (l : Linked) (s : State) (g : Tree) (gs : List Tree) (n : ℕ) (k : Key) → IsState l s → l.doing ≡ Running (g ∷ gs) → l.steps ≡ suc n → IsUser (apply l.subst g) k
+    → clauses_at l.world.database.procedures k ≡ None → l.world.flags.unknown ≡ on_unknown.Error → Finishes s (Uncaught (existence_error k)) (IsState (idle_linked l.world))
+raises_unknown l s g gs n k is doing left user none flag =
+    let o = runs_onward l (record l { doing = Raising (existence_error k) }) s g gs n _ is doing left (unknown_goal l g gs k on_unknown.Error user none flag) (raised_same l g gs (existence_error k)) in
+    finishes_behind o.quiet (raises (record l { doing = Raising (existence_error k); steps = n }) o.new (existence_error k) o.is refl)
+
+pub fails_unknown : (l : Linked) (s : State) (g : Tree) (gs : List Tree) (n : ℕ) (k : Key) → IsState l s → l.doing ≡ Running (g ∷ gs) → l.steps ≡ suc n → IsUser (apply l.subst g) k
+    → clauses_at l.world.database.procedures k ≡ None → l.world.flags.unknown ≡ on_unknown.Fail → Onward (record l { doing = Failing; steps = n }) s
+fails_unknown l s g gs n k is doing left user none flag = failing_goal l s g gs n is doing left (unknown_goal l g gs k on_unknown.Fail user none flag)
+
+-- a call whose first clause isn't entered
+pub calls_missed : (l : Linked) (s : State) (g : Tree) (gs : List Tree) (n : ℕ) (k : Key) (c : Clause) (cs : List Clause) → IsState l s → l.doing ≡ Running (g ∷ gs) → l.steps ≡ suc n → IsUser (apply l.subst g) k
+    → clauses_at l.world.database.procedures k ≡ Some (c ∷ cs) → NeverEqual (apply l.subst g) (apply l.subst (renamed l.next c.head)) → Onward (record (linked_missed g c cs gs l) { steps = n }) s
+calls_missed l s g gs n k c cs is doing left user found never =
+    runs_onward l (linked_missed g c cs gs l) s g gs n _ is doing left (user_goal l g gs k (Some (c ∷ cs)) user found) (is_missed l g c cs gs (running (g ∷ gs)) never)
+
+-- a call whose first clause is entered
+pub calls_entered : (l : Linked) (s : State) (g : Tree) (gs : List Tree) (n : ℕ) (k : Key) (c : Clause) (cs : List Clause) (u : Subst) → IsState l s → l.doing ≡ Running (g ∷ gs) → l.steps ≡ suc n
+    → IsUser (apply l.subst g) k → clauses_at l.world.database.procedures k ≡ Some (c ∷ cs) → Unifier (apply l.subst g) (apply l.subst (renamed l.next c.head)) u
+    → Onward (record (linked_entered g c cs gs l (compose l.subst u)) { steps = n }) s
+calls_entered l s g gs n k c cs u is doing left user found unifies =
+    runs_onward l (linked_entered g c cs gs l (compose l.subst u)) s g gs n _ is doing left (user_goal l g gs k (Some (c ∷ cs)) user found) (is_entered l g c cs gs (running (g ∷ gs)) u unifies)
+
+-- ---- halfway through a step
+
+-- The search comes, without an event, to a state with these alternatives.
+pub record Halfway (l : Linked) (s : State) (choices : List Choice) : Type 0 where
+  pub at : State
+  pub quiet : Quiet s at
+  pub named : List ℕ
+  pub stack : SameStack named (variables at.query) (alternatives_of choices) at.stack
+  pub world : at.world ≡ l.world
+
+-- where it is
+pub halfway_here : (l : Linked) (s : State) → IsState l s → Halfway l s l.stack
+halfway_here l s is =
+    let beside = same_beside (state_of l) s is in
+    record { at = s; quiet = here; named = variables l.query; stack = beside.stack; world = sym beside.world }
+
+-- a clause that is tried leaves the stack, the world and the query as they are
+entered_keeps : (o : Option Subst) (c : Clause) (n mark : ℕ) (rest : List Member) (s : State)
+    → ((entered o c n mark rest s).stack ≡ s.stack) × ((entered o c n mark rest s).world ≡ s.world) × ((entered o c n mark rest s).query ≡ s.query)
+entered_keeps None c n mark rest s = (refl, refl, refl)
+entered_keeps (Some u) c n mark rest s = (refl, refl, refl)
+
+others_keep : (call : Tree) (cs : List Clause) (rest : List Member) (s : State) → ((with_others call cs rest s).world ≡ s.world) × ((with_others call cs rest s).query ≡ s.query)
+others_keep call [] rest s = (refl, refl)
+others_keep call (c ∷ cs) rest s = (refl, refl)
+
+-- the state behind a clause that was tried, from the engine's own
+tried_keeps : (l : Linked) (g : Tree) (c : Clause) (cs : List Clause) (gs : List Tree) (ms : List Member) →
+    let t = tried (apply l.subst g) (c ∷ cs) (running gs) (record (state_of l) { list = ms }) in
+    (t.stack ≡ alternatives_of (with_choice g cs gs l.subst l.next l.stack)) × (t.world ≡ l.world) × (t.query ≡ l.query)
+tried_keeps l g c cs gs ms =
+    let s : State = record (state_of l) { list = ms } in
+    let p = with_others (apply l.subst g) cs (running gs) s in
+    let e = entered_keeps (under p.subst (unifier_of (apply l.subst g) (apply p.subst (renamed p.next c.head)))) c p.next (length s.stack) (running gs) (record p { next = p.next + c.variables; built = p.built + clause_size c }) in
+    let k = others_keep (apply l.subst g) cs (running gs) s in
+    (e.0 ∙ stack_is g cs gs l ms, e.1 ∙ k.0, e.2 ∙ k.1)
+
+-- behind a step of the engine's own state
+halfway_by : (l m : Linked) (s v : State) (choices : List Choice) → IsState l s → Open (list_of l.doing) → step (state_of l) ≡ Goes v → v.stack ≡ alternatives_of choices → v.world ≡ m.world → Halfway m s choices
+halfway_by l m s v choices is first goes stack world =
+    let k = same_goes (state_of l) v s first goes is in
+    let beside = same_beside v k.0 k.2 in
     record {
-      new = tried k.call (c ∷ cs) r.members r.from;
-      quiet = quiet_one goes;
-      is = is_entered k.call c cs k.behind r.members (record l { subst = k.subst; next = k.next; stack = below }) r.from u r.links r.around unifies;
+      at = k.0;
+      quiet = k.1;
+      named = variables v.query;
+      stack = subst (λ (xs : List Alternative). SameStack (variables v.query) (variables (k.0).query) xs (k.0).stack) stack beside.stack;
+      world = sym beside.world ∙ world;
     }
+
+-- in a call
+pub calls_halfway : (l : Linked) (s : State) (g : Tree) (gs : List Tree) (n : ℕ) (k : Key) (c : Clause) (cs : List Clause) → IsState l s → l.doing ≡ Running (g ∷ gs) → l.steps ≡ suc n
+    → IsUser (apply l.subst g) k → clauses_at l.world.database.procedures k ≡ Some (c ∷ cs) → Halfway l s (with_choice g cs gs l.subst l.next l.stack)
+calls_halfway l s g gs n k c cs is doing left user found =
+    let t = tried (apply l.subst g) (c ∷ cs) (running gs) (front l g gs) in
+    let keeps = tried_keeps l g c cs gs (running (g ∷ gs)) in
+    halfway_by (record l { doing = Running (g ∷ gs) }) l s (record t { steps = n }) (with_choice g cs gs l.subst l.next l.stack) (does l s (Running (g ∷ gs)) is doing) open_goal
+    (goal_goes l g gs n t left (user_goal l g gs k (Some (c ∷ cs)) user found)) keeps.0 keeps.1
+
+-- where the newest choice is tried again
+pub retries_halfway : (l : Linked) (s : State) (k : Choice) (below : List Choice) (c : Clause) (cs : List Clause) → IsState l s → l.doing ≡ Failing → l.stack ≡ k ∷ below → k.clauses ≡ c ∷ cs
+    → Halfway l s (with_choice k.call cs k.behind k.subst k.next below)
+retries_halfway l s k below c cs is doing stack clauses =
+    let m = record l { subst = k.subst; next = k.next; stack = below } in
+    let keeps = tried_keeps m k.call c cs k.behind (running k.behind) in
+    halfway_by (record l { doing = Failing; stack = k ∷ below }) l s _ (with_choice k.call cs k.behind k.subst k.next below)
+    (stacked (record l { doing = Failing }) s (k ∷ below) (does l s Failing is doing) stack) open_failure (retried_with l k below c cs clauses) keeps.0 keeps.1
+
+many_alternatives : (ks : List Choice) → length (alternatives_of ks) ≡ length ks
+many_alternatives [] = refl
+many_alternatives (k ∷ ks) = ap suc (many_alternatives ks)
+
+one_more : (g : Tree) (cs : List Clause) (gs : List Tree) (r : Subst) (n : ℕ) (ks : List Choice) → 0 < length cs → length (with_choice g cs gs r n ks) ≡ suc (length ks)
+one_more g [] gs r n ks some = absurd (omega (arith, some))
+one_more g (c ∷ cs) gs r n ks some = refl
+
+-- a call of a procedure of several clauses comes to one alternative more
+pub calls_over : (l : Linked) (s : State) (g : Tree) (gs : List Tree) (n : ℕ) (k : Key) (c : Clause) (cs : List Clause) (most : ℕ) → IsState l s → l.doing ≡ Running (g ∷ gs) → l.steps ≡ suc n
+    → IsUser (apply l.subst g) k → clauses_at l.world.database.procedures k ≡ Some (c ∷ cs) → 0 < length cs → most ≤ length l.stack → ComesOver most s
+calls_over l s g gs n k c cs most is doing left user found some full =
+    let h = calls_halfway l s g gs n k c cs is doing left user found in
+    let many = many_alternatives (with_choice g cs gs l.subst l.next l.stack) in
+    let more = one_more g cs gs l.subst l.next l.stack some in
+    let same = stack_length h.stack in
+    record { at = h.at; quiet = h.quiet; holds = omega (arith, many, more, same, full) }

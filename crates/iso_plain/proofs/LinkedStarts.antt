@@ -1,13 +1,18 @@
 -- A goal that is started, as a search with its goals linked.
-use Rattle.std.proofs.Common.{◌≡◌, ℕ, List, [], ◌++◌, Bool, true, false, cond, Option, Some, None, refl, ap, sym, ◌∙◌, codes, append-nil}
+use Rattle.std.proofs.Common.{◌≡◌, ℕ, List, [], ◌++◌, Bool, true, false, cond, Option, Some, None, refl, ap, sym, ◌∙◌, codes, append-nil, map, subst, ◌∷◌}
 use Rattle.std.specs.Str.{bytes_eq}
-use Rattle.iso_model.specs.Trees.{Tree, Variable, Integer, Name, Apply, End, More}
-use Rattle.iso_model.specs.Variables.{distinct_from, variables, variable_count}
-use Rattle.iso_model.specs.Bodies.{Body, Run, And, converted, both, body_term, one, two}
-use Rattle.iso_model.specs.Errors.{key, type_error_callable}
-use Rattle.iso_model.specs.Walker.{World, started, opening, shown_query}
+use Rattle.iso_model.specs.Terms.Trees.{Tree, Variable, Integer, Name, Apply, End, More}
+use Rattle.iso_model.specs.Terms.Variables.{distinct_from, variables, variable_count}
+use Rattle.iso_model.specs.Search.Bodies.{Body, Run, And, converted, both, body_term, one, two}
+use Rattle.iso_model.specs.Search.Errors.{key, type_error_callable}
+use Rattle.iso_model.specs.Search.Walker.{World, asked, started, opening, shown_query}
 use Rattle.iso_plain.specs.Goals.{leaves}
-use Rattle.iso_plain.specs.Linked.{Links, nothing, linked, no_choice, Running, Raising, IsState}
+use Rattle.iso_model.specs.Search.Walker.{Goal}
+use Rattle.iso_model.specs.Search.RunLaws.Sameness.{put, flat, SameList, no_member, no_alternative, Same, going}
+use Rattle.iso_model.specs.Search.RunLaws.SameSteps.{same_itself}
+use Rattle.iso_model.specs.Search.RunLaws.SameLaws.{list_back}
+use Rattle.iso_plain.specs.Linked.{Linked, Running, Raising, running, state_of, IsState}
+use Rattle.iso_plain.proofs.LinkedMoves.{leaves_flat}
 
 -- ---- a converted body has the variables of the term, in the same order
 
@@ -47,25 +52,22 @@ converted_same (More t ts) b seen h = absurd (cc)
 
 -- ---- the state at the start
 
-leaves_alone : (b : Body) → leaves b ≡ leaves b ++ []
-leaves_alone b = sym (append-nil (leaves b))
-
 -- a goal that can be converted
 pub starts_goals : (goal : Tree) (budget : ℕ) (w : World) (b : Body) → converted goal ≡ Some b
-    → IsState (record { doing = Running (leaves b); subst = Variable; next = variable_count goal; query = variables goal; stack = []; world = w; steps = budget }) (started goal budget w)
+    → IsState (record { doing = Running (leaves b); subst = Variable; next = variable_count goal; query = goal; stack = []; world = asked w; steps = budget }) (started goal budget w)
 starts_goals goal budget w b is =
-    let list : Links (leaves b) (opening goal (converted goal)) = rw is (linked {mark = 0} (leaves_alone b) nothing) in
-    let query : variables (shown_query goal (converted goal)) ≡ variables goal = rw is (converted_same goal b [] is) in
-    record {
-      list = list;
-      around = record { subst = refl; next = refl; query = query; stack = no_choice; world = refl; steps = refl };
-    }
+    let l : Linked = record { doing = Running (leaves b); subst = Variable; next = variable_count goal; query = goal; stack = []; world = asked w; steps = budget } in
+    let flat_goals : SameList Variable Variable (put b 0 []) (flat (running (leaves b ++ []))) = leaves_flat b 0 [] [] no_member in
+    let list : SameList Variable Variable (flat (running (leaves b))) (put b 0 []) = list_back (subst (λ (gs : List Tree). SameList Variable Variable (put b 0 []) (flat (running gs))) (append-nil (leaves b)) flat_goals) in
+    let query : variables goal ≡ variables (body_term b) = sym (converted_same goal b [] is) in
+    let at : Same (state_of l) (record { list = Goal b 0 ∷ []; subst = Variable; next = variable_count goal; built = 0; query = body_term b; stack = []; world = asked w; steps = budget }) =
+    going (record { agree = record { shown = ap (map Variable) query; beyond = λ x more. refl }; next = refl; beside = record { stack = no_alternative; world = refl; steps = refl } }) list in
+    rw is at
 
 -- a goal that can't be converted is raised as an error
 pub starts_error : (goal : Tree) (budget : ℕ) (w : World) → converted goal ≡ None
-    → IsState (record { doing = Raising (type_error_callable goal (key (codes "call") 1)); subst = Variable; next = variable_count goal; query = variables goal; stack = []; world = w; steps = budget }) (started goal budget w)
+    → IsState (record { doing = Raising (type_error_callable goal (key (codes "call") 1)); subst = Variable; next = variable_count goal; query = goal; stack = []; world = asked w; steps = budget }) (started goal budget w)
 starts_error goal budget w is =
-    record {
-      list = ([], ap (opening goal) is);
-      around = record { subst = refl; next = refl; query = rw is refl; stack = no_choice; world = refl; steps = refl };
-    }
+    let l : Linked = record { doing = Raising (type_error_callable goal (key (codes "call") 1)); subst = Variable; next = variable_count goal; query = goal; stack = []; world = asked w; steps = budget } in
+    let at : Same (state_of l) (state_of l) = same_itself (state_of l) in
+    rw is at

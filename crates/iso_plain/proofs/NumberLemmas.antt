@@ -2,13 +2,13 @@
 use Rattle.std.proofs.Common.{◌≡◌, ◌<◌, ◌+◌, ◌==◌, ℕ, List, [], ◌∷◌, ◌++◌, map, length, refl, sym, ap, ap₂, ◌∙◌, arith, true, false, Some, None, inl, inr, position, nat_lt, append_assoc}
 use Rattle.std.proofs.lemmas.List.{append-nil}
 use Rattle.std.proofs.lemmas.Bool.{cases_Bool, eq-eqb, false≢true, true≢false, ltb-true, ltb-false, or_left, or_right}
-use Rattle.iso_model.specs.Trees.{Tree, Variable, Integer, Name, Apply, End, More, row}
-use Rattle.iso_model.specs.Variables.{occurs, is_in, distinct_from}
-use Rattle.iso_model.specs.Substitutions.{Subst, apply}
-use Rattle.iso_model.specs.Copies.{place_of}
-use Rattle.iso_model.specs.Unification.Applied.{apply_same}
-use Rattle.iso_model.specs.Unification.Listed.{Covers, distinct_covers}
-use Rattle.iso_model.specs.Terms.{term_of, row_of}
+use Rattle.iso_model.specs.Terms.Trees.{Tree, Variable, Integer, Name, Apply, End, More, row}
+use Rattle.iso_model.specs.Terms.Variables.{occurs, is_in, distinct_from}
+use Rattle.iso_model.specs.Terms.Substitutions.{Subst, apply}
+use Rattle.iso_model.specs.Terms.Copies.{place_of}
+use Rattle.iso_model.specs.Terms.Unification.Applied.{apply_same}
+use Rattle.iso_model.specs.Terms.Unification.Listed.{Covers, distinct_covers}
+use Rattle.iso_model.specs.Terms.TermOf.{term_of, row_of}
 use Rattle.iso_model.specs.declared.terms.Term.{Term}
 use Rattle.iso_plain.specs.Goals.{terms_of}
 use Rattle.iso_plain.specs.Kept.{numbers}

@@ -1,23 +1,23 @@
 -- A clause that was checked, converted and numbered is the clause that is added.
-use Rattle.std.proofs.Common.{◌≡◌, ◌<◌, ◌≤◌, ℕ, ◌+◌, List, [], ◌∷◌, ◌++◌, map, length, refl, sym, ap, ap₂, ◌∙◌, arith, true, false, ◌&&◌, ◌||◌, inl, inr, Option, Some, None, option_map, codes, nat_lt, zero-add, ◌==◌, rules, Result, Ok, Err, IsErrAnd}
+use Rattle.std.proofs.Common.{◌≡◌, ◌<◌, ◌≤◌, ℕ, ◌+◌, List, [], ◌∷◌, ◌++◌, map, length, refl, sym, ap, ap₂, ◌∙◌, subst, arith, true, false, ◌&&◌, ◌||◌, inl, inr, Option, Some, None, option_map, codes, nat_lt, zero-add, ◌==◌, rules, Result, Ok, Err, IsErrAnd}
 use Rattle.std.specs.Str.{bytes_eq}
 use Rattle.std.proofs.lemmas.Bool.{cases_Bool, eqb-true, and_parts, or_cases, or_left, or_right, false≢true}
-use Rattle.iso_model.specs.Trees.{Tree, Variable, Integer, Name, Apply, End, More, row, count}
-use Rattle.iso_model.specs.Sorts.{is_term}
-use Rattle.iso_model.specs.Terms.{term_of, row_of}
-use Rattle.iso_model.specs.Variables.{occurs, distinct_from, variables, variable_count}
-use Rattle.iso_model.specs.Substitutions.{Subst, apply}
-use Rattle.iso_model.specs.Unification.Applied.{apply_same, occurs_from}
-use Rattle.iso_model.specs.Unification.Listed.{Covers, distinct_covers}
-use Rattle.iso_model.specs.Copies.{place_of, copy_from}
-use Rattle.iso_model.specs.Bodies.{Body, Run, And, converted, both, two, map_body, is_true}
-use Rattle.iso_model.specs.Databases.{Key, Database, key_of, is_built_in}
-use Rattle.iso_model.specs.Errors.{type_error_callable, permission_error, max_variables_error}
-use Rattle.iso_model.specs.Additions.{head_of, body_of, most_variables, consult_key, Refuses, addition, added_callable, added_converted, added_user}
+use Rattle.iso_model.specs.Terms.Trees.{Tree, Variable, Integer, Name, Apply, End, More, row, count}
+use Rattle.iso_model.specs.Terms.Sorts.{is_term}
+use Rattle.iso_model.specs.Terms.TermOf.{term_of, row_of}
+use Rattle.iso_model.specs.Terms.Variables.{occurs, distinct_from, variables, variable_count}
+use Rattle.iso_model.specs.Terms.Substitutions.{Subst, apply}
+use Rattle.iso_model.specs.Terms.Unification.Applied.{apply_same, occurs_from}
+use Rattle.iso_model.specs.Terms.Unification.Listed.{Covers, distinct_covers}
+use Rattle.iso_model.specs.Terms.Copies.{place_of, copy_from}
+use Rattle.iso_model.specs.Search.Bodies.{Body, Run, And, converted, both, two, map_body, is_true}
+use Rattle.iso_model.specs.Search.Databases.{Key, key_of}
+use Rattle.iso_model.specs.Search.BuiltIns.{is_built_in}
+use Rattle.iso_model.specs.Search.Additions.{head_of, body_of, most_variables, consult_key, Check, Faulty, NotCallable, TooManyVariables, NotUser, checked, checked_head, checked_body, checked_user, fault_error}
 use Rattle.iso_plain.specs.declared.clauses.Clause.{Clause}
 use Rattle.iso_plain.specs.Goals.{leaves, terms_of}
 use Rattle.iso_plain.specs.Linked.{goals_of}
-use Rattle.iso_plain.specs.Kept.{numbers, IsTemplate, AreTemplates, IsRenamed, IsAddition, GoalsOf, ChecksUser, Prepares}
+use Rattle.iso_plain.specs.Kept.{numbers, IsTemplate, AreTemplates, IsRenamed, IsRefused, IsAddition, GoalsOf, ChecksUser, Prepares}
 use Rattle.iso_model.specs.declared.pauses.AddFault.{AddFault}
 use Rattle.iso_model.specs.declared.pauses.AddFault.TheVariants as add
 use Rattle.iso_plain.proofs.NumberLemmas.{place_known, numbers_more, apply-row}
@@ -178,35 +178,35 @@ row_same (x ∷ xs) (y ∷ ys) e = let first : x ≡ y = cc in let others : row 
 
 -- ---- the clause is added, or refused
 
-callable_added : (t h : Tree) (k : Key) (db : Database) → key_of h ≡ Some k → added_callable t h (key_of h) db ≡ added_converted t (converted (body_of (copy_from t 0))) k db
-callable_added t (Variable n) k db e = cc
-callable_added t (Integer z) k db e = cc
-callable_added t (Name a) k db e = let same : record { name = a; arity = 0 } ≡ k = cc in ap (λ k. added_converted t (converted (body_of (copy_from t 0))) k db) same
-callable_added t (Apply f ts) k db e = let same : record { name = f; arity = count ts } ≡ k = cc in ap (λ k. added_converted t (converted (body_of (copy_from t 0))) k db) same
-callable_added t End k db e = cc
-callable_added t (More u us) k db e = cc
+callable_checked : (t h : Tree) (k : Key) → key_of h ≡ Some k → checked_head t h (key_of h) ≡ checked_body t k (converted (body_of (copy_from t 0)))
+callable_checked t (Variable n) k e = cc
+callable_checked t (Integer z) k e = cc
+callable_checked t (Name a) k e = let same : record { name = a; arity = 0 } ≡ k = cc in ap (λ k. checked_body t k (converted (body_of (copy_from t 0)))) same
+callable_checked t (Apply f ts) k e = let same : record { name = f; arity = count ts } ≡ k = cc in ap (λ k. checked_body t k (converted (body_of (copy_from t 0)))) same
+callable_checked t End k e = cc
+callable_checked t (More u us) k e = cc
 
 body_copied : (t : Tree) (o : Option Body) → converted (body_of t) ≡ o → converted (body_of (copy_from t 0)) ≡ option_map (map_body (numbers (variables t))) o
 body_copied t o e =
     ap (λ u. converted (body_of u)) (copy_zero t) ∙ ap converted (body-renamed (λ x. place_of x (variables t)) t) ∙ converted-renamed (λ x. place_of x (variables t)) (body_of t) ∙ ap (option_map (map_body (numbers (variables t)))) e
 
 -- a head that is callable, and a body that can't be converted
-pub refused_body : (t : Tree) (k : Key) (db : Database) → key_of (head_of t) ≡ Some k → converted (body_of t) ≡ None → addition t db ≡ Refuses (type_error_callable (body_of t) consult_key)
-refused_body t k db h e = callable_added t (head_of t) k db h ∙ ap (λ o. added_converted t o k db) (body_copied t None e)
+pub refused_body : (t : Tree) (k : Key) → key_of (head_of t) ≡ Some k → converted (body_of t) ≡ None → checked t ≡ Faulty (NotCallable (body_of t))
+refused_body t k h e = callable_checked t (head_of t) k h ∙ ap (λ o. checked_body t k o) (body_copied t None e)
 
-pub refused_large : (t : Tree) (b : Body) (k : Key) (db : Database) → key_of (head_of t) ≡ Some k → converted (body_of t) ≡ Some b → most_variables < variable_count t → addition t db ≡ Refuses (max_variables_error consult_key)
-refused_large t b k db h e large =
+pub refused_large : (t : Tree) (b : Body) (k : Key) → key_of (head_of t) ≡ Some k → converted (body_of t) ≡ Some b → most_variables < variable_count t → checked t ≡ Faulty TooManyVariables
+refused_large t b k h e large =
     let over : nat_lt most_variables (variable_count t) ≡ true = search rules in
-    callable_added t (head_of t) k db h ∙ ap (λ o. added_converted t o k db) (body_copied t (Some b) e) ∙ rw over refl
+    callable_checked t (head_of t) k h ∙ ap (λ o. checked_body t k o) (body_copied t (Some b) e) ∙ rw over refl
 
-small_added : (t : Tree) (b : Body) (k : Key) (db : Database) → key_of (head_of t) ≡ Some k → converted (body_of t) ≡ Some b → variable_count t ≤ most_variables
-    → addition t db ≡ added_user t (map_body (numbers (variables t)) b) k db
-small_added t b k db h e small =
+small_checked : (t : Tree) (b : Body) (k : Key) → key_of (head_of t) ≡ Some k → converted (body_of t) ≡ Some b → variable_count t ≤ most_variables
+    → checked t ≡ checked_user k (map_body (numbers (variables t)) b)
+small_checked t b k h e small =
     let fits : nat_lt most_variables (variable_count t) ≡ false = search rules in
-    callable_added t (head_of t) k db h ∙ ap (λ o. added_converted t o k db) (body_copied t (Some b) e) ∙ rw fits refl
+    callable_checked t (head_of t) k h ∙ ap (λ o. checked_body t k o) (body_copied t (Some b) e) ∙ rw fits refl
 
-pub refused_user : (t : Tree) (b : Body) (k : Key) (db : Database) → key_of (head_of t) ≡ Some k → converted (body_of t) ≡ Some b → variable_count t ≤ most_variables → is_built_in k ≡ true → addition t db ≡ Refuses (permission_error k consult_key)
-refused_user t b k db h e small built = small_added t b k db h e small ∙ rw built refl
+pub refused_user : (t : Tree) (b : Body) (k : Key) → key_of (head_of t) ≡ Some k → converted (body_of t) ≡ Some b → variable_count t ≤ most_variables → is_built_in k ≡ true → checked t ≡ Faulty (NotUser k)
+refused_user t b k h e small built = small_checked t b k h e small ∙ rw built refl
 
 pub count_of_clause : (t : Tree) (b : Body) (kept : Clause) → converted (body_of t) ≡ Some b → IsRenamed (head_of t) (goals_of b) kept → kept.variables ≡ variable_count t
 count_of_clause t b kept e h = h.variables_are ∙ ap length (variables_of_clause t b e)
@@ -228,7 +228,7 @@ prepared t b k kept fits h e renamed small user =
     record {
       body = map_body (numbers vs) b;
       key = k;
-      clause = record {
+      clause = λ m. record {
         head = head ∙ sym copied;
         goals = row_same (terms_of kept.goals.items) (map (apply (numbers vs)) (goals_of b)) goals ∙ sym mapped;
         variables = n;
@@ -236,18 +236,22 @@ prepared t b k kept fits h e renamed small user =
         templates = (rw copied (template vs (head_of t) k fit.0 h covered.0), rw mapped (goals_templates vs (body_of t) b e fit.1 covered.1));
       };
       named = ap key_of head ∙ key-renamed f (head_of t) ∙ h;
-      adds = λ db. small_added t b k db h e few ∙ rw user refl;
+      fits = small_checked t b k h e few ∙ rw user refl;
     }
 
 -- ---- by the answers of the calls
 
+-- the fault that the checks found, and its error
+pub refuses : (t : Tree) (fault : _) (error : Tree) → checked t ≡ Faulty fault → fault_error consult_key fault ≡ error → IsRefused (checked t) error
+refuses t fault error is same = subst (λ (c : Check). IsRefused c error) (sym is) same
+
 pub refused_goals : (t : Tree) (k : Key) (r : Result Clause AddFault) (e : AddFault) → key_of (head_of t) ≡ Some k → IsErrAnd r (λ x. x ≡ e) → GoalsOf (body_of t) (Err e) → Prepares t r
 refused_goals t k (Ok c) e h err g = absurd err
-refused_goals t k (Err x) (add.Refused ball) h err g = rw err (λ db. refused_body t k db h g.0 ∙ ap Refuses (sym g.1))
+refused_goals t k (Err x) (add.Refused ball) h err g = rw err (refuses t (NotCallable (body_of t)) (term_of ball.term) (refused_body t k h g.0) (sym g.1))
 refused_goals t k (Err x) add.NoMemory h err g = rw err tt
 
 pub refused_built_in : (t : Tree) (b : Body) (k : Key) (r : Result Clause AddFault) (e : AddFault) → key_of (head_of t) ≡ Some k → converted (body_of t) ≡ Some b → variable_count t ≤ most_variables
     → IsErrAnd r (λ x. x ≡ e) → ChecksUser k (Err e) → Prepares t r
 refused_built_in t b k (Ok c) e h g small err u = absurd err
-refused_built_in t b k (Err x) (add.Refused ball) h g small err u = rw err (λ db. refused_user t b k db h g small u.0 ∙ ap Refuses (sym u.1))
+refused_built_in t b k (Err x) (add.Refused ball) h g small err u = rw err (refuses t (NotUser k) (term_of ball.term) (refused_user t b k h g small u.0) (sym u.1))
 refused_built_in t b k (Err x) add.NoMemory h g small err u = rw err tt

@@ -4,8 +4,8 @@ use Rattle.std.specs.String.{string_bytes}
 use Rattle.std.specs.Str.{bytes_eq}
 use Rattle.std.specs.List.{position_or_len}
 use Rattle.std.proofs.lemmas.Bool.{cases_Bool, ltb-true, ltb-false}
-use Rattle.iso_model.specs.Databases as databases
-use Rattle.iso_model.specs.Databases.{Key, Database, same_key, clauses_at, with_clause}
+use Rattle.iso_model.specs.Search.Databases as databases
+use Rattle.iso_model.specs.Search.Databases.{Key, Procedures, Static, same_key, clauses_at, at_end, with_clause}
 use Rattle.iso_plain.specs.declared.clauses.Clause.{Clause}
 use Rattle.iso_plain.specs.declared.procedures.Procedure.{Procedure}
 use Rattle.iso_plain.specs.Kept.{IsClause}
@@ -75,13 +75,13 @@ pub same_test : (kept : Procedure) (p : databases.Procedure) (k : Key) → IsPro
 same_test kept p k h = ap₂ (λ n a. n == k.arity && bytes_eq a k.name) h.arity h.name
 
 -- the procedure at the place is kept for one of the database, whose clauses these are
-pub record Found (ps : List Procedure) (db : Database) (k : Key) (n : ℕ) : Type 0 where
+pub record Found (ps : List Procedure) (db : Procedures) (k : Key) (n : ℕ) : Type 0 where
   pub procedure : databases.Procedure
   pub clauses : clauses_at db k ≡ Some procedure.clauses
   pub is : (d : Procedure) → IsProcedure (get_or ps n d) procedure
   pub within : n < length ps
 
-pub found_procedure : {ps : List Procedure} {db : Database} (k : Key) (n : ℕ) → IsDatabase ps db → place_at ps k ≡ Some n → Found ps db k n
+pub found_procedure : {ps : List Procedure} {db : Procedures} (k : Key) (n : ℕ) → IsDatabase ps db → place_at ps k ≡ Some n → Found ps db k n
 found_procedure k n no_procedures h = cc
 found_procedure {ps = kept ∷ ks} {db = p ∷ qs} k n (more_procedures i rest) h =
     elim (found_cases (has_key k) kept ks n h) [
@@ -102,7 +102,7 @@ found_procedure {ps = kept ∷ ks} {db = p ∷ qs} k n (more_procedures i rest) 
           })
     ]
 
-pub no_procedure : {ps : List Procedure} {db : Database} (k : Key) → IsDatabase ps db → place_at ps k ≡ None → clauses_at db k ≡ None
+pub no_procedure : {ps : List Procedure} {db : Procedures} (k : Key) → IsDatabase ps db → place_at ps k ≡ None → clauses_at db k ≡ None
 no_procedure k no_procedures h = refl
 no_procedure {ps = kept ∷ ks} {db = p ∷ qs} k (more_procedures i rest) h =
     let parts = not_found_cases (has_key k) kept ks h in
@@ -129,8 +129,8 @@ grown_is old new p kept c g i h = record {
   some = rw g.clauses (simp length-append (omega arith));
 }
 
-pub clause_comes : {ps : List Procedure} {db : Database} (k : Key) (n : ℕ) (old new : Procedure) (kept : Clause) (c : databases.Clause) → IsDatabase ps db → place_at ps k ≡ Some n
-    → old ≡ get_or ps n old → Grown old new kept → IsClause kept c → IsDatabase (set ps n new) (with_clause db k c)
+pub clause_comes : {ps : List Procedure} {db : Procedures} (k : Key) (n : ℕ) (old new : Procedure) (kept : Clause) (c : databases.Clause) → IsDatabase ps db → place_at ps k ≡ Some n
+    → old ≡ get_or ps n old → Grown old new kept → IsClause kept c → IsDatabase (set ps n new) (with_clause at_end db k c)
 clause_comes k n old new kept c no_procedures h e g i = cc
 clause_comes {ps = first ∷ ks} {db = p ∷ qs} k n old new kept c (more_procedures j rest) h e g i =
     elim (found_cases (has_key k) first ks n h) [
@@ -143,17 +143,17 @@ clause_comes {ps = first ∷ ks} {db = p ∷ qs} k n old new kept c (more_proced
     ]
 
 -- the procedures with one more, which was made for this clause
-pub procedure_comes : {ps : List Procedure} {db : Database} (k : Key) (new : Procedure) (kept : Clause) (c : databases.Clause) → IsDatabase ps db → place_at ps k ≡ None
-    → string_bytes new.name ≡ k.name → new.arity ≡ k.arity → new.clauses.items ≡ kept ∷ [] → IsClause kept c → IsDatabase (ps ++ new ∷ []) (with_clause db k c)
+pub procedure_comes : {ps : List Procedure} {db : Procedures} (k : Key) (new : Procedure) (kept : Clause) (c : databases.Clause) → IsDatabase ps db → place_at ps k ≡ None
+    → string_bytes new.name ≡ k.name → new.arity ≡ k.arity → new.clauses.items ≡ kept ∷ [] → IsClause kept c → IsDatabase (ps ++ new ∷ []) (with_clause at_end db k c)
 procedure_comes k new kept c no_procedures h n a l i =
-    more_procedures {kept = new} {p = record { key = k; clauses = c ∷ [] }} (record { name = n; arity = a; clauses = rw l (more_clauses i no_clauses); some = rw l (omega arith) }) no_procedures
+    more_procedures {kept = new} {p = record { key = k; kind = Static; clauses = c ∷ [] }} (record { name = n; arity = a; clauses = rw l (more_clauses i no_clauses); some = rw l (omega arith) }) no_procedures
 procedure_comes {ps = first ∷ ks} {db = p ∷ qs} k new kept c (more_procedures j rest) h n a l i =
     let parts = not_found_cases (has_key k) first ks h in
     let key : same_key p.key k ≡ false = sym (same_test first p k j) ∙ parts.0 in
     rw key (more_procedures j (procedure_comes k new kept c rest parts.1 n a l i))
 
 -- a procedure is written back as it was
-pub procedure_stays : {ps : List Procedure} {db : Database} (n : ℕ) (old new : Procedure) → IsDatabase ps db → old ≡ get_or ps n old → new.name ≡ old.name → new.arity ≡ old.arity
+pub procedure_stays : {ps : List Procedure} {db : Procedures} (n : ℕ) (old new : Procedure) → IsDatabase ps db → old ≡ get_or ps n old → new.name ≡ old.name → new.arity ≡ old.arity
     → new.clauses.items ≡ old.clauses.items → IsDatabase (set ps n new) db
 procedure_stays n old new no_procedures e name arity clauses = no_procedures
 procedure_stays zero old new (more_procedures {p = p} j rest) e name arity clauses =

@@ -1,9 +1,9 @@
 -- The engine is at a goal.
 use Rattle.std.proofs.Common.{◌≡◌, ℕ, suc, List, [], ◌∷◌, Some, refl, ap, sym, subst, arith, true}
 use Rattle.std.specs.Prelude.{option_map}
-use Rattle.iso_model.specs.Trees.{Tree}
-use Rattle.iso_model.specs.Terms.{term_of}
-use Rattle.iso_model.specs.Databases as databases
+use Rattle.iso_model.specs.Terms.Trees.{Tree}
+use Rattle.iso_model.specs.Terms.TermOf.{term_of}
+use Rattle.iso_model.specs.Search.Databases as databases
 use Rattle.iso_store.specs.Presents.{Present}
 use Rattle.iso_plain.specs.declared.parts.Frame.{Frame}
 use Rattle.iso_plain.specs.declared.parts.Attempt.{Attempt}
@@ -83,7 +83,7 @@ module _ {S W M : Type 0} (present : S → Present W) (stands : S → M → Pres
 
   -- the goal is called, which takes a step; its procedure has these clauses
   pub calls_engine : (e : Plain S W M) (l : Linked) (place : ℕ) (n : ℕ) (steps : ℕ) (attempt : Attempt W) (c : databases.Clause) (cs : List databases.Clause) (a : AtGoal e l place)
-      → e.steps ≡ suc n → steps ≡ n → attempt.goal ≡ a.first.frame.goal → attempt.rest ≡ a.first.frame.next → left_at l.world.database attempt.procedure attempt.clause ≡ c ∷ cs
+      → e.steps ≡ suc n → steps ≡ n → attempt.goal ≡ a.first.frame.goal → attempt.rest ≡ a.first.frame.next → left_at l.world.database.procedures attempt.procedure attempt.clause ≡ c ∷ cs
       → IsEngine present stands older e l
       → Calls present stands older (record e { steps = steps }) attempt (record l { steps = n }) ((present e.store).term a.first.frame.goal) c cs a.first.behind
   calls_engine e l place n steps attempt c cs a many fewer goal rest clauses is = record {

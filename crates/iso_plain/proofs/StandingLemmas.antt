@@ -2,8 +2,8 @@
 use Rattle.std.proofs.Common.{◌≡◌, ℕ, zero, suc, ◌+◌, ◌-◌, ◌<◌, ◌≤◌, List, [], ◌∷◌, ◌++◌, length, take, Option, Some, None, true, refl, ap, sym, ◌∙◌, subst, arith, inl, inr, length-append}
 use Rattle.std.specs.List.{slice_get}
 use Rattle.std.proofs.lemmas.List.{take-append-le}
-use Rattle.iso_model.specs.Trees.{Tree}
-use Rattle.iso_model.specs.Databases.{Clause}
+use Rattle.iso_model.specs.Terms.Trees.{Tree}
+use Rattle.iso_model.specs.Search.Databases.{Clause}
 use Rattle.iso_store.specs.Presents.{Present, KeepsWords}
 use Rattle.iso_plain.specs.Callable.{IsGoal}
 use Rattle.iso_plain.specs.Linked.{Linked, Choice, Running}

@@ -3,15 +3,15 @@ use Rattle.std.proofs.Common.{◌≡◌, ℕ, ◌+◌, List, [], ◌∷◌, ◌+
 use Rattle.std.specs.Str.{bytes_eq}
 use Rattle.std.proofs.lemmas.Bool.{cases_Bool}
 use Rattle.iso_model.specs.declared.terms.Term.{Term}
-use Rattle.iso_model.specs.Trees.{Tree, Variable, Integer, Name, Apply, End, More, row, arities_fit}
-use Rattle.iso_model.specs.Terms.{term_of}
-use Rattle.iso_model.specs.Variables.{is_in, variables, variable_count}
-use Rattle.iso_model.specs.Copies.{renamed, numbers_from, IsNumbered}
-use Rattle.iso_model.specs.Unification.Applied.{apply_alone}
-use Rattle.iso_model.specs.Bodies.{Body, Run, And, converted, both, two}
-use Rattle.iso_model.proofs.VariableLemmas.{listed_occurring}
-use Rattle.iso_model.proofs.CopyLemmas.{in_numbers_from}
-use Rattle.iso_model.specs.Databases.{Clause}
+use Rattle.iso_model.specs.Terms.Trees.{Tree, Variable, Integer, Name, Apply, End, More, row, arities_fit}
+use Rattle.iso_model.specs.Terms.TermOf.{term_of}
+use Rattle.iso_model.specs.Terms.Variables.{is_in, variables, variable_count}
+use Rattle.iso_model.specs.Terms.Copies.{renamed, numbers_from, IsNumbered}
+use Rattle.iso_model.specs.Terms.Unification.Applied.{apply_alone}
+use Rattle.iso_model.specs.Search.Bodies.{Body, Run, And, converted, both, two}
+use Rattle.iso_model.proofs.OnTerms.VariableLemmas.{listed_occurring}
+use Rattle.iso_model.proofs.OnTerms.CopyLemmas.{in_numbers_from}
+use Rattle.iso_model.specs.Search.Databases.{Clause, at_end}
 use Rattle.iso_store.specs.Presents.{Present}
 use Rattle.iso_plain.specs.declared.parts.Frame.{Frame}
 use Rattle.iso_plain.specs.declared.parts.Choice as kept
@@ -22,15 +22,15 @@ use Rattle.iso_plain.specs.Next.{now_behind}
 use Rattle.iso_plain.specs.Linked.{Choice, Linked, Running}
 use Rattle.iso_plain.specs.Standing.{StandsForChoices, none_kept, one_kept, Chain, ends, Goes, DoesNext}
 use Rattle.std.specs.Prelude.{Result, Ok, Err, IsErrAnd}
-use Rattle.iso_model.specs.Walker.{World}
-use Rattle.iso_model.specs.Additions.{Addition, Adds, Refuses, addition}
+use Rattle.iso_model.specs.Search.Walker.{World}
+use Rattle.iso_model.specs.Search.Additions.{Addition, Adds, Refuses, Check, Fits, Faulty, checked, addition_by, consulted, consult_key}
 use Rattle.iso_model.specs.declared.pauses.AddFault.{AddFault}
 use Rattle.iso_model.specs.declared.pauses.AddFault.TheVariants as add
 use Rattle.iso_plain.specs.declared.plain.Plain.{Plain}
 use Rattle.iso_plain.specs.Linked.{idle_linked}
 use Rattle.iso_plain.specs.Programs.{IsWorld}
 use Rattle.iso_plain.specs.EngineStates.{IsEngine}
-use Rattle.iso_plain.specs.Kept.{Prepares}
+use Rattle.iso_plain.specs.Kept.{Prepares, IsRefused}
 use Rattle.iso_plain.specs.Starts.{IsFresh, Comes}
 use Rattle.iso_plain.specs.Goals.{leaves, terms_of, AppendsGoals}
 use Rattle.iso_plain.specs.Entering.{is_below, renamed_terms, Links}
@@ -134,6 +134,11 @@ module _ {S W M : Type 0} {present : S → Present W} {stands : S → M → Pres
   pub fresh_from : {e : Plain S W M} {w : World} → IsEngine present stands older e (idle_linked w) → (present e.store).substitution ≡ Variable → (present e.store).next ≡ 0 → IsFresh present stands older e w
   fresh_from h substitution next = record { world = h.world; base = h.base; choices = no_choice_left refl h.choices; substitution = substitution; next = next }
 
+  -- with other steps
+  pub fresh_again : {e : Plain S W M} {w : World} {steps : ℕ} → IsEngine present stands older e (idle_linked w) → (present e.store).substitution ≡ Variable → (present e.store).next ≡ 0
+      → IsFresh present stands older (record e { steps = steps }) w
+  fresh_again h substitution next = record { world = record { procedures_are = h.world.procedures_are; operators_are = h.world.operators_are; flags_are = h.world.flags_are }; base = h.base; choices = no_choice_left refl h.choices; substitution = substitution; next = next }
+
   -- with other procedures
   pub idle_again : {e f : Plain S W M} {w after : World} → IsEngine present stands older e (idle_linked w) → f.now ≡ now.Idle → f.store ≡ e.store → f.base ≡ e.base → f.choices ≡ e.choices → f.steps ≡ e.steps
       → IsWorld f after → IsEngine present stands older f (idle_linked after)
@@ -148,17 +153,20 @@ module _ {S W M : Type 0} {present : S → Present W} {stands : S → M → Pres
 
   -- The clause was refused before it came to the procedures.
   pub refused : (t : Tree) (w : World) (r : Result Unit AddFault) (fault : AddFault) (e : Plain S W M) → Prepares t (Err fault) → IsErrAnd r (λ x. x ≡ fault) → IsEngine present stands older e (idle_linked w)
-      → Comes present stands older (addition t w.database) w r e
+      → Comes present stands older (consulted t w.database) w r e
   refused t w (Ok u) fault e h is engine = absurd is
-  refused t w (Err x) (add.Refused ball) e h is engine = rw (is, h w.database) (refl, engine)
-  refused t w (Err x) add.NoMemory e h is engine = rw is (no_memory (addition t w.database)) where
+  refused t w (Err x) (add.Refused ball) e h is engine = rw is (by_check (checked t) h) where
+    by_check : (c : Check) → IsRefused c (term_of ball.term) → Comes present stands older (addition_by at_end consult_key t w.database c) w (Err (add.Refused ball)) e
+    by_check (Fits k b) h = absurd h
+    by_check (Faulty fault) h = (sym h, engine)
+  refused t w (Err x) add.NoMemory e h is engine = rw is (no_memory (consulted t w.database)) where
     no_memory : (a : Addition) → Comes present stands older a w (Err add.NoMemory) e
     no_memory (Adds after) = engine
     no_memory (Refuses error) = engine
 
   -- No memory was left for it.
   pub no_memory_left : (t : Tree) (w : World) (r : Result Unit AddFault) (e : Plain S W M) → IsErrAnd r (λ x. x ≡ add.NoMemory) → IsEngine present stands older e (idle_linked w)
-      → Comes present stands older (addition t w.database) w r e
+      → Comes present stands older (consulted t w.database) w r e
   no_memory_left t w r e is engine = refused t w r add.NoMemory e tt is engine
 
 -- all of the goals of a body

@@ -1,8 +1,8 @@
 -- Goals that can be run.
 use Rattle.std.specs.Prelude.{◌≡◌, List, [], ◌∷◌, Some, true}
-use Rattle.iso_model.specs.Trees.{Tree}
-use Rattle.iso_model.specs.Sorts.{is_term}
-use Rattle.iso_model.specs.Databases.{Key, key_of}
+use Rattle.iso_model.specs.Terms.Trees.{Tree}
+use Rattle.iso_model.specs.Terms.Sorts.{is_term}
+use Rattle.iso_model.specs.Search.Databases.{Key, key_of}
 
 -- A goal that can be run: an atom or a compound.
 pub record IsGoal (t : Tree) : Type 0 where

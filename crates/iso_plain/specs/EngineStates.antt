@@ -1,21 +1,24 @@
 -- Which states of the search the engine stands for, what its moves come to, and by what they fall.
-use Rattle.std.specs.Prelude.{◌≡◌, ◌≢◌, ℕ, zero, suc, ◌+◌, ◌*◌, ◌-◌, ◌<◌, ◌≤◌, List, [], ◌∷◌, length, take, drop, Some, option_map, true, ◌⊎◌}
+use Rattle.std.specs.Prelude.{◌≡◌, ℕ, zero, suc, ◌+◌, ◌*◌, ◌-◌, ◌<◌, ◌≤◌, List, [], ◌∷◌, length, take, drop, Some, option_map, true, ◌⊎◌}
 use Rattle.std.specs.List.{slice_get}
-use Rattle.iso_model.specs.Trees.{Tree, Variable}
-use Rattle.iso_model.specs.Terms.{term_of}
-use Rattle.iso_model.specs.Substitutions.{Subst, apply, compose}
-use Rattle.iso_model.specs.Unifiers.{Unifier, NeverEqual}
-use Rattle.iso_model.specs.Copies.{renamed}
-use Rattle.iso_model.specs.Databases.{Clause, Database}
-use Rattle.iso_model.specs.Walker.{State, World}
+use Rattle.iso_model.specs.Terms.Trees.{Tree, Variable}
+use Rattle.iso_model.specs.Terms.Variables.{variables}
+use Rattle.iso_model.specs.Search.RunLaws.Sameness.{SameStack}
+use Rattle.iso_model.specs.Terms.TermOf.{term_of}
+use Rattle.iso_model.specs.Terms.Substitutions.{Subst, apply, compose}
+use Rattle.iso_model.specs.Terms.Unifiers.{Unifier, NeverEqual}
+use Rattle.iso_model.specs.Terms.Copies.{renamed}
+use Rattle.iso_model.specs.Search.Databases.{Clause, Procedures}
+use Rattle.iso_model.specs.Search.Walker.{State, World}
 use Rattle.iso_ops.specs.Operators.{Operator}
 use Rattle.iso_ops.specs.declared.settings.Flags.{Flags}
-use Rattle.iso_model.specs.Runs.{Quiet}
-use Rattle.iso_model.specs.Engines as engines
-use Rattle.iso_model.specs.Engines.{Phase, Ready, Midway}
+use Rattle.iso_model.specs.Search.Runs.{Quiet}
+use Rattle.iso_model.specs.Search.Engines as engines
+use Rattle.iso_model.specs.Search.Engines.{Phase, Ready, Midway, IsAwake}
 use Rattle.iso_model.specs.declared.pauses.Pause.TheVariants as pause
+use Rattle.iso_model.specs.declared.limit.Limit.TheVariants as limit
 use Rattle.iso_store.specs.Presents.{Present}
-use Rattle.iso_plain.specs.Linked.{Linked, Choice, IsState, with_choice, linked_missed, linked_entered}
+use Rattle.iso_plain.specs.Linked.{Linked, Choice, alternatives_of, IsState, with_choice, linked_missed, linked_entered}
 use Rattle.iso_plain.specs.Standing.{Among, Chain, AreVariables, StandsForChoices, HaveRoom, DoesNext, most_numbers, numbers_a_step}
 use Rattle.iso_plain.specs.Programs.{IsWorld}
 use Rattle.iso_plain.specs.declared.procedures.Procedure.{Procedure}
@@ -28,7 +31,7 @@ use Rattle.iso_plain.specs.declared.plain.Move.TheVariants as move
 use Rattle.iso_plain.specs.declared.plain.Plain.{Plain}
 
 -- the clauses of the procedure at a place of the database, from a clause on
-abbrev pub left_at : Database → ℕ → ℕ → List Clause
+abbrev pub left_at : Procedures → ℕ → ℕ → List Clause
 left_at [] i j = []
 left_at (p ∷ ps) zero j = drop j p.clauses
 left_at (p ∷ ps) (suc i) j = left_at ps i j
@@ -47,7 +50,7 @@ phase_of now.Failing = Ready
 phase_of now.Answering = Midway
 phase_of (now.Running place) = Midway
 phase_of now.Raising = Midway
-phase_of now.Spent = engines.Spent
+phase_of (now.Spent limit) = engines.Spent limit
 
 -- the operators and the flags that an engine keeps, and those of a world
 abbrev pub settings_of : {S W M : Type 0} → Plain S W M → List Operator × Flags
@@ -62,7 +65,7 @@ module _ {S W M : Type 0} (present : S → Present W) (stands : S → M → Pres
     pub world : IsWorld e l.world
     pub steps : l.steps ≡ e.steps
     pub base : IsBase (stands e.store) e.base
-    pub choices : StandsForChoices (stands e.store) older e.base (left_at l.world.database) e.query.items l.query e.frames.items e.choices.items l.stack
+    pub choices : StandsForChoices (stands e.store) older e.base (left_at l.world.database.procedures) e.query.items (variables l.query) e.frames.items e.choices.items l.stack
     pub room : HaveRoom e.steps l.stack
     pub next : DoesNext (present e.store) e.frames.items e.query.items e.now (option_map (λ b. term_of b.term) e.raised) l
 
@@ -72,9 +75,24 @@ module _ {S W M : Type 0} (present : S → Present W) (stands : S → M → Pres
     pub engine : IsEngine e search
     pub state : IsState search s
 
-  -- A spent engine may be any state with its operators and flags, so also the one behind the last event.
+  -- Of an engine that was stopped within a move its world and its choices are left, each with what it brings back.
+  abbrev pub Keeps : Plain S W M → World → List Choice → Type 0
+  Keeps e w choices =
+      IsWorld e w × IsBase (stands e.store) e.base
+      × ((named : List ℕ) × StandsForChoices (stands e.store) older e.base (left_at w.database.procedures) e.query.items named e.frames.items e.choices.items choices)
+
+  -- A spent engine stands for a state from which the search came, without an event, to one that has this world and these alternatives; where a
+  -- goal was not started none is left. It keeps the operators and the flags of the state that it stands for.
+  pub record Stopped (e : Plain S W M) (s : State) : Type 0 where
+    pub at : State
+    pub quiet : Quiet s at
+    pub choices : List Choice
+    pub keeps : Keeps e at.world choices
+    pub alternatives : ((named : List ℕ) × SameStack named (variables at.query) (alternatives_of choices) at.stack) ⊎ (choices ≡ [])
+    pub settings : settings_of e ≡ settings_in s.world
+
   abbrev pub StandsBy : Now → Plain S W M → State → Type 0
-  StandsBy now.Spent e s = settings_of e ≡ settings_in s.world
+  StandsBy (now.Spent limit) e s = Stopped e s
   StandsBy now.Idle e s = Represents e s
   StandsBy now.Failing e s = Represents e s
   StandsBy now.Answering e s = Represents e s
@@ -90,7 +108,7 @@ module _ {S W M : Type 0} (present : S → Present W) (stands : S → M → Pres
     pub world : IsWorld e l.world
     pub steps : l.steps ≡ e.steps
     pub base : IsBase (stands e.store) e.base
-    pub choices : StandsForChoices (stands e.store) older e.base (left_at l.world.database) e.query.items l.query e.frames.items e.choices.items (with_choice call cs behind l.subst l.next l.stack)
+    pub choices : StandsForChoices (stands e.store) older e.base (left_at l.world.database.procedures) e.query.items (variables l.query) e.frames.items e.choices.items (with_choice call cs behind l.subst l.next l.stack)
     pub room : HaveRoom e.steps (with_choice call cs behind l.subst l.next l.stack)
     pub space : l.next + numbers_a_step * (e.steps + 1) ≤ most_numbers
     pub subst : (present e.store).substitution ≡ l.subst
@@ -98,8 +116,8 @@ module _ {S W M : Type 0} (present : S → Present W) (stands : S → M → Pres
     pub holds : (present e.store).holds attempt.goal ≡ true
     pub call_is : (present e.store).term attempt.goal ≡ call
     pub links : Chain (present e.store) e.frames.items attempt.rest behind
-    pub variables : AreVariables (present e.store) e.query.items l.query
-    pub clauses : left_at l.world.database attempt.procedure attempt.clause ≡ c ∷ cs
+    pub variables : AreVariables (present e.store) e.query.items (variables l.query)
+    pub clauses : left_at l.world.database.procedures attempt.procedure attempt.clause ≡ c ∷ cs
 
   -- The clause was tried: its head had no unifier with the call, or the engine goes on behind it.
   abbrev pub Tried : Plain S W M → Linked → Tree → Clause → List Clause → List Tree → Type 0
@@ -109,7 +127,7 @@ module _ {S W M : Type 0} (present : S → Present W) (stands : S → M → Pres
 
   -- what a move comes to, from a state of the search
   abbrev pub Moves : Move → State → Plain S W M → Type 0
-  Moves move.Goes s e = (t : State) × Quiet s t × Represents e t × (e.now ≢ now.Spent)
+  Moves move.Goes s e = (t : State) × Quiet s t × Represents e t × IsAwake (phase_of e.now)
   Moves (move.Pauses p) s e = engines.Pauses s p (StandsFor e) (phase_of e.now)
 
 -- ---- what falls
@@ -137,7 +155,7 @@ runs now.Failing = 0
 runs now.Answering = 1
 runs (now.Running place) = 1
 runs now.Raising = 1
-runs now.Spent = 0
+runs (now.Spent limit) = 0
 
 -- A number that falls at each move: a step that is left weighs more than all clauses of a procedure.
 abbrev pub weight : {S W M : Type 0} → Plain S W M → ℕ
@@ -154,7 +172,7 @@ module _ {S W M : Type 0} (present : S → Present W) (stands : S → M → Pres
     pub world : IsWorld e l.world
     pub steps : l.steps ≡ e.steps
     pub base : IsBase (stands e.store) e.base
-    pub choices : StandsForChoices (stands e.store) older e.base (left_at l.world.database) e.query.items l.query e.frames.items e.choices.items l.stack
+    pub choices : StandsForChoices (stands e.store) older e.base (left_at l.world.database.procedures) e.query.items (variables l.query) e.frames.items e.choices.items l.stack
     pub room : HaveRoom e.steps l.stack
     pub space : l.next + numbers_a_step * (e.steps + 1) ≤ most_numbers
     pub subst : (present e.store).substitution ≡ l.subst
@@ -162,8 +180,8 @@ module _ {S W M : Type 0} (present : S → Present W) (stands : S → M → Pres
     pub holds : (present e.store).holds attempt.goal ≡ true
     pub call_is : (present e.store).term attempt.goal ≡ call
     pub links : Chain (present e.store) e.frames.items attempt.rest behind
-    pub variables : AreVariables (present e.store) e.query.items l.query
-    pub clauses : left_at l.world.database attempt.procedure attempt.clause ≡ c ∷ cs
+    pub variables : AreVariables (present e.store) e.query.items (variables l.query)
+    pub clauses : left_at l.world.database.procedures attempt.procedure attempt.clause ≡ c ∷ cs
 
   -- The engine went back to its newest choice, which is still there.
   pub record WentBack (e : Plain S W M) (c : kept.Choice W M) (l : Linked) (k : Choice) (below : List Choice) : Type 0 where
@@ -178,15 +196,19 @@ module _ {S W M : Type 0} (present : S → Present W) (stands : S → M → Pres
     pub holds : (present e.store).holds c.attempt.goal ≡ true
     pub call_is : k.call ≡ (present e.store).term c.attempt.goal
     pub links : Chain (present e.store) e.frames.items c.attempt.rest k.behind
-    pub clauses : k.clauses ≡ left_at l.world.database c.attempt.procedure c.attempt.clause
+    pub clauses : k.clauses ≡ left_at l.world.database.procedures c.attempt.procedure c.attempt.clause
     pub some : 0 < length k.clauses
-    pub variables : AreVariables (present e.store) e.query.items l.query
+    pub words : AreVariables (present e.store) e.query.items (variables l.query)
     pub newer_base : older e.base c.mark
     pub newer : (d : kept.Choice W M) → Among d (take (length e.choices.items - 1) e.choices.items) → older d.mark c.mark
-    pub stands_below : StandsForChoices (stands e.store) older e.base (left_at l.world.database) e.query.items l.query e.frames.items (take (length e.choices.items - 1) e.choices.items) below
+    pub stands_below : StandsForChoices (stands e.store) older e.base (left_at l.world.database.procedures) e.query.items (variables l.query) e.frames.items (take (length e.choices.items - 1) e.choices.items) below
     pub room : HaveRoom e.steps (k ∷ below)
 
   -- what a call comes to: the first clause was tried, or the engine is spent since no choice may be made any more
   abbrev pub WasCalled : Move → Plain S W M → Linked → Tree → Clause → List Clause → List Tree → Type 0
-  WasCalled move.Goes e l call c cs behind = Tried present stands older e l call c cs behind × (e.now ≢ now.Spent)
-  WasCalled (move.Pauses p) e l call c cs behind = (p ≡ pause.FramesFull) × (e.now ≡ now.Spent)
+  WasCalled move.Goes e l call c cs behind = Tried present stands older e l call c cs behind × IsAwake (phase_of e.now)
+  WasCalled (move.Pauses p) e l call c cs behind = (p ≡ pause.FramesFull) × (e.now ≡ now.Spent limit.Frames) × Keeps present stands older e l.world l.stack
+
+  -- The call was refused: before its later clauses became a choice, or behind that.
+  abbrev pub WasRefused : Plain S W M → Linked → Tree → List Clause → List Tree → Type 0
+  WasRefused e l call cs behind = Keeps present stands older e l.world l.stack ⊎ Keeps present stands older e l.world (with_choice call cs behind l.subst l.next l.stack)

@@ -1,8 +1,8 @@
 -- The goals of a converted body, in the order in which they are run.
 use Rattle.std.specs.Prelude.{◌≡◌, List, [], ◌∷◌, ◌++◌, map, Option, Some, None, Result, Ok, Err}
-use Rattle.iso_model.specs.Trees.{Tree}
-use Rattle.iso_model.specs.Terms.{term_of}
-use Rattle.iso_model.specs.Bodies.{Body, Run, And}
+use Rattle.iso_model.specs.Terms.Trees.{Tree}
+use Rattle.iso_model.specs.Terms.TermOf.{term_of}
+use Rattle.iso_model.specs.Search.Bodies.{Body, Run, And}
 use Rattle.iso_model.specs.declared.terms.Term.{Term}
 use Rattle.iso_plain.specs.declared.bodies.BodyFault.{BodyFault}
 use Rattle.iso_plain.specs.declared.bodies.BodyFault.TheVariants.{NotCallable, NoMemory}

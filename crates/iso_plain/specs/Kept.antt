@@ -1,16 +1,17 @@
 -- Clauses as the engine keeps them, and the checks by which they come.
 use Rattle.std.specs.Prelude.{◌≡◌, ℕ, ◌<◌, ◌≤◌, List, [], ◌∷◌, Option, Some, None, Result, Ok, Err, true, false, codes}
-use Rattle.iso_model.specs.Trees.{Tree, Variable, Name, More, row}
-use Rattle.iso_model.specs.Sorts.{is_term}
-use Rattle.iso_model.specs.Terms.{term_of, row_of}
-use Rattle.iso_model.specs.Variables.{occurs, variables, variable_count}
-use Rattle.iso_model.specs.Substitutions.{Subst, apply}
-use Rattle.iso_model.specs.Copies.{place_of}
-use Rattle.iso_model.specs.Bodies.{Body, two, converted}
-use Rattle.iso_model.specs.Databases as databases
-use Rattle.iso_model.specs.Databases.{Key, Database, key_of, is_built_in, with_clause}
-use Rattle.iso_model.specs.Errors.{type_error_callable, permission_error}
-use Rattle.iso_model.specs.Additions.{head_of, body_of, most_variables, consult_key, Adds, Refuses, addition, added_callable, clause_of}
+use Rattle.iso_model.specs.Terms.Trees.{Tree, Variable, Name, More, row}
+use Rattle.iso_model.specs.Terms.Sorts.{is_term}
+use Rattle.iso_model.specs.Terms.TermOf.{term_of, row_of}
+use Rattle.iso_model.specs.Terms.Variables.{occurs, variables, variable_count}
+use Rattle.iso_model.specs.Terms.Substitutions.{Subst, apply}
+use Rattle.iso_model.specs.Terms.Copies.{place_of}
+use Rattle.iso_model.specs.Search.Bodies.{Body, two, converted}
+use Rattle.iso_model.specs.Search.Databases as databases
+use Rattle.iso_model.specs.Search.Databases.{Key, key_of}
+use Rattle.iso_model.specs.Search.BuiltIns.{is_built_in}
+use Rattle.iso_model.specs.Search.Errors.{type_error_callable, permission_error}
+use Rattle.iso_model.specs.Search.Additions.{head_of, body_of, most_variables, consult_key, Check, Fits, Faulty, checked, checked_head, fault_error, clause_of}
 use Rattle.iso_model.specs.declared.terms.Term.{Term}
 use Rattle.iso_model.specs.declared.pauses.AddFault.{AddFault}
 use Rattle.iso_model.specs.declared.pauses.AddFault.TheVariants as add
@@ -60,9 +61,14 @@ GoalsOf body (Ok goals) = (b : Body) × (converted body ≡ Some b) × (terms_of
 GoalsOf body (Err (add.Refused ball)) = (converted body ≡ None) × (term_of ball.term ≡ type_error_callable body consult_key)
 GoalsOf body (Err add.NoMemory) = Unit {0}
 
+-- the checks found a fault, for which this is the error of a clause of the text
+abbrev pub IsRefused : Check → Tree → Type 0
+IsRefused (Fits k b) error = ⊥
+IsRefused (Faulty fault) error = fault_error consult_key fault ≡ error
+
 -- The head is not callable, and the clause is refused.
 abbrev pub RefusesHead : Tree → AddFault → Type 0
-RefusesHead head (add.Refused ball) = (t : Tree) (db : Database) → added_callable t head (key_of head) db ≡ Refuses (term_of ball.term)
+RefusesHead head (add.Refused ball) = (t : Tree) → IsRefused (checked_head t head (key_of head)) (term_of ball.term)
 RefusesHead head add.NoMemory = Unit {0}
 
 -- The head is that of no built-in, or the clause is refused.
@@ -71,16 +77,16 @@ ChecksUser k (Ok u) = is_built_in k ≡ false
 ChecksUser k (Err (add.Refused ball)) = (is_built_in k ≡ true) × (term_of ball.term ≡ permission_error k consult_key)
 ChecksUser k (Err add.NoMemory) = Unit {0}
 
--- The clause is added at the end of its procedure.
+-- The clause may be added, whatever its number will be.
 pub record IsAddition (t : Tree) (kept : Clause) : Type 0 where
   pub body : Body
   pub key : Key
-  pub clause : IsClause kept (clause_of t body)
+  pub clause : (n : ℕ) → IsClause kept (clause_of t body n)
   pub named : key_of (term_of kept.head) ≡ Some key
-  pub adds : (db : Database) → addition t db ≡ Adds (with_clause db key (clause_of t body))
+  pub fits : checked t ≡ Fits key body
 
 -- The clause is to be added, or refused with its error.
 abbrev pub Prepares : Tree → Result Clause AddFault → Type 0
 Prepares t (Ok kept) = IsAddition t kept
-Prepares t (Err (add.Refused ball)) = (db : Database) → addition t db ≡ Refuses (term_of ball.term)
+Prepares t (Err (add.Refused ball)) = IsRefused (checked t) (term_of ball.term)
 Prepares t (Err add.NoMemory) = Unit {0}

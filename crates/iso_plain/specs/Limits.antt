@@ -1,7 +1,5 @@
 -- What the engine says of its limits: full frames only where its choices are as many as there may be, and a full heap only where its store is full.
 use Rattle.std.specs.Prelude.{ℕ, ◌≤◌, length, Result, Ok, Err}
-use Rattle.iso_model.specs.Walker.{State, alternative_count}
-use Rattle.iso_model.specs.Runs.{Quiet}
 use Rattle.iso_model.specs.declared.pauses.Pause.{Pause}
 use Rattle.iso_model.specs.declared.pauses.Pause.TheVariants as pause
 use Rattle.iso_store.specs.declared.shapes.StoreFault.{StoreFault}
@@ -46,7 +44,3 @@ MoveFull Fact (move.Pauses p) = WhereFull Fact p
 abbrev pub ResultFull : Type 0 → Result Move StoreFault → Type 0
 ResultFull Fact (Ok m) = MoveFull Fact m
 ResultFull Fact (Err e) = Unit {0}
-
--- The search comes, without an event, to a state that has this many alternatives.
-abbrev pub ComesTo : State → ℕ → Type 0
-ComesTo s count = (t : State) × Quiet s t × (count ≤ alternative_count t)

@@ -1,13 +1,13 @@
--- The search with its goals linked one behind the other, as an engine keeps it: conjunctions are taken apart at once, and neither cut marks
--- nor what was built is kept.
-use Rattle.std.specs.Prelude.{◌≡◌, ℕ, ◌+◌, List, [], ◌∷◌, ◌++◌, if◌then◌else◌}
-use Rattle.iso_model.specs.Trees.{Tree, Variable}
-use Rattle.iso_model.specs.Variables.{variables}
-use Rattle.iso_model.specs.Substitutions.{Subst}
-use Rattle.iso_model.specs.Bodies.{Body, map_body, is_true}
+-- The plain engine's own state of the search: its goals one behind the other, no marks and nothing that was built. The search is at any state that is
+-- the same.
+use Rattle.std.specs.Prelude.{ℕ, ◌+◌, List, [], ◌∷◌, ◌++◌, map, codes, if◌then◌else◌}
+use Rattle.iso_model.specs.Terms.Trees.{Tree, Variable, Name}
+use Rattle.iso_model.specs.Terms.Substitutions.{Subst, apply}
+use Rattle.iso_model.specs.Search.Bodies.{Body, Run, map_body, is_true}
+use Rattle.iso_model.specs.Search.Databases.{Clause}
+use Rattle.iso_model.specs.Search.Walker.{State, World, Alternative, Member, Goal, Fail, Raise, Clauses}
+use Rattle.iso_model.specs.Search.RunLaws.Sameness.{Same}
 use Rattle.iso_plain.specs.Goals.{leaves}
-use Rattle.iso_model.specs.Databases.{Clause}
-use Rattle.iso_model.specs.Walker.{State, World, Alternative, Member, Goal, Fail, Raise, Clauses}
 
 -- the goals that a clause's body brings: none where it is `true` alone
 abbrev pub goals_of : Body → List Tree
@@ -17,11 +17,6 @@ goals_of b = if is_true b then [] else leaves b
 abbrev pub clause_goals : ℕ → Clause → List Tree
 clause_goals n c = goals_of (map_body (λ k. Variable (n + k)) c.body)
 
--- The list of members has these goals.
-pub data Links : List Tree → List Member → Type 0 where
-  nothing : Links [] []
-  linked : {gs hs : List Tree} {ms : List Member} {b : Body} {mark : ℕ} → hs ≡ leaves b ++ gs → Links gs ms → Links hs (Goal b mark ∷ ms)
-
 -- clauses that are left to be tried for a call, with the goals behind it, and what comes back then
 pub record Choice : Type 0 where
   pub call : Tree
@@ -30,50 +25,53 @@ pub record Choice : Type 0 where
   pub subst : Subst
   pub next : ℕ
 
--- The alternatives are these choices.
-pub data AreChoices : List Choice → List Alternative → Type 0 where
-  no_choice : AreChoices [] []
-  one_choice : {c : Choice} {cs : List Choice} {list : List Member} {built : ℕ} {others : List Alternative} → Links c.behind list → AreChoices cs others
-      → AreChoices (c ∷ cs) (record { list = list; subst = c.subst; next = c.next; built = built; left = Clauses c.call c.clauses } ∷ others)
-
 -- what comes next: these goals (none of them: an answer), failure, or a ball that is raised
 pub data Doing : Type 0 where
   Running : (goals : List Tree) → Doing
   Failing : Doing
   Raising : (ball : Tree) → Doing
 
-abbrev pub Does : Doing → List Member → Type 0
-Does (Running goals) ms = Links goals ms
-Does Failing ms = (others : List Member) × (ms ≡ Fail ∷ others)
-Does (Raising ball) ms = (others : List Member) × (ms ≡ Raise ball ∷ others)
-
--- a search with its goals linked; `query` has the variables of the query by first occurrence
+-- a search with its goals linked
 pub record Linked : Type 0 where
   pub doing : Doing
   pub subst : Subst
   pub next : ℕ
-  pub query : List ℕ
+  pub query : Tree
   pub stack : List Choice
   pub world : World
   pub steps : ℕ
 
--- The state of the search is this one, whatever comes next.
-pub record IsAround (l : Linked) (s : State) : Type 0 where
-  pub subst : s.subst ≡ l.subst
-  pub next : s.next ≡ l.next
-  pub query : variables s.query ≡ l.query
-  pub stack : AreChoices l.stack s.stack
-  pub world : s.world ≡ l.world
-  pub steps : s.steps ≡ l.steps
+-- ---- as a state of the search
 
--- The state of the search is this one.
-pub record IsState (l : Linked) (s : State) : Type 0 where
-  pub list : Does l.doing s.list
-  pub around : IsAround l s
+abbrev pub running : List Tree → List Member
+running [] = []
+running (g ∷ gs) = Goal (Run g) 0 ∷ running gs
+
+abbrev pub list_of : Doing → List Member
+list_of (Running gs) = running gs
+list_of Failing = Fail ∷ []
+list_of (Raising ball) = Raise ball ∷ []
+
+-- an alternative keeps the value of its call
+abbrev pub alternative_of : Choice → Alternative
+alternative_of c = record { list = running c.behind; subst = c.subst; next = c.next; built = 0; left = Clauses (apply c.subst c.call) c.clauses }
+
+abbrev pub alternatives_of : List Choice → List Alternative
+alternatives_of [] = []
+alternatives_of (c ∷ cs) = alternative_of c ∷ alternatives_of cs
+
+abbrev pub state_of : Linked → State
+state_of l = record { list = list_of l.doing; subst = l.subst; next = l.next; built = 0; query = l.query; stack = alternatives_of l.stack; world = l.world; steps = l.steps }
+
+-- the search is at a state that is the same as this one
+abbrev pub IsState : Linked → State → Type 0
+IsState l s = Same (state_of l) s
+
+-- ---- what moves make of it
 
 -- no goal was started
 abbrev pub idle_linked : World → Linked
-idle_linked w = record { doing = Failing; subst = Variable; next = 0; query = []; stack = []; world = w; steps = 0 }
+idle_linked w = record { doing = Failing; subst = Variable; next = 0; query = Name (codes "true"); stack = []; world = w; steps = 0 }
 
 -- the choices with those of the clauses behind the first, where there are any
 abbrev pub with_choice : Tree → List Clause → List Tree → Subst → ℕ → List Choice → List Choice

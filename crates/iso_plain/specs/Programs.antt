@@ -2,9 +2,9 @@
 use Rattle.std.specs.Prelude.{◌≡◌, ℕ, ◌<◌, List, [], ◌∷◌, Bool, ◌&&◌, ◌==◌, length, position, Option}
 use Rattle.std.specs.String.{string_bytes}
 use Rattle.std.specs.Str.{bytes_eq}
-use Rattle.iso_model.specs.Databases as databases
-use Rattle.iso_model.specs.Databases.{Key, Database}
-use Rattle.iso_model.specs.Walker.{World}
+use Rattle.iso_model.specs.Search.Databases as databases
+use Rattle.iso_model.specs.Search.Databases.{Key, Procedures}
+use Rattle.iso_model.specs.Search.Walker.{World}
 use Rattle.iso_ops.specs.Operators.{Operator}
 use Rattle.iso_ops.specs.declared.settings.Flags.{Flags}
 use Rattle.iso_plain.specs.declared.clauses.Clause.{Clause}
@@ -25,13 +25,13 @@ pub record IsProcedure (kept : Procedure) (p : databases.Procedure) : Type 0 whe
   pub some : 0 < length kept.clauses.items
 
 -- the procedures are kept in their order
-pub data IsDatabase : List Procedure → Database → Type 0 where
+pub data IsDatabase : List Procedure → Procedures → Type 0 where
   no_procedures : IsDatabase [] []
-  more_procedures : {kept : Procedure} {p : databases.Procedure} {ks : List Procedure} {ps : Database} → IsProcedure kept p → IsDatabase ks ps → IsDatabase (kept ∷ ks) (p ∷ ps)
+  more_procedures : {kept : Procedure} {p : databases.Procedure} {ks : List Procedure} {ps : Procedures} → IsProcedure kept p → IsDatabase ks ps → IsDatabase (kept ∷ ks) (p ∷ ps)
 
 -- these procedures, operators and flags are what outlives a run
 pub record KeepsWorld (procedures : List Procedure) (ops : List Operator) (flags : Flags) (w : World) : Type 0 where
-  pub database : IsDatabase procedures w.database
+  pub procedures_are : IsDatabase procedures w.database.procedures
   pub operators_are : ops ≡ w.operators
   pub flags_are : flags ≡ w.flags
 

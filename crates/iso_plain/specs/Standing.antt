@@ -1,8 +1,9 @@
 -- How the engine's parts stand for a search with its goals linked.
 use Rattle.std.specs.Prelude.{◌≡◌, ℕ, ◌+◌, ◌*◌, ◌-◌, ◌≤◌, ◌<◌, List, [], ◌∷◌, ◌++◌, length, take, Option, Some, None, true, ◌⊎◌}
 use Rattle.std.specs.List.{slice_get}
-use Rattle.iso_model.specs.Trees.{Tree, Variable}
-use Rattle.iso_model.specs.Databases.{Clause}
+use Rattle.iso_model.specs.Terms.Trees.{Tree, Variable}
+use Rattle.iso_model.specs.Terms.Variables.{variables}
+use Rattle.iso_model.specs.Search.Databases.{Clause}
 use Rattle.iso_store.specs.Presents.{Present}
 use Rattle.iso_plain.specs.Callable.{IsGoal}
 use Rattle.iso_plain.specs.Linked.{Choice, Linked, idle_linked, Running, Failing, Raising}
@@ -82,7 +83,7 @@ pub record Goes {W : Type 0} (p : Present W) (query : List W) (l : Linked) : Typ
   pub subst : p.substitution ≡ l.subst
   pub next : p.next ≡ l.next
   pub room : l.next + numbers_a_step * l.steps ≤ most_numbers
-  pub words : AreVariables p query l.query
+  pub words : AreVariables p query (variables l.query)
 
 -- What comes next, as the engine has it.
 abbrev pub DoesNext : {W : Type 0} → Present W → List (Frame W) → List W → Now → Option Tree → Linked → Type 0
@@ -91,4 +92,4 @@ DoesNext p frames query now.Failing raised l = l.doing ≡ Failing
 DoesNext p frames query now.Answering raised l = (l.doing ≡ Running []) × Goes p query l
 DoesNext p frames query (now.Running place) raised l = (gs : List Tree) × (l.doing ≡ Running gs) × Chain p frames (Some place) gs × Goes p query l
 DoesNext p frames query now.Raising raised l = (ball : Tree) × (l.doing ≡ Raising ball) × (raised ≡ Some ball)
-DoesNext p frames query now.Spent raised l = Unit {0}
+DoesNext p frames query (now.Spent limit) raised l = Unit {0}

@@ -1,9 +1,9 @@
 -- How a run begins, and how a clause comes to the database.
 use Rattle.std.specs.Prelude.{◌≡◌, [], Result, Ok, Err}
-use Rattle.iso_model.specs.Trees.{Variable}
-use Rattle.iso_model.specs.Terms.{term_of}
-use Rattle.iso_model.specs.Additions.{Addition, Adds, Refuses}
-use Rattle.iso_model.specs.Walker.{World}
+use Rattle.iso_model.specs.Terms.Trees.{Variable}
+use Rattle.iso_model.specs.Terms.TermOf.{term_of}
+use Rattle.iso_model.specs.Search.Additions.{Addition, Adds, Refuses}
+use Rattle.iso_model.specs.Search.Walker.{World}
 use Rattle.iso_model.specs.declared.pauses.AddFault.{AddFault}
 use Rattle.iso_model.specs.declared.pauses.AddFault.TheVariants as add
 use Rattle.iso_store.specs.Presents.{Present}

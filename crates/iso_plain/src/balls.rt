@@ -1,11 +1,11 @@
 //! The error terms that the engine raises (7.12.2), each with the indicator of the procedure that raised it (own).
 ghost use Rattle.std.specs.Prelude.{◌≡◌, ◌<◌, IfOk, codes};
-ghost use Rattle.iso_model.specs.Trees.{Name};
-ghost use Rattle.iso_model.specs.Terms.{term_of};
-ghost use Rattle.iso_model.specs.Bodies.{two};
-ghost use Rattle.iso_model.specs.Errors.{key};
-ghost use Rattle.iso_model.specs.Errors as errors;
-ghost use Rattle.iso_model.specs.Additions.{consult_key};
+ghost use Rattle.iso_model.specs.Terms.Trees.{Name};
+ghost use Rattle.iso_model.specs.Terms.TermOf.{term_of};
+ghost use Rattle.iso_model.specs.Search.Bodies.{two};
+ghost use Rattle.iso_model.specs.Search.Errors.{key};
+ghost use Rattle.iso_model.specs.Search.Errors as errors;
+ghost use Rattle.iso_model.specs.Search.Additions.{consult_key};
 
 use iso_model::{Ball, Term};
 use std::alloc::{AllocError, Global};

@@ -1,8 +1,8 @@
 //! Bodies of clauses and goals of queries, converted into lists of goals (7.6.2).
 ghost use Rattle.std.specs.Prelude.{◌≡◌, ◌++◌, ◌∷◌, [], IfOk, OnOk, OnErr, codes};
-ghost use Rattle.iso_model.specs.Trees.{Variable};
-ghost use Rattle.iso_model.specs.Terms.{term_of};
-ghost use Rattle.iso_model.specs.Bodies.{one, converted};
+ghost use Rattle.iso_model.specs.Terms.Trees.{Variable};
+ghost use Rattle.iso_model.specs.Terms.TermOf.{term_of};
+ghost use Rattle.iso_model.specs.Search.Bodies.{one, converted};
 ghost use Rattle.iso_plain.specs.declared.bodies.BodyFault.TheVariants.{NoMemory};
 ghost use Rattle.iso_plain.specs.Goals.{terms_of, AppendsGoals};
 

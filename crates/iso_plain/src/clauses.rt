@@ -1,20 +1,19 @@
 //! Clauses as the engine keeps them: checked, converted, with their variables numbered 0, 1, .. (7.4, 7.6).
 ghost use Rattle.std.specs.Prelude.{◌≡◌, ◌<◌, ◌↔◌, IsTrue, IfOk, IfErr, OnOk, MatchOption, codes, true, option_map, ◌==◌, position};
-ghost use Rattle.iso_model.specs.Trees.{Variable, Name, arities_fit};
-ghost use Rattle.iso_model.specs.Terms.{term_of, row_of};
-ghost use Rattle.iso_model.specs.Variables.{distinct_from};
-ghost use Rattle.iso_model.specs.Substitutions.{apply};
-ghost use Rattle.iso_model.specs.Copies as copies;
-ghost use Rattle.iso_model.specs.Databases.{key_of};
-ghost use Rattle.iso_model.specs.Databases as databases;
-ghost use Rattle.iso_model.specs.Errors.{key};
-ghost use Rattle.iso_model.specs.Additions as additions;
+ghost use Rattle.iso_model.specs.Terms.Trees.{Variable, Name, arities_fit};
+ghost use Rattle.iso_model.specs.Terms.TermOf.{term_of, row_of};
+ghost use Rattle.iso_model.specs.Terms.Variables.{distinct_from};
+ghost use Rattle.iso_model.specs.Terms.Substitutions.{apply};
+ghost use Rattle.iso_model.specs.Terms.Copies as copies;
+ghost use Rattle.iso_model.specs.Search.Databases.{key_of};
+ghost use Rattle.iso_model.specs.Search.Errors.{key};
+ghost use Rattle.iso_model.specs.Search.Additions as additions;
 ghost use Rattle.iso_plain.specs.Goals.{terms_of};
 ghost use Rattle.iso_plain.specs.Kept.{numbers, IsRenamed, Splits, GoalsOf, RefusesHead, ChecksUser, Prepares};
 
 use super::balls;
 use super::bodies::{self, BodyFault};
-use iso_model::{AddFault, Term, copied};
+use iso_model::{AddFault, Term, copied, is_built_in};
 use std::alloc::{AllocError, Global};
 
 /// The most distinct variables that an added clause may have (own limit).
@@ -60,17 +59,6 @@ pub fn indicator_of(term: &Term) -> Option<(&str, usize)>
         Term::Atom(name) => Some((name.as_str(), 0)),
         Term::Compound(name, arguments) => Some((name.as_str(), arguments.len())),
         Term::Var(_) | Term::Int(_) => None,
-    }
-}
-
-/// Whether a procedure of this name and arity is a built-in or a control construct.
-pub fn is_built_in(name: &str, arity: usize) -> bool
-    ensures { result ≡ databases.is_built_in (key name.now arity) }
-{
-    match arity {
-        0 => name == "true" || name == "fail",
-        2 => name == "," || name == "=",
-        _ => false,
     }
 }
 

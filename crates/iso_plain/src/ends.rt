@@ -1,7 +1,7 @@
 //! The engine's moves that give the caller an answer, or a ball that nothing catches (7.7).
-ghost use Rattle.std.specs.Prelude.{◌≡◌, ℕ, IfOk, List, map};
-ghost use Rattle.iso_model.specs.Terms.{term_of};
-ghost use Rattle.iso_model.specs.Walker.{State};
+ghost use Rattle.std.specs.Prelude.{◌≡◌, ℕ, IfOk, OnErr, List, map};
+ghost use Rattle.iso_model.specs.Terms.TermOf.{term_of};
+ghost use Rattle.iso_model.specs.Search.Walker.{State};
 ghost use Rattle.iso_plain.specs.Standing.{AreVariables};
 
 use super::parts::Now;
@@ -25,7 +25,7 @@ fn values<S: Store>(alloc: Global, store: &S, words: &[S::Word]) -> Result<Vec<T
 }
 
 impl<S: Store + Drop> Plain<S> {
-    ghost use Rattle.iso_plain.specs.EngineStates.{IsBase, Represents, Moves, Falls, weight, settings_of};
+    ghost use Rattle.iso_plain.specs.EngineStates.{IsBase, Represents, Stopped, Moves, Falls, weight, settings_of};
     ghost use Rattle.iso_plain.specs.Limits.{IsWithin, MoveMet, ResultMet, MoveFull, ResultFull};
     ghost use Rattle.iso_plain.specs.declared.parts.Now.TheVariants.{Answering, Raising};
 
@@ -35,6 +35,7 @@ impl<S: Store + Drop> Plain<S> {
         requires stands { (s : State) × Represents S.present S.stands S.older self.old s }
         ensures moves { (s : State) → Represents S.present S.stands S.older self.old s
             → IfOk result (λ m. Moves S.present S.stands S.older m s self.new) }
+        ensures stopped { (s : State) → Represents S.present S.stands S.older self.old s → OnErr result (Stopped S.present S.stands S.older self.new s) }
         ensures falls { IfOk result (λ m. Falls m (weight self.old) (weight self.new)) }
         ensures frames { ResultFull ⊥ result }
         ensures met { ResultMet S.full result self.new }

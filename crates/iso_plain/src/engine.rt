@@ -1,28 +1,28 @@
 //! The plain engine is an engine: a call of `resume` is moves up to an event (7.7).
-ghost use Rattle.std.specs.Prelude.{◌≡◌, ◌≢◌, ℕ, IfOk, true, Err, ◌≤◌};
-ghost use Rattle.iso_model.specs.Trees.{arities_fit};
-ghost use Rattle.iso_model.specs.Terms.{term_of};
-ghost use Rattle.iso_model.specs.Copies.{IsNumbered};
-ghost use Rattle.iso_model.specs.Additions.{addition};
-ghost use Rattle.iso_model.specs.Walker.{State, alternative_count};
+ghost use Rattle.std.specs.Prelude.{◌≡◌, ◌≢◌, ℕ, IfOk, OnErr, true, Err, ◌≤◌};
+ghost use Rattle.iso_model.specs.Terms.Trees.{arities_fit};
+ghost use Rattle.iso_model.specs.Terms.TermOf.{term_of};
+ghost use Rattle.iso_model.specs.Terms.Copies.{IsNumbered};
+ghost use Rattle.iso_model.specs.Search.Additions.{consulted};
+ghost use Rattle.iso_model.specs.Search.Walker.{State};
 ghost use Rattle.iso_model.specs.declared.pauses.Pause.TheVariants as pause;
 ghost use Rattle.iso_plain.specs.declared.plain.Move.TheVariants as moved;
 
 use super::parts::Now;
 use super::plain::{Move, Plain};
-use iso_model::{AddFault, Engine, Pause, StartFault, Term};
+use iso_model::{AddFault, Engine, Limit, Pause, StartFault, Term};
 use iso_ops::{Flags, OpTable};
 use iso_store::{Store, StoreFault};
 
 impl<S: Store + Drop> Plain<S> {
-    ghost use Rattle.iso_plain.specs.EngineStates.{StandsFor, Moves, Falls, weight, phase_of, settings_of, settings_in};
-    ghost use Rattle.iso_model.specs.Engines.{Pauses, FallsAtEvent};
-    ghost use Rattle.iso_plain.specs.Limits.{IsWithin, LimitMet, MoveMet, ResultMet, WhereFull, MoveFull, ResultFull, ComesTo};
-    ghost use Rattle.iso_plain.specs.declared.parts.Now.TheVariants as now;
+    ghost use Rattle.iso_plain.specs.EngineStates.{StandsFor, Moves, Falls, Stopped, weight, phase_of, settings_of};
+    ghost use Rattle.iso_model.specs.Search.Engines.{IsAwake, Pauses, FallsAtEvent};
+    ghost use Rattle.iso_plain.specs.Limits.{IsWithin, LimitMet, MoveMet, ResultMet, WhereFull, MoveFull, ResultFull};
+    ghost use Rattle.iso_model.specs.Search.Runs.{ComesOver};
 
     /// Ends at a limit: the engine is spent.
     fn stop(&mut self, fault: StoreFault) -> Pause
-        ensures moves { (s : State) → settings_of self.old ≡ settings_in s.world → Moves S.present S.stands S.older (moved.Pauses result) s self.new }
+        ensures moves { (s : State) → Stopped S.present S.stands S.older self.old s → Moves S.present S.stands S.older (moved.Pauses result) s self.new }
         ensures falls { (old new : ℕ) → FallsAtEvent result old new }
         ensures frames { WhereFull ⊥ result }
         ensures met { (fault ≡ StoreFault.Full → S.full self.old.store) → LimitMet S.full result self.new }
@@ -30,21 +30,27 @@ impl<S: Store + Drop> Plain<S> {
         ensures settings { settings_of self.new ≡ settings_of self.old }
         ensures within { IsWithin self.old → IsWithin self.new }
     {
-        self.now = Now::Spent;
         match fault {
-            StoreFault::Full => Pause::HeapFull,
-            StoreFault::NoMemory => Pause::NoMemory,
+            StoreFault::Full => {
+                self.now = Now::Spent(Limit::Heap);
+                Pause::HeapFull
+            }
+            StoreFault::NoMemory => {
+                self.now = Now::Spent(Limit::Memory);
+                Pause::NoMemory
+            }
         }
     }
 
     /// A move of an engine that is awake. The errors: the store is full, or memory was refused.
     fn moved(&mut self) -> Result<Move, StoreFault>
-        requires awake { self.old.now ≢ now.Spent }
+        requires awake { IsAwake (phase_of self.old.now) }
         requires stands { (s : State) × StandsFor S.present S.stands S.older self.old s }
         ensures moves { (s : State) → StandsFor S.present S.stands S.older self.old s
             → IfOk result (λ m. Moves S.present S.stands S.older m s self.new) }
+        ensures stopped { (s : State) → StandsFor S.present S.stands S.older self.old s → OnErr result (Stopped S.present S.stands S.older self.new s) }
         ensures falls { IfOk result (λ m. Falls m (weight self.old) (weight self.new)) }
-        ensures frames { (s : State) → StandsFor S.present S.stands S.older self.old s → ResultFull (self.old.limit ≤ alternative_count s) result }
+        ensures frames { (s : State) → StandsFor S.present S.stands S.older self.old s → ResultFull (ComesOver self.old.limit s) result }
         ensures met { ResultMet S.full result self.new }
         ensures limit { self.new.limit ≡ self.old.limit }
         ensures settings { settings_of self.new ≡ settings_of self.old }
@@ -52,7 +58,7 @@ impl<S: Store + Drop> Plain<S> {
     {
         match self.now {
             Now::Idle => Ok(Move::Pauses(Pause::NoMore)),
-            Now::Spent => unreachable!(),
+            Now::Spent(_) => unreachable!(),
             Now::Failing => self.fail(),
             Now::Answering => self.answer(),
             Now::Running(place) => self.run(place),
@@ -62,11 +68,11 @@ impl<S: Store + Drop> Plain<S> {
 
     /// A move of an engine that is awake, which ends at a limit.
     fn advance(&mut self) -> Move
-        requires awake { self.old.now ≢ now.Spent }
+        requires awake { IsAwake (phase_of self.old.now) }
         requires stands { (s : State) × StandsFor S.present S.stands S.older self.old s }
         ensures moves { (s : State) → StandsFor S.present S.stands S.older self.old s → Moves S.present S.stands S.older result s self.new }
         ensures falls { Falls result (weight self.old) (weight self.new) }
-        ensures frames { (s : State) → StandsFor S.present S.stands S.older self.old s → MoveFull (self.old.limit ≤ alternative_count s) result }
+        ensures frames { (s : State) → StandsFor S.present S.stands S.older self.old s → MoveFull (ComesOver self.old.limit s) result }
         ensures met { MoveMet S.full result self.new }
         ensures limit { self.new.limit ≡ self.old.limit }
         ensures settings { settings_of self.new ≡ settings_of self.old }
@@ -80,12 +86,12 @@ impl<S: Store + Drop> Plain<S> {
 
     /// Moves on to the next event, of an engine that is awake.
     fn run_on(&mut self) -> Pause
-        requires awake { self.old.now ≢ now.Spent }
+        requires awake { IsAwake (phase_of self.old.now) }
         requires stands { (s : State) × StandsFor S.present S.stands S.older self.old s }
         ensures pauses { (s : State) → StandsFor S.present S.stands S.older self.old s
             → Pauses s result (StandsFor S.present S.stands S.older self.new) (phase_of self.new.now) }
         ensures left { FallsAtEvent result (weight self.old) (weight self.new) }
-        ensures frames { (s : State) → StandsFor S.present S.stands S.older self.old s → WhereFull (ComesTo s self.old.limit) result }
+        ensures frames { (s : State) → StandsFor S.present S.stands S.older self.old s → WhereFull (ComesOver self.old.limit s) result }
         ensures met { LimitMet S.full result self.new }
         ensures limit { self.new.limit ≡ self.old.limit }
         ensures within { IsWithin self.old → IsWithin self.new }
@@ -101,14 +107,21 @@ impl<S: Store + Drop> Plain<S> {
 
 impl<S: Store + Drop> Engine for Plain<S> {
     ghost use Rattle.iso_plain.specs.EngineStates.{StandsFor, weight, phase_of};
-    ghost use Rattle.iso_plain.specs.Limits.{IsWithin, LimitMet, WhereFull, ComesTo};
-    ghost use Rattle.iso_model.specs.Engines.{Ready, Spent, Starts, Pauses, StaysSpent, FallsAtEvent, Consults};
+    ghost use Rattle.iso_plain.specs.Limits.{IsWithin, LimitMet};
+    ghost use Rattle.iso_model.specs.Search.Engines.{Ready, Spent, IsAwake, Starts, Pauses, StaysSpent, FallsAtEvent, Consults, MayMeet, RefusesStart, MeetsLimit, KeepsLimits};
+    ghost use Rattle.iso_model.specs.declared.limit.Limit.{Limit};
+    ghost use Rattle.iso_model.specs.Search.Walker.{started};
+    ghost use Rattle.iso_model.specs.Search.Runs.{ComesOver};
 
     ghost stands_for = { StandsFor S.present S.stands S.older };
 
     ghost phase = { λ engine. phase_of engine.now };
 
     ghost left = { weight };
+
+    ghost heap_pieces = { λ _ s. Unit {0} };
+
+    ghost frames_pieces = { λ engine s. ComesOver engine.limit s };
 
     /// As the trait says. HeapFull comes only where the store is full.
     fn start(&mut self, goal: &Term, budget: u32) -> Result<(), StartFault>
@@ -118,36 +131,47 @@ impl<S: Store + Drop> Engine for Plain<S> {
         requires numbered { IsNumbered (term_of goal.now) }
         ensures starts { (s : State) → StandsFor S.present S.stands S.older self.old s
             → Starts (term_of goal.now) budget s result (StandsFor S.present S.stands S.older self.new) (phase_of self.new.now) }
+        ensures limit { (s : State) → StandsFor S.present S.stands S.older self.old s
+            → RefusesStart (MayMeet (λ t. Unit {0}) (ComesOver self.new.limit)) (started (term_of goal.now) budget s.world) result }
+        ensures limits { KeepsLimits (MayMeet (λ t. Unit {0}) (ComesOver self.old.limit)) (MayMeet (λ t. Unit {0}) (ComesOver self.new.limit)) }
         ensures full { result ≡ Err StartFault.HeapFull → S.full self.new.store }
-        ensures limit { self.new.limit ≡ self.old.limit }
+        ensures same { self.new.limit ≡ self.old.limit }
         ensures within { IsWithin self.old → IsWithin self.new }
     {
         self.clear();
         let Err(fault) = self.begin(goal, budget) else {
             return Ok(());
         };
-        self.now = Now::Spent;
         match fault {
-            StoreFault::Full => Err(StartFault::HeapFull),
-            StoreFault::NoMemory => Err(StartFault::NoMemory),
+            StoreFault::Full => {
+                self.now = Now::Spent(Limit::Heap);
+                Err(StartFault::HeapFull)
+            }
+            StoreFault::NoMemory => {
+                self.now = Now::Spent(Limit::Memory);
+                Err(StartFault::NoMemory)
+            }
         }
     }
 
-    /// As the trait says. FramesFull comes only where as many choices stand as `new` allowed, HeapFull only where the store is full.
+    /// As the trait says. FramesFull comes only where the search comes to more alternatives than `new` allowed, HeapFull only where the store
+    /// is full.
     fn resume(&mut self) -> Pause
         requires { (s : State) × StandsFor S.present S.stands S.older self.old s }
-        ensures pauses { (s : State) → StandsFor S.present S.stands S.older self.old s → phase_of self.old.now ≢ Spent
+        ensures pauses { (s : State) → StandsFor S.present S.stands S.older self.old s → IsAwake (phase_of self.old.now)
             → Pauses s result (StandsFor S.present S.stands S.older self.new) (phase_of self.new.now) }
-        ensures spent { (s : State) → StandsFor S.present S.stands S.older self.old s → phase_of self.old.now ≡ Spent
-            → StaysSpent s result (StandsFor S.present S.stands S.older self.new) (phase_of self.new.now) }
+        ensures spent { (s : State) → StandsFor S.present S.stands S.older self.old s → (limit : Limit) → phase_of self.old.now ≡ Spent limit
+            → StaysSpent s limit result (StandsFor S.present S.stands S.older self.new) (phase_of self.new.now) }
+        ensures limit { (s : State) → StandsFor S.present S.stands S.older self.old s
+            → MeetsLimit (MayMeet (λ t. Unit {0}) (ComesOver self.new.limit)) s result }
+        ensures limits { KeepsLimits (MayMeet (λ t. Unit {0}) (ComesOver self.old.limit)) (MayMeet (λ t. Unit {0}) (ComesOver self.new.limit)) }
         ensures left { FallsAtEvent result (weight self.old) (weight self.new) }
-        ensures frames { (s : State) → StandsFor S.present S.stands S.older self.old s → WhereFull (ComesTo s self.old.limit) result }
         ensures met { LimitMet S.full result self.new }
-        ensures limit { self.new.limit ≡ self.old.limit }
+        ensures same { self.new.limit ≡ self.old.limit }
         ensures within { IsWithin self.old → IsWithin self.new }
     {
         match self.now {
-            Now::Spent => Pause::Spent,
+            Now::Spent(_) => Pause::Spent,
             _ => self.run_on(),
         }
     }
@@ -168,9 +192,10 @@ impl<S: Store + Drop> Engine for Plain<S> {
         requires stands { (s : State) × StandsFor S.present S.stands S.older self.old s }
         requires fits { arities_fit (term_of clause.now) ≡ true }
         ensures consults { (s : State) → StandsFor S.present S.stands S.older self.old s
-            → Consults (addition (term_of clause.now) s.world.database) s result (StandsFor S.present S.stands S.older self.new) }
+            → Consults (consulted (term_of clause.now) s.world.database) s result (StandsFor S.present S.stands S.older self.new) }
         ensures ready { phase_of self.new.now ≡ Ready }
-        ensures limit { self.new.limit ≡ self.old.limit }
+        ensures limits { KeepsLimits (MayMeet (λ t. Unit {0}) (ComesOver self.old.limit)) (MayMeet (λ t. Unit {0}) (ComesOver self.new.limit)) }
+        ensures same { self.new.limit ≡ self.old.limit }
         ensures within { IsWithin self.old → IsWithin self.new }
     {
         self.clear();

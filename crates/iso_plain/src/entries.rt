@@ -1,10 +1,10 @@
 //! The entry of a clause: its variables get new numbers, its head is unified with the goal, and its goals are
 //! linked before the rest (7.7.10, 7.7.11). And the unification of a goal's two arguments (8.2.1).
 ghost use Rattle.std.specs.Prelude.{◌≡◌, ℕ, ◌+◌, ◌<◌, ◌≤◌, ◌^◌, IfOk, OnOk, length, true, Err};
-ghost use Rattle.iso_model.specs.Trees.{Tree, arities_fit};
-ghost use Rattle.iso_model.specs.Terms.{term_of, row_of};
-ghost use Rattle.iso_model.specs.Copies.{renamed, numbers_from};
-ghost use Rattle.iso_model.specs.Substitutions.{apply};
+ghost use Rattle.iso_model.specs.Terms.Trees.{Tree, arities_fit};
+ghost use Rattle.iso_model.specs.Terms.TermOf.{term_of, row_of};
+ghost use Rattle.iso_model.specs.Terms.Copies.{renamed, numbers_from};
+ghost use Rattle.iso_model.specs.Terms.Substitutions.{apply};
 ghost use Rattle.iso_store.specs.Presents.{KeepsMarks, KeepsNumbers, Makes, Holds, IsUnification};
 ghost use Rattle.iso_plain.specs.Equations.{IsEquation};
 ghost use Rattle.iso_plain.specs.Standing.{AreVariables};

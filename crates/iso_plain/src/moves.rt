@@ -1,12 +1,12 @@
 //! The engine's moves: each is some steps of the standard's search (7.7).
-ghost use Rattle.std.specs.Prelude.{◌≡◌, ◌≢◌, ◌<◌, ◌≤◌, ◌+◌, true, false, IfOk, OnOk, Ok, List, ◌∷◌, length, Err};
-ghost use Rattle.iso_model.specs.Trees.{Tree};
-ghost use Rattle.iso_model.specs.Databases as databases;
-ghost use Rattle.iso_model.specs.Databases.{Database};
+ghost use Rattle.std.specs.Prelude.{◌≡◌, ◌<◌, ◌≤◌, ◌+◌, true, false, IfOk, OnOk, OnErr, Ok, List, ◌∷◌, length, Err};
+ghost use Rattle.iso_model.specs.Terms.Trees.{Tree};
+ghost use Rattle.iso_model.specs.Search.Databases as databases;
+ghost use Rattle.iso_model.specs.Search.Databases.{Procedures};
 ghost use Rattle.iso_plain.specs.Kept.{IsClause};
 ghost use Rattle.iso_plain.specs.Programs.{IsDatabase};
 ghost use Rattle.iso_plain.specs.EngineStates.{left_at, clauses_at_place};
-ghost use Rattle.iso_model.specs.Walker.{State, alternative_count};
+ghost use Rattle.iso_model.specs.Search.Walker.{State};
 
 use super::clauses::Clause;
 use super::entries;
@@ -20,8 +20,8 @@ use std::alloc::AllocError;
 /// The clause at this place of the procedure at this place.
 fn clause_at(procedures: &[Procedure], place: usize, index: usize) -> &Clause
     requires within { place < length procedures.now }
-    requires found { (db : Database) × (c : databases.Clause) × (cs : List databases.Clause) × IsDatabase procedures.now db × (left_at db place index ≡ c ∷ cs) }
-    ensures { (db : Database) (c : databases.Clause) (cs : List databases.Clause) → IsDatabase procedures.now db
+    requires found { (db : Procedures) × (c : databases.Clause) × (cs : List databases.Clause) × IsDatabase procedures.now db × (left_at db place index ≡ c ∷ cs) }
+    ensures { (db : Procedures) (c : databases.Clause) (cs : List databases.Clause) → IsDatabase procedures.now db
         → left_at db place index ≡ c ∷ cs → IsClause result.now c }
 {
     let procedure = &procedures[place];
@@ -39,7 +39,8 @@ fn clause_count(procedures: &[Procedure], place: usize) -> usize
 impl<S: Store + Drop> Plain<S> {
     ghost use Rattle.iso_plain.specs.Linked.{Linked};
     ghost use Rattle.iso_plain.specs.Linked as search;
-    ghost use Rattle.iso_plain.specs.EngineStates.{IsBase, IsEngine, Represents, Tries, Tried, Calls, WentBack, Moves, Falls, clauses_left, most_clauses, weight, settings_of};
+    ghost use Rattle.iso_plain.specs.EngineStates.{IsBase, IsEngine, Represents, Keeps, Stopped, WasRefused, Tries, Tried, Calls, WentBack, Moves, Falls, clauses_left, most_clauses, weight, phase_of, settings_of};
+    ghost use Rattle.iso_model.specs.Search.Engines.{IsAwake};
     ghost use Rattle.iso_plain.specs.Limits.{IsWithin, ResultMet, ResultFull};
     ghost use Rattle.iso_plain.specs.declared.parts.Now.TheVariants as now;
 
@@ -50,8 +51,11 @@ impl<S: Store + Drop> Plain<S> {
         ensures tried { (l : Linked) (call : Tree) (c : databases.Clause) (cs : List databases.Clause) (behind : List Tree)
             → Tries S.present S.stands S.older self.old attempt l call c cs behind
             → OnOk result (Tried S.present S.stands S.older self.new l call c cs behind) }
+        ensures kept { (l : Linked) (call : Tree) (c : databases.Clause) (cs : List databases.Clause) (behind : List Tree)
+            → Tries S.present S.stands S.older self.old attempt l call c cs behind
+            → OnErr result (Keeps S.present S.stands S.older self.new l.world (search.with_choice call cs behind l.subst l.next l.stack)) }
         ensures steps { self.new.steps ≡ self.old.steps }
-        ensures awake { OnOk result (self.new.now ≢ now.Spent) }
+        ensures awake { OnOk result (IsAwake (phase_of self.new.now)) }
         ensures full { result ≡ Err StoreFault.Full → S.full self.new.store }
         ensures base { IsBase (S.stands self.old.store) self.old.base → IsBase (S.stands self.new.store) self.new.base }
         ensures procedures { self.new.procedures ≡ self.old.procedures }
@@ -103,6 +107,9 @@ impl<S: Store + Drop> Plain<S> {
         ensures tries { (l : Linked) (call : Tree) (c : databases.Clause) (cs : List databases.Clause) (behind : List Tree)
             → Calls S.present S.stands S.older self.old attempt l call c cs behind → 0 < length cs
             → OnOk result (Tries S.present S.stands S.older self.new attempt l call c cs behind) }
+        ensures kept { (l : Linked) (call : Tree) (c : databases.Clause) (cs : List databases.Clause) (behind : List Tree)
+            → Calls S.present S.stands S.older self.old attempt l call c cs behind
+            → OnErr result (Keeps S.present S.stands S.older self.new l.world l.stack) }
         ensures steps { self.new.steps ≡ self.old.steps }
         ensures base { IsBase (S.stands self.old.store) self.old.base → IsBase (S.stands self.new.store) self.new.base }
         ensures procedures { self.new.procedures ≡ self.old.procedures }
@@ -152,8 +159,9 @@ impl<S: Store + Drop> Plain<S> {
         requires represents { (s : State) × Represents S.present S.stands S.older self.old s }
         requires failing { self.old.now ≡ now.Failing }
         ensures moves { (s : State) → Represents S.present S.stands S.older self.old s → IfOk result (λ m. Moves S.present S.stands S.older m s self.new) }
+        ensures stopped { (s : State) → Represents S.present S.stands S.older self.old s → OnErr result (Stopped S.present S.stands S.older self.new s) }
         ensures falls { IfOk result (λ m. Falls m (weight self.old) (weight self.new)) }
-        ensures frames { (s : State) → Represents S.present S.stands S.older self.old s → ResultFull (self.old.limit ≤ alternative_count s) result }
+        ensures frames { ResultFull ⊥ result }
         ensures met { ResultMet S.full result self.new }
         ensures limit { self.new.limit ≡ self.old.limit }
         ensures settings { settings_of self.new ≡ settings_of self.old }
@@ -177,8 +185,13 @@ impl<S: Store + Drop> Plain<S> {
         ensures tries { (l : Linked) (call : Tree) (c : databases.Clause) (cs : List databases.Clause) (behind : List Tree)
             → Calls S.present S.stands S.older self.old attempt l call c cs behind → result ≡ Ok true
             → Tries S.present S.stands S.older self.new attempt l call c cs behind }
+        ensures kept { (l : Linked) (call : Tree) (c : databases.Clause) (cs : List databases.Clause) (behind : List Tree)
+            → Calls S.present S.stands S.older self.old attempt l call c cs behind
+            → OnErr result (Keeps S.present S.stands S.older self.new l.world l.stack) }
         ensures refused { result ≡ Ok false → self.new ≡ self.old }
-        ensures frames { result ≡ Ok false → self.old.limit ≤ length self.old.choices.items }
+        ensures frames { (l : Linked) (call : Tree) (c : databases.Clause) (cs : List databases.Clause) (behind : List Tree)
+            → Calls S.present S.stands S.older self.old attempt l call c cs behind → result ≡ Ok false
+            → (self.old.limit ≤ length self.old.choices.items) × (0 < length cs) }
         ensures steps { self.new.steps ≡ self.old.steps }
         ensures base { IsBase (S.stands self.old.store) self.old.base → IsBase (S.stands self.new.store) self.new.base }
         ensures procedures { self.new.procedures ≡ self.old.procedures }
@@ -207,9 +220,14 @@ impl<S: Store + Drop> Plain<S> {
         ensures tried { (l : Linked) (call : Tree) (c : databases.Clause) (cs : List databases.Clause) (behind : List Tree)
             → Calls S.present S.stands S.older self.old attempt l call c cs behind → result ≡ Ok true
             → Tried S.present S.stands S.older self.new l call c cs behind }
-        ensures awake { result ≡ Ok true → self.new.now ≢ now.Spent }
+        ensures kept { (l : Linked) (call : Tree) (c : databases.Clause) (cs : List databases.Clause) (behind : List Tree)
+            → Calls S.present S.stands S.older self.old attempt l call c cs behind
+            → OnErr result (WasRefused S.present S.stands S.older self.new l call cs behind) }
+        ensures awake { result ≡ Ok true → IsAwake (phase_of self.new.now) }
         ensures refused { result ≡ Ok false → self.new ≡ self.old }
-        ensures frames { result ≡ Ok false → self.old.limit ≤ length self.old.choices.items }
+        ensures frames { (l : Linked) (call : Tree) (c : databases.Clause) (cs : List databases.Clause) (behind : List Tree)
+            → Calls S.present S.stands S.older self.old attempt l call c cs behind → result ≡ Ok false
+            → (self.old.limit ≤ length self.old.choices.items) × (0 < length cs) }
         ensures full { result ≡ Err StoreFault.Full → S.full self.new.store }
         ensures steps { self.new.steps ≡ self.old.steps }
         ensures base { IsBase (S.stands self.old.store) self.old.base → IsBase (S.stands self.new.store) self.new.base }

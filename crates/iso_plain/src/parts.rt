@@ -2,6 +2,8 @@
 ghost use Rattle.std.specs.Prelude.{◌≡◌};
 ghost use Rattle.iso_plain.specs.Next.{now_behind, now_entered, now_unified};
 
+use iso_model::Limit;
+
 /// A goal that is still to be run, and the place of the one behind it.
 #[derive(Clone, Copy)]
 pub struct Frame<W> {
@@ -41,8 +43,8 @@ pub enum Now {
     Running(usize),
     /// Raise the ball that was kept.
     Raising,
-    /// Nothing any more: a limit was met.
-    Spent,
+    /// Nothing any more: this limit was met.
+    Spent(Limit),
 }
 
 /// To run the goal at this place, or to give an answer where there is none.

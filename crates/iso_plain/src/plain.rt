@@ -41,8 +41,8 @@ pub struct Plain<S: Store> {
 
 impl<S: Store + Drop> Plain<S> {
     ghost use Rattle.iso_plain.specs.Limits.{IsWithin};
-    ghost use Rattle.iso_model.specs.Trees.{Variable};
-    ghost use Rattle.iso_model.specs.Walker.{World};
+    ghost use Rattle.iso_model.specs.Terms.Trees.{Variable};
+    ghost use Rattle.iso_model.specs.Search.Walker.{World};
     ghost use Rattle.iso_plain.specs.Linked.{idle_linked};
     ghost use Rattle.iso_plain.specs.Programs.{IsWorld};
     ghost use Rattle.iso_plain.specs.EngineStates.{IsBase, IsEngine, settings_of};

@@ -1,10 +1,10 @@
 //! The database: procedures with their clauses in the order of their text (7.5).
 ghost use Rattle.std.specs.Prelude.{◌≡◌, ◌∷◌, [], ◌++◌, OnOk, OnErr, IfOk, Some};
 ghost use Rattle.std.specs.String.{string_bytes};
-ghost use Rattle.iso_model.specs.Terms.{term_of};
-ghost use Rattle.iso_model.specs.Databases as databases;
-ghost use Rattle.iso_model.specs.Databases.{Key, Database, key_of, with_clause};
-ghost use Rattle.iso_model.specs.Errors.{key};
+ghost use Rattle.iso_model.specs.Terms.TermOf.{term_of};
+ghost use Rattle.iso_model.specs.Search.Databases as databases;
+ghost use Rattle.iso_model.specs.Search.Databases.{Key, Procedures, key_of, at_end, with_clause};
+ghost use Rattle.iso_model.specs.Search.Errors.{key};
 ghost use Rattle.iso_plain.specs.Kept.{IsClause};
 ghost use Rattle.iso_plain.specs.Programs.{IsDatabase, place_at};
 
@@ -57,9 +57,9 @@ fn push_clause(procedure: &mut Procedure, clause: Clause) -> Result<(), AllocErr
 /// The error is that memory was refused; the procedures are as they were then.
 pub fn add(alloc: Global, procedures: &mut Vec<Procedure>, clause: Clause) -> Result<(), AllocError>
     requires { (k : Key) × (key_of (term_of clause.head) ≡ Some k) }
-    ensures ok { OnOk result ((db : Database) (c : databases.Clause) (k : Key) → IsDatabase procedures.old.items db
-        → IsClause clause c → key_of (term_of clause.head) ≡ Some k → IsDatabase procedures.new.items (with_clause db k c)) }
-    ensures err { OnErr result ((db : Database) → IsDatabase procedures.old.items db → IsDatabase procedures.new.items db) }
+    ensures ok { OnOk result ((db : Procedures) (c : databases.Clause) (k : Key) → IsDatabase procedures.old.items db
+        → IsClause clause c → key_of (term_of clause.head) ≡ Some k → IsDatabase procedures.new.items (with_clause at_end db k c)) }
+    ensures err { OnErr result ((db : Procedures) → IsDatabase procedures.old.items db → IsDatabase procedures.new.items db) }
 {
     let Some((name, arity)) = indicator_of(&clause.head) else {
         unreachable!();

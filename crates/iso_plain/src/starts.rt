@@ -1,12 +1,12 @@
 //! How an engine is made, and how a goal is started and a clause added (7.5, 7.7).
-ghost use Rattle.std.specs.Prelude.{◌≡◌, ◌<◌, ◌^◌, IfOk, OnOk, Some, true, [], Err};
-ghost use Rattle.iso_model.specs.Trees.{arities_fit};
-ghost use Rattle.iso_model.specs.Terms.{term_of};
-ghost use Rattle.iso_model.specs.Variables.{variable_count};
-ghost use Rattle.iso_model.specs.Copies.{IsNumbered};
-ghost use Rattle.iso_model.specs.Bodies.{Body, converted};
-ghost use Rattle.iso_model.specs.Additions.{addition};
-ghost use Rattle.iso_model.specs.Walker.{World, first_world, started};
+ghost use Rattle.std.specs.Prelude.{◌≡◌, ◌<◌, ◌^◌, IfOk, OnOk, OnErr, Some, true, [], Err};
+ghost use Rattle.iso_model.specs.Terms.Trees.{arities_fit};
+ghost use Rattle.iso_model.specs.Terms.TermOf.{term_of};
+ghost use Rattle.iso_model.specs.Terms.Variables.{variable_count};
+ghost use Rattle.iso_model.specs.Terms.Copies.{IsNumbered};
+ghost use Rattle.iso_model.specs.Search.Bodies.{Body, converted};
+ghost use Rattle.iso_model.specs.Search.Additions.{consulted};
+ghost use Rattle.iso_model.specs.Search.Walker.{World, first_world, idle, started};
 ghost use Rattle.iso_plain.specs.Goals.{leaves, terms_of};
 
 use super::bodies::{self, BodyFault};
@@ -30,21 +30,22 @@ fn count_variables(alloc: Global, term: &Term) -> Result<usize, AllocError>
 
 impl<S: Store + Drop> Plain<S> {
     ghost use Rattle.iso_plain.specs.Limits.{IsWithin};
-    ghost use Rattle.iso_model.specs.Trees.{Variable};
+    ghost use Rattle.iso_model.specs.Terms.Trees.{Variable};
     ghost use Rattle.iso_plain.specs.Linked.{idle_linked};
-    ghost use Rattle.iso_plain.specs.EngineStates.{IsEngine, Represents, phase_of, settings_of};
+    ghost use Rattle.iso_plain.specs.EngineStates.{IsEngine, Represents, Keeps, StandsFor, phase_of, settings_of};
     ghost use Rattle.iso_plain.specs.Starts.{IsFresh, Comes};
-    ghost use Rattle.iso_model.specs.Engines.{Midway};
+    ghost use Rattle.iso_model.specs.Search.Engines.{Ready, Midway};
     ghost use Rattle.iso_plain.specs.declared.parts.Now.TheVariants.{Idle};
 
-    /// An engine without clauses, with the operators and flags before any is set, over this empty store, in which at most so many alternatives (1 to 16,777,216)
-    /// stand at once. The error is that memory was refused; the store is dropped then.
+    /// An engine that no goal was started on, without clauses, with the operators and flags before any is set, over this empty store, in which at most so many
+    /// alternatives (1 to 16,777,216) stand at once. The error is that memory was refused; the store is dropped then.
     pub fn new(alloc: Global, mut store: S, frames: u32) -> Result<Plain<S>, AllocError>
         requires substitution { (S.present store).substitution ≡ Variable }
         requires next { (S.present store).next ≡ 0 }
-        ensures engine { IfOk result (λ e. IsEngine S.present S.stands S.older e (idle_linked first_world)) }
-        ensures now { IfOk result (λ e. e.now ≡ Idle) }
+        ensures stands { IfOk result (λ e. StandsFor S.present S.stands S.older e (idle first_world)) }
+        ensures ready { IfOk result (λ e. phase_of e.now ≡ Ready) }
         ensures limit { IfOk result (λ e. e.limit ≡ frames) }
+        ensures store { IfOk result (λ e. S.present e.store ≡ S.present store) }
         ensures within { IfOk result (λ e. IsWithin e) }
     {
         let ops = OpTable::initial(alloc)?;
@@ -71,6 +72,7 @@ impl<S: Store + Drop> Plain<S> {
         requires { converted (term_of query.now) ≡ None }
         ensures started { OnOk result ((w : World) → IsFresh S.present S.stands S.older self.old w
             → Represents S.present S.stands S.older self.new (started (term_of query.now) self.old.steps w)) }
+        ensures kept { (w : World) → IsFresh S.present S.stands S.older self.old w → OnErr result (Keeps S.present S.stands S.older self.new w []) }
         ensures midway { OnOk result (phase_of self.new.now ≡ Midway) }
         ensures limit { self.new.limit ≡ self.old.limit }
         ensures settings { settings_of self.new ≡ settings_of self.old }
@@ -92,6 +94,7 @@ impl<S: Store + Drop> Plain<S> {
         requires steps { self.old.steps < 2 ^ 32 }
         ensures started { OnOk result ((w : World) → IsFresh S.present S.stands S.older self.old w
             → Represents S.present S.stands S.older self.new (started (term_of query.now) self.old.steps w)) }
+        ensures kept { (w : World) → IsFresh S.present S.stands S.older self.old w → OnErr result (Keeps S.present S.stands S.older self.new w []) }
         ensures midway { OnOk result (phase_of self.new.now ≡ Midway) }
         ensures full { result ≡ Err StoreFault.Full → S.full self.new.store }
         ensures limit { self.new.limit ≡ self.old.limit }
@@ -122,6 +125,7 @@ impl<S: Store + Drop> Plain<S> {
         requires next { (S.present self.old.store).next ≡ 0 }
         ensures started { OnOk result ((w : World) → IsEngine S.present S.stands S.older self.old (idle_linked w)
             → Represents S.present S.stands S.older self.new (started (term_of goal.now) budget w)) }
+        ensures kept { (w : World) → IsEngine S.present S.stands S.older self.old (idle_linked w) → OnErr result (Keeps S.present S.stands S.older self.new w []) }
         ensures midway { OnOk result (phase_of self.new.now ≡ Midway) }
         ensures full { result ≡ Err StoreFault.Full → S.full self.new.store }
         ensures limit { self.new.limit ≡ self.old.limit }
@@ -143,7 +147,7 @@ impl<S: Store + Drop> Plain<S> {
         requires fits { arities_fit (term_of clause.now) ≡ true }
         requires now { self.old.now ≡ Idle }
         ensures comes { (w : World) → IsEngine S.present S.stands S.older self.old (idle_linked w)
-            → Comes S.present S.stands S.older (addition (term_of clause.now) w.database) w result self.new }
+            → Comes S.present S.stands S.older (consulted (term_of clause.now) w.database) w result self.new }
         ensures now { self.new.now ≡ self.old.now }
         ensures limit { self.new.limit ≡ self.old.limit }
         ensures within { IsWithin self.old → IsWithin self.new }

@@ -3,10 +3,10 @@ use Rattle.std.proofs.Common.{◌≡◌, ℕ, true, List, zero, suc, ◌-◌, �
 use Rattle.std.proofs.lemmas.Bool.{le-leb}
 use Rattle.iso_ops.specs.Operators.{Operator}
 use Rattle.iso_ops.specs.declared.settings.Flags.{Flags}
-use Rattle.iso_model.specs.Operators.{prefix_named, right_of}
-use Rattle.iso_model.specs.Grammar.{Left, Node, applied, begins}
-use Rattle.iso_model.specs.Reading.{Outcome, ◌>>=◌, Reader, Following, prefixed, rest, operand, operator_behind, extended, climb_by, continued, term}
-use Rattle.iso_model.proofs.ReadingSteps.{continued-step}
+use Rattle.iso_model.specs.Syntax.Operators.{prefix_named, right_of}
+use Rattle.iso_model.specs.Syntax.Grammar.{Left, Node, applied, begins}
+use Rattle.iso_model.specs.Syntax.Reading.{Outcome, ◌>>=◌, Reader, Following, prefixed, rest, operand, operator_behind, extended, climb_by, continued, term}
+use Rattle.iso_model.proofs.Syntax.ReadingSteps.{continued-step}
 use Rattle.iso_read.specs.declared.clause.ReadFault.{ReadFault}
 use Rattle.iso_read.specs.declared.clause.ReadFault.TheVariants as fault
 use Rattle.iso_read.specs.Gives.{Gives}

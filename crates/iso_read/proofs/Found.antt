@@ -3,7 +3,7 @@ use Rattle.std.proofs.Common.{◌≡◌, ℕ, List, Option, Some, None, option_m
 use Rattle.iso_ops.specs.declared.specifiers.Spec.{Spec}
 use Rattle.iso_ops.specs.declared.specifiers.Kind.{Kind}
 use Rattle.iso_ops.specs.Operators.{Operator, operator, find_op, priority_and_spec}
-use Rattle.iso_model.proofs.MarkLemmas.{found_name}
+use Rattle.iso_model.proofs.Syntax.MarkLemmas.{found_name}
 
 -- an entry with the name that was looked for
 abbrev pub named_so : List ℕ → ℕ × Spec → Operator

@@ -4,9 +4,9 @@ use Rattle.std.proofs.lemmas.List.{map-append}
 use Rattle.std.proofs.lemmas.Str.{chars-nil, chars_past_char}
 use Rattle.std.specs.Str.{IsUtf8}
 use Rattle.iso_model.specs.declared.terms.Term.{Term}
-use Rattle.iso_model.specs.Terms.{term_of}
-use Rattle.iso_model.specs.Lists.{dot, list_before}
-use Rattle.iso_model.specs.Trees.{Tree, Apply, row}
+use Rattle.iso_model.specs.Terms.TermOf.{term_of}
+use Rattle.iso_model.specs.Syntax.Lists.{dot, list_before}
+use Rattle.iso_model.specs.Terms.Trees.{Tree, Apply, row}
 
 -- the last element may stand before the tail
 pub list_longer : (ts : List Tree) (t tail : Tree) → list_before (ts ++ t ∷ []) tail ≡ list_before ts (Apply dot (row (t ∷ tail ∷ [])))

@@ -2,16 +2,16 @@
 use Rattle.std.proofs.Common.{◌≡◌, List, Some, None, Err, refl, ap, sym, ◌∙◌}
 use Rattle.iso_ops.specs.Operators.{Operator, IsOpTable}
 use Rattle.iso_ops.specs.declared.settings.Flags.{Flags}
-use Rattle.iso_model.specs.Token.{Shown}
-use Rattle.iso_model.specs.ReadingLaws.{IsWellRead}
-use Rattle.iso_model.specs.Grammar.{Clause}
-use Rattle.iso_model.specs.Reading.{clause_of}
-use Rattle.iso_model.specs.Clauses.{IsNextClause, split_clause, next_clause}
+use Rattle.iso_model.specs.Syntax.Token.{Shown}
+use Rattle.iso_model.specs.Syntax.ReadingLaws.{IsWellRead}
+use Rattle.iso_model.specs.Syntax.Grammar.{Clause}
+use Rattle.iso_model.specs.Syntax.Reading.{clause_of}
+use Rattle.iso_model.specs.Syntax.Clauses.{IsNextClause, split_clause, next_clause}
 use Rattle.iso_read.specs.declared.clause.ReadFault.{ReadFault}
 use Rattle.iso_read.specs.declared.clause.ReadFault.TheVariants as fault
 use Rattle.iso_read.specs.Answers.{IsWhole, ReadsNext}
-use Rattle.iso_model.proofs.ClauseLaws.{clause_given, next_complete}
-use Rattle.iso_model.proofs.WellRead.{clause_well_read}
+use Rattle.iso_model.proofs.Syntax.ClauseLaws.{clause_given, next_complete}
+use Rattle.iso_model.proofs.Syntax.WellRead.{clause_well_read}
 
 module _ (table : List Operator) (flags : Flags) where
   pub next_read : (ts front back : List Shown) (c : Clause) → split_clause ts ≡ Some (front, back) → clause_of table flags front ≡ Some c → IsNextClause table flags ts c

@@ -1,13 +1,13 @@
 -- What a turn of the loop over arguments does.
 use Rattle.std.proofs.Common.{◌≡◌, ℕ, max, true, false, List, [], ◌∷◌, ◌++◌, length, Option, Some, None, codes, refl, ap, sym, ◌∙◌, append-nil, append_assoc, arith}
-use Rattle.iso_model.specs.Trees.{Tree}
+use Rattle.iso_model.specs.Terms.Trees.{Tree}
 use Rattle.iso_ops.specs.Operators.{Operator}
 use Rattle.iso_ops.specs.declared.settings.Flags.{Flags}
-use Rattle.iso_model.specs.Token.{Shown}
-use Rattle.iso_model.specs.Grammar.{Left, Node, Row, with_first, is_mark, next_is}
-use Rattle.iso_model.specs.Reading.{Outcome, ◌>>=◌, rest, further, elements, term}
-use Rattle.iso_model.proofs.ReadingSound.{left_at, term_sound}
-use Rattle.iso_model.proofs.ReadingSteps.{further_comma, further_end}
+use Rattle.iso_model.specs.Syntax.Token.{Shown}
+use Rattle.iso_model.specs.Syntax.Grammar.{Left, Node, Row, with_first, is_mark, next_is}
+use Rattle.iso_model.specs.Syntax.Reading.{Outcome, ◌>>=◌, rest, further, elements, term}
+use Rattle.iso_model.proofs.Syntax.ReadingSound.{left_at, term_sound}
+use Rattle.iso_model.proofs.Syntax.ReadingSteps.{further_comma, further_end}
 
 -- the arguments that were read, with these before them
 abbrev pub behind_these : List Tree → ℕ → Outcome Row → Outcome Row

@@ -1,6 +1,6 @@
 -- What a turn of the loop over a clause's tokens does.
 use Rattle.std.proofs.Common.{List, ◌++◌, Option, Some, None}
-use Rattle.iso_model.specs.Token.{Shown}
+use Rattle.iso_model.specs.Syntax.Token.{Shown}
 
 -- what was split off, with these tokens before it
 abbrev pub behind_tokens : List Shown → Option (List Shown × List Shown) → Option (List Shown × List Shown)

@@ -3,11 +3,11 @@ use Rattle.std.specs.Prelude.{◌≡◌, ◌≢◌, ◌<◌, map, length, List, 
 use Rattle.std.specs.String.{string_bytes}
 use Rattle.iso_ops.specs.Operators.{Operator}
 use Rattle.iso_ops.specs.declared.settings.Flags.{Flags}
-use Rattle.iso_model.specs.Token.{Shown}
-use Rattle.iso_model.specs.Grammar.{Clause}
-use Rattle.iso_model.specs.Clauses.{IsNextClause, next_clause, behind_clause}
-use Rattle.iso_model.specs.ReadingLaws.{IsWellRead}
-use Rattle.iso_model.specs.Terms.{term_of}
+use Rattle.iso_model.specs.Syntax.Token.{Shown}
+use Rattle.iso_model.specs.Syntax.Grammar.{Clause}
+use Rattle.iso_model.specs.Syntax.Clauses.{IsNextClause, next_clause, behind_clause}
+use Rattle.iso_model.specs.Syntax.ReadingLaws.{IsWellRead}
+use Rattle.iso_model.specs.Terms.TermOf.{term_of}
 use Rattle.iso_read.specs.declared.clause.Read.{Read}
 use Rattle.iso_read.specs.declared.clause.ReadFault.{ReadFault}
 use Rattle.iso_read.specs.declared.clause.ReadFault.TheVariants as fault

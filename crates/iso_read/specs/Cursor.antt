@@ -1,7 +1,7 @@
 -- What is left of a clause, as clauses see it.
 use Rattle.std.specs.Prelude.{map}
 use Rattle.std.specs.String.{string_bytes}
-use Rattle.iso_model.specs.Grammar.{Left}
+use Rattle.iso_model.specs.Syntax.Grammar.{Left}
 use Rattle.iso_token.specs.Shows.{shown}
 use Rattle.iso_read.specs.declared.input.Input.TheInside.{Inside}
 

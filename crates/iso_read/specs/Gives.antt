@@ -1,7 +1,7 @@
 -- What a step of the reader gives.
 use Rattle.std.specs.Prelude.{◌≡◌, Some, None, Result, Ok, Err}
-use Rattle.iso_model.specs.Grammar.{Left}
-use Rattle.iso_model.specs.Reading.{Outcome}
+use Rattle.iso_model.specs.Syntax.Grammar.{Left}
+use Rattle.iso_model.specs.Syntax.Reading.{Outcome}
 use Rattle.iso_read.specs.declared.clause.ReadFault.{ReadFault}
 use Rattle.iso_read.specs.declared.clause.ReadFault.TheVariants as fault
 

@@ -2,9 +2,9 @@
 use Rattle.std.specs.Prelude.{ℕ, map}
 use Rattle.std.specs.String.{string_bytes}
 use Rattle.iso_ops.specs.Operators as operators
-use Rattle.iso_model.specs.Grammar as grammar
-use Rattle.iso_model.specs.Reading as reading
-use Rattle.iso_model.specs.Terms.{term_of}
+use Rattle.iso_model.specs.Syntax.Grammar as grammar
+use Rattle.iso_model.specs.Syntax.Reading as reading
+use Rattle.iso_model.specs.Terms.TermOf.{term_of}
 use Rattle.iso_read.specs.declared.language.Language.{Language}
 use Rattle.iso_read.specs.declared.operators.Operator.{Operator}
 use Rattle.iso_read.specs.declared.operators.Following.{Following}

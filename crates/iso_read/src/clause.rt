@@ -1,7 +1,7 @@
 //! A clause: the tokens before the next end token, and the term that they are (6.2).
 ghost use Rattle.std.specs.Prelude.{◌≡◌, ◌≤◌, [], ◌∷◌, map, length, Some, None, IfOk, MatchOption};
-ghost use Rattle.iso_model.specs.Clauses.{split_clause};
-ghost use Rattle.iso_model.specs.Reading.{clause_of};
+ghost use Rattle.iso_model.specs.Syntax.Clauses.{split_clause};
+ghost use Rattle.iso_model.specs.Syntax.Reading.{clause_of};
 ghost use Rattle.iso_read.specs.Answers.{IsWhole, ReadsNext, GivesNext, StandsBehind, TakesSome, IsWellFormed};
 ghost use Rattle.iso_token.specs.Shows.{shown};
 ghost use Rattle.iso_read.specs.declared.clause.ReadFault.TheVariants.{NoMemory};
@@ -76,7 +76,7 @@ fn clause_from<'t>(
 }
 
 /// The term that all of these tokens are.
-#[tactic(auto, unfolding(iso_model::specs::Reading::clause_of))]
+#[tactic(auto, unfolding(iso_model::specs::Syntax::Reading::clause_of))]
 fn whole(language: Language<'_>, clause: &[Token<'_>]) -> Result<Read, ReadFault>
     ensures { IsWhole (clause_of language.entry.ops.now language.entry.flags.now (map shown clause.now)) result }
 {

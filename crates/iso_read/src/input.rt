@@ -2,8 +2,8 @@
 ghost use Rattle.std.specs.Prelude.{◌≡◌, ◌<◌, ◌++◌, [], ◌∷◌, length, map, not, position, nat_lt, if◌then◌else◌, IfOk, MatchOption};
 ghost use Rattle.std.specs.Str.{bytes_eq};
 ghost use Rattle.std.specs.String.{string_bytes};
-ghost use Rattle.iso_model.specs.Grammar as model;
-ghost use Rattle.iso_model.specs.Reading.{rest};
+ghost use Rattle.iso_model.specs.Syntax.Grammar as model;
+ghost use Rattle.iso_model.specs.Syntax.Reading.{rest};
 ghost use Rattle.iso_token.specs.Shows.{shown};
 
 use iso_token::{Kind, Token};
@@ -19,7 +19,7 @@ pub struct Input<'c> {
 }
 
 impl<'c> Model for Input<'c> {
-    ghost use Rattle.iso_model.specs.Grammar.{Left};
+    ghost use Rattle.iso_model.specs.Syntax.Grammar.{Left};
 
     ghost Value = { Left };
 

@@ -1,8 +1,8 @@
 //! Lists (6.3.5), and what a double quoted item stands for (6.3.7).
 ghost use Rattle.std.specs.Prelude.{◌≡◌, [], ◌∷◌, map, chars, codes, pos, encode_utf8, IfOk};
-ghost use Rattle.iso_model.specs.Lists as model;
-ghost use Rattle.iso_model.specs.Terms.{term_of};
-ghost use Rattle.iso_model.specs.Trees.{Integer, Name, Apply, row};
+ghost use Rattle.iso_model.specs.Syntax.Lists as model;
+ghost use Rattle.iso_model.specs.Terms.TermOf.{term_of};
+ghost use Rattle.iso_model.specs.Terms.Trees.{Integer, Name, Apply, row};
 
 use iso_model::Term;
 use iso_ops::DoubleQuotes;

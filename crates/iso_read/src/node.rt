@@ -1,11 +1,11 @@
 //! Terms as they are read, and which of them an operator takes as its operands.
 ghost use Rattle.std.specs.Prelude.{◌≡◌, ◌<◌, ◌+◌, ◌^◌, [], ◌∷◌, IfOk, max};
-ghost use Rattle.iso_model.specs.Grammar as model;
-ghost use Rattle.iso_model.specs.Lists.{curly};
-ghost use Rattle.iso_model.specs.Operators as operators;
-ghost use Rattle.iso_model.specs.Reading as reading;
-ghost use Rattle.iso_model.specs.Terms.{term_of};
-ghost use Rattle.iso_model.specs.Trees.{Apply, row};
+ghost use Rattle.iso_model.specs.Syntax.Grammar as model;
+ghost use Rattle.iso_model.specs.Syntax.Lists.{curly};
+ghost use Rattle.iso_model.specs.Syntax.Operators as operators;
+ghost use Rattle.iso_model.specs.Syntax.Reading as reading;
+ghost use Rattle.iso_model.specs.Terms.TermOf.{term_of};
+ghost use Rattle.iso_model.specs.Terms.Trees.{Apply, row};
 ghost use Rattle.iso_read.specs.Views.{node_of, operator_of};
 
 use crate::operators::Operator;

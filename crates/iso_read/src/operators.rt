@@ -1,9 +1,9 @@
 //! The operators (6.3.4) that tokens are, and whether tokens can begin a prefix operator's operand.
 ghost use Rattle.std.specs.Prelude.{◌≡◌, option_map, map, IfOk};
 ghost use Rattle.std.specs.String.{string_bytes};
-ghost use Rattle.iso_model.specs.Grammar as grammar;
-ghost use Rattle.iso_model.specs.Operators as model;
-ghost use Rattle.iso_model.specs.Reading as reading;
+ghost use Rattle.iso_model.specs.Syntax.Grammar as grammar;
+ghost use Rattle.iso_model.specs.Syntax.Operators as model;
+ghost use Rattle.iso_model.specs.Syntax.Reading as reading;
 ghost use Rattle.iso_read.specs.Views.{operator_of, following_of};
 ghost use Rattle.iso_token.specs.Shows.{shown};
 

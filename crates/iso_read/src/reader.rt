@@ -1,11 +1,11 @@
 //! Terms from tokens: an operand, and then the operators that go on from it, by precedence (6.3).
 ghost use Rattle.std.specs.Prelude.{◌≡◌, ◌<◌, ◌≤◌, ◌+◌, ◌^◌, codes, length, map, max, option_map, IfOk, OnOk};
 ghost use Rattle.std.specs.String.{string_bytes};
-ghost use Rattle.iso_model.specs.Grammar as grammar;
-ghost use Rattle.iso_model.specs.Lists as lists;
-ghost use Rattle.iso_model.specs.Operators.{prefix_named};
-ghost use Rattle.iso_model.specs.Reading as reading;
-ghost use Rattle.iso_model.specs.Terms.{term_of};
+ghost use Rattle.iso_model.specs.Syntax.Grammar as grammar;
+ghost use Rattle.iso_model.specs.Syntax.Lists as lists;
+ghost use Rattle.iso_model.specs.Syntax.Operators.{prefix_named};
+ghost use Rattle.iso_model.specs.Syntax.Reading as reading;
+ghost use Rattle.iso_model.specs.Terms.TermOf.{term_of};
 ghost use Rattle.iso_read.specs.Gives.{Gives};
 ghost use Rattle.iso_read.specs.Views.{node_of, row_of, following_of, terms_in};
 ghost use Rattle.iso_token.specs.Shows.{shown};
@@ -29,7 +29,7 @@ const BRACKETED_PRIORITY: u16 = 1200;
 
 /// A term of at most this priority, in which nothing stands as deep as `depth`.
 #[cycle(reader)]
-#[tactic(auto, unfolding(iso_model::specs::Reading::term))]
+#[tactic(auto, unfolding(iso_model::specs::Syntax::Reading::term))]
 pub fn read_term(
     language: Language<'_>,
     depth: usize,
@@ -52,7 +52,7 @@ pub fn read_term(
 
 /// What stands where an operand may begin; its parts stand less deep than `depth`.
 #[cycle(reader)]
-#[tactic(auto, unfolding(iso_model::specs::Reading::operand))]
+#[tactic(auto, unfolding(iso_model::specs::Syntax::Reading::operand))]
 fn operand(language: Language<'_>, depth: usize, input: &mut Input<'_>) -> Result<Node, ReadFault>
     ensures read { Gives node_of (reading.operand language.entry.ops.now language.entry.flags.now (terms_in language.entry depth) input.old) result input.new }
     ensures height { IfOk result (λ node. node.height ≤ depth) }
@@ -81,7 +81,7 @@ fn operand(language: Language<'_>, depth: usize, input: &mut Input<'_>) -> Resul
 /// What a name, unquoted or not, stands for: the functor of the arguments that follow directly (6.3.3), the sign of the
 /// digits that follow directly (6.3.1.2), a prefix operator (6.3.4.2) or an atom (6.3.1.3).
 #[cycle(reader)]
-#[tactic(auto, unfolding(iso_model::specs::Reading::named))]
+#[tactic(auto, unfolding(iso_model::specs::Syntax::Reading::named))]
 fn named(
     language: Language<'_>,
     depth: usize,
@@ -133,7 +133,7 @@ fn prefixed(
 
 /// The compound of this name whose arguments are next (6.3.3).
 #[cycle(reader)]
-#[tactic(auto, unfolding(iso_model::specs::Reading::compound))]
+#[tactic(auto, unfolding(iso_model::specs::Syntax::Reading::compound))]
 fn compound(
     language: Language<'_>,
     depth: usize,
@@ -153,7 +153,7 @@ fn compound(
 
 /// One or more terms with commas between them.
 #[cycle(reader)]
-#[tactic(auto, unfolding(iso_model::specs::Reading::elements))]
+#[tactic(auto, unfolding(iso_model::specs::Syntax::Reading::elements))]
 fn elements(language: Language<'_>, depth: usize, input: &mut Input<'_>) -> Result<Row, ReadFault>
     ensures read { Gives row_of (reading.elements (terms_in language.entry depth) input.old) result input.new }
     ensures height { IfOk result (λ row. row.height < depth) }
@@ -174,7 +174,7 @@ fn elements(language: Language<'_>, depth: usize, input: &mut Input<'_>) -> Resu
 /// What a mark that is no comma, bar or closing bracket stands before: a term in brackets or braces, a list, or what
 /// the names `[]` and `{}` stand for.
 #[cycle(reader)]
-#[tactic(auto, unfolding(iso_model::specs::Reading::punctuated))]
+#[tactic(auto, unfolding(iso_model::specs::Syntax::Reading::punctuated))]
 fn punctuated(
     language: Language<'_>,
     depth: usize,
@@ -207,7 +207,7 @@ fn punctuated(
 
 /// The term in brackets, of which the first is behind (6.3.4.1).
 #[cycle(reader)]
-#[tactic(auto, unfolding(iso_model::specs::Reading::bracketed))]
+#[tactic(auto, unfolding(iso_model::specs::Syntax::Reading::bracketed))]
 fn bracketed(language: Language<'_>, depth: usize, input: &mut Input<'_>) -> Result<Node, ReadFault>
     ensures read { Gives node_of (reading.bracketed (terms_in language.entry depth) input.old) result input.new }
     ensures height { IfOk result (λ node. node.height ≤ depth) }
@@ -222,7 +222,7 @@ fn bracketed(language: Language<'_>, depth: usize, input: &mut Input<'_>) -> Res
 
 /// The term in braces, of which the first is behind (6.3.6).
 #[cycle(reader)]
-#[tactic(auto, unfolding(iso_model::specs::Reading::braced))]
+#[tactic(auto, unfolding(iso_model::specs::Syntax::Reading::braced))]
 fn braced(language: Language<'_>, depth: usize, input: &mut Input<'_>) -> Result<Node, ReadFault>
     ensures read { Gives node_of (reading.braced (terms_in language.entry depth) input.old) result input.new }
     ensures height { IfOk result (λ node. node.height ≤ depth) }
@@ -237,7 +237,7 @@ fn braced(language: Language<'_>, depth: usize, input: &mut Input<'_>) -> Result
 
 /// The list whose first bracket is behind (6.3.5).
 #[cycle(reader)]
-#[tactic(auto, unfolding(iso_model::specs::Reading::listed))]
+#[tactic(auto, unfolding(iso_model::specs::Syntax::Reading::listed))]
 fn listed(language: Language<'_>, depth: usize, input: &mut Input<'_>) -> Result<Node, ReadFault>
     ensures read { Gives node_of (reading.listed (terms_in language.entry depth) input.old) result input.new }
     ensures height { IfOk result (λ node. node.height ≤ depth) }
@@ -269,7 +269,7 @@ fn list_closed(
 
 /// What closes a list behind its elements: a tail and the last bracket, or that bracket alone.
 #[cycle(reader)]
-#[tactic(auto, unfolding(iso_model::specs::Reading::list_end))]
+#[tactic(auto, unfolding(iso_model::specs::Syntax::Reading::list_end))]
 fn list_end(
     language: Language<'_>,
     depth: usize,
@@ -290,7 +290,7 @@ fn list_end(
 }
 
 /// The operator that the next token is, where it may take this operand on its left.
-#[tactic(auto, unfolding(iso_model::specs::Reading::operator_behind))]
+#[tactic(auto, unfolding(iso_model::specs::Syntax::Reading::operator_behind))]
 fn operator_behind(
     language: Language<'_>,
     most: u16,
@@ -336,7 +336,7 @@ fn climb(
 
 /// An operand with the operator behind it, and that operator's right operand where it has one.
 #[cycle(reader)]
-#[tactic(auto, unfolding(iso_model::specs::Reading::extended))]
+#[tactic(auto, unfolding(iso_model::specs::Syntax::Reading::extended))]
 fn extended(
     language: Language<'_>,
     depth: usize,

@@ -1,11 +1,11 @@
 //! Terms of one token: variables (6.3.2), integers (6.3.1.1), negative literals (6.3.1.2) and double quoted items
 //! (6.3.7).
 ghost use Rattle.std.specs.Prelude.{◌≡◌, ◌≤◌, ◌+◌, ◌^◌, Some, None, option_map, pos, neg_ℤ, IfOk, MatchOption};
-ghost use Rattle.iso_model.specs.Grammar as grammar;
-ghost use Rattle.iso_model.specs.Lists as lists;
-ghost use Rattle.iso_model.specs.Reading as reading;
-ghost use Rattle.iso_model.specs.Token.{magnitude, content};
-ghost use Rattle.iso_model.specs.Trees.{Variable};
+ghost use Rattle.iso_model.specs.Syntax.Grammar as grammar;
+ghost use Rattle.iso_model.specs.Syntax.Lists as lists;
+ghost use Rattle.iso_model.specs.Syntax.Reading as reading;
+ghost use Rattle.iso_model.specs.Syntax.Token.{magnitude, content};
+ghost use Rattle.iso_model.specs.Terms.Trees.{Variable};
 ghost use Rattle.iso_read.specs.Views.{node_of};
 ghost use Rattle.iso_token.specs.Shows.{shown};
 

@@ -1,19 +1,20 @@
 -- What consulting a term comes to.
 use Rattle.std.proofs.Common.{◌≡◌, ℕ, zero, suc, ◌+◌, ◌-◌, ◌≤◌, ◌<◌, min, true, false, List, [], ◌∷◌, ◌++◌, length, codes, Option, Some, None, Result, Err, IfSome, refl, ap, ap₂, subst, ◌∙◌, arith}
 use Rattle.std.specs.Fmt.{decimal}
-use Rattle.iso_model.specs.Trees.{Tree}
-use Rattle.iso_model.specs.Terms.{term_of}
-use Rattle.iso_model.specs.Additions.{Addition, Adds, Refuses, addition}
-use Rattle.iso_model.specs.Engines.{Phase, Ready, Consults}
-use Rattle.iso_model.specs.Walker.{World, State, idle}
-use Rattle.iso_model.specs.Lines.{counted, text_of, refused_line, skipped_line, syntax_error_line}
-use Rattle.iso_model.specs.Token.{Shown}
+use Rattle.iso_model.specs.Terms.Trees.{Tree}
+use Rattle.iso_model.specs.Terms.TermOf.{term_of}
+use Rattle.iso_model.specs.Search.Additions.{Addition, Adds, Refuses, consulted}
+use Rattle.iso_model.specs.Search.Engines.{Phase, Ready, Consults}
+use Rattle.iso_model.specs.Search.Walker.{World, State, idle}
+use Rattle.iso_model.specs.Session.Lines.{counted, text_of, refused_line, skipped_line, syntax_error_line}
+use Rattle.iso_model.specs.Syntax.Token.{Shown}
 use Rattle.iso_ops.specs.Operators.{Operator}
 use Rattle.iso_ops.specs.declared.settings.Flags.{Flags}
-use Rattle.iso_model.specs.Items.{Item, Unreadable, Taken, next_item}
-use Rattle.iso_model.specs.Sessions.{Script, is_skipped, added_script, read_script, term_script, text_by, text_script}
+use Rattle.iso_model.specs.Syntax.Items.{Item, Unreadable, Taken, next_item}
+use Rattle.iso_model.specs.Session.Sessions.{Script, is_skipped, added_script, read_script, term_script, text_by, text_script}
 use Rattle.iso_model.specs.declared.pauses.Ball.{Ball}
 use Rattle.iso_model.specs.declared.pauses.AddFault.TheVariants as add
+use Rattle.iso_model.specs.declared.limit.Limit.{Limit}
 use Rattle.iso_session.specs.declared.items.Item.{Item as RustItem}
 use Rattle.iso_session.specs.Read.{item_read, found}
 use Rattle.iso_session.specs.declared.flows.Flow.{Flow}
@@ -33,37 +34,37 @@ abbrev unreadable_by : List ℕ → List ℕ
 unreadable_by number = codes "syntax error in clause " ++ number
 
 -- the term could not be read
-pub unreadable : (budget : ℕ) (Stands : State → Type 0) (now : Phase) (old new : Place) (count k : ℕ) (w : World) (next : World → Script) (r : Result Flow Fault)
+pub unreadable : (budget : ℕ) (Stands : State → Type 0) (May : Limit → State → Type 0) (now : Phase) (old new : Place) (count k : ℕ) (w : World) (next : World → Script) (r : Result Flow Fault)
     → Stands (idle w) → now ≡ Ready → IsCount count k → PutsLine (syntax_error_line count) flow.On old new r
-    → Does budget Stands now old new (term_script k Unreadable w next) next r
-unreadable budget Stands now old new count k w next r stands ready counts puts =
+    → Does budget Stands May now old new (term_script k Unreadable w next) next r
+unreadable budget Stands May now old new count k w next r stands ready counts puts =
     let line = subst (λ z. PutsLine z flow.On old new r) (ap unreadable_by (counted_same count k counts)) puts in
-    puts_on budget Stands now old new (syntax_error_line k) w next r line stands ready
+    puts_on budget Stands May now old new (syntax_error_line k) w next r line stands ready
 
 abbrev skipped_as : List ℕ → List ℕ
 skipped_as number = codes "clause " ++ (number ++ codes " skipped")
 
 -- the term is passed over
-pub skipped : (budget : ℕ) (Stands : State → Type 0) (now : Phase) (old new : Place) (count k : ℕ) (t : Tree) (w : World) (next : World → Script) (r : Result Flow Fault)
+pub skipped : (budget : ℕ) (Stands : State → Type 0) (May : Limit → State → Type 0) (now : Phase) (old new : Place) (count k : ℕ) (t : Tree) (w : World) (next : World → Script) (r : Result Flow Fault)
     → Stands (idle w) → now ≡ Ready → IsCount count k → is_skipped t ≡ true → PutsLine (skipped_line count) flow.On old new r
-    → Does budget Stands now old new (read_script k t w next) next r
-skipped budget Stands now old new count k t w next r stands ready counts is puts =
+    → Does budget Stands May now old new (read_script k t w next) next r
+skipped budget Stands May now old new count k t w next r stands ready counts is puts =
     let line = subst (λ z. PutsLine z flow.On old new r) (ap skipped_as (counted_same count k counts)) puts in
-    rw is (puts_on budget Stands now old new (skipped_line k) w next r line stands ready)
+    rw is (puts_on budget Stands May now old new (skipped_line k) w next r line stands ready)
 
 -- any other term is a clause
-pub not_skipped : (k : ℕ) (t : Tree) (w : World) (next : World → Script) → is_skipped t ≡ false → read_script k t w next ≡ added_script k (addition t w.database) w next
+pub not_skipped : (k : ℕ) (t : Tree) (w : World) (next : World → Script) → is_skipped t ≡ false → read_script k t w next ≡ added_script k (consulted t w.database) w next
 not_skipped k t w next is = rw is refl
 
 -- the clause was refused with this ball, where these are the operators of what the engine stands for
-pub refused : (budget : ℕ) (Stands : State → Type 0) (table : List Operator) → ((t : State) → Stands t → table ≡ t.world.operators) → (now : Phase) (old new : Place) (count k : ℕ) (a : Addition) (w : World) (ball : Ball) (next : World → Script) (r : Result Flow Fault)
+pub refused : (budget : ℕ) (Stands : State → Type 0) (May : Limit → State → Type 0) (table : List Operator) → ((t : State) → Stands t → table ≡ t.world.operators) → (now : Phase) (old new : Place) (count k : ℕ) (a : Addition) (w : World) (ball : Ball) (next : World → Script) (r : Result Flow Fault)
     → Consults a (idle w) (Err (add.Refused ball)) Stands → now ≡ Ready → IsCount count k → PutsLine (refused_line table count (term_of ball.term)) flow.On old new r
-    → Does budget Stands now old new (added_script k a w next) next r
-refused budget Stands table ops now old new count k (Adds db) w ball next r c ready counts puts = absurd c
-refused budget Stands table ops now old new count k (Refuses error) w ball next r c ready counts puts =
+    → Does budget Stands May now old new (added_script k a w next) next r
+refused budget Stands May table ops now old new count k (Adds db) w ball next r c ready counts puts = absurd c
+refused budget Stands May table ops now old new count k (Refuses error) w ball next r c ready counts puts =
     let same = ap (λ z. refused_by table z (term_of ball.term)) (counted_same count k counts) ∙ ap₂ (λ o z. refused_line o k z) (ops (idle w) c.1) c.0 in
     let line = subst (λ z. PutsLine z flow.On old new r) same puts in
-    puts_on budget Stands now old new (refused_line w.operators k error) w next r line c.1 ready
+    puts_on budget Stands May now old new (refused_line w.operators k error) w next r line c.1 ready
 
 -- How far the text was consulted: what is left of it, and where its script is.
 pub record TextPlace (Stands : State → Type 0) (count : ℕ) (ts : List Shown) (old new : Place) (script : Script) (next : World → Script) : Type 0 where

@@ -1,21 +1,21 @@
 -- How a session ends.
-use Rattle.std.proofs.Common.{◌≡◌, ℕ, Bool, false, List, [], ◌∷◌, ◌++◌, Option, Result, Ok, Err, IfOk, OnOk, OnErr, refl, sym, ap, subst, ◌∙◌, append-nil}
+use Rattle.std.proofs.Common.{◌≡◌, ℕ, Bool, false, List, [], ◌∷◌, ◌++◌, Option, Result, Ok, Err, IfOk, OnOk, OnErr, inl, inr, refl, sym, ap, subst, ◌∙◌, append-nil}
 use Rattle.std.specs.Io.KnownBytes.{Appends}
 use Rattle.std.specs.Result.{IsErr}
-use Rattle.iso_model.specs.Engines.{Phase, Ready}
-use Rattle.iso_model.specs.Walker.{State}
-use Rattle.iso_model.specs.Sessions.{Piece, Line, Script, Closes, Done, Halts, SessionEnd, prepend, piece_bytes, pieces_bytes, script_bytes, script_end}
-use Rattle.iso_model.specs.Beginnings as session
-use Rattle.iso_model.specs.Beginnings.{Begins, IsWritten, whole, cut, cut_text, limit_line, IsCut, IsBroken, Writes, EngineStops, Limit, Outcome, Closed, Limited, Broken, AnyRest, Memory}
-use Rattle.iso_session.specs.declared.flows.Limit.TheVariants as limit
+use Rattle.iso_model.specs.Search.Engines.{Phase, Ready, MayMeet, KeepsLimits}
+use Rattle.iso_model.specs.Search.Walker.{State, started}
+use Rattle.iso_model.specs.Search.Runs.{ComesOver}
+use Rattle.iso_model.specs.Session.Sessions.{Piece, Line, Script, Closes, Done, Halts, SessionEnd, prepend, piece_bytes, pieces_bytes, script_bytes, script_end, query_goal}
+use Rattle.iso_model.specs.Session.Beginnings.{Begins, IsWritten, whole, cut, cut_text, limit_line, IsBroken, Writes, StopsAt, before_run, within_run, further_on, EngineStops, WalkStops, Outcome, Closed, Limited, Broken}
+use Rattle.iso_model.specs.declared.limit.Limit.{Limit}
+use Rattle.iso_model.specs.declared.limit.Limit.TheVariants as limit
 use Rattle.iso_session.specs.declared.flows.Flow.{Flow}
 use Rattle.iso_session.specs.declared.flows.Flow.TheVariants as flow
 use Rattle.iso_session.specs.declared.statuses.Ended.{Ended}
 use Rattle.iso_session.specs.declared.statuses.Fault.{Fault}
 use Rattle.iso_session.specs.Progress.{Place, outcome_of, within_after, Advances, Does, ended_of, closing_bytes}
 use Rattle.iso_session.proofs.WrittenLemmas.{appends_more, begins_behind}
-use Rattle.iso_session.proofs.QueryLemmas.{stops_before}
-use Rattle.iso_session.proofs.ProgressLemmas.{pieces_bytes-append, script_bytes-prepend}
+use Rattle.iso_session.proofs.ProgressLemmas.{pieces_bytes-append, script_bytes-prepend, stops_here}
 
 script_end-prepend : (ps : List Piece) (s : Script) → script_end (prepend ps s) ≡ script_end s
 script_end-prepend [] s = refl
@@ -33,19 +33,19 @@ all_written old mid new script ending h none =
     let same = whole_bytes false h.gave ending script h.is ∙ sym (append-nil (pieces_bytes false h.gave)) in
     (rw same bytes, sym (ap script_end h.is ∙ script_end-prepend h.gave (Closes ending)))
 
-cut_bytes : (gave : List Piece) (l : session.Limit) → cut_text gave l ≡ pieces_bytes false gave ++ piece_bytes (within_after false gave) (Line (limit_line l))
+cut_bytes : (gave : List Piece) (l : Limit) → cut_text gave l ≡ pieces_bytes false gave ++ piece_bytes (within_after false gave) (Line (limit_line l))
 cut_bytes gave l =
     pieces_bytes-append false gave (Line (limit_line l) ∷ [])
     ∙ ap (λ z. pieces_bytes false gave ++ z) (append-nil (piece_bytes (within_after false gave) (Line (limit_line l))))
 
 -- a limit's line was written behind what was given
-cut_written : (old : Option (List ℕ)) (mid : Place) (new : Option (List ℕ)) (script rest : Script) (l : session.Limit)
+cut_written : (old : Option (List ℕ)) (mid : Place) (new : Option (List ℕ)) (script rest : Script) (l : Limit)
     → (h : Advances (old, false) mid script rest) → Appends mid.0 new (piece_bytes mid.1 (Line (limit_line l))) → Appends old new (cut_text h.gave l)
 cut_written old mid new script rest l h line =
     let there = subst (λ w. Appends mid.0 new (piece_bytes w (Line (limit_line l)))) h.within line in
     rw (cut_bytes h.gave l) (appends_more old mid.0 new (pieces_bytes false h.gave) (piece_bytes (within_after false h.gave) (Line (limit_line l))) h.bytes there)
 
-cut_begun : (P : Limit → Script → Type 0) (old : Option (List ℕ)) (mid : Place) (new : Option (List ℕ)) (script rest : Script) (l : session.Limit)
+cut_begun : (P : Limit → Script → Type 0) (old : Option (List ℕ)) (mid : Place) (new : Option (List ℕ)) (script rest : Script) (l : Limit)
     → (h : Advances (old, false) mid script rest) → P l rest → Begins mid.0 new (piece_bytes mid.1 (Line (limit_line l))) → IsBroken script P old new
 cut_begun P old mid new script rest l h stops line =
     let there = subst (λ w. Begins mid.0 new (piece_bytes w (Line (limit_line l)))) h.within line in
@@ -65,45 +65,83 @@ all_begun P old mid new script ending h none =
     all_broken P old new script (rw same (begins_behind old mid.0 new (pieces_bytes false h.gave) [] h.bytes none))
 
 -- the session was closed behind its last part
-pub closes : (budget : ℕ) (Stands : State → Type 0) (now : Phase) (old : Option (List ℕ)) (mid : Place) (new : Option (List ℕ)) (script : Script) (f : Flow) (r : Result Ended Fault)
-    → Does budget Stands now (old, false) mid script (λ _. Closes Done) (Ok f) → IfOk r (λ e. e ≡ ended_of f)
+pub closes : (budget : ℕ) (Stands : State → Type 0) (May : Limit → State → Type 0) (now : Phase) (old : Option (List ℕ)) (mid : Place) (new : Option (List ℕ)) (script : Script) (f : Flow) (r : Result Ended Fault)
+    → Does budget Stands May now (old, false) mid script (λ _. Closes Done) (Ok f) → IfOk r (λ e. e ≡ ended_of f)
     → OnOk r (Appends mid.0 new (closing_bytes mid.1 f)) → OnErr r (Begins mid.0 new (closing_bytes mid.1 f))
-    → Writes script (EngineStops budget Stands now script) old new (outcome_of r)
-closes budget Stands now old mid new script flow.On (Ok e) d is ok err = rw is (all_written old mid new script Done d.advances ok)
-closes budget Stands now old mid new script (flow.Halts n) (Ok e) d is ok err = rw is (all_written old mid new script (Halts n) d ok)
-closes budget Stands now old mid new script (flow.Stops limit.Heap) (Ok e) d is ok err =
-    rw is (record { gave = d.advances.gave; rest = d.rest; is = d.advances.is; bytes = cut_written old mid new script d.rest session.Heap d.advances ok; stands = d.stops })
-closes budget Stands now old mid new script (flow.Stops limit.Frames) (Ok e) d is ok err =
-    rw is (record { gave = d.advances.gave; rest = d.rest; is = d.advances.is; bytes = cut_written old mid new script d.rest session.Frames d.advances ok; stands = d.stops })
-closes budget Stands now old mid new script (flow.Stops limit.Memory) (Ok e) d is ok err =
-    rw is (record { gave = d.advances.gave; rest = d.rest; is = d.advances.is; bytes = cut_written old mid new script d.rest session.Memory d.advances ok; stands = d.stops })
-closes budget Stands now old mid new script flow.On (Err e) d is ok err = all_begun (EngineStops budget Stands now script) old mid new script Done d.advances err
-closes budget Stands now old mid new script (flow.Halts n) (Err e) d is ok err = all_begun (EngineStops budget Stands now script) old mid new script (Halts n) d err
-closes budget Stands now old mid new script (flow.Stops limit.Heap) (Err e) d is ok err = cut_begun (EngineStops budget Stands now script) old mid new script d.rest session.Heap d.advances d.stops err
-closes budget Stands now old mid new script (flow.Stops limit.Frames) (Err e) d is ok err = cut_begun (EngineStops budget Stands now script) old mid new script d.rest session.Frames d.advances d.stops err
-closes budget Stands now old mid new script (flow.Stops limit.Memory) (Err e) d is ok err = cut_begun (EngineStops budget Stands now script) old mid new script d.rest session.Memory d.advances d.stops err
+    → Writes script (EngineStops budget Stands May now script) old new (outcome_of r)
+closes budget Stands May now old mid new script flow.On (Ok e) d is ok err = rw is (all_written old mid new script Done d.advances ok)
+closes budget Stands May now old mid new script (flow.Halts n) (Ok e) d is ok err = rw is (all_written old mid new script (Halts n) d ok)
+closes budget Stands May now old mid new script (flow.Stops limit.Heap) (Ok e) d is ok err =
+    rw is (record { gave = d.advances.gave; rest = d.rest; is = d.advances.is; bytes = cut_written old mid new script d.rest limit.Heap d.advances ok; stands = d.stops })
+closes budget Stands May now old mid new script (flow.Stops limit.Frames) (Ok e) d is ok err =
+    rw is (record { gave = d.advances.gave; rest = d.rest; is = d.advances.is; bytes = cut_written old mid new script d.rest limit.Frames d.advances ok; stands = d.stops })
+closes budget Stands May now old mid new script (flow.Stops limit.Memory) (Ok e) d is ok err =
+    rw is (record { gave = d.advances.gave; rest = d.rest; is = d.advances.is; bytes = cut_written old mid new script d.rest limit.Memory d.advances ok; stands = d.stops })
+closes budget Stands May now old mid new script flow.On (Err e) d is ok err = all_begun (EngineStops budget Stands May now script) old mid new script Done d.advances err
+closes budget Stands May now old mid new script (flow.Halts n) (Err e) d is ok err = all_begun (EngineStops budget Stands May now script) old mid new script (Halts n) d err
+closes budget Stands May now old mid new script (flow.Stops limit.Heap) (Err e) d is ok err = cut_begun (EngineStops budget Stands May now script) old mid new script d.rest limit.Heap d.advances d.stops err
+closes budget Stands May now old mid new script (flow.Stops limit.Frames) (Err e) d is ok err = cut_begun (EngineStops budget Stands May now script) old mid new script d.rest limit.Frames d.advances d.stops err
+closes budget Stands May now old mid new script (flow.Stops limit.Memory) (Err e) d is ok err = cut_begun (EngineStops budget Stands May now script) old mid new script d.rest limit.Memory d.advances d.stops err
 
 -- a write failed before the session was closed
-pub breaks : (budget : ℕ) (Stands : State → Type 0) (now : Phase) (old new : Option (List ℕ)) (script : Script) (r : Result Ended Fault)
-    → IsErr r → Begins old new (script_bytes false script) → Writes script (EngineStops budget Stands now script) old new (outcome_of r)
-breaks budget Stands now old new script (Ok e) failed b = cc
-breaks budget Stands now old new script (Err e) failed b = all_broken (EngineStops budget Stands now script) old new script b
+pub breaks : (budget : ℕ) (Stands : State → Type 0) (May : Limit → State → Type 0) (now : Phase) (old new : Option (List ℕ)) (script : Script) (r : Result Ended Fault)
+    → IsErr r → Begins old new (script_bytes false script) → Writes script (EngineStops budget Stands May now script) old new (outcome_of r)
+breaks budget Stands May now old new script (Ok e) failed b = cc
+breaks budget Stands May now old new script (Err e) failed b = all_broken (EngineStops budget Stands May now script) old new script b
 
-any_written : {script : Script} {P : Limit → Script → Type 0} {text : List ℕ} → IsWritten script P text → IsWritten script AnyRest text
-any_written whole = whole
-any_written (cut gave rest is limit stops) = cut gave rest is limit tt
+-- ---- where a limit may come
 
--- what is said of the rest of a script that a limit ended may be left out
-pub any_rest : (script : Script) (Stands : Limit → Script → Type 0) (old new : Option (List ℕ)) (outcome : Outcome) → Writes script Stands old new outcome → Writes script AnyRest old new outcome
-any_rest script Stands old new (Closed ending) h = h
-any_rest script Stands old new (Limited limit) h = record { gave = h.gave; rest = h.rest; is = h.is; bytes = h.bytes; stands = tt }
-any_rest script Stands old new Broken h = record { text = h.text; would = any_written h.would; begins = h.begins }
+stops_by : (budget : ℕ) (May Other : Limit → State → Type 0) (l : Limit) (s : State) {script rest : Script} → ((t : State) → May l t → Other l t)
+    → StopsAt budget May l s script rest → StopsAt budget Other l s script rest
+stops_by budget May Other l s f (before_run query w next is refuses may) = before_run query w next is refuses (f (started (query_goal query.term) budget w) may)
+stops_by budget May Other l s f (within_run query w next k gave may) = within_run query w next k gave (f s may)
+stops_by budget May Other l s f (further_on p stops) = further_on p (stops_by budget May Other l s f stops)
+
+-- a limit that ended a session may come in these pieces, where it came in some of them
+engine_stops-kept : (budget : ℕ) (Stands : State → Type 0) (Old New : Limit → State → Type 0) (now : Phase) (script : Script) → KeepsLimits Old New → (l : Limit) (rest : Script)
+    → EngineStops budget Stands New now script l rest → EngineStops budget Stands Old now script l rest
+engine_stops-kept budget Stands Old New now script keeps limit.Heap rest h =
+    record { at = h.at; stands = h.stands; spent = h.spent; stops = stops_by budget New Old limit.Heap h.at (keeps limit.Heap) h.stops }
+engine_stops-kept budget Stands Old New now script keeps limit.Frames rest h =
+    record { at = h.at; stands = h.stands; spent = h.spent; stops = stops_by budget New Old limit.Frames h.at (keeps limit.Frames) h.stops }
+engine_stops-kept budget Stands Old New now script keeps limit.Memory rest (inl h) =
+    inl (record { at = h.at; stands = h.stands; spent = h.spent; stops = stops_by budget New Old limit.Memory h.at (keeps limit.Memory) h.stops })
+engine_stops-kept budget Stands Old New now script keeps limit.Memory rest (inr awake) = inr awake
+
+written_by : {script : Script} {P Q : Limit → Script → Type 0} {text : List ℕ} → ((l : Limit) (rest : Script) → P l rest → Q l rest) → IsWritten script P text → IsWritten script Q text
+written_by f whole = whole
+written_by f (cut gave rest is l stops) = cut gave rest is l (f l rest stops)
+
+writes_by : (script : Script) (P Q : Limit → Script → Type 0) (old new : Option (List ℕ)) (outcome : Outcome) → ((l : Limit) (rest : Script) → P l rest → Q l rest)
+    → Writes script P old new outcome → Writes script Q old new outcome
+writes_by script P Q old new (Closed ending) f h = h
+writes_by script P Q old new (Limited l) f h = record { gave = h.gave; rest = h.rest; is = h.is; bytes = h.bytes; stands = f l h.rest h.stands }
+writes_by script P Q old new Broken f h = record { text = h.text; would = written_by f h.would; begins = h.begins }
+
+-- the limits that ended a session are those of the engine that it was given
+pub writes_kept : (budget : ℕ) (Stands : State → Type 0) (Old New : Limit → State → Type 0) (now : Phase) (script : Script) (old new : Option (List ℕ)) (outcome : Outcome) → KeepsLimits Old New
+    → Writes script (EngineStops budget Stands New now script) old new outcome → Writes script (EngineStops budget Stands Old now script) old new outcome
+writes_kept budget Stands Old New now script old new outcome keeps h =
+    writes_by script (EngineStops budget Stands New now script) (EngineStops budget Stands Old now script) old new outcome (engine_stops-kept budget Stands Old New now script keeps) h
+
+-- what is said of the plain engine's limits, where it names the pieces of its frames so
+walk_stops : (budget frames : ℕ) (Stands : State → Type 0) (May : Limit → State → Type 0) (now : Phase) (script : Script) → ((s : State) → May limit.Frames s → ComesOver frames s) → (l : Limit) (rest : Script)
+    → EngineStops budget Stands May now script l rest → WalkStops budget frames script l rest
+walk_stops budget frames Stands May now script over limit.Heap rest h = (h.at, stops_by budget May (MayMeet (λ t. Unit {0}) (ComesOver frames)) limit.Heap h.at (λ t may. tt) h.stops)
+walk_stops budget frames Stands May now script over limit.Frames rest h = (h.at, stops_by budget May (MayMeet (λ t. Unit {0}) (ComesOver frames)) limit.Frames h.at over h.stops)
+walk_stops budget frames Stands May now script over limit.Memory rest h = tt
+
+pub writes_walk : (budget frames : ℕ) (Stands : State → Type 0) (May : Limit → State → Type 0) (now : Phase) (script : Script) (old new : Option (List ℕ)) (outcome : Outcome)
+    → ((s : State) → May limit.Frames s → ComesOver frames s) → Writes script (EngineStops budget Stands May now script) old new outcome → Writes script (WalkStops budget frames script) old new outcome
+writes_walk budget frames Stands May now script old new outcome over h =
+    writes_by script (EngineStops budget Stands May now script) (WalkStops budget frames script) old new outcome (walk_stops budget frames Stands May now script over) h
 
 -- memory was refused before a session began
-pub refused_session : (script : Script) (old new : Option (List ℕ)) (r : Result Ended Fault) → IfOk r (λ e. e ≡ ended_of (flow.Stops limit.Memory))
+pub refused_session : (budget frames : ℕ) (script : Script) (old new : Option (List ℕ)) (r : Result Ended Fault) → IfOk r (λ e. e ≡ ended_of (flow.Stops limit.Memory))
     → OnOk r (Appends old new (closing_bytes false (flow.Stops limit.Memory))) → OnErr r (Begins old new (closing_bytes false (flow.Stops limit.Memory)))
-    → Writes script AnyRest old new (outcome_of r)
-refused_session script old new r is ok err =
-    let stops : Does 0 (λ s. ⊥) Ready (old, false) (old, false) script (λ w. Closes Done) (Ok (flow.Stops limit.Memory)) =
-    stops_before 0 (λ s. ⊥) Ready Memory (old, false) script (λ spent. absurd (cc)) in
-    any_rest script (EngineStops 0 (λ s. ⊥) Ready script) old new (outcome_of r) (closes 0 (λ s. ⊥) Ready old (old, false) new script (flow.Stops limit.Memory) r stops is ok err)
+    → Writes script (WalkStops budget frames script) old new (outcome_of r)
+refused_session budget frames script old new r is ok err =
+    let stops : Does budget (λ s. ⊥) (λ l s. ⊥) Ready (old, false) (old, false) script (λ w. Closes Done) (Ok (flow.Stops limit.Memory)) =
+    stops_here budget (λ s. ⊥) (λ l s. ⊥) Ready (old, false) script refl in
+    writes_walk budget frames (λ s. ⊥) (λ l s. ⊥) Ready script old new (outcome_of r) (λ s never. absurd never)
+    (closes budget (λ s. ⊥) (λ l s. ⊥) Ready old (old, false) new script (flow.Stops limit.Memory) r stops is ok err)

@@ -1,17 +1,17 @@
 -- How parts of a session follow each other in its script.
-use Rattle.std.proofs.Common.{◌≡◌, ◌≢◌, ℕ, Bool, false, List, [], ◌∷◌, ◌++◌, Option, Result, Ok, Err, inl, inr, refl, sym, ap, ◌∙◌, append_assoc, append-nil}
+use Rattle.std.proofs.Common.{◌≡◌, ℕ, Bool, false, List, [], ◌∷◌, ◌++◌, Option, Result, Ok, Err, inl, inr, refl, sym, ap, ◌∙◌, append_assoc, append-nil}
 use Rattle.std.specs.Io.KnownBytes.{Appends}
 use Rattle.std.specs.Result.{IsErr}
-use Rattle.iso_model.specs.Engines.{Phase, Ready, Midway, Spent}
-use Rattle.iso_model.specs.Walker.{World, State, idle}
-use Rattle.iso_model.specs.Sessions.{Piece, Line, Script, Shows, Closes, Halts, prepend, piece_bytes, within_behind, pieces_bytes, script_bytes}
-use Rattle.iso_model.specs.Beginnings as session
-use Rattle.iso_model.specs.Beginnings.{Begins, EngineStops, StopsIn, further_on}
-use Rattle.iso_session.specs.declared.flows.Limit.TheVariants as limit
+use Rattle.iso_model.specs.Search.Engines.{Phase, Ready, Midway, IsAwake, KeepsLimits}
+use Rattle.iso_model.specs.Search.Walker.{World, State, idle}
+use Rattle.iso_model.specs.Session.Sessions.{Piece, Line, Script, Shows, Closes, Halts, prepend, piece_bytes, within_behind, pieces_bytes, script_bytes}
+use Rattle.iso_model.specs.Session.Beginnings.{Begins, EngineStops, StopsIn, further_on}
+use Rattle.iso_model.specs.declared.limit.Limit.{Limit}
+use Rattle.iso_model.specs.declared.limit.Limit.TheVariants as limit
 use Rattle.iso_session.specs.declared.flows.Flow.{Flow}
 use Rattle.iso_session.specs.declared.flows.Flow.TheVariants as flow
 use Rattle.iso_session.specs.declared.statuses.Fault.{Fault}
-use Rattle.iso_session.specs.Progress.{Place, limit_of, within_after, Advances, Stops, Does, PutsLine}
+use Rattle.iso_session.specs.Progress.{Place, within_after, Advances, Stops, Does, PutsLine}
 use Rattle.iso_session.proofs.WrittenLemmas.{appends_none, appends_more, begins_behind, begins_before}
 
 pub pieces_bytes-append : (within : Bool) (ps qs : List Piece) → pieces_bytes within (ps ++ qs) ≡ pieces_bytes within ps ++ pieces_bytes (within_after within ps) qs
@@ -62,83 +62,83 @@ begins_on {old} {mid} {s} {t} new h k =
     rw whole (begins_behind old.0 mid.0 new (pieces_bytes old.1 h.gave) (script_bytes mid.1 t) h.bytes k)
 
 -- an engine stopped further on, behind what was written
-engine_stops-behind : (budget : ℕ) (Stands : State → Type 0) (ps : List Piece) {script rest : Script} → StopsIn budget Stands script rest → StopsIn budget Stands (prepend ps script) rest
-engine_stops-behind budget Stands [] h = h
-engine_stops-behind budget Stands (p ∷ ps) h =
-    let later = engine_stops-behind budget Stands ps h in
-    record { at = later.at; stands = later.stands; stops = further_on p later.stops }
+engine_stops-behind : (budget : ℕ) (Stands : State → Type 0) (May : Limit → State → Type 0) (now : Phase) (l : Limit) (ps : List Piece) {script rest : Script}
+    → StopsIn budget Stands May now l script rest → StopsIn budget Stands May now l (prepend ps script) rest
+engine_stops-behind budget Stands May now l [] h = h
+engine_stops-behind budget Stands May now l (p ∷ ps) h =
+    let later = engine_stops-behind budget Stands May now l ps h in
+    record { at = later.at; stands = later.stands; spent = later.spent; stops = further_on p later.stops }
 
-engine_stops-after : (budget : ℕ) (Stands : State → Type 0) (now : Phase) (limit : session.Limit) {old mid : Place} {s t : Script} (rest : Script) → Advances old mid s t
-    → EngineStops budget Stands now t limit rest → EngineStops budget Stands now s limit rest
-engine_stops-after budget Stands now session.Heap rest h stops = rw h.is (engine_stops-behind budget Stands h.gave stops)
-engine_stops-after budget Stands now session.Frames rest h stops = rw h.is (engine_stops-behind budget Stands h.gave stops)
-engine_stops-after budget Stands now session.Memory rest h stops = λ spent. rw h.is (engine_stops-behind budget Stands h.gave (stops spent))
+engine_stops-after : (budget : ℕ) (Stands : State → Type 0) (May : Limit → State → Type 0) (now : Phase) (l : Limit) {old mid : Place} {s t : Script} (rest : Script) → Advances old mid s t
+    → EngineStops budget Stands May now t l rest → EngineStops budget Stands May now s l rest
+engine_stops-after budget Stands May now limit.Heap rest h stops = rw h.is (engine_stops-behind budget Stands May now limit.Heap h.gave stops)
+engine_stops-after budget Stands May now limit.Frames rest h stops = rw h.is (engine_stops-behind budget Stands May now limit.Frames h.gave stops)
+engine_stops-after budget Stands May now limit.Memory rest h (inl stops) = inl (rw h.is (engine_stops-behind budget Stands May now limit.Memory h.gave stops))
+engine_stops-after budget Stands May now limit.Memory rest h (inr awake) = inr awake
 
 -- what a part does behind what was written
-pub does_after : (budget : ℕ) (Stands : State → Type 0) (now : Phase) (old mid new : Place) (s t : Script) (behind : World → Script) (r : Result Flow Fault)
-    → Advances old mid s t → Does budget Stands now mid new t behind r → Does budget Stands now old new s behind r
-does_after budget Stands now old mid new s t behind (Ok flow.On) h d = record { at = d.at; stands = d.stands; ready = d.ready; advances = advance_on h d.advances }
-does_after budget Stands now old mid new s t behind (Ok (flow.Halts n)) h d = advance_on h d
-does_after budget Stands now old mid new s t behind (Ok (flow.Stops l)) h d = record { rest = d.rest; advances = advance_on h d.advances; stops = engine_stops-after budget Stands now (limit_of l) d.rest h d.stops }
-does_after budget Stands now old mid new s t behind (Err e) h d = begins_on new.0 h d
+pub does_after : (budget : ℕ) (Stands : State → Type 0) (May : Limit → State → Type 0) (now : Phase) (old mid new : Place) (s t : Script) (behind : World → Script) (r : Result Flow Fault)
+    → Advances old mid s t → Does budget Stands May now mid new t behind r → Does budget Stands May now old new s behind r
+does_after budget Stands May now old mid new s t behind (Ok flow.On) h d = record { at = d.at; stands = d.stands; ready = d.ready; advances = advance_on h d.advances }
+does_after budget Stands May now old mid new s t behind (Ok (flow.Halts n)) h d = advance_on h d
+does_after budget Stands May now old mid new s t behind (Ok (flow.Stops l)) h d = record { rest = d.rest; advances = advance_on h d.advances; stops = engine_stops-after budget Stands May now l d.rest h d.stops }
+does_after budget Stands May now old mid new s t behind (Err e) h d = begins_on new.0 h d
 
-not_spent : Ready ≡ Spent → ⊥
-not_spent e = cc
+pub ready_awake : (now : Phase) → now ≡ Ready → IsAwake now
+ready_awake now ready = rw ready tt
 
-pub awake : {A : Type 0} (now : Phase) → now ≡ Ready → now ≡ Spent → A
-awake now ready spent = absurd (not_spent (sym ready ∙ spent))
+pub midway_awake : (now : Phase) → now ≡ Midway → IsAwake now
+midway_awake now midway = rw midway tt
 
 -- memory was refused where nothing was written
-pub stops_here : (budget : ℕ) (Stands : State → Type 0) (now : Phase) (old : Place) (script : Script) → now ≡ Ready → Stops budget Stands now session.Memory old old script
-stops_here budget Stands now old script ready = record { rest = script; advances = advance_none old script; stops = λ spent. awake now ready spent }
+pub stops_here : (budget : ℕ) (Stands : State → Type 0) (May : Limit → State → Type 0) (now : Phase) (old : Place) (script : Script) → now ≡ Ready → Stops budget Stands May now limit.Memory old old script
+stops_here budget Stands May now old script ready = record { rest = script; advances = advance_none old script; stops = inr (ready_awake now ready) }
 
-stops_same : (budget : ℕ) (Stands : State → Type 0) (now : Phase) (old new : Place) (script : Script) → now ≡ Ready → new ≡ old → Stops budget Stands now session.Memory old new script
-stops_same budget Stands now old new script ready same = rw same (stops_here budget Stands now old script ready)
+stops_same : (budget : ℕ) (Stands : State → Type 0) (May : Limit → State → Type 0) (now : Phase) (old new : Place) (script : Script) → now ≡ Ready → new ≡ old → Stops budget Stands May now limit.Memory old new script
+stops_same budget Stands May now old new script ready same = rw same (stops_here budget Stands May now old script ready)
 
 -- a line was written, or memory for it was refused, and the session goes on where an engine stands for this world
-pub puts_on : (budget : ℕ) (Stands : State → Type 0) (now : Phase) (old new : Place) (text : List ℕ) (at : World) (behind : World → Script) (r : Result Flow Fault)
-    → PutsLine text flow.On old new r → Stands (idle at) → now ≡ Ready → Does budget Stands now old new (Shows (Line text) (behind at)) behind r
-puts_on budget Stands now old new text at behind (Ok flow.On) (inl p) stands ready =
+pub puts_on : (budget : ℕ) (Stands : State → Type 0) (May : Limit → State → Type 0) (now : Phase) (old new : Place) (text : List ℕ) (at : World) (behind : World → Script) (r : Result Flow Fault)
+    → PutsLine text flow.On old new r → Stands (idle at) → now ≡ Ready → Does budget Stands May now old new (Shows (Line text) (behind at)) behind r
+puts_on budget Stands May now old new text at behind (Ok flow.On) (inl p) stands ready =
     record { at = at; stands = stands; ready = ready; advances = advance_piece old new (Line text) (behind at) p.1 p.2 }
-puts_on budget Stands now old new text at behind (Ok flow.On) (inr p) stands ready = cc
-puts_on budget Stands now old new text at behind (Ok (flow.Halts n)) (inl p) stands ready = cc
-puts_on budget Stands now old new text at behind (Ok (flow.Halts n)) (inr p) stands ready = cc
-puts_on budget Stands now old new text at behind (Ok (flow.Stops l)) (inl p) stands ready = cc
-puts_on budget Stands now old new text at behind (Ok (flow.Stops limit.Heap)) (inr p) stands ready = cc
-puts_on budget Stands now old new text at behind (Ok (flow.Stops limit.Frames)) (inr p) stands ready = cc
-puts_on budget Stands now old new text at behind (Ok (flow.Stops limit.Memory)) (inr p) stands ready = stops_same budget Stands now old new (Shows (Line text) (behind at)) ready p.1
-puts_on budget Stands now old new text at behind (Err e) p stands ready = begins_before old.0 new.0 (piece_bytes old.1 (Line text)) (script_bytes false (behind at)) p
+puts_on budget Stands May now old new text at behind (Ok flow.On) (inr p) stands ready = cc
+puts_on budget Stands May now old new text at behind (Ok (flow.Halts n)) (inl p) stands ready = cc
+puts_on budget Stands May now old new text at behind (Ok (flow.Halts n)) (inr p) stands ready = cc
+puts_on budget Stands May now old new text at behind (Ok (flow.Stops l)) (inl p) stands ready = cc
+puts_on budget Stands May now old new text at behind (Ok (flow.Stops limit.Heap)) (inr p) stands ready = cc
+puts_on budget Stands May now old new text at behind (Ok (flow.Stops limit.Frames)) (inr p) stands ready = cc
+puts_on budget Stands May now old new text at behind (Ok (flow.Stops limit.Memory)) (inr p) stands ready = stops_same budget Stands May now old new (Shows (Line text) (behind at)) ready p.1
+puts_on budget Stands May now old new text at behind (Err e) p stands ready = begins_before old.0 new.0 (piece_bytes old.1 (Line text)) (script_bytes false (behind at)) p
 
 -- a line was written, or memory for it was refused, that ends the script
-pub puts_halt : (budget : ℕ) (Stands : State → Type 0) (now : Phase) (old new : Place) (text : List ℕ) (status : ℕ) (behind : World → Script) (r : Result Flow Fault)
-    → PutsLine text (flow.Halts status) old new r → now ≡ Ready → Does budget Stands now old new (Shows (Line text) (Closes (Halts status))) behind r
-puts_halt budget Stands now old new text status behind (Ok flow.On) (inl p) ready = cc
-puts_halt budget Stands now old new text status behind (Ok flow.On) (inr p) ready = cc
-puts_halt budget Stands now old new text status behind (Ok (flow.Halts n)) (inl p) ready =
+pub puts_halt : (budget : ℕ) (Stands : State → Type 0) (May : Limit → State → Type 0) (now : Phase) (old new : Place) (text : List ℕ) (status : ℕ) (behind : World → Script) (r : Result Flow Fault)
+    → PutsLine text (flow.Halts status) old new r → now ≡ Ready → Does budget Stands May now old new (Shows (Line text) (Closes (Halts status))) behind r
+puts_halt budget Stands May now old new text status behind (Ok flow.On) (inl p) ready = cc
+puts_halt budget Stands May now old new text status behind (Ok flow.On) (inr p) ready = cc
+puts_halt budget Stands May now old new text status behind (Ok (flow.Halts n)) (inl p) ready =
     let same : n ≡ status = cc in
     rw same (advance_piece old new (Line text) (Closes (Halts status)) p.1 p.2)
-puts_halt budget Stands now old new text status behind (Ok (flow.Halts n)) (inr p) ready = cc
-puts_halt budget Stands now old new text status behind (Ok (flow.Stops l)) (inl p) ready = cc
-puts_halt budget Stands now old new text status behind (Ok (flow.Stops limit.Heap)) (inr p) ready = cc
-puts_halt budget Stands now old new text status behind (Ok (flow.Stops limit.Frames)) (inr p) ready = cc
-puts_halt budget Stands now old new text status behind (Ok (flow.Stops limit.Memory)) (inr p) ready = stops_same budget Stands now old new (Shows (Line text) (Closes (Halts status))) ready p.1
-puts_halt budget Stands now old new text status behind (Err e) p ready = begins_before old.0 new.0 (piece_bytes old.1 (Line text)) [] p
+puts_halt budget Stands May now old new text status behind (Ok (flow.Halts n)) (inr p) ready = cc
+puts_halt budget Stands May now old new text status behind (Ok (flow.Stops l)) (inl p) ready = cc
+puts_halt budget Stands May now old new text status behind (Ok (flow.Stops limit.Heap)) (inr p) ready = cc
+puts_halt budget Stands May now old new text status behind (Ok (flow.Stops limit.Frames)) (inr p) ready = cc
+puts_halt budget Stands May now old new text status behind (Ok (flow.Stops limit.Memory)) (inr p) ready = stops_same budget Stands May now old new (Shows (Line text) (Closes (Halts status))) ready p.1
+puts_halt budget Stands May now old new text status behind (Err e) p ready = begins_before old.0 new.0 (piece_bytes old.1 (Line text)) [] p
 
 -- a part that doesn't go on, behind what was written
-pub stops_after : (budget : ℕ) (Stands : State → Type 0) (now : Phase) (old mid new : Place) (s t : Script) (behind other : World → Script) (f : Flow)
-    → Advances old mid s t → (f ≡ flow.On → ⊥) → Does budget Stands now mid new t behind (Ok f) → Does budget Stands now old new s other (Ok f)
-stops_after budget Stands now old mid new s t behind other flow.On h ends d = absurd (ends refl)
-stops_after budget Stands now old mid new s t behind other (flow.Halts n) h ends d = advance_on h d
-stops_after budget Stands now old mid new s t behind other (flow.Stops l) h ends d = record { rest = d.rest; advances = advance_on h d.advances; stops = engine_stops-after budget Stands now (limit_of l) d.rest h d.stops }
+pub stops_after : (budget : ℕ) (Stands : State → Type 0) (May : Limit → State → Type 0) (now : Phase) (old mid new : Place) (s t : Script) (behind other : World → Script) (f : Flow)
+    → Advances old mid s t → (f ≡ flow.On → ⊥) → Does budget Stands May now mid new t behind (Ok f) → Does budget Stands May now old new s other (Ok f)
+stops_after budget Stands May now old mid new s t behind other flow.On h ends d = absurd (ends refl)
+stops_after budget Stands May now old mid new s t behind other (flow.Halts n) h ends d = advance_on h d
+stops_after budget Stands May now old mid new s t behind other (flow.Stops l) h ends d = record { rest = d.rest; advances = advance_on h d.advances; stops = engine_stops-after budget Stands May now l d.rest h d.stops }
 
 -- a write failed behind what was written
-pub breaks_after : (budget : ℕ) (Stands : State → Type 0) (now : Phase) (old mid new : Place) (s t : Script) (behind : World → Script) (r : Result Flow Fault)
-    → Advances old mid s t → IsErr r → Begins mid.0 new.0 (script_bytes mid.1 t) → Does budget Stands now old new s behind r
-breaks_after budget Stands now old mid new s t behind (Ok f) h failed b = cc
-breaks_after budget Stands now old mid new s t behind (Err e) h failed b = begins_on new.0 h b
+pub breaks_after : (budget : ℕ) (Stands : State → Type 0) (May : Limit → State → Type 0) (now : Phase) (old mid new : Place) (s t : Script) (behind : World → Script) (r : Result Flow Fault)
+    → Advances old mid s t → IsErr r → Begins mid.0 new.0 (script_bytes mid.1 t) → Does budget Stands May now old new s behind r
+breaks_after budget Stands May now old mid new s t behind (Ok f) h failed b = cc
+breaks_after budget Stands May now old mid new s t behind (Err e) h failed b = begins_on new.0 h b
 
-pub ready_awake : (now : Phase) → now ≡ Ready → now ≢ Spent
-ready_awake now ready spent = awake now ready spent
-
-pub midway_awake : (now : Phase) → now ≡ Midway → now ≢ Spent
-midway_awake now midway spent = let same : Midway ≡ Spent = sym midway ∙ spent in cc
+-- limits that come from a part come from what was before it
+pub keeps_limits-both : (Old Mid New : Limit → State → Type 0) → KeepsLimits Old Mid → KeepsLimits Mid New → KeepsLimits Old New
+keeps_limits-both Old Mid New h k l s m = h l s (k l s m)

@@ -3,34 +3,33 @@ use Rattle.std.proofs.Common.{◌≡◌, ℕ, zero, suc, ◌+◌, ◌-◌, ◌�
 use Rattle.std.specs.Result.{IsErr}
 use Rattle.std.specs.Io.KnownBytes.{Appends}
 use Rattle.iso_ops.specs.Operators.{Operator}
-use Rattle.iso_model.specs.Trees.{Tree}
-use Rattle.iso_model.specs.Terms.{term_of}
-use Rattle.iso_model.specs.Engines.{Phase, Ready, Pauses}
-use Rattle.iso_model.specs.Grammar.{Clause}
-use Rattle.iso_model.specs.Token.{Shown}
-use Rattle.iso_model.specs.Items.{Item, Readable, Taken, next_item}
-use Rattle.iso_model.specs.Lines.{answer_line, solution_text, error_line, halt_line}
-use Rattle.iso_model.specs.Walker.{World, State, Ending, Answered, Wrote, NoMore, Budget, Uncaught, idle, started}
-use Rattle.iso_model.specs.Runs as runs
-use Rattle.iso_model.specs.Runs.{Trace, Then, HasGiven, begun, gave_answer, gave_output, Comes, Finishes}
-use Rattle.iso_model.specs.RunLaws.{run_of, comes_run, finishes_run}
-use Rattle.iso_model.specs.Sessions.{ends_within, piece_bytes, script_bytes, Script, Shows, Closes, Line, Output, Done, run_script, query_goal, query_script, queries_by, queries_script}
-use Rattle.iso_model.specs.Beginnings as session
-use Rattle.iso_model.specs.Beginnings.{Begins, EngineStops, StopsIn, StopsAt, within_run, before_run}
+use Rattle.iso_model.specs.Terms.Trees.{Tree}
+use Rattle.iso_model.specs.Terms.TermOf.{term_of}
+use Rattle.iso_model.specs.Search.Engines.{Phase, Ready, Spent, Pauses, MeetsLimit}
+use Rattle.iso_model.specs.Syntax.Grammar.{Clause}
+use Rattle.iso_model.specs.Syntax.Token.{Shown}
+use Rattle.iso_model.specs.Syntax.Items.{Item, Readable, Taken, next_item}
+use Rattle.iso_model.specs.Session.Lines.{answer_line, solution_text, error_line, halt_line}
+use Rattle.iso_model.specs.Search.Walker.{World, State, Ending, Answered, Wrote, NoMore, Budget, Uncaught, idle, started}
+use Rattle.iso_model.specs.Search.Runs as runs
+use Rattle.iso_model.specs.Search.Runs.{Trace, Then, HasGiven, begun, gave_answer, gave_output, Comes, Finishes}
+use Rattle.iso_model.specs.Search.RunLaws.{run_of, comes_run, finishes_run}
+use Rattle.iso_model.specs.Session.Sessions.{ends_within, piece_bytes, script_bytes, Script, Shows, Closes, Line, Output, Done, run_script, query_goal, query_script, queries_by, queries_script}
+use Rattle.iso_model.specs.Session.Beginnings.{Begins, MayRefuse, EngineStops, StopsIn, within_run, before_run}
 use Rattle.iso_model.specs.declared.terms.Term.{Term}
+use Rattle.iso_model.specs.declared.limit.Limit.{Limit}
+use Rattle.iso_model.specs.declared.limit.Limit.TheVariants as limit
 use Rattle.iso_model.specs.declared.pauses.Pause.{Pause}
 use Rattle.iso_model.specs.declared.pauses.Pause.TheVariants as pause
 use Rattle.iso_session.specs.declared.items.Item.{Item as RustItem}
-use Rattle.iso_session.specs.declared.flows.Limit.{Limit}
-use Rattle.iso_session.specs.declared.flows.Limit.TheVariants as limit
 use Rattle.iso_session.specs.declared.flows.Flow.{Flow}
 use Rattle.iso_session.specs.declared.flows.Flow.TheVariants as flow
 use Rattle.iso_session.specs.declared.statuses.Fault.{Fault}
-use Rattle.iso_session.specs.Progress.{Place, limit_of, Advances, GoesOn, Stops, Does, PutsLine, EndsQuery, IsCount}
+use Rattle.iso_session.specs.Progress.{Place, Advances, GoesOn, Stops, Does, PutsLine, EndsQuery, IsCount}
 use Rattle.iso_session.specs.Read.{item_read, found}
 use Rattle.iso_session.proofs.WrittenLemmas.{begins_before}
 use Rattle.iso_session.proofs.ConsultLemmas.{counted_same, empty_by}
-use Rattle.iso_session.proofs.ProgressLemmas.{advance_none, advance_on, advance_piece, puts_on, puts_halt, does_after, breaks_after, awake}
+use Rattle.iso_session.proofs.ProgressLemmas.{advance_none, advance_on, advance_piece, puts_on, puts_halt, does_after, breaks_after, ready_awake}
 
 -- How far the run of this query over this world has come: behind so many answers it stands at this state.
 abbrev pub Runs : Clause → World → ℕ → ℕ → State → Type 0
@@ -41,52 +40,52 @@ abbrev pub script_from : Clause → ℕ → State → (World → Script) → Scr
 script_from query k s next = run_script query.names (k + 1) (run_of s) next
 
 -- a limit stopped the engine within the run, and nothing was written since
-within : (Stands : State → Type 0) (query : Clause) (w : World) (budget : ℕ) (k : ℕ) (s : State) (next : World → Script) → Runs query w budget k s → Stands s
-    → StopsIn budget Stands (query_script budget (Readable query) w next) (script_from query k s next)
-within Stands query w budget k s next gave stands = record { at = s; stands = stands; stops = within_run query w next k gave }
+within : (Stands : State → Type 0) (May : Limit → State → Type 0) (now : Phase) (l : Limit) (query : Clause) (w : World) (budget : ℕ) (k : ℕ) (s : State) (next : World → Script)
+    → Runs query w budget k s → Stands s × (now ≡ Spent l) → May l s → StopsIn budget Stands May now l (query_script budget (Readable query) w next) (script_from query k s next)
+within Stands May now l query w budget k s next gave stands may = record { at = s; stands = stands.0; spent = stands.1; stops = within_run query w next k gave may }
 
-limit_ends : (budget : ℕ) (Stands : State → Type 0) (now : Phase) (l : Limit) (old mid new : Place) (script rest : Script) (behind : World → Script) (r : Result Flow Fault)
-    → Advances old mid script rest → r ≡ Ok (flow.Stops l) → new ≡ mid → EngineStops budget Stands now script (limit_of l) rest → Does budget Stands now old new script behind r
-limit_ends budget Stands now l old mid new script rest behind r h is same stops = rw (is, same) (record { rest = rest; advances = h; stops = stops })
+limit_ends : (budget : ℕ) (Stands : State → Type 0) (May : Limit → State → Type 0) (now : Phase) (l : Limit) (old mid new : Place) (script rest : Script) (behind : World → Script) (r : Result Flow Fault)
+    → Advances old mid script rest → r ≡ Ok (flow.Stops l) → new ≡ mid → EngineStops budget Stands May now script l rest → Does budget Stands May now old new script behind r
+limit_ends budget Stands May now l old mid new script rest behind r h is same stops = rw (is, same) (record { rest = rest; advances = h; stops = stops })
 
 -- the run ends with this line, and the next query follows
-line_ends : (budget : ℕ) (Stands : State → Type 0) (now : Phase) (old new : Place) (names : List (List ℕ × ℕ)) (k : ℕ) (s : State) (ending : Ending) (text : List ℕ) (next : World → Script) (r : Result Flow Fault)
+line_ends : (budget : ℕ) (Stands : State → Type 0) (May : Limit → State → Type 0) (now : Phase) (old new : Place) (names : List (List ℕ × ℕ)) (k : ℕ) (s : State) (ending : Ending) (text : List ℕ) (next : World → Script) (r : Result Flow Fault)
     → (f : Finishes s ending Stands) → now ≡ Ready → run_script names k (runs.Stops ending f.world) next ≡ Shows (Line text) (next f.world) → PutsLine text flow.On old new r
-    → Does budget Stands now old new (run_script names k (run_of s) next) next r
-line_ends budget Stands now old new names k s ending text next r f ready line puts =
+    → Does budget Stands May now old new (run_script names k (run_of s) next) next r
+line_ends budget Stands May now old new names k s ending text next r f ready line puts =
     let whole = ap (λ z. run_script names k z next) (finishes_run f) ∙ line in
-    rw whole (puts_on budget Stands now old new text f.world next r puts f.stands ready)
+    rw whole (puts_on budget Stands May now old new text f.world next r puts f.stands ready)
 
 -- a pause that is no answer and no output ends its query, where these are the operators of what the engine stands for
-pub query_ends : (Stands : State → Type 0) (table : List Operator) → ((t : State) → Stands t → table ≡ t.world.operators) → (now : Phase) (old mid new : Place) (query : Clause) (w : World) (budget : ℕ) (k : ℕ) (s : State) (p : Pause) (next : World → Script) (r : Result Flow Fault)
-    → Runs query w budget k s → Advances old mid (query_script budget (Readable query) w next) (script_from query k s next) → Pauses s p Stands now → EndsQuery table p mid new r
+pub query_ends : (Stands : State → Type 0) (May : Limit → State → Type 0) (table : List Operator) → ((t : State) → Stands t → table ≡ t.world.operators) → (now : Phase) (old mid new : Place) (query : Clause) (w : World) (budget : ℕ) (k : ℕ) (s : State) (p : Pause) (next : World → Script) (r : Result Flow Fault)
+    → Runs query w budget k s → Advances old mid (query_script budget (Readable query) w next) (script_from query k s next) → Pauses s p Stands now → MeetsLimit May s p → EndsQuery table p mid new r
     → ((values : Vec Term Global) → p ≡ pause.Answer values → ⊥) → ((bytes : Vec ℕ Global) → p ≡ pause.Output bytes → ⊥)
-    → Does budget Stands now old new (query_script budget (Readable query) w next) next r
-query_ends Stands table ops now old mid new query w budget k s p next r gave h = ends p
+    → Does budget Stands May now old new (query_script budget (Readable query) w next) next r
+query_ends Stands May table ops now old mid new query w budget k s p next r gave h = ends p
   where
     script : Script
     script = query_script budget (Readable query) w next
 
     here : (text : List ℕ) (ending : Ending) → (f : Finishes s ending Stands) → now ≡ Ready → run_script query.names (k + 1) (runs.Stops ending f.world) next ≡ Shows (Line text) (next f.world) → PutsLine text flow.On mid new r
-        → Does budget Stands now old new script next r
-    here text ending f ready line puts = does_after budget Stands now old mid new script (script_from query k s next) next r h (line_ends budget Stands now mid new query.names (k + 1) s ending text next r f ready line puts)
+        → Does budget Stands May now old new script next r
+    here text ending f ready line puts = does_after budget Stands May now old mid new script (script_from query k s next) next r h (line_ends budget Stands May now mid new query.names (k + 1) s ending text next r f ready line puts)
 
-    ends : (p : Pause) → Pauses s p Stands now → EndsQuery table p mid new r → ((values : Vec Term Global) → p ≡ pause.Answer values → ⊥) → ((bytes : Vec ℕ Global) → p ≡ pause.Output bytes → ⊥)
-        → Does budget Stands now old new script next r
-    ends (pause.Answer values) p e answer output = absurd (answer values refl)
-    ends (pause.Output bytes) p e answer output = absurd (output bytes refl)
-    ends pause.NoMore p e answer output = here (codes "end: no more") NoMore p.0 p.1 refl e
-    ends pause.Budget p e answer output = here (codes "end: budget") Budget p.0 p.1 refl e
-    ends (pause.Uncaught ball) p e answer output =
+    ends : (p : Pause) → Pauses s p Stands now → MeetsLimit May s p → EndsQuery table p mid new r → ((values : Vec Term Global) → p ≡ pause.Answer values → ⊥) → ((bytes : Vec ℕ Global) → p ≡ pause.Output bytes → ⊥)
+        → Does budget Stands May now old new script next r
+    ends (pause.Answer values) p m e answer output = absurd (answer values refl)
+    ends (pause.Output bytes) p m e answer output = absurd (output bytes refl)
+    ends pause.NoMore p m e answer output = here (codes "end: no more") NoMore p.0 p.1 refl e
+    ends pause.Budget p m e answer output = here (codes "end: budget") Budget p.0 p.1 refl e
+    ends (pause.Uncaught ball) p m e answer output =
         let line = subst (λ o. PutsLine (error_line o (term_of ball.term)) flow.On mid new r) (ops (idle p.0.world) p.0.stands) e in
         here (error_line p.0.world.operators (term_of ball.term)) (Uncaught (term_of ball.term)) p.0 p.1 refl line
-    ends (pause.Halt n) p e answer output =
+    ends (pause.Halt n) p m e answer output =
         let whole = ap (λ z. run_script query.names (k + 1) z next) (finishes_run p.0) in
-        does_after budget Stands now old mid new script (script_from query k s next) next r h (rw whole (puts_halt budget Stands now mid new (halt_line n) n next r e p.1))
-    ends pause.HeapFull p e answer output = limit_ends budget Stands now limit.Heap old mid new script (script_from query k s next) next r h e.0 e.1 (within Stands query w budget k s next gave p.0)
-    ends pause.FramesFull p e answer output = limit_ends budget Stands now limit.Frames old mid new script (script_from query k s next) next r h e.0 e.1 (within Stands query w budget k s next gave p.0)
-    ends pause.NoMemory p e answer output = limit_ends budget Stands now limit.Memory old mid new script (script_from query k s next) next r h e.0 e.1 (λ spent. within Stands query w budget k s next gave p.0)
-    ends pause.Spent p e answer output = absurd p
+        does_after budget Stands May now old mid new script (script_from query k s next) next r h (rw whole (puts_halt budget Stands May now mid new (halt_line n) n next r e p.1))
+    ends pause.HeapFull p m e answer output = limit_ends budget Stands May now limit.Heap old mid new script (script_from query k s next) next r h e.0 e.1 (within Stands May now limit.Heap query w budget k s next gave p m)
+    ends pause.FramesFull p m e answer output = limit_ends budget Stands May now limit.Frames old mid new script (script_from query k s next) next r h e.0 e.1 (within Stands May now limit.Frames query w budget k s next gave p m)
+    ends pause.NoMemory p m e answer output = limit_ends budget Stands May now limit.Memory old mid new script (script_from query k s next) next r h e.0 e.1 (inl (within Stands May now limit.Memory query w budget k s next gave p m))
+    ends pause.Spent p m e answer output = absurd p
 
 -- How far a run has come: the state, how many answers it gave, and where its script is.
 pub record RunPlace (Stands : State → Type 0) (count : ℕ) (query : Clause) (w : World) (budget : ℕ) (old new : Place) (next : World → Script) : Type 0 where
@@ -138,11 +137,11 @@ module _ {query : Clause} {w : World} {budget : ℕ} {old mid : Place} {next : W
     advances = subst (λ z. Advances old mid (query_script budget (Readable query) w next) z) (ap (λ z. run_script query.names (p.done + 1) z next) (comes_run c)) p.advances;
   }
 
-  pub output_breaks : {Later : State → Type 0} {count : ℕ} {bytes : List ℕ} → (Stands : State → Type 0) (now : Phase) (new : Place) (behind : World → Script) (r : Result Flow Fault)
-      → OutputTurn Later count bytes query w budget old mid next → IsErr r → Begins mid.0 new.0 bytes → Does budget Stands now old new (query_script budget (Readable query) w next) behind r
-  output_breaks {bytes = bytes} Stands now new behind r t failed b =
+  pub output_breaks : {Later : State → Type 0} {count : ℕ} {bytes : List ℕ} → (Stands : State → Type 0) (May : Limit → State → Type 0) (now : Phase) (new : Place) (behind : World → Script) (r : Result Flow Fault)
+      → OutputTurn Later count bytes query w budget old mid next → IsErr r → Begins mid.0 new.0 bytes → Does budget Stands May now old new (query_script budget (Readable query) w next) behind r
+  output_breaks {bytes = bytes} Stands May now new behind r t failed b =
       let rest = script_from query t.done t.at next in
-      breaks_after budget Stands now old mid new (query_script budget (Readable query) w next) (Shows (Output bytes) rest) behind r t.advances failed
+      breaks_after budget Stands May now old mid new (query_script budget (Readable query) w next) (Shows (Output bytes) rest) behind r t.advances failed
       (begins_before mid.0 new.0 bytes (script_bytes (ends_within mid.1 bytes) rest) b)
 
   pub output_goes : {Later : State → Type 0} {count : ℕ} {bytes : List ℕ} → (new : Place) → OutputTurn Later count bytes query w budget old mid next → Appends mid.0 new.0 bytes → new.1 ≡ ends_within mid.1 bytes
@@ -185,18 +184,18 @@ module _ {Later : State → Type 0} {count : ℕ} {values : List Tree} {query : 
   line_same t table same = answer_same table t.at.world.operators count t.k query.names values same t.counts
 
   -- the answer was written, or memory for its line was refused
-  pub answer_stops : (now : Phase) (new : Place) (f : Flow) (t : AnswerTurn Later count values query w budget old mid next) (table : List Operator) → table ≡ t.at.world.operators → now ≡ Ready → (f ≡ flow.On → ⊥)
-      → PutsLine (answer_line table count query.names values) flow.On mid new (Ok f) → Does budget Later now old new (query_script budget (Readable query) w next) next (Ok f)
-  answer_stops now new f t table same ready ends (inl puts) = absurd (ends puts.0)
-  answer_stops now new f t table same ready ends (inr puts) =
-      rw (puts.0, puts.1) (record { rest = Shows (Line (line_of t)) (rest_of t); advances = t.advances; stops = λ spent. awake now ready spent })
+  pub answer_stops : (May : Limit → State → Type 0) (now : Phase) (new : Place) (f : Flow) (t : AnswerTurn Later count values query w budget old mid next) (table : List Operator) → table ≡ t.at.world.operators → now ≡ Ready → (f ≡ flow.On → ⊥)
+      → PutsLine (answer_line table count query.names values) flow.On mid new (Ok f) → Does budget Later May now old new (query_script budget (Readable query) w next) next (Ok f)
+  answer_stops May now new f t table same ready ends (inl puts) = absurd (ends puts.0)
+  answer_stops May now new f t table same ready ends (inr puts) =
+      rw (puts.0, puts.1) (record { rest = Shows (Line (line_of t)) (rest_of t); advances = t.advances; stops = inr (ready_awake now ready) })
 
-  pub answer_breaks : (now : Phase) (new : Place) (r : Result Flow Fault) (t : AnswerTurn Later count values query w budget old mid next) (table : List Operator)
+  pub answer_breaks : (May : Limit → State → Type 0) (now : Phase) (new : Place) (r : Result Flow Fault) (t : AnswerTurn Later count values query w budget old mid next) (table : List Operator)
       → table ≡ t.at.world.operators → IsErr r → Begins mid.0 new.0 (piece_bytes mid.1 (Line (answer_line table count query.names values)))
-      → Does budget Later now old new (query_script budget (Readable query) w next) next r
-  answer_breaks now new r t table same failed b =
+      → Does budget Later May now old new (query_script budget (Readable query) w next) next r
+  answer_breaks May now new r t table same failed b =
       let line = subst (λ z. Begins mid.0 new.0 (piece_bytes mid.1 (Line z))) (line_same t table same) b in
-      breaks_after budget Later now old mid new (query_script budget (Readable query) w next) (Shows (Line (line_of t)) (rest_of t)) next r t.advances failed
+      breaks_after budget Later May now old mid new (query_script budget (Readable query) w next) (Shows (Line (line_of t)) (rest_of t)) next r t.advances failed
       (begins_before mid.0 new.0 (piece_bytes mid.1 (Line (line_of t))) (script_bytes false (rest_of t)) line)
 
   pub answer_goes : (new : Place) (t : AnswerTurn Later count values query w budget old mid next) (table : List Operator) → table ≡ t.at.world.operators → PutsLine (answer_line table count query.names values) flow.On mid new (Ok flow.On)
@@ -214,13 +213,14 @@ module _ {Later : State → Type 0} {count : ℕ} {values : List Tree} {query : 
   answer_goes new t table same (inr puts) = cc
 
 -- a query was not started
-pub start_refused : (Stands : State → Type 0) (query : Clause) (budget : ℕ) (w : World) (next : World → Script) → Stands (idle w)
-    → StopsIn budget Stands (query_script budget (Readable query) w next) (query_script budget (Readable query) w next)
-start_refused Stands query budget w next stands = record { at = idle w; stands = stands; stops = before_run query w next refl }
+pub start_refused : (Stands : State → Type 0) (May : Limit → State → Type 0) (now : Phase) (l : Limit) (query : Clause) (budget : ℕ) (w : World) (next : World → Script)
+    → Stands (idle w) × (now ≡ Spent l) → MayRefuse l → May l (started (query_goal query.term) budget w)
+    → StopsIn budget Stands May now l (query_script budget (Readable query) w next) (query_script budget (Readable query) w next)
+start_refused Stands May now l query budget w next stands refuses may = record { at = idle w; stands = stands.0; spent = stands.1; stops = before_run query w next refl refuses may }
 
-pub stops_before : (budget : ℕ) (Stands : State → Type 0) (now : Phase) (l : session.Limit) (old : Place) (script : Script) → EngineStops budget Stands now script l script
-    → Stops budget Stands now l old old script
-stops_before budget Stands now l old script stops = record { rest = script; advances = advance_none old script; stops = stops }
+pub stops_before : (budget : ℕ) (Stands : State → Type 0) (May : Limit → State → Type 0) (now : Phase) (l : Limit) (old : Place) (script : Script) → EngineStops budget Stands May now script l script
+    → Stops budget Stands May now l old old script
+stops_before budget Stands May now l old script stops = record { rest = script; advances = advance_none old script; stops = stops }
 
 -- How far the queries were run: what is left of them, and where their script is.
 pub record QueriesPlace (Stands : State → Type 0) (budget : ℕ) (ts : List Shown) (old new : Place) (script : Script) : Type 0 where

@@ -9,10 +9,10 @@ use Rattle.iso_model.specs.declared.terms.Term.TheOpen as layer
 use Rattle.iso_model.specs.declared.terms.Term.TheVariants.{Atom, rolls-Atom}
 use Rattle.iso_model.specs.declared.terms.Term.TheFolds.{fold-roll-Term}
 use Rattle.iso_ops.specs.Operators.{Operator}
-use Rattle.iso_model.specs.Trees.{Tree, Name}
-use Rattle.iso_model.specs.Terms.{term_of, term_step}
-use Rattle.iso_model.specs.Variables.{distinct_from}
-use Rattle.iso_model.specs.Lines.{text_in, value_at, equations, solution_text}
+use Rattle.iso_model.specs.Terms.Trees.{Tree, Name}
+use Rattle.iso_model.specs.Terms.TermOf.{term_of, term_step}
+use Rattle.iso_model.specs.Terms.Variables.{distinct_from}
+use Rattle.iso_model.specs.Session.Lines.{text_in, value_at, equations, solution_text}
 use Rattle.iso_session.specs.Named.{names_of}
 
 abbrev pub Named : Type 0

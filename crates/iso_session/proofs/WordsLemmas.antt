@@ -5,8 +5,8 @@ use Rattle.std.specs.List.{list_all}
 use Rattle.std.proofs.lemmas.Bool.Decides.{nat_tests}
 use Rattle.std.proofs.lemmas.Str.Parse.{IsNumeralModel, numerals_by_fold, parse_digits}
 use Rattle.std.specs.Str.Parse.{ParsesUnsigned}
-use Rattle.iso_model.specs.Characters.{is_digit}
-use Rattle.iso_model.specs.Token.{digits_value, digit_step}
+use Rattle.iso_model.specs.Syntax.Characters.{is_digit}
+use Rattle.iso_model.specs.Syntax.Token.{digits_value, digit_step}
 use Rattle.clap.specs.Words.{App, Text, HasKind, HasMatchesOf, IsAmong, fault_of, first_of, first_value, found_of, is_simple, is_simple_and_free, kind_of, matches_of}
 use Rattle.clap.specs.declared.parser.matches.ArgMatches.{ArgMatches}
 use Rattle.clap.specs.declared.error.Error.{Error}

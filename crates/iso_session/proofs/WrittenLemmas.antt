@@ -4,8 +4,8 @@ use Rattle.std.proofs.lemmas.List.{append-nil, take-append-drop, take_all, lengt
 use Rattle.std.specs.List.{slice_get}
 use Rattle.std.proofs.Math.Seq.{take-add}
 use Rattle.std.specs.Io.KnownBytes.{Keeps, Appends}
-use Rattle.iso_model.specs.Sessions.{ends_within}
-use Rattle.iso_model.specs.Beginnings.{Begins}
+use Rattle.iso_model.specs.Session.Sessions.{ends_within}
+use Rattle.iso_model.specs.Session.Beginnings.{Begins}
 
 pub appends_none : (a : Option (List ℕ)) → Appends a a []
 appends_none None = tt

@@ -2,36 +2,29 @@
 use Rattle.std.specs.Prelude.{◌≡◌, ℕ, min, Bool, List, [], ◌∷◌, Option, Result, Ok, Err, ◌⊎◌, false, codes}
 use Rattle.std.specs.Io.KnownBytes.{Appends}
 use Rattle.iso_ops.specs.Operators.{Operator}
-use Rattle.iso_model.specs.Engines.{Phase, Ready}
-use Rattle.iso_model.specs.Walker.{World, State, idle}
-use Rattle.iso_model.specs.Sessions.{Piece, Line, Script, Closes, Done, Halts, prepend, piece_bytes, within_behind, pieces_bytes, script_bytes}
-use Rattle.iso_model.specs.Beginnings as session
-use Rattle.iso_model.specs.Beginnings.{Begins, EngineStops, Outcome, Closed, Limited, Broken}
-use Rattle.iso_model.specs.Terms.{term_of}
-use Rattle.iso_model.specs.Lines.{error_line, halt_line}
+use Rattle.iso_model.specs.Search.Engines.{Phase, Ready}
+use Rattle.iso_model.specs.Search.Walker.{World, State, idle}
+use Rattle.iso_model.specs.Session.Sessions.{Piece, Line, Script, Closes, Done, Halts, prepend, piece_bytes, within_behind, pieces_bytes, script_bytes}
+use Rattle.iso_model.specs.Session.Beginnings.{Begins, EngineStops, limit_line, Outcome, Closed, Limited, Broken}
+use Rattle.iso_model.specs.Terms.TermOf.{term_of}
+use Rattle.iso_model.specs.Session.Lines.{error_line, halt_line}
 use Rattle.iso_model.specs.declared.pauses.Pause.{Pause}
 use Rattle.iso_model.specs.declared.pauses.Pause.TheVariants as pause
-use Rattle.iso_session.specs.declared.flows.Limit.{Limit}
-use Rattle.iso_session.specs.declared.flows.Limit.TheVariants as limit
+use Rattle.iso_model.specs.declared.limit.Limit.{Limit}
+use Rattle.iso_model.specs.declared.limit.Limit.TheVariants as limit
 use Rattle.iso_session.specs.declared.flows.Flow.{Flow}
 use Rattle.iso_session.specs.declared.flows.Flow.TheVariants as flow
 use Rattle.iso_session.specs.declared.statuses.Ended.{Ended}
 use Rattle.iso_session.specs.declared.statuses.Ended.TheVariants as ended
 use Rattle.iso_session.specs.declared.statuses.Fault.{Fault}
 
--- the limit that a Rust limit is
-abbrev pub limit_of : Limit → session.Limit
-limit_of limit.Heap = session.Heap
-limit_of limit.Frames = session.Frames
-limit_of limit.Memory = session.Memory
-
 -- how a session ends that answers so
 abbrev pub outcome_of : Result Ended Fault → Outcome
 outcome_of (Ok ended.Done) = Closed Done
 outcome_of (Ok (ended.Halt status)) = Closed (Halts status)
-outcome_of (Ok ended.HeapFull) = Limited session.Heap
-outcome_of (Ok ended.FramesFull) = Limited session.Frames
-outcome_of (Ok ended.NoMemory) = Limited session.Memory
+outcome_of (Ok ended.HeapFull) = Limited limit.Heap
+outcome_of (Ok ended.FramesFull) = Limited limit.Frames
+outcome_of (Ok ended.NoMemory) = Limited limit.Memory
 outcome_of (Err fault) = Broken
 
 -- Where a session's writing stands: the writer's bytes, where they are known, and whether the last of them is no newline.
@@ -58,18 +51,18 @@ pub record GoesOn (Stands : State → Type 0) (now : Phase) (old new : Place) (s
   pub advances : Advances old new script (behind at)
 
 -- A limit stopped the session within the part.
-pub record Stops (budget : ℕ) (Stands : State → Type 0) (now : Phase) (limit : session.Limit) (old new : Place) (script : Script) : Type 0 where
+pub record Stops (budget : ℕ) (Stands : State → Type 0) (May : Limit → State → Type 0) (now : Phase) (limit : Limit) (old new : Place) (script : Script) : Type 0 where
   pub rest : Script
   pub advances : Advances old new script rest
-  pub stops : EngineStops budget Stands now script limit rest
+  pub stops : EngineStops budget Stands May now script limit rest
 
--- What a part of a session with this script has done that answers so, where its queries have this budget and `behind` is the script of what
--- follows it: it goes on, ends the script, or stops within it; a failed write leaves a beginning.
-abbrev pub Does : ℕ → (State → Type 0) → Phase → Place → Place → Script → (World → Script) → Result Flow Fault → Type 0
-Does budget Stands now old new script behind (Ok flow.On) = GoesOn Stands now old new script behind
-Does budget Stands now old new script behind (Ok (flow.Halts status)) = Advances old new script (Closes (Halts status))
-Does budget Stands now old new script behind (Ok (flow.Stops limit)) = Stops budget Stands now (limit_of limit) old new script
-Does budget Stands now old new script behind (Err fault) = Begins old.0 new.0 (script_bytes old.1 script)
+-- What a part of a session with this script has done that answers so, where its queries have this budget, limits may come in these pieces of a
+-- walk, and `behind` is the script of what follows it: it goes on, ends the script, or stops within it; a failed write leaves a beginning.
+abbrev pub Does : ℕ → (State → Type 0) → (Limit → State → Type 0) → Phase → Place → Place → Script → (World → Script) → Result Flow Fault → Type 0
+Does budget Stands May now old new script behind (Ok flow.On) = GoesOn Stands now old new script behind
+Does budget Stands May now old new script behind (Ok (flow.Halts status)) = Advances old new script (Closes (Halts status))
+Does budget Stands May now old new script behind (Ok (flow.Stops limit)) = Stops budget Stands May now limit old new script
+Does budget Stands May now old new script behind (Err fault) = Begins old.0 new.0 (script_bytes old.1 script)
 
 -- A line was written, and the session goes on so; or memory for it was refused, and nothing was written.
 abbrev pub PutsLine : List ℕ → Flow → Place → Place → Result Flow Fault → Type 0
@@ -87,7 +80,7 @@ ended_of (flow.Stops limit.Memory) = ended.NoMemory
 
 -- what is written at the end: the line of a limit
 abbrev pub closing_bytes : Bool → Flow → List ℕ
-closing_bytes within (flow.Stops limit) = piece_bytes within (Line (session.limit_line (limit_of limit)))
+closing_bytes within (flow.Stops limit) = piece_bytes within (Line (limit_line limit))
 closing_bytes within other = []
 
 -- a count of 64 bits, which stays at the greatest number

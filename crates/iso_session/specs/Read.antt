@@ -1,10 +1,10 @@
 -- What was read.
 use Rattle.std.specs.Prelude.{◌≡◌, true, List, Option, Some, None}
-use Rattle.iso_model.specs.Trees.{arities_fit}
-use Rattle.iso_model.specs.Terms.{term_of}
-use Rattle.iso_model.specs.Copies.{IsNumbered}
-use Rattle.iso_model.specs.Token.{Shown}
-use Rattle.iso_model.specs.Items as model
+use Rattle.iso_model.specs.Terms.Trees.{arities_fit}
+use Rattle.iso_model.specs.Terms.TermOf.{term_of}
+use Rattle.iso_model.specs.Terms.Copies.{IsNumbered}
+use Rattle.iso_model.specs.Syntax.Token.{Shown}
+use Rattle.iso_model.specs.Syntax.Items as model
 use Rattle.iso_read.specs.Answers.{clause_read}
 use Rattle.iso_session.specs.declared.items.Item.{Item}
 use Rattle.iso_session.specs.declared.items.Item.TheVariants as item

@@ -7,8 +7,8 @@ use Rattle.clap.specs.Words.{App, Rule, Text, IsAmong, fault_of, first_of, match
 use Rattle.clap.specs.declared.builder.action.ArgAction.TheVariants.{Set}
 use Rattle.clap.specs.declared.error.kind.ErrorKind.{ErrorKind}
 use Rattle.clap.specs.declared.error.kind.ErrorKind.TheVariants.{DisplayHelp, OutOfMemory}
-use Rattle.iso_model.specs.Characters.{is_digit}
-use Rattle.iso_model.specs.Token.{digits_value}
+use Rattle.iso_model.specs.Syntax.Characters.{is_digit}
+use Rattle.iso_model.specs.Syntax.Token.{digits_value}
 use Rattle.iso_session.specs.declared.statuses.Choice.{Choice}
 use Rattle.iso_session.specs.declared.statuses.Choice.TheVariants.{Plain}
 use Rattle.iso_session.specs.declared.words.Words.{Words}

@@ -1,6 +1,6 @@
 //! The part of a program text that is consulted.
 ghost use Rattle.std.specs.Prelude.{◌≡◌};
-ghost use Rattle.iso_model.specs.Sessions as sessions;
+ghost use Rattle.iso_model.specs.Session.Sessions as sessions;
 
 /// The text without a byte order mark at its start (own).
 fn without_mark(text: &str) -> &str

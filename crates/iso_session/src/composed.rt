@@ -1,8 +1,8 @@
 //! The lines of a session; each is composed whole, with its newline, before any of it is written (own).
 ghost use Rattle.std.specs.Prelude.{◌≡◌, [], ◌∷◌, ◌++◌, codes, map, IfOk, OnOk};
-ghost use Rattle.iso_model.specs.Terms.{term_of};
-ghost use Rattle.iso_model.specs.Lines as lines;
-ghost use Rattle.iso_model.specs.Variables.{distinct_from};
+ghost use Rattle.iso_model.specs.Terms.TermOf.{term_of};
+ghost use Rattle.iso_model.specs.Session.Lines as lines;
+ghost use Rattle.iso_model.specs.Terms.Variables.{distinct_from};
 ghost use Rattle.iso_session.specs.Named.{names_of};
 
 use iso_model::Term;

@@ -1,21 +1,21 @@
 //! Consulting the program text (7.4).
 ghost use Rattle.std.specs.Prelude.{◌≡◌, ℕ, true, length};
-ghost use Rattle.iso_model.specs.Additions.{addition};
-ghost use Rattle.iso_model.specs.Engines.{Ready};
-ghost use Rattle.iso_model.specs.Sessions.{Script, added_script, read_script, term_script, text_script};
-ghost use Rattle.iso_model.specs.Terms.{term_of};
-ghost use Rattle.iso_model.specs.Tokens.{tokens};
-ghost use Rattle.iso_model.specs.Trees.{arities_fit};
-ghost use Rattle.iso_model.specs.Walker.{World, idle};
+ghost use Rattle.iso_model.specs.Search.Additions.{consulted};
+ghost use Rattle.iso_model.specs.Search.Engines.{Ready, MayMeet, KeepsLimits};
+ghost use Rattle.iso_model.specs.Session.Sessions.{Script, added_script, read_script, term_script, text_script};
+ghost use Rattle.iso_model.specs.Terms.TermOf.{term_of};
+ghost use Rattle.iso_model.specs.Syntax.Tokens.{tokens};
+ghost use Rattle.iso_model.specs.Terms.Trees.{arities_fit};
+ghost use Rattle.iso_model.specs.Search.Walker.{World, idle};
 ghost use Rattle.iso_session.specs.Progress.{Does, IsCount};
 ghost use Rattle.iso_session.specs.Read.{item_read, Fits};
 
 use super::composed;
-use super::flows::{Flow, Limit, put_line};
+use super::flows::{Flow, put_line};
 use super::items::{Item, take_item};
 use super::statuses::Fault;
 use super::terms::is_skipped;
-use iso_model::{AddFault, Engine, Term};
+use iso_model::{AddFault, Engine, Limit, Term};
 use iso_token::Tokens;
 use std::alloc::Global;
 use std::io::Write;
@@ -32,10 +32,11 @@ fn consult_term<E: Engine, W: Write>(
     requires ready { E.phase engine.old ≡ Ready }
     requires stands { (w : World) × E.stands_for engine.old (idle w) }
     requires fits { arities_fit (term_of term.now) ≡ true }
-    ensures { (w : World) → E.stands_for engine.old (idle w) → (k : ℕ) → IsCount count k → (budget : ℕ) (next : World → Script)
-        → Does budget (E.stands_for engine.new) (E.phase engine.new)
+    ensures does { (w : World) → E.stands_for engine.old (idle w) → (k : ℕ) → IsCount count k → (budget : ℕ) (next : World → Script)
+        → Does budget (E.stands_for engine.new) (MayMeet (E.heap_pieces engine.new) (E.frames_pieces engine.new)) (E.phase engine.new)
         (W.contents out.old, within_line.old) (W.contents out.new, within_line.new)
-        (added_script k (addition (term_of term.now) w.database) w next) next result }
+        (added_script k (consulted (term_of term.now) w.database) w next) next result }
+    ensures limits { KeepsLimits (MayMeet (E.heap_pieces engine.old) (E.frames_pieces engine.old)) (MayMeet (E.heap_pieces engine.new) (E.frames_pieces engine.new)) }
 {
     match engine.consult(term) {
         Ok(()) => Ok(Flow::On),
@@ -59,10 +60,11 @@ fn consult_read<E: Engine, W: Write>(
     requires ready { E.phase engine.old ≡ Ready }
     requires stands { (w : World) × E.stands_for engine.old (idle w) }
     requires fits { arities_fit (term_of term.now) ≡ true }
-    ensures { (w : World) → E.stands_for engine.old (idle w) → (k : ℕ) → IsCount count k → (budget : ℕ) (next : World → Script)
-        → Does budget (E.stands_for engine.new) (E.phase engine.new)
+    ensures does { (w : World) → E.stands_for engine.old (idle w) → (k : ℕ) → IsCount count k → (budget : ℕ) (next : World → Script)
+        → Does budget (E.stands_for engine.new) (MayMeet (E.heap_pieces engine.new) (E.frames_pieces engine.new)) (E.phase engine.new)
         (W.contents out.old, within_line.old) (W.contents out.new, within_line.new)
         (read_script k (term_of term.now) w next) next result }
+    ensures limits { KeepsLimits (MayMeet (E.heap_pieces engine.old) (E.frames_pieces engine.old)) (MayMeet (E.heap_pieces engine.new) (E.frames_pieces engine.new)) }
 {
     if is_skipped(term) {
         let line = composed::skipped_line(alloc, count);
@@ -83,10 +85,11 @@ fn consult_item<E: Engine, W: Write>(
     requires ready { E.phase engine.old ≡ Ready }
     requires stands { (w : World) × E.stands_for engine.old (idle w) }
     requires fits { Fits item }
-    ensures { (w : World) → E.stands_for engine.old (idle w) → (k : ℕ) → IsCount count k → (budget : ℕ) (next : World → Script)
-        → Does budget (E.stands_for engine.new) (E.phase engine.new)
+    ensures does { (w : World) → E.stands_for engine.old (idle w) → (k : ℕ) → IsCount count k → (budget : ℕ) (next : World → Script)
+        → Does budget (E.stands_for engine.new) (MayMeet (E.heap_pieces engine.new) (E.frames_pieces engine.new)) (E.phase engine.new)
         (W.contents out.old, within_line.old) (W.contents out.new, within_line.new)
         (term_script k (item_read item) w next) next result }
+    ensures limits { KeepsLimits (MayMeet (E.heap_pieces engine.old) (E.frames_pieces engine.old)) (MayMeet (E.heap_pieces engine.new) (E.frames_pieces engine.new)) }
 {
     match item {
         Item::Readable(read) => consult_read(alloc, engine, count, &read.term, out, within_line),
@@ -107,10 +110,11 @@ pub fn consult_text<E: Engine, W: Write>(
 ) -> Result<Flow, Fault>
     requires ready { E.phase engine.old ≡ Ready }
     requires stands { (w : World) × E.stands_for engine.old (idle w) }
-    ensures { (w : World) → E.stands_for engine.old (idle w) → (budget : ℕ) (next : World → Script)
-        → Does budget (E.stands_for engine.new) (E.phase engine.new)
+    ensures does { (w : World) → E.stands_for engine.old (idle w) → (budget : ℕ) (next : World → Script)
+        → Does budget (E.stands_for engine.new) (MayMeet (E.heap_pieces engine.new) (E.frames_pieces engine.new)) (E.phase engine.new)
         (W.contents out.old, within_line.old) (W.contents out.new, within_line.new)
         (text_script (length (tokens text.now)) 1 (tokens text.now) w next) next result }
+    ensures limits { KeepsLimits (MayMeet (E.heap_pieces engine.old) (E.frames_pieces engine.old)) (MayMeet (E.heap_pieces engine.new) (E.frames_pieces engine.new)) }
 {
     let mut tokens = Tokens::new(text);
     let mut count: u64 = 0;

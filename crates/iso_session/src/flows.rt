@@ -1,25 +1,15 @@
 //! How a session goes on behind a part of it, and the lines that it writes.
 ghost use Rattle.std.specs.Prelude.{◌≡◌, ℕ, List, [], ◌∷◌, ◌++◌, IfOk, OnOk, OnErr};
 ghost use Rattle.std.specs.Io.KnownBytes.{Appends};
-ghost use Rattle.iso_model.specs.Beginnings as session;
-ghost use Rattle.iso_model.specs.Beginnings.{Begins};
-ghost use Rattle.iso_session.specs.Progress.{limit_of, PutsLine, ended_of, closing_bytes};
+ghost use Rattle.iso_model.specs.Session.Beginnings as session;
+ghost use Rattle.iso_model.specs.Session.Beginnings.{Begins};
+ghost use Rattle.iso_session.specs.Progress.{PutsLine, ended_of, closing_bytes};
 
 use super::statuses::{Ended, Fault};
 use super::written::write_line;
+use iso_model::Limit;
 use std::alloc::AllocError;
 use std::io::Write;
-
-/// A limit that ends a session.
-#[derive(Clone, Copy, Debug, PartialEq, Eq)]
-pub enum Limit {
-    /// The cells (or nodes) were used up.
-    Heap,
-    /// The frames were used up.
-    Frames,
-    /// Memory was refused.
-    Memory,
-}
 
 /// Whether the session goes on.
 #[derive(Clone, Copy, Debug, PartialEq, Eq)]
@@ -63,7 +53,7 @@ pub fn put_fixed<W: Write>(
 
 /// The line of a limit, with its newline.
 fn limit_line(limit: Limit) -> &'static [u8]
-    ensures { result.now ≡ session.limit_line (limit_of limit) ++ 10 ∷ [] }
+    ensures { result.now ≡ session.limit_line limit ++ 10 ∷ [] }
 {
     match limit {
         Limit::Heap => b"end: heap full\n",

@@ -1,7 +1,7 @@
 //! What is read of a text, item by item.
 ghost use Rattle.std.specs.Prelude.{◌≡◌, ◌<◌, length, true, IfOk, IfSome};
-ghost use Rattle.iso_model.specs.Items.{next_item};
-ghost use Rattle.iso_model.specs.Walker.{State};
+ghost use Rattle.iso_model.specs.Syntax.Items.{next_item};
+ghost use Rattle.iso_model.specs.Search.Walker.{State};
 ghost use Rattle.iso_session.specs.Read.{found, Fits};
 
 use iso_model::Engine;

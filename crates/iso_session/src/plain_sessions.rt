@@ -1,22 +1,25 @@
 //! Sessions with the engines that the program has.
 ghost use Rattle.std.specs.Prelude.{◌≡◌, IfOk, []};
-ghost use Rattle.iso_model.specs.Beginnings.{SessionWrites, AnyRest};
-ghost use Rattle.iso_model.specs.Engines.{Ready};
-ghost use Rattle.iso_model.specs.Walker.{idle, first_world};
+ghost use Rattle.iso_model.specs.Session.Beginnings.{SessionWrites, WalkStops};
+ghost use Rattle.iso_model.specs.Search.Engines.{Ready};
+ghost use Rattle.iso_model.specs.Search.Runs.{ComesOver};
+ghost use Rattle.iso_model.specs.Session.Sessions.{session_script};
+ghost use Rattle.iso_model.specs.Search.Walker.{State, idle, first_world};
 ghost use Rattle.iso_session.specs.Progress.{outcome_of};
 
-use super::flows::{Flow, Limit, close};
+use super::flows::{Flow, close};
 use super::sessions::session_on;
 use super::statuses::{Choice, Ended, Fault};
-use iso_model::{Engine, Limits, NoMemory};
+use iso_model::{Engine, Limit, Limits, NoMemory};
 use iso_plain::plain::Plain;
-use iso_store::Nodes;
+use iso_store::{Nodes, Store};
 use std::alloc::Global;
 use std::io::Write;
 
 /// A session with the engine of this choice, within these limits: the bytes written are those of the standard's search, or, where
-/// heap, frames or memory end it, a beginning of them and the line that says which. The error: a write of at least one byte answered
-/// an error or took 0 bytes; what was written is a beginning.
+/// heap, frames or memory end it, a beginning of them and the line that says which; the frames end it only where the search comes to
+/// more alternatives than there are frames. The error: a write of at least one byte answered an error or took 0 bytes; what was
+/// written is a beginning.
 pub fn session<W: Write>(
     alloc: Global,
     text: &str,
@@ -25,7 +28,9 @@ pub fn session<W: Write>(
     choice: Choice,
     out: &mut W,
 ) -> Result<Ended, Fault>
-    ensures { SessionWrites text.now queries.now limits.now.budget AnyRest (W.contents out.old) (W.contents out.new) (outcome_of result) }
+    ensures { SessionWrites text.now queries.now limits.now.budget
+        (WalkStops limits.now.budget limits.now.frames (session_script text.now queries.now limits.now.budget))
+        (W.contents out.old) (W.contents out.new) (outcome_of result) }
 {
     match choice {
         Choice::Plain => plain_session(alloc, text, queries, limits, out),
@@ -40,7 +45,9 @@ fn plain_session<W: Write>(
     limits: &Limits,
     out: &mut W,
 ) -> Result<Ended, Fault>
-    ensures { SessionWrites text.now queries.now limits.now.budget AnyRest (W.contents out.old) (W.contents out.new) (outcome_of result) }
+    ensures { SessionWrites text.now queries.now limits.now.budget
+        (WalkStops limits.now.budget limits.now.frames (session_script text.now queries.now limits.now.budget))
+        (W.contents out.old) (W.contents out.new) (outcome_of result) }
 {
     let Ok(mut engine) = plain_engine(alloc, limits) else {
         return close(Flow::Stops(Limit::Memory), out, &mut false);
@@ -52,7 +59,8 @@ fn plain_session<W: Write>(
 fn plain_engine(alloc: Global, limits: &Limits) -> Result<Plain<Nodes>, NoMemory>
     ensures ready { IfOk result (λ engine. ⟦<Plain<Nodes> as Engine>⟧.phase engine ≡ Ready) }
     ensures new { IfOk result (λ engine. ⟦<Plain<Nodes> as Engine>⟧.stands_for engine (idle first_world)) }
-    ensures frames { IfOk result (λ engine. engine.limit ≡ limits.now.frames) }
+    ensures frames { IfOk result (λ engine. (s : State) → ⟦<Plain<Nodes> as Engine>⟧.frames_pieces engine s → ComesOver limits.now.frames s) }
+    ensures cells { IfOk result (λ engine. (⟦<Nodes as Store>⟧.present engine.store).limit ≡ limits.now.cells) }
 {
     let store = Nodes::new(alloc, limits.cells)?;
     Plain::new(alloc, store, limits.frames)

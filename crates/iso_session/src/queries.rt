@@ -1,26 +1,26 @@
 //! Running the queries, each to its end.
-ghost use Rattle.std.specs.Prelude.{◌≡◌, ◌≢◌, ℕ, true, length};
-ghost use Rattle.iso_model.specs.Engines.{Ready, Spent};
-ghost use Rattle.iso_model.specs.Grammar.{Clause};
-ghost use Rattle.iso_model.specs.Items.{Readable};
-ghost use Rattle.iso_model.specs.Sessions.{Script, Closes, Done, query_goal, query_script, queries_script};
-ghost use Rattle.iso_model.specs.Terms.{term_of};
-ghost use Rattle.iso_model.specs.Copies.{IsNumbered};
-ghost use Rattle.iso_model.specs.Tokens.{tokens};
-ghost use Rattle.iso_model.specs.Trees.{arities_fit};
-ghost use Rattle.iso_model.specs.Walker.{State, World, idle, started};
+ghost use Rattle.std.specs.Prelude.{◌≡◌, ℕ, true, length};
+ghost use Rattle.iso_model.specs.Search.Engines.{Ready, IsAwake, MayMeet, KeepsLimits};
+ghost use Rattle.iso_model.specs.Syntax.Grammar.{Clause};
+ghost use Rattle.iso_model.specs.Syntax.Items.{Readable};
+ghost use Rattle.iso_model.specs.Session.Sessions.{Script, Closes, Done, query_goal, query_script, queries_script};
+ghost use Rattle.iso_model.specs.Terms.TermOf.{term_of};
+ghost use Rattle.iso_model.specs.Terms.Copies.{IsNumbered};
+ghost use Rattle.iso_model.specs.Syntax.Tokens.{tokens};
+ghost use Rattle.iso_model.specs.Terms.Trees.{arities_fit};
+ghost use Rattle.iso_model.specs.Search.Walker.{State, World, idle, started};
 ghost use Rattle.iso_read.specs.Answers.{clause_read};
 ghost use Rattle.iso_session.specs.Named.{names_of};
 ghost use Rattle.iso_session.specs.Progress.{Does, EndsQuery};
 ghost use Rattle.iso_session.specs.Read.{item_read, Fits};
 
 use super::composed;
-use super::flows::{Flow, Limit, put_fixed, put_line};
+use super::flows::{Flow, put_fixed, put_line};
 use super::items::{Item, take_item};
 use super::statuses::Fault;
 use super::terms::goal_of;
 use super::written::write_output;
-use iso_model::{Engine, Pause, StartFault};
+use iso_model::{Engine, Limit, Pause, StartFault};
 use iso_ops::OpTable;
 use iso_read::Read;
 use iso_token::Tokens;
@@ -64,13 +64,14 @@ fn run_pauses<E: Engine, W: Write>(
     out: &mut W,
     within_line: &mut bool,
 ) -> Result<Flow, Fault>
-    requires awake { E.phase engine.old ≢ Spent }
+    requires awake { IsAwake (E.phase engine.old) }
     requires stands { (s : State) × E.stands_for engine.old s }
-    ensures { (query : Clause) (w : World) (budget : ℕ) → names_of names.now ≡ query.names
+    ensures does { (query : Clause) (w : World) (budget : ℕ) → names_of names.now ≡ query.names
         → E.stands_for engine.old (started (query_goal query.term) budget w) → (next : World → Script)
-        → Does budget (E.stands_for engine.new) (E.phase engine.new)
+        → Does budget (E.stands_for engine.new) (MayMeet (E.heap_pieces engine.new) (E.frames_pieces engine.new)) (E.phase engine.new)
         (W.contents out.old, within_line.old) (W.contents out.new, within_line.new)
         (query_script budget (Readable query) w next) next result }
+    ensures limits { KeepsLimits (MayMeet (E.heap_pieces engine.old) (E.frames_pieces engine.old)) (MayMeet (E.heap_pieces engine.new) (E.frames_pieces engine.new)) }
 {
     let mut count: u64 = 0;
     loop {
@@ -103,10 +104,11 @@ fn run_query<E: Engine, W: Write>(
     requires stands { (w : World) × E.stands_for engine.old (idle w) }
     requires fits { arities_fit (term_of read.now.term) ≡ true }
     requires numbered { IsNumbered (term_of read.now.term) }
-    ensures { (w : World) → E.stands_for engine.old (idle w) → (next : World → Script)
-        → Does budget (E.stands_for engine.new) (E.phase engine.new)
+    ensures does { (w : World) → E.stands_for engine.old (idle w) → (next : World → Script)
+        → Does budget (E.stands_for engine.new) (MayMeet (E.heap_pieces engine.new) (E.frames_pieces engine.new)) (E.phase engine.new)
         (W.contents out.old, within_line.old) (W.contents out.new, within_line.new)
         (query_script budget (Readable (clause_read read.now)) w next) next result }
+    ensures limits { KeepsLimits (MayMeet (E.heap_pieces engine.old) (E.frames_pieces engine.old)) (MayMeet (E.heap_pieces engine.new) (E.frames_pieces engine.new)) }
 {
     match engine.start(goal_of(&read.term), budget) {
         Ok(()) => run_pauses(alloc, engine, read.names.as_slice(), out, within_line),
@@ -127,10 +129,11 @@ fn run_item<E: Engine, W: Write>(
     requires ready { E.phase engine.old ≡ Ready }
     requires stands { (w : World) × E.stands_for engine.old (idle w) }
     requires fits { Fits item }
-    ensures { (w : World) → E.stands_for engine.old (idle w) → (next : World → Script)
-        → Does budget (E.stands_for engine.new) (E.phase engine.new)
+    ensures does { (w : World) → E.stands_for engine.old (idle w) → (next : World → Script)
+        → Does budget (E.stands_for engine.new) (MayMeet (E.heap_pieces engine.new) (E.frames_pieces engine.new)) (E.phase engine.new)
         (W.contents out.old, within_line.old) (W.contents out.new, within_line.new)
         (query_script budget (item_read item) w next) next result }
+    ensures limits { KeepsLimits (MayMeet (E.heap_pieces engine.old) (E.frames_pieces engine.old)) (MayMeet (E.heap_pieces engine.new) (E.frames_pieces engine.new)) }
 {
     match item {
         Item::Readable(read) => run_query(alloc, engine, &read, budget, out, within_line),
@@ -149,10 +152,11 @@ pub fn run_queries<E: Engine, W: Write>(
 ) -> Result<Flow, Fault>
     requires ready { E.phase engine.old ≡ Ready }
     requires stands { (w : World) × E.stands_for engine.old (idle w) }
-    ensures { (w : World) → E.stands_for engine.old (idle w)
-        → Does budget (E.stands_for engine.new) (E.phase engine.new)
+    ensures does { (w : World) → E.stands_for engine.old (idle w)
+        → Does budget (E.stands_for engine.new) (MayMeet (E.heap_pieces engine.new) (E.frames_pieces engine.new)) (E.phase engine.new)
         (W.contents out.old, within_line.old) (W.contents out.new, within_line.new)
         (queries_script (length (tokens queries.now)) budget (tokens queries.now) w) (λ _. Closes Done) result }
+    ensures limits { KeepsLimits (MayMeet (E.heap_pieces engine.old) (E.frames_pieces engine.old)) (MayMeet (E.heap_pieces engine.new) (E.frames_pieces engine.new)) }
 {
     let mut tokens = Tokens::new(queries);
     loop {

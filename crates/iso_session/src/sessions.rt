@@ -1,9 +1,9 @@
 //! A session: the text is consulted, then each query is run to its end.
 ghost use Rattle.std.specs.Prelude.{◌≡◌, []};
-ghost use Rattle.iso_model.specs.Engines.{Ready};
-ghost use Rattle.iso_model.specs.Sessions.{Closes, Done, session_script};
-ghost use Rattle.iso_model.specs.Walker.{idle, first_world};
-ghost use Rattle.iso_model.specs.Beginnings.{SessionWrites, EngineStops};
+ghost use Rattle.iso_model.specs.Search.Engines.{Ready, MayMeet, KeepsLimits};
+ghost use Rattle.iso_model.specs.Session.Sessions.{Closes, Done, session_script};
+ghost use Rattle.iso_model.specs.Search.Walker.{idle, first_world};
+ghost use Rattle.iso_model.specs.Session.Beginnings.{SessionWrites, EngineStops};
 ghost use Rattle.iso_session.specs.Progress.{Does, outcome_of};
 
 use super::bodies::body_of_text;
@@ -27,9 +27,10 @@ fn run_parts<E: Engine, W: Write>(
 ) -> Result<Flow, Fault>
     requires ready { E.phase engine.old ≡ Ready }
     requires new { E.stands_for engine.old (idle first_world) }
-    ensures { Does budget (E.stands_for engine.new) (E.phase engine.new)
+    ensures does { Does budget (E.stands_for engine.new) (MayMeet (E.heap_pieces engine.new) (E.frames_pieces engine.new)) (E.phase engine.new)
         (W.contents out.old, within_line.old) (W.contents out.new, within_line.new)
         (session_script text.now queries.now budget) (λ _. Closes Done) result }
+    ensures limits { KeepsLimits (MayMeet (E.heap_pieces engine.old) (E.frames_pieces engine.old)) (MayMeet (E.heap_pieces engine.new) (E.frames_pieces engine.new)) }
 {
     match consult_text(alloc, engine, body_of_text(text), out, within_line)? {
         Flow::On => run_queries(alloc, engine, queries, budget, out, within_line),
@@ -37,8 +38,9 @@ fn run_parts<E: Engine, W: Write>(
     }
 }
 
-/// Consults the text and runs the queries on a new engine, each query with the whole budget. The error: a write of at
-/// least one byte answered an error or took 0 bytes; what was written is a beginning.
+/// Consults the text and runs the queries on a new engine, each query with the whole budget. Heap or frames end it only
+/// where the engine is spent by them, in a piece of the walk that it named for them as it was given. The error: a write
+/// of at least one byte answered an error or took 0 bytes; what was written is a beginning.
 pub fn session_on<E: Engine, W: Write>(
     alloc: Global,
     engine: &mut E,
@@ -49,7 +51,8 @@ pub fn session_on<E: Engine, W: Write>(
 ) -> Result<Ended, Fault>
     requires ready { E.phase engine.old ≡ Ready }
     requires new { E.stands_for engine.old (idle first_world) }
-    ensures { SessionWrites text.now queries.now budget (EngineStops budget (E.stands_for engine.new) (E.phase engine.new) (session_script text.now queries.now budget))
+    ensures { SessionWrites text.now queries.now budget (EngineStops budget (E.stands_for engine.new) (MayMeet (E.heap_pieces engine.old) (E.frames_pieces engine.old)) (E.phase engine.new)
+        (session_script text.now queries.now budget))
         (W.contents out.old) (W.contents out.new) (outcome_of result) }
 {
     let mut within_line = false;

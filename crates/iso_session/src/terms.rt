@@ -1,10 +1,10 @@
 //! Terms of a text that are no clauses, and the goals of queries (7.4).
 ghost use Rattle.std.specs.Prelude.{◌≡◌, true};
-ghost use Rattle.iso_model.specs.Copies.{IsNumbered};
-ghost use Rattle.iso_model.specs.Errors.{key};
-ghost use Rattle.iso_model.specs.Sessions as sessions;
-ghost use Rattle.iso_model.specs.Terms.{term_of};
-ghost use Rattle.iso_model.specs.Trees.{arities_fit};
+ghost use Rattle.iso_model.specs.Terms.Copies.{IsNumbered};
+ghost use Rattle.iso_model.specs.Search.Errors.{key};
+ghost use Rattle.iso_model.specs.Session.Sessions as sessions;
+ghost use Rattle.iso_model.specs.Terms.TermOf.{term_of};
+ghost use Rattle.iso_model.specs.Terms.Trees.{arities_fit};
 
 use iso_model::Term;
 

@@ -2,8 +2,8 @@
 ghost use Rattle.std.specs.Prelude.{◌≡◌, ◌≤◌, ◌^◌, true, false, Some, None, map, option_map, IfOk, MatchResult, MatchOption};
 ghost use Rattle.std.specs.List.{list_all};
 ghost use Rattle.clap.specs.Words.{app_of, rule_of, found_of, first_value, kind_of};
-ghost use Rattle.iso_model.specs.Characters.{is_digit};
-ghost use Rattle.iso_model.specs.Token.{digits_value};
+ghost use Rattle.iso_model.specs.Syntax.Characters.{is_digit};
+ghost use Rattle.iso_model.specs.Syntax.Token.{digits_value};
 ghost use Rattle.iso_session.specs.Words as asked;
 ghost use Rattle.iso_session.specs.declared.words.WordsFault.TheVariants.{Usage, NoMemory};
 

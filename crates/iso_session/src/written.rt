@@ -1,8 +1,8 @@
 //! What a session has written: outputs as they are, and lines that begin at the start of a line.
 ghost use Rattle.std.specs.Prelude.{◌≡◌, [], ◌∷◌, ◌++◌, OnOk, OnErr, if◌then◌else◌, false};
 ghost use Rattle.std.specs.Io.KnownBytes.{Appends};
-ghost use Rattle.iso_model.specs.Sessions.{ends_within};
-ghost use Rattle.iso_model.specs.Beginnings.{Begins};
+ghost use Rattle.iso_model.specs.Session.Sessions.{ends_within};
+ghost use Rattle.iso_model.specs.Session.Beginnings.{Begins};
 
 use super::statuses::Fault;
 use std::io::Write;

@@ -1,10 +1,10 @@
 -- Bindings that come one after another.
 use Rattle.std.proofs.Common.{◌≡◌, ℕ, ◌<◌, Bool, true, false, refl, ap, sym, ◌∙◌, IfOk, Result, Ok, Err, arith}
-use Rattle.iso_model.specs.Trees.{Tree, Variable}
-use Rattle.iso_model.specs.Substitutions.{Subst, apply, compose}
-use Rattle.iso_model.specs.Unification.Applied.{apply_apply}
-use Rattle.iso_model.specs.Unification.Composed.{unifier_sym, never_sym}
-use Rattle.iso_model.proofs.UnifierLemmas.{compose_compose}
+use Rattle.iso_model.specs.Terms.Trees.{Tree, Variable}
+use Rattle.iso_model.specs.Terms.Substitutions.{Subst, apply, compose}
+use Rattle.iso_model.specs.Terms.Unification.Applied.{apply_apply}
+use Rattle.iso_model.specs.Terms.Unification.Composed.{unifier_sym, never_sym}
+use Rattle.iso_model.proofs.OnTerms.UnifierLemmas.{compose_compose}
 use Rattle.iso_store.specs.declared.shapes.StoreFault.{StoreFault}
 use Rattle.iso_store.specs.Presents.{Present, Holds, meaning, Grows, Binds, IsUnification}
 use Rattle.iso_store.specs.Arguments.{arity, argument}
@@ -39,6 +39,7 @@ binds-meaning {W} {p} {q} {r} h w holds =
 pub grows-then : {W : Type 0} {p q u : Present W} → Grows p q 0 → Grows q u 0 → Grows p u 0
 grows-then first second = record {
   cells = let a = first.cells in let b = second.cells in omega arith;
+  keeps = let a = first.keeps in let b = second.keeps in omega arith;
   limit = second.limit ∙ first.limit;
   within = λ h. second.within (first.within h);
 }

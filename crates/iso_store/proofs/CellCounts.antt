@@ -1,9 +1,10 @@
--- How many nodes a copy takes: no more than the size of its term.
-use Rattle.std.proofs.Common.{ℕ, ◌+◌, ◌≤◌, List, [], ◌∷◌, ◌++◌, length, Bool, true, false, arith, length-append, if◌then◌else◌}
-use Rattle.iso_model.specs.Trees.{Tree, Variable, Integer, Name, Apply, End, More}
-use Rattle.iso_model.specs.Sizes.{size}
-use Rattle.iso_model.specs.Variables.{is_in, distinct_from, variable_count}
+-- How many cells a copy takes: no more nodes than the size of its term, and a cell for each number that it uses.
+use Rattle.std.proofs.Common.{ℕ, ◌+◌, ◌<◌, ◌≤◌, List, [], ◌∷◌, ◌++◌, length, Bool, true, false, arith, length-append, if◌then◌else◌, OnOk, Result, Ok, Err}
+use Rattle.iso_model.specs.Terms.Trees.{Tree, Variable, Integer, Name, Apply, End, More}
+use Rattle.iso_model.specs.Terms.Sizes.{size}
+use Rattle.iso_model.specs.Terms.Variables.{is_in, distinct_from, variable_count}
 use Rattle.iso_store.specs.Copying.{cells_of}
+use Rattle.iso_store.specs.Presents.{Present, KeepsNumbers, TakesNumber, TakesFrom, MovesOn, Grows, NumbersHaveCells}
 
 added : (seen : List ℕ) (n : ℕ) (b : Bool) → length (if b then seen else (seen ++ n ∷ [])) ≤ length seen + 1
 added seen n true = omega arith
@@ -20,3 +21,23 @@ counted-from seen (More t ts) = omega (arith, counted-from seen t, counted-from 
 -- a node for each variable, and one for each other part
 pub nodes-within : (t : Tree) → variable_count t + cells_of (λ n. 1) t ≤ size t
 nodes-within t = let whole = counted-from [] t in omega arith
+
+-- what building comes to: numbers reserved, a variable made for each, and then the term, which uses no number
+pub built-counted : {W E : Type 0} {p q r : Present W} {first count more : ℕ} (u : Present W) (result : Result W E) → MovesOn p q count → Grows p q 0 → TakesFrom q r first → q.cells + count ≤ r.cells → Grows r u more → OnOk result (KeepsNumbers r u) → OnOk result (NumbersHaveCells p u)
+built-counted u (Ok w) moved reserved taken each grows numbers =
+    let next = moved.next in
+    let kept = reserved.keeps in
+    let same = taken.next in
+    let on = grows.keeps in
+    let end = numbers.next in
+    omega arith
+built-counted u (Err e) moved reserved taken each grows numbers = numbers
+
+-- a number reserved, and its variable made
+pub variable-counted : {W E : Type 0} {p q : Present W} (r : Present W) (number : ℕ) (result : Result W E) → MovesOn p q 1 → Grows p q 0 → OnOk result (TakesNumber q r number) → OnOk result (q.cells < r.cells) → OnOk result (NumbersHaveCells p r)
+variable-counted r number (Ok w) moved reserved taken more =
+    let next = moved.next in
+    let kept = reserved.keeps in
+    let same = taken.next in
+    omega arith
+variable-counted r number (Err e) moved reserved taken more = taken

@@ -3,11 +3,11 @@ use Rattle.std.proofs.Common.{◌≡◌, ◌≢◌, ℕ, ◌<◌, List, [], leng
 use Rattle.std.proofs.lemmas.Bool.{cases_eq}
 use Rattle.std.proofs.lemmas.Option.{slice_get-get_or}
 use Rattle.iso_atoms.specs.Texts.{text_at, EachOnce}
-use Rattle.iso_model.specs.Trees.{Tree, Integer, Name, Apply, count}
-use Rattle.iso_model.specs.Sorts.{is_term}
-use Rattle.iso_model.specs.Substitutions.{apply}
-use Rattle.iso_model.specs.Unifiers.{NeverEqual}
-use Rattle.iso_model.proofs.SortLemmas.{count-apply}
+use Rattle.iso_model.specs.Terms.Trees.{Tree, Integer, Name, Apply, count}
+use Rattle.iso_model.specs.Terms.Sorts.{is_term}
+use Rattle.iso_model.specs.Terms.Substitutions.{apply}
+use Rattle.iso_model.specs.Terms.Unifiers.{NeverEqual}
+use Rattle.iso_model.proofs.OnTerms.SortLemmas.{count-apply}
 use Rattle.iso_store.specs.declared.shapes.Shape.{Shape}
 use Rattle.iso_store.specs.declared.shapes.Shape.TheVariants.{Var, Int, Atom, Compound}
 use Rattle.iso_store.specs.Shapes.{IsShape}

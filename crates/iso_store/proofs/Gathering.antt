@@ -2,12 +2,12 @@
 use Rattle.std.proofs.Common.{◌≡◌, ℕ, zero, suc, ◌+◌, ◌<◌, ◌≤◌, List, [], ◌∷◌, ◌++◌, length, map, take, get_or, true, false, refl, ap, ap₂, sym, ◌∙◌, subst, arith, IfOk, OnOk, Result, Ok, Err, Some}
 use Rattle.std.proofs.lemmas.List.{length-map, map-append, take_all, get_or-map}
 use Rattle.std.proofs.Math.Seq.{take-suc}
-use Rattle.iso_model.specs.Trees.{Tree, Variable, Apply, End, row}
-use Rattle.iso_model.specs.Variables.{occurs, variables, variable_count}
-use Rattle.iso_model.specs.Copies.{place_of, copy_from, numbers_from}
-use Rattle.iso_model.specs.Unification.Applied.{apply_same}
-use Rattle.iso_model.specs.Unification.Listed.{distinct_covers}
-use Rattle.iso_model.specs.Substitutions.{apply}
+use Rattle.iso_model.specs.Terms.Trees.{Tree, Variable, Apply, End, row}
+use Rattle.iso_model.specs.Terms.Variables.{occurs, variables, variable_count}
+use Rattle.iso_model.specs.Terms.Copies.{place_of, copy_from, numbers_from}
+use Rattle.iso_model.specs.Terms.Unification.Applied.{apply_same}
+use Rattle.iso_model.specs.Terms.Unification.Listed.{distinct_covers}
+use Rattle.iso_model.specs.Terms.Substitutions.{apply}
 use Rattle.iso_store.specs.Places.{place_in}
 use Rattle.iso_store.specs.Copying.{placed_terms}
 use Rattle.iso_store.proofs.Parts.{place-found, place-within}
@@ -52,6 +52,7 @@ numbers-then first second = record { next = second.next ∙ first.next; taken = 
 pub grows-on : {W : Type 0} {p q r : Present W} {m n : ℕ} (k : ℕ) → Grows p q m → Grows q r n → m + n ≤ k → Grows p r k
 grows-on k first second within = record {
   cells = let a = first.cells in let b = second.cells in omega arith;
+  keeps = let a = first.keeps in let b = second.keeps in omega arith;
   limit = second.limit ∙ first.limit;
   within = λ h. second.within (first.within h);
 }
@@ -176,4 +177,4 @@ moved-on r number (Ok w) is moved taken = record {
 moved-on r number (Err e) is moved taken = taken
 
 pub grows-within : {W : Type 0} {p q : Present W} {m : ℕ} (k : ℕ) → Grows p q m → m ≤ k → Grows p q k
-grows-within k grows more = record { cells = let a = grows.cells in omega arith; limit = grows.limit; within = grows.within }
+grows-within k grows more = record { cells = let a = grows.cells in omega arith; keeps = grows.keeps; limit = grows.limit; within = grows.within }

@@ -4,7 +4,6 @@ pub mod Steps
 pub mod Bound
 pub mod Resets
 pub mod Marked
-pub mod NodeLemmas
 pub mod Names
 pub mod Trails
 pub mod NodeReads

@@ -3,7 +3,7 @@ use Rattle.std.proofs.Common.{◌≡◌, ℕ, ◌<◌, List, [], ◌∷◌, ◌+
 use Rattle.std.specs.List.{slice_get, slice_index_or, list_any}
 use Rattle.std.proofs.lemmas.Option.{slice_get_within, slice_get-get_or, get_or_from_slice_get}
 use Rattle.iso_atoms.specs.Texts.{KeepsTexts, text_at}
-use Rattle.iso_model.specs.Trees.{Tree, Variable, Name, Apply, End, row}
+use Rattle.iso_model.specs.Terms.Trees.{Tree, Variable, Name, Apply, End, row}
 use Rattle.iso_store.specs.declared.nodes.Node.{Node}
 use Rattle.iso_store.specs.declared.nodes.Node.TheVariants.{Var, Int, Atom, Compound}
 use Rattle.iso_store.specs.declared.marks.NodesMark.{NodesMark}

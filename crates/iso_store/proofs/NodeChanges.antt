@@ -1,18 +1,19 @@
 -- A node more and a binding more keep a store.
-use Rattle.std.proofs.Common.{◌≡◌, ◌≢◌, ℕ, zero, suc, ◌<◌, ◌≤◌, ◌==◌, List, [], ◌∷◌, ◌++◌, length, set, Bool, true, false, ◌||◌, refl, ap, sym, ◌∙◌, subst, arith, length-append, length-set, Some, None, Vec, Global, ◌⊎◌, inl, inr, if◌then◌else◌}
-use Rattle.std.specs.List.{slice_get, list_any}
+use Rattle.std.proofs.Common.{◌≡◌, ◌≢◌, ℕ, zero, suc, ◌<◌, ◌≤◌, ◌==◌, List, [], ◌∷◌, ◌++◌, length, set, Bool, true, false, refl, ap, sym, ◌∙◌, subst, arith, length-append, length-set, Some, None, Vec, Global, ◌⊎◌, inl, inr, if◌then◌else◌}
+use Rattle.std.specs.List.{slice_get}
 use Rattle.std.proofs.lemmas.List.{map-append}
 use Rattle.std.proofs.lemmas.Bool.{false≢true, and_from, or_cases, or_left, or_right, eqb-true, eq-eqb, cases_eq}
 use Rattle.std.proofs.lemmas.Option.{slice_get_within}
-use Rattle.iso_model.specs.Trees.{Variable}
-use Rattle.iso_model.specs.Variables.{occurs, is_in}
-use Rattle.iso_model.specs.Substitutions.{apply, compose, single}
+use Rattle.iso_model.specs.Terms.Trees.{Variable}
+use Rattle.iso_model.specs.Terms.Variables.{occurs, is_in}
+use Rattle.iso_model.specs.Terms.Substitutions.{apply, compose, single}
 use Rattle.iso_store.specs.declared.nodes.Node.{Node}
 use Rattle.iso_store.specs.declared.nodes.Node.TheVariants.{Var, Atom, Compound}
 use Rattle.iso_store.specs.NodeTerms.{term_at, binding_of, binding_at, bindings, bind_all, substitution_of, all_may_bind}
-use Rattle.iso_store.specs.NodeStores.{is_bound, has_number, IsStore, MayPush}
-use Rattle.iso_store.proofs.NodeLemmas.{term_at-push, term_at-bound}
-use Rattle.iso_store.proofs.NodeReads.{trail_parts, free_value}
+use Rattle.iso_store.specs.NodeStores.{is_bound, IsStore, MayPush}
+use Rattle.iso_store.specs.NodeLemmas.{term_at-push, term_at-bound}
+use Rattle.iso_store.specs.NodeNumbers.{unnumbered, trail_parts}
+use Rattle.iso_store.proofs.NodeReads.{free_value}
 use Rattle.iso_store.proofs.Trails.{bind_all-push, may_bind-push, may_bind-from}
 
 -- a node of a longer list is one of the list, or the last one
@@ -38,19 +39,6 @@ pub slice_get-here : (cs : List Node) (e : ℕ) (v x : Node) → slice_get cs e 
 slice_get-here [] e v x h = absurd (cc)
 slice_get-here (c ∷ cs) zero v x h = refl
 slice_get-here (c ∷ cs) (suc e) v x h = slice_get-here cs e v x h
-
--- no node of the list has the number
-unnumbered : (cs : List Node) (n : ℕ) → list_any (has_number n) cs ≡ false → (w : ℕ) (b : _) → slice_get cs w ≢ Some (Var n b)
-unnumbered [] n h w b e = cc
-unnumbered (c ∷ cs) n h zero b e =
-    let is : Var n b ≡ c = cc in
-    let here : has_number n c ≡ true = ap (has_number n) (sym is) ∙ eq-eqb n n refl in
-    false≢true (sym h ∙ or_left (has_number n c) (list_any (has_number n) cs) here)
-unnumbered (c ∷ cs) n h (suc w) b e = unnumbered cs n (or_false_right (has_number n c) (list_any (has_number n) cs) h) w b e
-  where
-    or_false_right : (x y : Bool) → x || y ≡ false → y ≡ false
-    or_false_right true y q = absurd (cc)
-    or_false_right false y q = q
 
 -- where these are the names of the atoms
 module _ (names : List (List ℕ)) where

@@ -2,14 +2,14 @@
 use Rattle.std.proofs.Common.{◌≡◌, ℕ, ◌<◌, List, [], ◌∷◌, ◌++◌, length, false, refl, ap, ◌∙◌, arith, length-append, IfOk, is_ok, if◌then◌else◌, Result, Ok, Err, Some, suc}
 use Rattle.std.specs.List.{slice_get, list_any}
 use Rattle.std.proofs.lemmas.Bool.{lt-ltb, ltb-true, ne_eqb, or_from}
-use Rattle.iso_model.specs.Trees.{Tree}
+use Rattle.iso_model.specs.Terms.Trees.{Tree}
 use Rattle.iso_store.specs.declared.nodes.Node.{Node}
 use Rattle.iso_store.specs.declared.nodes.Node.TheVariants.{Var, Int, Atom, Compound}
 use Rattle.iso_store.specs.declared.shapes.StoreFault.{StoreFault}
 use Rattle.iso_store.specs.Presents.{Makes}
 use Rattle.iso_store.specs.NodeTerms.{node_term, terms_from}
 use Rattle.iso_store.specs.NodeStores.{IsStore, MayPush, has_number, present_of}
-use Rattle.iso_store.proofs.NodeLemmas.{term_at-push, term_at-pushed}
+use Rattle.iso_store.specs.NodeLemmas.{term_at-push, term_at-pushed}
 use Rattle.iso_store.proofs.NodeChanges.{pushed-substitution}
 
 node-untaken : (n : ℕ) (c : Node) → ((m : ℕ) (b : _) → c ≡ Var m b → m < n) → has_number n c ≡ false

@@ -1,28 +1,19 @@
 -- What the nodes of a store show of its words.
-use Rattle.std.proofs.Common.{◌≡◌, ◌≢◌, ℕ, zero, suc, ◌+◌, ◌<◌, ◌≤◌, List, [], ◌∷◌, length, map, get_or, true, false, refl, ap, sym, ◌∙◌, arith, Option, Some, None, Vec, Global, inl, inr}
+use Rattle.std.proofs.Common.{◌≡◌, ◌≢◌, ℕ, zero, suc, ◌+◌, ◌<◌, ◌≤◌, List, [], ◌∷◌, length, map, get_or, false, refl, ap, sym, ◌∙◌, arith, Option, Some, None, Vec, Global, inl, inr}
 use Rattle.std.specs.List.{slice_get}
 use Rattle.iso_atoms.specs.Texts.{text_at}
 use Rattle.std.proofs.lemmas.Bool.{false≢true}
 use Rattle.std.proofs.lemmas.Option.{slice_get_cases, slice_get_within, slice_get_read, get_or_from_slice_get}
-use Rattle.iso_model.specs.Trees.{Tree, Variable, Integer, Name, Apply, row, count}
-use Rattle.iso_model.specs.Variables.{is_in}
-use Rattle.iso_model.specs.Substitutions.{Subst, apply}
+use Rattle.iso_model.specs.Terms.Trees.{Tree, Variable, Integer, Name, Apply, row, count}
+use Rattle.iso_model.specs.Terms.Substitutions.{Subst, apply}
 use Rattle.iso_store.specs.declared.nodes.Node.{Node}
 use Rattle.iso_store.specs.declared.nodes.Node.TheVariants.{Var, Int, Atom, Compound}
 use Rattle.iso_store.specs.Arguments.{member, arity, argument}
-use Rattle.iso_store.specs.NodeTerms.{term_at, binding_of, binding_at, substitution_of}
+use Rattle.iso_store.specs.NodeTerms.{term_at, substitution_of}
 use Rattle.iso_store.specs.NodeStores.{is_bound, IsStore}
-use Rattle.iso_store.proofs.NodeLemmas.{term_at-variable, term_at-integer, term_at-atom, term_at-compound}
-use Rattle.iso_store.proofs.Trails.{bind_all-stays, bind_all-holds}
-
--- a bound node, in parts
-pub bound_parts : (o : Option Node) → is_bound o ≡ true → (n : ℕ) × (j : ℕ) × (o ≡ Some (Var n (Some j)))
-bound_parts None h = absurd (false≢true h)
-bound_parts (Some (Var n None)) h = absurd (false≢true h)
-bound_parts (Some (Var n (Some j))) h = (n, j, refl)
-bound_parts (Some (Int z)) h = absurd (false≢true h)
-bound_parts (Some (Atom a)) h = absurd (false≢true h)
-bound_parts (Some (Compound f ws)) h = absurd (false≢true h)
+use Rattle.iso_store.specs.NodeLemmas.{term_at-variable, term_at-integer, term_at-atom, term_at-compound}
+use Rattle.iso_store.specs.NodeNumbers.{unbound-value}
+use Rattle.iso_store.proofs.Trails.{bind_all-holds}
 
 -- the rank of a node: bindings lead to nodes of lower rank
 abbrev pub rank : Option Node → ℕ
@@ -56,31 +47,20 @@ row-applied-member s f (w ∷ ws) (suc i) h = row-applied-member s f ws i (omega
 -- where these are the names of the atoms
 module _ (names : List (List ℕ)) where
   module _ (cs : List Node) (es : List ℕ) (next : ℕ) (store : IsStore names cs es next) where
-    -- each place of the trail holds a bound variable
-    pub trail_parts : (w : ℕ) → is_in w es ≡ true → (n : ℕ) × (j : ℕ) × (slice_get cs w ≡ Some (Var n (Some j)))
-    trail_parts w h = bound_parts (slice_get cs w) (store.bound w h)
-
     pub free_value : (w n : ℕ) → slice_get cs w ≡ Some (Var n None) → substitution_of names cs es n ≡ Variable n
-    free_value w n free = bind_all-stays names cs es Variable n refl apart
+    free_value w n free = unbound-value names cs es next store n bare
       where
-        apart : (v : ℕ) → is_in v es ≡ true → n ≢ (binding_at names cs v).0
-        apart v h e =
-            let p = trail_parts v h in
-            let same : n ≡ p.0 = e ∙ ap (λ o. (binding_of names cs o).0) p.2 in
-            let there : slice_get cs v ≡ Some (Var n (Some p.1)) = p.2 ∙ ap (λ m. Some (Var m (Some p.1))) (sym same) in
-            let place = store.one_node v w n (Some p.1) None there free in
-            let both : Some (Var n (Some p.1)) ≡ Some (Var n None) = sym there ∙ ap (slice_get cs) place ∙ free in
+        bare : (v j : ℕ) → slice_get cs v ≢ Some (Var n (Some j))
+        bare v j there =
+            let place = store.one_node v w n (Some j) None there free in
+            let both : Some (Var n (Some j)) ≡ Some (Var n None) = sym there ∙ ap (slice_get cs) place ∙ free in
             cc
 
     pub high_value : (n : ℕ) → next ≤ n → substitution_of names cs es n ≡ Variable n
-    high_value n high = bind_all-stays names cs es Variable n refl apart
+    high_value n high = unbound-value names cs es next store n bare
       where
-        apart : (v : ℕ) → is_in v es ≡ true → n ≢ (binding_at names cs v).0
-        apart v h e =
-            let p = trail_parts v h in
-            let same : n ≡ p.0 = e ∙ ap (λ o. (binding_of names cs o).0) p.2 in
-            let below = store.numbered v p.0 (Some p.1) p.2 in
-            absurd (omega arith)
+        bare : (v j : ℕ) → slice_get cs v ≢ Some (Var n (Some j))
+        bare v j there = let below = store.numbered v n (Some j) there in absurd (omega arith)
 
     pub bound_value : (w n j : ℕ) → slice_get cs w ≡ Some (Var n (Some j)) → substitution_of names cs es n ≡ apply (substitution_of names cs es) (term_at names cs j)
     bound_value w n j there =

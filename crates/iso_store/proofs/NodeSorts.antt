@@ -5,20 +5,20 @@ use Rattle.iso_atoms.specs.Texts.{text_at}
 use Rattle.std.proofs.lemmas.Bool.{and_from, or_left, or_right, eq-eqb, le-leb, cases_eq}
 use Rattle.std.proofs.lemmas.Option.{slice_get_cases}
 use Rattle.iso_model.specs.declared.terms.Term.{Term}
-use Rattle.iso_model.specs.Trees.{Tree, Variable, Apply, row, count, arities_fit}
-use Rattle.iso_model.specs.Terms.{term_of}
-use Rattle.iso_model.proofs.MeaningLemmas.{meaning_is_term}
-use Rattle.iso_model.specs.Sorts.{is_term, is_row}
-use Rattle.iso_model.specs.Variables.{is_in}
-use Rattle.iso_model.specs.Substitutions.{Subst, apply, compose, single}
-use Rattle.iso_model.specs.Unification.Applied.{single_at, single_other}
-use Rattle.iso_model.proofs.SortLemmas.{term_applied}
+use Rattle.iso_model.specs.Terms.Trees.{Tree, Variable, Apply, row, count, arities_fit}
+use Rattle.iso_model.specs.Terms.TermOf.{term_of}
+use Rattle.iso_model.proofs.OnTerms.MeaningLemmas.{meaning_is_term}
+use Rattle.iso_model.specs.Terms.Sorts.{is_term, is_row}
+use Rattle.iso_model.specs.Terms.Variables.{is_in}
+use Rattle.iso_model.specs.Terms.Substitutions.{Subst, apply, compose, single}
+use Rattle.iso_model.specs.Terms.Unification.Applied.{single_at, single_other}
+use Rattle.iso_model.proofs.OnTerms.SortLemmas.{term_applied}
 use Rattle.iso_store.specs.declared.nodes.Node.{Node}
 use Rattle.iso_store.specs.declared.nodes.Node.TheVariants.{Var, Int, Atom, Compound}
 use Rattle.iso_store.specs.NodeTerms.{term_at, binding_of, binding_at, bindings, bind_all, substitution_of}
 use Rattle.iso_store.specs.NodeStores.{IsStore}
-use Rattle.iso_store.proofs.NodeLemmas.{term_at-variable, term_at-integer, term_at-atom, term_at-compound}
-use Rattle.iso_store.proofs.NodeReads.{trail_parts}
+use Rattle.iso_store.specs.NodeLemmas.{term_at-variable, term_at-integer, term_at-atom, term_at-compound}
+use Rattle.iso_store.specs.NodeNumbers.{trail_parts}
 
 pub row-count : (f : ℕ → Tree) (ws : List ℕ) → count (row (map f ws)) ≡ length ws
 row-count f [] = refl

@@ -6,14 +6,14 @@ use Rattle.iso_model.specs.declared.terms.Term.{Term}
 use Rattle.iso_model.specs.declared.terms.Term.TheVariants.{Compound, Var, Atom, rolls-Var, rolls-Atom}
 use Rattle.iso_model.specs.declared.terms.Term.TheOpen.{Term-F}
 use Rattle.iso_model.specs.declared.terms.Term.TheFolds.{fold-roll-Term}
-use Rattle.iso_model.specs.Trees.{Tree, Variable, Name, Apply, row, count, arities_fit}
-use Rattle.iso_model.specs.Terms.{term_of, row_of, term_step}
-use Rattle.iso_model.specs.Sizes.{size}
-use Rattle.iso_model.specs.Variables.{occurs, is_in}
-use Rattle.iso_model.specs.Substitutions.{Subst, apply}
-use Rattle.iso_model.specs.Copies.{place_of}
-use Rattle.iso_model.specs.Unification.Listed.{Covers}
-use Rattle.iso_model.proofs.RowLemmas.{term_of_compound, count_row_of}
+use Rattle.iso_model.specs.Terms.Trees.{Tree, Variable, Name, Apply, row, count, arities_fit}
+use Rattle.iso_model.specs.Terms.TermOf.{term_of, row_of, term_step}
+use Rattle.iso_model.specs.Terms.Sizes.{size}
+use Rattle.iso_model.specs.Terms.Variables.{occurs, is_in}
+use Rattle.iso_model.specs.Terms.Substitutions.{Subst, apply}
+use Rattle.iso_model.specs.Terms.Copies.{place_of}
+use Rattle.iso_model.specs.Terms.Unification.Listed.{Covers}
+use Rattle.iso_model.proofs.OnTerms.RowLemmas.{term_of_compound, count_row_of}
 use Rattle.iso_store.specs.Places.{place_in}
 use Rattle.iso_store.specs.Copying.{cells_of}
 use Rattle.iso_store.proofs.Rows.{apply-row}

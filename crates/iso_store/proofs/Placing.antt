@@ -2,8 +2,8 @@
 use Rattle.std.proofs.Common.{◌≡◌, ◌≢◌, ℕ, suc, ◌+◌, ◌==◌, List, [], ◌∷◌, ◌++◌, length, Bool, true, false, cond, refl, ap, sym, ◌∙◌, Option, Some, None, option_map, is_some, nat_cmp, arith, inl, inr, if◌then◌else◌}
 use Rattle.std.proofs.lemmas.Bool.{eq-eqb, ne_eqb, lt-ltb, le-ltb, cases_eq, cases_lt, or_parts, false≢true}
 use Rattle.std.specs.BTreeMap.{is_at}
-use Rattle.iso_model.specs.Variables.{is_in}
-use Rattle.iso_model.specs.Copies.{place_of}
+use Rattle.iso_model.specs.Terms.Variables.{is_in}
+use Rattle.iso_model.specs.Terms.Copies.{place_of}
 use Rattle.iso_store.specs.Places.{place_in}
 
 abbrev after : Option ℕ → Option ℕ

@@ -2,10 +2,10 @@
 use Rattle.std.proofs.Common.{◌≡◌, ℕ, zero, suc, ◌<◌, List, [], ◌∷◌, ◌++◌, map, true, refl, ap, sym, ◌∙◌, arith}
 use Rattle.std.proofs.lemmas.List.{map-append}
 use Rattle.iso_model.specs.declared.terms.Term.{Term}
-use Rattle.iso_model.specs.Trees.{Tree, Variable, Integer, Name, Apply, End, More, row, count}
-use Rattle.iso_model.specs.Terms.{term_of, row_of}
-use Rattle.iso_model.specs.Sorts.{is_term}
-use Rattle.iso_model.specs.Substitutions.{Subst, apply}
+use Rattle.iso_model.specs.Terms.Trees.{Tree, Variable, Integer, Name, Apply, End, More, row, count}
+use Rattle.iso_model.specs.Terms.TermOf.{term_of, row_of}
+use Rattle.iso_model.specs.Terms.Sorts.{is_term}
+use Rattle.iso_model.specs.Terms.Substitutions.{Subst, apply}
 use Rattle.iso_store.specs.Arguments.{arguments, member, front}
 use Rattle.iso_store.proofs.Members.{row_of_term, front-all}
 

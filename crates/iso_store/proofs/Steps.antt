@@ -1,17 +1,17 @@
 -- Unification argument by argument: what is left to be unified, and that it gets less.
 use Rattle.std.proofs.Common.{◌≡◌, ℕ, zero, suc, ◌-◌, ◌<◌, ◌≤◌, List, refl, ap, sym, ◌∙◌, subst, inl, inr, arith, true, false}
-use Rattle.iso_model.specs.Trees.{Tree, Variable, Integer, Name, Apply, End, More, count}
-use Rattle.iso_model.specs.Sorts.{is_term, is_row}
-use Rattle.iso_model.specs.Variables.{occurs}
-use Rattle.iso_model.specs.Substitutions.{Subst, apply, compose, single}
-use Rattle.iso_model.specs.Unifiers.{Unifier, NeverEqual}
-use Rattle.iso_model.specs.Unification.Applied.{apply_apply, apply_none, apply_absorbs}
-use Rattle.iso_model.specs.Unification.Composed.{variable_from}
-use Rattle.iso_model.specs.Unification.Composed.{unifier_same, unifier_apply, unifier_more, unifier_bound, never_apply, never_occurs}
-use Rattle.iso_model.specs.Unification.Unique.{unifier_unique}
-use Rattle.iso_model.specs.Unification.Exists.{Outcome, solved_unifier, exists_or_not}
-use Rattle.iso_model.proofs.Cost.{cost, cost_apply, cost_first, cost_rest}
-use Rattle.iso_model.proofs.UnifierLemmas.{compose_compose}
+use Rattle.iso_model.specs.Terms.Trees.{Tree, Variable, Integer, Name, Apply, End, More, count}
+use Rattle.iso_model.specs.Terms.Sorts.{is_term, is_row}
+use Rattle.iso_model.specs.Terms.Variables.{occurs}
+use Rattle.iso_model.specs.Terms.Substitutions.{Subst, apply, compose, single}
+use Rattle.iso_model.specs.Terms.Unifiers.{Unifier, NeverEqual}
+use Rattle.iso_model.specs.Terms.Unification.Applied.{apply_apply, apply_none, apply_absorbs}
+use Rattle.iso_model.specs.Terms.Unification.Composed.{variable_from}
+use Rattle.iso_model.specs.Terms.Unification.Composed.{unifier_same, unifier_apply, unifier_more, unifier_bound, never_apply, never_occurs}
+use Rattle.iso_model.specs.Terms.Unification.Unique.{unifier_unique}
+use Rattle.iso_model.specs.Terms.Unification.Exists.{Outcome, solved_unifier, exists_or_not}
+use Rattle.iso_model.proofs.OnTerms.Cost.{cost, cost_apply, cost_first, cost_rest}
+use Rattle.iso_model.proofs.OnTerms.UnifierLemmas.{compose_compose}
 use Rattle.iso_store.specs.Arguments.{arguments, arity, member, argument, front}
 use Rattle.iso_store.specs.Shapes.{IsYounger}
 use Rattle.iso_store.proofs.Members.{Equal, row_of_term, front-all, count-grows, member-apply, front-apply, fronts-split, fronts-join, fronts-shorter}

@@ -1,10 +1,10 @@
 -- Bindings one after another: what they keep, and that a variable and what it is bound to stand for one term.
 use Rattle.std.proofs.Common.{◌≡◌, ◌≢◌, ℕ, ◌==◌, List, [], ◌∷◌, ◌++◌, Bool, true, false, not, ◌&&◌, refl, ap, ap₂, sym, ◌∙◌, ◌⊎◌, inl, inr, subst}
-use Rattle.std.proofs.lemmas.Bool.{and_parts, and_from, or_cases, or_left, or_right, eqb-true, eq-eqb, cases_eq, not-true, false≢true, false_from_ne_true}
-use Rattle.iso_model.specs.Trees.{Tree, Variable, Integer, Name, Apply, End, More}
-use Rattle.iso_model.specs.Variables.{occurs, is_in}
-use Rattle.iso_model.specs.Substitutions.{Subst, apply, compose, single}
-use Rattle.iso_model.specs.Unification.Applied.{apply_apply, apply_absorbs, alone_at, single_at, single_other, apply_single_absent}
+use Rattle.std.proofs.lemmas.Bool.{and_parts, and_from, or_cases, eqb-true, eq-eqb, cases_eq, not-true, false≢true, false_from_ne_true}
+use Rattle.iso_model.specs.Terms.Trees.{Tree, Variable, Integer, Name, Apply, End, More}
+use Rattle.iso_model.specs.Terms.Variables.{occurs, is_in}
+use Rattle.iso_model.specs.Terms.Substitutions.{Subst, apply, compose, single}
+use Rattle.iso_model.specs.Terms.Unification.Applied.{apply_apply, apply_absorbs, alone_at, single_at, single_other, apply_single_absent}
 use Rattle.iso_store.specs.declared.nodes.Node.{Node}
 use Rattle.iso_store.specs.NodeTerms.{binding_at, bindings, bind_all, is_variable, may_bind, all_may_bind}
 
@@ -43,16 +43,6 @@ bind_all-equal s [] a b h = h
 bind_all-equal s (c ∷ bs) a b h =
     let t = single c.0 (apply s c.1) in
     bind_all-equal (compose s t) bs a b (sym (apply_apply s t a) ∙ ap (apply t) h ∙ apply_apply s t b)
-
--- a variable that none of the bindings is of
-pub bind_all-stays : (names : List (List ℕ)) (cs : List Node) (es : List ℕ) (s : Subst) (n : ℕ) → s n ≡ Variable n → ((w : ℕ) → is_in w es ≡ true → n ≢ (binding_at names cs w).0) → bind_all s (bindings names cs es) n ≡ Variable n
-bind_all-stays names cs [] s n h apart = h
-bind_all-stays names cs (e ∷ es) s n h apart =
-    let b = binding_at names cs e in
-    let t = single b.0 (apply s b.1) in
-    let other : n ≢ b.0 = apart e (or_left (e == e) (is_in e es) (eq-eqb e e refl)) in
-    let now : compose s t n ≡ Variable n = ap (apply t) h ∙ single_other b.0 n (apply s b.1) other in
-    bind_all-stays names cs es (compose s t) n now (λ w i. apart w (or_right (e == w) (is_in w es) i))
 
 -- a bound variable and what it is bound to
 pub bind_all-holds : (names : List (List ℕ)) (cs : List Node) (es : List ℕ) (s : Subst) → all_may_bind s (bindings names cs es) ≡ true → (w : ℕ) → is_in w es ≡ true → bind_all s (bindings names cs es) (binding_at names cs w).0 ≡ apply (bind_all s (bindings names cs es)) (binding_at names cs w).1

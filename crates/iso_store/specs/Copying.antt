@@ -1,9 +1,9 @@
 -- Terms made of words, and how many cells that takes.
 use Rattle.std.specs.Prelude.{ℕ, ◌+◌, List}
 use Rattle.std.specs.List.{slice_index_or}
-use Rattle.iso_model.specs.Trees.{Tree, Variable, Integer, Name, Apply, End, More, count}
-use Rattle.iso_model.specs.Substitutions.{Subst}
-use Rattle.iso_model.specs.Copies.{place_of}
+use Rattle.iso_model.specs.Terms.Trees.{Tree, Variable, Integer, Name, Apply, End, More, count}
+use Rattle.iso_model.specs.Terms.Substitutions.{Subst}
+use Rattle.iso_model.specs.Terms.Copies.{place_of}
 
 -- each of these variables stands for the term at its place
 abbrev pub placed_terms : List Tree → List ℕ → Subst

@@ -5,3 +5,6 @@ pub mod Places
 pub mod Copying
 pub mod NodeTerms
 pub mod NodeStores
+pub mod NodeLemmas
+pub mod NodeVariables
+pub mod NodeNumbers

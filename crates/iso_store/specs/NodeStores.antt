@@ -1,8 +1,8 @@
 -- When a list of nodes, a trail and a next number are a store, and what marks stand for.
 use Rattle.std.specs.Prelude.{◌≡◌, ℕ, zero, suc, ◌<◌, ◌≤◌, ◌==◌, List, [], ◌∷◌, length, take, drop, Option, Some, None, Bool, true, false, nat_lt}
 use Rattle.std.specs.List.{slice_get, slice_index_or, list_any}
-use Rattle.iso_model.specs.Trees.{Variable, End}
-use Rattle.iso_model.specs.Variables.{is_in}
+use Rattle.iso_model.specs.Terms.Trees.{Variable, End}
+use Rattle.iso_model.specs.Terms.Variables.{is_in}
 use Rattle.iso_store.specs.declared.nodes.Node.{Node}
 use Rattle.iso_store.specs.declared.nodes.Node.TheVariants.{Var, Int, Atom, Compound}
 use Rattle.iso_store.specs.declared.marks.NodesMark.{NodesMark}

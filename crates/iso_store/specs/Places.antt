@@ -4,8 +4,8 @@ use Rattle.std.specs.Ordering.{nat_cmp}
 use Rattle.std.specs.BTreeMap.{get}
 use Rattle.std.specs.declared.collections.BTreeMap.{BTreeMap}
 use Rattle.std.specs.declared.alloc.Global.{Global}
-use Rattle.iso_model.specs.Variables.{is_in}
-use Rattle.iso_model.specs.Copies.{place_of}
+use Rattle.iso_model.specs.Terms.Variables.{is_in}
+use Rattle.iso_model.specs.Terms.Copies.{place_of}
 
 -- the place of the variable, if it is in the list
 abbrev pub place_in : ℕ → List ℕ → Option ℕ

@@ -1,8 +1,9 @@
 -- What is true of a store at one time, and what its calls make of it. Words are of type W.
-use Rattle.std.specs.Prelude.{◌≡◌, ◌≢◌, ℕ, ◌+◌, ◌<◌, ◌≤◌, List, length, map, slice_index_or, Bool, true, MatchBool}
-use Rattle.iso_model.specs.Trees.{Tree}
-use Rattle.iso_model.specs.Substitutions.{Subst, apply, compose}
-use Rattle.iso_model.specs.Unifiers.{Unifier, NeverEqual}
+use Rattle.std.specs.Prelude.{◌≡◌, ◌≢◌, ℕ, ◌+◌, ◌<◌, ◌≤◌, List, length, map, slice_index_or, Bool, true, false, MatchBool}
+use Rattle.iso_model.specs.Terms.Trees.{Tree, Variable}
+use Rattle.iso_model.specs.Terms.Variables.{occurs}
+use Rattle.iso_model.specs.Terms.Substitutions.{Subst, apply, compose}
+use Rattle.iso_model.specs.Terms.Unifiers.{Unifier, NeverEqual}
 
 -- A store as it is at one time.
 pub record Present (W : Type 0) : Type 0 where
@@ -26,6 +27,11 @@ Holds p w = p.holds w ≡ true
 -- the term that the word stands for, through bindings
 abbrev pub meaning : {W : Type 0} → Present W → W → Tree
 meaning p w = apply p.substitution (p.term w)
+
+-- The variable of this number stands for itself, and is in no term that a word stands for.
+pub record Untouched {W : Type 0} (p : Present W) (n : ℕ) : Type 0 where
+  pub substitution : p.substitution n ≡ Variable n
+  pub meanings : (w : W) → p.holds w ≡ true → occurs n (meaning p w) ≡ false
 
 -- Words that stood stand on, for the terms that they were made with.
 pub record KeepsWords {W : Type 0} (p q : Present W) : Type 0 where
@@ -67,11 +73,16 @@ pub record MovesOn {W : Type 0} (p q : Present W) (count : ℕ) : Type 0 where
   pub next : q.next ≡ p.next + count
   pub taken : (n : ℕ) → n < p.next → q.taken n ≡ p.taken n
 
--- At most so many cells are made, and never more than there may be.
+-- At most so many cells are made and none goes, and there are never more than there may be.
 pub record Grows {W : Type 0} (p q : Present W) (count : ℕ) : Type 0 where
   pub cells : q.cells ≤ p.cells + count
+  pub keeps : p.cells ≤ q.cells
   pub limit : q.limit ≡ p.limit
   pub within : p.cells ≤ p.limit → q.cells ≤ q.limit
+
+-- A cell was made for each number that was used: the next number moved on by no more than the cells grew.
+abbrev pub NumbersHaveCells : {W : Type 0} → Present W → Present W → Type 0
+NumbersHaveCells p q = q.next + p.cells ≤ p.next + q.cells
 
 -- The bindings s come to those that there are.
 pub record Binds {W : Type 0} (p q : Present W) (s : Subst) : Type 0 where

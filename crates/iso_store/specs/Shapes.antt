@@ -1,8 +1,8 @@
 -- What a shape shows of a term, and how two terms meet.
 use Rattle.std.specs.Prelude.{◌≡◌, ℕ, ◌<◌, List, length}
 use Rattle.iso_atoms.specs.Texts.{text_at}
-use Rattle.iso_model.specs.Trees.{Tree, Variable, Integer, Name, Apply, count}
-use Rattle.iso_model.specs.Unifiers.{NeverEqual}
+use Rattle.iso_model.specs.Terms.Trees.{Tree, Variable, Integer, Name, Apply, count}
+use Rattle.iso_model.specs.Terms.Unifiers.{NeverEqual}
 use Rattle.iso_store.specs.declared.shapes.Shape.{Shape}
 use Rattle.iso_store.specs.declared.shapes.Shape.TheVariants.{Var, Int, Atom, Compound}
 use Rattle.iso_store.specs.declared.meetings.Meeting.{Meeting}

@@ -2,10 +2,10 @@
 ghost use Rattle.std.specs.Prelude.{◌≡◌, ℕ, List, Some, slice_get, ◌+◌, ◌<◌, ◌≤◌, ◌^◌, IfOk, OnOk, OnErr, length, map, true, false};
 ghost use Rattle.std.specs.List.{All};
 ghost use Rattle.iso_atoms.specs.Texts.{EachOnce, KeepsTexts, text_at};
-ghost use Rattle.iso_model.specs.Trees.{Integer, Name, Apply, Variable, row};
-ghost use Rattle.iso_model.specs.Sorts.{is_term};
-ghost use Rattle.iso_model.specs.Variables.{occurs};
-ghost use Rattle.iso_model.specs.Substitutions.{single};
+ghost use Rattle.iso_model.specs.Terms.Trees.{Integer, Name, Apply, Variable, row};
+ghost use Rattle.iso_model.specs.Terms.Sorts.{is_term};
+ghost use Rattle.iso_model.specs.Terms.Variables.{occurs};
+ghost use Rattle.iso_model.specs.Terms.Substitutions.{single};
 ghost use Rattle.iso_store.specs.Presents.{Present, Holds, meaning, KeepsWords, Makes, KeepsNumbers, TakesNumber, MovesOn, Grows, Binds, KeepsMarks};
 ghost use Rattle.iso_store.specs.Arguments.{arity, argument};
 ghost use Rattle.iso_store.specs.Shapes.{IsShape, IsYounger};
@@ -135,6 +135,7 @@ pub(crate) trait Cells {
         ensures made { IfOk result (λ w. Makes (present self.old) (present self.new) w (Variable number)) }
         ensures numbers { OnOk result (TakesNumber (present self.old) (present self.new) number) }
         ensures cells { Grows (present self.old) (present self.new) 1 }
+        ensures cell { OnOk result ((present self.old).cells < (present self.new).cells) }
         ensures full { result ≡ Err StoreFault.Full → full self.new }
         ensures names { names self.new ≡ names self.old }
         ensures marks { KeepsMarks (stands self.old) (stands self.new) };

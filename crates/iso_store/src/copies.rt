@@ -2,13 +2,13 @@
 ghost use Rattle.std.specs.Prelude.{◌≡◌, ℕ, ◌+◌, ◌<◌, ◌≤◌, ◌^◌, IfOk, OnOk, length, map, true, false};
 ghost use Rattle.std.specs.List.{All};
 ghost use Rattle.iso_atoms.specs.Texts.{KeepsTexts};
-ghost use Rattle.iso_model.specs.Trees.{Variable, arities_fit};
-ghost use Rattle.iso_model.specs.Terms.{term_of};
-ghost use Rattle.iso_model.specs.Variables.{variable_count};
-ghost use Rattle.iso_model.specs.Substitutions.{apply};
-ghost use Rattle.iso_model.specs.Copies.{copy_from, numbers_from};
-ghost use Rattle.iso_model.specs.Unification.Listed.{Covers};
-ghost use Rattle.iso_store.specs.Presents.{Holds, meaning, Gathers, Makes, KeepsNumbers, MovesOn, TakesFrom, Grows, KeepsMarks};
+ghost use Rattle.iso_model.specs.Terms.Trees.{Variable, arities_fit};
+ghost use Rattle.iso_model.specs.Terms.TermOf.{term_of};
+ghost use Rattle.iso_model.specs.Terms.Variables.{variable_count};
+ghost use Rattle.iso_model.specs.Terms.Substitutions.{apply};
+ghost use Rattle.iso_model.specs.Terms.Copies.{copy_from, numbers_from};
+ghost use Rattle.iso_model.specs.Terms.Unification.Listed.{Covers};
+ghost use Rattle.iso_store.specs.Presents.{Holds, meaning, Gathers, Makes, KeepsNumbers, MovesOn, TakesFrom, Grows, NumbersHaveCells, KeepsMarks};
 ghost use Rattle.iso_store.specs.Places.{IsPlaced};
 ghost use Rattle.iso_store.specs.Copying.{placed_terms, cells_of};
 
@@ -102,6 +102,7 @@ fn variables_from<C: Cells>(
     ensures made { IfOk result (λ ws. Gathers (C.present store.old) (C.present store.new) ws.items (map Variable (numbers_from first count))) }
     ensures numbers { OnOk result (TakesFrom (C.present store.old) (C.present store.new) first) }
     ensures cells { Grows (C.present store.old) (C.present store.new) count }
+    ensures each_cell { OnOk result ((C.present store.old).cells + count ≤ (C.present store.new).cells) }
     ensures full { result ≡ Err StoreFault.Full → C.full store.new }
     ensures names { C.names store.new ≡ C.names store.old }
     ensures marks { KeepsMarks (C.stands store.old) (C.stands store.new) }
@@ -127,6 +128,7 @@ pub(crate) fn build<C: Cells>(
     ensures made { IfOk result (λ w. Makes (C.present store.old) (C.present store.new) w (copy_from (term_of term.now) (C.present store.old).next)) }
     ensures numbers { OnOk result (MovesOn (C.present store.old) (C.present store.new) (variable_count (term_of term.now))) }
     ensures cells { Grows (C.present store.old) (C.present store.new) (variable_count (term_of term.now) + cells_of C.width (term_of term.now)) }
+    ensures counted { OnOk result (NumbersHaveCells (C.present store.old) (C.present store.new)) }
     ensures full { result ≡ Err StoreFault.Full → C.full store.new }
     ensures names { KeepsTexts (C.names store.old) (C.names store.new) }
     ensures marks { KeepsMarks (C.stands store.old) (C.stands store.new) }

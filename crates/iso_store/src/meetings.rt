@@ -1,8 +1,8 @@
 //! What to do with two terms that are to be made equal (ISO/IEC 13211-1:1995, 7.3.4.1).
 ghost use Rattle.std.specs.Prelude.{◌≡◌, ℕ, List, true};
 ghost use Rattle.iso_atoms.specs.Texts.{EachOnce};
-ghost use Rattle.iso_model.specs.Trees.{Tree};
-ghost use Rattle.iso_model.specs.Sorts.{is_term};
+ghost use Rattle.iso_model.specs.Terms.Trees.{Tree};
+ghost use Rattle.iso_model.specs.Terms.Sorts.{is_term};
 ghost use Rattle.iso_store.specs.Shapes.{IsShape, IsMeeting};
 
 use super::shapes::Shape;

@@ -2,10 +2,11 @@
 ghost use Rattle.std.specs.Prelude.{◌≡◌, ℕ, ◌+◌, ◌<◌, ◌≤◌, ◌++◌, ◌∷◌, [], length, IfOk, is_ok, if◌then◌else◌, MatchOption, true, false};
 ghost use Rattle.std.specs.List.{slice_get};
 ghost use Rattle.iso_atoms.specs.Texts.{EachOnce};
-ghost use Rattle.iso_model.specs.Substitutions.{apply};
+ghost use Rattle.iso_model.specs.Terms.Substitutions.{apply};
 ghost use Rattle.iso_store.specs.declared.nodes.Node.TheVariants.{Var};
 ghost use Rattle.iso_store.specs.NodeTerms.{term_at, substitution_of};
 ghost use Rattle.iso_store.specs.NodeStores.{IsStore, LeadsBack, MayPush, StandsFor, IsOlder, is_bound, present_of, empty};
+ghost use Rattle.iso_store.specs.NodeNumbers.{nodes-untouched};
 
 use super::cells::Cells;
 use super::copies::{build, copy_out};
@@ -287,6 +288,8 @@ impl Store for Nodes {
     fn copy_out(&self, word: usize) -> Result<Term, NoMemory> {
         copy_out(self.alloc, self, word)
     }
+
+    ghost untouched = { λ s n none. nodes-untouched s.atoms s.nodes.items s.trail.items s.next s.is_store s.limit n none };
 
     ghost full_used = { λ s h. Prim.omega arith };
 }

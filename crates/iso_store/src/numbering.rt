@@ -1,8 +1,8 @@
 //! The variables of a term, each once, in the order of first occurrence.
 ghost use Rattle.std.specs.Prelude.{◌≡◌, ℕ, [], Some, OnOk, vec_len};
-ghost use Rattle.iso_model.specs.Trees.{Variable};
-ghost use Rattle.iso_model.specs.Terms.{term_of};
-ghost use Rattle.iso_model.specs.Variables.{distinct_from};
+ghost use Rattle.iso_model.specs.Terms.Trees.{Variable};
+ghost use Rattle.iso_model.specs.Terms.TermOf.{term_of};
+ghost use Rattle.iso_model.specs.Terms.Variables.{distinct_from};
 ghost use Rattle.iso_store.specs.Places.{IsPlaced, place_in};
 
 use iso_model::{NoMemory, Term};

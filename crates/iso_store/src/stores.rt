@@ -2,14 +2,14 @@
 ghost use Rattle.std.specs.Prelude.{◌≡◌, ℕ, List, Some, slice_get, ◌+◌, ◌*◌, ◌<◌, ◌≤◌, ◌^◌, IfOk, OnOk, OnErr, length, map, true, false};
 ghost use Rattle.std.specs.List.{All};
 ghost use Rattle.iso_atoms.specs.Texts.{EachOnce, KeepsTexts, text_at};
-ghost use Rattle.iso_model.specs.Trees.{Integer, Name, Apply, Variable, row, arities_fit};
-ghost use Rattle.iso_model.specs.Terms.{term_of};
-ghost use Rattle.iso_model.specs.Sorts.{is_term};
-ghost use Rattle.iso_model.specs.Sizes.{size};
-ghost use Rattle.iso_model.specs.Variables.{variable_count};
-ghost use Rattle.iso_model.specs.Substitutions.{IsSubstitution};
-ghost use Rattle.iso_model.specs.Copies.{copy_from};
-ghost use Rattle.iso_store.specs.Presents.{Present, Holds, meaning, KeepsWords, Makes, KeepsNumbers, TakesNumber, MovesOn, Grows, IsUnification, KeepsMarks};
+ghost use Rattle.iso_model.specs.Terms.Trees.{Integer, Name, Apply, Variable, row, arities_fit};
+ghost use Rattle.iso_model.specs.Terms.TermOf.{term_of};
+ghost use Rattle.iso_model.specs.Terms.Sorts.{is_term};
+ghost use Rattle.iso_model.specs.Terms.Sizes.{size};
+ghost use Rattle.iso_model.specs.Terms.Variables.{variable_count};
+ghost use Rattle.iso_model.specs.Terms.Substitutions.{IsSubstitution};
+ghost use Rattle.iso_model.specs.Terms.Copies.{copy_from};
+ghost use Rattle.iso_store.specs.Presents.{Present, Holds, meaning, KeepsWords, Makes, KeepsNumbers, TakesNumber, MovesOn, Grows, NumbersHaveCells, IsUnification, KeepsMarks, Untouched};
 ghost use Rattle.iso_store.specs.Arguments.{arity, argument};
 ghost use Rattle.iso_store.specs.Shapes.{IsShape};
 
@@ -125,6 +125,7 @@ pub trait Store {
         ensures made { IfOk result (λ w. Makes (present self.old) (present self.new) w (Variable (present self.old).next)) }
         ensures numbers { OnOk result (MovesOn (present self.old) (present self.new) 1) }
         ensures cells { Grows (present self.old) (present self.new) 1 }
+        ensures counted { OnOk result (NumbersHaveCells (present self.old) (present self.new)) }
         ensures full { result ≡ Err StoreFault.Full → full self.new }
         ensures names { names self.new ≡ names self.old }
         ensures marks { KeepsMarks (stands self.old) (stands self.new) };
@@ -137,6 +138,7 @@ pub trait Store {
         ensures made { IfOk result (λ w. Makes (present self.old) (present self.new) w (copy_from (term_of term.now) (present self.old).next)) }
         ensures numbers { OnOk result (MovesOn (present self.old) (present self.new) (variable_count (term_of term.now))) }
         ensures cells { Grows (present self.old) (present self.new) (size (term_of term.now)) }
+        ensures counted { OnOk result (NumbersHaveCells (present self.old) (present self.new)) }
         ensures full { result ≡ Err StoreFault.Full → full self.new }
         ensures names { KeepsTexts (names self.old) (names self.new) }
         ensures marks { KeepsMarks (stands self.old) (stands self.new) };
@@ -181,6 +183,9 @@ pub trait Store {
         requires { Holds (present self.now) word }
         ensures value { IfOk result (λ t. term_of t ≡ meaning (present self.now) word) }
         ensures well_formed { IfOk result (λ t. arities_fit (term_of t) ≡ true) };
+
+    // a number that no variable has, as one that is only reserved, stands for itself and is in no term that a word stands for
+    ghost untouched: { (s : Self) (n : ℕ) → (present s).taken n ≡ false → Untouched (present s) n };
 
     // it is full only where that many cells were made: each other cell that is used is a binding of one of these
     ghost full_used: { (s : Self) → full s → (present s).limit ≤ 2 * (present s).cells };

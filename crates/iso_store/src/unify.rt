@@ -1,7 +1,7 @@
 //! Unification (ISO/IEC 13211-1:1995, 7.3.4), with the check that no variable occurs in its own value (own).
 ghost use Rattle.std.specs.Prelude.{◌≡◌, ℕ, ◌+◌, ◌<◌, ◌≤◌, IfOk, true, false};
-ghost use Rattle.iso_model.specs.Trees.{Variable};
-ghost use Rattle.iso_model.specs.Variables.{occurs};
+ghost use Rattle.iso_model.specs.Terms.Trees.{Variable};
+ghost use Rattle.iso_model.specs.Terms.Variables.{occurs};
 ghost use Rattle.iso_store.specs.Presents.{Holds, meaning, IsUnification, Grows, KeepsMarks};
 ghost use Rattle.iso_store.specs.Arguments.{arity, arguments, front};
 ghost use Rattle.iso_store.specs.Shapes.{IsYounger};

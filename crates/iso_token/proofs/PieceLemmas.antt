@@ -1,10 +1,10 @@
 -- Numbers and pieces as Rust has them.
 use Rattle.std.proofs.Common.{◌≡◌, ℕ, ◌+◌, ◌<◌, ◌≤◌, ◌⊎◌, inl, inr, List, [], ◌++◌, length, take, drop, refl, sym, ap, ◌∙◌, append_assoc, Option, Some, None, option_map, unwrap_or}
-use Rattle.iso_model.specs.Numbers as numbers
-use Rattle.iso_model.specs.Numbers.{behind_two}
-use Rattle.iso_model.specs.Quoted as quoted
-use Rattle.iso_model.specs.Quoted.{piece_at, content_from}
-use Rattle.iso_model.proofs.QuotedLemmas.{content-stands, content-closes, content-broken}
+use Rattle.iso_model.specs.Syntax.Numbers as numbers
+use Rattle.iso_model.specs.Syntax.Numbers.{behind_two}
+use Rattle.iso_model.specs.Syntax.Quoted as quoted
+use Rattle.iso_model.specs.Syntax.Quoted.{piece_at, content_from}
+use Rattle.iso_model.proofs.Syntax.QuotedLemmas.{content-stands, content-closes, content-broken}
 use Rattle.iso_token.specs.declared.numbers.Written.{Written}
 use Rattle.iso_token.specs.declared.quoted.Piece.{Piece}
 use Rattle.iso_token.specs.declared.quoted.Piece.TheVariants as piece

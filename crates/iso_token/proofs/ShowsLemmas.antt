@@ -1,7 +1,7 @@
 -- The lexeme that a Rust lexeme is, by its kind.
 use Rattle.std.proofs.Common.{◌≡◌, List, ℕ, Option, Some, None, option_map, sym, ap, ◌∙◌}
-use Rattle.iso_model.specs.Lexemes as lexemes
-use Rattle.iso_model.specs.Lexemes.{lexeme}
+use Rattle.iso_model.specs.Syntax.Lexemes as lexemes
+use Rattle.iso_model.specs.Syntax.Lexemes.{lexeme}
 use Rattle.iso_token.specs.declared.kinds.Kind.{Kind}
 use Rattle.iso_token.specs.declared.lexemes.Lexeme.{Lexeme}
 use Rattle.iso_token.specs.Shows.{kind_of, lexeme_of}

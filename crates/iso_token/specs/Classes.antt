@@ -1,6 +1,6 @@
 -- Which bytes each class has.
 use Rattle.std.specs.Prelude.{ℕ, Bool}
-use Rattle.iso_model.specs.Characters.{is_alphanumeric, is_digit_of, is_graphic, is_in_line, is_continuation}
+use Rattle.iso_model.specs.Syntax.Characters.{is_alphanumeric, is_digit_of, is_graphic, is_in_line, is_continuation}
 use Rattle.iso_token.specs.declared.classes.Base.{Base}
 use Rattle.iso_token.specs.declared.classes.Base.TheVariants as base
 use Rattle.iso_token.specs.declared.classes.Class.{Class}

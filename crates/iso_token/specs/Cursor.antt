@@ -1,7 +1,7 @@
 -- The tokens that a `Tokens` has left.
 use Rattle.std.specs.Prelude.{◌+◌, ◌^◌, ◌<◌, false, List, length}
-use Rattle.iso_model.specs.Token.{Shown}
-use Rattle.iso_model.specs.Tokens.{tokens_from}
+use Rattle.iso_model.specs.Syntax.Token.{Shown}
+use Rattle.iso_model.specs.Syntax.Tokens.{tokens_from}
 use Rattle.iso_token.specs.declared.cursor.Tokens.TheInside.{Inside}
 
 abbrev pub tokens_left : Inside → List Shown

@@ -1,6 +1,6 @@
 -- What clauses see of Rust's numbers and escapes.
-use Rattle.iso_model.specs.Numbers as numbers
-use Rattle.iso_model.specs.Token.{bounded}
+use Rattle.iso_model.specs.Syntax.Numbers as numbers
+use Rattle.iso_model.specs.Syntax.Token.{bounded}
 use Rattle.iso_token.specs.declared.numbers.Written.{Written}
 use Rattle.iso_token.specs.declared.numbers.Escape.{Escape}
 

@@ -1,6 +1,6 @@
 -- What clauses see of the pieces of a quoted item.
 use Rattle.std.specs.Prelude.{ℕ, ◌≤◌, List, [], take, encode_utf8}
-use Rattle.iso_model.specs.Quoted as quoted
+use Rattle.iso_model.specs.Syntax.Quoted as quoted
 use Rattle.iso_token.specs.declared.quoted.Piece.{Piece}
 use Rattle.iso_token.specs.declared.quoted.Piece.TheVariants as piece
 

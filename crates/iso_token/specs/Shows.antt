@@ -1,8 +1,8 @@
 -- What clauses see of Rust's tokens and lexemes.
 use Rattle.std.specs.Prelude.{option_map}
-use Rattle.iso_model.specs.Token as token
-use Rattle.iso_model.specs.Token.{TokenKind, Shown}
-use Rattle.iso_model.specs.Lexemes as lexemes
+use Rattle.iso_model.specs.Syntax.Token as token
+use Rattle.iso_model.specs.Syntax.Token.{TokenKind, Shown}
+use Rattle.iso_model.specs.Syntax.Lexemes as lexemes
 use Rattle.iso_token.specs.declared.kinds.Kind.{Kind}
 use Rattle.iso_token.specs.declared.kinds.Kind.TheVariants as kind
 use Rattle.iso_token.specs.declared.kinds.Token.{Token}

@@ -1,7 +1,7 @@
 //! Classes of bytes (ISO/IEC 13211-1:1995, 6.5), and how far a text begins with one of them.
 ghost use Rattle.std.specs.Prelude.{◌≡◌, ◌<◌, ◌≤◌, length, slice_index};
 ghost use Rattle.std.specs.Char as character;
-ghost use Rattle.iso_model.specs.Characters as characters;
+ghost use Rattle.iso_model.specs.Syntax.Characters as characters;
 ghost use Rattle.iso_token.specs.Classes as classes;
 
 /// The bases of integers and of codes in escapes (6.4.4, 6.4.2.1).

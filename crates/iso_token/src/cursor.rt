@@ -1,7 +1,7 @@
 //! A cursor over the tokens of a text, which cuts each as it is reached.
 ghost use Rattle.std.specs.Prelude.{◌≡◌, [], ◌∷◌, MatchOption};
-ghost use Rattle.iso_model.specs.Tokens.{tokens};
-ghost use Rattle.iso_model.specs.TokenPlaces.{StandInOrder};
+ghost use Rattle.iso_model.specs.Syntax.Tokens.{tokens};
+ghost use Rattle.iso_model.specs.Syntax.TokenPlaces.{StandInOrder};
 ghost use Rattle.iso_token.specs.Shows.{shown};
 
 use crate::kinds::Token;
@@ -17,7 +17,7 @@ pub struct Tokens<'t> {
 
 impl<'t> Model for Tokens<'t> {
     ghost use Rattle.std.specs.Prelude.{List};
-    ghost use Rattle.iso_model.specs.Token.{Shown};
+    ghost use Rattle.iso_model.specs.Syntax.Token.{Shown};
 
     ghost Value = { List Shown };
 
@@ -30,7 +30,7 @@ impl<'t> Model for Tokens<'t> {
 
 impl<'t> Tokens<'t> {
     /// All tokens of the text. It takes no memory.
-    #[tactic(auto, using(iso_model::proofs::PlaceLemmas::tokens_stand))]
+    #[tactic(auto, using(iso_model::proofs::Syntax::PlaceLemmas::tokens_stand))]
     pub fn new(text: &'t str) -> Tokens<'t>
         ensures all { result ≡ tokens text.now }
         ensures places { StandInOrder text.now 0 result }

@@ -1,6 +1,6 @@
 //! A token and its kind (ISO/IEC 13211-1:1995, 6.4).
 ghost use Rattle.std.specs.Prelude.{◌≡◌, ◌<◌, IfOk, string_bytes};
-ghost use Rattle.iso_model.specs.Token as spec;
+ghost use Rattle.iso_model.specs.Syntax.Token as spec;
 
 use crate::classes::byte;
 use crate::numbers::integer_at;

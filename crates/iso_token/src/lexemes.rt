@@ -1,9 +1,9 @@
 //! What stands at the front of a text: the longest token, or layout (ISO/IEC 13211-1:1995, 6.4).
 ghost use Rattle.std.specs.Prelude.{◌≡◌, ◌<◌, ◌≤◌, true, length, slice_index, IfSome};
-ghost use Rattle.iso_model.specs.Characters as characters;
-ghost use Rattle.iso_model.specs.Characters.{is_digit, is_graphic};
-ghost use Rattle.iso_model.specs.Numbers as numbers;
-ghost use Rattle.iso_model.specs.Lexemes as spec;
+ghost use Rattle.iso_model.specs.Syntax.Characters as characters;
+ghost use Rattle.iso_model.specs.Syntax.Characters.{is_digit, is_graphic};
+ghost use Rattle.iso_model.specs.Syntax.Numbers as numbers;
+ghost use Rattle.iso_model.specs.Syntax.Lexemes as spec;
 ghost use Rattle.iso_token.specs.Classes.{is_of};
 ghost use Rattle.iso_token.specs.Shows.{kind_of, lexeme_of};
 
@@ -153,7 +153,7 @@ fn symbol(bytes: &[u8]) -> Lexeme
 }
 
 /// The lexeme at the front of a text that isn't empty.
-#[tactic(auto, unfolding(iso_model::specs::Lexemes::lexeme))]
+#[tactic(auto, unfolding(iso_model::specs::Syntax::Lexemes::lexeme))]
 pub fn first_lexeme(bytes: &[u8]) -> Lexeme
     requires { 0 < length bytes.now }
     ensures value { lexeme_of result ≡ spec.lexeme bytes.now }

@@ -1,8 +1,8 @@
 //! Numbers, character codes and escapes at the front of a text (ISO/IEC 13211-1:1995, 6.4.4 and 6.4.2.1).
 ghost use Rattle.std.specs.Prelude.{◌≡◌, ◌+◌, ◌*◌, ◌^◌, ◌<◌, ◌≤◌, ◌-◌, true, length, drop, slice_index, chars, option_map, MatchOption, SomeIff, IfSome};
 ghost use Rattle.std.specs.Char as character;
-ghost use Rattle.iso_model.specs.Numbers as spec;
-ghost use Rattle.iso_model.specs.Token.{bounded};
+ghost use Rattle.iso_model.specs.Syntax.Numbers as spec;
+ghost use Rattle.iso_model.specs.Syntax.Token.{bounded};
 ghost use Rattle.iso_token.specs.Classes.{radix_of};
 ghost use Rattle.iso_token.specs.Numbers.{bounded_of, escape_of};
 

@@ -1,7 +1,7 @@
 //! Quoted items, piece by piece (ISO/IEC 13211-1:1995, 6.4.2.1 and 6.4.6).
 ghost use Rattle.std.specs.Prelude.{◌≡◌, ◌<◌, ◌≤◌, ◌++◌, length, IfSome, IfOk, string_bytes};
-ghost use Rattle.iso_model.specs.Numbers as numbers;
-ghost use Rattle.iso_model.specs.Quoted as spec;
+ghost use Rattle.iso_model.specs.Syntax.Numbers as numbers;
+ghost use Rattle.iso_model.specs.Syntax.Quoted as spec;
 ghost use Rattle.iso_token.specs.Quoted.{len_of, stood_for, piece_of, IsWithin};
 ghost use Rattle.std.specs.Result.{OnOk};
 
@@ -52,7 +52,7 @@ fn escaped(bytes: &[u8]) -> Piece
 }
 
 /// The piece at the front of a text that isn't empty, between such quotes.
-#[tactic(auto, unfolding(iso_model::specs::Quoted::piece_at))]
+#[tactic(auto, unfolding(iso_model::specs::Syntax::Quoted::piece_at))]
 fn piece_at(quote: u8, bytes: &[u8]) -> Piece
     requires nonempty { 0 < length bytes.now }
     requires ascii { (0 < quote) × (quote < 128) }

@@ -1,6 +1,6 @@
 -- A piece behind what stands before it.
 use Rattle.std.proofs.Common.{◌≡◌, ℕ, suc, ◌-◌, Bool, true, false, ◌||◌, List, [], ◌∷◌, ◌++◌, length, slice_get, slice_index, unwrap_or, if◌then◌else◌, refl, ap, sym, ◌∙◌, append_assoc, append-nil, arith}
-use Rattle.iso_model.specs.Pieces.{Piece, last_byte, pieces_behind, after_space}
+use Rattle.iso_model.specs.Syntax.Pieces.{Piece, last_byte, pieces_behind, after_space}
 use Rattle.iso_write.specs.declared.edges.Edge.{Edge}
 use Rattle.iso_write.specs.Edges.{edge_behind, behind, with_gap}
 

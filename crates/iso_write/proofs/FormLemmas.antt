@@ -5,11 +5,11 @@ use Rattle.iso_ops.specs.declared.specifiers.Spec.{Spec}
 use Rattle.iso_ops.specs.declared.specifiers.Kind.{Kind}
 use Rattle.iso_ops.specs.Operators.{Operator, operator, find_op, priority_and_spec}
 use Rattle.iso_model.specs.declared.terms.Term.{Term}
-use Rattle.iso_model.specs.Trees.{Apply}
-use Rattle.iso_model.specs.Terms.{term_of, row_of}
-use Rattle.iso_model.proofs.MarkLemmas.{found_name}
-use Rattle.iso_model.specs.Operators.{prefix_named, infix_named, postfix_named}
-use Rattle.iso_model.specs.Pieces as pieces
+use Rattle.iso_model.specs.Terms.Trees.{Apply}
+use Rattle.iso_model.specs.Terms.TermOf.{term_of, row_of}
+use Rattle.iso_model.proofs.Syntax.MarkLemmas.{found_name}
+use Rattle.iso_model.specs.Syntax.Operators.{prefix_named, infix_named, postfix_named}
+use Rattle.iso_model.specs.Syntax.Pieces as pieces
 use Rattle.iso_write.specs.declared.forms.Form.{Form}
 use Rattle.iso_write.specs.Forms.{written, form_written, form_or, arguments_written}
 

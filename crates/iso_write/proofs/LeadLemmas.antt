@@ -5,12 +5,12 @@ use Rattle.std.specs.Str.{bytes_eq}
 use Rattle.std.proofs.lemmas.Slice.Eq.{bytes_eq-Decides}
 use Rattle.iso_ops.specs.Operators.{Operator}
 use Rattle.iso_model.specs.declared.terms.Term.{Term}
-use Rattle.iso_model.specs.Terms.{term_of, row_of}
-use Rattle.iso_model.specs.Operators.{right_of}
-use Rattle.iso_model.specs.Characters.{is_digit}
-use Rattle.iso_model.specs.Texts.{is_bare}
-use Rattle.iso_model.specs.Pieces.{Style, Piece, Written, piece, after_space, quotes, name_bytes, operator_bytes, is_symbolic, run_together, pieces_behind, infix_pieces, prefix_pieces, postfix_pieces}
-use Rattle.iso_model.specs.Pieces as pieces
+use Rattle.iso_model.specs.Terms.TermOf.{term_of, row_of}
+use Rattle.iso_model.specs.Syntax.Operators.{right_of}
+use Rattle.iso_model.specs.Syntax.Characters.{is_digit}
+use Rattle.iso_model.specs.Syntax.Texts.{is_bare}
+use Rattle.iso_model.specs.Syntax.Pieces.{Style, Piece, Written, piece, after_space, quotes, name_bytes, operator_bytes, is_symbolic, run_together, pieces_behind, infix_pieces, prefix_pieces, postfix_pieces}
+use Rattle.iso_model.specs.Syntax.Pieces as pieces
 use Rattle.iso_write.specs.declared.tasks.Place.{Place}
 use Rattle.iso_write.specs.Forms.{arguments_written, written}
 use Rattle.iso_write.specs.Tasks.{placed, needs_brackets, stands_apart}

@@ -6,11 +6,11 @@ use Rattle.iso_model.specs.declared.terms.Term.{Term}
 use Rattle.iso_model.specs.declared.terms.Term.TheOpen.{Term-F}
 use Rattle.iso_model.specs.declared.terms.Term.TheOpen as layer
 use Rattle.iso_model.specs.declared.terms.Term.TheFolds.{fold_out-Term}
-use Rattle.iso_model.specs.Trees.{Tree, Variable, Integer, Name, Apply, End, More}
-use Rattle.iso_model.specs.Terms.{term_of, term_step}
-use Rattle.iso_model.specs.Operators.{prefix_named, infix_named, postfix_named, right_of}
-use Rattle.iso_model.specs.Pieces.{Style, Piece, Written, piece, after_space, bracketed, uses_operators, name_bytes, is_symbolic, term_written, single_written, pair_written, single_by, pair_by, infix_pieces, prefix_pieces, postfix_pieces}
-use Rattle.iso_model.specs.Pieces as pieces
+use Rattle.iso_model.specs.Terms.Trees.{Tree, Variable, Integer, Name, Apply, End, More}
+use Rattle.iso_model.specs.Terms.TermOf.{term_of, term_step}
+use Rattle.iso_model.specs.Syntax.Operators.{prefix_named, infix_named, postfix_named, right_of}
+use Rattle.iso_model.specs.Syntax.Pieces.{Style, Piece, Written, piece, after_space, bracketed, uses_operators, name_bytes, is_symbolic, term_written, single_written, pair_written, single_by, pair_by, infix_pieces, prefix_pieces, postfix_pieces}
+use Rattle.iso_model.specs.Syntax.Pieces as pieces
 use Rattle.iso_write.specs.declared.tasks.Place.{Place}
 use Rattle.iso_write.specs.Tasks.{placed, needs_brackets, stands_apart}
 use Rattle.iso_write.proofs.TaskLemmas.{placed_by}

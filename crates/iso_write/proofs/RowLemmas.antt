@@ -4,9 +4,9 @@ use Rattle.std.specs.Borrow.{Bor}
 use Rattle.std.proofs.lemmas.List.{take_rest}
 use Rattle.iso_model.specs.declared.terms.Term.{Term}
 use Rattle.iso_model.specs.declared.terms.Term.TheVariants.{Compound}
-use Rattle.iso_model.specs.Terms.{term_of, row_of}
-use Rattle.iso_model.proofs.RowLemmas.{term_of_compound}
-use Rattle.iso_model.specs.Variables.{distinct_from}
+use Rattle.iso_model.specs.Terms.TermOf.{term_of, row_of}
+use Rattle.iso_model.proofs.OnTerms.RowLemmas.{term_of_compound}
+use Rattle.iso_model.specs.Terms.Variables.{distinct_from}
 use Rattle.iso_write.specs.Rows.{rows_seen, rows_load, term_load}
 
 pub rows_seen-push : (seen : List ℕ) (rows : List (Bor (List Term))) (row : Bor (List Term)) → rows_seen seen (rows ++ row ∷ []) ≡ rows_seen (distinct_from seen (row_of row.now)) rows

@@ -1,7 +1,7 @@
 -- Tasks that are put before others.
 use Rattle.std.proofs.Common.{◌≡◌, ℕ, ◌+◌, Bool, true, false, ◌||◌, List, [], ◌∷◌, ◌++◌, Result, Ok, Err, OnOk, is_ok, if◌then◌else◌, refl, ap, sym, append_assoc, arith}
 use Rattle.iso_ops.specs.Operators as ops
-use Rattle.iso_model.specs.Pieces as pieces
+use Rattle.iso_model.specs.Syntax.Pieces as pieces
 use Rattle.iso_write.specs.declared.tasks.Place.{Place}
 use Rattle.iso_write.specs.declared.tasks.Place.TheVariants.{Whole, Left, Right}
 use Rattle.iso_write.specs.declared.tasks.Task.{Task}

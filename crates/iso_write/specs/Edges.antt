@@ -1,6 +1,6 @@
 -- What stands before the next piece, and the text of the pieces behind it.
 use Rattle.std.specs.Prelude.{ℕ, List, [], ◌∷◌, ◌++◌, Bool, true, false, ◌||◌, slice_index, if◌then◌else◌}
-use Rattle.iso_model.specs.Pieces.{Piece, last_byte, run_together, pieces_behind}
+use Rattle.iso_model.specs.Syntax.Pieces.{Piece, last_byte, run_together, pieces_behind}
 use Rattle.iso_write.specs.declared.edges.Edge.{Edge}
 
 -- behind a piece of this text

@@ -3,11 +3,11 @@ use Rattle.std.specs.Prelude.{Bool, false, ℕ, List, [], ◌∷◌, ◌++◌, m
 use Rattle.std.specs.Str.{bytes_eq}
 use Rattle.std.specs.Fmt.{signed_decimal}
 use Rattle.iso_ops.specs.Operators as ops
-use Rattle.iso_model.specs.Trees.{Tree}
-use Rattle.iso_model.specs.Trees as trees
-use Rattle.iso_model.specs.Terms.{term_of}
-use Rattle.iso_model.specs.Texts.{variable_text}
-use Rattle.iso_model.specs.Pieces as pieces
+use Rattle.iso_model.specs.Terms.Trees.{Tree}
+use Rattle.iso_model.specs.Terms.Trees as trees
+use Rattle.iso_model.specs.Terms.TermOf.{term_of}
+use Rattle.iso_model.specs.Syntax.Texts.{variable_text}
+use Rattle.iso_model.specs.Syntax.Pieces as pieces
 use Rattle.iso_write.specs.declared.forms.Operator.{Operator}
 use Rattle.iso_write.specs.declared.forms.Form.{Form}
 use Rattle.iso_write.specs.declared.forms.Form.TheVariants.{Variable, Integer, Atom, List as Cell, Braces, Prefix, Infix, Postfix, Compound}

@@ -3,8 +3,8 @@ use Rattle.std.specs.Prelude.{ℕ, List, Option, Some, slice_get, if◌then◌el
 use Rattle.std.specs.Option.{option_or}
 use Rattle.std.specs.Str.{bytes_eq}
 use Rattle.iso_ops.specs.Operators as ops
-use Rattle.iso_model.specs.Terms.{term_of}
-use Rattle.iso_model.specs.Pieces.{Style, Piece, pieces_text, is_symbolic, name_bytes}
+use Rattle.iso_model.specs.Terms.TermOf.{term_of}
+use Rattle.iso_model.specs.Syntax.Pieces.{Style, Piece, pieces_text, is_symbolic, name_bytes}
 use Rattle.iso_write.specs.declared.leads.Front.{Front}
 use Rattle.iso_write.specs.declared.leads.Front.TheVariants.{Byte, Left}
 use Rattle.iso_write.specs.declared.tasks.Place.TheVariants as place

@@ -1,5 +1,5 @@
 -- The style of the definition that a declared one is.
-use Rattle.iso_model.specs.Pieces as pieces
+use Rattle.iso_model.specs.Syntax.Pieces as pieces
 use Rattle.iso_write.specs.declared.style.Style.{Style}
 use Rattle.iso_write.specs.declared.style.Style.TheVariants.{Write, Writeq, Canonical}
 

@@ -3,12 +3,12 @@ use Rattle.std.specs.Prelude.{ℕ, ◌+◌, List, [], ◌∷◌, ◌++◌, Bool,
 use Rattle.std.specs.Fmt.{signed_decimal}
 use Rattle.std.specs.Str.{bytes_eq}
 use Rattle.iso_ops.specs.Operators as ops
-use Rattle.iso_model.specs.Trees.{Tree}
-use Rattle.iso_model.specs.Trees as trees
-use Rattle.iso_model.specs.Terms.{term_of, row_of}
-use Rattle.iso_model.specs.Texts.{variable_text}
-use Rattle.iso_model.specs.Operators.{takes_equal, left_of, right_of}
-use Rattle.iso_model.specs.Pieces as pieces
+use Rattle.iso_model.specs.Terms.Trees.{Tree}
+use Rattle.iso_model.specs.Terms.Trees as trees
+use Rattle.iso_model.specs.Terms.TermOf.{term_of, row_of}
+use Rattle.iso_model.specs.Syntax.Texts.{variable_text}
+use Rattle.iso_model.specs.Syntax.Operators.{takes_equal, left_of, right_of}
+use Rattle.iso_model.specs.Syntax.Pieces as pieces
 use Rattle.iso_write.specs.declared.forms.Form.{Form}
 use Rattle.iso_write.specs.declared.forms.Form.TheVariants as form
 use Rattle.iso_write.specs.declared.tasks.Place.{Place}

@@ -1,6 +1,6 @@
 //! Which terms stand in brackets in their places.
 ghost use Rattle.std.specs.Prelude.{◌≡◌, ℕ, List};
-ghost use Rattle.iso_model.specs.Pieces as pieces;
+ghost use Rattle.iso_model.specs.Syntax.Pieces as pieces;
 ghost use Rattle.iso_write.specs.Styles.{style_of};
 ghost use Rattle.iso_write.specs.Forms.{form_written};
 ghost use Rattle.iso_write.specs.Tasks.{needs_brackets};

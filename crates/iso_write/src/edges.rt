@@ -1,6 +1,6 @@
 //! What stands before the next piece of a text, and the space that parts the two.
 ghost use Rattle.std.specs.Prelude.{◌≡◌, ℕ, List, ◌∷◌, ◌++◌, take, length, slice_index, true, ◌||◌, IfOk};
-ghost use Rattle.iso_model.specs.Pieces as pieces;
+ghost use Rattle.iso_model.specs.Syntax.Pieces as pieces;
 ghost use Rattle.iso_write.specs.Edges.{edge_behind, parts, behind, start, with_gap};
 
 use super::names::{is_alphanumeric, is_graphic};

@@ -1,10 +1,10 @@
 //! What a term is written as: as an operator with its operands, as a list, in braces or in functional notation.
 ghost use Rattle.std.specs.Prelude.{◌≡◌, ℕ, List, [], ◌+◌, ◌∷◌, option_map, IfSome};
 ghost use Rattle.iso_ops.specs.Operators as ops;
-ghost use Rattle.iso_model.specs.Trees.{Apply};
-ghost use Rattle.iso_model.specs.Terms.{term_of, row_of};
-ghost use Rattle.iso_model.specs.Pieces as pieces;
-ghost use Rattle.iso_model.specs.Operators as model;
+ghost use Rattle.iso_model.specs.Terms.Trees.{Apply};
+ghost use Rattle.iso_model.specs.Terms.TermOf.{term_of, row_of};
+ghost use Rattle.iso_model.specs.Syntax.Pieces as pieces;
+ghost use Rattle.iso_model.specs.Syntax.Operators as model;
 ghost use Rattle.iso_write.specs.Styles.{style_of};
 ghost use Rattle.iso_write.specs.Tasks.{load, form_load};
 ghost use Rattle.iso_write.specs.Forms.{form_operator, form_or, form_written, arguments_written, operator_of, written};

@@ -2,8 +2,8 @@
 ghost use Rattle.std.specs.Prelude.{◌≡◌, ◌<◌, ℕ, List, map, slice_get};
 ghost use Rattle.std.specs.Fmt.{signed_decimal};
 ghost use Rattle.iso_ops.specs.Operators as ops;
-ghost use Rattle.iso_model.specs.Terms.{term_of};
-ghost use Rattle.iso_model.specs.Pieces as pieces;
+ghost use Rattle.iso_model.specs.Terms.TermOf.{term_of};
+ghost use Rattle.iso_model.specs.Syntax.Pieces as pieces;
 ghost use Rattle.iso_write.specs.Styles.{style_of};
 ghost use Rattle.iso_write.specs.Forms.{form_written, arguments_written, written};
 ghost use Rattle.iso_write.specs.Tasks.{placed, load, form_load};

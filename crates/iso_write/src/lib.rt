@@ -2,9 +2,9 @@
 #![tactic(auto)]
 
 ghost use Rattle.std.specs.Prelude.{◌≡◌, ◌++◌, take, length, OnOk, OnErr};
-ghost use Rattle.iso_model.specs.Terms.{term_of};
-ghost use Rattle.iso_model.specs.Variables.{distinct_from};
-ghost use Rattle.iso_model.specs.Pieces.{text_at};
+ghost use Rattle.iso_model.specs.Terms.TermOf.{term_of};
+ghost use Rattle.iso_model.specs.Terms.Variables.{distinct_from};
+ghost use Rattle.iso_model.specs.Syntax.Pieces.{text_at};
 ghost use Rattle.iso_write.specs.Styles.{style_of};
 
 mod brackets;

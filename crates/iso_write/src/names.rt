@@ -1,9 +1,9 @@
 //! Atoms and names of compounds as text: bare, or in quotes where they need them (ISO/IEC 13211-1:1995, 7.10.5).
 ghost use Rattle.std.specs.Prelude.{◌≡◌, ◌++◌, ◌∷◌, OnOk};
 ghost use Rattle.std.specs.List.{list_all};
-ghost use Rattle.iso_model.specs.Characters as characters;
-ghost use Rattle.iso_model.specs.Pieces as pieces;
-ghost use Rattle.iso_model.specs.Texts as texts;
+ghost use Rattle.iso_model.specs.Syntax.Characters as characters;
+ghost use Rattle.iso_model.specs.Syntax.Pieces as pieces;
+ghost use Rattle.iso_model.specs.Syntax.Texts as texts;
 
 use std::alloc::{AllocError, Global};
 

@@ -1,8 +1,8 @@
 //! The parts of terms, as tasks.
 ghost use Rattle.std.specs.Prelude.{◌≡◌, ◌≤◌, ◌<◌, ◌+◌, ◌++◌, ℕ, List, map, OnOk};
 ghost use Rattle.iso_ops.specs.Operators as ops;
-ghost use Rattle.iso_model.specs.Terms.{term_of, row_of};
-ghost use Rattle.iso_model.specs.Pieces as pieces;
+ghost use Rattle.iso_model.specs.Terms.TermOf.{term_of, row_of};
+ghost use Rattle.iso_model.specs.Syntax.Pieces as pieces;
 ghost use Rattle.iso_write.specs.Styles.{style_of};
 ghost use Rattle.iso_write.specs.Forms.{form_written, arguments_written, written, is_nil, operator_of};
 ghost use Rattle.iso_write.specs.Tasks.{placed, stands_apart, pieces_of, with_tasks, load, form_load, tasks_load};

@@ -1,6 +1,6 @@
 //! The styles in which terms are written.
 ghost use Rattle.std.specs.Prelude.{◌≡◌};
-ghost use Rattle.iso_model.specs.Pieces as pieces;
+ghost use Rattle.iso_model.specs.Syntax.Pieces as pieces;
 ghost use Rattle.iso_write.specs.Styles.{style_of};
 
 /// How terms are written (8.14.2): as `write`, `writeq` and `write_canonical` do.

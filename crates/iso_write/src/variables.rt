@@ -1,8 +1,8 @@
 //! The variables of a line, each by its place among them.
 ghost use Rattle.std.specs.Prelude.{◌≡◌, ℕ, List, ◌+◌, ◌<◌, ◌≤◌, take, length, unwrap_or, position, ◌==◌, OnOk};
-ghost use Rattle.iso_model.specs.Trees.{Variable};
-ghost use Rattle.iso_model.specs.Terms.{term_of, row_of};
-ghost use Rattle.iso_model.specs.Variables.{distinct_from};
+ghost use Rattle.iso_model.specs.Terms.Trees.{Variable};
+ghost use Rattle.iso_model.specs.Terms.TermOf.{term_of, row_of};
+ghost use Rattle.iso_model.specs.Terms.Variables.{distinct_from};
 ghost use Rattle.iso_write.specs.Rows.{rows_seen, rows_load, term_load};
 
 use iso_model::Term;

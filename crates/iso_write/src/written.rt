@@ -1,9 +1,9 @@
 //! The text of a term, task by task.
 ghost use Rattle.std.specs.Prelude.{◌≡◌, ◌<◌, ◌+◌, ◌∷◌, ◌++◌, ℕ, List, take, length, IfOk, OnOk};
 ghost use Rattle.std.specs.Fmt.{signed_decimal};
-ghost use Rattle.iso_model.specs.Terms.{term_of};
-ghost use Rattle.iso_model.specs.Texts.{variable_text};
-ghost use Rattle.iso_model.specs.Pieces as pieces;
+ghost use Rattle.iso_model.specs.Terms.TermOf.{term_of};
+ghost use Rattle.iso_model.specs.Syntax.Texts.{variable_text};
+ghost use Rattle.iso_model.specs.Syntax.Pieces as pieces;
 ghost use Rattle.iso_write.specs.Styles.{style_of};
 ghost use Rattle.iso_write.specs.Edges.{behind};
 ghost use Rattle.iso_write.specs.Tasks.{pieces_of, with_task, task_load, tasks_load};

@@ -1,9 +1,10 @@
-//! The smallest engine: it gives up at once. It shows that the trait can be met, and what its contract doesn't refuse before it says
-//! when the cells may be full.
+//! The smallest engine: it gives up at once. It shows that the trait can be met: the contract asks an engine to name the pieces of a walk
+//! in which its heap or its frames may be full, and this one names all of them for its heap, and none for its frames.
 ghost use Rattle.std.specs.Prelude.{◌≡◌, false, if◌then◌else◌, IfOk};
 ghost use Rattle.iso_ops.specs.InitialOperators.{initial_entries};
 ghost use Rattle.iso_ops.specs.Settings.{initial_flags};
-ghost use Rattle.iso_model.specs.Engines.{Phase, Ready, Spent};
+ghost use Rattle.iso_model.specs.Search.Engines.{Phase, Ready, Spent};
+ghost use Rattle.iso_model.specs.declared.limit.Limit.TheVariants.{Heap};
 
 use iso_model::{AddFault, Engine, NoMemory, Pause, StartFault, Term};
 use iso_ops::{Flags, OpTable};
@@ -36,9 +37,13 @@ impl Quitter {
 impl Engine for Quitter {
     ghost stands_for = { λ engine s. (s.world.operators ≡ engine.ops) × (s.world.flags ≡ engine.flags) };
 
-    ghost phase = { λ engine. if engine.spent then Spent else Ready };
+    ghost phase = { λ engine. if engine.spent then Spent Heap else Ready };
 
     ghost left = { λ _. 0 };
+
+    ghost heap_pieces = { λ _ _. Unit {0} };
+
+    ghost frames_pieces = { λ _ _. ⊥ };
 
     fn start(&mut self, _goal: &Term, _budget: u32) -> Result<(), StartFault> {
         self.spent = true;

@@ -1,6 +1,6 @@
 use Rattle.std.proofs.Common.{◌++◌, ap, ◌∙◌}
-use Rattle.iso_model.specs.Terms.{term_of}
-use Rattle.iso_model.specs.Pieces.{text_at}
+use Rattle.iso_model.specs.Terms.TermOf.{term_of}
+use Rattle.iso_model.specs.Syntax.Pieces.{text_at}
 use Rattle.iso_write.specs.Styles.{style_of}
 use Rattle.iso_write.proofs.RowLemmas.{on_ok_by}
 use Rattle.iso_write.proofs.append_line.Goals as goal

@@ -1,4 +1,4 @@
-use Rattle.iso_model.proofs.CopyLemmas.{copy_is_variant}
+use Rattle.iso_model.proofs.OnTerms.CopyLemmas.{copy_is_variant}
 use Rattle.iso_model.proofs.laws_of_copies.copy_is_variant.Goals as goal
 
 pub returns : goal.returns

@@ -1,4 +1,4 @@
-use Rattle.iso_model.proofs.CopyLemmas.{copy_of_copy}
+use Rattle.iso_model.proofs.OnTerms.CopyLemmas.{copy_of_copy}
 use Rattle.iso_model.proofs.laws_of_copies.copy_of_copy.Goals as goal
 
 pub returns : goal.returns

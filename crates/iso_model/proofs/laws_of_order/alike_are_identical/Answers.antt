@@ -1,4 +1,4 @@
-use Rattle.iso_model.proofs.OrderLemmas.{alike_identical}
+use Rattle.iso_model.proofs.OnTerms.OrderLemmas.{alike_identical}
 use Rattle.iso_model.proofs.laws_of_order.alike_are_identical.Goals as goal
 
 pub returns : goal.returns

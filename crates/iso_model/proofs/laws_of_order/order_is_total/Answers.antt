@@ -1,4 +1,4 @@
-use Rattle.iso_model.proofs.OrderLemmas.{term_cmp_total}
+use Rattle.iso_model.proofs.OnTerms.OrderLemmas.{term_cmp_total}
 use Rattle.iso_model.proofs.laws_of_order.order_is_total.Goals as goal
 
 pub returns : goal.returns

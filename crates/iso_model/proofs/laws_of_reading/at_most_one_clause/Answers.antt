@@ -1,5 +1,5 @@
 use Rattle.std.proofs.Common.{◌≡◌, sym, ◌∙◌, Some}
-use Rattle.iso_model.proofs.ClauseLaws.{clause_complete}
+use Rattle.iso_model.proofs.Syntax.ClauseLaws.{clause_complete}
 use Rattle.iso_model.proofs.laws_of_reading.at_most_one_clause.Goals as goal
 
 pub returns : goal.returns

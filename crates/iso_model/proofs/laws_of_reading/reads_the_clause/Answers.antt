@@ -1,4 +1,4 @@
-use Rattle.iso_model.proofs.ClauseLaws.{clause_complete, clause_given}
+use Rattle.iso_model.proofs.Syntax.ClauseLaws.{clause_complete, clause_given}
 use Rattle.iso_model.proofs.laws_of_reading.reads_the_clause.Goals as goal
 
 pub returns : goal.returns

@@ -1,4 +1,4 @@
-use Rattle.iso_model.proofs.ClauseLaws.{next_complete, next_given}
+use Rattle.iso_model.proofs.Syntax.ClauseLaws.{next_complete, next_given}
 use Rattle.iso_model.proofs.laws_of_reading.reads_the_next_clause.Goals as goal
 
 pub returns : goal.returns

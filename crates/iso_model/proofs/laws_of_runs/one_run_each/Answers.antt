@@ -1,4 +1,4 @@
-use Rattle.iso_model.specs.RunLaws.{one_run, run_of, run_of_is}
+use Rattle.iso_model.specs.Search.RunLaws.{one_run, run_of, run_of_is}
 use Rattle.iso_model.proofs.laws_of_runs.one_run_each.Goals as goal
 
 pub returns : goal.returns

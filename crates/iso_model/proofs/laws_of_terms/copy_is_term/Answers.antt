@@ -1,4 +1,4 @@
-use Rattle.iso_model.proofs.SortLemmas.{copy_is_term}
+use Rattle.iso_model.proofs.OnTerms.SortLemmas.{copy_is_term}
 use Rattle.iso_model.proofs.laws_of_terms.copy_is_term.Goals as goal
 
 pub returns : goal.returns

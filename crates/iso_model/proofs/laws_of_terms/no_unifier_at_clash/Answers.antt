@@ -1,4 +1,4 @@
-use Rattle.iso_model.proofs.SortLemmas.{clash_never}
+use Rattle.iso_model.proofs.OnTerms.SortLemmas.{clash_never}
 use Rattle.iso_model.proofs.laws_of_terms.no_unifier_at_clash.Goals as goal
 
 pub returns : goal.returns

@@ -1,4 +1,4 @@
-use Rattle.iso_model.proofs.UnifierLemmas.{unifier_concerns}
+use Rattle.iso_model.proofs.OnTerms.UnifierLemmas.{unifier_concerns}
 use Rattle.iso_model.proofs.laws_of_unifiers.unifier_concerns_its_terms.Goals as goal
 
 pub returns : goal.returns

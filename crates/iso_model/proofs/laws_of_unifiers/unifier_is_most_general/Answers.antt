@@ -1,4 +1,4 @@
-use Rattle.iso_model.proofs.UnifierLemmas.{most_general_composed}
+use Rattle.iso_model.proofs.OnTerms.UnifierLemmas.{most_general_composed}
 use Rattle.iso_model.proofs.laws_of_unifiers.unifier_is_most_general.Goals as goal
 
 pub returns : goal.returns

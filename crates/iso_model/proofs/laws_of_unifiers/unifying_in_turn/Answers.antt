@@ -1,4 +1,4 @@
-use Rattle.iso_model.proofs.UnifierLemmas.{unifying_in_turn}
+use Rattle.iso_model.proofs.OnTerms.UnifierLemmas.{unifying_in_turn}
 use Rattle.iso_model.proofs.laws_of_unifiers.unifying_in_turn.Goals as goal
 
 pub returns : goal.returns

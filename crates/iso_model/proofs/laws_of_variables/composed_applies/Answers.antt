@@ -1,5 +1,5 @@
 use Rattle.std.proofs.Common.{sym}
-use Rattle.iso_model.specs.Unification.Applied.{apply_apply}
+use Rattle.iso_model.specs.Terms.Unification.Applied.{apply_apply}
 use Rattle.iso_model.proofs.laws_of_variables.composed_applies.Goals as goal
 
 pub returns : goal.returns

@@ -1,4 +1,4 @@
-use Rattle.iso_model.proofs.VariableLemmas.{images_agree}
+use Rattle.iso_model.proofs.OnTerms.VariableLemmas.{images_agree}
 use Rattle.iso_model.proofs.laws_of_variables.images_agree.Goals as goal
 
 pub returns : goal.returns

@@ -1,4 +1,4 @@
-use Rattle.iso_model.proofs.VariableLemmas.{variables_of_image}
+use Rattle.iso_model.proofs.OnTerms.VariableLemmas.{variables_of_image}
 use Rattle.iso_model.proofs.laws_of_variables.variables_of_image.Goals as goal
 
 pub returns : goal.returns

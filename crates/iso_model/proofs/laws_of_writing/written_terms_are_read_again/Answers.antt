@@ -1,10 +1,10 @@
 use Rattle.std.proofs.Common.{[], refl, ap, sym, ◌∙◌}
-use Rattle.iso_model.specs.Clauses.{split_clause}
-use Rattle.iso_model.specs.Grammar.{numbered}
-use Rattle.iso_model.specs.Pieces.{Writeq, at_most, term_written}
-use Rattle.iso_model.proofs.PieceTokens.{shown_pieces}
-use Rattle.iso_model.proofs.PieceLexemes.{signed_tokens, term_signed, pieces_inner, splits_there}
-use Rattle.iso_model.proofs.PieceGrammar.{written_read}
+use Rattle.iso_model.specs.Syntax.Clauses.{split_clause}
+use Rattle.iso_model.specs.Syntax.Grammar.{numbered}
+use Rattle.iso_model.specs.Syntax.Pieces.{Writeq, at_most, term_written}
+use Rattle.iso_model.proofs.Syntax.PieceTokens.{shown_pieces}
+use Rattle.iso_model.proofs.Syntax.PieceLexemes.{signed_tokens, term_signed, pieces_inner, splits_there}
+use Rattle.iso_model.proofs.Syntax.PieceGrammar.{written_read}
 use Rattle.iso_model.proofs.laws_of_writing.written_terms_are_read_again.Goals as goal
 
 pub returns : goal.returns

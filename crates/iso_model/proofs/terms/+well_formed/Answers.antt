@@ -1,7 +1,7 @@
 use Rattle.std.proofs.Common.{ap, ◌∙◌, sym, ◌&&◌}
-use Rattle.iso_model.specs.Terms.{row_of}
-use Rattle.iso_model.specs.Trees.{arities_fit}
-use Rattle.iso_model.proofs.RowLemmas.{arities_of}
+use Rattle.iso_model.specs.Terms.TermOf.{row_of}
+use Rattle.iso_model.specs.Terms.Trees.{arities_fit}
+use Rattle.iso_model.proofs.OnTerms.RowLemmas.{arities_of}
 use Rattle.iso_model.proofs.terms.+well_formed.Goals as goal
 
 pub returns-then-not-is_arity : goal.returns-then-not-is_arity

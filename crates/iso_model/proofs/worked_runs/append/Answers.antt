@@ -1,4 +1,4 @@
-use Rattle.iso_model.proofs.WorkedAppend.{append_run}
+use Rattle.iso_model.proofs.Search.WorkedAppend.{append_run}
 use Rattle.iso_model.proofs.worked_runs.append.Goals as goal
 
 pub returns : goal.returns

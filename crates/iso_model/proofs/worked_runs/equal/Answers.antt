@@ -1,4 +1,4 @@
-use Rattle.iso_model.proofs.WorkedRows.{equal_run}
+use Rattle.iso_model.proofs.Search.WorkedRows.{equal_run}
 use Rattle.iso_model.proofs.worked_runs.equal.Goals as goal
 
 pub returns : goal.returns

@@ -1,4 +1,4 @@
-use Rattle.iso_model.proofs.WorkedRows.{number_run}
+use Rattle.iso_model.proofs.Search.WorkedRows.{number_run}
 use Rattle.iso_model.proofs.worked_runs.uncallable.Goals as goal
 
 pub returns : goal.returns

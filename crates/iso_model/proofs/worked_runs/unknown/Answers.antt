@@ -1,4 +1,4 @@
-use Rattle.iso_model.proofs.WorkedRows.{unknown_run}
+use Rattle.iso_model.proofs.Search.WorkedRows.{unknown_run}
 use Rattle.iso_model.proofs.worked_runs.unknown.Goals as goal
 
 pub returns : goal.returns

@@ -1,4 +1,4 @@
-use Rattle.iso_model.proofs.WorkedWriting.{unquoted_written}
+use Rattle.iso_model.proofs.Syntax.WorkedWriting.{unquoted_written}
 use Rattle.iso_model.proofs.worked_terms.unquoted_texts.Goals as goal
 
 pub returns : goal.returns

@@ -1,4 +1,4 @@
-use Rattle.iso_model.proofs.WorkedSyntax.{no_terms_read}
+use Rattle.iso_model.proofs.Syntax.WorkedSyntax.{no_terms_read}
 use Rattle.iso_model.proofs.worked_texts.no_terms.Goals as goal
 
 pub returns : goal.returns

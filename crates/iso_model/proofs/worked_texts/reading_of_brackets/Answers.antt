@@ -1,4 +1,4 @@
-use Rattle.iso_model.proofs.WorkedSyntax.{brackets_read}
+use Rattle.iso_model.proofs.Syntax.WorkedSyntax.{brackets_read}
 use Rattle.iso_model.proofs.worked_texts.reading_of_brackets.Goals as goal
 
 pub returns : goal.returns

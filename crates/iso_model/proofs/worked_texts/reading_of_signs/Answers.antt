@@ -1,4 +1,4 @@
-use Rattle.iso_model.proofs.WorkedSyntax.{signs_read}
+use Rattle.iso_model.proofs.Syntax.WorkedSyntax.{signs_read}
 use Rattle.iso_model.proofs.worked_texts.reading_of_signs.Goals as goal
 
 pub returns : goal.returns

@@ -1,5 +1,5 @@
 use Rattle.std.proofs.Common.{rules}
-use Rattle.iso_model.specs.Terms.{term_of}
+use Rattle.iso_model.specs.Terms.TermOf.{term_of}
 use Rattle.iso_plain.specs.Goals.{terms_of}
 use Rattle.iso_plain.proofs.ClauseLemmas.{true_goals, other_goals, not_converted}
 use Rattle.iso_plain.proofs.clauses.goals_of.Goals as goal

@@ -1,8 +1,8 @@
 use Rattle.std.proofs.Common.{◌∙◌, sym, ap, arith}
-use Rattle.iso_model.specs.Terms.{term_of}
-use Rattle.iso_model.specs.Additions.{Refuses}
-use Rattle.iso_plain.proofs.PrepareLemmas.{refused_goals, refused_large, refused_built_in, count_of_clause, prepared}
-use Rattle.iso_model.proofs.MeaningLemmas.{meaning_is_term}
+use Rattle.iso_model.specs.Terms.TermOf.{term_of}
+use Rattle.iso_model.specs.Search.Additions.{TooManyVariables}
+use Rattle.iso_plain.proofs.PrepareLemmas.{refuses, refused_goals, refused_large, refused_built_in, count_of_clause, prepared}
+use Rattle.iso_model.proofs.OnTerms.MeaningLemmas.{meaning_is_term}
 use Rattle.iso_plain.proofs.clauses.prepare.Goals as goal
 
 pub returns-in_err-goals : goal.returns-in_err-goals
@@ -11,12 +11,12 @@ returns-in_err-goals c =
     refused_goals (term_of c.args.clause.now) _ _ _ name c.from_residual-in_err-goals.ensures.1 c.in_err-goals.ensures
 
 pub returns-then-kept-gt-MOST_VARIABLES : goal.returns-then-kept-gt-MOST_VARIABLES
-returns-then-kept-gt-MOST_VARIABLES c db =
+returns-then-kept-gt-MOST_VARIABLES c =
     let name = rw c.head_of-head.ensures at c.in_ok-name.ensures.ok in
     let goals = c.in_ok-goals.ensures in
     let renamed = rw (c.head_of-head.ensures, c.as_slice.ensures.value, goals.2) at c.in_ok-kept.ensures in
     let n = count_of_clause (term_of c.args.clause.now) goals.0 c.in_ok-kept.kept goals.1 renamed in
-    refused_large (term_of c.args.clause.now) goals.0 _ db name goals.1 (omega arith) ∙ ap Refuses (sym c.in_ok-too_many_variables.ensures)
+    refuses (term_of c.args.clause.now) TooManyVariables _ (refused_large (term_of c.args.clause.now) goals.0 _ name goals.1 (omega arith)) (sym c.in_ok-too_many_variables.ensures)
 
 pub returns-in_err-check_user : goal.returns-in_err-check_user
 returns-in_err-check_user c =

@@ -1,7 +1,7 @@
 use Rattle.std.proofs.Common.{◌≡◌, length, arith}
 use Rattle.iso_plain.proofs.PrepareLemmas.{renamed_clause}
 use Rattle.iso_plain.specs.Goals.{terms_of}
-use Rattle.iso_model.specs.Terms.{term_of}
+use Rattle.iso_model.specs.Terms.TermOf.{term_of}
 use Rattle.iso_plain.proofs.clauses.with_numbers.Goals as goal
 
 pub returns : goal.returns

@@ -1,6 +1,6 @@
 -- The values so far are those of the first words.
 use Rattle.std.proofs.Common.{◌≡◌, map, take}
-use Rattle.iso_model.specs.Terms.{term_of}
+use Rattle.iso_model.specs.Terms.TermOf.{term_of}
 use Rattle.iso_store.specs.Presents.{meaning}
 use Rattle.iso_plain.proofs.ends.values.Given as goal
 

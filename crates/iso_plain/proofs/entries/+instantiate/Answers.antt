@@ -1,10 +1,10 @@
 use Rattle.std.proofs.Common.{rules, ◌≡◌, ℕ, ◌+◌, ◌<◌, true, length, drop, take, map, ap, ◌∙◌, arith, refl, ltb-true}
 use Rattle.std.specs.String.{string_bytes}
-use Rattle.iso_model.specs.Trees.{arities_fit, Apply, Variable, row}
+use Rattle.iso_model.specs.Terms.Trees.{arities_fit, Apply, Variable, row}
 use Rattle.iso_model.specs.declared.terms.Term.{the_lemmas}
-use Rattle.iso_model.specs.Terms.{term_of, row_of}
-use Rattle.iso_model.specs.Copies.{renamed, numbers_from}
-use Rattle.iso_model.proofs.RowLemmas.{term_of_compound}
+use Rattle.iso_model.specs.Terms.TermOf.{term_of, row_of}
+use Rattle.iso_model.specs.Terms.Copies.{renamed, numbers_from}
+use Rattle.iso_model.proofs.OnTerms.RowLemmas.{term_of_compound}
 use Rattle.iso_store.proofs.Names.{text-is}
 use Rattle.iso_store.proofs.Parts.{term_of_atom}
 use Rattle.iso_plain.specs.Standing.{AreVariables}

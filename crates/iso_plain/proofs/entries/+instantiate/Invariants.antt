@@ -1,8 +1,8 @@
 -- The words so far are the first arguments.
 use Rattle.std.proofs.Common.{◌≡◌, ℕ, length, take, drop, true}
-use Rattle.iso_model.specs.Trees.{arities_fit}
-use Rattle.iso_model.specs.Terms.{row_of}
-use Rattle.iso_model.specs.Copies.{renamed, numbers_from}
+use Rattle.iso_model.specs.Terms.Trees.{arities_fit}
+use Rattle.iso_model.specs.Terms.TermOf.{row_of}
+use Rattle.iso_model.specs.Terms.Copies.{renamed, numbers_from}
 use Rattle.iso_store.specs.Presents.{KeepsMarks, KeepsNumbers}
 use Rattle.iso_plain.specs.Standing.{AreVariables}
 use Rattle.iso_plain.specs.Entering.{Extends, AreTerms, is_below}

@@ -1,6 +1,6 @@
 use Rattle.std.proofs.Common.{length, ◌∙◌}
-use Rattle.iso_model.specs.Copies.{numbers_from}
-use Rattle.iso_model.proofs.CopyLemmas.{length-numbers_from}
+use Rattle.iso_model.specs.Terms.Copies.{numbers_from}
+use Rattle.iso_model.proofs.OnTerms.CopyLemmas.{length-numbers_from}
 use Rattle.iso_plain.specs.Standing.{AreVariables}
 use Rattle.iso_plain.proofs.StandingLemmas.{variables_more}
 use Rattle.iso_plain.proofs.EnteringLemmas.{variables_length, enters_none, enters_some, unifier_there, words_on}

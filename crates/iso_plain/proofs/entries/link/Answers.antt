@@ -1,6 +1,6 @@
 use Rattle.std.proofs.Common.{◌≡◌, ◌<◌, ◌-◌, ◌+◌, ◌∷◌, length, drop, arith}
-use Rattle.iso_model.specs.Copies.{renamed}
-use Rattle.iso_model.specs.Terms.{term_of}
+use Rattle.iso_model.specs.Terms.Copies.{renamed}
+use Rattle.iso_model.specs.Terms.TermOf.{term_of}
 use Rattle.iso_plain.specs.Entering.{renamed_terms}
 use Rattle.iso_plain.proofs.StandingLemmas.{variables_more}
 use Rattle.iso_plain.proofs.EnteringLemmas.{fits_at, below_at, links_push, frames_push, renamed_at, extends_made}

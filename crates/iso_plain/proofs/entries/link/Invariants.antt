@@ -1,6 +1,6 @@
 -- The goals from `left` on are linked.
 use Rattle.std.proofs.Common.{ℕ, ◌≤◌, length, drop}
-use Rattle.iso_model.specs.Copies.{numbers_from}
+use Rattle.iso_model.specs.Terms.Copies.{numbers_from}
 use Rattle.iso_store.specs.Presents.{KeepsMarks}
 use Rattle.iso_plain.specs.Standing.{AreVariables}
 use Rattle.iso_plain.specs.Entering.{Extends, Links, AddsFrames, renamed_terms}

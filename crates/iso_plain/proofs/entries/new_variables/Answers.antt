@@ -1,5 +1,5 @@
 use Rattle.std.proofs.Common.{◌≡◌, ◌+◌, ap, ◌∙◌}
-use Rattle.iso_model.specs.Trees.{Variable}
+use Rattle.iso_model.specs.Terms.Trees.{Variable}
 use Rattle.iso_plain.specs.Standing.{no_word}
 use Rattle.iso_plain.proofs.EnteringLemmas.{extends_none, extends_new, variables_push}
 use Rattle.iso_plain.proofs.StandingLemmas.{variables_more}

@@ -1,5 +1,5 @@
 -- So many variables are there.
-use Rattle.iso_model.specs.Copies.{numbers_from}
+use Rattle.iso_model.specs.Terms.Copies.{numbers_from}
 use Rattle.iso_store.specs.Presents.{KeepsMarks}
 use Rattle.iso_plain.specs.Standing.{AreVariables}
 use Rattle.iso_plain.specs.Entering.{Extends}

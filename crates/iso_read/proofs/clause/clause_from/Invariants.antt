@@ -1,6 +1,6 @@
 -- The clause goes on behind the tokens that were taken.
 use Rattle.std.proofs.Common.{◌≡◌, ◌≤◌, ◌∷◌, length, map}
-use Rattle.iso_model.specs.Clauses.{split_clause}
+use Rattle.iso_model.specs.Syntax.Clauses.{split_clause}
 use Rattle.iso_token.specs.Shows.{shown}
 use Rattle.iso_read.proofs.Splits.{behind_tokens}
 use Rattle.iso_read.proofs.clause.clause_from.Given as goal

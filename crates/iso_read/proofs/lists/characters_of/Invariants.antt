@@ -1,8 +1,8 @@
 -- The characters so far, and those that are left, are all of them.
 use Rattle.std.proofs.Common.{◌≡◌, map, chars, encode_utf8, ◌++◌}
 use Rattle.std.specs.Str.{IsUtf8}
-use Rattle.iso_model.specs.Terms.{term_of}
-use Rattle.iso_model.specs.Trees.{Name}
+use Rattle.iso_model.specs.Terms.TermOf.{term_of}
+use Rattle.iso_model.specs.Terms.Trees.{Name}
 use Rattle.iso_read.proofs.lists.characters_of.Given as goal
 
 abbrev pub invariant-loop-c : goal.invariant-loop-c

@@ -1,8 +1,8 @@
 use Rattle.std.proofs.Common.{[], ◌∷◌, map, List, ap, sym, ◌∙◌}
 use Rattle.std.proofs.lemmas.List.{map-append}
-use Rattle.iso_model.specs.Lists.{list_before}
-use Rattle.iso_model.specs.Terms.{term_of}
-use Rattle.iso_model.specs.Trees.{Tree}
+use Rattle.iso_model.specs.Syntax.Lists.{list_before}
+use Rattle.iso_model.specs.Terms.TermOf.{term_of}
+use Rattle.iso_model.specs.Terms.Trees.{Tree}
 use Rattle.iso_read.proofs.Joins.{list_longer}
 use Rattle.iso_read.proofs.lists.list_before.Goals as goal
 

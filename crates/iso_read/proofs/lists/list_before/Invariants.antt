@@ -1,7 +1,7 @@
 -- The list so far stands behind the elements that are left.
 use Rattle.std.proofs.Common.{◌≡◌, map}
-use Rattle.iso_model.specs.Lists as model
-use Rattle.iso_model.specs.Terms.{term_of}
+use Rattle.iso_model.specs.Syntax.Lists as model
+use Rattle.iso_model.specs.Terms.TermOf.{term_of}
 use Rattle.iso_read.proofs.lists.list_before.Given as goal
 
 abbrev pub invariant-loop-term : goal.invariant-loop-term

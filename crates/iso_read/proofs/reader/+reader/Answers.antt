@@ -3,11 +3,11 @@ use Rattle.std.proofs.lemmas.List.{map-append}
 use Rattle.std.specs.String.{string_bytes}
 use Rattle.iso_ops.specs.declared.specifiers.Kind.TheVariants.{Prefix}
 use Rattle.iso_ops.specs.Operators.{operator, find_op, priority_and_spec}
-use Rattle.iso_model.specs.Grammar.{begins}
-use Rattle.iso_model.specs.Operators.{prefix_named, right_of}
-use Rattle.iso_model.specs.Terms.{term_of}
+use Rattle.iso_model.specs.Syntax.Grammar.{begins}
+use Rattle.iso_model.specs.Syntax.Operators.{prefix_named, right_of}
+use Rattle.iso_model.specs.Terms.TermOf.{term_of}
 use Rattle.iso_token.specs.Shows.{shown}
-use Rattle.iso_model.specs.Reading.{term, further}
+use Rattle.iso_model.specs.Syntax.Reading.{term, further}
 use Rattle.iso_read.specs.Views.{node_of, row_of, following_of, terms_in}
 use Rattle.iso_read.proofs.Found.{found_at}
 use Rattle.iso_read.proofs.Rows.{row_goes, row_longer, row_stops}

@@ -1,8 +1,8 @@
 -- Each call goes less deep, or is of a function that stands further up in the order: an operand, what a bracket or a
 -- name stands for, a list or a compound, its parts; or the operators behind an operand.
 use Rattle.std.proofs.Common.{◌≡◌, ◌+◌, ◌-◌, ◌*◌, ◌<◌, ◌≤◌, length, map}
-use Rattle.iso_model.specs.Reading.{continued, elements, further}
-use Rattle.iso_model.specs.Terms.{term_of}
+use Rattle.iso_model.specs.Syntax.Reading.{continued, elements, further}
+use Rattle.iso_model.specs.Terms.TermOf.{term_of}
 use Rattle.iso_read.specs.Views.{node_of, terms_in}
 use Rattle.iso_read.proofs.Rows.{behind_these}
 use Rattle.iso_read.proofs.reader.+reader.Given as goal

@@ -1,5 +1,5 @@
 use Rattle.std.proofs.Common.{◌∙◌, ap, ◌++◌}
-use Rattle.iso_model.specs.Terms.{term_of}
+use Rattle.iso_model.specs.Terms.TermOf.{term_of}
 use Rattle.iso_session.proofs.SolutionLemmas.{value_found, value_missing, value_seen, equation_text}
 use Rattle.iso_session.proofs.composed.append_equation.Goals as goal
 

@@ -1,6 +1,6 @@
 use Rattle.std.proofs.Common.{◌≡◌, length, map, arith}
 use Rattle.std.proofs.lemmas.Bool.Decides.{nat_tests}
-use Rattle.iso_model.specs.Terms.{term_of}
+use Rattle.iso_model.specs.Terms.TermOf.{term_of}
 use Rattle.iso_session.proofs.SolutionLemmas.{equation_appended, solution_appended}
 use Rattle.iso_session.proofs.composed.append_solution.Goals as goal
 

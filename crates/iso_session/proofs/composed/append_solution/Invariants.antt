@@ -1,7 +1,7 @@
 -- What is written of the equations, and what is left.
 use Rattle.std.proofs.Common.{◌≡◌, [], ◌++◌, map, drop, codes}
-use Rattle.iso_model.specs.Terms.{term_of}
-use Rattle.iso_model.specs.Lines.{equations}
+use Rattle.iso_model.specs.Terms.TermOf.{term_of}
+use Rattle.iso_model.specs.Session.Lines.{equations}
 use Rattle.iso_session.specs.Named.{names_of}
 use Rattle.iso_session.proofs.composed.append_solution.Given as goal
 

@@ -1,6 +1,6 @@
 use Rattle.std.proofs.Common.{[], ◌∷◌, ◌++◌, ap, ◌∙◌, append_assoc}
-use Rattle.iso_model.specs.Terms.{term_of}
-use Rattle.iso_model.specs.Lines.{text_in, text_of}
+use Rattle.iso_model.specs.Terms.TermOf.{term_of}
+use Rattle.iso_model.specs.Session.Lines.{text_in, text_of}
 use Rattle.iso_session.proofs.composed.finish_with_term.Goals as goal
 
 pub returns : goal.returns

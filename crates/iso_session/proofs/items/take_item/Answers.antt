@@ -1,8 +1,8 @@
 use Rattle.std.proofs.Common.{refl}
 use Rattle.std.specs.Prelude.{Some}
-use Rattle.iso_model.specs.Terms.{term_of}
+use Rattle.iso_model.specs.Terms.TermOf.{term_of}
 use Rattle.iso_read.specs.Answers.{IsWellFormed}
-use Rattle.iso_model.proofs.NumberedLemmas.{is_numbered_IsNumbered}
+use Rattle.iso_model.proofs.OnTerms.NumberedLemmas.{is_numbered_IsNumbered}
 use Rattle.iso_session.proofs.items.take_item.Goals as goal
 
 pub returns-in-Ok-Some-clause-fits : goal.returns-in-Ok-Some-clause-fits

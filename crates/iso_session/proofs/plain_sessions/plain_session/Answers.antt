@@ -1,11 +1,12 @@
-use Rattle.iso_model.specs.Sessions.{session_script}
+use Rattle.iso_model.specs.Session.Sessions.{session_script}
 use Rattle.iso_session.specs.Progress.{outcome_of}
-use Rattle.iso_session.proofs.EndLemmas.{any_rest, refused_session}
+use Rattle.iso_session.proofs.EndLemmas.{writes_walk, refused_session}
 use Rattle.iso_session.proofs.plain_sessions.plain_session.Goals as goal
 
 pub returns-in_default : goal.returns-in_default
-returns-in_default g c = refused_session (session_script c.args.text.now c.args.queries.now c.args.limits.now.budget) _ _ c.close.result c.close.ensures.ended c.close.ensures.ok c.close.ensures.err
+returns-in_default g c =
+    refused_session c.args.limits.now.budget c.args.limits.now.frames (session_script c.args.text.now c.args.queries.now c.args.limits.now.budget) _ _ c.close.result c.close.ensures.ended c.close.ensures.ok c.close.ensures.err
 
 pub returns : goal.returns
 returns g c =
-    any_rest (session_script c.args.text.now c.args.queries.now c.args.limits.now.budget) _ _ _ (outcome_of c.session_on.result) c.session_on.ensures
+    writes_walk _ c.args.limits.now.frames _ _ _ (session_script c.args.text.now c.args.queries.now c.args.limits.now.budget) _ _ (outcome_of c.session_on.result) c.in-Ok.ensures.frames c.session_on.ensures

@@ -1,6 +1,6 @@
 use Rattle.std.proofs.Common.{codes, refl}
-use Rattle.iso_model.specs.Terms.{term_of}
-use Rattle.iso_model.specs.Lines.{error_line, halt_line}
+use Rattle.iso_model.specs.Terms.TermOf.{term_of}
+use Rattle.iso_model.specs.Session.Lines.{error_line, halt_line}
 use Rattle.iso_session.proofs.queries.end_query.Goals as goal
 
 pub returns-in-NoMore : goal.returns-in-NoMore

@@ -2,9 +2,9 @@ use Rattle.std.proofs.Common.{codes, refl}
 use Rattle.iso_session.proofs.ProgressLemmas.{puts_on}
 use Rattle.iso_session.proofs.queries.run_item.Goals as goal
 
-pub returns-in-Readable : goal.returns-in-Readable
-returns-in-Readable g c = λ w stands next. rw c.in-Readable.is (c.run_query.ensures w stands next)
+pub returns-in-Readable-clause-does : goal.returns-in-Readable-clause-does
+returns-in-Readable-clause-does g c = λ w stands next. rw c.in-Readable.is (c.run_query.ensures.does w stands next)
 
-pub returns-in-Unreadable : goal.returns-in-Unreadable
-returns-in-Unreadable g c = λ w stands next.
-    rw c.in-Unreadable.is (puts_on _ _ _ _ _ (codes "end: syntax error") w next c.put_fixed.result (c.put_fixed.ensures (codes "end: syntax error") refl) stands c.requires.ready)
+pub returns-in-Unreadable-clause-does : goal.returns-in-Unreadable-clause-does
+returns-in-Unreadable-clause-does g c = λ w stands next.
+    rw c.in-Unreadable.is (puts_on _ _ _ _ _ _ (codes "end: syntax error") w next c.put_fixed.result (c.put_fixed.ensures (codes "end: syntax error") refl) stands c.requires.ready)

@@ -1,11 +1,11 @@
 use Rattle.std.proofs.Common.{◌≡◌, ℕ, map}
-use Rattle.iso_model.specs.Grammar.{Clause}
-use Rattle.iso_model.specs.Terms.{term_of}
-use Rattle.iso_model.specs.Lines.{answer_line}
-use Rattle.iso_model.specs.Sessions.{Script, query_goal}
-use Rattle.iso_model.specs.Walker.{World, started}
+use Rattle.iso_model.specs.Syntax.Grammar.{Clause}
+use Rattle.iso_model.specs.Terms.TermOf.{term_of}
+use Rattle.iso_model.specs.Session.Lines.{answer_line}
+use Rattle.iso_model.specs.Session.Sessions.{Script, query_goal}
+use Rattle.iso_model.specs.Search.Walker.{World, started}
 use Rattle.iso_session.specs.Named.{names_of}
-use Rattle.iso_session.proofs.ProgressLemmas.{ready_awake, midway_awake}
+use Rattle.iso_session.proofs.ProgressLemmas.{ready_awake, midway_awake, keeps_limits-both}
 use Rattle.iso_session.proofs.QueryLemmas.{query_ends, run_begins, output_comes, output_breaks, output_goes, answer_comes, answer_stops, answer_breaks, answer_goes}
 use Rattle.iso_session.proofs.queries.run_pauses.Goals as goal
 
@@ -13,15 +13,16 @@ pub loop-bytes-init : goal.loop-bytes-init
 loop-bytes-init g c = record {
   awake = c.requires.awake;
   stands = c.requires.stands;
+  limits = λ l s may. may;
   place = λ query w budget named stands next. run_begins _ query w budget _ next stands;
 }
 
-pub returns-in_err-write_output-in-Output : goal.returns-in_err-write_output-in-Output
-returns-in_err-write_output-in-Output g c = λ query w budget named stands next.
+pub returns-in_err-write_output-in-Output-clause-does : goal.returns-in_err-write_output-in-Output-clause-does
+returns-in_err-write_output-in-Output-clause-does g c = λ query w budget named stands next.
     let place = c.loop-bytes.invariant.place query w budget named stands next in
     let turn = output_comes place (c.in-Output.ensures.pauses place.at place.stands c.loop-bytes.invariant.awake).0 in
     let begins = rw c.as_slice.ensures.value at c.in_err-write_output-in-Output.ensures.err in
-    output_breaks _ _ _ next c.from_residual.result turn c.from_residual.ensures.0 begins
+    output_breaks _ _ _ _ next c.from_residual.result turn c.from_residual.ensures.0 begins
 
 pub loop-bytes-preserved-in-Output : goal.loop-bytes-preserved-in-Output
 loop-bytes-preserved-in-Output g c =
@@ -35,25 +36,26 @@ loop-bytes-preserved-in-Output g c =
     record {
       awake = midway_awake _ pauses.1;
       stands = (pauses.0.new, pauses.0.stands);
+      limits = keeps_limits-both _ _ _ c.loop-bytes.invariant.limits c.in-Output.ensures.limits;
       place = goes;
     }
 
-pub returns-in_err-flow-in-Answer : goal.returns-in_err-flow-in-Answer
-returns-in_err-flow-in-Answer g c = λ query w budget named stands next.
+pub returns-in_err-flow-in-Answer-clause-does : goal.returns-in_err-flow-in-Answer-clause-does
+returns-in_err-flow-in-Answer-clause-does g c = λ query w budget named stands next.
     let place = c.loop-bytes.invariant.place query w budget named stands next in
     let turn = answer_comes c.saturating_add-count.result place (c.in-Answer.ensures.pauses place.at place.stands c.loop-bytes.invariant.awake).0 c.saturating_add-count.ensures in
     let line = rw (c.as_slice-in-Answer.ensures.value, named) at c.answer_line-line.ensures in
-    answer_breaks _ _ c.from_residual-in_err-flow-in-Answer.result turn c.ops-ops.result.now (c.ops-ops.ensures turn.at turn.stands) c.from_residual-in_err-flow-in-Answer.ensures.0
+    answer_breaks _ _ _ c.from_residual-in_err-flow-in-Answer.result turn c.ops-ops.result.now (c.ops-ops.ensures turn.at turn.stands) c.from_residual-in_err-flow-in-Answer.ensures.0
     (c.in_err-flow-in-Answer.ensures (answer_line c.ops-ops.result.now c.saturating_add-count.result query.names (map term_of c.in-Answer.values.items)) line)
 
-pub returns-in_default-2 : goal.returns-in_default-2
-returns-in_default-2 g c = λ query w budget named stands next.
+pub returns-in_default-2-clause-does : goal.returns-in_default-2-clause-does
+returns-in_default-2-clause-does g c = λ query w budget named stands next.
     let place = c.loop-bytes.invariant.place query w budget named stands next in
     let pauses = c.in-Answer.ensures.pauses place.at place.stands c.loop-bytes.invariant.awake in
     let turn = answer_comes c.saturating_add-count.result place pauses.0 c.saturating_add-count.ensures in
     let line = rw (c.as_slice-in-Answer.ensures.value, named) at c.answer_line-line.ensures in
     let puts = rw c.in_ok-flow-in-Answer.was at (c.put_line.ensures (answer_line c.ops-ops.result.now c.saturating_add-count.result query.names (map term_of c.in-Answer.values.items)) line) in
-    answer_stops _ _ c.in_ok-flow-in-Answer.flow turn c.ops-ops.result.now (c.ops-ops.ensures turn.at turn.stands) pauses.1 c.in_default-2.not-On puts
+    answer_stops _ _ _ c.in_ok-flow-in-Answer.flow turn c.ops-ops.result.now (c.ops-ops.ensures turn.at turn.stands) pauses.1 c.in_default-2.not-On puts
 
 pub loop-bytes-preserved : goal.loop-bytes-preserved
 loop-bytes-preserved g c =
@@ -69,12 +71,13 @@ loop-bytes-preserved g c =
     record {
       awake = ready_awake _ pauses.1;
       stands = (pauses.0.new, pauses.0.stands);
+      limits = keeps_limits-both _ _ _ c.loop-bytes.invariant.limits c.in-Answer.ensures.limits;
       place = goes;
     }
 
-pub returns-in_default : goal.returns-in_default
-returns-in_default g c = λ query w budget named stands next.
+pub returns-in_default-clause-does : goal.returns-in_default-clause-does
+returns-in_default-clause-does g c = λ query w budget named stands next.
     let place = c.loop-bytes.invariant.place query w budget named stands next in
     let pauses = c.resume.ensures.pauses place.at place.stands c.loop-bytes.invariant.awake in
-    query_ends _ c.ops.result.now c.ops.ensures _ _ _ _ query w budget place.done place.at c.resume.result next c.end_query.result place.gave place.advances
-    pauses c.end_query.ensures c.in_default.not-Answer c.in_default.not-Output
+    query_ends _ _ c.ops.result.now c.ops.ensures _ _ _ _ query w budget place.done place.at c.resume.result next c.end_query.result place.gave place.advances
+    pauses (c.resume.ensures.limit place.at place.stands) c.end_query.ensures c.in_default.not-Answer c.in_default.not-Output

@@ -1,31 +1,31 @@
-use Rattle.iso_model.specs.Sessions.{Closes, Done, queries_script}
-use Rattle.iso_model.specs.Walker.{World, idle}
-use Rattle.iso_session.proofs.ProgressLemmas.{stops_after, breaks_after}
+use Rattle.iso_model.specs.Session.Sessions.{Closes, Done, queries_script}
+use Rattle.iso_model.specs.Search.Walker.{World, idle}
+use Rattle.iso_session.proofs.ProgressLemmas.{stops_after, breaks_after, keeps_limits-both}
 use Rattle.iso_session.proofs.ConsultLemmas.{nothing_found}
 use Rattle.iso_session.proofs.QueryLemmas.{queries_end, query_found, query_goes}
 use Rattle.iso_session.proofs.queries.run_queries.Goals as goal
 
-pub returns-in_default-next : goal.returns-in_default-next
-returns-in_default-next g c = λ w stands.
+pub returns-in_default-next-clause-does : goal.returns-in_default-next-clause-does
+returns-in_default-next-clause-does g c = λ w stands.
     let place = c.loop-next.invariant.place w stands in
     let none = nothing_found _ _ c.loop-next.tokens c.take_item.new.tokens c.in-Ok.next (c.in-Ok.ensures.item (idle place.at) place.stands) c.in_default-next.not-Some in
     queries_end _ _ c.args.budget c.loop-next.tokens _ _ _ place c.loop-next.invariant.ready none
 
-pub returns-in_err-flow : goal.returns-in_err-flow
-returns-in_err-flow g c = λ w stands.
+pub returns-in_err-flow-clause-does : goal.returns-in_err-flow-clause-does
+returns-in_err-flow-clause-does g c = λ w stands.
     let place = c.loop-next.invariant.place w stands in
     let turn = query_found _ c.args.budget c.loop-next.tokens c.take_item.new.tokens c.in-Ok.next c.in-Some.item _ _ _
     place (c.in-Ok.ensures.item (idle place.at) place.stands) c.in-Some.is c.in-Ok.ensures.shorter in
-    breaks_after _ _ _ _ _ _ _ _ (λ _. Closes Done) c.from_residual.result turn.advances c.from_residual.ensures.0
-    (c.in_err-flow.ensures turn.at turn.stands (queries_script turn.turns c.args.budget c.take_item.new.tokens))
+    breaks_after _ _ _ _ _ _ _ _ _ (λ _. Closes Done) c.from_residual.result turn.advances c.from_residual.ensures.0
+    (c.in_err-flow.ensures.does turn.at turn.stands (queries_script turn.turns c.args.budget c.take_item.new.tokens))
 
-pub returns-in_default-2 : goal.returns-in_default-2
-returns-in_default-2 g c = λ w stands.
+pub returns-in_default-2-clause-does : goal.returns-in_default-2-clause-does
+returns-in_default-2-clause-does g c = λ w stands.
     let place = c.loop-next.invariant.place w stands in
     let turn = query_found _ c.args.budget c.loop-next.tokens c.take_item.new.tokens c.in-Ok.next c.in-Some.item _ _ _
     place (c.in-Ok.ensures.item (idle place.at) place.stands) c.in-Some.is c.in-Ok.ensures.shorter in
-    let does = rw c.in_ok-flow.was at (c.run_item.ensures turn.at turn.stands (queries_script turn.turns c.args.budget c.take_item.new.tokens)) in
-    stops_after _ _ _ _ _ _ _ _ _ (λ _. Closes Done) c.in_ok-flow.flow turn.advances c.in_default-2.not-On does
+    let does = rw c.in_ok-flow.was at (c.run_item.ensures.does turn.at turn.stands (queries_script turn.turns c.args.budget c.take_item.new.tokens)) in
+    stops_after _ _ _ _ _ _ _ _ _ _ (λ _. Closes Done) c.in_ok-flow.flow turn.advances c.in_default-2.not-On does
 
 pub loop-next-preserved : goal.loop-next-preserved
 loop-next-preserved g c =
@@ -33,11 +33,12 @@ loop-next-preserved g c =
     let place = c.loop-next.invariant.place w stands in
     let turn = query_found _ c.args.budget c.loop-next.tokens c.take_item.new.tokens c.in-Ok.next c.in-Some.item _ _ _
     place (c.in-Ok.ensures.item (idle place.at) place.stands) c.in-Some.is c.in-Ok.ensures.shorter in
-    let does = rw (c.in_ok-flow.was, c.in-On.is) at (c.run_item.ensures turn.at turn.stands (queries_script turn.turns c.args.budget c.take_item.new.tokens)) in
+    let does = rw (c.in_ok-flow.was, c.in-On.is) at (c.run_item.ensures.does turn.at turn.stands (queries_script turn.turns c.args.budget c.take_item.new.tokens)) in
     query_goes _ _ _ c.args.budget _ c.take_item.new.tokens _ _ _ _ turn does in
     let first = goes c.requires.stands.0 c.requires.stands.1 in
     record {
       ready = first.0;
       stands = (first.1.at, first.1.stands);
+      limits = keeps_limits-both _ _ _ c.loop-next.invariant.limits c.run_item.ensures.limits;
       place = λ w stands. (goes w stands).1;
     }

@@ -1,9 +1,9 @@
 -- The script is left where the queries are, and the engine stands for what they are run over.
 use Rattle.std.proofs.Common.{◌≡◌, length}
-use Rattle.iso_model.specs.Engines.{Ready}
-use Rattle.iso_model.specs.Sessions.{queries_script}
-use Rattle.iso_model.specs.Tokens.{tokens}
-use Rattle.iso_model.specs.Walker.{World, idle}
+use Rattle.iso_model.specs.Search.Engines.{Ready, MayMeet, KeepsLimits}
+use Rattle.iso_model.specs.Session.Sessions.{queries_script}
+use Rattle.iso_model.specs.Syntax.Tokens.{tokens}
+use Rattle.iso_model.specs.Search.Walker.{World, idle}
 use Rattle.iso_session.proofs.QueryLemmas.{QueriesPlace}
 use Rattle.iso_session.proofs.queries.run_queries.Given as goal
 
@@ -11,6 +11,7 @@ abbrev pub invariant-loop-next : goal.invariant-loop-next
 invariant-loop-next g l = record {
   ready : g.E.Engine.phase l.engine ≡ Ready;
   stands : (v : World) × g.E.Engine.stands_for l.engine (idle v);
+  limits : KeepsLimits (MayMeet (g.E.Engine.heap_pieces l.fn.engine) (g.E.Engine.frames_pieces l.fn.engine)) (MayMeet (g.E.Engine.heap_pieces l.engine) (g.E.Engine.frames_pieces l.engine));
   place : (w : World) → g.E.Engine.stands_for l.fn.engine (idle w)
       → QueriesPlace (g.E.Engine.stands_for l.engine) l.budget l.tokens (g.W.Write.contents l.fn.out, l.fn.within_line) (g.W.Write.contents l.out, l.within_line)
       (queries_script (length (tokens l.queries)) l.budget (tokens l.queries) w);

@@ -1,8 +1,8 @@
 use Rattle.std.proofs.Common.{rules, ◌≡◌, ◌<◌, ap, sym, ◌∙◌, add-one, arith}
-use Rattle.iso_model.specs.Trees.{Name, Apply}
-use Rattle.iso_model.specs.Terms.{row_of}
-use Rattle.iso_model.specs.Sizes.{size}
-use Rattle.iso_model.proofs.RowLemmas.{term_of_compound}
+use Rattle.iso_model.specs.Terms.Trees.{Name, Apply}
+use Rattle.iso_model.specs.Terms.TermOf.{row_of}
+use Rattle.iso_model.specs.Terms.Sizes.{size}
+use Rattle.iso_model.proofs.OnTerms.RowLemmas.{term_of_compound}
 use Rattle.iso_store.specs.Presents.{meaning}
 use Rattle.iso_store.specs.Arguments.{arguments, arity, front}
 use Rattle.iso_store.proofs.Members.{size-argument}

@@ -1,7 +1,7 @@
 -- The arguments so far are the first ones.
 use Rattle.std.proofs.Common.{◌≡◌}
-use Rattle.iso_model.specs.Terms.{row_of}
-use Rattle.iso_model.specs.Sizes.{size}
+use Rattle.iso_model.specs.Terms.TermOf.{row_of}
+use Rattle.iso_model.specs.Terms.Sizes.{size}
 use Rattle.iso_store.specs.Presents.{meaning}
 use Rattle.iso_store.specs.Arguments.{arguments, front}
 use Rattle.iso_store.proofs.copies.+copy_out.Given as goal

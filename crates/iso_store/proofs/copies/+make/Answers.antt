@@ -1,9 +1,9 @@
 use Rattle.std.proofs.Common.{rules, ◌≡◌, ℕ, suc, ◌+◌, ◌<◌, length, map, get_or, true, sym, ap, ◌∙◌, add-one, arith}
-use Rattle.iso_model.specs.Trees.{arities_fit}
-use Rattle.iso_model.specs.Terms.{term_of, row_of}
-use Rattle.iso_model.specs.Sizes.{size}
-use Rattle.iso_model.specs.Substitutions.{apply}
-use Rattle.iso_model.specs.Unification.Listed.{Covers}
+use Rattle.iso_model.specs.Terms.Trees.{arities_fit}
+use Rattle.iso_model.specs.Terms.TermOf.{term_of, row_of}
+use Rattle.iso_model.specs.Terms.Sizes.{size}
+use Rattle.iso_model.specs.Terms.Substitutions.{apply}
+use Rattle.iso_model.specs.Terms.Unification.Listed.{Covers}
 use Rattle.iso_store.specs.Copying.{placed_terms, cells_of}
 use Rattle.iso_store.proofs.Parts.{term_of_variable, term_of_atom, arguments-covered, arguments-fit, arguments-size, compound-cells, compound-applied, item-covered, item-fits, item-size, cells-more, cells-whole, place-found}
 use Rattle.iso_store.proofs.Gathering.{numbers-then, grows-on, makes-placed, placed-kept, gathers-next, gathers-all, gathers-size, compound-made, numbers-made}

@@ -1,9 +1,9 @@
 -- The words so far came for the first arguments, with the variables replaced.
 use Rattle.std.proofs.Common.{map, take}
 use Rattle.iso_atoms.specs.Texts.{KeepsTexts}
-use Rattle.iso_model.specs.Sizes.{size}
-use Rattle.iso_model.specs.Substitutions.{apply}
-use Rattle.iso_model.specs.Terms.{term_of, row_of}
+use Rattle.iso_model.specs.Terms.Sizes.{size}
+use Rattle.iso_model.specs.Terms.Substitutions.{apply}
+use Rattle.iso_model.specs.Terms.TermOf.{term_of, row_of}
 use Rattle.iso_store.specs.Presents.{Gathers, KeepsNumbers, Grows, KeepsMarks}
 use Rattle.iso_store.specs.Copying.{placed_terms, cells_of}
 use Rattle.iso_store.proofs.copies.+make.Given as goal

@@ -1,7 +1,8 @@
-use Rattle.std.proofs.Common.{[], length, ap, ◌∙◌}
-use Rattle.iso_model.specs.Terms.{term_of}
-use Rattle.iso_model.specs.Variables.{distinct_from}
-use Rattle.iso_model.specs.Unification.Listed.{distinct_covers}
+use Rattle.std.proofs.Common.{[], length, ap, ◌∙◌, arith}
+use Rattle.iso_model.specs.Terms.TermOf.{term_of}
+use Rattle.iso_model.specs.Terms.Variables.{distinct_from}
+use Rattle.iso_model.specs.Terms.Unification.Listed.{distinct_covers}
+use Rattle.iso_store.proofs.CellCounts.{built-counted}
 use Rattle.iso_store.proofs.Gathering.{built-made, variables-count}
 use Rattle.iso_store.proofs.copies.build.Goals as goal
 
@@ -21,3 +22,10 @@ returns-clause-made g c =
     let made = rw c.as_slice.ensures.value at c.make.ensures.made in
     built-made _ c.reserve-first.result c.len-2.result c.note_all.new.self.numbers.items (term_of c.args.term.now) c.reserve-first.ensures.words c.reserve-first.ensures.substitution c.reserve-first.ensures.number
     c.in_ok-words.ensures.made list (c.len-2.ensures ∙ c.note_all.new.self.numbers.ok.0) c.make.result made
+
+pub returns-clause-counted : goal.returns-clause-counted
+returns-clause-counted g c =
+    let count = c.len.ensures in
+    let again = c.len-2.ensures in
+    let made = c.in_ok-words.ensures.each_cell in
+    built-counted _ c.make.result c.reserve-first.ensures.numbers c.reserve-first.ensures.cells c.in_ok-words.ensures.numbers (omega arith) c.make.ensures.cells c.make.ensures.numbers

@@ -13,6 +13,7 @@ loop-place-preserved g c =
       numbers = takes-more c.args.first i so.numbers c.in_ok-word.ensures.numbers;
       free = rw index (free-more c.args.first i c.in_ok-word.ensures.numbers so.free);
       cells = grows-on _ so.cells c.in_ok-word.ensures.cells (omega arith);
+      each_cell = let before = so.each_cell in let more = c.in_ok-word.ensures.cell in omega arith;
       names = c.in_ok-word.ensures.names ∙ so.names;
       marks = λ m q h. c.variable.ensures.marks m q (so.marks m q h);
     }

@@ -1,7 +1,7 @@
 -- The words so far are those of the first numbers.
 use Rattle.std.proofs.Common.{◌≡◌, ◌≤◌, ◌+◌, ℕ, map, false}
-use Rattle.iso_model.specs.Trees.{Variable}
-use Rattle.iso_model.specs.Copies.{numbers_from}
+use Rattle.iso_model.specs.Terms.Trees.{Variable}
+use Rattle.iso_model.specs.Terms.Copies.{numbers_from}
 use Rattle.iso_store.specs.Presents.{Gathers, TakesFrom, Grows, KeepsMarks}
 use Rattle.iso_store.proofs.copies.variables_from.Given as goal
 
@@ -11,6 +11,7 @@ invariant-loop-place g l = record {
   numbers : TakesFrom (g.C.Cells.present l.fn.store) (g.C.Cells.present l.store) l.first;
   free : (n : ℕ) → l.first + l.place ≤ n → (g.C.Cells.present l.store).taken n ≡ false;
   cells : Grows (g.C.Cells.present l.fn.store) (g.C.Cells.present l.store) l.place;
+  each_cell : (g.C.Cells.present l.fn.store).cells + l.place ≤ (g.C.Cells.present l.store).cells;
   names : g.C.Cells.names l.store ≡ g.C.Cells.names l.fn.store;
   marks : KeepsMarks (g.C.Cells.stands l.fn.store) (g.C.Cells.stands l.store);
 }

@@ -1,4 +1,4 @@
-use Rattle.std.proofs.Common.{rules, ◌≢◌, sym, ◌∙◌}
+use Rattle.std.proofs.Common.{rules, ◌≢◌, ◌∙◌}
 use Rattle.iso_store.proofs.Clashes.{never-compound}
 use Rattle.iso_store.proofs.meetings.meet.Goals as goal
 

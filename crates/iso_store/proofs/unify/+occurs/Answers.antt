@@ -1,7 +1,7 @@
 use Rattle.std.proofs.Common.{rules, ◌-◌, ◌<◌, sym, ap, ◌∙◌, arith, add-one}
 use Rattle.std.proofs.lemmas.Bool.{or_left, or_from}
-use Rattle.iso_model.specs.Variables.{occurs}
-use Rattle.iso_model.specs.Sizes.{size}
+use Rattle.iso_model.specs.Terms.Variables.{occurs}
+use Rattle.iso_model.specs.Terms.Sizes.{size}
 use Rattle.iso_store.specs.Presents.{meaning}
 use Rattle.iso_store.specs.Arguments.{arguments}
 use Rattle.iso_store.proofs.Members.{occurs-last, occurs-front, occurs-within, size-argument, size-arguments}

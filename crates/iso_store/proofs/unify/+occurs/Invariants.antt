@@ -1,7 +1,7 @@
 -- The variable occurs in what is left as in the whole.
 use Rattle.std.proofs.Common.{◌≡◌, ◌≤◌, ◌+◌, false}
-use Rattle.iso_model.specs.Sizes.{size}
-use Rattle.iso_model.specs.Variables.{occurs}
+use Rattle.iso_model.specs.Terms.Sizes.{size}
+use Rattle.iso_model.specs.Terms.Variables.{occurs}
 use Rattle.iso_store.specs.Presents.{Holds, meaning}
 use Rattle.iso_store.specs.Arguments.{arguments, front}
 use Rattle.iso_store.proofs.unify.+occurs.Given as goal

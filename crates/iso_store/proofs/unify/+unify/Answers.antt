@@ -1,8 +1,8 @@
 use Rattle.std.proofs.Common.{rules, ◌-◌, ◌<◌, ◌≤◌, ◌∙◌, refl, add-one, arith}
-use Rattle.iso_model.specs.Trees.{Variable}
-use Rattle.iso_model.specs.Substitutions.{compose}
-use Rattle.iso_model.specs.Unification.Composed.{unifier_same}
-use Rattle.iso_model.proofs.Cost.{cost}
+use Rattle.iso_model.specs.Terms.Trees.{Variable}
+use Rattle.iso_model.specs.Terms.Substitutions.{compose}
+use Rattle.iso_model.specs.Terms.Unification.Composed.{unifier_same}
+use Rattle.iso_model.proofs.OnTerms.Cost.{cost}
 use Rattle.iso_store.specs.Presents.{meaning}
 use Rattle.iso_store.specs.Arguments.{arguments, arity}
 use Rattle.iso_store.proofs.Members.{arity-grows}
@@ -15,7 +15,7 @@ unify-loop-number-init g t c = record {
   first_holds = c.requires.first;
   second_holds = c.requires.second;
   bound = (Variable, left_whole _ _, binds-none _);
-  cells = record { cells = omega arith; limit = refl; within = λ h. h };
+  cells = record { cells = omega arith; keeps = omega arith; limit = refl; within = λ h. h };
   names = refl;
   marks = λ m p h. h;
 }
@@ -98,7 +98,7 @@ unify-loop-number-preserved g t c =
 pub unify_before-loop-index-init : goal.unify_before-loop-index-init
 unify_before-loop-index-init g t c = record {
   bound = (Variable, unifier_same _, binds-none _);
-  cells = record { cells = omega arith; limit = refl; within = λ h. h };
+  cells = record { cells = omega arith; keeps = omega arith; limit = refl; within = λ h. h };
   names = refl;
   marks = λ m p h. h;
 }

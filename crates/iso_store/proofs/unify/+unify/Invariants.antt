@@ -1,8 +1,8 @@
 -- What is bound so far, and what is left to be made equal.
 use Rattle.std.proofs.Common.{◌≡◌}
-use Rattle.iso_model.specs.Substitutions.{Subst}
-use Rattle.iso_model.specs.Unifiers.{Unifier}
-use Rattle.iso_model.proofs.Cost.{cost}
+use Rattle.iso_model.specs.Terms.Substitutions.{Subst}
+use Rattle.iso_model.specs.Terms.Unifiers.{Unifier}
+use Rattle.iso_model.proofs.OnTerms.Cost.{cost}
 use Rattle.iso_store.specs.Presents.{Holds, meaning, Binds, Grows, KeepsMarks}
 use Rattle.iso_store.specs.Arguments.{arguments, front}
 use Rattle.iso_store.proofs.Steps.{Left}

@@ -1,6 +1,6 @@
 -- What is counted, with the run from there on, is the whole run.
 use Rattle.std.proofs.Common.{◌≡◌, ◌+◌, ◌-◌, ◌≤◌, length, drop}
-use Rattle.iso_model.specs.Characters as characters
+use Rattle.iso_model.specs.Syntax.Characters as characters
 use Rattle.iso_token.specs.Classes.{is_of}
 use Rattle.iso_token.proofs.classes.run.Given as goal
 

@@ -1,6 +1,6 @@
 use Rattle.std.proofs.Common.{◌≡◌, slice_index, arith}
 use Rattle.std.proofs.lemmas.Str.{IsCharBoundary-after_ascii}
-use Rattle.iso_model.proofs.CutLemmas.{byte_within}
+use Rattle.iso_model.proofs.Syntax.CutLemmas.{byte_within}
 use Rattle.iso_token.proofs.kinds.unquoted.Goals as goal
 
 pub split_at-requires : goal.split_at-requires

@@ -1,6 +1,6 @@
 -- The comment goes on as far as what is read and what is left of it.
 use Rattle.std.proofs.Common.{◌≡◌, ◌+◌, drop, option_map}
-use Rattle.iso_model.specs.Lexemes.{comment_len}
+use Rattle.iso_model.specs.Syntax.Lexemes.{comment_len}
 use Rattle.iso_token.proofs.lexemes.comment_len.Given as goal
 
 abbrev pub invariant-loop-at : goal.invariant-loop-at

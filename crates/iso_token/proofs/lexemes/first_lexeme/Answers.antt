@@ -1,6 +1,6 @@
 use Rattle.std.proofs.Common.{slice_index, sym, ◌∙◌, arith}
 use Rattle.std.proofs.lemmas.Bool.Decides.{nat_tests}
-use Rattle.iso_model.proofs.LexemeLemmas.{BeginsSymbol, lexeme-symbol}
+use Rattle.iso_model.proofs.Syntax.LexemeLemmas.{BeginsSymbol, lexeme-symbol}
 use Rattle.iso_token.proofs.lexemes.first_lexeme.Goals as goal
 use Rattle.iso_token.proofs.lexemes.first_lexeme.Goals.{in_default-2-via-then-this-lt48, in_default-2-via-else-this-lt48+else-this-lt58+then-this-lt65, in_default-2-via-else-this-lt48+else-this-lt58+else-this-lt65+else-this-lt91+then-this-lt97, in_default-2-via-else-this-lt48+else-this-lt58+else-this-lt65+else-this-lt91+else-this-lt97+else-this-lt123}
 

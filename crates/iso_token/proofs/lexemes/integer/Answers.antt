@@ -1,5 +1,5 @@
 use Rattle.std.proofs.Common.{ap, arith}
-use Rattle.iso_model.proofs.NumberLemmas.{integer-ends}
+use Rattle.iso_model.proofs.Syntax.NumberLemmas.{integer-ends}
 use Rattle.iso_token.specs.declared.numbers.Written.{Written}
 use Rattle.iso_token.proofs.lexemes.integer.Goals as goal
 

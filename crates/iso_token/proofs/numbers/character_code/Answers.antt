@@ -1,6 +1,6 @@
 use Rattle.std.proofs.Common.{drop, Some, None}
 use Rattle.std.proofs.lemmas.List.{take_rest}
-use Rattle.iso_model.specs.Numbers.{quoted_character}
+use Rattle.iso_model.specs.Syntax.Numbers.{quoted_character}
 use Rattle.iso_token.proofs.PieceLemmas.{two_behind}
 use Rattle.iso_token.proofs.numbers.character_code.Goals as goal
 

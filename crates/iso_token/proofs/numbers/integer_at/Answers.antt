@@ -1,5 +1,5 @@
 use Rattle.std.proofs.Common.{Some, None, ◌∙◌}
-use Rattle.iso_model.specs.Numbers.{special, digits_at}
+use Rattle.iso_model.specs.Syntax.Numbers.{special, digits_at}
 use Rattle.iso_token.proofs.PieceLemmas.{written_or}
 use Rattle.iso_token.proofs.numbers.integer_at.Goals as goal
 

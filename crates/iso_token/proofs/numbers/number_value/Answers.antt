@@ -1,5 +1,5 @@
 use Rattle.std.proofs.Common.{◌≤◌, sym, ◌∙◌, arith}
-use Rattle.iso_model.proofs.NumberLemmas.{digits-over}
+use Rattle.iso_model.proofs.Syntax.NumberLemmas.{digits-over}
 use Rattle.iso_token.specs.declared.classes.Base.{Base}
 use Rattle.iso_token.specs.declared.classes.Base.TheVariants as base
 use Rattle.iso_token.specs.Classes.{radix_of}

@@ -1,8 +1,8 @@
 use Rattle.std.proofs.Common.{◌≡◌, ℕ, ◌<◌, ◌≤◌, ◌++◌, List, [], length, string_bytes, append-nil, sym, ap, ◌∙◌, subst, arith}
 use Rattle.std.proofs.lemmas.Bool.Decides.{nat_tests}
 use Rattle.std.proofs.lemmas.Str.{IsUtf8-drop}
-use Rattle.iso_model.specs.Quoted.{piece_at, content_from}
-use Rattle.iso_model.proofs.QuotedLemmas.{piece-cut, content-nil}
+use Rattle.iso_model.specs.Syntax.Quoted.{piece_at, content_from}
+use Rattle.iso_model.proofs.Syntax.QuotedLemmas.{piece-cut, content-nil}
 use Rattle.iso_token.specs.declared.quoted.Piece.{Piece}
 use Rattle.iso_token.specs.Quoted.{len_of, piece_of}
 use Rattle.iso_token.proofs.PieceLemmas.{piece-stands, content-ended, content-on}

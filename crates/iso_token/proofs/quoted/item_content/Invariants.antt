@@ -2,7 +2,7 @@
 use Rattle.std.proofs.Common.{◌≡◌, ◌++◌, length, string_bytes}
 use denote.Text.{Utf8}
 use denote.Shadow.{shadow}
-use Rattle.iso_model.specs.Quoted.{content_from}
+use Rattle.iso_model.specs.Syntax.Quoted.{content_from}
 use Rattle.iso_token.proofs.quoted.item_content.Given as goal
 
 abbrev pub invariant-loop-rest : goal.invariant-loop-rest

@@ -1,7 +1,7 @@
 use Rattle.std.proofs.Common.{◌≡◌, ℕ, ◌+◌, ◌<◌, ◌≤◌, length, drop, take, Option, option_map, sym, ap, ◌∙◌, arith}
 use Rattle.std.proofs.lemmas.List.{take_rest, length-drop}
-use Rattle.iso_model.specs.Quoted.{Stands, piece_at}
-use Rattle.iso_model.proofs.QuotedLemmas.{item-on, item-closes, item-broken, item-nil}
+use Rattle.iso_model.specs.Syntax.Quoted.{Stands, piece_at}
+use Rattle.iso_model.proofs.Syntax.QuotedLemmas.{item-on, item-closes, item-broken, item-nil}
 use Rattle.iso_token.specs.Quoted.{len_of, stood_for}
 use Rattle.iso_token.proofs.PieceLemmas.{piece-stands}
 use Rattle.iso_token.proofs.quoted.item_len.Goals as goal

@@ -1,6 +1,6 @@
 -- The item goes on as far as what is read and what is left of it.
 use Rattle.std.proofs.Common.{◌≡◌, ◌+◌, ◌-◌, ◌≤◌, length, drop, option_map}
-use Rattle.iso_model.specs.Quoted.{len_from}
+use Rattle.iso_model.specs.Syntax.Quoted.{len_from}
 use Rattle.iso_token.proofs.quoted.item_len.Given as goal
 
 abbrev pub invariant-loop-at : goal.invariant-loop-at

@@ -1,7 +1,7 @@
 use Rattle.std.proofs.Common.{sym, ◌∙◌}
 use Rattle.iso_ops.specs.declared.specifiers.Kind.TheVariants.{Infix}
 use Rattle.iso_ops.specs.Operators.{operator}
-use Rattle.iso_model.specs.Terms.{term_of}
+use Rattle.iso_model.specs.Terms.TermOf.{term_of}
 use Rattle.iso_write.specs.Styles.{style_of}
 use Rattle.iso_write.specs.Forms.{written}
 use Rattle.iso_write.proofs.FormLemmas.{found_operator, pair_infix}

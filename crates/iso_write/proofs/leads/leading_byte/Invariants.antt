@@ -1,7 +1,7 @@
 -- The term's text in its place, or where it is empty what stands behind it, begins as the whole does.
 use Rattle.std.proofs.Common.{◌≡◌, ℕ, List}
 use Rattle.std.specs.Option.{option_or}
-use Rattle.iso_model.specs.Terms.{term_of}
+use Rattle.iso_model.specs.Terms.TermOf.{term_of}
 use Rattle.iso_write.specs.Styles.{style_of}
 use Rattle.iso_write.specs.Forms.{written}
 use Rattle.iso_write.specs.Tasks.{placed, load}

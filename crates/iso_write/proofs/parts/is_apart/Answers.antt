@@ -1,7 +1,7 @@
 use Rattle.std.proofs.Common.{rules, ◌≡◌, ◌==◌, ◌&&◌, ◌||◌, codes, sym, ◌∙◌}
 use Rattle.std.specs.Str.{bytes_eq}
-use Rattle.iso_model.specs.Characters.{is_digit}
-use Rattle.iso_model.specs.Terms.{term_of}
+use Rattle.iso_model.specs.Syntax.Characters.{is_digit}
+use Rattle.iso_model.specs.Terms.TermOf.{term_of}
 use Rattle.iso_write.specs.Styles.{style_of}
 use Rattle.iso_write.specs.Forms.{operator_of, written}
 use Rattle.iso_write.proofs.LeadLemmas.{apart_by}

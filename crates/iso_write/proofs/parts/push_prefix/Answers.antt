@@ -1,5 +1,5 @@
 use Rattle.std.proofs.Common.{true, false, sym, ◌∙◌}
-use Rattle.iso_model.specs.Terms.{term_of}
+use Rattle.iso_model.specs.Terms.TermOf.{term_of}
 use Rattle.iso_write.specs.declared.tasks.Place.TheVariants.{Right}
 use Rattle.iso_write.specs.Styles.{style_of}
 use Rattle.iso_write.specs.Forms.{operator_of, written}

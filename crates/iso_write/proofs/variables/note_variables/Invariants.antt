@@ -1,7 +1,7 @@
 -- What the rows that are left add to those seen so far makes up the whole; those seen at first stand in front.
 use Rattle.std.proofs.Common.{◌≡◌, take, length}
-use Rattle.iso_model.specs.Terms.{term_of}
-use Rattle.iso_model.specs.Variables.{distinct_from}
+use Rattle.iso_model.specs.Terms.TermOf.{term_of}
+use Rattle.iso_model.specs.Terms.Variables.{distinct_from}
 use Rattle.iso_write.specs.Rows.{rows_seen, rows_load}
 use Rattle.iso_write.proofs.variables.note_variables.Given as goal
 

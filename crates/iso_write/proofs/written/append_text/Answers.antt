@@ -1,7 +1,7 @@
 use Rattle.std.proofs.Common.{[], ◌∷◌, ◌++◌, ap, sym, ◌∙◌, append-nil, arith}
 use Rattle.std.proofs.Math.Seq.{take-length}
-use Rattle.iso_model.specs.Terms.{term_of}
-use Rattle.iso_model.specs.Pieces.{at_most, term_written}
+use Rattle.iso_model.specs.Terms.TermOf.{term_of}
+use Rattle.iso_model.specs.Syntax.Pieces.{at_most, term_written}
 use Rattle.iso_write.specs.declared.tasks.Place.TheVariants.{Whole}
 use Rattle.iso_write.specs.declared.tasks.Task.TheVariants.{Placed}
 use Rattle.iso_write.specs.Styles.{style_of}

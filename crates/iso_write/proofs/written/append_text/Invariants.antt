@@ -1,7 +1,7 @@
 -- What the tasks that are left stand for makes up the whole text; what there was at first stands in front.
 use Rattle.std.proofs.Common.{◌≡◌, ◌++◌, take, length}
-use Rattle.iso_model.specs.Terms.{term_of}
-use Rattle.iso_model.specs.Pieces.{text_at}
+use Rattle.iso_model.specs.Terms.TermOf.{term_of}
+use Rattle.iso_model.specs.Syntax.Pieces.{text_at}
 use Rattle.iso_write.specs.Styles.{style_of}
 use Rattle.iso_write.specs.Edges.{behind}
 use Rattle.iso_write.specs.Tasks.{pieces_of, tasks_load}

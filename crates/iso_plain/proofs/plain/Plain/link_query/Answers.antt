@@ -1,17 +1,19 @@
 use Rattle.std.proofs.Common.{◌≡◌, ℕ, ◌+◌, ◌*◌, ◌≤◌, List, [], length, refl, sym, ap, ap₂, ◌∙◌, subst, arith, None}
-use Rattle.iso_model.specs.Trees.{Tree, Variable}
-use Rattle.iso_model.specs.Terms.{term_of}
-use Rattle.iso_model.specs.Variables.{variables, variable_count}
-use Rattle.iso_model.specs.Copies.{numbers_from}
-use Rattle.iso_model.proofs.CopyLemmas.{length-numbers_from}
+use Rattle.iso_model.specs.Terms.Trees.{Tree, Variable}
+use Rattle.iso_model.specs.Terms.TermOf.{term_of}
+use Rattle.iso_model.specs.Terms.Variables.{variables, variable_count}
+use Rattle.iso_model.specs.Terms.Copies.{numbers_from}
+use Rattle.iso_model.proofs.OnTerms.CopyLemmas.{length-numbers_from}
 use Rattle.iso_plain.specs.Goals.{leaves}
 use Rattle.iso_plain.specs.Linked.{Linked, Running}
+use Rattle.iso_model.specs.Search.Walker.{asked}
 use Rattle.iso_plain.specs.Standing.{AreVariables, none_kept}
 use Rattle.iso_plain.specs.Entering.{Links, renamed_terms}
+use Rattle.iso_plain.proofs.StoppedLemmas.{behind_error, keeps_none, keeps_store, keeps_more}
 use Rattle.iso_plain.proofs.LinkedStarts.{starts_goals}
 use Rattle.iso_plain.proofs.StandingLemmas.{variables_more}
 use Rattle.iso_plain.proofs.EnteringLemmas.{variables_length}
-use Rattle.iso_model.proofs.MeaningLemmas.{meaning_is_term}
+use Rattle.iso_model.proofs.OnTerms.MeaningLemmas.{meaning_is_term}
 use Rattle.iso_plain.specs.Callable.{AreGoals}
 use Rattle.iso_plain.proofs.CallableLemmas.{query_callable}
 use Rattle.iso_plain.proofs.StartLemmas.{numbered_below, leaves_below, leaves_fit, terms_not_renamed, does_goals}
@@ -57,11 +59,11 @@ returns-clause-started g c = λ w fresh.
     let links : Links (g.S.Store.present c.new_variables.new.store) c.args.self.now.frames.items None q c.link.new.frames.items c.in_ok-first.first (leaves b) =
     subst (λ (ts : List Tree). Links (g.S.Store.present c.new_variables.new.store) c.args.self.now.frames.items None q c.link.new.frames.items c.in_ok-first.first ts) first_is (c.in_ok-first.ensures.links p.next here) in
     let goals : AreGoals (leaves b) = query_callable query b c.requires.goals.1 (meaning_is_term c.args.query.now ∙ c.requires.fits) in
-    let l : Linked = record { doing = Running (leaves b); subst = Variable; next = variable_count query; query = variables query; stack = []; world = w; steps = steps } in
+    let l : Linked = record { doing = Running (leaves b); subst = Variable; next = variable_count query; query = query; stack = []; world = asked w; steps = steps } in
     record {
       search = l;
       engine = record {
-        world = fresh.world;
+        world = record { procedures_are = fresh.world.procedures_are; operators_are = fresh.world.operators_are; flags_are = fresh.world.flags_are };
         steps = refl;
         base = record { present = base.present; stands_for = c.in_ok-first.ensures.marks _ _ (c.in_ok-variables.ensures.marks _ _ base.stands_for); substitution = base.substitution; next = base.next };
         choices = rw fresh.choices none_kept;
@@ -71,3 +73,18 @@ returns-clause-started g c = λ w fresh.
       };
       state = starts_goals query steps w b c.requires.goals.1;
     })
+
+pub returns-in_err-count-clause-kept : goal.returns-in_err-count-clause-kept
+returns-in_err-count-clause-kept g c = λ w fresh. behind_error c.from_residual.result (keeps_none g.S.Store.present g.S.Store.stands g.S.Store.older c.args.self.now w fresh)
+
+pub returns-in_err-variables-clause-kept : goal.returns-in_err-variables-clause-kept
+returns-in_err-variables-clause-kept g c = λ w fresh.
+    behind_error c.from_residual-in_err-variables.result
+    (keeps_store g.S.Store.present g.S.Store.stands g.S.Store.older c.args.self.now c.new_variables.new.store w [] (keeps_none g.S.Store.present g.S.Store.stands g.S.Store.older c.args.self.now w fresh) c.in_err-variables.ensures.marks)
+
+pub returns-in_err-first-clause-kept : goal.returns-in_err-first-clause-kept
+returns-in_err-first-clause-kept g c = λ w fresh.
+    (let e = c.args.self.now in
+    let made = keeps_store g.S.Store.present g.S.Store.stands g.S.Store.older e c.new_variables.new.store w [] (keeps_none g.S.Store.present g.S.Store.stands g.S.Store.older e w fresh) c.in_ok-variables.ensures.marks in
+    behind_error c.from_residual-in_err-first.result
+    (keeps_more g.S.Store.present g.S.Store.stands g.S.Store.older (record e { store = c.new_variables.new.store }) c.link.new.store c.link.new.frames w [] made c.in_err-first.ensures.marks c.in_err-first.ensures.frames))

@@ -1,11 +1,13 @@
 use Rattle.std.proofs.Common.{◌≡◌, refl, ap, ◌∙◌, Some, []}
-use Rattle.iso_model.specs.Trees.{Variable}
-use Rattle.iso_model.specs.Terms.{term_of}
-use Rattle.iso_model.specs.Variables.{variables, variable_count}
-use Rattle.iso_model.specs.Errors.{key, type_error_callable}
+use Rattle.iso_model.specs.Terms.Trees.{Variable}
+use Rattle.iso_model.specs.Terms.TermOf.{term_of}
+use Rattle.iso_model.specs.Terms.Variables.{variables, variable_count}
+use Rattle.iso_model.specs.Search.Errors.{key, type_error_callable}
 use Rattle.std.specs.Prelude.{codes}
 use Rattle.iso_plain.specs.Linked.{Raising}
+use Rattle.iso_model.specs.Search.Walker.{asked}
 use Rattle.iso_plain.specs.Standing.{none_kept}
+use Rattle.iso_plain.proofs.StoppedLemmas.{behind_error, keeps_none}
 use Rattle.iso_plain.proofs.LinkedStarts.{starts_error}
 use Rattle.iso_plain.proofs.plain.Plain.raise_query.Goals as goal
 
@@ -15,9 +17,9 @@ returns-clause-started g c = λ w fresh.
     let error = type_error_callable goal (key (codes "call") 1) in
     let ball : term_of c.in_ok-ball.ball.term ≡ error = c.in_ok-ball.ensures ∙ ap (λ t. type_error_callable t (key (codes "call") 1)) c.in_ok-culprit.ensures in
     record {
-      search = record { doing = Raising error; subst = Variable; next = variable_count goal; query = variables goal; stack = []; world = w; steps = c.args.self.now.steps };
+      search = record { doing = Raising error; subst = Variable; next = variable_count goal; query = goal; stack = []; world = asked w; steps = c.args.self.now.steps };
       engine = record {
-        world = fresh.world;
+        world = record { procedures_are = fresh.world.procedures_are; operators_are = fresh.world.operators_are; flags_are = fresh.world.flags_are };
         steps = refl;
         base = fresh.base;
         choices = rw fresh.choices none_kept;
@@ -26,3 +28,9 @@ returns-clause-started g c = λ w fresh.
       };
       state = starts_error goal c.args.self.now.steps w c.requires;
     })
+
+pub returns-in_err-culprit-clause-kept : goal.returns-in_err-culprit-clause-kept
+returns-in_err-culprit-clause-kept g c = λ w fresh. behind_error c.from_residual.result (keeps_none g.S.Store.present g.S.Store.stands g.S.Store.older c.args.self.now w fresh)
+
+pub returns-in_err-ball-clause-kept : goal.returns-in_err-ball-clause-kept
+returns-in_err-ball-clause-kept g c = λ w fresh. behind_error c.from_residual-in_err-ball.result (keeps_none g.S.Store.present g.S.Store.stands g.S.Store.older c.args.self.now w fresh)

@@ -1,6 +1,6 @@
-use Rattle.std.proofs.Common.{arith, refl, ◌∙◌}
-use Rattle.iso_model.specs.Runs.{here}
-use Rattle.iso_model.specs.RunLaws.{quiet_trans}
+use Rattle.std.proofs.Common.{ℕ, arith, refl, subst, ◌∙◌}
+use Rattle.iso_model.specs.Search.Runs.{here, ComesOver}
+use Rattle.iso_model.specs.Search.RunLaws.{quiet_trans, reaches_behind}
 use Rattle.iso_plain.proofs.EngineMoves.{represents_stands, stands_settings, pauses_behind}
 use Rattle.iso_plain.proofs.LimitLemmas.{where_full}
 use Rattle.iso_plain.proofs.plain.Plain.run_on.Goals as goal
@@ -49,4 +49,4 @@ pub returns-in-Pauses-clause-frames : goal.returns-in-Pauses-clause-frames
 returns-in-Pauses-clause-frames g c = λ s r.
     let q = c.loop-pause.invariant.quiet s r in
     let same = c.loop-pause.invariant.limit in
-    where_full c.in-Pauses.pause (λ h. (q.0, q.1, omega (arith, h, same))) (c.in-Pauses.ensures.frames q.0 q.2)
+    where_full c.in-Pauses.pause (λ h. reaches_behind q.1 (subst (λ (n : ℕ). ComesOver n q.0) same h)) (c.in-Pauses.ensures.frames q.0 q.2)

@@ -1,15 +1,15 @@
 -- Steps without an event led to a state that the engine stands for.
-use Rattle.std.proofs.Common.{◌≡◌, ◌≢◌, ◌≤◌}
-use Rattle.iso_model.specs.Walker.{State}
-use Rattle.iso_model.specs.Runs.{Quiet}
+use Rattle.std.proofs.Common.{◌≡◌, ◌≤◌}
+use Rattle.iso_model.specs.Search.Walker.{State}
+use Rattle.iso_model.specs.Search.Runs.{Quiet}
 use Rattle.iso_plain.specs.Limits.{IsWithin}
-use Rattle.iso_plain.specs.EngineStates.{StandsFor, weight, settings_of}
-use Rattle.iso_plain.specs.declared.parts.Now.TheVariants as now
+use Rattle.iso_plain.specs.EngineStates.{StandsFor, weight, phase_of, settings_of}
+use Rattle.iso_model.specs.Search.Engines.{IsAwake}
 use Rattle.iso_plain.proofs.plain.Plain.run_on.Given as goal
 
 abbrev pub invariant-loop-pause : goal.invariant-loop-pause
 invariant-loop-pause g l = record {
-  awake : l.self.now ≢ now.Spent;
+  awake : IsAwake (phase_of l.self.now);
   stands : (t : State) × StandsFor g.S.Store.present g.S.Store.stands g.S.Store.older l.self t;
   quiet : (s : State) → StandsFor g.S.Store.present g.S.Store.stands g.S.Store.older l.fn.self s
       → (t : State) × Quiet s t × StandsFor g.S.Store.present g.S.Store.stands g.S.Store.older l.self t;

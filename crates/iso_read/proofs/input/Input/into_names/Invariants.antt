@@ -1,7 +1,7 @@
 -- The names that were given, and those of the names that are left, are all of them.
 use Rattle.std.proofs.Common.{◌≡◌, ◌++◌, map}
 use Rattle.std.specs.String.{string_bytes}
-use Rattle.iso_model.specs.Grammar.{numbered}
+use Rattle.iso_model.specs.Syntax.Grammar.{numbered}
 use Rattle.iso_read.proofs.input.Input.into_names.Given as goal
 
 abbrev pub invariant-loop-number : goal.invariant-loop-number

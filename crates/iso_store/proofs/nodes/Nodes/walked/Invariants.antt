@@ -1,7 +1,7 @@
 -- Each place that was reached stands for the same term.
 use Rattle.std.proofs.Common.{◌≡◌, ◌<◌, length}
 use Rattle.std.specs.List.{slice_get}
-use Rattle.iso_model.specs.Substitutions.{apply}
+use Rattle.iso_model.specs.Terms.Substitutions.{apply}
 use Rattle.iso_store.specs.NodeTerms.{term_at, substitution_of}
 use Rattle.iso_store.proofs.NodeReads.{rank}
 use Rattle.iso_store.proofs.nodes.Nodes.walked.Given as goal

@@ -1,7 +1,7 @@
-use Rattle.std.proofs.Common.{ℕ, ◌<◌, length, get_or, map, ap, ◌∙◌}
+use Rattle.std.proofs.Common.{ℕ, ◌<◌, length, get_or, map, ap}
 use Rattle.std.proofs.lemmas.Bool.{ltb-true}
 use Rattle.iso_atoms.specs.Texts.{text_at}
-use Rattle.iso_model.specs.Trees.{Apply, row}
+use Rattle.iso_model.specs.Terms.Trees.{Apply, row}
 use Rattle.iso_store.specs.NodeTerms.{term_at}
 use Rattle.iso_store.specs.declared.nodes.Node.TheVariants.{Compound}
 use Rattle.iso_store.proofs.NodeMade.{pushed-made}

@@ -1,6 +1,6 @@
 use Rattle.std.proofs.Common.{sym, ap, ◌∙◌, None}
 use Rattle.std.proofs.lemmas.Bool.{ltb-true}
-use Rattle.iso_model.specs.Variables.{occurs}
+use Rattle.iso_model.specs.Terms.Variables.{occurs}
 use Rattle.iso_store.proofs.NodeReads.{end_is_variable}
 use Rattle.iso_store.proofs.Apart.{apart}
 use Rattle.iso_store.proofs.nodes.NodesCells.is_apart.Goals as goal

@@ -4,8 +4,8 @@ use Rattle.std.proofs.lemmas.Int.{to_z-of_z}
 use Rattle.std.proofs.lemmas.Option.{slice_get_read}
 use mir.Val.{SFits}
 use mir.Syntax.{w64}
-use Rattle.iso_model.specs.Trees.{row}
-use Rattle.iso_model.specs.Substitutions.{apply}
+use Rattle.iso_model.specs.Terms.Trees.{row}
+use Rattle.iso_model.specs.Terms.Substitutions.{apply}
 use Rattle.iso_store.specs.NodeTerms.{term_at, substitution_of}
 use Rattle.iso_store.proofs.NodeReads.{end_variable, shows_integer, shows_atom, shows_compound, row-applied-count}
 use Rattle.iso_store.proofs.NodeSorts.{meaning-sorted}

@@ -1,4 +1,4 @@
-use Rattle.iso_model.specs.Terms.{term_of}
+use Rattle.iso_model.specs.Terms.TermOf.{term_of}
 use Rattle.iso_store.proofs.CellCounts.{nodes-within}
 use Rattle.iso_store.proofs.Gathering.{grows-within}
 use Rattle.iso_store.proofs.nodes.NodesStore.build.Goals as goal

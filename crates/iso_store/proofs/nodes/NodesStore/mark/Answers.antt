@@ -1,5 +1,5 @@
 use Rattle.std.proofs.Common.{refl}
-use Rattle.iso_model.specs.Trees.{Variable}
+use Rattle.iso_model.specs.Terms.Trees.{Variable}
 use Rattle.iso_store.specs.NodeTerms.{bindings, substitution_of}
 use Rattle.iso_store.proofs.NodeReads.{high_value}
 use Rattle.iso_store.proofs.Trails.{twice-all, idempotent}

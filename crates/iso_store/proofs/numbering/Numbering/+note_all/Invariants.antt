@@ -1,7 +1,7 @@
 -- The variables of what is left come behind those so far.
 use Rattle.std.proofs.Common.{◌≡◌, drop}
-use Rattle.iso_model.specs.Terms.{row_of, term_of}
-use Rattle.iso_model.specs.Variables.{distinct_from}
+use Rattle.iso_model.specs.Terms.TermOf.{row_of, term_of}
+use Rattle.iso_model.specs.Terms.Variables.{distinct_from}
 use Rattle.iso_store.specs.Places.{IsPlaced}
 use Rattle.iso_store.proofs.numbering.Numbering.+note_all.Given as goal
 

@@ -1,5 +1,5 @@
 use Rattle.std.proofs.Common.{◌≡◌, false, is_some, sym, ap, ◌∙◌}
-use Rattle.iso_model.specs.Variables.{is_in}
+use Rattle.iso_model.specs.Terms.Variables.{is_in}
 use Rattle.iso_store.proofs.Placing.{place_in-push, place_in-known}
 use Rattle.iso_store.proofs.numbering.Numbering.note.Goals as goal
 

@@ -1,7 +1,7 @@
 use Rattle.std.proofs.Common.{◌≡◌, false, ◌<◌, length, sym, ◌∙◌, subst, IsUtf8, IsCharBoundary, arith}
 use Rattle.std.proofs.lemmas.Bool.Decides.{nat_tests}
-use Rattle.iso_model.proofs.LexemeLemmas.{lexeme-cut}
-use Rattle.iso_model.proofs.TokenLemmas.{tokens-nil, tokens-layout, tokens-token}
+use Rattle.iso_model.proofs.Syntax.LexemeLemmas.{lexeme-cut}
+use Rattle.iso_model.proofs.Syntax.TokenLemmas.{tokens-nil, tokens-layout, tokens-token}
 use Rattle.iso_token.specs.Shows.{kind_of}
 use Rattle.iso_token.proofs.ShowsLemmas.{lexeme_some, lexeme_none, lexeme_len}
 use Rattle.iso_token.proofs.cursor.Tokens.next.Goals as goal

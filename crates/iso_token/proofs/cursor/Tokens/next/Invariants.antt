@@ -1,6 +1,6 @@
 -- The tokens of what is left, behind layout or not, are those that there were.
 use Rattle.std.proofs.Common.{◌≡◌, ◌+◌, ◌^◌, ◌<◌, length}
-use Rattle.iso_model.specs.Tokens.{tokens_from}
+use Rattle.iso_model.specs.Syntax.Tokens.{tokens_from}
 use Rattle.iso_token.proofs.cursor.Tokens.next.Given as goal
 
 abbrev pub invariant-loop-self : goal.invariant-loop-self

@@ -1,0 +1,10 @@
+-- Lemmas on terms and unifiers.
+pub mod RowLemmas
+pub mod UnifierLemmas
+pub mod Cost
+pub mod SortLemmas
+pub mod CopyLemmas
+pub mod MeaningLemmas
+pub mod OrderLemmas
+pub mod NumberedLemmas
+pub mod VariableLemmas

@@ -1,0 +1,5 @@
+-- Lemmas on the search.
+pub mod CallLemmas
+pub mod WorkedRows
+pub mod WorkedAppend
+pub mod WorkedJoin

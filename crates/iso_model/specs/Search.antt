@@ -1,0 +1,12 @@
+-- The database, the standard's search over it, its runs, and what an engine promises of them.
+pub mod Bodies
+pub mod Keys
+pub mod BuiltIns
+pub mod Databases
+pub mod Errors
+pub mod Additions
+pub mod Walker
+pub mod Runs
+pub mod RunLaws
+pub mod Engines
+pub mod WorkedRuns

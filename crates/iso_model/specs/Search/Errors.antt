@@ -1,0 +1,30 @@
+-- Error terms (ISO/IEC 13211-1:1995, 7.12.2); the second argument is the indicator of the procedure that raised it (own).
+use Rattle.std.specs.Prelude.{codes, pos}
+use Rattle.iso_model.specs.Terms.Trees.{Tree, Integer, Name, Apply, End, More}
+use Rattle.iso_model.specs.Search.Bodies.{one, two}
+pub use Rattle.iso_model.specs.Search.Keys.{Key, key}
+
+-- Name/Arity
+abbrev pub indicator : Key → Tree
+indicator k = two (codes "/") (Name k.name) (Integer (pos k.arity))
+
+abbrev pub raised : Tree → Key → Tree
+raised what k = two (codes "error") what (indicator k)
+
+abbrev pub instantiation_error : Key → Tree
+instantiation_error k = raised (Name (codes "instantiation_error")) k
+
+abbrev pub type_error_callable : Tree → Key → Tree
+type_error_callable culprit k = raised (two (codes "type_error") (Name (codes "callable")) culprit) k
+
+-- an unknown procedure is named by the error, and raises it itself
+abbrev pub existence_error : Key → Tree
+existence_error k = raised (two (codes "existence_error") (Name (codes "procedure")) (indicator k)) k
+
+-- clauses may not be added to this procedure
+abbrev pub permission_error : Key → Key → Tree
+permission_error culprit k =
+    raised (Apply (codes "permission_error") (More (Name (codes "modify")) (More (Name (codes "static_procedure")) (More (indicator culprit) End)))) k
+
+abbrev pub max_variables_error : Key → Tree
+max_variables_error k = raised (one (codes "representation_error") (Name (codes "max_variables"))) k

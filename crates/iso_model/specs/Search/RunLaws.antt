@@ -1,0 +1,41 @@
+-- Laws of runs: every state has exactly one run, and how it is made of what steps come to.
+pub mod Weights
+pub mod Exists
+pub mod Named
+pub mod Quiets
+pub mod Moves
+pub mod Sameness
+pub mod SameSteps
+pub mod SameRuns
+pub mod SameLaws
+use Rattle.std.specs.Prelude.{◌≡◌}
+use Rattle.iso_model.specs.Search.Walker.{State, World, Event, Ending, Goes, Gives, Ends, step}
+use Rattle.iso_model.specs.Search.Runs.{Trace, Then, Stops, Run, Quiet}
+use Rattle.iso_model.specs.Search.RunLaws.Sameness.{Same}
+pub use Rattle.iso_model.specs.Search.RunLaws.Named.{one_run, run_of, run_of_is, run_of_only}
+pub use Rattle.iso_model.specs.Search.RunLaws.Exists.{has_run}
+pub use Rattle.iso_model.specs.Search.RunLaws.Quiets.{goes_run, gives_run, ends_run, quiet_one, quiet_trans, quiet_run, comes_run, finishes_run, reaches_run, comes_behind, finishes_behind, reaches_behind, trace_length, comes_fewer}
+
+-- every state has exactly one run; its budget is finite
+abbrev pub EveryStateHasOneRun : Type 0
+EveryStateHasOneRun = (s : State) → (r : Trace) × Run s r × ((q : Trace) → Run s q → q ≡ r)
+
+-- the run that is named is the state's
+abbrev pub RunOfIsTheRun : Type 0
+RunOfIsTheRun = (s : State) → Run s (run_of s)
+
+-- steps without an event keep the run
+abbrev pub QuietStepsKeepTheRun : Type 0
+QuietStepsKeepTheRun = (s t : State) → Quiet s t → run_of s ≡ run_of t
+
+-- an event that comes is the run's first, and the run behind it is that of the state there
+abbrev pub EventsBeginTheRun : Type 0
+EventsBeginTheRun = (s at t : State) (e : Event) → Quiet s at → step at ≡ Gives e t → run_of s ≡ Then e t.world (run_of t)
+
+-- an ending that comes is all of the run
+abbrev pub EndingsAreTheRun : Type 0
+EndingsAreTheRun = (s at : State) (e : Ending) (w : World) → Quiet s at → step at ≡ Ends e w → run_of s ≡ Stops e w
+
+-- States that are the same have one run: what was built, the marks that nothing reads, and how conjunctions are grouped have no part in it.
+abbrev pub SameStatesHaveOneRun : Type 0
+SameStatesHaveOneRun = (s t : State) → Same s t → run_of s ≡ run_of t

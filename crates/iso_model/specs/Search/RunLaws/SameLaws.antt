@@ -1,0 +1,82 @@
+-- The same in both directions, and one after the other.
+use Rattle.std.proofs.Common.{suc, length, ◌≡◌, ℕ, List, [], ◌∷◌, refl, sym, ap, ◌∙◌, arith}
+use Rattle.iso_model.specs.Terms.Substitutions.{Subst}
+use Rattle.iso_model.specs.Search.Bodies.{Body, Run, And}
+use Rattle.iso_model.specs.Search.Walker.{State, Member, Goal, Fail, Raise, Alternative}
+use Rattle.iso_model.specs.Search.RunLaws.Sameness.{put, flat, SameList, no_member, same_goal, same_failure, same_ball, Agree, SameStack, no_alternative, same_alternative, Beside, Same, going, failing}
+
+pub list_back : {r q : Subst} {ms ns : List Member} → SameList r q ms ns → SameList q r ns ms
+list_back no_member = no_member
+list_back (same_goal same others) = same_goal (sym same) (list_back others)
+list_back same_failure = same_failure
+list_back same_ball = same_ball
+
+agree_back : {r q : Subst} {vs ws : List ℕ} (n m : ℕ) → n ≡ m → Agree r q vs ws n → Agree q r ws vs m
+agree_back n m e h = record { shown = sym h.shown; beyond = λ x more. sym (h.beyond x (omega (arith, e, more))) }
+
+stack_back : {vs ws : List ℕ} {xs ys : List Alternative} → SameStack vs ws xs ys → SameStack ws vs ys xs
+stack_back no_alternative = no_alternative
+stack_back (same_alternative {a = a} {b = b} agree next list left others) = same_alternative (agree_back a.next b.next next agree) (sym next) (list_back list) (sym left) (stack_back others)
+
+beside_back : {s t : State} → Beside s t → Beside t s
+beside_back h = record { stack = stack_back h.stack; world = sym h.world; steps = sym h.steps }
+
+pub same_back : (s t : State) → Same s t → Same t s
+same_back s t (going at list) = going (record { agree = agree_back s.next t.next at.next at.agree; next = sym at.next; beside = beside_back at.beside }) (list_back list)
+same_back s t (failing ms ns is are h) = failing ns ms are is (beside_back h)
+
+list_on_list : {r q p : Subst} {ms ns os : List Member} → SameList r q ms ns → SameList q p ns os → SameList r p ms os
+list_on_list no_member no_member = no_member
+list_on_list (same_goal same others) (same_goal again more) = same_goal (same ∙ again) (list_on_list others more)
+list_on_list same_failure same_failure = same_failure
+list_on_list same_ball same_ball = same_ball
+
+agree_on_agree : {r q p : Subst} {us vs ws : List ℕ} (n m : ℕ) → n ≡ m → Agree r q us vs n → Agree q p vs ws m → Agree r p us ws n
+agree_on_agree n m e h k = record { shown = h.shown ∙ k.shown; beyond = λ x more. h.beyond x more ∙ k.beyond x (omega (arith, e, more)) }
+
+stack_on_stack : {us vs ws : List ℕ} {xs ys zs : List Alternative} → SameStack us vs xs ys → SameStack vs ws ys zs → SameStack us ws xs zs
+stack_on_stack no_alternative no_alternative = no_alternative
+stack_on_stack (same_alternative {a = a} {b = b} agree next list left others) (same_alternative agree' next' list' left' others') =
+    same_alternative (agree_on_agree a.next b.next next agree agree') (next ∙ next') (list_on_list list list') (left ∙ left') (stack_on_stack others others')
+
+beside_on : {s t u : State} → Beside s t → Beside t u → Beside s u
+beside_on h k = record { stack = stack_on_stack h.stack k.stack; world = h.world ∙ k.world; steps = h.steps ∙ k.steps }
+
+-- a list whose goals begin with failure does so itself
+body_no_failure : (b : Body) (mark : ℕ) (ms ns : List Member) → put b mark ms ≡ Fail ∷ ns → ⊥
+body_no_failure (Run t) mark ms ns e = cc
+body_no_failure (And a b) mark ms ns e = body_no_failure a mark (put b mark ms) ns e
+
+failure_first : (ms ns : List Member) → flat ms ≡ Fail ∷ ns → (others : List Member) × (ms ≡ Fail ∷ others)
+failure_first [] ns e = absurd (cc)
+failure_first (Goal b mark ∷ ms) ns e = absurd (body_no_failure b mark (flat ms) ns e)
+failure_first (Fail ∷ ms) ns e = (ms, refl)
+failure_first (Raise ball ∷ ms) ns e = absurd (cc)
+
+fails_left : {r q : Subst} {ms ns : List Member} (others : List Member) → SameList r q ms ns → ns ≡ Fail ∷ others → (front : List Member) × (ms ≡ Fail ∷ front)
+fails_left others no_member e = absurd (cc)
+fails_left others (same_goal same more) e = absurd (cc)
+fails_left others (same_failure {ms = ms}) e = (ms, refl)
+fails_left others same_ball e = absurd (cc)
+
+failing_left : (s t : State) (ns : List Member) → SameList s.subst t.subst (flat s.list) (flat t.list) → t.list ≡ Fail ∷ ns → (ms : List Member) × (s.list ≡ Fail ∷ ms)
+failing_left s t ns list is =
+    let first = fails_left (flat ns) list (ap flat is) in
+    failure_first s.list first.0 first.1
+
+pub same_on : (s t u : State) → Same s t → Same t u → Same s u
+same_on s t u (going at list) (going at' list') =
+    going (record { agree = agree_on_agree s.next t.next at.next at.agree at'.agree; next = at.next ∙ at'.next; beside = beside_on at.beside at'.beside }) (list_on_list list list')
+same_on s t u (going at list) (failing ms ns is are h) = let first = failing_left s t ms list is in failing first.0 ns first.1 are (beside_on at.beside h)
+same_on s t u (failing ms ns is are h) (going at list) = let last = failing_left u t ns (list_back list) are in failing ms last.0 is last.1 (beside_on h at.beside)
+same_on s t u (failing ms ns is are h) (failing ms' ns' is' are' h') = failing ms ns' is are' (beside_on h h')
+
+-- ---- what the same states have in common
+
+pub same_beside : (s t : State) → Same s t → Beside s t
+same_beside s t (going at list) = at.beside
+same_beside s t (failing ms ns is are h) = h
+
+pub stack_length : {vs ws : List ℕ} {xs ys : List Alternative} → SameStack vs ws xs ys → length xs ≡ length ys
+stack_length no_alternative = refl
+stack_length (same_alternative agree next list left others) = ap suc (stack_length others)

@@ -1,0 +1,315 @@
+-- What steps of states that are the same come to.
+use Rattle.std.proofs.Common.{◌≡◌, ℕ, zero, suc, ◌+◌, ◌≤◌, List, [], ◌∷◌, true, false, Option, Some, None, map, length, refl, sym, ap, ◌∙◌, subst, arith, if◌then◌else◌}
+use Rattle.iso_ops.specs.declared.settings.Unknown.{Unknown}
+use Rattle.iso_ops.specs.declared.settings.Unknown.TheVariants as on_unknown
+use Rattle.iso_model.specs.Terms.Trees.{Tree, Variable}
+use Rattle.iso_model.specs.Terms.Variables.{variables}
+use Rattle.iso_model.specs.Terms.Substitutions.{Subst, apply, compose}
+use Rattle.iso_model.specs.Terms.Unification.{unifier_of}
+use Rattle.iso_model.specs.Terms.Unification.Applied.{apply_apply, apply_same}
+use Rattle.iso_model.specs.Terms.Copies.{renamed}
+use Rattle.iso_model.specs.Search.Bodies.{Body, Run, And, map_body, is_true}
+use Rattle.iso_model.specs.Search.Databases.{Clause, Key, key_of, clauses_at}
+use Rattle.iso_model.specs.Search.BuiltIns.{Reply, Fails, Succeeds, Equates, built_in, reply}
+use Rattle.iso_model.specs.declared.built_ins.BuiltIn.{BuiltIn}
+use Rattle.iso_model.specs.Search.Walker.{State, World, Member, Goal, Fail, Raise, Left, Clauses, Alternative, Event, Ending, Outcome, Goes, Gives, Ends, Answered, NoMore, Budget, Uncaught, charged, paid, before, entered, under, tried_clause, with_others, tried, retried, backtracked, unknown_called, called, equated, replied, selected, run_goal, run_value, thrown, fails, values, clause_size, step_list, step}
+use Rattle.iso_model.specs.Search.Runs.{Quiet, here, onward}
+use Rattle.iso_model.specs.Search.RunLaws.Sameness.{put, flat, SameList, no_member, same_goal, same_failure, same_ball, Agree, SameStack, no_alternative, same_alternative, Beside, Around, Same, going, failing}
+
+-- ---- substitutions
+
+value_on : (r q u : Subst) (a b : Tree) → apply r a ≡ apply q b → apply (compose r u) a ≡ apply (compose q u) b
+value_on r q u a b same = sym (apply_apply r u a) ∙ ap (apply u) same ∙ apply_apply q u b
+
+list_on : {r q : Subst} {ms ns : List Member} (u : Subst) → SameList r q ms ns → SameList (compose r u) (compose q u) ms ns
+list_on u no_member = no_member
+list_on {r} {q} u (same_goal {t = a} {u = b} same others) = same_goal (value_on r q u a b same) (list_on u others)
+list_on u same_failure = same_failure
+list_on u same_ball = same_ball
+
+map_on : (r u : Subst) (vs : List ℕ) → map (compose r u) vs ≡ map (apply u) (map r vs)
+map_on r u [] = refl
+map_on r u (v ∷ vs) = ap (λ (ts : List Tree). apply u (r v) ∷ ts) (map_on r u vs)
+
+agree_on : {r q : Subst} {vs ws : List ℕ} {n : ℕ} (u : Subst) → Agree r q vs ws n → Agree (compose r u) (compose q u) vs ws n
+agree_on {r} {q} {vs} {ws} u h = record {
+  shown = map_on r u vs ∙ (ap (map (apply u)) h.shown ∙ sym (map_on q u ws));
+  beyond = λ x more. ap (apply u) (h.beyond x more);
+}
+
+agree_more : {r q : Subst} {vs ws : List ℕ} {n : ℕ} (k : ℕ) → Agree r q vs ws n → Agree r q vs ws (n + k)
+agree_more {n = n} k h = record { shown = h.shown; beyond = λ x more. h.beyond x (omega (arith, more)) }
+
+-- a term whose variables are not used yet
+renamed_same : (r q : Subst) (n : ℕ) (t : Tree) → ((x : ℕ) → n ≤ x → r x ≡ q x) → apply r (renamed n t) ≡ apply q (renamed n t)
+renamed_same r q n t beyond =
+    let new : Subst = λ k. Variable (n + k) in
+    apply_apply new r t ∙ (apply_same (compose new r) (compose new q) t (λ x o. beyond (n + x) (omega arith)) ∙ sym (apply_apply new q t))
+
+-- ---- lists
+
+put_new : (r q : Subst) (ms ns : List Member) (n : ℕ) (b : Body) (mark mark' : ℕ) → ((x : ℕ) → n ≤ x → r x ≡ q x) → SameList r q ms ns
+    → SameList r q (put (map_body (λ k. Variable (n + k)) b) mark ms) (put (map_body (λ k. Variable (n + k)) b) mark' ns)
+put_new r q ms ns n (Run t) mark mark' beyond others = same_goal (renamed_same r q n t beyond) others
+put_new r q ms ns n (And a b) mark mark' beyond others =
+    put_new r q (put (map_body (λ k. Variable (n + k)) b) mark ms) (put (map_body (λ k. Variable (n + k)) b) mark' ns) n a mark mark' beyond (put_new r q ms ns n b mark mark' beyond others)
+
+before_same : (r q : Subst) (ms ns : List Member) (n : ℕ) (b : Body) (mark mark' : ℕ) → ((x : ℕ) → n ≤ x → r x ≡ q x) → SameList r q (flat ms) (flat ns)
+    → SameList r q (flat (before (map_body (λ k. Variable (n + k)) b) mark ms)) (flat (before (map_body (λ k. Variable (n + k)) b) mark' ns))
+before_same r q ms ns n b mark mark' beyond others =
+    let c = map_body (λ k. Variable (n + k)) b in
+    elim (is_true c) as (λ fact. SameList r q (flat (if fact then ms else Goal c mark ∷ ms)) (flat (if fact then ns else Goal c mark' ∷ ns))) [
+      | true ↦ others
+      | false ↦ put_new r q (flat ms) (flat ns) n b mark mark' beyond others
+    ]
+
+put_same : {r : Subst} {ms ns : List Member} (b : Body) (mark : ℕ) → SameList r r ms ns → SameList r r (put b mark ms) (put b mark ns)
+put_same (Run t) mark others = same_goal refl others
+put_same (And a b) mark others = put_same a mark (put_same b mark others)
+
+pub list_same : {r : Subst} (ms : List Member) → SameList r r (flat ms) (flat ms)
+list_same [] = no_member
+list_same (Goal b mark ∷ ms) = put_same b mark (list_same ms)
+list_same (Fail ∷ ms) = same_failure
+list_same (Raise ball ∷ ms) = same_ball
+
+pub stack_same : (vs : List ℕ) (xs : List Alternative) → SameStack vs vs xs xs
+stack_same vs [] = no_alternative
+stack_same vs (a ∷ xs) = same_alternative (record { shown = refl; beyond = λ x more. refl }) refl (list_same a.list) refl (stack_same vs xs)
+
+-- each state is the same as itself
+pub same_itself : (s : State) → Same s s
+same_itself s = going (record { agree = record { shown = refl; beyond = λ x more. refl }; next = refl; beside = record { stack = stack_same (variables s.query) s.stack; world = refl; steps = refl } }) (list_same s.list)
+
+-- ---- what steps come to
+
+pub data SameOut : Outcome → Outcome → Type 0 where
+  both_go : {s t : State} → Same s t → SameOut (Goes s) (Goes t)
+  both_give : {e : Event} {s t : State} → Same s t → SameOut (Gives e s) (Gives e t)
+  both_end : {e : Ending} {w : World} → SameOut (Ends e w) (Ends e w)
+
+fails_same : {s t : State} → Beside s t → Same (fails s) (fails t)
+fails_same h = failing [] [] refl refl (record { stack = h.stack; world = h.world; steps = h.steps })
+
+-- a clause was met, with the same unifier of the two calls with its head
+entered_same : (s t : State) (ms ns : List Member) (o : Option Subst) (c : Clause) (mark mark' : ℕ) → Around s t → SameList s.subst t.subst (flat ms) (flat ns)
+    → Same (entered (under s.subst o) c s.next mark ms (record s { next = s.next + c.variables; built = s.built + clause_size c }))
+    (entered (under t.subst o) c t.next mark' ns (record t { next = t.next + c.variables; built = t.built + clause_size c }))
+entered_same s t ms ns None c mark mark' at list = failing [] [] refl refl (record { stack = at.beside.stack; world = at.beside.world; steps = at.beside.steps })
+entered_same s t ms ns (Some u) c mark mark' at list =
+    let r = compose s.subst u in
+    let q = compose t.subst u in
+    let agree = agree_on u at.agree in
+    let lists : SameList r q (flat (before (map_body (λ k. Variable (s.next + k)) c.body) mark ms)) (flat (before (map_body (λ k. Variable (t.next + k)) c.body) mark' ns)) =
+    subst (λ (n : ℕ). SameList r q (flat (before (map_body (λ k. Variable (s.next + k)) c.body) mark ms)) (flat (before (map_body (λ k. Variable (n + k)) c.body) mark' ns))) at.next
+    (before_same r q ms ns s.next c.body mark mark' agree.beyond (list_on u list)) in
+    going (record { agree = agree_more c.variables agree; next = ap (λ (n : ℕ). n + c.variables) at.next; beside = record { stack = at.beside.stack; world = at.beside.world; steps = at.beside.steps } }) lists
+
+others_same : (s t : State) (ms ns : List Member) (call : Tree) (cs : List Clause) → Around s t → SameList s.subst t.subst (flat ms) (flat ns) → Around (with_others call cs ms s) (with_others call cs ns t)
+others_same s t ms ns call [] at list = at
+others_same s t ms ns call (c ∷ cs) at list = record {
+  agree = at.agree;
+  next = at.next;
+  beside = record { stack = same_alternative at.agree at.next list refl at.beside.stack; world = at.beside.world; steps = at.beside.steps };
+}
+
+clause_same : (s t : State) (ms ns : List Member) (call : Tree) (c : Clause) (mark mark' : ℕ) → Around s t → SameList s.subst t.subst (flat ms) (flat ns)
+    → Same (tried_clause call c mark ms s) (tried_clause call c mark' ns t)
+clause_same s t ms ns call c mark mark' at list =
+    let o = unifier_of call (apply s.subst (renamed s.next c.head)) in
+    let one = renamed_same s.subst t.subst s.next c.head at.agree.beyond ∙ ap (λ (n : ℕ). apply t.subst (renamed n c.head)) at.next in
+    let same : o ≡ unifier_of call (apply t.subst (renamed t.next c.head)) = ap (unifier_of call) one in
+    subst (λ (p : Option Subst). Same (tried_clause call c mark ms s) (entered (under t.subst p) c t.next mark' ns (record t { next = t.next + c.variables; built = t.built + clause_size c }))) same
+    (entered_same s t ms ns o c mark mark' at list)
+
+others_list : (s t : State) (ms ns : List Member) (call : Tree) (cs : List Clause) → SameList s.subst t.subst (flat ms) (flat ns)
+    → SameList (with_others call cs ms s).subst (with_others call cs ns t).subst (flat ms) (flat ns)
+others_list s t ms ns call [] list = list
+others_list s t ms ns call (c ∷ cs) list = list
+
+tried_same : (s t : State) (ms ns : List Member) (call : Tree) (cs : List Clause) → Around s t → SameList s.subst t.subst (flat ms) (flat ns) → Same (tried call cs ms s) (tried call cs ns t)
+tried_same s t ms ns call [] at list = fails_same at.beside
+tried_same s t ms ns call (c ∷ cs) at list = clause_same (with_others call cs ms s) (with_others call cs ns t) ms ns call c (length s.stack) (length t.stack) (others_same s t ms ns call cs at list) (others_list s t ms ns call cs list)
+
+unknown_same : (s t : State) (ms ns : List Member) (u : Unknown) (k : Key) → Around s t → Same (unknown_called u k ms s) (unknown_called u k ns t)
+unknown_same s t ms ns on_unknown.Error k at = going (record { agree = at.agree; next = at.next; beside = record { stack = at.beside.stack; world = at.beside.world; steps = at.beside.steps } }) same_ball
+unknown_same s t ms ns on_unknown.Fail k at = fails_same at.beside
+
+called_same : (s t : State) (ms ns : List Member) (cs : Option (List Clause)) (k : Key) (v : Tree) → Around s t → SameList s.subst t.subst (flat ms) (flat ns) → Same (called cs k v ms s) (called cs k v ns t)
+called_same s t ms ns (Some cs) k v at list = tried_same s t ms ns v cs at list
+called_same s t ms ns None k v at list =
+    subst (λ (w : World). Same (unknown_called s.world.flags.unknown k ms s) (unknown_called w.flags.unknown k ns t)) at.beside.world (unknown_same s t ms ns s.world.flags.unknown k at)
+
+equated_same : (s t : State) (ms ns : List Member) (o : Option Subst) → Around s t → SameList s.subst t.subst (flat ms) (flat ns)
+    → Same (equated (under s.subst o) ms (record s { built = s.built + 2 })) (equated (under t.subst o) ns (record t { built = t.built + 2 }))
+equated_same s t ms ns None at list = failing [] [] refl refl (record { stack = at.beside.stack; world = at.beside.world; steps = at.beside.steps })
+equated_same s t ms ns (Some u) at list = going (record { agree = agree_on u at.agree; next = at.next; beside = record { stack = at.beside.stack; world = at.beside.world; steps = at.beside.steps } }) (list_on u list)
+
+replied_same : (s t : State) (ms ns : List Member) (r : Reply) → Around s t → SameList s.subst t.subst (flat ms) (flat ns) → SameOut (replied r ms s) (replied r ns t)
+replied_same s t ms ns Fails at list = both_go (fails_same at.beside)
+replied_same s t ms ns Succeeds at list = both_go (going (record { agree = at.agree; next = at.next; beside = record { stack = at.beside.stack; world = at.beside.world; steps = at.beside.steps } }) list)
+replied_same s t ms ns (Equates a b) at list = both_go (equated_same s t ms ns (unifier_of a b) at list)
+
+selected_same : (s t : State) (ms ns : List Member) (b : Option BuiltIn) (k : Key) (v : Tree) → Around s t → SameList s.subst t.subst (flat ms) (flat ns) → SameOut (selected b k v ms s) (selected b k v ns t)
+selected_same s t ms ns (Some b) k v at list = replied_same s t ms ns (reply b v) at list
+selected_same s t ms ns None k v at list =
+    both_go (subst (λ (w : World). Same (called (clauses_at s.world.database.procedures k) k v ms s) (called (clauses_at w.database.procedures k) k v ns t)) at.beside.world (called_same s t ms ns (clauses_at s.world.database.procedures k) k v at list))
+
+run_same : (s t : State) (ms ns : List Member) (k : Option Key) (v : Tree) → Around s t → SameList s.subst t.subst (flat ms) (flat ns) → SameOut (run_goal k v ms s) (run_goal k v ns t)
+run_same s t ms ns (Some k) v at list = selected_same s t ms ns (built_in k) k v at list
+run_same s t ms ns None v at list = both_go (fails_same at.beside)
+
+-- with as many steps left
+pub steps_same : {s t : State} (n : ℕ) → Same s t → Same (record s { steps = n }) (record t { steps = n })
+steps_same n (going at list) = going (record { agree = at.agree; next = at.next; beside = record { stack = at.beside.stack; world = at.beside.world; steps = refl } }) list
+steps_same n (failing ms ns first second h) = failing ms ns first second (record { stack = h.stack; world = h.world; steps = refl })
+
+charged_same : {o p : Outcome} (n : ℕ) → SameOut o p → SameOut (charged n o) (charged n p)
+charged_same n (both_go h) = both_go (steps_same n h)
+charged_same n (both_give h) = both_give (steps_same n h)
+charged_same n both_end = both_end
+
+paid_same : (s t : State) {o p : Outcome} (n m : ℕ) → n ≡ m → s.world ≡ t.world → SameOut o p → SameOut (paid n s o) (paid m t p)
+paid_same s t {o} {p} zero m steps world out =
+    let ended : SameOut (paid zero s o) (paid zero t p) = subst (λ (w : World). SameOut (paid zero s o) (Ends Budget w)) world both_end in
+    subst (λ (k : ℕ). SameOut (paid zero s o) (paid k t p)) steps ended
+paid_same s t {o} {p} (suc n) m steps world out = subst (λ (k : ℕ). SameOut (paid (suc n) s o) (paid k t p)) steps (charged_same n out)
+
+retried_same : (s t : State) (ms ns : List Member) (l : Left) → s.list ≡ ms → t.list ≡ ns → Around s t → SameList s.subst t.subst (flat ms) (flat ns) → SameOut (retried l s) (retried l t)
+retried_same s t ms ns (Clauses call cs) first second at list =
+    let here : SameList s.subst t.subst (flat s.list) (flat t.list) = rw (first, second) list in
+    both_go (tried_same s t s.list t.list call cs at here)
+
+backtracked_same : {vs ws : List ℕ} {xs ys : List Alternative} (s t : State) → variables s.query ≡ vs → variables t.query ≡ ws → s.world ≡ t.world → s.steps ≡ t.steps → SameStack vs ws xs ys
+    → SameOut (backtracked xs s) (backtracked ys t)
+backtracked_same s t first second world steps no_alternative = subst (λ (w : World). SameOut (Ends NoMore s.world) (Ends NoMore w)) world both_end
+backtracked_same {vs} {ws} s t first second world steps (same_alternative {a = a} {b = b} {xs = xs} {ys = ys} agree next list left others) =
+    let s' : State = record s { list = a.list; subst = a.subst; next = a.next; built = a.built; stack = xs } in
+    let t' : State = record t { list = b.list; subst = b.subst; next = b.next; built = b.built; stack = ys } in
+    let known : Agree a.subst b.subst (variables s.query) (variables t.query) a.next = rw (first, second) agree in
+    let stack : SameStack (variables s.query) (variables t.query) xs ys = rw (first, second) others in
+    subst (λ (l : Left). SameOut (retried a.left s') (retried l t')) left
+    (retried_same s' t' a.list b.list a.left refl refl (record { agree = known; next = next; beside = record { stack = stack; world = world; steps = steps } }) list)
+
+failing_same : (s t : State) → Beside s t → SameOut (backtracked s.stack s) (backtracked t.stack t)
+failing_same s t h = backtracked_same s t refl refl h.world h.steps h.stack
+
+thrown_same : (s t : State) (ball : Tree) (ms ns : List Member) → s.world ≡ t.world → SameOut (thrown ball ms s) (thrown ball ns t)
+thrown_same s t ball (m ∷ ms) ns world = thrown_same s t ball ms ns world
+thrown_same s t ball [] (n ∷ ns) world = thrown_same s t ball [] ns world
+thrown_same s t ball [] [] world = subst (λ (w : World). SameOut (Ends (Uncaught ball) s.world) (Ends (Uncaught ball) w)) world both_end
+
+answered_same : (s t : State) → Around s t → SameOut (Gives (Answered (values s)) (fails s)) (Gives (Answered (values t)) (fails t))
+answered_same s t at = subst (λ (vs : List Tree). SameOut (Gives (Answered (values s)) (fails s)) (Gives (Answered vs) (fails t))) at.agree.shown (both_give (fails_same at.beside))
+
+-- ---- conjunctions taken apart, step by step
+
+-- the list's first member is no conjunction
+pub data Open : List Member → Type 0 where
+  open_end : Open []
+  open_goal : {t : Tree} {mark : ℕ} {ms : List Member} → Open (Goal (Run t) mark ∷ ms)
+  open_failure : {ms : List Member} → Open (Fail ∷ ms)
+  open_ball : {ball : Tree} {ms : List Member} → Open (Raise ball ∷ ms)
+
+abbrev open_body : Body → ℕ → List Member → List Member
+open_body (Run t) mark ms = Goal (Run t) mark ∷ ms
+open_body (And a b) mark ms = open_body a mark (Goal b mark ∷ ms)
+
+abbrev open_list : List Member → List Member
+open_list [] = []
+open_list (Goal b mark ∷ ms) = open_body b mark ms
+open_list (Fail ∷ ms) = Fail ∷ ms
+open_list (Raise ball ∷ ms) = Raise ball ∷ ms
+
+-- the state whose first member is no conjunction
+abbrev pub opened : State → State
+opened s = record s { list = open_list s.list }
+
+body_is_open : (b : Body) (mark : ℕ) (ms : List Member) → Open (open_body b mark ms)
+body_is_open (Run t) mark ms = open_goal
+body_is_open (And a b) mark ms = body_is_open a mark (Goal b mark ∷ ms)
+
+pub list_is_open : (ms : List Member) → Open (open_list ms)
+list_is_open [] = open_end
+list_is_open (Goal b mark ∷ ms) = body_is_open b mark ms
+list_is_open (Fail ∷ ms) = open_failure
+list_is_open (Raise ball ∷ ms) = open_ball
+
+body_flat : (b : Body) (mark : ℕ) (ms : List Member) → flat (open_body b mark ms) ≡ put b mark (flat ms)
+body_flat (Run t) mark ms = refl
+body_flat (And a b) mark ms = body_flat a mark (Goal b mark ∷ ms)
+
+list_flat : (ms : List Member) → flat (open_list ms) ≡ flat ms
+list_flat [] = refl
+list_flat (Goal b mark ∷ ms) = body_flat b mark ms
+list_flat (Fail ∷ ms) = refl
+list_flat (Raise ball ∷ ms) = refl
+
+parts_step : (s : State) (a b : Body) (mark : ℕ) (ms : List Member) → step (record s { list = Goal (And a b) mark ∷ ms }) ≡ Goes (record s { list = Goal a mark ∷ Goal b mark ∷ ms })
+unfolding step
+parts_step s a b mark ms = refl
+
+before_quiet : {s t u : State} → step s ≡ Goes t → Quiet t u → Quiet s u
+before_quiet h here = onward here h
+before_quiet h (onward q k) = onward (before_quiet h q) k
+
+body_quiet : (s : State) (b : Body) (mark : ℕ) (ms : List Member) → Quiet (record s { list = Goal b mark ∷ ms }) (record s { list = open_body b mark ms })
+body_quiet s (Run t) mark ms = here
+body_quiet s (And a b) mark ms = before_quiet (parts_step s a b mark ms) (body_quiet s a mark (Goal b mark ∷ ms))
+
+list_quiet : (s : State) (ms : List Member) → Quiet (record s { list = ms }) (record s { list = open_list ms })
+list_quiet s [] = here
+list_quiet s (Goal b mark ∷ ms) = body_quiet s b mark ms
+list_quiet s (Fail ∷ ms) = here
+list_quiet s (Raise ball ∷ ms) = here
+
+-- a state comes quietly to the one whose first member is no conjunction
+pub opens : (s : State) → Quiet s (opened s)
+opens s = list_quiet s s.list
+
+-- states with other lists of the same goals
+pub with_lists : (s t : State) (ms ns : List Member) → flat ms ≡ flat s.list → flat ns ≡ flat t.list → ((xs : List Member) → s.list ≡ Fail ∷ xs → ms ≡ Fail ∷ xs) → ((xs : List Member) → t.list ≡ Fail ∷ xs → ns ≡ Fail ∷ xs)
+    → Same s t → Same (record s { list = ms }) (record t { list = ns })
+with_lists s t ms ns first second fail other (going at list) =
+    going (record { agree = at.agree; next = at.next; beside = record { stack = at.beside.stack; world = at.beside.world; steps = at.beside.steps } }) (rw (first, second) list)
+with_lists s t ms ns first second fail other (failing xs ys is are h) = failing xs ys (fail xs is) (other ys are) (record { stack = h.stack; world = h.world; steps = h.steps })
+
+-- the second one opened
+pub same_opened : (s t : State) → Same s t → Same s (opened t)
+same_opened s t h = with_lists s t s.list (open_list t.list) refl (list_flat t.list) (λ xs e. e) (λ xs e. ap open_list e) h
+
+-- ---- steps of open states
+
+goal_same : (s t : State) (a b : Tree) (ms ns : List Member) → apply s.subst a ≡ apply t.subst b → Around s t → SameList s.subst t.subst (flat ms) (flat ns)
+    → SameOut (paid s.steps s (run_value (apply s.subst a) ms s)) (paid t.steps t (run_value (apply t.subst b) ns t))
+goal_same s t a b ms ns value at list =
+    let v = apply s.subst a in
+    let out = subst (λ (x : Tree). SameOut (run_value v ms s) (run_value x ns t)) value (run_same s t ms ns (key_of v) v at list) in
+    paid_same s t s.steps t.steps at.beside.steps at.beside.world out
+
+lists_same : (s t : State) {ms ns : List Member} → Open ms → Open ns → Around s t → SameList s.subst t.subst (flat ms) (flat ns) → SameOut (step_list ms s) (step_list ns t)
+lists_same s t open_end open_end at list = answered_same s t at
+lists_same s t (open_goal {t = a} {ms = ms}) (open_goal {t = b} {ms = ns}) at (same_goal value others) = goal_same s t a b ms ns value at others
+lists_same s t open_failure open_failure at list = failing_same s t at.beside
+lists_same s t (open_ball {ball = ball} {ms = ms}) (open_ball {ms = ns}) at same_ball = thrown_same s t ball ms ns at.beside.world
+lists_same s t open_end open_goal at list = elim list [ ]
+lists_same s t open_end open_failure at list = elim list [ ]
+lists_same s t open_end open_ball at list = elim list [ ]
+lists_same s t open_goal open_end at list = elim list [ ]
+lists_same s t open_goal open_failure at list = elim list [ ]
+lists_same s t open_goal open_ball at list = elim list [ ]
+lists_same s t open_failure open_end at list = elim list [ ]
+lists_same s t open_failure open_goal at list = elim list [ ]
+lists_same s t open_failure open_ball at list = elim list [ ]
+lists_same s t open_ball open_end at list = elim list [ ]
+lists_same s t open_ball open_goal at list = elim list [ ]
+lists_same s t open_ball open_failure at list = elim list [ ]
+
+-- the steps of states that are the same, neither of which begins with a conjunction
+pub steps_alike : (s t : State) → Open s.list → Open t.list → Same s t → SameOut (step s) (step t)
+unfolding step
+steps_alike s t first second (going at list) = lists_same s t first second at list
+steps_alike s t first second (failing ms ns is are h) =
+    let one : step_list s.list s ≡ backtracked s.stack s = ap (λ (xs : List Member). step_list xs s) is in
+    let other : step_list t.list t ≡ backtracked t.stack t = ap (λ (xs : List Member). step_list xs t) are in
+    subst (λ (o : Outcome). SameOut o (step_list t.list t)) (sym one) (subst (λ (o : Outcome). SameOut (backtracked s.stack s) o) (sym other) (failing_same s t h))

@@ -1,0 +1,55 @@
+-- States that are the same: their goals, with conjunctions taken apart, have the same values under each state's own substitution. They have one
+-- run. By this law an engine may link all goals of a body at once, keep words for terms, and forget what was built and the marks that nothing reads.
+use Rattle.std.specs.Prelude.{◌≡◌, ℕ, ◌≤◌, List, [], ◌∷◌, map}
+use Rattle.iso_model.specs.Terms.Trees.{Tree}
+use Rattle.iso_model.specs.Terms.Variables.{variables}
+use Rattle.iso_model.specs.Terms.Substitutions.{Subst, apply}
+use Rattle.iso_model.specs.Search.Bodies.{Body, Run, And}
+use Rattle.iso_model.specs.Search.Walker.{State, Member, Goal, Fail, Raise, Alternative}
+
+-- a body's goals before what follows, its conjunctions taken apart
+abbrev pub put : Body → ℕ → List Member → List Member
+put (Run t) mark rest = Goal (Run t) mark ∷ rest
+put (And a b) mark rest = put a mark (put b mark rest)
+
+-- the list with all conjunctions taken apart
+abbrev pub flat : List Member → List Member
+flat [] = []
+flat (Goal b mark ∷ ms) = put b mark (flat ms)
+flat (Fail ∷ ms) = Fail ∷ flat ms
+flat (Raise ball ∷ ms) = Raise ball ∷ flat ms
+
+-- Two lists without conjunctions have the same goals under these substitutions. What follows failure or a ball is never run.
+pub data SameList (r q : Subst) : List Member → List Member → Type 0 where
+  no_member : SameList r q [] []
+  same_goal : {t u : Tree} {m n : ℕ} {ms ns : List Member} → apply r t ≡ apply q u → SameList r q ms ns → SameList r q (Goal (Run t) m ∷ ms) (Goal (Run u) n ∷ ns)
+  same_failure : {ms ns : List Member} → SameList r q (Fail ∷ ms) (Fail ∷ ns)
+  same_ball : {ball : Tree} {ms ns : List Member} → SameList r q (Raise ball ∷ ms) (Raise ball ∷ ns)
+
+-- The substitutions give the queries' variables the same values, and agree on the numbers that are not used yet.
+pub record Agree (r q : Subst) (vs ws : List ℕ) (n : ℕ) : Type 0 where
+  pub shown : map r vs ≡ map q ws
+  pub beyond : (x : ℕ) → n ≤ x → r x ≡ q x
+
+-- the alternatives are the same, each under its own substitutions, for queries with these variables
+pub data SameStack (vs ws : List ℕ) : List Alternative → List Alternative → Type 0 where
+  no_alternative : SameStack vs ws [] []
+  same_alternative : {a b : Alternative} {xs ys : List Alternative} → Agree a.subst b.subst vs ws a.next → a.next ≡ b.next → SameList a.subst b.subst (flat a.list) (flat b.list) → a.left ≡ b.left
+      → SameStack vs ws xs ys → SameStack vs ws (a ∷ xs) (b ∷ ys)
+
+-- The states are the same, whatever comes next.
+pub record Beside (s t : State) : Type 0 where
+  pub stack : SameStack (variables s.query) (variables t.query) s.stack t.stack
+  pub world : s.world ≡ t.world
+  pub steps : s.steps ≡ t.steps
+
+-- The states are the same but for their lists.
+pub record Around (s t : State) : Type 0 where
+  pub agree : Agree s.subst t.subst (variables s.query) (variables t.query) s.next
+  pub next : s.next ≡ t.next
+  pub beside : Beside s t
+
+-- The states are the same. Of a state that fails the substitution and the next number don't count.
+pub data Same (s t : State) : Type 0 where
+  going : Around s t → SameList s.subst t.subst (flat s.list) (flat t.list) → Same s t
+  failing : (ms ns : List Member) → s.list ≡ Fail ∷ ms → t.list ≡ Fail ∷ ns → Beside s t → Same s t

@@ -1,0 +1,135 @@
+-- A number that falls at each step that takes none of the budget: it counts the control constructs and the clauses that are left. A
+-- substitution doesn't change it.
+use Rattle.std.proofs.Common.{◌≡◌, ◌<◌, ◌≤◌, ◌+◌, ℕ, zero, suc, List, [], ◌∷◌, true, false, Option, Some, None, ◌⊎◌, inl, inr, refl, ap, ◌∙◌, subst, arith, length, if◌then◌else◌}
+use Rattle.iso_model.specs.Terms.Trees.{Tree, Variable}
+use Rattle.iso_model.specs.Terms.Substitutions.{Subst, apply}
+use Rattle.iso_model.specs.Terms.Unification.{unifier_of}
+use Rattle.iso_model.specs.Terms.Copies.{renamed}
+use Rattle.iso_model.specs.Search.Bodies.{Body, Run, And, map_body, is_true}
+use Rattle.iso_model.specs.Search.Databases.{Clause}
+use Rattle.iso_model.specs.Search.Walker.{State, Member, Goal, Fail, Raise, Left, Clauses, Alternative, Outcome, Goes, Gives, Ends, charged, paid, before, entered, with_others, tried, retried, backtracked, thrown, step_goal, step_list, step, run_value, under, clause_size}
+
+-- a body, before what weighs r
+abbrev pub body_weight : Body → ℕ → ℕ
+body_weight (Run t) r = suc r
+body_weight (And a b) r = suc (body_weight a (body_weight b r))
+
+-- failure and a thrown ball drop what follows them
+abbrev pub list_weight : List Member → ℕ
+list_weight [] = 1
+list_weight (Fail ∷ rest) = 0
+list_weight (Raise ball ∷ rest) = 1
+list_weight (Goal b mark ∷ rest) = body_weight b (list_weight rest)
+
+-- clauses, each before what weighs r
+abbrev pub clauses_weight : List Clause → ℕ → ℕ
+clauses_weight [] r = 1
+clauses_weight (c ∷ cs) r = suc (body_weight c.body r) + clauses_weight cs r
+
+abbrev pub left_weight : Left → ℕ → ℕ
+left_weight (Clauses call cs) r = clauses_weight cs r
+
+abbrev pub stack_weight : List Alternative → ℕ
+stack_weight [] = 0
+stack_weight (a ∷ below) = left_weight a.left (list_weight a.list) + stack_weight below
+
+abbrev pub weight : State → ℕ
+weight s = list_weight s.list + stack_weight s.stack
+
+-- as many steps, and less weight
+pub record Lighter (n w : ℕ) (t : State) : Type 0 where
+  pub steps : t.steps ≡ n
+  pub lighter : weight t < w
+
+-- the budget got smaller, or it stayed and the weight fell
+abbrev pub Smaller : ℕ → ℕ → State → Type 0
+Smaller n w t = (t.steps < n) ⊎ Lighter n w t
+
+-- each state that a step leads to is smaller
+abbrev pub Progress : ℕ → ℕ → Outcome → Type 0
+Progress n w (Goes t) = Smaller n w t
+Progress n w (Gives e t) = Smaller n w t
+Progress n w (Ends e world) = Unit {0}
+
+body_weight-map : (u : Subst) (b : Body) (r : ℕ) → body_weight (map_body u b) r ≡ body_weight b r
+body_weight-map u (Run t) r = refl
+body_weight-map u (And a b) r = ap suc (body_weight-map u a (body_weight (map_body u b) r) ∙ ap (body_weight a) (body_weight-map u b r))
+
+body_weight-more : (b : Body) (r : ℕ) → r ≤ body_weight b r
+body_weight-more (Run t) r = omega arith
+body_weight-more (And a b) r =
+    let first = body_weight-more a (body_weight b r) in
+    let second = body_weight-more b r in
+    omega arith
+
+before_weight : (b : Body) (mark : ℕ) (rest : List Member) → list_weight (before b mark rest) ≤ body_weight b (list_weight rest)
+before_weight b mark rest =
+    elim (is_true b) as (λ fact. list_weight (if fact then rest else Goal b mark ∷ rest) ≤ body_weight b (list_weight rest)) [
+      | true ↦ body_weight-more b (list_weight rest)
+      | false ↦ omega arith
+    ]
+
+entered_lighter : (u : Option Subst) (c : Clause) (n mark : ℕ) (rest : List Member) (s : State)
+    → Lighter s.steps (suc (body_weight c.body (list_weight rest)) + stack_weight s.stack) (entered u c n mark rest s)
+entered_lighter None c n mark rest s = record { steps = refl; lighter = omega arith }
+entered_lighter (Some u) c n mark rest s =
+    let body = map_body (λ k. Variable (n + k)) c.body in
+    let first = before_weight body mark rest in
+    let same = body_weight-map (λ k. Variable (n + k)) c.body (list_weight rest) in
+    record { steps = refl; lighter = omega arith }
+
+others_weight : (call : Tree) (cs : List Clause) (rest : List Member) (s : State)
+    → ((with_others call cs rest s).steps ≡ s.steps) × (stack_weight (with_others call cs rest s).stack ≤ clauses_weight cs (list_weight rest) + stack_weight s.stack)
+others_weight call [] rest s = (refl, omega arith)
+others_weight call (c ∷ cs) rest s = (refl, omega arith)
+
+tried_lighter : (call : Tree) (cs : List Clause) (rest : List Member) (s : State)
+    → Lighter s.steps (clauses_weight cs (list_weight rest) + stack_weight s.stack) (tried call cs rest s)
+tried_lighter call [] rest s = record { steps = refl; lighter = omega arith }
+tried_lighter call (c ∷ cs) rest s =
+    let p = with_others call cs rest s in
+    let others = others_weight call cs rest s in
+    let below = others.1 in
+    let q : State = record p { next = p.next + c.variables; built = p.built + clause_size c } in
+    let t = entered_lighter (under p.subst (unifier_of call (apply p.subst (renamed p.next c.head)))) c p.next (length s.stack) rest q in
+    let light = t.lighter in
+    record { steps = t.steps ∙ others.0; lighter = omega arith }
+
+retried_progress : (l : Left) (s : State) → Progress s.steps (left_weight l (list_weight s.list) + stack_weight s.stack) (retried l s)
+retried_progress (Clauses call cs) s = inr (tried_lighter call cs s.list s)
+
+backtracked_progress : (stack : List Alternative) (s : State) → Progress s.steps (stack_weight stack) (backtracked stack s)
+backtracked_progress [] s = tt
+backtracked_progress (a ∷ below) s = retried_progress a.left (record s { list = a.list; subst = a.subst; next = a.next; built = a.built; stack = below })
+
+thrown_progress : (ball : Tree) (rest : List Member) (n w : ℕ) (s : State) → Progress n w (thrown ball rest s)
+thrown_progress ball [] n w s = tt
+thrown_progress ball (m ∷ rest) n w s = thrown_progress ball rest n w s
+
+charged_progress : (n k w : ℕ) (o : Outcome) → k < n → Progress n w (charged k o)
+charged_progress n k w (Goes t) h = inl h
+charged_progress n k w (Gives e t) h = inl h
+charged_progress n k w (Ends e world) h = tt
+
+-- what takes one of the budget makes progress, whatever it comes to
+paid_progress : (n w : ℕ) (s : State) (o : Outcome) → Progress n w (paid n s o)
+paid_progress zero w s o = tt
+paid_progress (suc n) w s o = charged_progress (suc n) n w o (omega arith)
+
+goal_progress : (b : Body) (mark : ℕ) (rest : List Member) (s : State)
+    → Progress s.steps (body_weight b (list_weight rest) + stack_weight s.stack) (step_goal b mark rest s)
+goal_progress (And a b) mark rest s = inr (record { steps = refl; lighter = omega arith })
+goal_progress (Run t) mark rest s =
+    paid_progress s.steps (body_weight (Run t) (list_weight rest) + stack_weight s.stack) s (run_value (apply s.subst t) rest s)
+
+list_progress : (list : List Member) (s : State) → Progress s.steps (list_weight list + stack_weight s.stack) (step_list list s)
+list_progress [] s = inr (record { steps = refl; lighter = omega arith })
+list_progress (Fail ∷ rest) s =
+    let none : stack_weight s.stack ≡ 0 + stack_weight s.stack = omega arith in
+    subst (λ w. Progress s.steps w (backtracked s.stack s)) none (backtracked_progress s.stack s)
+list_progress (Raise ball ∷ rest) s = thrown_progress ball rest s.steps (1 + stack_weight s.stack) s
+list_progress (Goal b mark ∷ rest) s = goal_progress b mark rest s
+
+pub step_progress : (s : State) → Progress s.steps (weight s) (step s)
+unfolding step
+step_progress s = list_progress s.list s

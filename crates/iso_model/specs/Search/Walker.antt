@@ -1,0 +1,242 @@
+-- The standard's search, step by step (ISO/IEC 13211-1:1995, 7.7): depth first, clauses in their order, goals from left to right.
+use Rattle.std.specs.Prelude.{ℕ, zero, suc, ◌+◌, List, [], ◌∷◌, length, map, Option, Some, None, option_map, codes, if◌then◌else◌}
+use Rattle.iso_ops.specs.Operators.{Operator}
+use Rattle.iso_ops.specs.InitialOperators.{initial_entries}
+use Rattle.iso_ops.specs.declared.settings.Flags.{Flags}
+use Rattle.iso_ops.specs.declared.settings.Unknown.{Unknown}
+use Rattle.iso_ops.specs.declared.settings.Unknown.TheVariants as on_unknown
+use Rattle.iso_ops.specs.Settings.{initial_flags}
+use Rattle.iso_model.specs.Terms.Trees.{Tree, Variable, Name, Apply}
+use Rattle.iso_model.specs.Terms.Sizes.{size}
+use Rattle.iso_model.specs.Terms.Variables.{variables, variable_count}
+use Rattle.iso_model.specs.Terms.Substitutions.{Subst, apply, compose}
+use Rattle.iso_model.specs.Terms.Unification.{unifier_of}
+use Rattle.iso_model.specs.Terms.Copies.{renamed}
+use Rattle.iso_model.specs.Search.Bodies.{Body, Run, And, converted, body_term, map_body, is_true}
+use Rattle.iso_model.specs.Search.Databases.{Clause, Key, Database, key, key_of, no_clauses, clauses_at}
+use Rattle.iso_model.specs.Search.BuiltIns.{Reply, Fails, Succeeds, Equates, built_in, reply}
+use Rattle.iso_model.specs.Search.Errors.{type_error_callable, existence_error}
+use Rattle.iso_model.specs.declared.built_ins.BuiltIn.{BuiltIn}
+
+-- What outlives a run: the database (7.5), the operators (6.3.4.4) and the flags (7.11); and how many runs were started, by which equal
+-- runs are told apart.
+pub record World : Type 0 where
+  pub database : Database
+  pub operators : List Operator
+  pub flags : Flags
+  pub runs : ℕ
+
+-- the world before a text is consulted
+abbrev pub first_world : World
+first_world = record { database = no_clauses; operators = initial_entries; flags = initial_flags; runs = 0 }
+
+-- A member of the list of goals: a goal with its cut mark (a height of the stack), failure, or a thrown ball (7.7.3, 7.8.10).
+pub data Member : Type 0 where
+  Goal : (body : Body) → (mark : ℕ) → Member
+  Fail : Member
+  Raise : (ball : Tree) → Member
+
+-- what is left to be tried at an alternative: these clauses, for this call
+pub data Left : Type 0 where
+  Clauses : (call : Tree) → (clauses : List Clause) → Left
+
+-- An alternative: the goals, the substitution, the next number and what was built, as they were when it was made, and what is left to
+-- be tried (7.7.8).
+pub record Alternative : Type 0 where
+  pub list : List Member
+  pub subst : Subst
+  pub next : ℕ
+  pub built : ℕ
+  pub left : Left
+
+-- A state of the search. The stack has the newest alternative first; `query` is the goal that was started; `steps` is what is left of
+-- the budget.
+pub record State : Type 0 where
+  pub list : List Member
+  pub subst : Subst
+  pub next : ℕ
+  pub built : ℕ
+  pub query : Tree
+  pub stack : List Alternative
+  pub world : World
+  pub steps : ℕ
+
+-- what a search shows while it goes on: the values of the query's variables in a solution, or bytes that a goal wrote
+pub data Event : Type 0 where
+  Answered : (values : List Tree) → Event
+  Wrote : (bytes : List ℕ) → Event
+
+-- how a search ends
+pub data Ending : Type 0 where
+  NoMore : Ending
+  Budget : Ending
+  Uncaught : (ball : Tree) → Ending
+  Halted : (status : ℕ) → Ending
+
+-- what a step comes to
+pub data Outcome : Type 0 where
+  Goes : (next : State) → Outcome
+  Gives : (event : Event) → (next : State) → Outcome
+  Ends : (ending : Ending) → (world : World) → Outcome
+
+-- a step that takes one of the budget's, or the end where none is left
+abbrev pub charged : ℕ → Outcome → Outcome
+charged n (Goes t) = Goes (record t { steps = n })
+charged n (Gives e t) = Gives e (record t { steps = n })
+charged n (Ends e w) = Ends e w
+
+abbrev pub paid : ℕ → State → Outcome → Outcome
+paid zero s o = Ends Budget s.world
+paid (suc n) s o = charged n o
+
+-- the state in which failure comes next
+abbrev pub fails : State → State
+fails s = record s { list = Fail ∷ [] }
+
+-- the values of the query's variables, by first occurrence
+abbrev pub values : State → List Tree
+values s = map s.subst (variables s.query)
+
+-- how large a clause is: its distinct variables, and the sizes of the arguments of its head and of its body's goals (own)
+abbrev pub arguments_size : Tree → ℕ
+arguments_size (Apply f ts) = size ts
+arguments_size t = 0
+
+abbrev pub body_size : Body → ℕ
+body_size (Run t) = arguments_size t
+body_size (And a b) = body_size a + body_size b
+
+abbrev pub clause_size : Clause → ℕ
+clause_size c = c.variables + (arguments_size c.head + body_size c.body)
+
+-- a body comes before the rest; one that is `true` alone is no goal
+abbrev pub before : Body → ℕ → List Member → List Member
+before b mark rest = if is_true b then rest else Goal b mark ∷ rest
+
+-- a unifier of terms that are under the substitution r, composed with r
+abbrev pub under : Subst → Option Subst → Option Subst
+under r u = option_map (compose r) u
+
+-- the clause's head was unified with the call, or not
+abbrev pub entered : Option Subst → Clause → ℕ → ℕ → List Member → State → State
+entered None c n mark rest s = fails s
+entered (Some u) c n mark rest s = record s { list = before (map_body (λ k. Variable (n + k)) c.body) mark rest; subst = u }
+
+-- The first clause is tried for this call, which is the value of a goal under the substitution: its variables are numbered from the next number
+-- on, what it makes is counted, its head is unified with the call, and its body comes before the rest, with the height at the call as its cut mark.
+abbrev pub tried_clause : Tree → Clause → ℕ → List Member → State → State
+tried_clause call c mark rest s =
+    entered (under s.subst (unifier_of call (apply s.subst (renamed s.next c.head)))) c s.next mark rest (record s { next = s.next + c.variables; built = s.built + clause_size c })
+
+-- the clauses behind the first are one alternative, where there are any
+abbrev pub with_others : Tree → List Clause → List Member → State → State
+with_others call [] rest s = s
+with_others call (c ∷ cs) rest s =
+    record s { stack = record { list = rest; subst = s.subst; next = s.next; built = s.built; left = Clauses call (c ∷ cs) } ∷ s.stack }
+
+-- the clauses are tried in their order for this call
+abbrev pub tried : Tree → List Clause → List Member → State → State
+tried call [] rest s = fails s
+tried call (c ∷ cs) rest s = tried_clause call c (length s.stack) rest (with_others call cs rest s)
+
+-- what is left at an alternative is tried: a further solution may be one that is paid for
+abbrev pub retried : Left → State → Outcome
+retried (Clauses call cs) s = Goes (tried call cs s.list s)
+
+-- failure goes on with the newest alternative; where there is none the search ends
+abbrev pub backtracked : List Alternative → State → Outcome
+backtracked [] s = Ends NoMore s.world
+backtracked (a ∷ below) s = retried a.left (record s { list = a.list; subst = a.subst; next = a.next; built = a.built; stack = below })
+
+-- A call of an unknown procedure raises an error, or fails, as the flag `unknown` says (7.7.7, 7.11.2.4).
+abbrev pub unknown_called : Unknown → Key → List Member → State → State
+unknown_called on_unknown.Error k rest s = record s { list = Raise (existence_error k) ∷ rest }
+unknown_called on_unknown.Fail k rest s = fails s
+
+-- a call of a user procedure: its clauses are taken as they are now
+abbrev pub called : Option (List Clause) → Key → Tree → List Member → State → State
+called (Some cs) k t rest s = tried t cs rest s
+called None k t rest s = unknown_called s.world.flags.unknown k rest s
+
+-- two terms were unified, or not (8.2.1)
+abbrev pub equated : Option Subst → List Member → State → State
+equated None rest s = fails s
+equated (Some u) rest s = record s { list = rest; subst = u }
+
+-- a goal of a built-in comes to this
+abbrev pub replied : Reply → List Member → State → Outcome
+replied Fails rest s = Goes (fails s)
+replied Succeeds rest s = Goes (record s { list = rest })
+replied (Equates a b) rest s = Goes (equated (under s.subst (unifier_of a b)) rest (record s { built = s.built + 2 }))
+
+-- what a goal of this name and arity runs: a built-in where there is one, else a user procedure
+abbrev pub selected : Option BuiltIn → Key → Tree → List Member → State → Outcome
+selected (Some b) k t rest s = replied (reply b t) rest s
+selected None k t rest s = Goes (called (clauses_at s.world.database.procedures k) k t rest s)
+
+-- a goal is run; no converted body has one without a name
+abbrev pub run_goal : Option Key → Tree → List Member → State → Outcome
+run_goal (Some k) t rest s = selected (built_in k) k t rest s
+run_goal None t rest s = Goes (fails s)
+
+-- A ball is thrown: what follows it in the list is passed over, and nothing catches it (7.8.10).
+abbrev pub thrown : Tree → List Member → State → Outcome
+thrown ball [] s = Ends (Uncaught ball) s.world
+thrown ball (m ∷ rest) s = thrown ball rest s
+
+-- A goal is selected by its value under the substitution, which has the name and the arity that the goal was made with.
+abbrev pub run_value : Tree → List Member → State → Outcome
+run_value t rest s = run_goal (key_of t) t rest s
+
+-- a control step, or a goal's
+abbrev pub step_goal : Body → ℕ → List Member → State → Outcome
+step_goal (And a b) mark rest s = Goes (record s { list = Goal a mark ∷ Goal b mark ∷ rest })
+step_goal (Run t) mark rest s = paid s.steps s (run_value (apply s.subst t) rest s)
+
+abbrev pub step_list : List Member → State → Outcome
+step_list [] s = Gives (Answered (values s)) (fails s)
+step_list (Fail ∷ rest) s = backtracked s.stack s
+step_list (Raise ball ∷ rest) s = thrown ball rest s
+step_list (Goal b mark ∷ rest) s = step_goal b mark rest s
+
+-- One step: it takes the first member of the list. An empty list is a solution, and failure comes next.
+unfoldable pub step : State → Outcome
+step s = step_list s.list s
+
+-- no goal was started, or its run has ended
+abbrev pub idle : World → State
+idle w = record { list = Fail ∷ []; subst = Variable; next = 0; built = 0; query = Name (codes "true"); stack = []; world = w; steps = 0 }
+
+-- a query that can't be converted raises the error of `call/1`
+abbrev pub opening : Tree → Option Body → List Member
+opening goal None = Raise (type_error_callable goal (key (codes "call") 1)) ∷ []
+opening goal (Some b) = Goal b 0 ∷ []
+
+abbrev pub shown_query : Tree → Option Body → Tree
+shown_query goal None = goal
+shown_query goal (Some b) = body_term b
+
+-- the world with one run more
+abbrev pub asked : World → World
+asked w = record w { runs = w.runs + 1 }
+
+-- The goal is started over this database with this budget. Its variables are 0, 1, .. by first occurrence.
+abbrev pub started : Tree → ℕ → World → State
+started goal budget w = record {
+  list = opening goal (converted goal);
+  subst = Variable;
+  next = variable_count goal;
+  built = 0;
+  query = shown_query goal (converted goal);
+  stack = [];
+  world = asked w;
+  steps = budget;
+}
+
+-- how much stands in the store at most: what was built, the query and its variables (own)
+abbrev pub load : State → ℕ
+load s = s.built + (size s.query + variable_count s.query)
+
+-- how many alternatives stand
+abbrev pub alternative_count : State → ℕ
+alternative_count s = length s.stack

@@ -1,0 +1,4 @@
+-- What a session writes.
+pub mod Lines
+pub mod Sessions
+pub mod Beginnings

@@ -1,0 +1,154 @@
+-- What a session writes and how it ends (own): the text is consulted term by term, then each query is run to its end.
+use Rattle.std.specs.Prelude.{ℕ, zero, suc, ◌+◌, List, [], ◌∷◌, ◌++◌, length, Bool, false, not, ◌&&◌, ◌||◌, ◌==◌, Option, Some, None, codes, if◌then◌else◌, drop}
+use Rattle.std.specs.List.{prefix_len}
+use Rattle.std.specs.Str.{bytes_eq}
+use Rattle.iso_model.specs.Syntax.Characters.{is_in_line}
+use Rattle.iso_model.specs.Syntax.Token.{Shown}
+use Rattle.iso_model.specs.Syntax.Tokens.{tokens}
+use Rattle.iso_model.specs.Terms.Trees.{Tree, Apply, End, More}
+use Rattle.iso_model.specs.Syntax.Items.{Item, Readable, Unreadable, Taken, next_item}
+use Rattle.iso_model.specs.Search.Databases.{Key, key_of}
+use Rattle.iso_model.specs.Search.Additions.{Addition, Adds, Refuses, consulted}
+use Rattle.iso_model.specs.Search.Walker.{World, first_world, Answered, Wrote, NoMore, Budget, Uncaught, Halted, started}
+use Rattle.iso_model.specs.Search.Runs.{Trace, Then, Stops}
+use Rattle.iso_model.specs.Search.RunLaws.{run_of}
+use Rattle.iso_model.specs.Session.Lines.{syntax_error_line, skipped_line, refused_line, answer_line, error_line, halt_line}
+
+-- what a session writes at a time: bytes that a goal wrote, or a line, which stands here without its newline
+pub data Piece : Type 0 where
+  Output : (bytes : List ℕ) → Piece
+  Line : (text : List ℕ) → Piece
+
+-- how a session ends that no limit ends
+pub data SessionEnd : Type 0 where
+  Done : SessionEnd
+  Halts : (status : ℕ) → SessionEnd
+
+-- the pieces that a session writes, in order, and then its end
+pub data Script : Type 0 where
+  Shows : (piece : Piece) → (others : Script) → Script
+  Closes : (ending : SessionEnd) → Script
+
+-- whether bytes end within a line, where those before them do or don't
+abbrev pub ends_within : Bool → List ℕ → Bool
+ends_within within [] = within
+ends_within within (b ∷ z) = ends_within (not (b == 10)) z
+
+-- A line begins at the start of a line: where the last byte written is no newline, one is written first.
+abbrev pub piece_bytes : Bool → Piece → List ℕ
+piece_bytes within (Output bytes) = bytes
+piece_bytes within (Line text) = (if within then 10 ∷ [] else []) ++ (text ++ 10 ∷ [])
+
+abbrev pub within_behind : Bool → Piece → Bool
+within_behind within (Output bytes) = ends_within within bytes
+within_behind within (Line text) = false
+
+-- the bytes of pieces
+abbrev pub pieces_bytes : Bool → List Piece → List ℕ
+pieces_bytes within [] = []
+pieces_bytes within (p ∷ ps) = piece_bytes within p ++ pieces_bytes (within_behind within p) ps
+
+-- the bytes of a script
+abbrev pub script_bytes : Bool → Script → List ℕ
+script_bytes within (Shows p others) = piece_bytes within p ++ script_bytes (within_behind within p) others
+script_bytes within (Closes ending) = []
+
+abbrev pub script_end : Script → SessionEnd
+script_end (Shows p others) = script_end others
+script_end (Closes ending) = ending
+
+-- The rest of a run, from its k-th answer on, for a query with these named variables; then what follows the query.
+abbrev pub run_script : List (List ℕ × ℕ) → ℕ → Trace → (World → Script) → Script
+run_script names k (Then (Answered values) w others) next = Shows (Line (answer_line w.operators k names values)) (run_script names (k + 1) others next)
+run_script names k (Then (Wrote bytes) w others) next = Shows (Output bytes) (run_script names k others next)
+run_script names k (Stops NoMore w) next = Shows (Line (codes "end: no more")) (next w)
+run_script names k (Stops Budget w) next = Shows (Line (codes "end: budget")) (next w)
+run_script names k (Stops (Uncaught ball) w) next = Shows (Line (error_line w.operators ball)) (next w)
+run_script names k (Stops (Halted n) w) next = Shows (Line (halt_line n)) (Closes (Halts n))
+
+-- the goal of a query: `?- G` as a query is G
+abbrev pub query_goal : Tree → Tree
+query_goal (Apply f (More g End)) = if bytes_eq f (codes "?-") then g else Apply f (More g End)
+query_goal t = t
+
+-- one query
+abbrev pub query_script : ℕ → Item → World → (World → Script) → Script
+query_script budget Unreadable w next = Shows (Line (codes "end: syntax error")) (next w)
+query_script budget (Readable c) w next = run_script c.names 1 (run_of (started (query_goal c.term) budget w)) next
+
+abbrev pub queries_by : ℕ → World → Option Taken → (List Shown → World → Script) → Script
+queries_by budget w None others = Closes Done
+queries_by budget w (Some x) others = query_script budget x.item w (others x.behind)
+
+-- The queries of these tokens, each with the whole budget. Each takes a token at least, so there are no more of them than tokens.
+unfoldable pub queries_script : ℕ → ℕ → List Shown → World → Script
+queries_script zero budget ts w = Closes Done
+queries_script (suc turns) budget ts w = queries_by budget w (next_item w.operators w.flags ts) (queries_script turns budget)
+
+-- the k-th term of the text where it is a clause, which is added or refused
+abbrev pub added_script : ℕ → Addition → World → (World → Script) → Script
+added_script k (Adds db) w next = next (record w { database = db })
+added_script k (Refuses error) w next = Shows (Line (refused_line w.operators k error)) (next w)
+
+-- whether terms of this name and arity are passed over in a text: grammar rules, and, in this stage, directives
+abbrev pub skips : Key → Bool
+skips k = (k.arity == 1 && (bytes_eq k.name (codes ":-") || bytes_eq k.name (codes "?-"))) || (k.arity == 2 && bytes_eq k.name (codes "-->"))
+
+abbrev pub skips_by : Option Key → Bool
+skips_by None = false
+skips_by (Some k) = skips k
+
+abbrev pub is_skipped : Tree → Bool
+is_skipped t = skips_by (key_of t)
+
+-- the k-th term of the text, which could be read
+abbrev pub read_script : ℕ → Tree → World → (World → Script) → Script
+read_script k t w next = if is_skipped t then Shows (Line (skipped_line k)) (next w) else added_script k (consulted t w.database) w next
+
+abbrev pub term_script : ℕ → Item → World → (World → Script) → Script
+term_script k Unreadable w next = Shows (Line (syntax_error_line k)) (next w)
+term_script k (Readable c) w next = read_script k c.term w next
+
+abbrev pub text_by : ℕ → World → Option Taken → (World → Script) → (List Shown → World → Script) → Script
+text_by k w None next others = next w
+text_by k w (Some x) next others = term_script k x.item w (others x.behind)
+
+-- the terms of the text from the k-th on, of which these tokens are left; then what follows the text
+unfoldable pub text_script : ℕ → ℕ → List Shown → World → (World → Script) → Script
+text_script zero k ts w next = next w
+text_script (suc turns) k ts w next = text_by k w (next_item w.operators w.flags ts) next (λ behind v. text_script turns (k + 1) behind v next)
+
+-- A byte order mark at the text's start, and then a first line that begins with `#!`, are passed over.
+abbrev pub without_mark : List ℕ → List ℕ
+without_mark (a ∷ b ∷ c ∷ z) = if bytes_eq (a ∷ b ∷ c ∷ []) (239 ∷ 187 ∷ 191 ∷ []) then z else a ∷ b ∷ c ∷ z
+without_mark z = z
+
+abbrev pub without_first_line : List ℕ → List ℕ
+without_first_line (a ∷ b ∷ z) = if bytes_eq (a ∷ b ∷ []) (codes "#!") then drop (prefix_len is_in_line z + 1) z else a ∷ b ∷ z
+without_first_line z = z
+
+abbrev pub body_of_text : List ℕ → List ℕ
+body_of_text z = without_first_line (without_mark z)
+
+-- all of a list's items, for which as many turns are enough as there are tokens
+abbrev pub whole_text : List Shown → (World → Script) → Script
+whole_text ts next = text_script (length ts) 1 ts first_world next
+
+abbrev pub whole_queries : ℕ → List Shown → World → Script
+whole_queries budget ts w = queries_script (length ts) budget ts w
+
+-- the session with this program text, these queries and this budget
+abbrev pub session_script : List ℕ → List ℕ → ℕ → Script
+session_script text queries budget = whole_text (tokens (body_of_text text)) (whole_queries budget (tokens queries))
+
+-- the session text and the session end
+abbrev pub session_text : List ℕ → List ℕ → ℕ → List ℕ
+session_text text queries budget = script_bytes false (session_script text queries budget)
+
+abbrev pub session_end : List ℕ → List ℕ → ℕ → SessionEnd
+session_end text queries budget = script_end (session_script text queries budget)
+
+-- these pieces, and then the script
+abbrev pub prepend : List Piece → Script → Script
+prepend [] script = script
+prepend (p ∷ ps) script = Shows p (prepend ps script)

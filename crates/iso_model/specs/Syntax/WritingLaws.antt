@@ -1,0 +1,53 @@
+-- What is written is read again (ISO/IEC 13211-1:1995, 7.10.5): a law of the definitions of text, tokens and grammar alone.
+use Rattle.std.specs.Prelude.{◌≡◌, ℕ, ℤ, pos, negsuc, ◌<◌, ◌≤◌, ◌^◌, length, Bool, true, ◌&&◌, nat_lt, List, [], ◌∷◌, ◌++◌, codes}
+use Rattle.iso_ops.specs.Operators.{Operator, IsOpTable}
+use Rattle.iso_ops.specs.declared.settings.Flags.{Flags}
+use Rattle.iso_model.specs.Terms.Trees.{Tree, Variable, Integer, Name, Apply, End, More}
+use Rattle.iso_model.specs.Terms.Sorts.{is_term}
+use Rattle.iso_model.specs.Terms.Variables.{occurs, is_in}
+use Rattle.iso_model.specs.Terms.Copies.{copy_from}
+use Rattle.iso_model.specs.Syntax.Token.{Shown, EndToken}
+use Rattle.iso_model.specs.Syntax.Tokens.{tokens}
+use Rattle.iso_model.specs.Syntax.Grammar.{Node, Reads, start_of, max_depth, numbered}
+use Rattle.iso_model.specs.Syntax.Clauses.{IsNextClause}
+use Rattle.iso_model.specs.Syntax.Pieces.{Writeq, text_at}
+
+-- whether an integer has 64 bits (own limit)
+abbrev pub integer_fits : ℤ → Bool
+integer_fits (pos n) = nat_lt n (2 ^ 63)
+integer_fits (negsuc n) = nat_lt n (2 ^ 63)
+
+-- whether all integers of a term do
+abbrev pub integers_fit : Tree → Bool
+integers_fit (Variable n) = true
+integers_fit (Integer z) = integer_fits z
+integers_fit (Name a) = true
+integers_fit (Apply f ts) = integers_fit ts
+integers_fit End = true
+integers_fit (More t ts) = integers_fit t && integers_fit ts
+
+-- A term whose integers have 64 bits and whose variables have a place among these; there are fewer than 2 ^ 64 of them, as in every vector.
+pub record IsWritable (seen : List ℕ) (t : Tree) : Type 0 where
+  pub term : is_term t ≡ true
+  pub integers : integers_fit t ≡ true
+  pub places : (x : ℕ) → occurs x t ≡ true → is_in x seen ≡ true
+  pub few : length seen < 2 ^ 64
+
+-- The text of the term, with a space and an end token behind it, has tokens which the grammar reads as the term with its variables
+-- numbered 0, 1, .. by first occurrence. Where it keeps the depth limit, that is its clause.
+pub record IsReadAgain (table : List Operator) (flags : Flags) (t : Tree) (text : List ℕ) : Type 0 where
+  pub before : List Shown
+  pub last : Shown
+  pub are : tokens (text ++ codes " .") ≡ before ++ last ∷ []
+  pub ends : last.kind ≡ EndToken
+  pub node : Node
+  pub names : List (List ℕ)
+  pub reads : Reads table flags (start_of before) node (record { tokens = []; names = names })
+  pub priority : node.priority ≤ 1200
+  pub term : node.term ≡ copy_from t 0
+  pub clause : node.height ≤ max_depth → IsNextClause table flags (tokens (text ++ codes " .")) (record { term = copy_from t 0; names = numbered 0 names })
+
+-- What is written of a term, quoted, is read again as that term, under the same operators and any flags.
+abbrev pub WrittenTermsAreReadAgain : Type 0
+WrittenTermsAreReadAgain = (table : List Operator) (flags : Flags) → IsOpTable table → (seen : List ℕ) (t : Tree) → IsWritable seen t
+    → IsReadAgain table flags t (text_at Writeq table seen 1200 t)

@@ -1,0 +1,12 @@
+-- How large a term is (own).
+use Rattle.std.specs.Prelude.{ℕ, ◌+◌}
+use Rattle.iso_model.specs.Terms.Trees.{Tree, Variable, Integer, Name, Apply, End, More}
+
+-- A variable, an integer or an atom has size 1, a compound 2 plus the sizes of its arguments; a list of terms the sum of theirs.
+abbrev pub size : Tree → ℕ
+size (Variable n) = 1
+size (Integer z) = 1
+size (Name a) = 1
+size (Apply f ts) = 2 + size ts
+size End = 0
+size (More t ts) = size t + size ts
