@@ -11,7 +11,7 @@ changed() {
 
 if changed; then
     echo "prolog: building the program; the first build proves every crate, which takes some minutes" >&2
-    began=$(date +%s)
+    began=$(date +%s.%N)
     if ! "$top/build" prolog </dev/null; then
         echo "prolog: the program could not be built" >&2
         exit 70
