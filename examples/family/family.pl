@@ -9,3 +9,5 @@ grandparent(X, Z) :- parent(X, Y), parent(Y, Z).
 
 ancestor(X, Y) :- parent(X, Y).
 ancestor(X, Z) :- parent(X, Y), ancestor(Y, Z).
+
+sibling(X, Y) :- parent(P, X), parent(P, Y), X \= Y.

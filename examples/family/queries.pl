@@ -1,3 +1,4 @@
 grandparent(anna, X).
 ancestor(X, emil).
 parent(emil, X).
+sibling(emil, X).
