@@ -8,3 +8,4 @@ pub mod MeaningLemmas
 pub mod OrderLemmas
 pub mod NumberedLemmas
 pub mod VariableLemmas
+pub mod Hanging

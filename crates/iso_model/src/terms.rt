@@ -1,12 +1,14 @@
 //! Terms (ISO/IEC 13211-1:1995, 6.1.2 and 7.1) as Rust data.
-ghost use Rattle.std.specs.Prelude.{◌≡◌, ◌&&◌, nat_le, IfOk};
+ghost use Rattle.std.specs.Prelude.{◌≡◌, ◌&&◌, ◌-◌, ◌<◌, ◌∷◌, [], ◌++◌, nat_le, take, slice_get, vec_len, Some, IfOk, MatchOption};
 ghost use Rattle.iso_model.specs.Terms.Trees.{arities_fit};
-ghost use Rattle.iso_model.specs.Terms.TermOf.{term_of};
+ghost use Rattle.iso_model.specs.Terms.TermOf.{term_of, row_of};
+ghost use Rattle.iso_model.specs.Terms.Sizes.{size, light_size};
 
 use std::alloc::{AllocError, Global};
+use std::mem;
 
 /// A term: a variable by its number, a 64-bit integer, an atom, or a compound with 1 to 255 arguments.
-#[derive(Debug, Drop)]
+#[derive(Debug)]
 pub enum Term {
     /// A variable; the number names it.
     Var(u64),
@@ -16,6 +18,87 @@ pub enum Term {
     Atom(String),
     /// A name with its arguments, of which there are 1 to 255.
     Compound(String, Vec<Term>),
+}
+
+impl Term {
+    /// The name and the arguments of a compound; nothing of another term.
+    fn parts(self) -> Option<(String, Vec<Term>)>
+        ensures { MatchOption result ((size (term_of self) ≡ 1) × (light_size (term_of self) ≡ 1)) (λ p. self ≡ Term.Compound p.0 p.1) }
+    {
+        match self {
+            Term::Var(_) | Term::Int(_) | Term::Atom(_) => None,
+            Term::Compound(name, arguments) => Some((name, arguments)),
+        }
+    }
+
+    /// Lets go a term that only kept a place.
+    fn clear(self)
+        requires { self ≡ Term.Var 0 }
+    {
+        match self {
+            Term::Var(_) | Term::Int(_) | Term::Atom(_) => {}
+            Term::Compound(_, arguments) => arguments.destroy_empty(),
+        }
+    }
+}
+
+/// A term of any depth is let go without recursion, and takes no memory for it.
+impl Drop for Term {
+    fn drop(self) {
+        match self {
+            Term::Var(_) | Term::Int(_) | Term::Atom(_) => {}
+            Term::Compound(_, arguments) => let_go(arguments),
+        }
+    }
+}
+
+/// Lets all of the terms go, the last one first.
+fn let_go(terms: Vec<Term>) {
+    let mut rest = terms;
+    while !rest.is_empty() {
+        let last = rest.len() - 1;
+        let term = mem::replace(&mut rest[last], Term::Var(0));
+        match term.parts() {
+            None => remove_last(&mut rest),
+            Some((name, arguments)) => rest = hung(name, arguments, rest),
+        }
+    }
+    rest.destroy_empty();
+}
+
+/// Takes away the last term, which only keeps a place.
+fn remove_last(terms: &mut Vec<Term>)
+    requires { slice_get terms.old.items (vec_len terms.old - 1) ≡ Some (Term.Var 0) }
+    ensures { terms.new.items ≡ take (vec_len terms.old - 1) terms.old.items }
+{
+    if let Some(place) = terms.pop() {
+        place.clear();
+    }
+}
+
+/// The terms that are left once the last one, a compound that was taken apart, is one less: its arguments, where the others
+/// hang as a compound in the first place, and the argument from there stands behind them.
+fn hung(name: String, arguments: Vec<Term>, others: Vec<Term>) -> Vec<Term>
+    requires { slice_get others.items (vec_len others - 1) ≡ Some (Term.Var 0) }
+    ensures { light_size (row_of result.items) < light_size (row_of (take (vec_len others - 1) others.items ++ Term.Compound name arguments ∷ [])) }
+{
+    let mut arguments = arguments;
+    let mut others = others;
+    if arguments.is_empty() {
+        arguments.destroy_empty();
+        remove_last(&mut others);
+        return others;
+    }
+    let last = others.len() - 1;
+    if last == 0 {
+        remove_last(&mut others);
+        others.destroy_empty();
+        return arguments;
+    }
+    let first = mem::replace(&mut arguments[0], Term::Var(0));
+    mem::replace(&mut others[last], first).clear();
+    mem::replace(&mut arguments[0], Term::Compound(name, others)).clear();
+    arguments
 }
 
 /// The greatest number of arguments that a compound may have (the flag `max_arity`, 7.11.2.3).
