@@ -9,3 +9,5 @@ pub mod OrderLemmas
 pub mod NumberedLemmas
 pub mod VariableLemmas
 pub mod Hanging
+pub mod BuildingLemmas
+pub mod CopyingLemmas

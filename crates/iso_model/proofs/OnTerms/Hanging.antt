@@ -1,5 +1,5 @@
 -- A list of terms that is taken apart gets lighter: its last term goes, or the others hang as the first argument of that one.
-use Rattle.std.proofs.Common.{◌≡◌, Some, slice_get, ℕ, zero, suc, ◌+◌, ◌-◌, ◌<◌, ◌≤◌, List, [], ◌∷◌, ◌++◌, length, map, take, set, get_or, length-take, refl, ap, sym, ◌∙◌, arith, String, Vec, Global}
+use Rattle.std.proofs.Common.{◌≡◌, Some, slice_get, ℕ, zero, suc, ◌+◌, ◌-◌, ◌<◌, List, [], ◌∷◌, ◌++◌, length, map, take, set, get_or, length-take, refl, ap, sym, ◌∙◌, arith, String, Vec, Global}
 use Rattle.std.specs.String.{string_bytes}
 use Rattle.std.proofs.lemmas.List.{map-append, length-map}
 use Rattle.iso_model.specs.declared.terms.Term.{Term}
@@ -54,7 +54,7 @@ light_size-hung i j f v w others x a d same size some whole first hung = rw same
         let inner : row_of w.items ≡ row (map term_of (take i others) ++ term_of a ∷ []) = ap row_of items ∙ ap row (map-append term_of (take i others) (a ∷ [])) in
         let compound : term_of (Compound f v) ≡ Apply (string_bytes f) (row (term_of a ∷ map term_of ts)) = term_of_compound f v ∙ ap (λ us. Apply (string_bytes f) (row_of us)) is ∙ ap (λ b. Apply (string_bytes f) (row (term_of b ∷ map term_of ts))) (sym e) in
         let right : row_of (take i others ++ Compound f v ∷ []) ≡ row (map term_of (take i others) ++ Apply (string_bytes f) (row (term_of a ∷ map term_of ts)) ∷ []) =
-            ap row (map-append term_of (take i others) (Compound f v ∷ [])) ∙ ap (λ b. row (map term_of (take i others) ++ b ∷ [])) compound in
+        ap row (map-append term_of (take i others) (Compound f v ∷ [])) ∙ ap (λ b. row (map term_of (take i others) ++ b ∷ [])) compound in
         let filled : 0 < length (map term_of (take i others)) = omega (arith, length-map (take i others) term_of, length-take i others) in
         let less = hung-trees (string_bytes f) (map term_of (take i others)) (term_of a) (map term_of ts) filled in
         let lower = left ∙ ap (λ us. 1 + light_size us) inner in
