@@ -202,8 +202,8 @@ fn copy_row<'t>(
     }
 }
 
-/// Builds a compound of the last copies, so many.
-fn build_last(
+/// Builds a compound of the last copies, so many. The error is that memory was refused.
+pub fn build_last(
     alloc: Global,
     name: &str,
     count: usize,

@@ -10,39 +10,27 @@ use Rattle.iso_model.specs.declared.terms.Task.TheVariants.{Copy, Build}
 use Rattle.iso_model.specs.Terms.Trees.{Tree, Apply, row}
 use Rattle.iso_model.specs.Terms.TermOf.{term_of, row_of}
 use Rattle.iso_model.specs.Terms.Sizes.{size}
-use Rattle.iso_model.specs.Terms.Building.{Give, Gather, with_step, with_steps, step_load, steps_load}
+use Rattle.iso_model.specs.Terms.Building.{Give, Gather, with_step, with_steps, steps_load}
 use Rattle.iso_model.specs.Terms.Copying.{step_of, steps_of}
 use Rattle.iso_model.proofs.OnTerms.RowLemmas.{term_of_compound}
-use Rattle.iso_model.proofs.OnTerms.BuildingLemmas.{with_steps-push, steps_load-push, with_steps-compound, steps_load-compound}
-
--- one task more
-pub with_steps-task : (xs ys : List Task) (x : Task) (ts : List Tree) → ys ≡ xs ++ x ∷ [] → with_steps (steps_of ys) ts ≡ with_steps (steps_of xs) (with_step (step_of x) ts)
-with_steps-task xs ys x ts more = ap (λ zs. with_steps (steps_of zs) ts) more ∙ ap (λ ks. with_steps ks ts) (map-append step_of xs (x ∷ [])) ∙ with_steps-push (steps_of xs) (step_of x) ts
-
-pub steps_load-task : (xs ys : List Task) (x : Task) → ys ≡ xs ++ x ∷ [] → steps_load (steps_of ys) ≡ step_load (step_of x) + steps_load (steps_of xs)
-steps_load-task xs ys x more = ap (λ zs. steps_load (steps_of zs)) more ∙ ap steps_load (map-append step_of xs (x ∷ [])) ∙ steps_load-push (steps_of xs) (step_of x)
+use Rattle.iso_model.proofs.OnTerms.BuildingLemmas.{with_steps-more, steps_load-more, with_steps-opened, steps_load-opened}
 
 -- a compound is left to be copied by its arguments
 module _ (xs ys zs : List Task) (name : Bor (List ℕ)) (n : ℕ) (terms : Bor (List Term)) (t : Term) (f : String Global) (v : Vec Term Global) (is : t ≡ Compound f v)
     (text : name.now ≡ string_bytes f) (many : n ≡ length v.items) (items : terms.now ≡ v.items) (first : ys ≡ xs ++ Build name n ∷ []) (second : zs ≡ ys ++ Copy terms ∷ []) where
-  compound-steps : steps_of zs ≡ (steps_of xs ++ Gather (string_bytes f) n ∷ []) ++ Give (map term_of v.items) ∷ []
-  compound-steps =
-      ap steps_of (second ∙ ap (λ us. us ++ Copy terms ∷ []) first) ∙ map-append step_of (xs ++ Build name n ∷ []) (Copy terms ∷ [])
-      ∙ ap₂ (λ ks us. ks ++ Give (map term_of us) ∷ []) (map-append step_of xs (Build name n ∷ []) ∙ ap (λ a. steps_of xs ++ Gather a n ∷ []) text) items
-
-  whole : term_of t ≡ Apply (string_bytes f) (row_of v.items)
-  whole = ap term_of is ∙ term_of_compound f v
-
-  count : n ≡ length (map term_of v.items)
-  count = many ∙ sym (length-map v.items term_of)
+  whole : Apply (string_bytes f) (row_of v.items) ≡ term_of t
+  whole = sym (ap term_of is ∙ term_of_compound f v)
 
   pub with_steps-copied : (ts : List Tree) → with_steps (steps_of zs) ts ≡ with_steps (steps_of xs) (ts ++ term_of t ∷ [])
   with_steps-copied ts =
-      ap (λ ks. with_steps ks ts) compound-steps ∙ with_steps-compound (steps_of xs) (string_bytes f) n ts (map term_of v.items) count
-      ∙ ap (λ u. with_steps (steps_of xs) (ts ++ u ∷ [])) (sym whole)
+      with_steps-opened step_of xs ys zs (Build name n) (Copy terms) (string_bytes f) n (map term_of v.items) (ap (λ a. Gather a n) text) (ap (λ us. Give (map term_of us)) items)
+      (many ∙ sym (length-map v.items term_of)) first second ts ∙ ap (λ u. with_steps (steps_of xs) (ts ++ u ∷ [])) whole
 
   pub steps_load-copied : steps_load (steps_of zs) < 2 * size (term_of t) + steps_load (steps_of xs)
-  steps_load-copied = rw (compound-steps, whole) (steps_load-compound (steps_of xs) (string_bytes f) n (map term_of v.items))
+  steps_load-copied =
+      rw (sym whole)
+      (steps_load-opened step_of xs ys zs (Build name n) (Copy terms) (string_bytes f) n (map term_of v.items) (ap (λ a. Gather a n) text) (ap (λ us. Give (map term_of us)) items)
+      (many ∙ sym (length-map v.items term_of)) first second)
 
 -- terms by the first one and the others
 pub row_split : {X : Type 0} (xs : List X) (first : X) (others : List X) → 1 ≤ length xs → first ≡ get_or xs 0 first → others ≡ take (length xs - 1) (drop 1 xs) → xs ≡ first ∷ others
@@ -53,13 +41,13 @@ row_split (x ∷ z) first others low is rest = rw (rest, is, take_rest (x ∷ z)
 module _ (xs ys : List Task) (terms : List Term) (others : Bor (List Term)) (first : Term) (split : terms ≡ first ∷ others.now) (more : ys ≡ xs ++ Copy others ∷ []) where
   pub with_steps-first : (ts us : List Tree) → us ≡ with_steps (steps_of ys) (ts ++ term_of first ∷ []) → us ≡ with_steps (steps_of xs) (ts ++ map term_of terms)
   with_steps-first ts us done =
-      done ∙ with_steps-task xs ys (Copy others) (ts ++ term_of first ∷ []) more
+      done ∙ with_steps-more step_of xs ys (Copy others) more (ts ++ term_of first ∷ [])
       ∙ ap (with_steps (steps_of xs)) (append_assoc ts (term_of first ∷ []) (map term_of others.now) ∙ ap (λ vs. ts ++ map term_of vs) (sym split))
 
   pub steps_load-first : (n : ℕ) → n < 2 * size (term_of first) + steps_load (steps_of ys) → n < 1 + 2 * size (row_of terms) + steps_load (steps_of xs)
   steps_load-first n less =
       let all = ap (λ vs. size (row_of vs)) split in
-      let left = steps_load-task xs ys (Copy others) more in
+      let left = steps_load-more step_of xs ys (Copy others) more in
       omega arith
 
 pub on_ok_by : {T E P Q : Type 0} (r : Result T E) → OnOk r P → (P → Q) → OnOk r Q
