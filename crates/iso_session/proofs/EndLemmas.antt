@@ -65,29 +65,43 @@ all_begun P old mid new script ending h none =
     all_broken P old new script (rw same (begins_behind old mid.0 new (pieces_bytes false h.gave) [] h.bytes none))
 
 -- the session was closed behind its last part
-pub closes : (budget : ℕ) (Stands : State → Type 0) (May : Limit → State → Type 0) (now : Phase) (old : Option (List ℕ)) (mid : Place) (new : Option (List ℕ)) (script : Script) (f : Flow) (r : Result Ended Fault)
+closes_from : (budget : ℕ) (Stands : State → Type 0) (May : Limit → State → Type 0) (now : Phase) (old : Option (List ℕ)) (mid : Place) (new : Option (List ℕ)) (script : Script) (f : Flow) (r : Result Ended Fault)
     → Does budget Stands May now (old, false) mid script (λ _. Closes Done) (Ok f) → IfOk r (λ e. e ≡ ended_of f)
     → OnOk r (Appends mid.0 new (closing_bytes mid.1 f)) → OnErr r (Begins mid.0 new (closing_bytes mid.1 f))
     → Writes script (EngineStops budget Stands May now script) old new (outcome_of r)
-closes budget Stands May now old mid new script flow.On (Ok e) d is ok err = rw is (all_written old mid new script Done d.advances ok)
-closes budget Stands May now old mid new script (flow.Halts n) (Ok e) d is ok err = rw is (all_written old mid new script (Halts n) d ok)
-closes budget Stands May now old mid new script (flow.Stops limit.Heap) (Ok e) d is ok err =
+closes_from budget Stands May now old mid new script flow.On (Ok e) d is ok err = rw is (all_written old mid new script Done d.advances ok)
+closes_from budget Stands May now old mid new script (flow.Halts n) (Ok e) d is ok err = rw is (all_written old mid new script (Halts n) d ok)
+closes_from budget Stands May now old mid new script (flow.Stops limit.Heap) (Ok e) d is ok err =
     rw is (record { gave = d.advances.gave; rest = d.rest; is = d.advances.is; bytes = cut_written old mid new script d.rest limit.Heap d.advances ok; stands = d.stops })
-closes budget Stands May now old mid new script (flow.Stops limit.Frames) (Ok e) d is ok err =
+closes_from budget Stands May now old mid new script (flow.Stops limit.Frames) (Ok e) d is ok err =
     rw is (record { gave = d.advances.gave; rest = d.rest; is = d.advances.is; bytes = cut_written old mid new script d.rest limit.Frames d.advances ok; stands = d.stops })
-closes budget Stands May now old mid new script (flow.Stops limit.Memory) (Ok e) d is ok err =
+closes_from budget Stands May now old mid new script (flow.Stops limit.Memory) (Ok e) d is ok err =
     rw is (record { gave = d.advances.gave; rest = d.rest; is = d.advances.is; bytes = cut_written old mid new script d.rest limit.Memory d.advances ok; stands = d.stops })
-closes budget Stands May now old mid new script flow.On (Err e) d is ok err = all_begun (EngineStops budget Stands May now script) old mid new script Done d.advances err
-closes budget Stands May now old mid new script (flow.Halts n) (Err e) d is ok err = all_begun (EngineStops budget Stands May now script) old mid new script (Halts n) d err
-closes budget Stands May now old mid new script (flow.Stops limit.Heap) (Err e) d is ok err = cut_begun (EngineStops budget Stands May now script) old mid new script d.rest limit.Heap d.advances d.stops err
-closes budget Stands May now old mid new script (flow.Stops limit.Frames) (Err e) d is ok err = cut_begun (EngineStops budget Stands May now script) old mid new script d.rest limit.Frames d.advances d.stops err
-closes budget Stands May now old mid new script (flow.Stops limit.Memory) (Err e) d is ok err = cut_begun (EngineStops budget Stands May now script) old mid new script d.rest limit.Memory d.advances d.stops err
+closes_from budget Stands May now old mid new script flow.On (Err e) d is ok err = all_begun (EngineStops budget Stands May now script) old mid new script Done d.advances err
+closes_from budget Stands May now old mid new script (flow.Halts n) (Err e) d is ok err = all_begun (EngineStops budget Stands May now script) old mid new script (Halts n) d err
+closes_from budget Stands May now old mid new script (flow.Stops limit.Heap) (Err e) d is ok err = cut_begun (EngineStops budget Stands May now script) old mid new script d.rest limit.Heap d.advances d.stops err
+closes_from budget Stands May now old mid new script (flow.Stops limit.Frames) (Err e) d is ok err = cut_begun (EngineStops budget Stands May now script) old mid new script d.rest limit.Frames d.advances d.stops err
+closes_from budget Stands May now old mid new script (flow.Stops limit.Memory) (Err e) d is ok err = cut_begun (EngineStops budget Stands May now script) old mid new script d.rest limit.Memory d.advances d.stops err
+
+-- the same from a place that is the start of a line
+pub closes : (budget : ℕ) (Stands : State → Type 0) (May : Limit → State → Type 0) (now : Phase) (old : Option (List ℕ)) (start mid : Place) (new : Option (List ℕ)) (script : Script) (f : Flow) (r : Result Ended Fault) → start ≡ (old, false)
+    → Does budget Stands May now start mid script (λ _. Closes Done) (Ok f) → IfOk r (λ e. e ≡ ended_of f)
+    → OnOk r (Appends mid.0 new (closing_bytes mid.1 f)) → OnErr r (Begins mid.0 new (closing_bytes mid.1 f))
+    → Writes script (EngineStops budget Stands May now script) old new (outcome_of r)
+closes budget Stands May now old start mid new script f r at d is ok err =
+    closes_from budget Stands May now old mid new script f r (subst (λ p. Does budget Stands May now p mid script (λ _. Closes Done) (Ok f)) at d) is ok err
 
 -- a write failed before the session was closed
-pub breaks : (budget : ℕ) (Stands : State → Type 0) (May : Limit → State → Type 0) (now : Phase) (old new : Option (List ℕ)) (script : Script) (r : Result Ended Fault)
+breaks_from : (budget : ℕ) (Stands : State → Type 0) (May : Limit → State → Type 0) (now : Phase) (old new : Option (List ℕ)) (script : Script) (r : Result Ended Fault)
     → IsErr r → Begins old new (script_bytes false script) → Writes script (EngineStops budget Stands May now script) old new (outcome_of r)
-breaks budget Stands May now old new script (Ok e) failed b = cc
-breaks budget Stands May now old new script (Err e) failed b = all_broken (EngineStops budget Stands May now script) old new script b
+breaks_from budget Stands May now old new script (Ok e) failed b = cc
+breaks_from budget Stands May now old new script (Err e) failed b = all_broken (EngineStops budget Stands May now script) old new script b
+
+-- the same from a place that is the start of a line
+pub breaks : (budget : ℕ) (Stands : State → Type 0) (May : Limit → State → Type 0) (now : Phase) (old new : Option (List ℕ)) (start : Place) (script : Script) (r : Result Ended Fault) → start ≡ (old, false)
+    → IsErr r → Begins start.0 new (script_bytes start.1 script) → Writes script (EngineStops budget Stands May now script) old new (outcome_of r)
+breaks budget Stands May now old new start script r at failed b =
+    breaks_from budget Stands May now old new script r failed (subst (λ p. Begins p.0 new (script_bytes p.1 script)) at b)
 
 -- ---- where a limit may come
 
@@ -136,12 +150,16 @@ pub writes_walk : (budget frames : ℕ) (Stands : State → Type 0) (May : Limit
 writes_walk budget frames Stands May now script old new outcome over h =
     writes_by script (EngineStops budget Stands May now script) (WalkStops budget frames script) old new outcome (walk_stops budget frames Stands May now script over) h
 
+-- what was written, under another name of what the writer has at the end
+pub written_to : (script : Script) (P : Limit → Script → Type 0) (old last new : Option (List ℕ)) (outcome : Outcome) → Writes script P old last outcome → last ≡ new → Writes script P old new outcome
+written_to script P old last new outcome h same = subst (λ at. Writes script P old at outcome) same h
+
 -- memory was refused before a session began
-pub refused_session : (budget frames : ℕ) (script : Script) (old new : Option (List ℕ)) (r : Result Ended Fault) → IfOk r (λ e. e ≡ ended_of (flow.Stops limit.Memory))
-    → OnOk r (Appends old new (closing_bytes false (flow.Stops limit.Memory))) → OnErr r (Begins old new (closing_bytes false (flow.Stops limit.Memory)))
+pub refused_session : (budget frames : ℕ) (script : Script) (old new : Option (List ℕ)) (start : Place) (r : Result Ended Fault) → start ≡ (old, false) → IfOk r (λ e. e ≡ ended_of (flow.Stops limit.Memory))
+    → OnOk r (Appends start.0 new (closing_bytes start.1 (flow.Stops limit.Memory))) → OnErr r (Begins start.0 new (closing_bytes start.1 (flow.Stops limit.Memory)))
     → Writes script (WalkStops budget frames script) old new (outcome_of r)
-refused_session budget frames script old new r is ok err =
-    let stops : Does budget (λ s. ⊥) (λ l s. ⊥) Ready (old, false) (old, false) script (λ w. Closes Done) (Ok (flow.Stops limit.Memory)) =
-    stops_here budget (λ s. ⊥) (λ l s. ⊥) Ready (old, false) script refl in
+refused_session budget frames script old new start r at is ok err =
+    let stops : Does budget (λ s. ⊥) (λ l s. ⊥) Ready start start script (λ w. Closes Done) (Ok (flow.Stops limit.Memory)) =
+    stops_here budget (λ s. ⊥) (λ l s. ⊥) Ready start script refl in
     writes_walk budget frames (λ s. ⊥) (λ l s. ⊥) Ready script old new (outcome_of r) (λ s never. absurd never)
-    (closes budget (λ s. ⊥) (λ l s. ⊥) Ready old (old, false) new script (flow.Stops limit.Memory) r stops is ok err)
+    (closes budget (λ s. ⊥) (λ l s. ⊥) Ready old start start new script (flow.Stops limit.Memory) r at stops is ok err)

@@ -1,5 +1,6 @@
 pub mod Named
 pub mod Read
 pub mod Progress
+pub mod Consoles
 pub mod Statuses
 pub mod Words

@@ -7,11 +7,13 @@ ghost use Rattle.iso_model.specs.Terms.TermOf.{term_of};
 ghost use Rattle.iso_model.specs.Syntax.Tokens.{tokens};
 ghost use Rattle.iso_model.specs.Terms.Trees.{arities_fit};
 ghost use Rattle.iso_model.specs.Search.Walker.{World, idle};
+ghost use Rattle.iso_session.specs.Consoles.{place};
 ghost use Rattle.iso_session.specs.Progress.{Does, IsCount};
 ghost use Rattle.iso_session.specs.Read.{item_read, Fits};
 
 use super::composed;
-use super::flows::{Flow, put_line};
+use super::console::Console;
+use super::flows::Flow;
 use super::items::{Item, take_item};
 use super::statuses::Fault;
 use super::terms::is_skipped;
@@ -26,24 +28,24 @@ fn consult_term<E: Engine, W: Write>(
     engine: &mut E,
     count: u64,
     term: &Term,
-    out: &mut W,
-    within_line: &mut bool,
+    console: &mut Console<'_, W>,
 ) -> Result<Flow, Fault>
     requires ready { E.phase engine.old ≡ Ready }
     requires stands { (w : World) × E.stands_for engine.old (idle w) }
     requires fits { arities_fit (term_of term.now) ≡ true }
     ensures does { (w : World) → E.stands_for engine.old (idle w) → (k : ℕ) → IsCount count k → (budget : ℕ) (next : World → Script)
         → Does budget (E.stands_for engine.new) (MayMeet (E.heap_pieces engine.new) (E.frames_pieces engine.new)) (E.phase engine.new)
-        (W.contents out.old, within_line.old) (W.contents out.new, within_line.new)
+        (place W.contents console.old) (place W.contents console.new)
         (added_script k (consulted (term_of term.now) w.database) w next) next result }
     ensures limits { KeepsLimits (MayMeet (E.heap_pieces engine.old) (E.frames_pieces engine.old)) (MayMeet (E.heap_pieces engine.new) (E.frames_pieces engine.new)) }
+    ensures writer { console.new.out.ghost_name ≡ console.old.out.ghost_name }
 {
     match engine.consult(term) {
         Ok(()) => Ok(Flow::On),
         Err(AddFault::NoMemory) => Ok(Flow::Stops(Limit::Memory)),
         Err(AddFault::Refused(ball)) => {
             let line = composed::refused_line(alloc, engine.ops(), count, &ball.term);
-            put_line(out, within_line, line, Flow::On)
+            console.put_line(line, Flow::On)
         }
     }
 }
@@ -54,23 +56,23 @@ fn consult_read<E: Engine, W: Write>(
     engine: &mut E,
     count: u64,
     term: &Term,
-    out: &mut W,
-    within_line: &mut bool,
+    console: &mut Console<'_, W>,
 ) -> Result<Flow, Fault>
     requires ready { E.phase engine.old ≡ Ready }
     requires stands { (w : World) × E.stands_for engine.old (idle w) }
     requires fits { arities_fit (term_of term.now) ≡ true }
     ensures does { (w : World) → E.stands_for engine.old (idle w) → (k : ℕ) → IsCount count k → (budget : ℕ) (next : World → Script)
         → Does budget (E.stands_for engine.new) (MayMeet (E.heap_pieces engine.new) (E.frames_pieces engine.new)) (E.phase engine.new)
-        (W.contents out.old, within_line.old) (W.contents out.new, within_line.new)
+        (place W.contents console.old) (place W.contents console.new)
         (read_script k (term_of term.now) w next) next result }
     ensures limits { KeepsLimits (MayMeet (E.heap_pieces engine.old) (E.frames_pieces engine.old)) (MayMeet (E.heap_pieces engine.new) (E.frames_pieces engine.new)) }
+    ensures writer { console.new.out.ghost_name ≡ console.old.out.ghost_name }
 {
     if is_skipped(term) {
         let line = composed::skipped_line(alloc, count);
-        return put_line(out, within_line, line, Flow::On);
+        return console.put_line(line, Flow::On);
     }
-    consult_term(alloc, engine, count, term, out, within_line)
+    consult_term(alloc, engine, count, term, console)
 }
 
 /// Consults the K-th item of the text.
@@ -79,23 +81,23 @@ fn consult_item<E: Engine, W: Write>(
     engine: &mut E,
     count: u64,
     item: Item,
-    out: &mut W,
-    within_line: &mut bool,
+    console: &mut Console<'_, W>,
 ) -> Result<Flow, Fault>
     requires ready { E.phase engine.old ≡ Ready }
     requires stands { (w : World) × E.stands_for engine.old (idle w) }
     requires fits { Fits item }
     ensures does { (w : World) → E.stands_for engine.old (idle w) → (k : ℕ) → IsCount count k → (budget : ℕ) (next : World → Script)
         → Does budget (E.stands_for engine.new) (MayMeet (E.heap_pieces engine.new) (E.frames_pieces engine.new)) (E.phase engine.new)
-        (W.contents out.old, within_line.old) (W.contents out.new, within_line.new)
+        (place W.contents console.old) (place W.contents console.new)
         (term_script k (item_read item) w next) next result }
     ensures limits { KeepsLimits (MayMeet (E.heap_pieces engine.old) (E.frames_pieces engine.old)) (MayMeet (E.heap_pieces engine.new) (E.frames_pieces engine.new)) }
+    ensures writer { console.new.out.ghost_name ≡ console.old.out.ghost_name }
 {
     match item {
-        Item::Readable(read) => consult_read(alloc, engine, count, &read.term, out, within_line),
+        Item::Readable(read) => consult_read(alloc, engine, count, &read.term, console),
         Item::Unreadable => {
             let line = composed::syntax_error_line(alloc, count);
-            put_line(out, within_line, line, Flow::On)
+            console.put_line(line, Flow::On)
         }
     }
 }
@@ -105,16 +107,16 @@ pub fn consult_text<E: Engine, W: Write>(
     alloc: Global,
     engine: &mut E,
     text: &str,
-    out: &mut W,
-    within_line: &mut bool,
+    console: &mut Console<'_, W>,
 ) -> Result<Flow, Fault>
     requires ready { E.phase engine.old ≡ Ready }
     requires stands { (w : World) × E.stands_for engine.old (idle w) }
     ensures does { (w : World) → E.stands_for engine.old (idle w) → (budget : ℕ) (next : World → Script)
         → Does budget (E.stands_for engine.new) (MayMeet (E.heap_pieces engine.new) (E.frames_pieces engine.new)) (E.phase engine.new)
-        (W.contents out.old, within_line.old) (W.contents out.new, within_line.new)
+        (place W.contents console.old) (place W.contents console.new)
         (text_script (length (tokens text.now)) 1 (tokens text.now) w next) next result }
     ensures limits { KeepsLimits (MayMeet (E.heap_pieces engine.old) (E.frames_pieces engine.old)) (MayMeet (E.heap_pieces engine.new) (E.frames_pieces engine.new)) }
+    ensures writer { console.new.out.ghost_name ≡ console.old.out.ghost_name }
 {
     let mut tokens = Tokens::new(text);
     let mut count: u64 = 0;
@@ -126,7 +128,7 @@ pub fn consult_text<E: Engine, W: Write>(
             return Ok(Flow::On);
         };
         count = count.saturating_add(1);
-        match consult_item(alloc, engine, count, item, out, within_line)? {
+        match consult_item(alloc, engine, count, item, console)? {
             Flow::On => {}
             flow => return Ok(flow),
         }

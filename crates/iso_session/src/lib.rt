@@ -2,19 +2,19 @@
 //! Also the program's words, its reading and its statuses.
 #![tactic(auto)]
 
-mod bodies;
 mod composed;
+mod console;
 mod consulting;
 mod files;
 mod flows;
 mod items;
 mod plain_sessions;
+mod preambles;
 mod queries;
 mod sessions;
 mod statuses;
 mod terms;
 pub mod words;
-mod written;
 
 pub use files::{TextFault, read_text};
 pub use plain_sessions::session;

@@ -7,7 +7,8 @@ ghost use Rattle.iso_model.specs.Session.Sessions.{session_script};
 ghost use Rattle.iso_model.specs.Search.Walker.{State, idle, first_world};
 ghost use Rattle.iso_session.specs.Progress.{outcome_of};
 
-use super::flows::{Flow, close};
+use super::console::Console;
+use super::flows::Flow;
 use super::sessions::session_on;
 use super::statuses::{Choice, Ended, Fault};
 use iso_model::{Engine, Limit, Limits, NoMemory};
@@ -50,7 +51,7 @@ fn plain_session<W: Write>(
         (W.contents out.old) (W.contents out.new) (outcome_of result) }
 {
     let Ok(mut engine) = plain_engine(alloc, limits) else {
-        return close(Flow::Stops(Limit::Memory), out, &mut false);
+        return Console::new(out).close(Flow::Stops(Limit::Memory));
     };
     session_on(alloc, &mut engine, text, queries, limits.budget, out)
 }

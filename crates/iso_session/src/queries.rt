@@ -11,15 +11,16 @@ ghost use Rattle.iso_model.specs.Terms.Trees.{arities_fit};
 ghost use Rattle.iso_model.specs.Search.Walker.{State, World, idle, started};
 ghost use Rattle.iso_read.specs.Answers.{clause_read};
 ghost use Rattle.iso_session.specs.Named.{names_of};
+ghost use Rattle.iso_session.specs.Consoles.{place};
 ghost use Rattle.iso_session.specs.Progress.{Does, EndsQuery};
 ghost use Rattle.iso_session.specs.Read.{item_read, Fits};
 
 use super::composed;
-use super::flows::{Flow, put_fixed, put_line};
+use super::console::Console;
+use super::flows::Flow;
 use super::items::{Item, take_item};
 use super::statuses::Fault;
 use super::terms::goal_of;
-use super::written::write_output;
 use iso_model::{Engine, Limit, Pause, StartFault};
 use iso_ops::OpTable;
 use iso_read::Read;
@@ -33,21 +34,21 @@ fn end_query<W: Write>(
     alloc: Global,
     ops: &OpTable,
     pause: Pause,
-    out: &mut W,
-    within_line: &mut bool,
+    console: &mut Console<'_, W>,
 ) -> Result<Flow, Fault>
-    ensures { EndsQuery ops.now pause (W.contents out.old, within_line.old) (W.contents out.new, within_line.new) result }
+    ensures ends { EndsQuery ops.now pause (place W.contents console.old) (place W.contents console.new) result }
+    ensures writer { console.new.out.ghost_name ≡ console.old.out.ghost_name }
 {
     match pause {
-        Pause::NoMore => put_fixed(out, within_line, b"end: no more\n", Flow::On),
-        Pause::Budget => put_fixed(out, within_line, b"end: budget\n", Flow::On),
+        Pause::NoMore => console.put_fixed(b"end: no more\n", Flow::On),
+        Pause::Budget => console.put_fixed(b"end: budget\n", Flow::On),
         Pause::Uncaught(ball) => {
             let line = composed::error_line(alloc, ops, &ball.term);
-            put_line(out, within_line, line, Flow::On)
+            console.put_line(line, Flow::On)
         }
         Pause::Halt(status) => {
             let line = composed::halt_line(alloc, status);
-            put_line(out, within_line, line, Flow::Halts(status))
+            console.put_line(line, Flow::Halts(status))
         }
         Pause::HeapFull => Ok(Flow::Stops(Limit::Heap)),
         Pause::FramesFull => Ok(Flow::Stops(Limit::Frames)),
@@ -61,32 +62,32 @@ fn run_pauses<E: Engine, W: Write>(
     alloc: Global,
     engine: &mut E,
     names: &[(String, u64)],
-    out: &mut W,
-    within_line: &mut bool,
+    console: &mut Console<'_, W>,
 ) -> Result<Flow, Fault>
     requires awake { IsAwake (E.phase engine.old) }
     requires stands { (s : State) × E.stands_for engine.old s }
     ensures does { (query : Clause) (w : World) (budget : ℕ) → names_of names.now ≡ query.names
         → E.stands_for engine.old (started (query_goal query.term) budget w) → (next : World → Script)
         → Does budget (E.stands_for engine.new) (MayMeet (E.heap_pieces engine.new) (E.frames_pieces engine.new)) (E.phase engine.new)
-        (W.contents out.old, within_line.old) (W.contents out.new, within_line.new)
+        (place W.contents console.old) (place W.contents console.new)
         (query_script budget (Readable query) w next) next result }
     ensures limits { KeepsLimits (MayMeet (E.heap_pieces engine.old) (E.frames_pieces engine.old)) (MayMeet (E.heap_pieces engine.new) (E.frames_pieces engine.new)) }
+    ensures writer { console.new.out.ghost_name ≡ console.old.out.ghost_name }
 {
     let mut count: u64 = 0;
     loop {
         match engine.resume() {
-            Pause::Output(bytes) => write_output(out, within_line, bytes.as_slice())?,
+            Pause::Output(bytes) => console.write_output(bytes.as_slice())?,
             Pause::Answer(values) => {
                 count = count.saturating_add(1);
                 let ops = engine.ops();
                 let line = composed::answer_line(alloc, ops, count, names, values.as_slice());
-                match put_line(out, within_line, line, Flow::On)? {
+                match console.put_line(line, Flow::On)? {
                     Flow::On => {}
                     flow => return Ok(flow),
                 }
             }
-            pause => return end_query(alloc, engine.ops(), pause, out, within_line),
+            pause => return end_query(alloc, engine.ops(), pause, console),
         }
     }
 }
@@ -97,8 +98,7 @@ fn run_query<E: Engine, W: Write>(
     engine: &mut E,
     read: &Read,
     budget: u32,
-    out: &mut W,
-    within_line: &mut bool,
+    console: &mut Console<'_, W>,
 ) -> Result<Flow, Fault>
     requires ready { E.phase engine.old ≡ Ready }
     requires stands { (w : World) × E.stands_for engine.old (idle w) }
@@ -106,12 +106,13 @@ fn run_query<E: Engine, W: Write>(
     requires numbered { IsNumbered (term_of read.now.term) }
     ensures does { (w : World) → E.stands_for engine.old (idle w) → (next : World → Script)
         → Does budget (E.stands_for engine.new) (MayMeet (E.heap_pieces engine.new) (E.frames_pieces engine.new)) (E.phase engine.new)
-        (W.contents out.old, within_line.old) (W.contents out.new, within_line.new)
+        (place W.contents console.old) (place W.contents console.new)
         (query_script budget (Readable (clause_read read.now)) w next) next result }
     ensures limits { KeepsLimits (MayMeet (E.heap_pieces engine.old) (E.frames_pieces engine.old)) (MayMeet (E.heap_pieces engine.new) (E.frames_pieces engine.new)) }
+    ensures writer { console.new.out.ghost_name ≡ console.old.out.ghost_name }
 {
     match engine.start(goal_of(&read.term), budget) {
-        Ok(()) => run_pauses(alloc, engine, read.names.as_slice(), out, within_line),
+        Ok(()) => run_pauses(alloc, engine, read.names.as_slice(), console),
         Err(StartFault::HeapFull) => Ok(Flow::Stops(Limit::Heap)),
         Err(StartFault::NoMemory) => Ok(Flow::Stops(Limit::Memory)),
     }
@@ -123,21 +124,21 @@ fn run_item<E: Engine, W: Write>(
     engine: &mut E,
     item: Item,
     budget: u32,
-    out: &mut W,
-    within_line: &mut bool,
+    console: &mut Console<'_, W>,
 ) -> Result<Flow, Fault>
     requires ready { E.phase engine.old ≡ Ready }
     requires stands { (w : World) × E.stands_for engine.old (idle w) }
     requires fits { Fits item }
     ensures does { (w : World) → E.stands_for engine.old (idle w) → (next : World → Script)
         → Does budget (E.stands_for engine.new) (MayMeet (E.heap_pieces engine.new) (E.frames_pieces engine.new)) (E.phase engine.new)
-        (W.contents out.old, within_line.old) (W.contents out.new, within_line.new)
+        (place W.contents console.old) (place W.contents console.new)
         (query_script budget (item_read item) w next) next result }
     ensures limits { KeepsLimits (MayMeet (E.heap_pieces engine.old) (E.frames_pieces engine.old)) (MayMeet (E.heap_pieces engine.new) (E.frames_pieces engine.new)) }
+    ensures writer { console.new.out.ghost_name ≡ console.old.out.ghost_name }
 {
     match item {
-        Item::Readable(read) => run_query(alloc, engine, &read, budget, out, within_line),
-        Item::Unreadable => put_fixed(out, within_line, b"end: syntax error\n", Flow::On),
+        Item::Readable(read) => run_query(alloc, engine, &read, budget, console),
+        Item::Unreadable => console.put_fixed(b"end: syntax error\n", Flow::On),
     }
 }
 
@@ -147,16 +148,16 @@ pub fn run_queries<E: Engine, W: Write>(
     engine: &mut E,
     queries: &str,
     budget: u32,
-    out: &mut W,
-    within_line: &mut bool,
+    console: &mut Console<'_, W>,
 ) -> Result<Flow, Fault>
     requires ready { E.phase engine.old ≡ Ready }
     requires stands { (w : World) × E.stands_for engine.old (idle w) }
     ensures does { (w : World) → E.stands_for engine.old (idle w)
         → Does budget (E.stands_for engine.new) (MayMeet (E.heap_pieces engine.new) (E.frames_pieces engine.new)) (E.phase engine.new)
-        (W.contents out.old, within_line.old) (W.contents out.new, within_line.new)
+        (place W.contents console.old) (place W.contents console.new)
         (queries_script (length (tokens queries.now)) budget (tokens queries.now) w) (λ _. Closes Done) result }
     ensures limits { KeepsLimits (MayMeet (E.heap_pieces engine.old) (E.frames_pieces engine.old)) (MayMeet (E.heap_pieces engine.new) (E.frames_pieces engine.new)) }
+    ensures writer { console.new.out.ghost_name ≡ console.old.out.ghost_name }
 {
     let mut tokens = Tokens::new(queries);
     loop {
@@ -166,7 +167,7 @@ pub fn run_queries<E: Engine, W: Write>(
         let Some(item) = next else {
             return Ok(Flow::On);
         };
-        match run_item(alloc, engine, item, budget, out, within_line)? {
+        match run_item(alloc, engine, item, budget, console)? {
             Flow::On => {}
             flow => return Ok(flow),
         }

@@ -4,11 +4,13 @@ ghost use Rattle.iso_model.specs.Search.Engines.{Ready, MayMeet, KeepsLimits};
 ghost use Rattle.iso_model.specs.Session.Sessions.{Closes, Done, session_script};
 ghost use Rattle.iso_model.specs.Search.Walker.{idle, first_world};
 ghost use Rattle.iso_model.specs.Session.Beginnings.{SessionWrites, EngineStops};
+ghost use Rattle.iso_session.specs.Consoles.{place};
 ghost use Rattle.iso_session.specs.Progress.{Does, outcome_of};
 
-use super::bodies::body_of_text;
+use super::console::Console;
 use super::consulting::consult_text;
-use super::flows::{Flow, close};
+use super::flows::Flow;
+use super::preambles::body_of_text;
 use super::queries::run_queries;
 use super::statuses::{Ended, Fault};
 use iso_model::Engine;
@@ -22,18 +24,18 @@ fn run_parts<E: Engine, W: Write>(
     text: &str,
     queries: &str,
     budget: u32,
-    out: &mut W,
-    within_line: &mut bool,
+    console: &mut Console<'_, W>,
 ) -> Result<Flow, Fault>
     requires ready { E.phase engine.old ≡ Ready }
     requires new { E.stands_for engine.old (idle first_world) }
     ensures does { Does budget (E.stands_for engine.new) (MayMeet (E.heap_pieces engine.new) (E.frames_pieces engine.new)) (E.phase engine.new)
-        (W.contents out.old, within_line.old) (W.contents out.new, within_line.new)
+        (place W.contents console.old) (place W.contents console.new)
         (session_script text.now queries.now budget) (λ _. Closes Done) result }
     ensures limits { KeepsLimits (MayMeet (E.heap_pieces engine.old) (E.frames_pieces engine.old)) (MayMeet (E.heap_pieces engine.new) (E.frames_pieces engine.new)) }
+    ensures writer { console.new.out.ghost_name ≡ console.old.out.ghost_name }
 {
-    match consult_text(alloc, engine, body_of_text(text), out, within_line)? {
-        Flow::On => run_queries(alloc, engine, queries, budget, out, within_line),
+    match consult_text(alloc, engine, body_of_text(text), console)? {
+        Flow::On => run_queries(alloc, engine, queries, budget, console),
         flow => Ok(flow),
     }
 }
@@ -55,7 +57,7 @@ pub fn session_on<E: Engine, W: Write>(
         (session_script text.now queries.now budget))
         (W.contents out.old) (W.contents out.new) (outcome_of result) }
 {
-    let mut within_line = false;
-    let flow = run_parts(alloc, engine, text, queries, budget, out, &mut within_line)?;
-    close(flow, out, &mut within_line)
+    let mut console = Console::new(out);
+    let flow = run_parts(alloc, engine, text, queries, budget, &mut console)?;
+    console.close(flow)
 }

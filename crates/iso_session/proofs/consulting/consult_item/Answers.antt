@@ -9,4 +9,4 @@ returns-in-Readable-clause-does g c = λ w stands k counts budget next.
 pub returns-in-Unreadable-clause-does : goal.returns-in-Unreadable-clause-does
 returns-in-Unreadable-clause-does g c = λ w stands k counts budget next.
     rw c.in-Unreadable.is (unreadable _ _ _ _ _ _ c.args.count k w next c.put_line.result stands c.requires.ready counts
-    (c.put_line.ensures (syntax_error_line c.args.count) c.syntax_error_line-line.ensures))
+    (c.put_line.ensures.puts (syntax_error_line c.args.count) c.syntax_error_line-line.ensures))

@@ -14,4 +14,4 @@ returns-in-Err-Refused-clause-does g c = λ w stands k counts budget next.
     let consults = rw c.in-Err-Refused.field-0-is at (c.in-Err-Refused.ensures.consults (idle w) stands) in
     refused _ _ _ c.ops.result.now c.ops.ensures _ _ _ c.args.count k (consulted (term_of c.args.term.now) w.database) w c.in-Err-Refused.ball next c.put_line.result
     consults c.consult.ensures.ready counts
-    (c.put_line.ensures (refused_line c.ops.result.now c.args.count (term_of c.in-Err-Refused.ball.term)) c.refused_line-line.ensures)
+    (c.put_line.ensures.puts (refused_line c.ops.result.now c.args.count (term_of c.in-Err-Refused.ball.term)) c.refused_line-line.ensures)

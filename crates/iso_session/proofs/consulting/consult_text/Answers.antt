@@ -1,4 +1,4 @@
-use Rattle.std.proofs.Common.{ℕ, ◌+◌}
+use Rattle.std.proofs.Common.{ℕ, ◌+◌, ◌∙◌}
 use Rattle.iso_model.specs.Session.Sessions.{Script, Closes, Done, text_script}
 use Rattle.iso_model.specs.Search.Walker.{World, idle}
 use Rattle.iso_session.proofs.ProgressLemmas.{stops_after, breaks_after, keeps_limits-both}
@@ -41,4 +41,5 @@ loop-next-preserved g c =
       stands = (first.1.at, first.1.stands);
       limits = keeps_limits-both _ _ _ c.loop-next.invariant.limits c.consult_item.ensures.limits;
       place = λ w stands budget next. (goes w stands budget next).1;
+      writer = c.consult_item.ensures.writer ∙ c.loop-next.invariant.writer;
     }

@@ -4,6 +4,7 @@ use Rattle.iso_model.specs.Search.Engines.{Ready, MayMeet, KeepsLimits}
 use Rattle.iso_model.specs.Session.Sessions.{Script, text_script}
 use Rattle.iso_model.specs.Syntax.Tokens.{tokens}
 use Rattle.iso_model.specs.Search.Walker.{World, idle}
+use Rattle.iso_session.specs.Consoles.{place}
 use Rattle.iso_session.proofs.ConsultLemmas.{TextPlace}
 use Rattle.iso_session.proofs.consulting.consult_text.Given as goal
 
@@ -13,8 +14,9 @@ invariant-loop-next g l = record {
   stands : (v : World) × g.E.Engine.stands_for l.engine (idle v);
   limits : KeepsLimits (MayMeet (g.E.Engine.heap_pieces l.fn.engine) (g.E.Engine.frames_pieces l.fn.engine)) (MayMeet (g.E.Engine.heap_pieces l.engine) (g.E.Engine.frames_pieces l.engine));
   place : (w : World) → g.E.Engine.stands_for l.fn.engine (idle w) → (budget : ℕ) (next : World → Script)
-      → TextPlace (g.E.Engine.stands_for l.engine) l.count l.tokens (g.W.Write.contents l.fn.out, l.fn.within_line) (g.W.Write.contents l.out, l.within_line)
+      → TextPlace (g.E.Engine.stands_for l.engine) l.count l.tokens (place g.W.Write.contents l.fn.console) (place g.W.Write.contents l.console)
       (text_script (length (tokens l.text)) 1 (tokens l.text) w next) next;
+  writer : l.console.out.ghost_name ≡ l.fn.console.out.ghost_name;
 }
 
 abbrev pub decreases-loop-next : goal.decreases-loop-next

@@ -7,4 +7,4 @@ returns-in-Readable-clause-does g c = λ w stands next. rw c.in-Readable.is (c.r
 
 pub returns-in-Unreadable-clause-does : goal.returns-in-Unreadable-clause-does
 returns-in-Unreadable-clause-does g c = λ w stands next.
-    rw c.in-Unreadable.is (puts_on _ _ _ _ _ _ (codes "end: syntax error") w next c.put_fixed.result (c.put_fixed.ensures (codes "end: syntax error") refl) stands c.requires.ready)
+    rw c.in-Unreadable.is (puts_on _ _ _ _ _ _ (codes "end: syntax error") w next c.put_fixed.result (c.put_fixed.ensures.puts (codes "end: syntax error") refl) stands c.requires.ready)

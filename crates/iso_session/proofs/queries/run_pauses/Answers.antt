@@ -1,4 +1,4 @@
-use Rattle.std.proofs.Common.{◌≡◌, ℕ, map}
+use Rattle.std.proofs.Common.{◌≡◌, ℕ, map, refl, ◌∙◌}
 use Rattle.iso_model.specs.Syntax.Grammar.{Clause}
 use Rattle.iso_model.specs.Terms.TermOf.{term_of}
 use Rattle.iso_model.specs.Session.Lines.{answer_line}
@@ -15,6 +15,7 @@ loop-bytes-init g c = record {
   stands = c.requires.stands;
   limits = λ l s may. may;
   place = λ query w budget named stands next. run_begins _ query w budget _ next stands;
+  writer = refl;
 }
 
 pub returns-in_err-write_output-in-Output-clause-does : goal.returns-in_err-write_output-in-Output-clause-does
@@ -38,6 +39,7 @@ loop-bytes-preserved-in-Output g c =
       stands = (pauses.0.new, pauses.0.stands);
       limits = keeps_limits-both _ _ _ c.loop-bytes.invariant.limits c.in-Output.ensures.limits;
       place = goes;
+      writer = c.in_ok-write_output-in-Output.ensures.writer ∙ c.loop-bytes.invariant.writer;
     }
 
 pub returns-in_err-flow-in-Answer-clause-does : goal.returns-in_err-flow-in-Answer-clause-does
@@ -46,7 +48,7 @@ returns-in_err-flow-in-Answer-clause-does g c = λ query w budget named stands n
     let turn = answer_comes c.saturating_add-count.result place (c.in-Answer.ensures.pauses place.at place.stands c.loop-bytes.invariant.awake).0 c.saturating_add-count.ensures in
     let line = rw (c.as_slice-in-Answer.ensures.value, named) at c.answer_line-line.ensures in
     answer_breaks _ _ _ c.from_residual-in_err-flow-in-Answer.result turn c.ops-ops.result.now (c.ops-ops.ensures turn.at turn.stands) c.from_residual-in_err-flow-in-Answer.ensures.0
-    (c.in_err-flow-in-Answer.ensures (answer_line c.ops-ops.result.now c.saturating_add-count.result query.names (map term_of c.in-Answer.values.items)) line)
+    (c.in_err-flow-in-Answer.ensures.puts (answer_line c.ops-ops.result.now c.saturating_add-count.result query.names (map term_of c.in-Answer.values.items)) line)
 
 pub returns-in_default-2-clause-does : goal.returns-in_default-2-clause-does
 returns-in_default-2-clause-does g c = λ query w budget named stands next.
@@ -54,7 +56,7 @@ returns-in_default-2-clause-does g c = λ query w budget named stands next.
     let pauses = c.in-Answer.ensures.pauses place.at place.stands c.loop-bytes.invariant.awake in
     let turn = answer_comes c.saturating_add-count.result place pauses.0 c.saturating_add-count.ensures in
     let line = rw (c.as_slice-in-Answer.ensures.value, named) at c.answer_line-line.ensures in
-    let puts = rw c.in_ok-flow-in-Answer.was at (c.put_line.ensures (answer_line c.ops-ops.result.now c.saturating_add-count.result query.names (map term_of c.in-Answer.values.items)) line) in
+    let puts = rw c.in_ok-flow-in-Answer.was at (c.put_line.ensures.puts (answer_line c.ops-ops.result.now c.saturating_add-count.result query.names (map term_of c.in-Answer.values.items)) line) in
     answer_stops _ _ _ c.in_ok-flow-in-Answer.flow turn c.ops-ops.result.now (c.ops-ops.ensures turn.at turn.stands) pauses.1 c.in_default-2.not-On puts
 
 pub loop-bytes-preserved : goal.loop-bytes-preserved
@@ -64,7 +66,7 @@ loop-bytes-preserved g c =
     let pauses = c.in-Answer.ensures.pauses place.at place.stands c.loop-bytes.invariant.awake in
     let turn = answer_comes c.saturating_add-count.result place pauses.0 c.saturating_add-count.ensures in
     let line = rw (c.as_slice-in-Answer.ensures.value, named) at c.answer_line-line.ensures in
-    let puts = rw (c.in_ok-flow-in-Answer.was, c.in-On.is) at (c.put_line.ensures (answer_line c.ops-ops.result.now c.saturating_add-count.result query.names (map term_of c.in-Answer.values.items)) line) in
+    let puts = rw (c.in_ok-flow-in-Answer.was, c.in-On.is) at (c.put_line.ensures.puts (answer_line c.ops-ops.result.now c.saturating_add-count.result query.names (map term_of c.in-Answer.values.items)) line) in
     answer_goes _ turn c.ops-ops.result.now (c.ops-ops.ensures turn.at turn.stands) puts in
     let first = c.loop-bytes.invariant.stands in
     let pauses = c.in-Answer.ensures.pauses first.0 first.1 c.loop-bytes.invariant.awake in
@@ -73,6 +75,7 @@ loop-bytes-preserved g c =
       stands = (pauses.0.new, pauses.0.stands);
       limits = keeps_limits-both _ _ _ c.loop-bytes.invariant.limits c.in-Answer.ensures.limits;
       place = goes;
+      writer = c.put_line.ensures.writer ∙ c.loop-bytes.invariant.writer;
     }
 
 pub returns-in_default-clause-does : goal.returns-in_default-clause-does
@@ -80,4 +83,4 @@ returns-in_default-clause-does g c = λ query w budget named stands next.
     let place = c.loop-bytes.invariant.place query w budget named stands next in
     let pauses = c.resume.ensures.pauses place.at place.stands c.loop-bytes.invariant.awake in
     query_ends _ _ c.ops.result.now c.ops.ensures _ _ _ _ query w budget place.done place.at c.resume.result next c.end_query.result place.gave place.advances
-    pauses (c.resume.ensures.limit place.at place.stands) c.end_query.ensures c.in_default.not-Answer c.in_default.not-Output
+    pauses (c.resume.ensures.limit place.at place.stands) c.end_query.ensures.ends c.in_default.not-Answer c.in_default.not-Output

@@ -5,6 +5,7 @@ use Rattle.iso_model.specs.Syntax.Grammar.{Clause}
 use Rattle.iso_model.specs.Session.Sessions.{Script, query_goal}
 use Rattle.iso_model.specs.Search.Walker.{State, World, started}
 use Rattle.iso_session.specs.Named.{names_of}
+use Rattle.iso_session.specs.Consoles.{place}
 use Rattle.iso_session.proofs.QueryLemmas.{RunPlace}
 use Rattle.iso_session.proofs.queries.run_pauses.Given as goal
 
@@ -14,7 +15,8 @@ invariant-loop-bytes g l = record {
   stands : (t : State) × g.E.Engine.stands_for l.engine t;
   limits : KeepsLimits (MayMeet (g.E.Engine.heap_pieces l.fn.engine) (g.E.Engine.frames_pieces l.fn.engine)) (MayMeet (g.E.Engine.heap_pieces l.engine) (g.E.Engine.frames_pieces l.engine));
   place : (query : Clause) (w : World) (budget : ℕ) → names_of l.names ≡ query.names → g.E.Engine.stands_for l.fn.engine (started (query_goal query.term) budget w) → (next : World → Script)
-      → RunPlace (g.E.Engine.stands_for l.engine) l.count query w budget (g.W.Write.contents l.fn.out, l.fn.within_line) (g.W.Write.contents l.out, l.within_line) next;
+      → RunPlace (g.E.Engine.stands_for l.engine) l.count query w budget (place g.W.Write.contents l.fn.console) (place g.W.Write.contents l.console) next;
+  writer : l.console.out.ghost_name ≡ l.fn.console.out.ghost_name;
 }
 
 abbrev pub decreases-loop-bytes : goal.decreases-loop-bytes

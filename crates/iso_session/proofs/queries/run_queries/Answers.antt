@@ -1,3 +1,4 @@
+use Rattle.std.proofs.Common.{◌∙◌}
 use Rattle.iso_model.specs.Session.Sessions.{Closes, Done, queries_script}
 use Rattle.iso_model.specs.Search.Walker.{World, idle}
 use Rattle.iso_session.proofs.ProgressLemmas.{stops_after, breaks_after, keeps_limits-both}
@@ -41,4 +42,5 @@ loop-next-preserved g c =
       stands = (first.1.at, first.1.stands);
       limits = keeps_limits-both _ _ _ c.loop-next.invariant.limits c.run_item.ensures.limits;
       place = λ w stands. (goes w stands).1;
+      writer = c.run_item.ensures.writer ∙ c.loop-next.invariant.writer;
     }

@@ -4,6 +4,7 @@ use Rattle.iso_model.specs.Search.Engines.{Ready, MayMeet, KeepsLimits}
 use Rattle.iso_model.specs.Session.Sessions.{queries_script}
 use Rattle.iso_model.specs.Syntax.Tokens.{tokens}
 use Rattle.iso_model.specs.Search.Walker.{World, idle}
+use Rattle.iso_session.specs.Consoles.{place}
 use Rattle.iso_session.proofs.QueryLemmas.{QueriesPlace}
 use Rattle.iso_session.proofs.queries.run_queries.Given as goal
 
@@ -13,8 +14,9 @@ invariant-loop-next g l = record {
   stands : (v : World) × g.E.Engine.stands_for l.engine (idle v);
   limits : KeepsLimits (MayMeet (g.E.Engine.heap_pieces l.fn.engine) (g.E.Engine.frames_pieces l.fn.engine)) (MayMeet (g.E.Engine.heap_pieces l.engine) (g.E.Engine.frames_pieces l.engine));
   place : (w : World) → g.E.Engine.stands_for l.fn.engine (idle w)
-      → QueriesPlace (g.E.Engine.stands_for l.engine) l.budget l.tokens (g.W.Write.contents l.fn.out, l.fn.within_line) (g.W.Write.contents l.out, l.within_line)
+      → QueriesPlace (g.E.Engine.stands_for l.engine) l.budget l.tokens (place g.W.Write.contents l.fn.console) (place g.W.Write.contents l.console)
       (queries_script (length (tokens l.queries)) l.budget (tokens l.queries) w);
+  writer : l.console.out.ghost_name ≡ l.fn.console.out.ghost_name;
 }
 
 abbrev pub decreases-loop-next : goal.decreases-loop-next

@@ -1,4 +1,4 @@
-//! The part of a program text that is consulted.
+//! What stands before the part of a program text that is consulted: a byte order mark, and a first line for a shell.
 ghost use Rattle.std.specs.Prelude.{◌≡◌};
 ghost use Rattle.iso_model.specs.Session.Sessions as sessions;
 
