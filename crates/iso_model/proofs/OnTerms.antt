@@ -8,3 +8,6 @@ pub mod MeaningLemmas
 pub mod OrderLemmas
 pub mod NumberedLemmas
 pub mod VariableLemmas
+pub mod Hanging
+pub mod BuildingLemmas
+pub mod CopyingLemmas

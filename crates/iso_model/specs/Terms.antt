@@ -3,6 +3,8 @@ pub mod Trees
 pub mod TermOf
 pub mod Sorts
 pub mod Sizes
+pub mod Building
+pub mod Copying
 pub mod Variables
 pub mod Substitutions
 pub mod Unifiers

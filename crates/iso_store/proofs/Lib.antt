@@ -17,3 +17,4 @@ pub mod Rows
 pub mod Parts
 pub mod Gathering
 pub mod CellCounts
+pub mod TaskLemmas

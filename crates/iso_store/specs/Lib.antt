@@ -3,6 +3,7 @@ pub mod Arguments
 pub mod Shapes
 pub mod Places
 pub mod Copying
+pub mod Tasks
 pub mod NodeTerms
 pub mod NodeStores
 pub mod NodeLemmas

@@ -1,9 +1,11 @@
 //! Terms copied into a store and out of it.
-ghost use Rattle.std.specs.Prelude.{◌≡◌, ℕ, ◌+◌, ◌<◌, ◌≤◌, ◌^◌, IfOk, OnOk, length, map, true, false};
+ghost use Rattle.std.specs.Prelude.{◌≡◌, ℕ, ◌+◌, ◌<◌, ◌≤◌, ◌*◌, ◌^◌, ◌∷◌, [], ◌++◌, IfOk, OnOk, length, map, true, false};
 ghost use Rattle.std.specs.List.{All};
 ghost use Rattle.iso_atoms.specs.Texts.{KeepsTexts};
 ghost use Rattle.iso_model.specs.Terms.Trees.{Variable, arities_fit};
 ghost use Rattle.iso_model.specs.Terms.TermOf.{term_of};
+ghost use Rattle.iso_model.specs.Terms.Sizes.{size};
+ghost use Rattle.iso_model.specs.Terms.Building.{with_step, with_steps, step_load, steps_load};
 ghost use Rattle.iso_model.specs.Terms.Variables.{variable_count};
 ghost use Rattle.iso_model.specs.Terms.Substitutions.{apply};
 ghost use Rattle.iso_model.specs.Terms.Copies.{copy_from, numbers_from};
@@ -11,32 +13,130 @@ ghost use Rattle.iso_model.specs.Terms.Unification.Listed.{Covers};
 ghost use Rattle.iso_store.specs.Presents.{Holds, meaning, Gathers, Makes, KeepsNumbers, MovesOn, TakesFrom, Grows, NumbersHaveCells, KeepsMarks};
 ghost use Rattle.iso_store.specs.Places.{IsPlaced};
 ghost use Rattle.iso_store.specs.Copying.{placed_terms, cells_of};
+ghost use Rattle.iso_store.specs.Tasks.{IsTask, step_of, steps_of};
 
 use super::cells::Cells;
 use super::numbering::Numbering;
 use super::shapes::{Shape, StoreFault};
+use iso_atoms::Atom;
+use iso_model::terms::build_last;
 use iso_model::{NoMemory, Term};
 use std::alloc::Global;
+
+/// What is left to do of copying a term out.
+#[derive(Clone, Copy)]
+enum Task<W: Copy> {
+    /// The arguments of the compound that the word stands for are to be copied, from this place on; in all it has so many.
+    Copy(W, usize, usize),
+    /// A compound of this name is to be built of the last copies, so many.
+    Build(Atom, usize),
+}
+
+/// Copies what the word stands for where it has no arguments, and leaves a compound to be copied by its arguments.
+fn copy_next<C: Cells>(
+    alloc: Global,
+    store: &C,
+    word: C::Word,
+    tasks: &mut Vec<Task<C::Word>>,
+    copies: &mut Vec<Term>,
+) -> Result<(), NoMemory>
+    requires word { Holds (C.present store.now) word }
+    requires tasks { All (IsTask (C.present store.now) (C.names store.now)) tasks.old.items }
+    ensures tasks { OnOk result (All (IsTask (C.present store.now) (C.names store.now)) tasks.new.items) }
+    ensures steps { OnOk result (with_steps (steps_of (C.present store.now) (C.names store.now) tasks.new.items) (map term_of copies.new.items)
+        ≡ with_steps (steps_of (C.present store.now) (C.names store.now) tasks.old.items) (map term_of copies.old.items ++ meaning (C.present store.now) word ∷ [])) }
+    ensures load { OnOk result (steps_load (steps_of (C.present store.now) (C.names store.now) tasks.new.items)
+        < 2 * size (meaning (C.present store.now) word) + steps_load (steps_of (C.present store.now) (C.names store.now) tasks.old.items)) }
+{
+    match store.shape(word) {
+        Shape::Var(number) => {
+            copies.push(Term::Var(number))?;
+            Ok(())
+        }
+        Shape::Int(value) => {
+            copies.push(Term::Int(value))?;
+            Ok(())
+        }
+        Shape::Atom(name) => {
+            copies.push(Term::Atom(String::from_str(alloc, store.text(name))?))?;
+            Ok(())
+        }
+        Shape::Compound(name, count) => {
+            tasks.push(Task::Build(name, count))?;
+            tasks.push(Task::Copy(word, 0, count))?;
+            Ok(())
+        }
+    }
+}
+
+/// Copies the argument at this place, and leaves those behind it; in all the compound has so many.
+fn copy_argument<C: Cells>(
+    alloc: Global,
+    store: &C,
+    word: C::Word,
+    index: usize,
+    count: usize,
+    tasks: &mut Vec<Task<C::Word>>,
+    copies: &mut Vec<Term>,
+) -> Result<(), NoMemory>
+    requires task { IsTask (C.present store.now) (C.names store.now) (Task.Copy word index count) }
+    requires tasks { All (IsTask (C.present store.now) (C.names store.now)) tasks.old.items }
+    ensures tasks { OnOk result (All (IsTask (C.present store.now) (C.names store.now)) tasks.new.items) }
+    ensures steps { OnOk result (with_steps (steps_of (C.present store.now) (C.names store.now) tasks.new.items) (map term_of copies.new.items)
+        ≡ with_steps (steps_of (C.present store.now) (C.names store.now) tasks.old.items)
+        (with_step (step_of (C.present store.now) (C.names store.now) (Task.Copy word index count)) (map term_of copies.old.items))) }
+    ensures load { OnOk result (steps_load (steps_of (C.present store.now) (C.names store.now) tasks.new.items)
+        < step_load (step_of (C.present store.now) (C.names store.now) (Task.Copy word index count))
+        + steps_load (steps_of (C.present store.now) (C.names store.now) tasks.old.items)) }
+{
+    let argument = store.arg(word, index);
+    if index + 1 == count {
+        return copy_next(alloc, store, argument, tasks, copies);
+    }
+    tasks.push(Task::Copy(word, index + 1, count))?;
+    copy_next(alloc, store, argument, tasks, copies)
+}
+
+/// Does what a task says.
+fn do_task<C: Cells>(
+    alloc: Global,
+    store: &C,
+    task: Task<C::Word>,
+    tasks: &mut Vec<Task<C::Word>>,
+    copies: &mut Vec<Term>,
+) -> Result<(), NoMemory>
+    requires task { IsTask (C.present store.now) (C.names store.now) task }
+    requires tasks { All (IsTask (C.present store.now) (C.names store.now)) tasks.old.items }
+    ensures tasks { OnOk result (All (IsTask (C.present store.now) (C.names store.now)) tasks.new.items) }
+    ensures steps { OnOk result (with_steps (steps_of (C.present store.now) (C.names store.now) tasks.new.items) (map term_of copies.new.items)
+        ≡ with_steps (steps_of (C.present store.now) (C.names store.now) tasks.old.items)
+        (with_step (step_of (C.present store.now) (C.names store.now) task) (map term_of copies.old.items))) }
+    ensures load { OnOk result (steps_load (steps_of (C.present store.now) (C.names store.now) tasks.new.items)
+        < step_load (step_of (C.present store.now) (C.names store.now) task) + steps_load (steps_of (C.present store.now) (C.names store.now) tasks.old.items)) }
+{
+    match task {
+        Task::Copy(word, index, count) => {
+            copy_argument(alloc, store, word, index, count, tasks, copies)
+        }
+        Task::Build(name, count) => build_last(alloc, store.text(name), count, copies),
+    }
+}
 
 /// The term that the word stands for.
 pub(crate) fn copy_out<C: Cells>(alloc: Global, store: &C, word: C::Word) -> Result<Term, NoMemory>
     requires { Holds (C.present store.now) word }
     ensures { IfOk result (λ t. term_of t ≡ meaning (C.present store.now) word) }
 {
-    match store.shape(word) {
-        Shape::Var(number) => Ok(Term::Var(number)),
-        Shape::Int(value) => Ok(Term::Int(value)),
-        Shape::Atom(name) => Ok(Term::Atom(String::from_str(alloc, store.text(name))?)),
-        Shape::Compound(name, count) => {
-            let name = String::from_str(alloc, store.text(name))?;
-            let mut arguments = Vec::new(alloc);
-            for index in 0..count {
-                let argument = copy_out(alloc, store, store.arg(word, index))?;
-                arguments.push(argument)?;
-            }
-            Ok(Term::Compound(name, arguments))
-        }
+    let mut tasks = Vec::new(alloc);
+    let mut copies = Vec::new(alloc);
+    copy_next(alloc, store, word, &mut tasks, &mut copies)?;
+    while let Some(task) = tasks.pop() {
+        do_task(alloc, store, task, &mut tasks, &mut copies)?;
     }
+    let Some(copy) = copies.pop() else {
+        unreachable!()
+    };
+    Ok(copy)
 }
 
 /// The term, with the word at its place for each variable.

@@ -10,3 +10,12 @@ size (Name a) = 1
 size (Apply f ts) = 2 + size ts
 size End = 0
 size (More t ts) = size t + size ts
+
+-- The same, where a compound counts one less if it stands first, and so does each one that stands first in such a compound.
+abbrev pub light_size : Tree → ℕ
+light_size (Variable n) = 1
+light_size (Integer z) = 1
+light_size (Name a) = 1
+light_size (Apply f ts) = 1 + light_size ts
+light_size End = 0
+light_size (More t ts) = light_size t + size ts
