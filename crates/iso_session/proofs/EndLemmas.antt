@@ -64,7 +64,7 @@ all_begun P old mid new script ending h none =
     let same = whole_bytes false h.gave ending script h.is ∙ sym (append-nil (pieces_bytes false h.gave)) in
     all_broken P old new script (rw same (begins_behind old mid.0 new (pieces_bytes false h.gave) [] h.bytes none))
 
--- the session was closed behind its last part
+-- the session began at the start of a line, and was closed behind its last part
 closes_from : (budget : ℕ) (Stands : State → Type 0) (May : Limit → State → Type 0) (now : Phase) (old : Option (List ℕ)) (mid : Place) (new : Option (List ℕ)) (script : Script) (f : Flow) (r : Result Ended Fault)
     → Does budget Stands May now (old, false) mid script (λ _. Closes Done) (Ok f) → IfOk r (λ e. e ≡ ended_of f)
     → OnOk r (Appends mid.0 new (closing_bytes mid.1 f)) → OnErr r (Begins mid.0 new (closing_bytes mid.1 f))
@@ -83,7 +83,7 @@ closes_from budget Stands May now old mid new script (flow.Stops limit.Heap) (Er
 closes_from budget Stands May now old mid new script (flow.Stops limit.Frames) (Err e) d is ok err = cut_begun (EngineStops budget Stands May now script) old mid new script d.rest limit.Frames d.advances d.stops err
 closes_from budget Stands May now old mid new script (flow.Stops limit.Memory) (Err e) d is ok err = cut_begun (EngineStops budget Stands May now script) old mid new script d.rest limit.Memory d.advances d.stops err
 
--- the same from a place that is the start of a line
+-- the same, where the place that the session began at is the start of a line
 pub closes : (budget : ℕ) (Stands : State → Type 0) (May : Limit → State → Type 0) (now : Phase) (old : Option (List ℕ)) (start mid : Place) (new : Option (List ℕ)) (script : Script) (f : Flow) (r : Result Ended Fault) → start ≡ (old, false)
     → Does budget Stands May now start mid script (λ _. Closes Done) (Ok f) → IfOk r (λ e. e ≡ ended_of f)
     → OnOk r (Appends mid.0 new (closing_bytes mid.1 f)) → OnErr r (Begins mid.0 new (closing_bytes mid.1 f))
@@ -91,19 +91,13 @@ pub closes : (budget : ℕ) (Stands : State → Type 0) (May : Limit → State �
 closes budget Stands May now old start mid new script f r at d is ok err =
     closes_from budget Stands May now old mid new script f r (subst (λ p. Does budget Stands May now p mid script (λ _. Closes Done) (Ok f)) at d) is ok err
 
--- a write failed before the session was closed
-breaks_from : (budget : ℕ) (Stands : State → Type 0) (May : Limit → State → Type 0) (now : Phase) (old new : Option (List ℕ)) (script : Script) (r : Result Ended Fault)
-    → IsErr r → Begins old new (script_bytes false script) → Writes script (EngineStops budget Stands May now script) old new (outcome_of r)
-breaks_from budget Stands May now old new script (Ok e) failed b = cc
-breaks_from budget Stands May now old new script (Err e) failed b = all_broken (EngineStops budget Stands May now script) old new script b
+-- a write failed before the session was closed, which began at the start of a line
+pub breaks : (P : Limit → Script → Type 0) (old new : Option (List ℕ)) (start : Place) (script : Script) (r : Result Ended Fault) → start ≡ (old, false)
+    → IsErr r → Begins start.0 new (script_bytes start.1 script) → Writes script P old new (outcome_of r)
+breaks P old new start script (Ok e) began failed b = cc
+breaks P old new start script (Err e) began failed b = all_broken P old new script (subst (λ p. Begins p.0 new (script_bytes p.1 script)) began b)
 
--- the same from a place that is the start of a line
-pub breaks : (budget : ℕ) (Stands : State → Type 0) (May : Limit → State → Type 0) (now : Phase) (old new : Option (List ℕ)) (start : Place) (script : Script) (r : Result Ended Fault) → start ≡ (old, false)
-    → IsErr r → Begins start.0 new (script_bytes start.1 script) → Writes script (EngineStops budget Stands May now script) old new (outcome_of r)
-breaks budget Stands May now old new start script r at failed b =
-    breaks_from budget Stands May now old new script r failed (subst (λ p. Begins p.0 new (script_bytes p.1 script)) at b)
-
--- ---- where a limit may come
+-- where a limit may come:
 
 stops_by : (budget : ℕ) (May Other : Limit → State → Type 0) (l : Limit) (s : State) {script rest : Script} → ((t : State) → May l t → Other l t)
     → StopsAt budget May l s script rest → StopsAt budget Other l s script rest

@@ -1,18 +1,18 @@
 -- The equations of an answer, one after the other.
-use Rattle.std.proofs.Common.{◌≡◌, ℕ, suc, ◌+◌, ◌≤◌, ◌<◌, List, [], ◌∷◌, ◌++◌, length, map, get_or, drop, drop-cons, add-one, codes, refl, sym, ap, ◌∙◌, append_assoc, append-nil, String, Global, Result, Ok, Err, OnOk, option_map, Option, Some, None, slice_get}
+use Rattle.std.proofs.Common.{◌≡◌, ℕ, suc, ◌+◌, ◌≤◌, ◌<◌, List, [], ◌∷◌, ◌++◌, length, map, get_or, drop, drop-cons, add-one, codes, refl, sym, ap, ◌∙◌, append_assoc, append-nil, String, Global, Result, OnOk, option_map, Option, Some, None, slice_get}
 use Rattle.std.proofs.lemmas.List.{drop_all}
+use Rattle.std.proofs.lemmas.Result.{on_ok_weaker}
 use Rattle.std.proofs.lemmas.Option.{slice_get-map, slice_get_read, slice_get_past}
 use Rattle.std.specs.Prelude.{unwrap_or}
 use Rattle.std.specs.String.{string_bytes}
 use Rattle.iso_model.specs.declared.terms.Term.{Term}
-use Rattle.iso_model.specs.declared.terms.Term.TheOpen as layer
-use Rattle.iso_model.specs.declared.terms.Term.TheVariants.{Atom, rolls-Atom}
-use Rattle.iso_model.specs.declared.terms.Term.TheFolds.{fold-roll-Term}
+use Rattle.iso_model.specs.declared.terms.Term.TheVariants.{Atom}
 use Rattle.iso_ops.specs.Operators.{Operator}
 use Rattle.iso_model.specs.Terms.Trees.{Tree, Name}
-use Rattle.iso_model.specs.Terms.TermOf.{term_of, term_step}
+use Rattle.iso_model.specs.Terms.TermOf.{term_of}
 use Rattle.iso_model.specs.Terms.Variables.{distinct_from}
 use Rattle.iso_model.specs.Session.Lines.{text_in, value_at, equations, solution_text}
+use Rattle.iso_store.proofs.Parts.{term_of_atom}
 use Rattle.iso_session.specs.Named.{names_of}
 
 abbrev pub Named : Type 0
@@ -25,20 +25,13 @@ by_found values n o h = ap (λ x. unwrap_or x (Name [])) (slice_get-map term_of 
 pub value_found : (values : List Term) (n : ℕ) (v : Term) → n < length values → v ≡ get_or values n v → value_at (map term_of values) n ≡ term_of v
 value_found values n v low e = by_found values n (Some v) (slice_get_read values (length values) n v refl low e)
 
-term_of_atom : (a : String Global) → term_of (Atom a) ≡ Name (string_bytes a)
-term_of_atom a = ap term_of (sym (rolls-Atom a)) ∙ fold-roll-Term Tree term_step (layer.Term-F.Atom a)
-
 -- what stands for the value of any other
 pub value_missing : (values : List Term) (n : ℕ) (a : String Global) → length values ≤ n → string_bytes a ≡ [] → value_at (map term_of values) n ≡ term_of (Atom a)
 value_missing values n a past none = by_found values n None (slice_get_past values n past) ∙ sym (term_of_atom a ∙ ap Name none)
 
-on_ok : {T E P Q : Type 0} (r : Result T E) → OnOk r P → (P → Q) → OnOk r Q
-on_ok (Ok x) p f = f p
-on_ok (Err e) p f = tt
-
 -- the variables behind those of the value
 pub value_seen : {T E : Type 0} (r : Result T E) (seen later : List ℕ) (t v : Tree) → v ≡ t → OnOk r (later ≡ distinct_from seen t) → OnOk r (later ≡ distinct_from seen v)
-value_seen r seen later t v same text = on_ok r text (λ e. e ∙ ap (distinct_from seen) (sym same))
+value_seen r seen later t v same text = on_ok_weaker r (λ e. e ∙ ap (distinct_from seen) (sym same)) text
 
 equation_by : (a name equals text b c d : List ℕ) → b ≡ a ++ name → c ≡ b ++ equals → d ≡ c ++ text → d ≡ a ++ (name ++ (equals ++ text))
 equation_by a name equals text b c d h k e = rw (e, k, h) (simp append_assoc)
@@ -47,7 +40,7 @@ equation_by a name equals text b c d h k e = rw (e, k, h) (simp append_assoc)
 pub equation_text : {T E : Type 0} (r : Result T E) (table : List Operator) (seen a name b c d : List ℕ) (t v : Tree) → v ≡ t → b ≡ a ++ name → c ≡ b ++ codes " = "
     → OnOk r (d ≡ c ++ text_in table seen t) → OnOk r (d ≡ a ++ (name ++ (codes " = " ++ text_in table seen v)))
 equation_text r table seen a name b c d t v same h k text =
-    on_ok r text (λ e. equation_by a name (codes " = ") (text_in table seen v) b c d h k (e ∙ ap (λ x. c ++ text_in table seen x) (sym same)))
+    on_ok_weaker r (λ e. equation_by a name (codes " = ") (text_in table seen v) b c d h k (e ∙ ap (λ x. c ++ text_in table seen x) (sym same))) text
 
 drop_item : {X : Type 0} (xs : List X) (i : ℕ) (x : X) → i < length xs → x ≡ get_or xs i x → drop i xs ≡ x ∷ drop (i + 1) xs
 drop_item xs i x low e = rw add-one (drop-cons xs i x low ∙ ap (λ y. y ∷ drop (suc i) xs) (sym e))

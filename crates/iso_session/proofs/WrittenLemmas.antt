@@ -1,5 +1,5 @@
 -- What writes do to known bytes, one after the other.
-use Rattle.std.proofs.Common.{◌≡◌, ℕ, suc, ◌+◌, ◌-◌, ◌≤◌, ◌<◌, Bool, not, ◌==◌, List, [], ◌∷◌, ◌++◌, length, take, drop, Option, Some, None, sym, ap, ◌∙◌, append_assoc, length-drop, OnErr, Result, Ok, Err, arith}
+use Rattle.std.proofs.Common.{◌≡◌, ℕ, suc, ◌+◌, ◌-◌, ◌≤◌, ◌<◌, Bool, not, ◌==◌, List, [], ◌∷◌, ◌++◌, length, take, drop, Option, Some, None, sym, ap, ◌∙◌, append_assoc, length-drop, arith}
 use Rattle.std.proofs.lemmas.List.{append-nil, take-append-drop, take_all, length-append}
 use Rattle.std.specs.List.{slice_get}
 use Rattle.std.proofs.Math.Seq.{take-add}
@@ -72,7 +72,3 @@ ends_within-last within (x ∷ []) b h = let same : x ≡ b = cc in ap (λ n. no
 ends_within-last within (x ∷ y ∷ z) b h =
     let place : suc (suc (length z)) - 1 ≡ suc (suc (length z) - 1) = omega arith in
     ends_within-last (not (x == 10)) (y ∷ z) b (rw place at h)
-
-pub on_err : {T E : Type 0} {P : Type 0} (r : Result T E) → P → OnErr r P
-on_err (Ok x) p = tt
-on_err (Err e) p = p

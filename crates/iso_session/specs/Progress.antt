@@ -18,7 +18,7 @@ use Rattle.iso_session.specs.declared.statuses.Ended.{Ended}
 use Rattle.iso_session.specs.declared.statuses.Ended.TheVariants as ended
 use Rattle.iso_session.specs.declared.statuses.Fault.{Fault}
 
--- how a session ends that answers so
+-- how a session ended, by the answer of its function
 abbrev pub outcome_of : Result Ended Fault → Outcome
 outcome_of (Ok ended.Done) = Closed Done
 outcome_of (Ok (ended.Halt status)) = Closed (Halts status)
@@ -56,15 +56,16 @@ pub record Stops (budget : ℕ) (Stands : State → Type 0) (May : Limit → Sta
   pub advances : Advances old new script rest
   pub stops : EngineStops budget Stands May now script limit rest
 
--- What a part of a session with this script has done that answers so, where its queries have this budget, limits may come in these pieces of a
--- walk, and `behind` is the script of what follows it: it goes on, ends the script, or stops within it; a failed write leaves a beginning.
+-- What a part of a session has done by the answer that it gave, the last argument. `script` is what the part and all behind it are to write, and `behind` what
+-- follows it; its queries have this budget, and limits may come at the states that `May` names. The part was done and the session goes on, or the script is at
+-- its end, or a limit stopped it within the part; where a write failed a beginning of the script was written.
 abbrev pub Does : ℕ → (State → Type 0) → (Limit → State → Type 0) → Phase → Place → Place → Script → (World → Script) → Result Flow Fault → Type 0
 Does budget Stands May now old new script behind (Ok flow.On) = GoesOn Stands now old new script behind
 Does budget Stands May now old new script behind (Ok (flow.Halts status)) = Advances old new script (Closes (Halts status))
 Does budget Stands May now old new script behind (Ok (flow.Stops limit)) = Stops budget Stands May now limit old new script
 Does budget Stands May now old new script behind (Err fault) = Begins old.0 new.0 (script_bytes old.1 script)
 
--- A line was written, and the session goes on so; or memory for it was refused, and nothing was written.
+-- A line was written, and the answer is `then`; or memory for the line was refused, nothing was written, and the answer says so. Where the write failed a beginning was written.
 abbrev pub PutsLine : List ℕ → Flow → Place → Place → Result Flow Fault → Type 0
 PutsLine text then old new (Ok now) =
     ((now ≡ then) × Appends old.0 new.0 (piece_bytes old.1 (Line text)) × (new.1 ≡ false)) ⊎ ((now ≡ flow.Stops limit.Memory) × (new ≡ old))

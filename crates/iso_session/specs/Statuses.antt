@@ -1,4 +1,4 @@
--- The program's status for what a session came to (own).
+-- The program's status for what a session came to.
 use Rattle.std.specs.Prelude.{ℕ, Result, Ok, Err}
 use Rattle.iso_session.specs.declared.statuses.Ended.{Ended}
 use Rattle.iso_session.specs.declared.statuses.Ended.TheVariants as ended

@@ -1,4 +1,4 @@
--- What the program's words ask for (own), read as `clap` reads those of a command.
+-- What the program's words ask for, read as `clap` reads those of a command.
 use Rattle.std.specs.Prelude.{◌≡◌, ◌≢◌, ℕ, Bool, true, false, ◌&&◌, nat_le, List, [], ◌∷◌, Option, Some, None, Result, Ok, Err, codes, if◌then◌else◌}
 use Rattle.std.specs.Str.{bytes_eq}
 use Rattle.std.specs.List.{list_all}

@@ -1,4 +1,5 @@
-//! The lines of a session; each is composed whole, with its newline, before any of it is written (own).
+//! The lines of a session; each is composed whole, with its newline, before any of it is written. The
+//! standard says nothing of these lines.
 ghost use Rattle.std.specs.Prelude.{◌≡◌, [], ◌∷◌, ◌++◌, codes, map, IfOk, OnOk};
 ghost use Rattle.iso_model.specs.Terms.TermOf.{term_of};
 ghost use Rattle.iso_model.specs.Session.Lines as lines;
@@ -145,7 +146,7 @@ fn append_equation(
     line.extend_from_slice(b" = ")?;
     match values.get(number as usize) {
         Some(value) => append_term(alloc, ops, line, value, seen),
-        // No answer lacks a value.
+        // An answer has a value for each variable of its query, so this does not come; an empty atom would be written.
         None => append_term(alloc, ops, line, &Term::Atom(String::new(alloc)), seen),
     }
 }

@@ -15,8 +15,8 @@ use std::io::Write;
 /// A writer, and whether the last byte that was written to it is no newline.
 #[derive(Drop)]
 pub struct Console<'a, W> {
-    pub out: &'a mut W,
-    pub within_line: bool,
+    out: &'a mut W,
+    within_line: bool,
 }
 
 impl<'a, W: Write> Console<'a, W> {
@@ -67,7 +67,7 @@ impl<'a, W: Write> Console<'a, W> {
     }
 
     /// Writes a line, which is given with its newline; it begins at the start of a line. The error is that of `write_whole`.
-    pub fn write_line(&mut self, line: &[u8]) -> Result<(), Fault>
+    fn write_line(&mut self, line: &[u8]) -> Result<(), Fault>
         ensures ok { OnOk result (Appends (W.contents self.old.out.now) (W.contents self.new.out.now) ((if self.old.within_line then 10 ∷ [] else []) ++ line.now)) }
         ensures within { OnOk result (self.new.within_line ≡ false) }
         ensures err { OnErr result (Begins (W.contents self.old.out.now) (W.contents self.new.out.now) ((if self.old.within_line then 10 ∷ [] else []) ++ line.now)) }

@@ -1,4 +1,4 @@
-//! Consulting the program text (7.4).
+//! Consulting the program text: its clauses are added, and what is no clause is passed over with a line that says so.
 ghost use Rattle.std.specs.Prelude.{◌≡◌, ℕ, true, length};
 ghost use Rattle.iso_model.specs.Search.Additions.{consulted};
 ghost use Rattle.iso_model.specs.Search.Engines.{Ready, MayMeet, KeepsLimits};
@@ -26,9 +26,9 @@ use std::io::Write;
 fn consult_term<E: Engine, W: Write>(
     alloc: Global,
     engine: &mut E,
+    console: &mut Console<'_, W>,
     count: u64,
     term: &Term,
-    console: &mut Console<'_, W>,
 ) -> Result<Flow, Fault>
     requires ready { E.phase engine.old ≡ Ready }
     requires stands { (w : World) × E.stands_for engine.old (idle w) }
@@ -54,9 +54,9 @@ fn consult_term<E: Engine, W: Write>(
 fn consult_read<E: Engine, W: Write>(
     alloc: Global,
     engine: &mut E,
+    console: &mut Console<'_, W>,
     count: u64,
     term: &Term,
-    console: &mut Console<'_, W>,
 ) -> Result<Flow, Fault>
     requires ready { E.phase engine.old ≡ Ready }
     requires stands { (w : World) × E.stands_for engine.old (idle w) }
@@ -72,16 +72,16 @@ fn consult_read<E: Engine, W: Write>(
         let line = composed::skipped_line(alloc, count);
         return console.put_line(line, Flow::On);
     }
-    consult_term(alloc, engine, count, term, console)
+    consult_term(alloc, engine, console, count, term)
 }
 
 /// Consults the K-th item of the text.
 fn consult_item<E: Engine, W: Write>(
     alloc: Global,
     engine: &mut E,
+    console: &mut Console<'_, W>,
     count: u64,
     item: Item,
-    console: &mut Console<'_, W>,
 ) -> Result<Flow, Fault>
     requires ready { E.phase engine.old ≡ Ready }
     requires stands { (w : World) × E.stands_for engine.old (idle w) }
@@ -94,7 +94,7 @@ fn consult_item<E: Engine, W: Write>(
     ensures writer { console.new.out.ghost_name ≡ console.old.out.ghost_name }
 {
     match item {
-        Item::Readable(read) => consult_read(alloc, engine, count, &read.term, console),
+        Item::Readable(read) => consult_read(alloc, engine, console, count, &read.term),
         Item::Unreadable => {
             let line = composed::syntax_error_line(alloc, count);
             console.put_line(line, Flow::On)
@@ -106,8 +106,8 @@ fn consult_item<E: Engine, W: Write>(
 pub fn consult_text<E: Engine, W: Write>(
     alloc: Global,
     engine: &mut E,
-    text: &str,
     console: &mut Console<'_, W>,
+    text: &str,
 ) -> Result<Flow, Fault>
     requires ready { E.phase engine.old ≡ Ready }
     requires stands { (w : World) × E.stands_for engine.old (idle w) }
@@ -128,7 +128,7 @@ pub fn consult_text<E: Engine, W: Write>(
             return Ok(Flow::On);
         };
         count = count.saturating_add(1);
-        match consult_item(alloc, engine, count, item, console)? {
+        match consult_item(alloc, engine, console, count, item)? {
             Flow::On => {}
             flow => return Ok(flow),
         }

@@ -1,4 +1,4 @@
-//! How a session goes on behind a part of it, and how it ends by a limit.
+//! Whether a session goes on behind a part of it, and how a limit ends it.
 ghost use Rattle.std.specs.Prelude.{◌≡◌, [], ◌∷◌, ◌++◌};
 ghost use Rattle.iso_model.specs.Session.Beginnings as session;
 ghost use Rattle.iso_session.specs.Progress.{ended_of};
@@ -9,6 +9,7 @@ use iso_model::Limit;
 /// Whether the session goes on.
 #[derive(Clone, Copy, Debug, PartialEq, Eq)]
 pub enum Flow {
+    /// What follows is to be done.
     On,
     /// A goal asked for the end, with this status.
     Halts(u8),

@@ -9,7 +9,7 @@ use iso_read::{Read, ReadFault, read_clause};
 use iso_token::Tokens;
 use std::alloc::{AllocError, Global};
 
-/// What a text has up to an end token, or up to its end (6.2).
+/// What a text has up to an end token, or up to its end.
 #[derive(Debug, Drop)]
 pub enum Item {
     /// A term, with the names of its variables.

@@ -1,8 +1,9 @@
-//! What stands before the part of a program text that is consulted: a byte order mark, and a first line for a shell.
+//! What may stand before the part of a program text that is consulted: a byte order mark, and a first line for a shell. The
+//! standard has neither; that they are passed over is a rule of this system.
 ghost use Rattle.std.specs.Prelude.{◌≡◌};
 ghost use Rattle.iso_model.specs.Session.Sessions as sessions;
 
-/// The text without a byte order mark at its start (own).
+/// The text without a byte order mark at its start.
 fn without_mark(text: &str) -> &str
     ensures { result.now ≡ sessions.without_mark text.now }
 {
@@ -12,7 +13,7 @@ fn without_mark(text: &str) -> &str
     }
 }
 
-/// The text without a first line that begins with `#!` (own).
+/// The text without a first line that begins with `#!`.
 fn without_first_line(text: &str) -> &str
     ensures { result.now ≡ sessions.without_first_line text.now }
 {
@@ -25,7 +26,7 @@ fn without_first_line(text: &str) -> &str
     }
 }
 
-/// The text without a byte order mark at its start, and then without a first line that begins with `#!` (own).
+/// The text without a byte order mark at its start, and then without a first line that begins with `#!`.
 pub fn body_of_text(text: &str) -> &str
     ensures { result.now ≡ sessions.body_of_text text.now }
 {

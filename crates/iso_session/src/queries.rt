@@ -33,8 +33,8 @@ use std::io::Write;
 fn end_query<W: Write>(
     alloc: Global,
     ops: &OpTable,
-    pause: Pause,
     console: &mut Console<'_, W>,
+    pause: Pause,
 ) -> Result<Flow, Fault>
     ensures ends { EndsQuery ops.now pause (place W.contents console.old) (place W.contents console.new) result }
     ensures writer { console.new.out.ghost_name ≡ console.old.out.ghost_name }
@@ -61,8 +61,8 @@ fn end_query<W: Write>(
 fn run_pauses<E: Engine, W: Write>(
     alloc: Global,
     engine: &mut E,
-    names: &[(String, u64)],
     console: &mut Console<'_, W>,
+    names: &[(String, u64)],
 ) -> Result<Flow, Fault>
     requires awake { IsAwake (E.phase engine.old) }
     requires stands { (s : State) × E.stands_for engine.old s }
@@ -87,7 +87,7 @@ fn run_pauses<E: Engine, W: Write>(
                     flow => return Ok(flow),
                 }
             }
-            pause => return end_query(alloc, engine.ops(), pause, console),
+            pause => return end_query(alloc, engine.ops(), console, pause),
         }
     }
 }
@@ -96,9 +96,9 @@ fn run_pauses<E: Engine, W: Write>(
 fn run_query<E: Engine, W: Write>(
     alloc: Global,
     engine: &mut E,
+    console: &mut Console<'_, W>,
     read: &Read,
     budget: u32,
-    console: &mut Console<'_, W>,
 ) -> Result<Flow, Fault>
     requires ready { E.phase engine.old ≡ Ready }
     requires stands { (w : World) × E.stands_for engine.old (idle w) }
@@ -112,7 +112,7 @@ fn run_query<E: Engine, W: Write>(
     ensures writer { console.new.out.ghost_name ≡ console.old.out.ghost_name }
 {
     match engine.start(goal_of(&read.term), budget) {
-        Ok(()) => run_pauses(alloc, engine, read.names.as_slice(), console),
+        Ok(()) => run_pauses(alloc, engine, console, read.names.as_slice()),
         Err(StartFault::HeapFull) => Ok(Flow::Stops(Limit::Heap)),
         Err(StartFault::NoMemory) => Ok(Flow::Stops(Limit::Memory)),
     }
@@ -122,9 +122,9 @@ fn run_query<E: Engine, W: Write>(
 fn run_item<E: Engine, W: Write>(
     alloc: Global,
     engine: &mut E,
+    console: &mut Console<'_, W>,
     item: Item,
     budget: u32,
-    console: &mut Console<'_, W>,
 ) -> Result<Flow, Fault>
     requires ready { E.phase engine.old ≡ Ready }
     requires stands { (w : World) × E.stands_for engine.old (idle w) }
@@ -137,7 +137,7 @@ fn run_item<E: Engine, W: Write>(
     ensures writer { console.new.out.ghost_name ≡ console.old.out.ghost_name }
 {
     match item {
-        Item::Readable(read) => run_query(alloc, engine, &read, budget, console),
+        Item::Readable(read) => run_query(alloc, engine, console, &read, budget),
         Item::Unreadable => console.put_fixed(b"end: syntax error\n", Flow::On),
     }
 }
@@ -146,9 +146,9 @@ fn run_item<E: Engine, W: Write>(
 pub fn run_queries<E: Engine, W: Write>(
     alloc: Global,
     engine: &mut E,
+    console: &mut Console<'_, W>,
     queries: &str,
     budget: u32,
-    console: &mut Console<'_, W>,
 ) -> Result<Flow, Fault>
     requires ready { E.phase engine.old ≡ Ready }
     requires stands { (w : World) × E.stands_for engine.old (idle w) }
@@ -167,7 +167,7 @@ pub fn run_queries<E: Engine, W: Write>(
         let Some(item) = next else {
             return Ok(Flow::On);
         };
-        match run_item(alloc, engine, item, budget, console)? {
+        match run_item(alloc, engine, console, item, budget)? {
             Flow::On => {}
             flow => return Ok(flow),
         }

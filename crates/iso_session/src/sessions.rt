@@ -21,10 +21,10 @@ use std::io::Write;
 fn run_parts<E: Engine, W: Write>(
     alloc: Global,
     engine: &mut E,
+    console: &mut Console<'_, W>,
     text: &str,
     queries: &str,
     budget: u32,
-    console: &mut Console<'_, W>,
 ) -> Result<Flow, Fault>
     requires ready { E.phase engine.old ≡ Ready }
     requires new { E.stands_for engine.old (idle first_world) }
@@ -34,15 +34,15 @@ fn run_parts<E: Engine, W: Write>(
     ensures limits { KeepsLimits (MayMeet (E.heap_pieces engine.old) (E.frames_pieces engine.old)) (MayMeet (E.heap_pieces engine.new) (E.frames_pieces engine.new)) }
     ensures writer { console.new.out.ghost_name ≡ console.old.out.ghost_name }
 {
-    match consult_text(alloc, engine, body_of_text(text), console)? {
-        Flow::On => run_queries(alloc, engine, queries, budget, console),
+    match consult_text(alloc, engine, console, body_of_text(text))? {
+        Flow::On => run_queries(alloc, engine, console, queries, budget),
         flow => Ok(flow),
     }
 }
 
 /// Consults the text and runs the queries on a new engine, each query with the whole budget. Heap or frames end it only
-/// where the engine is spent by them, in a piece of the walk that it named for them as it was given. The error: a write
-/// of at least one byte answered an error or took 0 bytes; what was written is a beginning.
+/// where the engine is spent by them, at a state of the search where the engine, as it was given, allows that they run
+/// out. The error: a write of at least one byte answered an error or took 0 bytes; what was written is a beginning.
 pub fn session_on<E: Engine, W: Write>(
     alloc: Global,
     engine: &mut E,
@@ -58,6 +58,6 @@ pub fn session_on<E: Engine, W: Write>(
         (W.contents out.old) (W.contents out.new) (outcome_of result) }
 {
     let mut console = Console::new(out);
-    let flow = run_parts(alloc, engine, text, queries, budget, &mut console)?;
+    let flow = run_parts(alloc, engine, &mut console, text, queries, budget)?;
     console.close(flow)
 }

@@ -1,4 +1,4 @@
-//! Terms of a text that are no clauses, and the goals of queries (7.4).
+//! Terms of a text that are no clauses, and the goals of queries.
 ghost use Rattle.std.specs.Prelude.{◌≡◌, true};
 ghost use Rattle.iso_model.specs.Terms.Copies.{IsNumbered};
 ghost use Rattle.iso_model.specs.Search.Errors.{key};

@@ -8,7 +8,7 @@ pub returns-in_err-flow : goal.returns-in_err-flow
 returns-in_err-flow g c =
     let script = session_script c.args.text.now c.args.queries.now c.args.budget in
     written_to script _ _ _ _ _
-    (breaks _ _ _ _ _ _ _ script c.from_residual.result c.new-console.ensures.place c.from_residual.ensures.0 c.in_err-flow.ensures.does)
+    (breaks _ _ _ _ script c.from_residual.result c.new-console.ensures.place c.from_residual.ensures.0 c.in_err-flow.ensures.does)
     (ap g.W.Write.contents (search rules))
 
 pub returns : goal.returns
