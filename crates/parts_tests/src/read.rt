@@ -1,3 +1,4 @@
+//! Texts read as clauses, against the tables of `read_texts`.
 use super::read_texts::{
     ATOMS, BRACKETS, COMPOUNDS, DOUBLE_AS_ATOMS, DOUBLE_AS_CHARACTERS, ENDS, INFIX, LISTS,
     LITERALS, OPERATIONS, OWN_OPERATORS, PREFIX, QUOTED, SIMPLE,

@@ -1,3 +1,4 @@
+//! Texts with their tokens, and what tokens stand for.
 use iso_token::{Kind, Token, Tokens};
 use std::alloc::Global;
 use std::fmt::Write;

@@ -1,3 +1,4 @@
+//! Texts of terms in the three styles.
 use iso_model::{Term, well_formed};
 use iso_ops::{OpFault, OpTable};
 use iso_write::{Style, write_to};
