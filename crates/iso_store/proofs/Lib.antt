@@ -17,4 +17,9 @@ pub mod Rows
 pub mod Parts
 pub mod Gathering
 pub mod CellCounts
+pub mod ArgumentLemmas
+pub mod JoinLemmas
+pub mod LeftLemmas
 pub mod TaskLemmas
+pub mod UnifyLemmas
+pub mod SearchLemmas
