@@ -1,10 +1,16 @@
 -- The arguments of a compound, from a place on.
-use Rattle.std.proofs.Common.{◌≡◌, ℕ, zero, suc, ◌+◌, ◌<◌, List, [], ◌∷◌, length, true, refl, ap, sym, ◌∙◌, arith, add-one}
-use Rattle.std.proofs.lemmas.Bool.{and_parts, false≢true}
+use Rattle.std.proofs.Common.{◌≡◌, ℕ, zero, suc, ◌+◌, ◌<◌, ◌≤◌, ◌&&◌, nat_le, List, [], ◌∷◌, length, true, refl, ap, sym, ◌∙◌, arith, add-one}
+use Rattle.std.proofs.lemmas.Bool.{and_parts, leb-true, false≢true}
 use Rattle.iso_model.specs.Terms.Trees.{Tree, Variable, Integer, Name, Apply, End, More, row, count}
 use Rattle.iso_model.specs.Terms.Sorts.{is_term, is_row}
 use Rattle.iso_store.specs.Arguments.{arguments, arity, member, argument, members_from, listed, arguments_from}
-use Rattle.iso_store.proofs.Members.{row_of_term}
+
+-- a compound that is a term has 1 to 255 terms as arguments
+pub row_of_term : (f : List ℕ) (ts : Tree) → is_term (Apply f ts) ≡ true → (0 < count ts) × (count ts ≤ 255) × (is_row ts ≡ true)
+row_of_term f ts h =
+    let some_args = and_parts (nat_le 1 (count ts)) (nat_le (count ts) 255 && is_row ts) h in
+    let most_args = and_parts (nat_le (count ts) 255) (is_row ts) some_args.1 in
+    (leb-true 1 (count ts) some_args.0, leb-true (count ts) 255 most_args.0, most_args.1)
 
 members_from-more : (i : ℕ) (ts : Tree) → i < count ts → members_from i ts ≡ More (member i ts) (members_from (suc i) ts)
 members_from-more zero (More t ts) below = refl

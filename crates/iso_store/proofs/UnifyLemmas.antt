@@ -20,9 +20,8 @@ use Rattle.iso_store.specs.Arguments.{arguments, arity, argument, members_from, 
 use Rattle.iso_store.specs.Shapes.{IsMeeting}
 use Rattle.iso_store.specs.declared.meetings.Meeting.TheVariants.{Arguments}
 use Rattle.iso_store.specs.Unifying.{MakesEqual, LeftBy, Measures, IsCompound, IsPair, terms, ones, others, AreSound, AreJoined, Stands, Steps}
-use Rattle.iso_store.proofs.Members.{row_of_term}
 use Rattle.iso_store.proofs.Bound.{binds-meaning, binds-none}
-use Rattle.iso_store.proofs.ArgumentLemmas.{row-listed, length-listed, arguments-more, arguments-last}
+use Rattle.iso_store.proofs.ArgumentLemmas.{row_of_term, row-listed, length-listed, arguments-more, arguments-last}
 use Rattle.iso_store.proofs.LeftLemmas.{equal-both, equal-parts, left-none, left-solved, left-opened}
 
 All-front : {X : Type 0} (P : X → Type 0) (xs : List X) (x : X) → All P (xs ++ x ∷ []) → All P xs

@@ -3,12 +3,6 @@ use Rattle.std.specs.Prelude.{ℕ, zero, suc, List, [], ◌∷◌}
 use Rattle.iso_model.specs.Terms.Trees.{Tree, End, More}
 pub use Rattle.iso_model.specs.Terms.Arguments.{arguments, arity, member, argument}
 
--- the first members of a list of terms, so many
-abbrev pub front : ℕ → Tree → Tree
-front zero t = End
-front (suc i) (More t ts) = More t (front i ts)
-front (suc i) t = End
-
 -- the members from this place on
 abbrev pub members_from : ℕ → Tree → Tree
 members_from zero t = t
