@@ -18,6 +18,7 @@ pub mod CellCounts
 pub mod ArgumentLemmas
 pub mod JoinLemmas
 pub mod LeftLemmas
+pub mod RowLemmas
 pub mod TaskLemmas
 pub mod UnifyLemmas
 pub mod SearchLemmas

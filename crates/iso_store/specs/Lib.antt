@@ -7,6 +7,7 @@ pub mod Tasks
 pub mod Notes
 pub mod Searching
 pub mod Unifying
+pub mod Rows
 pub mod NodeTerms
 pub mod NodeStores
 pub mod NodeLemmas
