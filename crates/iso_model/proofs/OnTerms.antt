@@ -2,6 +2,7 @@
 pub mod RowLemmas
 pub mod UnifierLemmas
 pub mod Cost
+pub mod CostOfRows
 pub mod SortLemmas
 pub mod CopyLemmas
 pub mod MeaningLemmas

@@ -2,20 +2,18 @@
 use Rattle.std.proofs.Common.{◌≡◌, ℕ, ◌<◌, Bool, true, false, refl, ap, sym, ◌∙◌, IfOk, Result, Ok, Err, arith}
 use Rattle.iso_model.specs.Terms.Trees.{Tree, Variable}
 use Rattle.iso_model.specs.Terms.Substitutions.{Subst, apply, compose}
-use Rattle.iso_model.specs.Terms.Unification.Applied.{apply_apply}
+use Rattle.iso_model.specs.Terms.Unification.Applied.{apply_apply, apply_none}
 use Rattle.iso_model.specs.Terms.Unification.Composed.{unifier_sym, never_sym}
 use Rattle.iso_model.proofs.OnTerms.UnifierLemmas.{compose_compose}
 use Rattle.iso_store.specs.declared.shapes.StoreFault.{StoreFault}
 use Rattle.iso_store.specs.Presents.{Present, Holds, meaning, Grows, Binds, IsUnification}
 use Rattle.iso_store.specs.Arguments.{arity, argument}
-use Rattle.iso_store.proofs.Members.{arity-grows, argument-apply}
-use Rattle.iso_store.proofs.Steps.{Left, compose_none}
 
 pub binds-none : {W : Type 0} (p : Present W) → Binds p p Variable
 binds-none p = record {
   words = record { stand = λ w h. h; terms = λ w h. refl };
   numbers = record { next = refl; taken = λ n. refl };
-  substitution = sym (compose_none p.substitution);
+  substitution = λ i. λ n. sym (apply_none (p.substitution n)) i;
 }
 
 pub binds-then : {W : Type 0} {p q u : Present W} {r s : Subst} → Binds p q r → Binds q u s → Binds p u (compose r s)
@@ -48,24 +46,6 @@ pub turned : {W : Type 0} (p q : Present W) (A B : Tree) (answer : Bool) → IsU
 turned p q A B true h = (h.0, unifier_sym h.1, h.2)
 turned p q A B false h = never_sym A B h
 
-pub left-unification : {W : Type 0} {p q : Present W} (u : Present W) {A B C D : Tree} {r : Subst} → Left A B C D r → Binds p q r → (answer : Bool) → IsUnification q u C D answer → IsUnification p u A B answer
-left-unification u {r} left bound true h = (compose r h.0, left.unifier h.0 h.1, binds-then bound h.2)
-left-unification u left bound false h = left.never h
-
-pub left-result : {W : Type 0} {p q : Present W} (u : Present W) {A B C D : Tree} {r : Subst} → Left A B C D r → Binds p q r → (result : Result Bool StoreFault) → IfOk result (IsUnification q u C D) → IfOk result (IsUnification p u A B)
-left-result u left bound (Ok answer) h = left-unification u left bound answer h
-left-result u left bound (Err e) h = h
-
 pub turned-result : {W : Type 0} (p q : Present W) (A B : Tree) (result : Result Bool StoreFault) → IfOk result (IsUnification p q A B) → IfOk result (IsUnification p q B A)
 turned-result p q A B (Ok answer) h = turned p q A B answer h
 turned-result p q A B (Err e) h = h
-
--- an argument, read once s is bound
-pub binds-argument : {W : Type 0} {p q : Present W} {s : Subst} → Binds p q s → (w v : W) (i : ℕ) → Holds p w → i < arity (meaning p w) → meaning q v ≡ argument i (meaning q w) → meaning q v ≡ apply s (argument i (meaning p w))
-binds-argument {W} {p} {q} {s} bound w v i holds below value =
-    value ∙ ap (argument i) (binds-meaning bound w holds) ∙ argument-apply s i (meaning p w) below
-
-pub binds-arity : {W : Type 0} {p q : Present W} {s : Subst} → Binds p q s → (w : W) (i : ℕ) → Holds p w → i < arity (meaning p w) → i < arity (meaning q w)
-binds-arity {W} {p} {q} {s} bound w i holds below =
-    let more = arity-grows s (meaning p w) in
-    rw (binds-meaning bound w holds) (omega arith)

@@ -12,7 +12,7 @@ use Rattle.iso_store.specs.declared.shapes.Shape.{Shape}
 use Rattle.iso_store.specs.declared.shapes.Shape.TheVariants.{Var, Int, Atom, Compound}
 use Rattle.iso_store.specs.Shapes.{IsShape}
 use Rattle.iso_store.specs.Arguments.{arity}
-use Rattle.iso_store.proofs.Members.{row_of_term}
+use Rattle.iso_store.proofs.ArgumentLemmas.{row_of_term}
 
 -- compounds with different numbers of arguments
 pub never-arity : (a b : Tree) (f g : List ℕ) (ts us : Tree) → a ≡ Apply f ts → b ≡ Apply g us → is_term a ≡ true → is_term b ≡ true → count ts ≢ count us → NeverEqual a b

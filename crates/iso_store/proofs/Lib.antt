@@ -1,4 +1,3 @@
-pub mod Members
 pub mod Clashes
 pub mod Steps
 pub mod Bound
@@ -13,8 +12,13 @@ pub mod NodeSorts
 pub mod NodeMade
 pub mod NodeBound
 pub mod Placing
-pub mod Rows
 pub mod Parts
 pub mod Gathering
 pub mod CellCounts
+pub mod ArgumentLemmas
+pub mod JoinLemmas
+pub mod LeftLemmas
+pub mod RowLemmas
 pub mod TaskLemmas
+pub mod UnifyLemmas
+pub mod SearchLemmas

@@ -5,6 +5,7 @@ use Rattle.std.proofs.lemmas.Bool.{lt-ltb, ltb-true}
 use Rattle.iso_model.specs.Terms.Trees.{Variable}
 use Rattle.iso_model.specs.Terms.Variables.{occurs}
 use Rattle.iso_model.specs.Terms.Substitutions.{apply, compose, single}
+use Rattle.iso_model.specs.Terms.Unification.Applied.{apply_apply}
 use Rattle.iso_store.specs.declared.nodes.Node.{Node}
 use Rattle.iso_store.specs.declared.nodes.Node.TheVariants.{Var}
 use Rattle.iso_store.specs.Presents.{Binds}
@@ -52,3 +53,13 @@ module _ (names : List (List ℕ)) (cs : List Node) (es : List ℕ) (next limit 
     numbers = record { next = refl; taken = λ m. numbers-same cs e n m (Some j) None free };
     substitution = bound-substitution names cs es next store e n j free target_within not-inside lower ∙ ap (λ t. compose (substitution_of names cs es) (single n t)) target_same;
   })
+
+  -- what stands at each place
+  pub binding-places : (fs : List ℕ) → fs ≡ es ++ e ∷ [] → (k : ℕ) → apply (substitution_of names (set cs e (Var n (Some j))) fs) (term_at names (set cs e (Var n (Some j))) k)
+      ≡ apply (single n (apply (substitution_of names cs es) (term_at names cs w))) (apply (substitution_of names cs es) (term_at names cs k))
+  binding-places fs grown k =
+      let r = single n (apply (substitution_of names cs es) (term_at names cs w)) in
+      let bound = (binding-binds fs grown).substitution in
+      ap (λ s. apply s (term_at names (set cs e (Var n (Some j))) k)) bound
+      ∙ ap (λ t. apply (compose (substitution_of names cs es) r) (t k)) (bound-terms names cs es next store e n j free target_within not-inside lower)
+      ∙ sym (apply_apply (substitution_of names cs es) r (term_at names cs k))

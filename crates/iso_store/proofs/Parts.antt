@@ -13,10 +13,11 @@ use Rattle.iso_model.specs.Terms.Variables.{occurs, is_in}
 use Rattle.iso_model.specs.Terms.Substitutions.{Subst, apply}
 use Rattle.iso_model.specs.Terms.Copies.{place_of}
 use Rattle.iso_model.specs.Terms.Unification.Listed.{Covers}
+use Rattle.iso_model.proofs.OnTerms.CostOfRows.{apply-row}
 use Rattle.iso_model.proofs.OnTerms.RowLemmas.{term_of_compound, count_row_of}
 use Rattle.iso_store.specs.Places.{place_in}
 use Rattle.iso_store.specs.Copying.{cells_of}
-use Rattle.iso_store.proofs.Rows.{apply-row}
+
 
 pub term_of_variable : (n : ℕ) → term_of (Var n) ≡ Variable n
 term_of_variable n = ap term_of (sym (rolls-Var n)) ∙ fold-roll-Term Tree term_step (Term-F.Var n)

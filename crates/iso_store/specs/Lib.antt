@@ -4,6 +4,10 @@ pub mod Shapes
 pub mod Places
 pub mod Copying
 pub mod Tasks
+pub mod Notes
+pub mod Searching
+pub mod Unifying
+pub mod Rows
 pub mod NodeTerms
 pub mod NodeStores
 pub mod NodeLemmas

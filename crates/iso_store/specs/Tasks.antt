@@ -1,17 +1,11 @@
 -- What is left to do of copying a term out.
-use Rattle.std.specs.Prelude.{◌≡◌, ℕ, ◌<◌, List, [], ◌∷◌, length, map}
+use Rattle.std.specs.Prelude.{◌≡◌, ℕ, ◌<◌, List, length, map}
 use Rattle.iso_atoms.specs.Texts.{text_at}
-use Rattle.iso_model.specs.Terms.Trees.{Tree, More}
 use Rattle.iso_model.specs.Terms.Building.{Step, Give, Gather}
 use Rattle.iso_store.specs.declared.copies.Task.{Task}
 use Rattle.iso_store.specs.declared.copies.Task.TheVariants.{Copy, Build}
 use Rattle.iso_store.specs.Presents.{Present, Holds, meaning}
-use Rattle.iso_store.specs.Arguments.{arguments, arity, members_from}
-
--- the members of a list of terms
-abbrev pub listed : Tree → List Tree
-listed (More t ts) = t ∷ listed ts
-listed t = []
+use Rattle.iso_store.specs.Arguments.{arity, arguments_from}
 
 -- in a store that is so, and where these are the names of the atoms
 module _ {W : Type 0} (p : Present W) (names : List (List ℕ)) where
@@ -22,7 +16,7 @@ module _ {W : Type 0} (p : Present W) (names : List (List ℕ)) where
 
   -- what the task adds to the copies
   abbrev pub step_of : Task W → Step
-  step_of (Copy word index count) = Give (listed (members_from index (arguments (meaning p word))))
+  step_of (Copy word index count) = Give (arguments_from index (meaning p word))
   step_of (Build name count) = Gather (text_at names name) count
 
   abbrev pub steps_of : List (Task W) → List Step

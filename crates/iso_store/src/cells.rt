@@ -2,17 +2,19 @@
 ghost use Rattle.std.specs.Prelude.{◌≡◌, ℕ, List, Some, slice_get, ◌+◌, ◌<◌, ◌≤◌, ◌^◌, IfOk, OnOk, OnErr, length, map, true, false};
 ghost use Rattle.std.specs.List.{All};
 ghost use Rattle.iso_atoms.specs.Texts.{EachOnce, KeepsTexts, text_at};
-ghost use Rattle.iso_model.specs.Terms.Trees.{Integer, Name, Apply, Variable, row};
+ghost use Rattle.iso_model.specs.Terms.Trees.{Tree, Integer, Name, Apply, Variable, row};
 ghost use Rattle.iso_model.specs.Terms.Sorts.{is_term};
 ghost use Rattle.iso_model.specs.Terms.Variables.{occurs};
-ghost use Rattle.iso_model.specs.Terms.Substitutions.{single};
+ghost use Rattle.iso_model.specs.Terms.Substitutions.{apply, single};
 ghost use Rattle.iso_store.specs.Presents.{Present, Holds, meaning, KeepsWords, Makes, KeepsNumbers, TakesNumber, MovesOn, Grows, Binds, KeepsMarks};
 ghost use Rattle.iso_store.specs.Arguments.{arity, argument};
 ghost use Rattle.iso_store.specs.Shapes.{IsShape, IsYounger};
 
+use super::scratch::Scratch;
 use super::shapes::{Shape, StoreFault};
 use iso_atoms::Atom;
 use iso_model::NoMemory;
+use std::alloc::Global;
 
 /// Words that stand for terms under one substitution, which grows by one binding at a time.
 pub(crate) trait Cells {
@@ -27,6 +29,8 @@ pub(crate) trait Cells {
     ghost stands: { Self → Self.Mark → Present Self.Word → Type 0 };
 
     ghost full: { Self → Type 0 };
+    // what stands at a place, seen through bindings
+    ghost at_place: { Self → ℕ → Tree };
     // how many cells a compound of so many arguments takes
     ghost width: { ℕ → ℕ };
 
@@ -43,6 +47,11 @@ pub(crate) trait Cells {
         requires index { index < arity (meaning (present self.now) word) }
         ensures holds { Holds (present self.now) result }
         ensures value { meaning (present self.now) result ≡ argument index (meaning (present self.now) word) };
+
+    /// The place of what the word stands for: words of one place stand for one term.
+    fn place(&self, word: Self::Word) -> usize
+        requires { Holds (present self.now) word }
+        ensures { at_place self.now result ≡ meaning (present self.now) word };
 
     /// Whether it shows without a search that the unbound variable does not occur in what the other word stands for. False
     /// says nothing.
@@ -65,8 +74,19 @@ pub(crate) trait Cells {
         requires absent { occurs number (meaning (present self.old) word) ≡ false }
         requires younger { IsYounger number (meaning (present self.old) word) }
         ensures bound { OnOk result (Binds (present self.old) (present self.new) (single number (meaning (present self.old) word))) }
+        ensures places { OnOk result ((k : ℕ) → at_place self.new k ≡ apply (single number (meaning (present self.old) word)) (at_place self.old k)) }
         ensures cells { Grows (present self.old) (present self.new) 0 }
         ensures full { result ≡ Err StoreFault.Full → full self.new }
+        ensures names { names self.new ≡ names self.old }
+        ensures marks { KeepsMarks (stands self.old) (stands self.new) };
+
+    /// The allocator of the store's memory.
+    fn alloc(&self) -> Global;
+
+    /// Exchanges the notes that the store keeps for these.
+    fn swap_scratch(&mut self, scratch: &mut Scratch<Self::Word>)
+        ensures present { present self.new ≡ present self.old }
+        ensures full { full self.old → full self.new }
         ensures names { names self.new ≡ names self.old }
         ensures marks { KeepsMarks (stands self.old) (stands self.new) };
 

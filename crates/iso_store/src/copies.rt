@@ -234,7 +234,7 @@ pub(crate) fn build<C: Cells>(
     ensures marks { KeepsMarks (C.stands store.old) (C.stands store.new) }
 {
     let mut variables = Numbering::new(alloc);
-    let Ok(()) = variables.note_all(term) else {
+    let Ok(()) = variables.note_all(alloc, term) else {
         return Err(StoreFault::NoMemory);
     };
     let first = store.reserve(variables.len() as u64);

@@ -4,9 +4,11 @@ ghost use Rattle.std.specs.Prelude.{◌≡◌, ℕ};
 use super::cells::Cells;
 use super::marks::NodesMark;
 use super::nodes::Nodes;
+use super::scratch::Scratch;
 use super::shapes::{Shape, StoreFault};
 use iso_atoms::Atom;
 use iso_model::NoMemory;
+use std::alloc::Global;
 use std::cell::Cell;
 
 /// Nodes, and how many shapes and arguments were asked for.
@@ -36,6 +38,8 @@ impl Cells for Counting {
 
     ghost full = { λ s. ⟦<Nodes as Cells>⟧.full s.nodes };
 
+    ghost at_place = { λ s. ⟦<Nodes as Cells>⟧.at_place s.nodes };
+
     ghost width = { ⟦<Nodes as Cells>⟧.width };
 
     fn shape(&self, word: usize) -> Shape {
@@ -48,12 +52,24 @@ impl Cells for Counting {
         self.nodes.arg(word, index)
     }
 
+    fn place(&self, word: usize) -> usize {
+        self.nodes.place(word)
+    }
+
     fn is_apart(&self, variable: usize, word: usize) -> bool {
         self.nodes.is_apart(variable, word)
     }
 
     fn bind(&mut self, number: u64, variable: usize, word: usize) -> Result<(), StoreFault> {
         self.nodes.bind(number, variable, word)
+    }
+
+    fn alloc(&self) -> Global {
+        self.nodes.alloc()
+    }
+
+    fn swap_scratch(&mut self, scratch: &mut Scratch<usize>) {
+        self.nodes.swap_scratch(scratch);
     }
 
     fn reserve(&mut self, count: u64) -> u64 {

@@ -6,12 +6,16 @@ mod cells;
 mod copies;
 #[cfg(test)]
 mod counting;
+mod joins;
 mod marks;
 mod meetings;
 mod nodes;
+mod notes;
 mod numbering;
+mod occurs;
 mod reaches;
 mod refusals;
+mod scratch;
 mod shapes;
 mod stores;
 #[cfg(test)]

@@ -12,12 +12,14 @@ use super::cells::Cells;
 use super::copies::{build, copy_out};
 use super::marks::{NodesMark, unwind};
 use super::reaches::{farther, within};
+use super::scratch::Scratch;
 use super::shapes::{Shape, StoreFault};
 use super::stores::Store;
 use super::unify::unify;
 use iso_atoms::{Atom, Atoms};
 use iso_model::{NoMemory, Term};
 use std::alloc::Global;
+use std::mem;
 
 /// What a place of the store holds. Places are named by their index.
 #[derive(Debug, Drop)]
@@ -42,6 +44,7 @@ pub struct Nodes {
     trail: Vec<usize>,
     /// No binding leads from a place before its target to a target behind this place.
     forward: usize,
+    scratch: Scratch<usize>,
     ghost is_store: { IsStore atoms nodes.items trail.items next },
     ghost leads_back: { LeadsBack nodes.items forward },
     ghost each_once: { EachOnce atoms },
@@ -60,6 +63,7 @@ impl Nodes {
             nodes: Vec::new(alloc),
             trail: Vec::new(alloc),
             forward: 0,
+            scratch: Scratch::new(alloc),
         })
     }
 
@@ -126,6 +130,8 @@ impl Cells for Nodes {
 
     ghost full = { λ s. s.limit ≤ length s.nodes.items };
 
+    ghost at_place = { λ s k. apply (substitution_of s.atoms s.nodes.items s.trail.items) (term_at s.atoms s.nodes.items k) };
+
     ghost width = { λ _. 1 };
 
     fn shape(&self, word: usize) -> Shape {
@@ -149,6 +155,10 @@ impl Cells for Nodes {
         arguments[index]
     }
 
+    fn place(&self, word: usize) -> usize {
+        self.walked(word)
+    }
+
     fn is_apart(&self, variable: usize, word: usize) -> bool {
         let place = self.walked(variable);
         self.forward < place && self.walked(word) < place
@@ -163,6 +173,14 @@ impl Cells for Nodes {
         self.forward = farther(self.forward, place, target);
         self.nodes[place] = Node::Var(number, Some(target));
         Ok(())
+    }
+
+    fn alloc(&self) -> Global {
+        self.alloc
+    }
+
+    fn swap_scratch(&mut self, scratch: &mut Scratch<usize>) {
+        mem::swap(&mut self.scratch, scratch);
     }
 
     fn reserve(&mut self, count: u64) -> u64 {

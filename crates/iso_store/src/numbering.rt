@@ -1,8 +1,10 @@
 //! The variables of a term, each once, in the order of first occurrence.
-ghost use Rattle.std.specs.Prelude.{◌≡◌, ℕ, [], Some, OnOk, vec_len};
+ghost use Rattle.std.specs.Prelude.{◌≡◌, ◌+◌, ◌*◌, ◌<◌, ℕ, [], Some, OnOk, sum_by, vec_len};
 ghost use Rattle.iso_model.specs.Terms.Trees.{Variable};
-ghost use Rattle.iso_model.specs.Terms.TermOf.{term_of};
+ghost use Rattle.iso_model.specs.Terms.TermOf.{term_of, row_of};
+ghost use Rattle.iso_model.specs.Terms.Sizes.{size};
 ghost use Rattle.iso_model.specs.Terms.Variables.{distinct_from};
+ghost use Rattle.iso_store.specs.Rows.{rows_seen, row_load};
 ghost use Rattle.iso_store.specs.Places.{IsPlaced, place_in};
 
 use iso_model::{NoMemory, Term};
@@ -57,21 +59,59 @@ impl Numbering {
         Ok(())
     }
 
-    /// Adds the variables of the term that are not there, by first occurrence.
-    pub(crate) fn note_all(&mut self, term: &Term) -> Result<(), NoMemory>
+    /// Adds the term if it is a variable that is not there, and leaves a compound's arguments to be gone through.
+    fn note_next<'t>(
+        &mut self,
+        rows: &mut Vec<&'t [Term]>,
+        term: &'t Term,
+    ) -> Result<(), NoMemory>
         requires { IsPlaced self.old.places self.old.numbers.items }
-        ensures numbers { OnOk result (self.new.numbers.items ≡ distinct_from self.old.numbers.items (term_of term.now)) }
+        ensures numbers { OnOk result (rows_seen self.new.numbers.items rows.new.items ≡ rows_seen (distinct_from self.old.numbers.items (term_of term.now)) rows.old.items) }
         ensures placed { OnOk result (IsPlaced self.new.places self.new.numbers.items) }
+        ensures load { OnOk result (sum_by row_load rows.new.items < 2 * size (term_of term.now) + sum_by row_load rows.old.items) }
     {
         match term {
             Term::Var(number) => self.note(*number),
             Term::Int(_) | Term::Atom(_) => Ok(()),
             Term::Compound(_, arguments) => {
-                for argument in arguments {
-                    self.note_all(argument)?;
-                }
+                rows.push(arguments.as_slice())?;
                 Ok(())
             }
         }
+    }
+
+    /// Goes through the first term of a row, and leaves the others.
+    fn note_row<'t>(
+        &mut self,
+        rows: &mut Vec<&'t [Term]>,
+        row: &'t [Term],
+    ) -> Result<(), NoMemory>
+        requires { IsPlaced self.old.places self.old.numbers.items }
+        ensures numbers { OnOk result (rows_seen self.new.numbers.items rows.new.items ≡ rows_seen (distinct_from self.old.numbers.items (row_of row.now)) rows.old.items) }
+        ensures placed { OnOk result (IsPlaced self.new.places self.new.numbers.items) }
+        ensures load { OnOk result (sum_by row_load rows.new.items < 1 + 2 * size (row_of row.now) + sum_by row_load rows.old.items) }
+    {
+        match row {
+            [] => Ok(()),
+            [only] => self.note_next(rows, only),
+            [first, others @ ..] => {
+                rows.push(others)?;
+                self.note_next(rows, first)
+            }
+        }
+    }
+
+    /// Adds the variables of the term that are not there, by first occurrence.
+    pub(crate) fn note_all(&mut self, alloc: Global, term: &Term) -> Result<(), NoMemory>
+        requires { IsPlaced self.old.places self.old.numbers.items }
+        ensures numbers { OnOk result (self.new.numbers.items ≡ distinct_from self.old.numbers.items (term_of term.now)) }
+        ensures placed { OnOk result (IsPlaced self.new.places self.new.numbers.items) }
+    {
+        let mut rows = Vec::new(alloc);
+        self.note_next(&mut rows, term)?;
+        while let Some(row) = rows.pop() {
+            self.note_row(&mut rows, row)?;
+        }
+        Ok(())
     }
 }

@@ -1,64 +1,52 @@
-//! Unification (ISO/IEC 13211-1:1995, 7.3.4), with the check that no variable occurs in its own value (own).
-ghost use Rattle.std.specs.Prelude.{◌≡◌, ℕ, ◌+◌, ◌<◌, ◌≤◌, IfOk, true, false};
-ghost use Rattle.iso_model.specs.Terms.Trees.{Variable};
+//! Unification (ISO/IEC 13211-1:1995, 7.3.4), with the check that no variable occurs in its own value (own). Terms are gone
+//! through by a list of tasks, and two words that came to stand for one term are joined: so no pair of subterms that are
+//! shared is gone through again.
+ghost use Rattle.std.specs.Prelude.{◌≡◌, ℕ, ◌+◌, ◌<◌, ◌≤◌, ◌∷◌, [], ◌++◌, IfOk, OnOk, MatchBool, IsTrue, true, false};
+ghost use Rattle.std.specs.List.{All};
+ghost use Rattle.iso_model.specs.Terms.Trees.{Variable, row};
+ghost use Rattle.iso_model.specs.Terms.Sorts.{is_term};
 ghost use Rattle.iso_model.specs.Terms.Variables.{occurs};
+ghost use Rattle.iso_model.specs.Terms.Unifiers.{NeverEqual};
 ghost use Rattle.iso_store.specs.Presents.{Holds, meaning, IsUnification, Grows, KeepsMarks};
-ghost use Rattle.iso_store.specs.Arguments.{arity, arguments, front};
-ghost use Rattle.iso_store.specs.Shapes.{IsYounger};
+ghost use Rattle.iso_store.specs.Shapes.{IsYounger, IsMeeting};
+ghost use Rattle.iso_store.specs.Unifying.{IsPair, AreJoined, Stands, Steps, ones, others};
 
 use super::cells::Cells;
+use super::joins::{end_of_joins, join};
 use super::meetings::{Meeting, meet};
-use super::shapes::{Shape, StoreFault};
+use super::notes::Notes;
+use super::occurs::occurs;
+use super::scratch::Scratch;
+use super::shapes::StoreFault;
+use iso_model::NoMemory;
 
-/// Whether the variable of this number occurs in what the word stands for.
-#[cycle(occurs)]
-fn occurs<C: Cells>(store: &C, number: u64, word: C::Word) -> bool
-    requires { Holds (C.present store.now) word }
-    ensures { result ≡ occurs number (meaning (C.present store.now) word) }
-{
-    let mut word = word;
-    loop {
-        match store.shape(word) {
-            Shape::Var(other) => return other == number,
-            Shape::Int(_) | Shape::Atom(_) => return false,
-            Shape::Compound(_, count) => {
-                let last = count - 1;
-                if occurs_before(store, number, word, last) {
-                    return true;
-                }
-                word = store.arg(word, last);
-            }
-        }
-    }
-}
-
-/// Whether the variable occurs in one of the first `count` arguments.
-#[cycle(occurs)]
-fn occurs_before<C: Cells>(store: &C, number: u64, word: C::Word, count: usize) -> bool
-    requires word { Holds (C.present store.now) word }
-    requires count { count ≤ arity (meaning (C.present store.now) word) }
-    ensures { result ≡ occurs number (front count (arguments (meaning (C.present store.now) word))) }
-{
-    for index in 0..count {
-        if occurs(store, number, store.arg(word, index)) {
-            return true;
-        }
-    }
-    false
+/// What is left to do of making two terms equal.
+#[derive(Clone, Copy)]
+enum Task<W: Copy> {
+    /// The arguments of the compounds that the words stand for are to be made equal, from this place on; each has so many.
+    Unify(W, W, usize, usize),
+    /// The words stand for one term, as all arguments are equal that are made so before this task.
+    Join(W, W),
 }
 
 /// Whether the unbound variable of this number occurs in what the other word stands for; it is searched only where it is not
 /// clear without.
-fn occurs_for<C: Cells>(store: &C, number: u64, variable: C::Word, word: C::Word) -> bool
+fn occurs_for<C: Cells>(
+    store: &C,
+    number: u64,
+    variable: C::Word,
+    word: C::Word,
+    searched: &mut Notes<()>,
+) -> Result<bool, NoMemory>
     requires variable_holds { Holds (C.present store.now) variable }
     requires word_holds { Holds (C.present store.now) word }
     requires variable { meaning (C.present store.now) variable ≡ Variable number }
-    ensures { result ≡ occurs number (meaning (C.present store.now) word) }
+    ensures { IfOk result (λ b. b ≡ occurs number (meaning (C.present store.now) word)) }
 {
     if store.is_apart(variable, word) {
-        return false;
+        return Ok(false);
     }
-    occurs(store, number, word)
+    occurs(store, number, word, searched)
 }
 
 /// Binds the variable of this number to what the other word stands for, unless it occurs there.
@@ -67,26 +55,177 @@ fn bind_checked<C: Cells>(
     number: u64,
     variable: C::Word,
     word: C::Word,
+    scratch: &mut Scratch<C::Word>,
 ) -> Result<bool, StoreFault>
     requires variable_holds { Holds (C.present store.old) variable }
     requires word_holds { Holds (C.present store.old) word }
     requires variable { meaning (C.present store.old) variable ≡ Variable number }
     requires younger { IsYounger number (meaning (C.present store.old) word) }
+    requires joined { AreJoined (C.present store.old) (C.at_place store.old) scratch.old.joined }
     ensures unified { IfOk result (IsUnification (C.present store.old) (C.present store.new) (meaning (C.present store.old) variable) (meaning (C.present store.old) word)) }
+    ensures joined { IfOk result (λ answer. IsTrue answer → AreJoined (C.present store.new) (C.at_place store.new) scratch.new.joined) }
     ensures cells { Grows (C.present store.old) (C.present store.new) 0 }
     ensures full { result ≡ Err StoreFault.Full → C.full store.new }
     ensures names { C.names store.new ≡ C.names store.old }
     ensures marks { KeepsMarks (C.stands store.old) (C.stands store.new) }
 {
-    if occurs_for(store, number, variable, word) {
+    if occurs_for(store, number, variable, word, &mut scratch.searched)? {
         return Ok(false);
     }
     store.bind(number, variable, word)?;
     Ok(true)
 }
 
+/// Leaves two compounds of so many arguments to be made equal, unless they are joined.
+fn leave_arguments<C: Cells>(
+    store: &C,
+    one: C::Word,
+    other: C::Word,
+    count: usize,
+    joined: &mut Notes<C::Word>,
+    tasks: &mut Vec<Task<C::Word>>,
+) -> Result<(), NoMemory>
+    requires one { Holds (C.present store.now) one }
+    requires other { Holds (C.present store.now) other }
+    requires meeting { IsMeeting (Meeting.Arguments count) (meaning (C.present store.now) one) (meaning (C.present store.now) other) }
+    requires one_term { is_term (meaning (C.present store.now) one) ≡ true }
+    requires other_term { is_term (meaning (C.present store.now) other) ≡ true }
+    requires stands { Stands (C.present store.now) (C.at_place store.now) joined.old (meaning (C.present store.now) one ∷ []) (meaning (C.present store.now) other ∷ []) tasks.old.items }
+    ensures stands { OnOk result (Stands (C.present store.now) (C.at_place store.now) joined.new [] [] tasks.new.items) }
+    ensures steps { OnOk result (Steps (C.present store.now) (C.present store.now) (meaning (C.present store.now) one ∷ []) (meaning (C.present store.now) other ∷ []) tasks.old.items tasks.new.items) }
+{
+    let one = end_of_joins(store, one, joined);
+    let other = end_of_joins(store, other, joined);
+    if store.place(one) == store.place(other) {
+        return Ok(());
+    }
+    tasks.push(Task::Join(one, other))?;
+    tasks.push(Task::Unify(one, other, 0, count))?;
+    Ok(())
+}
+
+/// Makes what the words stand for equal, where no arguments have to be for it; compounds are left to be. False where nothing
+/// makes them equal.
+fn unify_next<C: Cells>(
+    store: &mut C,
+    one: C::Word,
+    other: C::Word,
+    scratch: &mut Scratch<C::Word>,
+    tasks: &mut Vec<Task<C::Word>>,
+) -> Result<bool, StoreFault>
+    requires one { Holds (C.present store.old) one }
+    requires other { Holds (C.present store.old) other }
+    requires stands { Stands (C.present store.old) (C.at_place store.old) scratch.old.joined (meaning (C.present store.old) one ∷ []) (meaning (C.present store.old) other ∷ []) tasks.old.items }
+    ensures stands { IfOk result (λ answer. IsTrue answer → Stands (C.present store.new) (C.at_place store.new) scratch.new.joined [] [] tasks.new.items) }
+    ensures steps { IfOk result (λ answer. MatchBool answer
+        (Steps (C.present store.old) (C.present store.new) (meaning (C.present store.old) one ∷ []) (meaning (C.present store.old) other ∷ []) tasks.old.items tasks.new.items)
+        (NeverEqual (meaning (C.present store.old) one) (meaning (C.present store.old) other))) }
+    ensures cells { Grows (C.present store.old) (C.present store.new) 0 }
+    ensures full { result ≡ Err StoreFault.Full → C.full store.new }
+    ensures names { C.names store.new ≡ C.names store.old }
+    ensures marks { KeepsMarks (C.stands store.old) (C.stands store.new) }
+{
+    match meet(store.shape(one), store.shape(other)) {
+        Meeting::Same => Ok(true),
+        Meeting::Clash => Ok(false),
+        Meeting::FirstVariable(number) => bind_checked(store, number, one, other, scratch),
+        Meeting::SecondVariable(number) => bind_checked(store, number, other, one, scratch),
+        Meeting::Arguments(count) => {
+            leave_arguments(store, one, other, count, &mut scratch.joined, tasks)?;
+            Ok(true)
+        }
+    }
+}
+
+/// Makes the arguments at this place equal, and leaves those behind them; each compound has so many.
+fn unify_arguments<C: Cells>(
+    store: &mut C,
+    one: C::Word,
+    other: C::Word,
+    index: usize,
+    count: usize,
+    scratch: &mut Scratch<C::Word>,
+    tasks: &mut Vec<Task<C::Word>>,
+) -> Result<bool, StoreFault>
+    requires pair { IsPair (C.present store.old) (Task.Unify one other index count) }
+    requires stands { Stands (C.present store.old) (C.at_place store.old) scratch.old.joined [] [] (tasks.old.items ++ Task.Unify one other index count ∷ []) }
+    ensures stands { IfOk result (λ answer. IsTrue answer → Stands (C.present store.new) (C.at_place store.new) scratch.new.joined [] [] tasks.new.items) }
+    ensures steps { IfOk result (λ answer. MatchBool answer
+        (Steps (C.present store.old) (C.present store.new) [] [] (tasks.old.items ++ Task.Unify one other index count ∷ []) tasks.new.items)
+        (NeverEqual (row (ones (C.present store.old) [] (tasks.old.items ++ Task.Unify one other index count ∷ [])))
+            (row (others (C.present store.old) [] (tasks.old.items ++ Task.Unify one other index count ∷ []))))) }
+    ensures cells { Grows (C.present store.old) (C.present store.new) 0 }
+    ensures full { result ≡ Err StoreFault.Full → C.full store.new }
+    ensures names { C.names store.new ≡ C.names store.old }
+    ensures marks { KeepsMarks (C.stands store.old) (C.stands store.new) }
+{
+    let first = store.arg(one, index);
+    let second = store.arg(other, index);
+    if index + 1 == count {
+        return unify_next(store, first, second, scratch, tasks);
+    }
+    tasks.push(Task::Unify(one, other, index + 1, count))?;
+    unify_next(store, first, second, scratch, tasks)
+}
+
+/// Does what a task says. False where nothing makes its terms equal.
+fn do_task<C: Cells>(
+    store: &mut C,
+    task: Task<C::Word>,
+    scratch: &mut Scratch<C::Word>,
+    tasks: &mut Vec<Task<C::Word>>,
+) -> Result<bool, StoreFault>
+    requires pair { IsPair (C.present store.old) task }
+    requires stands { Stands (C.present store.old) (C.at_place store.old) scratch.old.joined [] [] (tasks.old.items ++ task ∷ []) }
+    ensures stands { IfOk result (λ answer. IsTrue answer → Stands (C.present store.new) (C.at_place store.new) scratch.new.joined [] [] tasks.new.items) }
+    ensures steps { IfOk result (λ answer. MatchBool answer
+        (Steps (C.present store.old) (C.present store.new) [] [] (tasks.old.items ++ task ∷ []) tasks.new.items)
+        (NeverEqual (row (ones (C.present store.old) [] (tasks.old.items ++ task ∷ []))) (row (others (C.present store.old) [] (tasks.old.items ++ task ∷ []))))) }
+    ensures cells { Grows (C.present store.old) (C.present store.new) 0 }
+    ensures full { result ≡ Err StoreFault.Full → C.full store.new }
+    ensures names { C.names store.new ≡ C.names store.old }
+    ensures marks { KeepsMarks (C.stands store.old) (C.stands store.new) }
+{
+    match task {
+        Task::Unify(one, other, index, count) => {
+            unify_arguments(store, one, other, index, count, scratch, tasks)
+        }
+        Task::Join(one, other) => {
+            join(store, one, other, &mut scratch.joined)?;
+            Ok(true)
+        }
+    }
+}
+
+/// Whether what the words stand for can be made equal, which then is bound, with these notes.
+fn unify_with<C: Cells>(
+    store: &mut C,
+    one: C::Word,
+    other: C::Word,
+    scratch: &mut Scratch<C::Word>,
+) -> Result<bool, StoreFault>
+    requires one { Holds (C.present store.old) one }
+    requires other { Holds (C.present store.old) other }
+    ensures unified { IfOk result (IsUnification (C.present store.old) (C.present store.new) (meaning (C.present store.old) one) (meaning (C.present store.old) other)) }
+    ensures cells { Grows (C.present store.old) (C.present store.new) 0 }
+    ensures full { result ≡ Err StoreFault.Full → C.full store.new }
+    ensures names { C.names store.new ≡ C.names store.old }
+    ensures marks { KeepsMarks (C.stands store.old) (C.stands store.new) }
+{
+    scratch.joined.begin();
+    let mut tasks = Vec::new(store.alloc());
+    if !unify_next(store, one, other, scratch, &mut tasks)? {
+        return Ok(false);
+    }
+    while let Some(task) = tasks.pop() {
+        if !do_task(store, task, scratch, &mut tasks)? {
+            return Ok(false);
+        }
+    }
+    Ok(true)
+}
+
 /// Whether what the words stand for can be made equal, which then is bound.
-#[cycle(unify)]
 pub(crate) fn unify<C: Cells>(
     store: &mut C,
     first: C::Word,
@@ -100,51 +239,9 @@ pub(crate) fn unify<C: Cells>(
     ensures names { C.names store.new ≡ C.names store.old }
     ensures marks { KeepsMarks (C.stands store.old) (C.stands store.new) }
 {
-    let mut first = first;
-    let mut second = second;
-    loop {
-        match meet(store.shape(first), store.shape(second)) {
-            Meeting::Same => return Ok(true),
-            Meeting::Clash => return Ok(false),
-            Meeting::FirstVariable(number) => return bind_checked(store, number, first, second),
-            Meeting::SecondVariable(number) => return bind_checked(store, number, second, first),
-            Meeting::Arguments(count) => {
-                let last = count - 1;
-                if !unify_before(store, first, second, last)? {
-                    return Ok(false);
-                }
-                first = store.arg(first, last);
-                second = store.arg(second, last);
-            }
-        }
-    }
-}
-
-/// Whether the first `count` arguments can be made equal.
-#[cycle(unify)]
-fn unify_before<C: Cells>(
-    store: &mut C,
-    first: C::Word,
-    second: C::Word,
-    count: usize,
-) -> Result<bool, StoreFault>
-    requires first { Holds (C.present store.old) first }
-    requires second { Holds (C.present store.old) second }
-    requires first_count { count ≤ arity (meaning (C.present store.old) first) }
-    requires second_count { count ≤ arity (meaning (C.present store.old) second) }
-    ensures unified { IfOk result (IsUnification (C.present store.old) (C.present store.new)
-        (front count (arguments (meaning (C.present store.old) first))) (front count (arguments (meaning (C.present store.old) second)))) }
-    ensures cells { Grows (C.present store.old) (C.present store.new) 0 }
-    ensures full { result ≡ Err StoreFault.Full → C.full store.new }
-    ensures names { C.names store.new ≡ C.names store.old }
-    ensures marks { KeepsMarks (C.stands store.old) (C.stands store.new) }
-{
-    for index in 0..count {
-        let one = store.arg(first, index);
-        let other = store.arg(second, index);
-        if !unify(store, one, other)? {
-            return Ok(false);
-        }
-    }
-    Ok(true)
+    let mut scratch = Scratch::new(store.alloc());
+    store.swap_scratch(&mut scratch);
+    let answer = unify_with(store, first, second, &mut scratch);
+    store.swap_scratch(&mut scratch);
+    answer
 }

@@ -5,7 +5,7 @@ use Rattle.std.proofs.lemmas.Bool.{or_left, or_right, false≢true}
 use Rattle.iso_model.specs.Terms.Trees.{Tree, Apply, More}
 use Rattle.iso_model.specs.Terms.Variables.{occurs, variables}
 use Rattle.iso_model.specs.Terms.Substitutions.{Subst, apply}
-use Rattle.iso_model.specs.Terms.Unifiers.{Unifier}
+use Rattle.iso_model.specs.Terms.Unifiers.{Unifier, NeverEqual}
 use Rattle.iso_model.specs.Terms.Unification.Applied.{apply_alone}
 use Rattle.iso_model.specs.Terms.Unification.Unique.{unifier_unique}
 use Rattle.iso_model.specs.Terms.Unification.Listed.{Covers, distinct_covers, without, length-without}
@@ -141,3 +141,48 @@ others_below a b c d s u (ends h) = let low = others_within a b c d s u h (exist
 pub cost_rest : (a b c d : Tree) (s : Subst) → Unifier a b s → cost (apply s c) (apply s d) < cost (More a c) (More b d)
 unfolding cost
 cost_rest a b c d s u = others_below a b c d s u (all_end (More a c) (More b d))
+
+-- ---- the exact numbers
+arguments_height : (f g : List ℕ) (a b : Tree) (e : Ends (Apply f a) (Apply g b)) → height e ≡ cost a b + 1
+unfolding cost height of_all
+arguments_height f g a b (ends h) =
+    ap (λ n. n + 1) (ap height (one_way (h a b (arguments f g a b)) (all_end a b)))
+
+pub cost_arguments : (f g : List ℕ) (a b : Tree) → cost (Apply f a) (Apply g b) ≡ cost a b + 1
+unfolding cost
+cost_arguments f g a b = arguments_height f g a b (all_end (Apply f a) (Apply g b))
+
+others_height : (a b c d : Tree) (s : Subst) → Unifier a b s → (h : (x y : Tree) → Next (More a c) (More b d) x y → Ends x y) (o : Outcome a b) → of_others a b c d (λ x y n. height (h x y n)) o ≡ cost (apply s c) (apply s d)
+unfolding cost of_others
+others_height a b c d s u h (inl found) =
+    let k = solved_unifier found.1 in
+    sym (same_height s found.0 c d (unifier_unique a b s found.0 u k) (all_end (apply s c) (apply s d)) (h (apply found.0 c) (apply found.0 d) (others a b c d found.0 k)))
+others_height a b c d s u h (inr never) = absurd (never s u.equal)
+
+more_height : (a b c d : Tree) (s : Subst) → Unifier a b s → (e : Ends (More a c) (More b d)) → height e ≡ cost a b + cost (apply s c) (apply s d) + 1
+unfolding cost height of_all
+more_height a b c d s u (ends h) =
+    let here : height (h a b (first a b c d)) ≡ cost a b = ap height (one_way (h a b (first a b c d)) (all_end a b)) in
+    let rest = others_height a b c d s u h (exists_or_not a b) in
+    omega arith
+
+pub cost_more : (a b c d : Tree) (s : Subst) → Unifier a b s → cost (More a c) (More b d) ≡ cost a b + cost (apply s c) (apply s d) + 1
+unfolding cost
+cost_more a b c d s u = more_height a b c d s u (all_end (More a c) (More b d))
+
+nothing_height : (a b c d : Tree) → NeverEqual a b → (h : (x y : Tree) → Next (More a c) (More b d) x y → ℕ) (o : Outcome a b) → of_others a b c d h o ≡ 0
+unfolding of_others
+nothing_height a b c d never h (inl found) = absurd (never found.0 (solved_unifier found.1).equal)
+nothing_height a b c d never h (inr n) = refl
+
+never_height : (a b c d : Tree) → NeverEqual a b → (e : Ends (More a c) (More b d)) → height e ≡ cost a b + 1
+unfolding cost height of_all
+never_height a b c d never (ends h) =
+    let here : height (h a b (first a b c d)) ≡ cost a b = ap height (one_way (h a b (first a b c d)) (all_end a b)) in
+    let rest = nothing_height a b c d never (λ x y n. height (h x y n)) (exists_or_not a b) in
+    omega arith
+
+pub cost_never : (a b c d : Tree) → NeverEqual a b → cost (More a c) (More b d) ≡ cost a b + 1
+unfolding cost
+cost_never a b c d never = never_height a b c d never (all_end (More a c) (More b d))
+

@@ -1,0 +1,34 @@
+use Rattle.std.proofs.Common.{◌≡◌, sym, ap, ◌∙◌}
+use Rattle.iso_store.specs.Presents.{meaning}
+use Rattle.iso_store.proofs.UnifyLemmas.{opened, steps-opened, stands-opened, stands-same, steps-same}
+use Rattle.iso_store.proofs.unify.leave_arguments.Goals as goal
+
+pub returns-then-place-clause-stands : goal.returns-then-place-clause-stands
+returns-then-place-clause-stands g c =
+    let p = g.C.Cells.present c.args.store.now in
+    let at = g.C.Cells.at_place c.args.store.now in
+    let equal : meaning p c.args.one ≡ meaning p c.args.other = sym c.end_of_joins-one.ensures.value ∙ sym c.place.ensures ∙ ap at c.if-place.true ∙ c.place-2.ensures ∙ c.end_of_joins-other.ensures.value in
+    stands-same p at c.args.joined.now c.end_of_joins-other.new.joined (meaning p c.args.one) (meaning p c.args.other) c.args.tasks.now.items equal c.requires.stands c.end_of_joins-other.ensures.joined
+
+pub returns-then-place-clause-steps : goal.returns-then-place-clause-steps
+returns-then-place-clause-steps g c =
+    let p = g.C.Cells.present c.args.store.now in
+    let at = g.C.Cells.at_place c.args.store.now in
+    let equal : meaning p c.args.one ≡ meaning p c.args.other = sym c.end_of_joins-one.ensures.value ∙ sym c.place.ensures ∙ ap at c.if-place.true ∙ c.place-2.ensures ∙ c.end_of_joins-other.ensures.value in
+    steps-same p at c.args.joined.now c.end_of_joins-other.new.joined (meaning p c.args.one) (meaning p c.args.other) c.args.tasks.now.items equal c.requires.stands
+
+pub returns-clause-stands : goal.returns-clause-stands
+returns-clause-stands g c =
+    let p = g.C.Cells.present c.args.store.now in
+    let at = g.C.Cells.at_place c.args.store.now in
+    let apart = opened c.args.count (meaning p c.args.one) (meaning p c.args.other) c.requires.meeting c.requires.one_term c.requires.other_term in
+    stands-opened p c.args.tasks.now.items c.push.new.self.items c.push-2.new.self.items c.end_of_joins-one.result c.end_of_joins-other.result c.args.count (meaning p c.args.one) (meaning p c.args.other)
+    c.end_of_joins-one.ensures.value c.end_of_joins-other.ensures.value apart c.in_ok-push.ensures.items c.in_ok-push-2.ensures.items at c.args.joined.now c.end_of_joins-other.new.joined
+    c.end_of_joins-one.ensures.holds c.end_of_joins-other.ensures.holds c.requires.stands c.end_of_joins-other.ensures.joined
+
+pub returns-clause-steps : goal.returns-clause-steps
+returns-clause-steps g c =
+    let p = g.C.Cells.present c.args.store.now in
+    let apart = opened c.args.count (meaning p c.args.one) (meaning p c.args.other) c.requires.meeting c.requires.one_term c.requires.other_term in
+    steps-opened p c.args.tasks.now.items c.push.new.self.items c.push-2.new.self.items c.end_of_joins-one.result c.end_of_joins-other.result c.args.count (meaning p c.args.one) (meaning p c.args.other)
+    c.end_of_joins-one.ensures.value c.end_of_joins-other.ensures.value apart c.in_ok-push.ensures.items c.in_ok-push-2.ensures.items

@@ -1,0 +1,75 @@
+//! Words that stand for equal terms, which are joined: a place leads to a word of an earlier place that stands for the same.
+ghost use Rattle.std.specs.Prelude.{◌≡◌, ◌<◌, IfSome, OnOk};
+ghost use Rattle.iso_store.specs.Presents.{Holds, meaning};
+ghost use Rattle.iso_store.specs.Unifying.{AreJoined};
+
+use super::cells::Cells;
+use super::notes::Notes;
+use iso_model::NoMemory;
+
+/// The word that the place leads to, with its own place. From now on it leads to the word behind that one, if there is one.
+fn next_joined<C: Cells>(
+    store: &C,
+    place: usize,
+    joined: &mut Notes<C::Word>,
+) -> Option<(C::Word, usize)>
+    requires { AreJoined (C.present store.now) (C.at_place store.now) joined.old }
+    ensures joined { AreJoined (C.present store.now) (C.at_place store.now) joined.new }
+    ensures holds { IfSome result (λ n. Holds (C.present store.now) n.0) }
+    ensures value { IfSome result (λ n. meaning (C.present store.now) n.0 ≡ C.at_place store.now place) }
+    ensures place { IfSome result (λ n. C.at_place store.now n.1 ≡ C.at_place store.now place) }
+    ensures earlier { IfSome result (λ n. n.1 < place) }
+{
+    let next = joined.at(place)?;
+    let next_place = store.place(next);
+    if next_place >= place {
+        return None;
+    }
+    if let Some(behind) = joined.at(next_place) {
+        joined.change(place, behind);
+    }
+    Some((next, next_place))
+}
+
+/// The word that all words lead to which are joined with this one. It stands for the same term.
+pub(crate) fn end_of_joins<C: Cells>(
+    store: &C,
+    word: C::Word,
+    joined: &mut Notes<C::Word>,
+) -> C::Word
+    requires word { Holds (C.present store.now) word }
+    requires joined { AreJoined (C.present store.now) (C.at_place store.now) joined.old }
+    ensures joined { AreJoined (C.present store.now) (C.at_place store.now) joined.new }
+    ensures holds { Holds (C.present store.now) result }
+    ensures value { meaning (C.present store.now) result ≡ meaning (C.present store.now) word }
+{
+    let mut end = word;
+    let mut place = store.place(word);
+    while let Some((next, next_place)) = next_joined(store, place, joined) {
+        end = next;
+        place = next_place;
+    }
+    end
+}
+
+/// Joins two words that stand for one term. The error is that memory was refused.
+pub(crate) fn join<C: Cells>(
+    store: &C,
+    one: C::Word,
+    other: C::Word,
+    joined: &mut Notes<C::Word>,
+) -> Result<(), NoMemory>
+    requires one { Holds (C.present store.now) one }
+    requires other { Holds (C.present store.now) other }
+    requires equal { meaning (C.present store.now) one ≡ meaning (C.present store.now) other }
+    requires joined { AreJoined (C.present store.now) (C.at_place store.now) joined.old }
+    ensures { OnOk result (AreJoined (C.present store.now) (C.at_place store.now) joined.new) }
+{
+    let one_place = store.place(one);
+    let other_place = store.place(other);
+    if one_place < other_place {
+        joined.note(other_place, one)
+    } else {
+        joined.note(one_place, other)
+    }
+}

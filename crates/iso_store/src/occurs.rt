@@ -1,0 +1,138 @@
+//! Whether a variable occurs in a term; each compound is searched once.
+ghost use Rattle.std.specs.Prelude.{◌≡◌, ◌<◌, ◌+◌, ◌*◌, ◌∷◌, [], ◌++◌, IfOk, OnOk, sum_by, true, false};
+ghost use Rattle.std.specs.List.{All};
+ghost use Rattle.iso_model.specs.Terms.Trees.{row};
+ghost use Rattle.iso_model.specs.Terms.Sizes.{size};
+ghost use Rattle.iso_model.specs.Terms.Variables.{occurs};
+ghost use Rattle.iso_store.specs.Presents.{Holds, meaning};
+ghost use Rattle.iso_store.specs.Arguments.{arguments_from};
+ghost use Rattle.iso_store.specs.Searching.{IsThere, IsClear, AreSound, found, load};
+
+use super::cells::Cells;
+use super::notes::Notes;
+use super::shapes::Shape;
+use iso_model::NoMemory;
+
+/// What is left to do of a search.
+#[derive(Clone, Copy)]
+enum Task<W: Copy> {
+    /// The arguments of the compound that the word stands for are to be searched, from this place on; in all it has so many.
+    Search(W, usize, usize),
+    /// All that stands at the place was searched.
+    Leave(usize),
+}
+
+/// Whether the word stands for the variable; a compound that was not searched is left to be.
+fn enter<C: Cells>(
+    store: &C,
+    number: u64,
+    word: C::Word,
+    searched: &Notes<()>,
+    tasks: &mut Vec<Task<C::Word>>,
+) -> Result<bool, NoMemory>
+    requires word { Holds (C.present store.now) word }
+    requires clear { IsClear (C.at_place store.now) number searched.now }
+    requires there { All (IsThere (C.present store.now)) tasks.old.items }
+    requires sound { AreSound (C.present store.now) (C.at_place store.now) number (occurs number (meaning (C.present store.now) word)) tasks.old.items }
+    ensures there { OnOk result (All (IsThere (C.present store.now)) tasks.new.items) }
+    ensures sound { IfOk result (λ b. AreSound (C.present store.now) (C.at_place store.now) number b tasks.new.items) }
+    ensures found { IfOk result (λ b. found (C.present store.now) (C.at_place store.now) number b tasks.new.items
+        ≡ found (C.present store.now) (C.at_place store.now) number (occurs number (meaning (C.present store.now) word)) tasks.old.items) }
+    ensures load { OnOk result (sum_by (load (C.present store.now)) tasks.new.items < 2 * size (meaning (C.present store.now) word) + sum_by (load (C.present store.now)) tasks.old.items) }
+{
+    match store.shape(word) {
+        Shape::Var(other) => Ok(other == number),
+        Shape::Int(_) | Shape::Atom(_) => Ok(false),
+        Shape::Compound(_, count) => {
+            let place = store.place(word);
+            if searched.at(place).is_some() {
+                return Ok(false);
+            }
+            tasks.push(Task::Leave(place))?;
+            tasks.push(Task::Search(word, 0, count))?;
+            Ok(false)
+        }
+    }
+}
+
+/// Searches the argument at this place, and leaves those behind it; in all the compound has so many.
+fn search_argument<C: Cells>(
+    store: &C,
+    number: u64,
+    word: C::Word,
+    index: usize,
+    count: usize,
+    searched: &Notes<()>,
+    tasks: &mut Vec<Task<C::Word>>,
+) -> Result<bool, NoMemory>
+    requires task { IsThere (C.present store.now) (Task.Search word index count) }
+    requires clear { IsClear (C.at_place store.now) number searched.now }
+    requires there { All (IsThere (C.present store.now)) tasks.old.items }
+    requires sound { AreSound (C.present store.now) (C.at_place store.now) number (occurs number (row (arguments_from index (meaning (C.present store.now) word)))) tasks.old.items }
+    ensures there { OnOk result (All (IsThere (C.present store.now)) tasks.new.items) }
+    ensures sound { IfOk result (λ b. AreSound (C.present store.now) (C.at_place store.now) number b tasks.new.items) }
+    ensures found { IfOk result (λ b. found (C.present store.now) (C.at_place store.now) number b tasks.new.items
+        ≡ found (C.present store.now) (C.at_place store.now) number (occurs number (row (arguments_from index (meaning (C.present store.now) word)))) tasks.old.items) }
+    ensures load { OnOk result (sum_by (load (C.present store.now)) tasks.new.items
+        < load (C.present store.now) (Task.Search word index count) + sum_by (load (C.present store.now)) tasks.old.items) }
+{
+    let argument = store.arg(word, index);
+    if index + 1 == count {
+        return enter(store, number, argument, searched, tasks);
+    }
+    tasks.push(Task::Search(word, index + 1, count))?;
+    enter(store, number, argument, searched, tasks)
+}
+
+/// Does what a task says; true where the variable is found.
+fn do_task<C: Cells>(
+    store: &C,
+    number: u64,
+    task: Task<C::Word>,
+    searched: &mut Notes<()>,
+    tasks: &mut Vec<Task<C::Word>>,
+) -> Result<bool, NoMemory>
+    requires task { IsThere (C.present store.now) task }
+    requires clear { IsClear (C.at_place store.now) number searched.old }
+    requires there { All (IsThere (C.present store.now)) tasks.old.items }
+    requires sound { AreSound (C.present store.now) (C.at_place store.now) number false (tasks.old.items ++ task ∷ []) }
+    ensures clear { OnOk result (IsClear (C.at_place store.now) number searched.new) }
+    ensures there { OnOk result (All (IsThere (C.present store.now)) tasks.new.items) }
+    ensures sound { IfOk result (λ b. AreSound (C.present store.now) (C.at_place store.now) number b tasks.new.items) }
+    ensures found { IfOk result (λ b. found (C.present store.now) (C.at_place store.now) number b tasks.new.items
+        ≡ found (C.present store.now) (C.at_place store.now) number false (tasks.old.items ++ task ∷ [])) }
+    ensures load { OnOk result (sum_by (load (C.present store.now)) tasks.new.items < load (C.present store.now) task + sum_by (load (C.present store.now)) tasks.old.items) }
+{
+    match task {
+        Task::Search(word, index, count) => {
+            search_argument(store, number, word, index, count, searched, tasks)
+        }
+        Task::Leave(place) => {
+            searched.note(place, ())?;
+            Ok(false)
+        }
+    }
+}
+
+/// Whether the variable of this number occurs in what the word stands for. The error is that memory was refused.
+pub(crate) fn occurs<C: Cells>(
+    store: &C,
+    number: u64,
+    word: C::Word,
+    searched: &mut Notes<()>,
+) -> Result<bool, NoMemory>
+    requires { Holds (C.present store.now) word }
+    ensures { IfOk result (λ b. b ≡ occurs number (meaning (C.present store.now) word)) }
+{
+    searched.begin();
+    let mut tasks = Vec::new(store.alloc());
+    if enter(store, number, word, searched, &mut tasks)? {
+        return Ok(true);
+    }
+    while let Some(task) = tasks.pop() {
+        if do_task(store, number, task, searched, &mut tasks)? {
+            return Ok(true);
+        }
+    }
+    Ok(false)
+}
