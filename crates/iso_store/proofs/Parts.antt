@@ -18,7 +18,6 @@ use Rattle.iso_model.proofs.OnTerms.RowLemmas.{term_of_compound, count_row_of}
 use Rattle.iso_store.specs.Places.{place_in}
 use Rattle.iso_store.specs.Copying.{cells_of}
 
-
 pub term_of_variable : (n : ℕ) → term_of (Var n) ≡ Variable n
 term_of_variable n = ap term_of (sym (rolls-Var n)) ∙ fold-roll-Term Tree term_step (Term-F.Var n)
 

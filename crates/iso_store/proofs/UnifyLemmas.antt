@@ -61,10 +61,13 @@ compound-same n t u same c = (c.0, c.1, sym same ∙ c.2, c.3)
 
 -- ---- bindings
 pub pair-bound : {W : Type 0} {p q : Present W} {s : Subst} → Binds p q s → (k : Task W) → IsPair p k → IsPair q k
-pair-bound {s = s} bound (Unify w v i n) pair =
-    (bound.words.stand w pair.0, bound.words.stand v pair.1, pair.2,
-    compound-same n _ _ (sym (binds-meaning bound w pair.0)) (compound-applied n _ s pair.3),
-    compound-same n _ _ (sym (binds-meaning bound v pair.1)) (compound-applied n _ s pair.4))
+pair-bound {s = s} bound (Unify w v i n) pair = (
+  bound.words.stand w pair.0,
+  bound.words.stand v pair.1,
+  pair.2,
+  compound-same n _ _ (sym (binds-meaning bound w pair.0)) (compound-applied n _ s pair.3),
+  compound-same n _ _ (sym (binds-meaning bound v pair.1)) (compound-applied n _ s pair.4),
+)
 pair-bound bound (Join w v) pair = (bound.words.stand w pair.0, bound.words.stand v pair.1)
 
 -- a side of a pair
@@ -100,12 +103,14 @@ module _ {W : Type 0} (p : Present W) where
   pub sound-instead : (us vs cs ds : List Tree) (xs : List (Task W)) → length cs ≡ length ds → ((s : Subst) → MakesEqual s cs ds → MakesEqual s us vs) → AreSound p us vs xs → AreSound p cs ds xs
   sound-instead us vs cs ds [] same back sound = tt
   sound-instead us vs cs ds (Unify w v i n ∷ xs) same back sound = sound-instead us vs cs ds xs same back sound
-  sound-instead us vs cs ds (Join w v ∷ xs) same back sound =
-      ((λ s e.
-      let whole = subst₂ (MakesEqual s) (terms-now (λ one other. one) cs xs) (terms-now (λ one other. other) ds xs) e in
-      let parts = equal-parts s cs ds (ones p [] xs) (others p [] xs) same whole in
-      let old = equal-both s us vs (ones p [] xs) (others p [] xs) (back s parts.0) parts.1 in
-      sound.0 s (subst₂ (MakesEqual s) (sym (terms-now (λ one other. one) us xs)) (sym (terms-now (λ one other. other) vs xs)) old)), sound-instead us vs cs ds xs same back sound.1)
+  sound-instead us vs cs ds (Join w v ∷ xs) same back sound = (
+    (λ s e.
+        let whole = subst₂ (MakesEqual s) (terms-now (λ one other. one) cs xs) (terms-now (λ one other. other) ds xs) e in
+        let parts = equal-parts s cs ds (ones p [] xs) (others p [] xs) same whole in
+        let old = equal-both s us vs (ones p [] xs) (others p [] xs) (back s parts.0) parts.1 in
+        sound.0 s (subst₂ (MakesEqual s) (sym (terms-now (λ one other. one) us xs)) (sym (terms-now (λ one other. other) vs xs)) old)),
+    sound-instead us vs cs ds xs same back sound.1,
+  )
 
 -- once s is bound
 module _ {W : Type 0} {p q : Present W} {s : Subst} (bound : Binds p q s) where
@@ -137,15 +142,16 @@ module _ {W : Type 0} {p q : Present W} {s : Subst} (bound : Binds p q s) where
   sound-bound a b equal (Unify w v i n ∷ xs) pairs sound = sound-bound a b equal xs (All-tail (IsPair p) (Unify w v i n) xs pairs) sound
   sound-bound a b equal (Join w v ∷ xs) pairs sound =
       let later = All-tail (IsPair p) (Join w v) xs pairs in
-      let pair = All-head (IsPair p) (Join w v) xs pairs in
-      ((λ u e.
-      let others_equal : MakesEqual (compose s u) (ones p [] xs) (others p [] xs) =
-      sym (ap (λ us. apply u (row us)) (ones-bound xs later) ∙ applied u (ones p [] xs)) ∙ e ∙ ap (λ us. apply u (row us)) (others-bound xs later) ∙ applied u (others p [] xs) in
-      let first : apply (compose s u) a ≡ apply (compose s u) b = sym (apply_apply s u a) ∙ ap (apply u) equal ∙ apply_apply s u b in
-      let whole = equal-both (compose s u) (a ∷ []) (b ∷ []) (ones p [] xs) (others p [] xs) (cc) others_equal in
-      let joined = sound.0 (compose s u) (subst₂ (MakesEqual (compose s u)) (sym (terms-now p (λ one other. one) (a ∷ []) xs)) (sym (terms-now p (λ one other. other) (b ∷ []) xs)) whole) in
-      ap (apply u) (binds-meaning bound w pair.0) ∙ apply_apply s u (meaning p w) ∙ joined ∙ sym (ap (apply u) (binds-meaning bound v pair.1) ∙ apply_apply s u (meaning p v))),
-      sound-bound a b equal xs later sound.1)
+      let pair = All-head (IsPair p) (Join w v) xs pairs in (
+        (λ u e.
+            let others_equal : MakesEqual (compose s u) (ones p [] xs) (others p [] xs) =
+            sym (ap (λ us. apply u (row us)) (ones-bound xs later) ∙ applied u (ones p [] xs)) ∙ e ∙ ap (λ us. apply u (row us)) (others-bound xs later) ∙ applied u (others p [] xs) in
+            let first : apply (compose s u) a ≡ apply (compose s u) b = sym (apply_apply s u a) ∙ ap (apply u) equal ∙ apply_apply s u b in
+            let whole = equal-both (compose s u) (a ∷ []) (b ∷ []) (ones p [] xs) (others p [] xs) (cc) others_equal in
+            let joined = sound.0 (compose s u) (subst₂ (MakesEqual (compose s u)) (sym (terms-now p (λ one other. one) (a ∷ []) xs)) (sym (terms-now p (λ one other. other) (b ∷ []) xs)) whole) in
+            ap (apply u) (binds-meaning bound w pair.0) ∙ apply_apply s u (meaning p w) ∙ joined ∙ sym (ap (apply u) (binds-meaning bound v pair.1) ∙ apply_apply s u (meaning p v))),
+        sound-bound a b equal xs later sound.1,
+      )
 
   -- the first two terms are made equal
   pub steps-solved : (a b : Tree) → Unifier a b s → (xs : List (Task W)) → All (IsPair p) xs → Steps p q (a ∷ []) (b ∷ []) xs xs
@@ -239,9 +245,12 @@ module _ {W : Type 0} (p : Present W) (xs ys zs : List (Task W)) (w v : W) (n : 
       let front = subst₂ (λ us vs. AreSound p us vs xs) (sym left_arguments) (sym right_arguments) now in
       rw both
       (sound-append p [] [] xs (Join w v ∷ Unify w v 0 n ∷ []) front
-      (((λ s e.
-      let inner : MakesEqual s o.left o.right = subst₂ (MakesEqual s) left_arguments right_arguments e in
-      ap (apply s) one ∙ makes-same s inner ∙ ap (apply s) (sym other)), tt)))
+      ((
+        (λ s e.
+            let inner : MakesEqual s o.left o.right = subst₂ (MakesEqual s) left_arguments right_arguments e in
+            ap (apply s) one ∙ makes-same s inner ∙ ap (apply s) (sym other)),
+        tt,
+      )))
 
   pub stands-opened : (at : ℕ → Tree) (old new : Notes W) → p.holds w ≡ true → p.holds v ≡ true → Stands p at old (a ∷ []) (b ∷ []) xs → AreJoined p at new → Stands p at new [] [] zs
   stands-opened at old new holds_w holds_v stands joins = record {

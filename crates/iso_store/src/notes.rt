@@ -73,7 +73,8 @@ impl<V: Copy> Notes<V> {
         ensures { OnOk result ((k : ℕ) → noted self.new k ≡ (if k == place then Some value else noted self.old k)) }
     {
         if place >= self.notes.len() {
-            self.notes.resize(place.saturating_add(1), Note { stamp: 0, value })?;
+            self.notes
+                .resize(place.saturating_add(1), Note { stamp: 0, value })?;
         }
         self.notes[place] = Note {
             stamp: self.stamp,

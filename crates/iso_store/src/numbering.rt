@@ -60,11 +60,7 @@ impl Numbering {
     }
 
     /// Adds the term if it is a variable that is not there, and leaves a compound's arguments to be gone through.
-    fn note_next<'t>(
-        &mut self,
-        rows: &mut Vec<&'t [Term]>,
-        term: &'t Term,
-    ) -> Result<(), NoMemory>
+    fn note_next<'t>(&mut self, rows: &mut Vec<&'t [Term]>, term: &'t Term) -> Result<(), NoMemory>
         requires { IsPlaced self.old.places self.old.numbers.items }
         ensures numbers { OnOk result (rows_seen self.new.numbers.items rows.new.items ≡ rows_seen (distinct_from self.old.numbers.items (term_of term.now)) rows.old.items) }
         ensures placed { OnOk result (IsPlaced self.new.places self.new.numbers.items) }
@@ -81,11 +77,7 @@ impl Numbering {
     }
 
     /// Goes through the first term of a row, and leaves the others.
-    fn note_row<'t>(
-        &mut self,
-        rows: &mut Vec<&'t [Term]>,
-        row: &'t [Term],
-    ) -> Result<(), NoMemory>
+    fn note_row<'t>(&mut self, rows: &mut Vec<&'t [Term]>, row: &'t [Term]) -> Result<(), NoMemory>
         requires { IsPlaced self.old.places self.old.numbers.items }
         ensures numbers { OnOk result (rows_seen self.new.numbers.items rows.new.items ≡ rows_seen (distinct_from self.old.numbers.items (row_of row.now)) rows.old.items) }
         ensures placed { OnOk result (IsPlaced self.new.places self.new.numbers.items) }

@@ -153,7 +153,7 @@ fn unify_arguments<C: Cells>(
     ensures steps { IfOk result (λ answer. MatchBool answer
         (Steps (C.present store.old) (C.present store.new) [] [] (tasks.old.items ++ Task.Unify one other index count ∷ []) tasks.new.items)
         (NeverEqual (row (ones (C.present store.old) [] (tasks.old.items ++ Task.Unify one other index count ∷ [])))
-            (row (others (C.present store.old) [] (tasks.old.items ++ Task.Unify one other index count ∷ []))))) }
+        (row (others (C.present store.old) [] (tasks.old.items ++ Task.Unify one other index count ∷ []))))) }
     ensures cells { Grows (C.present store.old) (C.present store.new) 0 }
     ensures full { result ≡ Err StoreFault.Full → C.full store.new }
     ensures names { C.names store.new ≡ C.names store.old }

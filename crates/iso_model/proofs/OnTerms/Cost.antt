@@ -185,4 +185,3 @@ never_height a b c d never (ends h) =
 pub cost_never : (a b c d : Tree) → NeverEqual a b → cost (More a c) (More b d) ≡ cost a b + 1
 unfolding cost
 cost_never a b c d never = never_height a b c d never (all_end (More a c) (More b d))
-

@@ -11,7 +11,7 @@ abbrev pub invariant-loop-task : goal.invariant-loop-task
 invariant-loop-task g l = record {
   bound : (r : Subst)
       × LeftBy (meaning (g.C.Cells.present l.fn.store) l.fn.one ∷ []) (meaning (g.C.Cells.present l.fn.store) l.fn.other ∷ [])
-        (ones (g.C.Cells.present l.store) [] l.tasks.items) (others (g.C.Cells.present l.store) [] l.tasks.items) r
+      (ones (g.C.Cells.present l.store) [] l.tasks.items) (others (g.C.Cells.present l.store) [] l.tasks.items) r
       × Binds (g.C.Cells.present l.fn.store) (g.C.Cells.present l.store) r;
   stands : Stands (g.C.Cells.present l.store) (g.C.Cells.at_place l.store) l.scratch.joined [] [] l.tasks.items;
   cells : Grows (g.C.Cells.present l.fn.store) (g.C.Cells.present l.store) 0;
