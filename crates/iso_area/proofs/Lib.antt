@@ -1,2 +1,4 @@
+pub mod AreaLemmas
 pub mod Memory
+pub mod ReadingLemmas
 pub mod Sharing

@@ -1,2 +1,5 @@
+pub mod Area
 pub mod Ownership
 pub mod Places
+pub mod Reading
+pub mod Stacks
