@@ -1,15 +1,9 @@
-use Rattle.std.proofs.Common.{◌<◌, sym, ◌∙◌, arith}
-use Rattle.iso_area.proofs.AreaLemmas.{lengths, high_value}
+use Rattle.std.proofs.Common.{sym, ◌∙◌}
+use Rattle.iso_area.proofs.AreaLemmas.{high_value}
 use Rattle.iso_area.proofs.Area.high.Goals as goal
 
 pub get-requires : goal.get-requires
-get-requires g c =
-    let within : c.args.index < c.self.inside.high = omega (arith, (lengths c.self.inside c.self.invariant c.args.self.now c.self.view_is).1, c.requires) in
-    let found = high_value c.self.inside c.self.invariant c.args.index within in
-    (sym c.self.invariant.block.0, (found.0, found.1.0))
+get-requires g c = let found = high_value c.self.inside c.self.invariant c.args.self.now c.self.view_is c.args.index c.requires in (sym c.self.invariant.block.0, (found.0, found.1.0))
 
 pub returns : goal.returns
-returns g c =
-    let within : c.args.index < c.self.inside.high = omega (arith, (lengths c.self.inside c.self.invariant c.args.self.now c.self.view_is).1, c.requires) in
-    let found = high_value c.self.inside c.self.invariant c.args.index within in
-    rw (← c.self.view_is) (found.1.1 ∙ (sym found.1.0 ∙ c.get.ensures))
+returns g c = let found = high_value c.self.inside c.self.invariant c.args.self.now c.self.view_is c.args.index c.requires in found.1.1 ∙ (sym found.1.0 ∙ c.get.ensures)
