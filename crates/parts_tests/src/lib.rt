@@ -2,6 +2,8 @@
 #![tactic(auto)]
 
 #[cfg(test)]
+mod area;
+#[cfg(test)]
 mod atoms;
 #[cfg(test)]
 mod ops;
