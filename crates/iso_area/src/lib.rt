@@ -7,8 +7,8 @@ ghost use Rattle.iso_area.specs.Stacks.{stacks};
 
 mod cells;
 
-// A crate can name an area in a contract only if the types of its fields are exported.
 use cells::{allocate, deallocate};
+// A crate can name an area in a contract only if the types of its fields are exported.
 #[doc(hidden)]
 pub use cells::{Base, Cells, Deed};
 pub use std::alloc::AllocError as NoMemory;
@@ -47,9 +47,8 @@ impl<T: Copy> Model for Area<T> {
 }
 
 impl<T: Copy> Area<T> {
-    /// An area with room for `capacity` values, which may be 0. The error is that memory was refused, or that the values
-    /// would take 2^63 bytes or more (or be so many), which no allocator gives. A type of no bytes takes no room, and is
-    /// counted like any other.
+    /// An area with room for `capacity` values, which may be 0. The error is that memory was refused, or that so many values
+    /// would take 2^63 bytes or more, which no block has. Values of a type of no bytes are counted like any others, below 2^63.
     pub fn new(alloc: Global, capacity: usize) -> Result<Self, NoMemory>
         ensures { IfOk result (λ area. area ≡ stacks [] [] capacity) }
     {
