@@ -5,7 +5,7 @@ ghost use Rattle.iso_model.specs.Syntax.TokenPlaces.{StandInOrder};
 ghost use Rattle.iso_token.specs.Shows.{shown};
 
 use crate::kinds::Token;
-use crate::lexemes::first_lexeme;
+use crate::lexemes::{first_lexeme, is_endless_behind};
 use std::marker::Model;
 
 /// The tokens of a text (ISO/IEC 13211-1:1995, 6.4), in order.
@@ -13,6 +13,8 @@ use std::marker::Model;
 pub struct Tokens<'t> {
     rest: &'t str,
     start: usize,
+    /// Whether it is known that no `*/` stands behind the first byte that is left: then no comment is looked for again.
+    endless: bool,
 }
 
 impl<'t> Model for Tokens<'t> {
@@ -21,11 +23,11 @@ impl<'t> Model for Tokens<'t> {
 
     ghost Value = { List Shown };
 
-    ghost use Rattle.iso_token.specs.Cursor.{tokens_left, IsInRange};
+    ghost use Rattle.iso_token.specs.Cursor.{tokens_left, IsKept};
 
     ghost view = { tokens_left };
 
-    ghost invariant = { IsInRange };
+    ghost invariant = { IsKept };
 }
 
 impl<'t> Tokens<'t> {
@@ -38,6 +40,7 @@ impl<'t> Tokens<'t> {
         Tokens {
             rest: text,
             start: 0,
+            endless: false,
         }
     }
 
@@ -47,11 +50,14 @@ impl<'t> Tokens<'t> {
     {
         let mut after_layout = false;
         while !self.rest.is_empty() {
-            let lexeme = first_lexeme(self.rest.as_bytes());
+            let bytes = self.rest.as_bytes();
+            let lexeme = first_lexeme(bytes, self.endless);
+            let endless = is_endless_behind(bytes, self.endless, lexeme);
             let start = self.start;
             let (text, rest) = self.rest.split_at(lexeme.len);
             self.rest = rest;
             self.start += lexeme.len;
+            self.endless = endless;
             match lexeme.kind {
                 Some(kind) => {
                     return Some(Token {

@@ -1,10 +1,11 @@
 //! What stands at the front of a text: the longest token, or layout (ISO/IEC 13211-1:1995, 6.4).
-ghost use Rattle.std.specs.Prelude.{◌≡◌, ◌<◌, ◌≤◌, true, length, slice_index, IfSome};
+ghost use Rattle.std.specs.Prelude.{◌≡◌, ◌<◌, ◌≤◌, ◌+◌, true, length, drop, slice_index, IfSome};
 ghost use Rattle.iso_model.specs.Syntax.Characters as characters;
 ghost use Rattle.iso_model.specs.Syntax.Characters.{is_digit, is_graphic};
 ghost use Rattle.iso_model.specs.Syntax.Numbers as numbers;
 ghost use Rattle.iso_model.specs.Syntax.Lexemes as spec;
 ghost use Rattle.iso_token.specs.Classes.{is_of};
+ghost use Rattle.iso_token.specs.Comments.{IsEndless};
 ghost use Rattle.iso_token.specs.Shows.{kind_of, lexeme_of};
 
 use crate::classes::{Class, byte, character_len, is_in, is_layout, run};
@@ -60,13 +61,30 @@ fn comment_len(bytes: &[u8]) -> Option<usize>
     None
 }
 
+/// How far the comment that begins with these `/*` goes on behind them; none where it has no end, and where it is known that
+/// none comes.
+#[tactic(auto, using(crate::proofs::CommentLemmas::no_end_later))]
+fn comment_end(bytes: &[u8], endless: bool) -> Option<usize>
+    requires long { 2 ≤ length bytes.now }
+    requires endless { IsEndless endless bytes.now }
+    ensures value { result ≡ spec.comment_len (drop 2 bytes.now) }
+    ensures within { IfSome result (λ n. 2 + n ≤ length bytes.now) }
+{
+    if endless {
+        None
+    } else {
+        comment_len(&bytes[2..])
+    }
+}
+
 /// What begins with `/*`: a bracketed comment, or a bad character where it has no end.
-fn commented(bytes: &[u8]) -> Lexeme
-    requires { 2 ≤ length bytes.now }
+fn commented(bytes: &[u8], endless: bool) -> Lexeme
+    requires long { 2 ≤ length bytes.now }
+    requires endless { IsEndless endless bytes.now }
     ensures value { lexeme_of result ≡ spec.commented bytes.now }
     ensures within { (1 ≤ result.len) × (result.len ≤ length bytes.now) }
 {
-    match comment_len(&bytes[2..]) {
+    match comment_end(bytes, endless) {
         None => bad_character(bytes),
         Some(n) => Lexeme {
             kind: None,
@@ -132,13 +150,14 @@ fn integer(bytes: &[u8]) -> Lexeme
 }
 
 /// What begins with none of layout, `%`, letters, `_`, digits and quotes.
-fn symbol(bytes: &[u8]) -> Lexeme
-    requires { 0 < length bytes.now }
+fn symbol(bytes: &[u8], endless: bool) -> Lexeme
+    requires nonempty { 0 < length bytes.now }
+    requires endless { IsEndless endless bytes.now }
     ensures value { lexeme_of result ≡ spec.symbol bytes.now }
     ensures within { (1 ≤ result.len) × (result.len ≤ length bytes.now) }
 {
     match bytes[0] {
-        b'/' if byte(bytes, 1) == b'*' => commented(bytes),
+        b'/' if byte(bytes, 1) == b'*' => commented(bytes, endless),
         b if is_in(Class::Graphic, b) => graphic(bytes),
         b'(' | b')' | b'[' | b']' | b'{' | b'}' | b',' | b'|' => Lexeme {
             kind: Some(Kind::Punct),
@@ -152,10 +171,27 @@ fn symbol(bytes: &[u8]) -> Lexeme
     }
 }
 
-/// The lexeme at the front of a text that isn't empty.
+/// Whether no `*/` comes behind the first byte that a text has left behind the lexeme at its front, as far as that is known:
+/// where it was known of the text, or the lexeme is a `/*` that begins no comment.
+pub fn is_endless_behind(bytes: &[u8], endless: bool, lexeme: Lexeme) -> bool
+    requires front { lexeme_of lexeme ≡ spec.lexeme bytes.now }
+    requires endless { IsEndless endless bytes.now }
+    ensures { IsEndless result (drop lexeme.len bytes.now) }
+{
+    if endless {
+        return true;
+    }
+    match bytes {
+        [b'/', b'*', ..] => lexeme.kind.is_some(),
+        _ => false,
+    }
+}
+
+/// The lexeme at the front of a text that isn't empty. It may be known that no `*/` comes behind its first byte.
 #[tactic(auto, unfolding(iso_model::specs::Syntax::Lexemes::lexeme))]
-pub fn first_lexeme(bytes: &[u8]) -> Lexeme
-    requires { 0 < length bytes.now }
+pub fn first_lexeme(bytes: &[u8], endless: bool) -> Lexeme
+    requires nonempty { 0 < length bytes.now }
+    requires endless { IsEndless endless bytes.now }
     ensures value { lexeme_of result ≡ spec.lexeme bytes.now }
     ensures within { (1 ≤ result.len) × (result.len ≤ length bytes.now) }
 {
@@ -170,6 +206,6 @@ pub fn first_lexeme(bytes: &[u8]) -> Lexeme
         b'0'..=b'9' => integer(bytes),
         b'\'' => quoted(Kind::Quoted, b'\'', bytes),
         b'"' => quoted(Kind::Double, b'"', bytes),
-        _ => symbol(bytes),
+        _ => symbol(bytes, endless),
     }
 }
