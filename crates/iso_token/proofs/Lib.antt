@@ -1,4 +1,4 @@
 pub mod ShowsLemmas
 pub mod CodeLemmas
 pub mod PieceLemmas
-pub mod CommentLemmas
+pub mod KnownLemmas

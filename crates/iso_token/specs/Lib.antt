@@ -1,5 +1,5 @@
 pub mod Classes
-pub mod Comments
+pub mod Known
 pub mod Shows
 pub mod Cursor
 pub mod Numbers

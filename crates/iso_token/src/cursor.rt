@@ -5,7 +5,8 @@ ghost use Rattle.iso_model.specs.Syntax.TokenPlaces.{StandInOrder};
 ghost use Rattle.iso_token.specs.Shows.{shown};
 
 use crate::kinds::Token;
-use crate::lexemes::{first_lexeme, is_endless_behind};
+use crate::known::{Known, known_behind, nothing_known};
+use crate::lexemes::first_lexeme;
 use std::marker::Model;
 
 /// The tokens of a text (ISO/IEC 13211-1:1995, 6.4), in order.
@@ -13,8 +14,8 @@ use std::marker::Model;
 pub struct Tokens<'t> {
     rest: &'t str,
     start: usize,
-    /// Whether it is known that no `*/` stands behind the first byte that is left: then no comment is looked for again.
-    endless: bool,
+    /// What is known of what is left.
+    known: Known,
 }
 
 impl<'t> Model for Tokens<'t> {
@@ -40,7 +41,7 @@ impl<'t> Tokens<'t> {
         Tokens {
             rest: text,
             start: 0,
-            endless: false,
+            known: nothing_known(),
         }
     }
 
@@ -51,13 +52,13 @@ impl<'t> Tokens<'t> {
         let mut after_layout = false;
         while !self.rest.is_empty() {
             let bytes = self.rest.as_bytes();
-            let lexeme = first_lexeme(bytes, self.endless);
-            let endless = is_endless_behind(bytes, self.endless, lexeme);
+            let lexeme = first_lexeme(bytes, self.known);
+            let known = known_behind(bytes, self.known, lexeme);
             let start = self.start;
             let (text, rest) = self.rest.split_at(lexeme.len);
             self.rest = rest;
             self.start += lexeme.len;
-            self.endless = endless;
+            self.known = known;
             match lexeme.kind {
                 Some(kind) => {
                     return Some(Token {

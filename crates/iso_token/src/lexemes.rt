@@ -5,13 +5,13 @@ ghost use Rattle.iso_model.specs.Syntax.Characters.{is_digit, is_graphic};
 ghost use Rattle.iso_model.specs.Syntax.Numbers as numbers;
 ghost use Rattle.iso_model.specs.Syntax.Lexemes as spec;
 ghost use Rattle.iso_token.specs.Classes.{is_of};
-ghost use Rattle.iso_token.specs.Comments.{IsEndless};
+ghost use Rattle.iso_token.specs.Known.{IsEndless, IsOpenAt, IsKnown};
 ghost use Rattle.iso_token.specs.Shows.{kind_of, lexeme_of};
 
 use crate::classes::{Class, byte, character_len, is_in, is_layout, run};
 use crate::kinds::Kind;
+use crate::known::{Known, item_end};
 use crate::numbers::integer_at;
-use crate::quoted::item_len;
 
 /// A token's kind, or none for layout and comments, and a length in bytes.
 #[derive(Clone, Copy, Debug)]
@@ -33,13 +33,14 @@ fn bad_character(bytes: &[u8]) -> Lexeme
 }
 
 /// What begins with a quote: an item of this kind (6.4.2.1, 6.4.6), or a bad character where it isn't well closed.
-fn quoted(kind: Kind, quote: u8, bytes: &[u8]) -> Lexeme
+fn quoted(kind: Kind, quote: u8, bytes: &[u8], unclosed: Option<usize>) -> Lexeme
     requires nonempty { 0 < length bytes.now }
     requires ascii { (0 < quote) × (quote < 128) }
+    requires unclosed { IsOpenAt quote unclosed bytes.now }
     ensures value { lexeme_of result ≡ spec.quoted (kind_of kind) quote bytes.now }
     ensures within { (1 ≤ result.len) × (result.len ≤ length bytes.now) }
 {
-    match item_len(quote, &bytes[1..]) {
+    match item_end(quote, bytes, unclosed) {
         None => bad_character(bytes),
         Some(n) => Lexeme {
             kind: Some(kind),
@@ -63,7 +64,7 @@ fn comment_len(bytes: &[u8]) -> Option<usize>
 
 /// How far the comment that begins with these `/*` goes on behind them; none where it has no end, and where it is known that
 /// none comes.
-#[tactic(auto, using(crate::proofs::CommentLemmas::no_end_later))]
+#[tactic(auto, using(crate::proofs::KnownLemmas::no_end_later))]
 fn comment_end(bytes: &[u8], endless: bool) -> Option<usize>
     requires long { 2 ≤ length bytes.now }
     requires endless { IsEndless endless bytes.now }
@@ -171,27 +172,11 @@ fn symbol(bytes: &[u8], endless: bool) -> Lexeme
     }
 }
 
-/// Whether no `*/` comes behind the first byte that a text has left behind the lexeme at its front, as far as that is known:
-/// where it was known of the text, or the lexeme is a `/*` that begins no comment.
-pub fn is_endless_behind(bytes: &[u8], endless: bool, lexeme: Lexeme) -> bool
-    requires front { lexeme_of lexeme ≡ spec.lexeme bytes.now }
-    requires endless { IsEndless endless bytes.now }
-    ensures { IsEndless result (drop lexeme.len bytes.now) }
-{
-    if endless {
-        return true;
-    }
-    match bytes {
-        [b'/', b'*', ..] => lexeme.kind.is_some(),
-        _ => false,
-    }
-}
-
-/// The lexeme at the front of a text that isn't empty. It may be known that no `*/` comes behind its first byte.
+/// The lexeme at the front of a text that isn't empty, of which this is known.
 #[tactic(auto, unfolding(iso_model::specs::Syntax::Lexemes::lexeme))]
-pub fn first_lexeme(bytes: &[u8], endless: bool) -> Lexeme
+pub fn first_lexeme(bytes: &[u8], known: Known) -> Lexeme
     requires nonempty { 0 < length bytes.now }
-    requires endless { IsEndless endless bytes.now }
+    requires known { IsKnown known bytes.now }
     ensures value { lexeme_of result ≡ spec.lexeme bytes.now }
     ensures within { (1 ≤ result.len) × (result.len ≤ length bytes.now) }
 {
@@ -204,8 +189,8 @@ pub fn first_lexeme(bytes: &[u8], endless: bool) -> Lexeme
         b'a'..=b'z' => run_of(Kind::Name, Class::Alphanumeric, bytes),
         b'A'..=b'Z' | b'_' => run_of(Kind::Variable, Class::Alphanumeric, bytes),
         b'0'..=b'9' => integer(bytes),
-        b'\'' => quoted(Kind::Quoted, b'\'', bytes),
-        b'"' => quoted(Kind::Double, b'"', bytes),
-        _ => symbol(bytes, endless),
+        b'\'' => quoted(Kind::Quoted, b'\'', bytes, known.single),
+        b'"' => quoted(Kind::Double, b'"', bytes, known.double),
+        _ => symbol(bytes, known.endless),
     }
 }

@@ -1,15 +1,16 @@
-use Rattle.std.proofs.Common.{◌≡◌, ℕ, Bool, List, drop, ap, false, ◌<◌, length, sym, ◌∙◌, subst, IsUtf8, IsCharBoundary, arith}
+use Rattle.std.proofs.Common.{◌≡◌, ℕ, List, drop, ap, false, ◌<◌, length, sym, ◌∙◌, subst, IsUtf8, IsCharBoundary, arith}
 use Rattle.std.proofs.lemmas.Bool.Decides.{nat_tests}
 use Rattle.iso_model.proofs.Syntax.LexemeLemmas.{lexeme-cut}
 use Rattle.iso_model.proofs.Syntax.TokenLemmas.{tokens-nil, tokens-layout, tokens-token}
-use Rattle.iso_token.specs.Comments.{IsEndless}
+use Rattle.iso_token.specs.declared.known.Known.{Known}
+use Rattle.iso_token.specs.Known.{IsKnown}
 use Rattle.iso_token.specs.Shows.{kind_of}
 use Rattle.iso_token.proofs.ShowsLemmas.{lexeme_some, lexeme_none, lexeme_len}
 use Rattle.iso_token.proofs.cursor.Tokens.next.Goals as goal
 
 -- what is known of the bytes is known of the text
-endless_behind : (known : Bool) (n : ℕ) (bytes z rest : List ℕ) → bytes ≡ z → rest ≡ drop n z → IsEndless known (drop n bytes) → IsEndless known rest
-endless_behind known n bytes z rest same back h = subst (IsEndless known) (ap (drop n) same ∙ sym back) h
+known_later : (known : Known) (n : ℕ) (bytes z rest : List ℕ) → bytes ≡ z → rest ≡ drop n z → IsKnown known (drop n bytes) → IsKnown known rest
+known_later known n bytes z rest same back h = subst (IsKnown known) (ap (drop n) same ∙ sym back) h
 
 pub split_at-requires : goal.split_at-requires
 split_at-requires c =
@@ -38,7 +39,7 @@ loop-self-preserved c =
     let goes = tokens-layout l.result.len c.loop-self.self-inside.start c.loop-self.after_layout z some l.ensures.within.0 is in (
       rw c.split_at.ensures.back (sym goes ∙ c.loop-self.invariant.0),
       omega arith,
-      endless_behind _ _ _ z _ c.as_bytes-bytes.ensures.value c.split_at.ensures.back c.is_endless_behind-endless.ensures,
+      known_later _ _ _ z _ c.as_bytes-bytes.ensures.value c.split_at.ensures.back c.known_behind-known.ensures,
     )
 
 pub returns : goal.returns
@@ -50,4 +51,4 @@ returns c =
 pub invariant_of-self-in-Some : goal.invariant_of-self-in-Some
 invariant_of-self-in-Some c =
     let z = c.loop-self.self-inside.rest.now in
-    (omega arith, endless_behind _ _ _ z _ c.as_bytes-bytes.ensures.value c.split_at.ensures.back c.is_endless_behind-endless.ensures)
+    (omega arith, known_later _ _ _ z _ c.as_bytes-bytes.ensures.value c.split_at.ensures.back c.known_behind-known.ensures)

@@ -1,10 +1,14 @@
--- Comments that have no end.
-use Rattle.std.proofs.Common.{◌≡◌, ℕ, zero, suc, ◌+◌, Bool, true, false, ◌&&◌, ◌==◌, if◌then◌else◌, List, [], ◌∷◌, drop, drop-drop, add_comm, is_some, true≢false, slice_index, Option, Some, None, option_map, refl, sym, ap, ◌∙◌}
+-- Comments and quoted items that have no end.
+use Rattle.std.proofs.Common.{◌≡◌, ℕ, zero, suc, ◌<◌, ◌≤◌, ◌⊎◌, inl, inr, length, ◌+◌, Bool, true, false, ◌&&◌, ◌==◌, if◌then◌else◌, List, [], ◌∷◌, drop, drop-drop, add_comm, is_some, true≢false, slice_index, Option, Some, None, option_map, refl, sym, ap, ◌∙◌, arith}
 use Rattle.iso_model.specs.Syntax.Lexemes.{comment_len}
+use Rattle.iso_model.specs.Syntax.Token.{TokenKind, QuotedToken, DoubleToken, BadToken}
+use Rattle.iso_model.specs.Syntax.Quoted.{Stands, piece_at, item_len}
+use Rattle.iso_model.proofs.Syntax.QuotedLemmas.{item-stands}
+use Rattle.std.proofs.lemmas.List.{length-drop}
 use Rattle.std.specs.Option.{option_map_or}
 use Rattle.iso_model.specs.Syntax.Characters.{is_layout, character_len}
 use Rattle.iso_model.specs.Syntax.Lexemes as lexemes
-use Rattle.iso_model.specs.Syntax.Lexemes.{bad_character, commented, symbol, lexeme}
+use Rattle.iso_model.specs.Syntax.Lexemes.{bad_character, quoted, commented, symbol, lexeme}
 use Rattle.iso_model.proofs.Syntax.LexemeLemmas.{BeginsSymbol, lexeme-symbol}
 use Rattle.iso_token.specs.declared.lexemes.Lexeme.{Lexeme}
 use Rattle.iso_token.specs.declared.kinds.Kind.{Kind}
@@ -62,3 +66,33 @@ open_lexeme l z slash star value some = by (comment_len (drop 2 z)) refl
     by (Some n) end =
         let is : lexeme_of l ≡ (None, 2 + n) = value_of ∙ ap (λ o. option_map_or (λ n. (None, 2 + n)) o (bad_character z)) end in
         absurd (no_kind l.kind (ap (λ (x : lexemes.Lexeme). x.0) is) some)
+
+-- an item that isn't closed goes on behind each of its pieces
+pub open_on : (q at len : ℕ) (z content : List ℕ) → at < length z → 1 ≤ len → piece_at q (drop at z) ≡ Stands content len → item_len q (drop at z) ≡ None → item_len q (drop (at + len) z) ≡ None
+open_on q at len z content within some is h =
+    let any : 0 < length (drop at z) = omega (arith, length-drop at z) in
+    let on = none_on len (item_len q (drop len (drop at z))) (sym (item-stands q (drop at z) content len any some is) ∙ h) in
+    ap (item_len q) (sym (drop-drop len at z)) ∙ on
+  where
+    none_on : (n : ℕ) (o : Option ℕ) → option_map (λ k. n + k) o ≡ None → o ≡ None
+    none_on n None h = refl
+    none_on n (Some k) h = cc
+
+single-is : (z : List ℕ) → slice_index z 0 ≡ 39 → lexeme z ≡ quoted QuotedToken 39 z
+unfolding lexeme
+single-is z is = rw is refl
+
+double-is : (z : List ℕ) → slice_index z 0 ≡ 34 → lexeme z ≡ quoted DoubleToken 34 z
+unfolding lexeme
+double-is z is = rw is refl
+
+no_item : (kind : TokenKind) (o : Option ℕ) (bad : lexemes.Lexeme) (n : ℕ) → (kind ≡ BadToken → ⊥) → (Some BadToken, n) ≡ option_map_or (λ k. (Some kind, 1 + k)) o bad → o ≡ None
+no_item kind None bad n other is = refl
+no_item kind (Some k) bad n other is =
+    let same : Some BadToken ≡ Some kind = ap (λ (x : lexemes.Lexeme). x.0) is in
+    absurd (other (cc))
+
+-- a quote that is a bad character opens no item
+pub open_item : (q : ℕ) (z : List ℕ) (n : ℕ) → (q ≡ 39) ⊎ (q ≡ 34) → slice_index z 0 ≡ q → lexeme z ≡ (Some BadToken, n) → item_len q (drop 1 z) ≡ None
+open_item q z n (inl e) first is = rw e (no_item QuotedToken (item_len 39 (drop 1 z)) (bad_character z) n (λ h. absurd (cc)) (sym is ∙ single-is z (first ∙ e)))
+open_item q z n (inr e) first is = rw e (no_item DoubleToken (item_len 34 (drop 1 z)) (bad_character z) n (λ h. absurd (cc)) (sym is ∙ double-is z (first ∙ e)))

@@ -1,6 +1,6 @@
 use Rattle.std.proofs.Common.{◌≡◌, slice_index, sym, ◌∙◌, arith}
-use Rattle.iso_token.proofs.CommentLemmas.{open_lexeme, no_end_behind}
-use Rattle.iso_token.proofs.lexemes.is_endless_behind.Goals as goal
+use Rattle.iso_token.proofs.KnownLemmas.{open_lexeme, no_end_behind}
+use Rattle.iso_token.proofs.known.is_endless_behind.Goals as goal
 
 pub returns-then-endless : goal.returns-then-endless
 returns-then-endless c = λ known. no_end_behind c.args.lexeme.len c.args.bytes.now (c.requires.endless c.if-endless.true)
