@@ -27,7 +27,7 @@ pub enum Piece {
 
 impl Piece {
     /// How many bytes it has.
-    fn len(self) -> usize
+    pub fn len(self) -> usize
         ensures { result ≡ len_of self }
     {
         match self {
@@ -53,7 +53,7 @@ fn escaped(bytes: &[u8]) -> Piece
 
 /// The piece at the front of a text that isn't empty, between such quotes.
 #[tactic(auto, unfolding(iso_model::specs::Syntax::Quoted::piece_at))]
-fn piece_at(quote: u8, bytes: &[u8]) -> Piece
+pub fn piece_at(quote: u8, bytes: &[u8]) -> Piece
     requires nonempty { 0 < length bytes.now }
     requires ascii { (0 < quote) × (quote < 128) }
     ensures value { piece_of bytes.now result ≡ spec.piece_at quote bytes.now }
