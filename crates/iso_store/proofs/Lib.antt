@@ -20,5 +20,6 @@ pub mod JoinLemmas
 pub mod LeftLemmas
 pub mod RowLemmas
 pub mod TaskLemmas
+pub mod PatternLemmas
 pub mod UnifyLemmas
 pub mod SearchLemmas

@@ -1,12 +1,12 @@
 -- The arguments of a compound term: their variables, their arities, the cells that they take.
-use Rattle.std.proofs.Common.{◌≡◌, ℕ, zero, suc, ◌+◌, ◌<◌, ◌≤◌, ◌&&◌, nat_le, List, [], ◌∷◌, length, map, take, get_or, Bool, true, false, refl, ap, sym, ◌∙◌, arith, String, Vec, Global, Some, None, inl, inr, if◌then◌else◌}
+use Rattle.std.proofs.Common.{◌≡◌, ℕ, ℤ, zero, suc, ◌+◌, ◌<◌, ◌≤◌, ◌&&◌, nat_le, List, [], ◌∷◌, length, map, take, get_or, Bool, true, false, refl, ap, sym, ◌∙◌, arith, String, Vec, Global, Some, None, inl, inr, if◌then◌else◌}
 use Rattle.std.specs.String.{string_bytes}
 use Rattle.std.proofs.lemmas.Bool.{and_parts, or_left, or_right, leb-true, eq-eqb, ne_eqb, cases_eq, false≢true}
 use Rattle.iso_model.specs.declared.terms.Term.{Term}
-use Rattle.iso_model.specs.declared.terms.Term.TheVariants.{Compound, Var, Atom, rolls-Var, rolls-Atom}
+use Rattle.iso_model.specs.declared.terms.Term.TheVariants.{Compound, Var, Int, Atom, rolls-Var, rolls-Int, rolls-Atom}
 use Rattle.iso_model.specs.declared.terms.Term.TheOpen.{Term-F}
 use Rattle.iso_model.specs.declared.terms.Term.TheFolds.{fold-roll-Term}
-use Rattle.iso_model.specs.Terms.Trees.{Tree, Variable, Name, Apply, row, count, arities_fit}
+use Rattle.iso_model.specs.Terms.Trees.{Tree, Variable, Integer, Name, Apply, row, count, arities_fit}
 use Rattle.iso_model.specs.Terms.TermOf.{term_of, row_of, term_step}
 use Rattle.iso_model.specs.Terms.Sizes.{size}
 use Rattle.iso_model.specs.Terms.Variables.{occurs, is_in}
@@ -20,6 +20,9 @@ use Rattle.iso_store.specs.Copying.{cells_of}
 
 pub term_of_variable : (n : ℕ) → term_of (Var n) ≡ Variable n
 term_of_variable n = ap term_of (sym (rolls-Var n)) ∙ fold-roll-Term Tree term_step (Term-F.Var n)
+
+pub term_of_integer : (z : ℤ) → term_of (Int z) ≡ Integer z
+term_of_integer z = ap term_of (sym (rolls-Int z)) ∙ fold-roll-Term Tree term_step (Term-F.Int z)
 
 pub term_of_atom : (a : String Global) → term_of (Atom a) ≡ Name (string_bytes a)
 term_of_atom a = ap term_of (sym (rolls-Atom a)) ∙ fold-roll-Term Tree term_step (Term-F.Atom a)

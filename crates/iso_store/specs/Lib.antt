@@ -4,6 +4,7 @@ pub mod Shapes
 pub mod Places
 pub mod Copying
 pub mod Tasks
+pub mod Patterns
 pub mod Notes
 pub mod Searching
 pub mod Unifying
