@@ -21,5 +21,6 @@ pub mod LeftLemmas
 pub mod RowLemmas
 pub mod TaskLemmas
 pub mod PatternLemmas
+pub mod InstanceLemmas
 pub mod UnifyLemmas
 pub mod SearchLemmas

@@ -109,7 +109,7 @@ size-popped left more t e =
     let all = ap (λ ts. size (row ts)) (left-push left more t e) ∙ size-append (terms_left left) (term_of t.now ∷ []) in
     omega arith
 
-after-append : (names : List (List ℕ)) (ks js : List Part) (ts : List Tree) → after_parts names (ks ++ js) ts ≡ after_parts names js (after_parts names ks ts)
+pub after-append : (names : List (List ℕ)) (ks js : List Part) (ts : List Tree) → after_parts names (ks ++ js) ts ≡ after_parts names js (after_parts names ks ts)
 after-append names [] js ts = refl
 after-append names (k ∷ ks) js ts = after-append names ks js (with_step (part_step names Variable k) ts)
 
