@@ -1,5 +1,5 @@
 -- Terms that are made of parts, with words for the variables.
-use Rattle.std.proofs.Common.{◌≡◌, ℕ, zero, suc, ◌+◌, ◌-◌, ◌<◌, ◌≤◌, ◌&&◌, ◌||◌, nat_le, List, [], ◌∷◌, ◌++◌, length, map, take, drop, get_or, Bool, true, false, refl, ap, ap₂, sym, ◌∙◌, subst, arith, inl, inr, length-append}
+use Rattle.std.proofs.Common.{◌≡◌, ℕ, suc, ◌+◌, ◌-◌, ◌<◌, ◌≤◌, ◌&&◌, ◌||◌, nat_le, List, [], ◌∷◌, ◌++◌, length, map, take, drop, get_or, Bool, true, false, refl, ap, ap₂, sym, ◌∙◌, subst, arith, inl, inr, length-append}
 use Rattle.std.specs.List.{All}
 use Rattle.std.proofs.lemmas.Bool.{and_parts, or_left, or_right, or_cases, leb-true, eq-eqb, false≢true}
 use Rattle.std.proofs.lemmas.List.{map-append, length-map, take-map, drop-map, take-append-drop, length-drop, take_all}
@@ -15,7 +15,7 @@ use Rattle.iso_store.specs.declared.patterns.Part.{Part}
 use Rattle.iso_store.specs.declared.patterns.Part.TheVariants.{Variable as Place, Integer as Number, Atom, Compound}
 use Rattle.iso_store.specs.Presents.{Present, Holds, Makes, Gathers}
 use Rattle.iso_store.specs.Copying.{cells_of}
-use Rattle.iso_store.specs.Patterns.{IsNamed, IsPattern, HasPlaces, IsReady, part_step, part_cells, after_parts, at_places, taken}
+use Rattle.iso_store.specs.Patterns.{IsPattern, HasPlaces, IsReady, part_step, part_cells, after_parts, at_places, taken}
 use Rattle.iso_store.proofs.Gathering.{keeps-none, keeps-then, terms-kept, gathers-more, gathers-length}
 use Rattle.iso_store.proofs.PatternLemmas.{after-append}
 
@@ -226,7 +226,6 @@ module _ {W : Type 0} {p q r : Present W} (names : List (List ℕ)) (variables :
             part.terms ∙ ap₂ (λ vs xs. with_step (part_step names (at_places vs) k) xs) same so.terms
             ∙ sym (part-applied names (at_places (map p.term variables)) k ts);
       }
-
 
 pub gathers-count : {W : Type 0} {p q : Present W} {ws : List W} (s : Subst) (ts : List Tree) → Gathers p q ws (map (apply s) ts) → length ws ≡ length ts
 gathers-count s ts so = gathers-length so ∙ length-map ts (apply s)

@@ -22,5 +22,6 @@ pub mod RowLemmas
 pub mod TaskLemmas
 pub mod PatternLemmas
 pub mod InstanceLemmas
+pub mod Renaming
 pub mod UnifyLemmas
 pub mod SearchLemmas

@@ -1,20 +1,19 @@
 -- Terms that are written out part by part.
-use Rattle.std.proofs.Common.{◌≡◌, ℕ, ◌+◌, ◌<◌, List, [], ◌∷◌, ◌++◌, length, map, reverse, get_or, suc, refl, ap, ap₂, sym, ◌∙◌, arith, Result, OnOk}
+use Rattle.std.proofs.Common.{◌≡◌, ℕ, ◌+◌, ◌<◌, List, [], ◌∷◌, ◌++◌, length, map, reverse, get_or, suc, refl, ap, ap₂, sym, ◌∙◌, arith}
 use Rattle.std.specs.Borrow.{Bor}
 use Rattle.std.specs.List.{All}
 use Rattle.std.proofs.lemmas.List.{map-append, length-map}
 use Rattle.std.proofs.lemmas.List.Elements.{All-push}
 use Rattle.std.proofs.lemmas.List.Sorted.{All-permutation, IsPermutation-reverse}
 use Rattle.std.proofs.lemmas.Grind.{reverse_onto}
-use Rattle.iso_atoms.specs.Texts.{KeepsTexts, text_at}
+use Rattle.iso_atoms.specs.Texts.{KeepsTexts}
 use Rattle.iso_model.specs.declared.terms.Term.{Term}
-use Rattle.iso_model.specs.Terms.Trees.{Tree, Variable, Integer, Name, Apply, row}
-use Rattle.iso_model.specs.Terms.TermOf.{term_of, row_of}
+use Rattle.iso_model.specs.Terms.Trees.{Tree, Variable, Name, Apply, row}
+use Rattle.iso_model.specs.Terms.TermOf.{term_of}
 use Rattle.iso_model.specs.Terms.Sizes.{size}
 use Rattle.iso_model.specs.Terms.Substitutions.{Subst, apply}
-use Rattle.iso_model.specs.Terms.Building.{Step, Give, Gather, with_step, with_steps}
+use Rattle.iso_model.specs.Terms.Building.{Give, Gather, with_step, with_steps}
 use Rattle.iso_model.proofs.OnTerms.BuildingLemmas.{with_steps-more, with_gathered}
-use Rattle.iso_model.proofs.OnTerms.CopyingLemmas.{on_ok_by}
 use Rattle.iso_model.proofs.OnTerms.CostOfRows.{apply-row}
 use Rattle.iso_store.specs.declared.patterns.Part.{Part}
 use Rattle.iso_store.specs.declared.patterns.Part.TheVariants.{Variable as Place, Integer as Number, Atom, Compound}

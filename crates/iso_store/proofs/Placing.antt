@@ -1,5 +1,5 @@
 -- Places of variables in a list that grows.
-use Rattle.std.proofs.Common.{◌≡◌, ◌≢◌, ℕ, suc, ◌+◌, ◌==◌, List, [], ◌∷◌, ◌++◌, length, Bool, true, false, cond, refl, ap, sym, ◌∙◌, Option, Some, None, option_map, is_some, nat_cmp, arith, inl, inr, if◌then◌else◌}
+use Rattle.std.proofs.Common.{◌≡◌, ◌≢◌, ℕ, suc, ◌+◌, ◌<◌, ◌==◌, List, [], ◌∷◌, ◌++◌, length, Bool, true, false, cond, refl, ap, sym, ◌∙◌, Option, Some, None, option_map, is_some, nat_cmp, arith, inl, inr, if◌then◌else◌}
 use Rattle.std.proofs.lemmas.Bool.{eq-eqb, ne_eqb, lt-ltb, le-ltb, cases_eq, cases_lt, or_parts, false≢true}
 use Rattle.std.specs.BTreeMap.{is_at}
 use Rattle.std.specs.Option.{unwrap_or}
@@ -77,3 +77,16 @@ place_or-length vs x = of_test (is_in x vs) refl
     of_test : (b : Bool) → is_in x vs ≡ b → unwrap_or (if b then Some (place_of x vs) else None) (length vs) ≡ place_of x vs
     of_test true inside = refl
     of_test false outside = sym (place_of-absent vs x outside)
+
+-- the place is among so many
+pub place-within : (vs : List ℕ) (x : ℕ) → is_in x vs ≡ true → place_of x vs < length vs
+place-within [] x h = absurd (false≢true h)
+place-within (v ∷ vs) x h =
+    elim (cases_eq v x) [
+      | inl e ↦ let first : place_of x (v ∷ vs) ≡ 0 = rw (eq-eqb v x e) refl in omega arith
+      | inr other ↦
+          let later : place_of x (v ∷ vs) ≡ 1 + place_of x vs = rw (ne_eqb v x other) refl in
+          let inside : is_in x vs ≡ true = rw (ne_eqb v x other) at h in
+          let below = place-within vs x inside in
+          omega arith
+    ]

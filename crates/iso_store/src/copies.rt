@@ -18,7 +18,7 @@ ghost use Rattle.iso_store.specs.Tasks.{IsTask, step_of, steps_of};
 use super::cells::Cells;
 use super::instances::instantiate;
 use super::numbering::Numbering;
-use super::patterns::{written, Places};
+use super::patterns::{Places, written};
 use super::shapes::{Shape, StoreFault};
 use iso_atoms::Atom;
 use iso_model::terms::build_last;

@@ -1,4 +1,4 @@
-use Rattle.std.proofs.Common.{rules, ◌≡◌, ◌∷◌, [], map, ap, sym, ◌∙◌, arith}
+use Rattle.std.proofs.Common.{rules, ◌≡◌, [], map, ap, sym, ◌∙◌, arith}
 use Rattle.iso_model.specs.Terms.Trees.{Variable}
 use Rattle.iso_model.specs.Terms.Building.{with_steps}
 use Rattle.iso_model.specs.Terms.Substitutions.{apply}
