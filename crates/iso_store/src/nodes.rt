@@ -10,7 +10,9 @@ ghost use Rattle.iso_store.specs.NodeNumbers.{nodes-untouched};
 
 use super::cells::Cells;
 use super::copies::{build, copy_out};
+use super::instances::instantiate;
 use super::marks::{NodesMark, unwind};
+use super::patterns::{written, Pattern, Places};
 use super::reaches::{farther, within};
 use super::scratch::Scratch;
 use super::shapes::{Shape, StoreFault};
@@ -277,6 +279,18 @@ impl Store for Nodes {
 
     fn build(&mut self, term: &Term) -> Result<usize, StoreFault> {
         build(self.alloc, self, term)
+    }
+
+    fn pattern(&mut self, term: &Term) -> Result<Pattern, NoMemory> {
+        written(self.alloc, self, term, Places::Numbers)
+    }
+
+    fn instantiate(
+        &mut self,
+        pattern: &Pattern,
+        variables: &[usize],
+    ) -> Result<usize, StoreFault> {
+        instantiate(self.alloc, self, pattern, variables)
     }
 
     fn unify(&mut self, first: usize, second: usize) -> Result<bool, StoreFault> {
