@@ -25,3 +25,4 @@ pub mod InstanceLemmas
 pub mod Renaming
 pub mod UnifyLemmas
 pub mod SearchLemmas
+pub mod ListingLemmas

@@ -7,6 +7,7 @@ pub mod Tasks
 pub mod Patterns
 pub mod Notes
 pub mod Searching
+pub mod Listing
 pub mod Unifying
 pub mod Rows
 pub mod NodeTerms

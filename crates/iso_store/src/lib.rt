@@ -23,6 +23,7 @@ mod stores;
 #[cfg(test)]
 mod tests;
 mod unify;
+mod variables;
 
 pub use marks::NodesMark;
 pub use nodes::Nodes;

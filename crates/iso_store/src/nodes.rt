@@ -1,11 +1,11 @@
 //! A store of nodes: a vector of at most `limit` of them.
 ghost use Rattle.std.specs.Prelude.{◌≡◌, ℕ, ◌+◌, ◌<◌, ◌≤◌, ◌++◌, ◌∷◌, [], length, IfOk, is_ok, if◌then◌else◌, MatchOption, true, false};
-ghost use Rattle.std.specs.List.{slice_get};
+ghost use Rattle.std.specs.List.{slice_get, position_or_len};
 ghost use Rattle.iso_atoms.specs.Texts.{EachOnce};
 ghost use Rattle.iso_model.specs.Terms.Substitutions.{apply};
 ghost use Rattle.iso_store.specs.declared.nodes.Node.TheVariants.{Var};
 ghost use Rattle.iso_store.specs.NodeTerms.{term_at, substitution_of};
-ghost use Rattle.iso_store.specs.NodeStores.{IsStore, LeadsBack, MayPush, StandsFor, IsOlder, is_bound, present_of, empty};
+ghost use Rattle.iso_store.specs.NodeStores.{IsStore, LeadsBack, MayPush, StandsFor, IsOlder, has_number, is_bound, present_of, empty};
 ghost use Rattle.iso_store.specs.NodeNumbers.{nodes-untouched};
 
 use super::cells::Cells;
@@ -133,6 +133,8 @@ impl Cells for Nodes {
     ghost full = { λ s. s.limit ≤ length s.nodes.items };
 
     ghost at_place = { λ s k. apply (substitution_of s.atoms s.nodes.items s.trail.items) (term_at s.atoms s.nodes.items k) };
+
+    ghost variable_place = { λ s n. position_or_len (has_number n) s.nodes.items };
 
     ghost width = { λ _. 1 };
 
