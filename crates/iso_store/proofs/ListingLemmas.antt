@@ -1,23 +1,20 @@
 -- What is left to do of listing the variables of a term.
-use Rattle.std.proofs.Common.{◌≡◌, ◌≢◌, ℕ, ◌+◌, ◌*◌, ◌<◌, List, [], ◌∷◌, ◌++◌, map, Bool, true, false, refl, ap, ap₂, sym, ◌∙◌, subst, arith, append_assoc, sum_by, Option, Some, None, IsSome, is_some, ◌⊎◌, inl, inr, ◌==◌, if◌then◌else◌}
+use Rattle.std.proofs.Common.{◌≡◌, ℕ, ◌+◌, ◌<◌, List, [], ◌∷◌, ◌++◌, map, true, refl, ap, sym, ◌∙◌, subst, arith, append_assoc, IsSome}
 use Rattle.std.specs.List.{All}
-use Rattle.std.proofs.lemmas.Bool.{cases_eq, cases_Bool, ne_eqb, eq-eqb, eqb-true, or_cases, or_left, or_right, false≢true}
-use Rattle.std.proofs.lemmas.List.{map-append}
-use Rattle.std.proofs.lemmas.List.Elements.{All-push}
+use Rattle.std.proofs.lemmas.Bool.{eq-eqb, or_left, or_right, false≢true}
 use Rattle.iso_model.specs.Terms.Trees.{Tree, Variable, Integer, Name, Apply, End, More, row, count}
 use Rattle.iso_model.specs.Terms.Sorts.{is_term}
 use Rattle.iso_model.specs.Terms.Sizes.{size}
 use Rattle.iso_model.specs.Terms.Variables.{occurs, is_in, distinct_from}
-use Rattle.iso_model.specs.Terms.Unification.Listed.{Covers, is_in-append, is_in-last, distinct_covers}
-use Rattle.iso_store.specs.declared.notes.Notes.{Notes}
+use Rattle.iso_model.specs.Terms.Unification.Listed.{Covers, distinct_covers}
 use Rattle.iso_store.specs.declared.occurs.Task.{Task}
 use Rattle.iso_store.specs.declared.occurs.Task.TheVariants.{Search, Leave}
 use Rattle.iso_store.specs.declared.variables.Listing.{Listing}
 use Rattle.iso_store.specs.Presents.{Present, Holds, meaning}
 use Rattle.iso_store.specs.Arguments.{arity, argument, arguments_from}
 use Rattle.iso_store.specs.Notes.{noted}
-use Rattle.iso_store.specs.Searching.{IsThere, load}
-use Rattle.iso_store.specs.Listing.{IsListing, AreSeen, seen, seen_after, number_of, listing_load}
+use Rattle.iso_store.specs.Searching.{IsThere}
+use Rattle.iso_store.specs.Listing.{IsListing, AreSeen, seen, seen_after, number_of}
 use Rattle.iso_store.proofs.ArgumentLemmas.{row_of_term, arguments-more, arguments-last, arguments-whole}
 
 -- a term whose variables were seen brings none
@@ -85,32 +82,6 @@ module _ {W : Type 0} (p : Present W) where
       pub are-argument : (now : List ℕ) (ys : List (Task W)) → ys ≡ xs ++ Search word (i + 1) n ∷ [] → AreSeen p at (distinct_from now (row (arguments_from i (meaning p word)))) xs → AreSeen p at (distinct_from now t) ys
       are-argument now ys more sound = rw more (are-append (distinct_from now t) xs (Search word (i + 1) n ∷ []) (subst (λ s. AreSeen p at s xs) (distinct-more now) sound) tt)
 
--- one place more is noted
-noted-more : (old new : Notes Unit) (k : ℕ) → ((j : ℕ) → noted new j ≡ (if j == k then Some tt else noted old j)) → (j : ℕ) → IsSome (noted old j) → IsSome (noted new j)
-noted-more old new k more j some =
-    elim (cases_eq j k) [
-      | inl same ↦ let now : noted new j ≡ Some tt = more j ∙ rw (eq-eqb j k same) refl in ap is_some now
-      | inr other ↦ subst IsSome (sym (more j ∙ rw (ne_eqb j k other) refl)) some
-    ]
-
-noted-here : (old new : Notes Unit) (k : ℕ) → ((j : ℕ) → noted new j ≡ (if j == k then Some tt else noted old j)) → IsSome (noted new k)
-noted-here old new k more = let now : noted new k ≡ Some tt = more k ∙ rw (eq-eqb k k refl) refl in ap is_some now
-
-noted-cases : (old new : Notes Unit) (k : ℕ) → ((j : ℕ) → noted new j ≡ (if j == k then Some tt else noted old j)) → (j : ℕ) → IsSome (noted new j) → (j ≡ k) ⊎ IsSome (noted old j)
-noted-cases old new k more j some =
-    elim (cases_eq j k) [
-      | inl same ↦ inl same
-      | inr other ↦ inr (subst IsSome (more j ∙ rw (ne_eqb j k other) refl) some)
-    ]
-
-or_cases_last : (x : ℕ) (vs : List ℕ) (n : ℕ) → is_in x (vs ++ n ∷ []) ≡ true → (is_in x vs ≡ true) ⊎ (n ≡ x)
-or_cases_last x [] n h = inr (eqb-true n x (elim (or_cases (n == x) false h) [ inl here ↦ here | inr never ↦ absurd (false≢true never) ]))
-or_cases_last x (v ∷ vs) n h =
-    elim (or_cases (v == x) (is_in x (vs ++ n ∷ [])) h) [
-      | inl here ↦ inl (or_left (v == x) (is_in x vs) here)
-      | inr there ↦ elim (or_cases_last x vs n there) [ inl old ↦ inl (or_right (v == x) (is_in x vs) old) | inr same ↦ inr same ]
-    ]
-
 pub size-of-term : (t : Tree) → is_term t ≡ true → 0 < size t
 size-of-term (Variable n) h = omega arith
 size-of-term (Integer z) h = omega arith
@@ -132,46 +103,6 @@ module _ {W : Type 0} (p : Present W) (at : ℕ → Tree) (place : ℕ → ℕ) 
         there = there;
         sound = sound;
       }
-
-  -- the variable of a word was not found before
-  module _ (l m : Listing W) (word : W) (k n : ℕ) (is : meaning p word ≡ Variable n) (here : at k ≡ meaning p word) (of_number : place n ≡ k) (new : IsSome (noted l.searched k) → ⊥)
-      (found : m.found.items ≡ l.found.items ++ word ∷ []) (more : (j : ℕ) → noted m.searched j ≡ (if j == k then Some tt else noted l.searched j))
-      (known : (x : ℕ) → is_in x (seen p l) ≡ true → IsSome (noted l.searched (place x))) where
-    unseen : is_in n (seen p l) ≡ false
-    unseen =
-        elim (cases_Bool (is_in n (seen p l))) [
-          | inl old ↦ absurd (new (subst (λ j. IsSome (noted l.searched j)) of_number (known n old)))
-          | inr other ↦ other
-        ]
-
-    seen-pushed : seen p m ≡ seen p l ++ n ∷ []
-    seen-pushed = ap (map (λ w. number_of (meaning p w))) found ∙ map-append (λ w. number_of (meaning p w)) l.found.items (word ∷ []) ∙ ap (λ t. seen p l ++ number_of t ∷ []) is
-
-    pub seen-variable : seen p m ≡ distinct_from (seen p l) (meaning p word)
-    seen-variable = seen-pushed ∙ sym (ap (distinct_from (seen p l)) is ∙ rw unseen refl)
-
-    pub listed-variable : m.tasks ≡ l.tasks → Holds p word → IsListing p at place (distinct_from (seen p l) (meaning p word)) l → IsListing p at place (seen p m) m
-    listed-variable tasks holds so = record {
-      hold = rw found (All-push (λ w. Holds p w) l.found.items word so.hold holds);
-      variables =
-          ap (map (meaning p)) found ∙ map-append (meaning p) l.found.items (word ∷ []) ∙ ap₂ (λ us t. us ++ t ∷ []) so.variables is
-          ∙ sym (ap (map Variable) seen-pushed ∙ map-append Variable (seen p l) (n ∷ []));
-      covered = λ j some.
-        elim (noted-cases l.searched m.searched k more j some) [
-          | inl same ↦ subst (λ s. Covers s (at j)) (sym seen-pushed)
-              (λ x o.
-                let at_x : occurs x (Variable n) ≡ true = sym (ap (occurs x) (ap at same ∙ here ∙ is)) ∙ o in
-                subst (λ y. is_in y (seen p l ++ n ∷ []) ≡ true) (eqb-true n x at_x) (is_in-last n (seen p l)))
-          | inr old ↦ subst (λ s. Covers s (at j)) (sym seen-pushed) (λ x o. is_in-append x (seen p l) (n ∷ []) (so.covered j old x o))
-        ];
-      known = λ x inside.
-        elim (or_cases_last x (seen p l) n (ap (is_in x) (sym seen-pushed) ∙ inside)) [
-          | inl old ↦ noted-more l.searched m.searched k more (place x) (so.known x old)
-          | inr same ↦ subst (λ j. IsSome (noted m.searched j)) (sym (ap place (sym same) ∙ of_number)) (noted-here l.searched m.searched k more)
-        ];
-      there = rw tasks so.there;
-      sound = rw tasks (subst (λ s. AreSeen p at s l.tasks.items) (sym seen-variable) so.sound);
-    }
 
 -- the arguments of a compound are there
 pub compound-there : {W : Type 0} (p : Present W) (word : W) (n : ℕ) (f : List ℕ) (ts : Tree) → Holds p word → meaning p word ≡ Apply f ts → count ts ≡ n → is_term (meaning p word) ≡ true → IsThere p (Search word 0 n)

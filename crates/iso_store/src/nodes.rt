@@ -18,6 +18,7 @@ use super::scratch::Scratch;
 use super::shapes::{Shape, StoreFault};
 use super::stores::Store;
 use super::unify::unify;
+use super::variables::variables;
 use iso_atoms::{Atom, Atoms};
 use iso_model::{NoMemory, Term};
 use std::alloc::Global;
@@ -321,6 +322,10 @@ impl Store for Nodes {
 
     fn copy_out(&self, word: usize) -> Result<Term, NoMemory> {
         copy_out(self.alloc, self, word)
+    }
+
+    fn variables(&self, word: usize) -> Result<Vec<usize>, NoMemory> {
+        variables(self.alloc, self, word)
     }
 
     ghost untouched = { λ s n none. nodes-untouched s.atoms s.nodes.items s.trail.items s.next s.is_store s.limit n none };

@@ -6,7 +6,7 @@ ghost use Rattle.iso_model.specs.Terms.Trees.{Tree, Integer, Name, Apply, Variab
 ghost use Rattle.iso_model.specs.Terms.TermOf.{term_of};
 ghost use Rattle.iso_model.specs.Terms.Sorts.{is_term};
 ghost use Rattle.iso_model.specs.Terms.Sizes.{size};
-ghost use Rattle.iso_model.specs.Terms.Variables.{variable_count};
+ghost use Rattle.iso_model.specs.Terms.Variables.{variables, variable_count};
 ghost use Rattle.iso_model.specs.Terms.Substitutions.{IsSubstitution, apply};
 ghost use Rattle.iso_model.specs.Terms.Copies.{copy_from};
 ghost use Rattle.iso_store.specs.Presents.{Present, Holds, meaning, KeepsWords, Makes, KeepsNumbers, TakesNumber, MovesOn, Grows, NumbersHaveCells, IsUnification, KeepsMarks, Untouched};
@@ -206,6 +206,13 @@ pub trait Store {
         requires { Holds (present self.now) word }
         ensures value { IfOk result (λ t. term_of t ≡ meaning (present self.now) word) }
         ensures well_formed { IfOk result (λ t. arities_fit (term_of t) ≡ true) };
+
+    /// Words for the variables of the term that the word stands for, each once, in the order of first occurrence. The error is
+    /// that memory was refused.
+    fn variables(&self, word: Self::Word) -> Result<Vec<Self::Word>, NoMemory>
+        requires { Holds (present self.now) word }
+        ensures hold { IfOk result (λ ws. All (λ w. Holds (present self.now) w) ws.items) }
+        ensures variables { IfOk result (λ ws. map (meaning (present self.now)) ws.items ≡ map Variable (variables (meaning (present self.now) word))) };
 
     // a number that no variable has, as one that is only reserved, stands for itself and is in no term that a word stands for
     ghost untouched: { (s : Self) (n : ℕ) → (present s).taken n ≡ false → Untouched (present s) n };

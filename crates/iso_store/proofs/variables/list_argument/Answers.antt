@@ -3,12 +3,10 @@ use Rattle.std.specs.List.{All}
 use Rattle.std.proofs.lemmas.List.Elements.{All-push}
 use Rattle.iso_store.specs.declared.occurs.Task.TheVariants.{Search}
 use Rattle.iso_model.proofs.OnTerms.CopyingLemmas.{on_ok_by}
-use Rattle.iso_model.specs.Terms.Trees.{row}
 use Rattle.iso_model.specs.Terms.Variables.{distinct_from}
 use Rattle.iso_store.specs.Presents.{meaning}
-use Rattle.iso_store.specs.Arguments.{arguments_from}
 use Rattle.iso_store.specs.Searching.{IsThere}
-use Rattle.iso_store.specs.Listing.{IsListing, AreSeen, seen, seen_after}
+use Rattle.iso_store.specs.Listing.{IsListing, seen, seen_after}
 use Rattle.iso_store.proofs.SearchLemmas.{load-last, load-argument}
 use Rattle.iso_store.proofs.ListingLemmas.{distinct-last, after-argument, are-argument, listed-tasks}
 use Rattle.iso_store.proofs.variables.list_argument.Goals as goal

@@ -1,18 +1,13 @@
-use Rattle.std.proofs.Common.{◌≡◌, ◌+◌, ◌*◌, ◌<◌, ◌∷◌, [], ◌++◌, ap, sym, ◌∙◌, subst, arith, refl, is_some, IsSome}
+use Rattle.std.proofs.Common.{◌∷◌, [], ◌++◌, ap, sym, ◌∙◌, subst, arith, refl, is_some}
 use Rattle.std.specs.List.{All}
-use Rattle.std.proofs.lemmas.Bool.{false≢true}
 use Rattle.std.proofs.lemmas.List.Elements.{All-push}
 use Rattle.iso_store.specs.declared.occurs.Task.TheVariants.{Search, Leave}
-use Rattle.iso_model.specs.Terms.Trees.{row}
-use Rattle.iso_model.specs.Terms.Sizes.{size}
-use Rattle.iso_model.specs.Terms.Variables.{distinct_from}
 use Rattle.iso_model.specs.Terms.Unification.Listed.{Covers}
 use Rattle.iso_store.specs.Presents.{meaning}
-use Rattle.iso_store.specs.Notes.{noted}
 use Rattle.iso_store.specs.Searching.{IsThere}
-use Rattle.iso_store.specs.Listing.{IsListing, AreSeen, seen, seen_after}
+use Rattle.iso_store.specs.Listing.{IsListing, seen, seen_after}
 use Rattle.iso_store.proofs.SearchLemmas.{load-compound}
-use Rattle.iso_store.proofs.ListingLemmas.{distinct-known, size-of-term, compound-there, after-compound, are-compound, listed-tasks, listed-variable, seen-variable}
+use Rattle.iso_store.proofs.ListingLemmas.{distinct-known, size-of-term, compound-there, after-compound, are-compound, listed-tasks}
 use Rattle.iso_store.proofs.variables.list_next.Goals as goal
 
 pub returns-then-is_some-clause-listing : goal.returns-then-is_some-clause-listing
@@ -69,24 +64,3 @@ returns-in_ok-push-in-Compound-2-clause-load g c =
     let here = c.in-Compound.ensures.shape in
     load-compound p (g.C.Cells.at_place c.args.store.now) 0 c.args.listing.now.tasks.items _ c.push-in-Compound-2.new.self.items c.args.word c.place-place.result c.in-Compound.count _ here.1 here.2 here.3
     c.in-Compound.ensures.term c.place-place.ensures.value c.in_ok-push-in-Compound.ensures.items c.in_ok-push-in-Compound-2.ensures.items
-
-pub returns-in_ok-push-in-Var-clause-listing : goal.returns-in_ok-push-in-Var-clause-listing
-returns-in_ok-push-in-Var-clause-listing g c =
-    let p = g.C.Cells.present c.args.store.now in
-    let place = g.C.Cells.variable_place c.args.store.now in
-    let l = c.args.listing.now in
-    let is = c.in-Var.ensures.shape in
-    let new : IsSome (noted l.searched c.place-place.result) → ⊥ = λ some. false≢true (c.if-is_some.ensures ∙ ap is_some c.at.ensures ∙ some) in
-    listed-variable p (g.C.Cells.at_place c.args.store.now) place l (record { found = c.push.new.self; searched = c.note.new.self; tasks = l.tasks }) c.args.word c.place-place.result c.in-Var.field-0
-    is c.place-place.ensures.value (c.place-place.ensures.variable c.in-Var.field-0 is) new c.in_ok-push-in-Var.ensures.items c.in_ok-note-in-Var.ensures c.requires.listing.known refl c.requires.word c.requires.listing
-
-pub returns-in_ok-push-in-Var-clause-seen : goal.returns-in_ok-push-in-Var-clause-seen
-returns-in_ok-push-in-Var-clause-seen g c =
-    let p = g.C.Cells.present c.args.store.now in
-    let place = g.C.Cells.variable_place c.args.store.now in
-    let l = c.args.listing.now in
-    let is = c.in-Var.ensures.shape in
-    let new : IsSome (noted l.searched c.place-place.result) → ⊥ = λ some. false≢true (c.if-is_some.ensures ∙ ap is_some c.at.ensures ∙ some) in
-    ap (λ s. seen_after p s l.tasks.items)
-    (seen-variable p (g.C.Cells.at_place c.args.store.now) place l (record { found = c.push.new.self; searched = c.note.new.self; tasks = l.tasks }) c.args.word c.place-place.result c.in-Var.field-0
-    is c.place-place.ensures.value (c.place-place.ensures.variable c.in-Var.field-0 is) new c.in_ok-push-in-Var.ensures.items c.in_ok-note-in-Var.ensures c.requires.listing.known)

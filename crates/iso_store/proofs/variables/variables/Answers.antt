@@ -1,7 +1,7 @@
-use Rattle.std.proofs.Common.{◌∷◌, [], sym, ap, ◌∙◌, subst, refl, Some}
+use Rattle.std.proofs.Common.{◌∷◌, [], sym, ◌∙◌, refl, Some}
 use Rattle.std.proofs.lemmas.List.Elements.{All-pop}
 use Rattle.iso_store.specs.Searching.{IsThere}
-use Rattle.iso_store.specs.Listing.{AreSeen, seen, seen_after}
+use Rattle.iso_store.specs.Listing.{seen, seen_after}
 use Rattle.iso_store.proofs.ListingLemmas.{are-parts, after-more, listed-tasks}
 use Rattle.iso_store.proofs.variables.variables.Goals as goal
 
