@@ -20,5 +20,9 @@ pub mod JoinLemmas
 pub mod LeftLemmas
 pub mod RowLemmas
 pub mod TaskLemmas
+pub mod PatternLemmas
+pub mod InstanceLemmas
+pub mod Renaming
 pub mod UnifyLemmas
 pub mod SearchLemmas
+pub mod ListingLemmas

@@ -1,7 +1,8 @@
 -- Places of variables in a list that grows.
-use Rattle.std.proofs.Common.{◌≡◌, ◌≢◌, ℕ, suc, ◌+◌, ◌==◌, List, [], ◌∷◌, ◌++◌, length, Bool, true, false, cond, refl, ap, sym, ◌∙◌, Option, Some, None, option_map, is_some, nat_cmp, arith, inl, inr, if◌then◌else◌}
+use Rattle.std.proofs.Common.{◌≡◌, ◌≢◌, ℕ, suc, ◌+◌, ◌<◌, ◌==◌, List, [], ◌∷◌, ◌++◌, length, Bool, true, false, cond, refl, ap, sym, ◌∙◌, Option, Some, None, option_map, is_some, nat_cmp, arith, inl, inr, if◌then◌else◌}
 use Rattle.std.proofs.lemmas.Bool.{eq-eqb, ne_eqb, lt-ltb, le-ltb, cases_eq, cases_lt, or_parts, false≢true}
 use Rattle.std.specs.BTreeMap.{is_at}
+use Rattle.std.specs.Option.{unwrap_or}
 use Rattle.iso_model.specs.Terms.Variables.{is_in}
 use Rattle.iso_model.specs.Terms.Copies.{place_of}
 use Rattle.iso_store.specs.Places.{place_in}
@@ -59,3 +60,33 @@ place_in-known vs x = of_test (is_in x vs)
     of_test : (b : Bool) → is_some (if b then Some (place_of x vs) else None) ≡ b
     of_test true = refl
     of_test false = refl
+
+place_of-absent : (vs : List ℕ) (x : ℕ) → is_in x vs ≡ false → place_of x vs ≡ length vs
+place_of-absent [] x absent = refl
+place_of-absent (v ∷ vs) x absent =
+    let parts = or_parts (v == x) (is_in x vs) absent in
+    let other : v ≢ x = λ e. false≢true (sym parts.0 ∙ eq-eqb v x e) in
+    let later : place_of x (v ∷ vs) ≡ 1 + place_of x vs = rw (ne_eqb v x other) refl in
+    let size : 1 + length vs ≡ suc (length vs) = omega arith in
+    later ∙ ap (λ k. 1 + k) (place_of-absent vs x parts.1) ∙ size
+
+-- the place, or how many there are
+pub place_or-length : (vs : List ℕ) (x : ℕ) → unwrap_or (place_in x vs) (length vs) ≡ place_of x vs
+place_or-length vs x = of_test (is_in x vs) refl
+  where
+    of_test : (b : Bool) → is_in x vs ≡ b → unwrap_or (if b then Some (place_of x vs) else None) (length vs) ≡ place_of x vs
+    of_test true inside = refl
+    of_test false outside = sym (place_of-absent vs x outside)
+
+-- the place is among so many
+pub place-within : (vs : List ℕ) (x : ℕ) → is_in x vs ≡ true → place_of x vs < length vs
+place-within [] x h = absurd (false≢true h)
+place-within (v ∷ vs) x h =
+    elim (cases_eq v x) [
+      | inl e ↦ let first : place_of x (v ∷ vs) ≡ 0 = rw (eq-eqb v x e) refl in omega arith
+      | inr other ↦
+          let later : place_of x (v ∷ vs) ≡ 1 + place_of x vs = rw (ne_eqb v x other) refl in
+          let inside : is_in x vs ≡ true = rw (ne_eqb v x other) at h in
+          let below = place-within vs x inside in
+          omega arith
+    ]

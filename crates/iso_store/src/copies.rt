@@ -16,7 +16,9 @@ ghost use Rattle.iso_store.specs.Copying.{placed_terms, cells_of};
 ghost use Rattle.iso_store.specs.Tasks.{IsTask, step_of, steps_of};
 
 use super::cells::Cells;
+use super::instances::instantiate;
 use super::numbering::Numbering;
+use super::patterns::{Places, written};
 use super::shapes::{Shape, StoreFault};
 use iso_atoms::Atom;
 use iso_model::terms::build_last;
@@ -160,33 +162,8 @@ fn make<C: Cells>(
     ensures names { KeepsTexts (C.names store.old) (C.names store.new) }
     ensures marks { KeepsMarks (C.stands store.old) (C.stands store.new) }
 {
-    match term {
-        Term::Var(number) => {
-            let Some(place) = variables.place(*number) else {
-                unreachable!()
-            };
-            Ok(words[place])
-        }
-        Term::Int(value) => {
-            let value = *value;
-            store.int(value)
-        }
-        Term::Atom(name) => {
-            let atom = store.intern(name.as_str())?;
-            store.atom(atom)
-        }
-        Term::Compound(name, arguments) => {
-            let mut made = Vec::new(alloc);
-            for argument in arguments {
-                let word = make(alloc, store, argument, variables, words)?;
-                if made.push(word).is_err() {
-                    return Err(StoreFault::NoMemory);
-                }
-            }
-            let atom = store.intern(name.as_str())?;
-            store.compound(atom, made.as_slice())
-        }
-    }
+    let pattern = written(alloc, store, term, Places::Among(variables))?;
+    instantiate(alloc, store, &pattern, words)
 }
 
 /// Words for variables of these reserved numbers, from `first` on.

@@ -4,8 +4,9 @@ ghost use Rattle.iso_model.specs.Terms.Trees.{Variable};
 ghost use Rattle.iso_model.specs.Terms.TermOf.{term_of, row_of};
 ghost use Rattle.iso_model.specs.Terms.Sizes.{size};
 ghost use Rattle.iso_model.specs.Terms.Variables.{distinct_from};
+ghost use Rattle.iso_model.specs.Terms.Copies.{place_of};
 ghost use Rattle.iso_store.specs.Rows.{rows_seen, row_load};
-ghost use Rattle.iso_store.specs.Places.{IsPlaced, place_in};
+ghost use Rattle.iso_store.specs.Places.{IsPlaced};
 
 use iso_model::{NoMemory, Term};
 use std::alloc::Global;
@@ -37,12 +38,12 @@ impl Numbering {
         self.numbers.len()
     }
 
-    /// The place of the variable, if it is there.
-    pub(crate) fn place(&self, number: u64) -> Option<usize>
+    /// The place of the variable; how many there are, if it is not there.
+    pub(crate) fn place(&self, number: u64) -> usize
         requires { IsPlaced self.now.places self.now.numbers.items }
-        ensures { result ≡ place_in number self.now.numbers.items }
+        ensures { result ≡ place_of number self.now.numbers.items }
     {
-        self.places.get(&number).copied()
+        self.places.get(&number).copied().unwrap_or(self.len())
     }
 
     /// Adds the variable at the end, unless it is there.
