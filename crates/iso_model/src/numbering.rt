@@ -4,6 +4,7 @@ ghost use Rattle.iso_model.specs.Terms.Trees.{Variable};
 ghost use Rattle.iso_model.specs.Terms.TermOf.{term_of, row_of};
 ghost use Rattle.iso_model.specs.Terms.Sizes.{size};
 ghost use Rattle.iso_model.specs.Terms.Variables.{distinct_from};
+ghost use Rattle.iso_model.specs.Terms.Copies.{place_of};
 ghost use Rattle.iso_model.specs.Terms.Rows.{rows_seen, row_load};
 
 use super::terms::Term;
@@ -49,6 +50,16 @@ impl Numbering {
         ensures within { IfSome result (λ place. place < length self.now) }
     {
         self.numbers.get_index_of(&number)
+    }
+
+    /// The place of the variable; how many there are, if it is not there.
+    pub fn place_or_len(&self, number: u64) -> usize
+        ensures { result ≡ place_of number self.now }
+    {
+        match self.place(number) {
+            Some(place) => place,
+            None => self.len(),
+        }
     }
 
     /// Adds the variable at the end, unless it is there. The error is that memory was refused; nothing changed then.

@@ -1,7 +1,6 @@
 pub mod Presents
 pub mod Arguments
 pub mod Shapes
-pub mod Places
 pub mod Copying
 pub mod Tasks
 pub mod Patterns
@@ -9,7 +8,6 @@ pub mod Notes
 pub mod Searching
 pub mod Listing
 pub mod Unifying
-pub mod Rows
 pub mod NodeTerms
 pub mod NodeStores
 pub mod NodeLemmas

@@ -14,7 +14,6 @@ use Rattle.iso_store.specs.declared.patterns.Part.{Part}
 use Rattle.iso_store.specs.declared.patterns.Part.TheVariants.{Variable as Place, Integer as Number, Atom, Compound}
 use Rattle.iso_store.specs.declared.patterns.Places.{Places}
 use Rattle.iso_store.specs.declared.patterns.Places.TheVariants.{Numbers, Among}
-use Rattle.iso_store.specs.Places.{IsPlaced}
 
 -- where these are the names of the atoms
 module _ (names : List (List ℕ)) where
@@ -68,15 +67,10 @@ part_cells width count (Number z) = 1
 part_cells width count (Atom a) = 1
 part_cells width count (Compound a n) = width (taken count n)
 
--- what is known of the places
-abbrev pub AreKnown : Places → Type 0
-AreKnown Numbers = Unit {0}
-AreKnown (Among n) = IsPlaced n.now.places n.now.numbers.items
-
 -- the variables by their places
 abbrev pub placed_by : Places → Subst
 placed_by Numbers x = Variable x
-placed_by (Among n) x = Variable (place_of x n.now.numbers.items)
+placed_by (Among n) x = Variable (place_of x n.now)
 
 -- the terms that are left to be written, the last one next
 abbrev pub terms_left : List (Bor Term) → List Tree

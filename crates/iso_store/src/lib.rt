@@ -12,7 +12,6 @@ mod marks;
 mod meetings;
 mod nodes;
 mod notes;
-mod numbering;
 mod occurs;
 mod patterns;
 mod reaches;

@@ -8,12 +8,11 @@ ghost use Rattle.iso_model.specs.Terms.Sizes.{size};
 ghost use Rattle.iso_model.specs.Terms.Building.{with_steps};
 ghost use Rattle.iso_model.specs.Terms.Substitutions.{apply};
 ghost use Rattle.iso_store.specs.Presents.{KeepsMarks};
-ghost use Rattle.iso_store.specs.Patterns.{IsNamed, IsPattern, part_step, AreKnown, placed_by, terms_left};
+ghost use Rattle.iso_store.specs.Patterns.{IsNamed, IsPattern, part_step, placed_by, terms_left};
 
 use super::cells::Cells;
-use super::numbering::Numbering;
 use iso_atoms::Atom;
-use iso_model::{NoMemory, Term};
+use iso_model::{NoMemory, Numbering, Term};
 use std::alloc::Global;
 
 /// A part of a term.
@@ -46,12 +45,11 @@ pub(crate) enum Places<'n> {
 
 /// The place of the variable of this number.
 fn place_of(places: Places, number: u64) -> usize
-    requires { AreKnown places }
     ensures { placed_by places.entry number ≡ Variable result }
 {
     match places {
         Places::Numbers => number as usize,
-        Places::Among(numbering) => numbering.place(number),
+        Places::Among(numbering) => numbering.place_or_len(number),
     }
 }
 
@@ -73,7 +71,6 @@ fn write_next<'t, C: Cells>(
     left: &mut Vec<&'t Term>,
     parts: &mut Vec<Part>,
 ) -> Result<(), NoMemory>
-    requires places { AreKnown places }
     requires named { All (IsNamed (C.names store.old)) parts.old.items }
     ensures named { OnOk result (All (IsNamed (C.names store.new)) parts.new.items) }
     ensures written { OnOk result (with_steps (map (part_step (C.names store.new) Variable) parts.new.items) (map (apply (placed_by places.entry)) (terms_left left.new.items))
@@ -113,7 +110,6 @@ pub(crate) fn written<C: Cells>(
     term: &Term,
     places: Places,
 ) -> Result<Pattern, NoMemory>
-    requires { AreKnown places }
     ensures pattern { IfOk result (λ r. IsPattern (C.names store.new) r.parts.items (apply (placed_by places.entry) (term_of term.now))) }
     ensures present { C.present store.new ≡ C.present store.old }
     ensures names { KeepsTexts (C.names store.old) (C.names store.new) }

@@ -11,7 +11,7 @@ use Rattle.iso_store.proofs.copies.make.Goals as goal
 
 pub instantiate-requires-clause-pattern : goal.instantiate-requires-clause-pattern
 instantiate-requires-clause-pattern g c =
-    let vs = c.args.variables.now.numbers.items in
+    let vs = c.args.variables.now in
     let t = term_of c.args.term.now in
     let fits = arities-renamed (λ x. place_of x vs) t ∙ c.requires.fits in
     let places = subst (λ n. HasPlaces n (apply (λ x. Variable (place_of x vs)) t)) (sym c.requires.count) (places-covered vs t c.requires.covered) in
@@ -20,7 +20,7 @@ instantiate-requires-clause-pattern g c =
 pub returns-clause-made : goal.returns-clause-made
 returns-clause-made g c =
     let p = g.C.Cells.present c.args.store.now in
-    let vs = c.args.variables.now.numbers.items in
+    let vs = c.args.variables.now in
     let t = term_of c.args.term.now in
     let whole = apply_apply (λ x. Variable (place_of x vs)) (at_places (map p.term c.args.words.now)) t in
     let made = rw c.written.ensures.present at (c.instantiate.ensures.made _ c.in_ok-pattern.ensures.pattern) in
@@ -28,7 +28,7 @@ returns-clause-made g c =
 
 pub returns-clause-cells : goal.returns-clause-cells
 returns-clause-cells g c =
-    let vs = c.args.variables.now.numbers.items in
+    let vs = c.args.variables.now in
     let t = term_of c.args.term.now in
     let grows = rw c.written.ensures.present at (c.instantiate.ensures.cells _ c.in_ok-pattern.ensures.pattern) in
     rw (sym (cells-renamed (λ x. place_of x vs) g.C.Cells.width t)) grows
