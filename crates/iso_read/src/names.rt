@@ -41,14 +41,14 @@ impl<'c> Names<'c> {
 
     /// The place of a variable's name, if it has one; `_` has none.
     fn place(&self, name: &str) -> Option<usize>
-        ensures { result ≡ model.place_of name.now self.now }
+        ensures { result ≡ model.name_place name.now self.now }
     {
         self.places.get(name).copied()
     }
 
     /// Puts a name behind the others, with its place unless it is `_`. Where memory is refused nothing is changed.
     fn push(&mut self, name: &'c str) -> Result<(), AllocError>
-        requires { model.place_of name.now self.old ≡ None }
+        requires { model.name_place name.now self.old ≡ None }
         ensures { OnOk result (self.new ≡ self.old ++ name.now ∷ []) }
     {
         let place = self.names.len();
@@ -66,7 +66,7 @@ impl<'c> Names<'c> {
     /// The number of the variable of this name, at one more occurrence.
     pub fn number(&mut self, name: &'c str) -> Result<usize, AllocError>
         ensures number { IfOk result (λ number. number ≡ model.number_of name.now self.old) }
-        ensures names { OnOk result (self.new ≡ model.with_name_by name.now self.old (model.place_of name.now self.old)) }
+        ensures names { OnOk result (self.new ≡ model.with_name_by name.now self.old (model.name_place name.now self.old)) }
     {
         if let Some(place) = self.place(name) {
             return Ok(place);

@@ -8,7 +8,7 @@ ghost use Rattle.iso_token.specs.Shows.{lexeme_of};
 
 use crate::kinds::Kind;
 use crate::lexemes::Lexeme;
-use crate::quoted::{Piece, item_len, piece_at};
+use crate::quoted::{QuotedPiece, item_len, piece_at};
 
 /// What is known of a text.
 #[derive(Clone, Copy, Debug)]
@@ -58,7 +58,7 @@ fn open_later(quote: u8, bytes: &[u8], place: usize, first: usize) -> Option<usi
     while at < first {
         let piece = piece_at(quote, &bytes[at..]);
         match piece {
-            Piece::Closes | Piece::Broken => return None,
+            QuotedPiece::Closes | QuotedPiece::Broken => return None,
             _ => at += piece.len(),
         }
     }

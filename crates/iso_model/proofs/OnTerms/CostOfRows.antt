@@ -6,7 +6,7 @@ use Rattle.iso_model.specs.Terms.Substitutions.{Subst, apply, compose}
 use Rattle.iso_model.specs.Terms.Unifiers.{Unifier}
 use Rattle.iso_model.specs.Terms.Unification.Applied.{apply_apply, apply_none}
 use Rattle.iso_model.specs.Terms.Unification.Composed.{unifier_same, unifier_more, unifier_apply}
-use Rattle.iso_model.specs.Terms.Unification.Exists.{Outcome, solved_unifier, exists_or_not}
+use Rattle.iso_model.specs.Terms.Unification.Exists.{Answer, solved_unifier, exists_or_not}
 use Rattle.iso_model.proofs.OnTerms.Cost.{cost, cost_first, cost_arguments, cost_more, cost_never}
 
 pub apply-row : (s : Subst) (us : List Tree) → apply s (row us) ≡ row (map (apply s) us)
