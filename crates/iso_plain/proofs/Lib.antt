@@ -1,5 +1,3 @@
-pub mod LinkedMoves
-pub mod LinkedStarts
 pub mod StandingLemmas
 pub mod EnteringLemmas
 pub mod BodyLemmas
