@@ -1,4 +1,7 @@
+pub mod SearchSteps
+pub mod SearchMoves
 pub mod StandingLemmas
+pub mod NodeLemmas
 pub mod EnteringLemmas
 pub mod BodyLemmas
 pub mod NumberLemmas

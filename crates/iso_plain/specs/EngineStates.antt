@@ -62,7 +62,7 @@ links_of e = record { nodes = e.nodes.items; frames = e.frames.items }
 module _ {S W M : Type 0} (present : S → Present W) (stands : S → M → Present W → Type 0) (older : M → M → Type 0) where
   -- The engine's choices are these alternatives, over a world and for a query with these variables.
   abbrev pub HasChoices : Plain S W M → World → List ℕ → List Alternative → Type 0
-  HasChoices e w named as = StandsForChoices (stands e.store) older e.base (left_at w.database.procedures) e.query.items named (links_of e) e.choices.items as
+  HasChoices e w named ks = StandsForChoices (stands e.store) older e.base (left_at w.database.procedures) e.query.items named (links_of e) e.choices.items ks
 
   -- The engine's parts are this state of the search; what was built is free.
   pub record IsEngine (e : Plain S W M) (s : State) : Type 0 where
@@ -81,7 +81,7 @@ module _ {S W M : Type 0} (present : S → Present W) (stands : S → M → Pres
 
   -- Of an engine that was stopped within a move its world and its choices are left, each with what it brings back.
   abbrev pub Keeps : Plain S W M → World → List Alternative → Type 0
-  Keeps e w as = IsWorld e w × IsBase (stands e.store) e.base × ((named : List ℕ) × HasChoices e w named as)
+  Keeps e w ks = IsWorld e w × IsBase (stands e.store) e.base × ((named : List ℕ) × HasChoices e w named ks)
 
   -- A spent engine stands for a state from which the search came, without an event, to one that has this world and these alternatives; where a
   -- goal was not started none is left. It keeps the operators and the flags of the state that it stands for.

@@ -64,6 +64,15 @@ pub record AtGoal {W : Type 0} (p : Present W) (links : Links W) (query : List W
   pub chain : Chain p links rest behind
   pub words : AreVariables p query named
 
+-- what stood when the choice was made
+abbrev pub links_at : {W M : Type 0} → kept.Choice W M → Links W → Links W
+links_at c links = record { nodes = take c.nodes links.nodes; frames = take c.frames links.frames }
+
+-- it still stands
+pub record StandsOn {W M : Type 0} (c : kept.Choice W M) (links : Links W) : Type 0 where
+  pub nodes : c.nodes ≤ length links.nodes
+  pub frames : c.frames ≤ length links.frames
+
 -- Choices are made of an engine's marks (whether a mark stands for a store, and which is older), its mark for the empty store, the clauses left at a
 -- procedure from a place on, and the words of the query's variables with their numbers.
 module _ {W M : Type 0} (stands : M → Present W → Type 0) (older : M → M → Type 0) (base : M) (left_at : ℕ → ℕ → List Clause) (query : List W) (named : List ℕ) where
@@ -77,27 +86,18 @@ module _ {W M : Type 0} (stands : M → Present W → Type 0) (older : M → M �
     pub left : a.left ≡ Clauses call (left_at c.attempt.procedure c.attempt.clause)
     pub some : 0 < length (left_at c.attempt.procedure c.attempt.clause)
 
-  -- what stood when the choice was made
-  abbrev pub links_at : kept.Choice W M → Links W → Links W
-  links_at c links = record { nodes = take c.nodes links.nodes; frames = take c.frames links.frames }
-
-  -- it still stands
-  pub record StandsOn (c : kept.Choice W M) (links : Links W) : Type 0 where
-    pub nodes : c.nodes ≤ length links.nodes
-    pub frames : c.frames ≤ length links.frames
-
   -- The choices, the newest last, are these alternatives, the newest first. What is below a choice stands over what stood when it was made.
   pub data StandsForChoices : Links W → List (kept.Choice W M) → List Alternative → Type 0 where
     none_kept : {links : Links W} → StandsForChoices links [] []
-    one_kept : {links : Links W} {before cs : List (kept.Choice W M)} {c : kept.Choice W M} {a : Alternative} {as : List Alternative} → cs ≡ before ++ c ∷ [] → StandsOn c links
+    one_kept : {links : Links W} {before cs : List (kept.Choice W M)} {c : kept.Choice W M} {a : Alternative} {ks : List Alternative} → cs ≡ before ++ c ∷ [] → StandsOn c links
         → StandsForChoice (links_at c links) c a → ((d : kept.Choice W M) → Among d before → older d.mark c.mark)
-        → StandsForChoices (links_at c links) before as → StandsForChoices links cs (a ∷ as)
+        → StandsForChoices (links_at c links) before ks → StandsForChoices links cs (a ∷ ks)
 
   -- What the newest choice stands for, and what stands below it.
-  pub record Newest (links : Links W) (cs : List (kept.Choice W M)) (c : kept.Choice W M) (as : List Alternative) : Type 0 where
+  pub record Newest (links : Links W) (cs : List (kept.Choice W M)) (c : kept.Choice W M) (ks : List Alternative) : Type 0 where
     pub alternative : Alternative
     pub below : List Alternative
-    pub is : as ≡ alternative ∷ below
+    pub is : ks ≡ alternative ∷ below
     pub within : StandsOn c links
     pub here : StandsForChoice (links_at c links) c alternative
     pub newer : (d : kept.Choice W M) → Among d (take (length cs - 1) cs) → older d.mark c.mark
@@ -114,7 +114,7 @@ numbers_a_step = 65535
 -- Room is left for the numbers of a clause entered at each alternative and in each step that is left.
 abbrev pub HaveRoom : ℕ → List Alternative → Type 0
 HaveRoom steps [] = Unit {0}
-HaveRoom steps (a ∷ as) = (a.next + numbers_a_step * (steps + 1) ≤ most_numbers) × HaveRoom steps as
+HaveRoom steps (a ∷ ks) = (a.next + numbers_a_step * (steps + 1) ≤ most_numbers) × HaveRoom steps ks
 
 -- where members are still to be run, the store's substitution and next number are those of the search, and room is left
 pub record GoesOn {W : Type 0} (p : Present W) (query : List W) (s : State) : Type 0 where

@@ -1,44 +1,30 @@
-use Rattle.std.proofs.Common.{◌≡◌, ◌<◌, ◌-◌, ◌+◌, ◌∷◌, length, drop, arith}
-use Rattle.iso_model.specs.Terms.Copies.{renamed}
-use Rattle.iso_model.specs.Terms.TermOf.{term_of}
-use Rattle.iso_plain.specs.Entering.{renamed_terms}
+use Rattle.std.proofs.Common.{arith, take, drop, length, ◌+◌, ◌≡◌}
+use Rattle.std.proofs.lemmas.List.{take_all}
+use Rattle.iso_plain.specs.Nodes.{trees_of}
+use Rattle.iso_plain.specs.Entering.{PartsFit, Extends}
 use Rattle.iso_plain.proofs.StandingLemmas.{variables_more}
-use Rattle.iso_plain.proofs.EnteringLemmas.{fits_at, below_at, links_push, frames_push, renamed_at, extends_made}
-use Rattle.iso_plain.proofs.entries.link.Goals as goal
+use Rattle.iso_plain.proofs.EnteringLemmas.{extends_none, extends_on, copies_none, copies_push, adds_none, adds_push, trees_at, trees_front}
+use Rattle.iso_plain.proofs.entries.copy_parts.Goals as goal
 
-pub instantiate-requires-clause-fits : goal.instantiate-requires-clause-fits
-instantiate-requires-clause-fits g c =
-    let before = c.loop-left.invariant in
-    let within : c.loop-left.left - 1 < length c.args.goals.now = omega (arith, before.within) in
-    fits_at c.args.goals.now (c.loop-left.left - 1) c.index-goals-left.result within c.index-goals-left.is c.requires.fits
+pub loop-part-init : goal.loop-part-init
+loop-part-init g c = record { fits = c.requires.fits; copies = λ first h. copies_none _ _; extends = extends_none _; nodes = adds_none _; marks = λ m p h. h }
 
-pub instantiate-requires-clause-below : goal.instantiate-requires-clause-below
-instantiate-requires-clause-below g c =
-    let before = c.loop-left.invariant in
-    let within : c.loop-left.left - 1 < length c.args.goals.now = omega (arith, before.within) in
-    below_at (length c.args.variables.now) c.args.goals.now (c.loop-left.left - 1) c.index-goals-left.result within c.index-goals-left.is c.requires.below
+pub copied_part-requires-clause-variables : goal.copied_part-requires-clause-variables
+copied_part-requires-clause-variables g c = (c.requires.variables.0, variables_more c.loop-part.invariant.extends.words c.requires.variables.1)
 
-pub instantiate-requires-clause-variables : goal.instantiate-requires-clause-variables
-instantiate-requires-clause-variables g c = (c.requires.variables.0, variables_more c.loop-left.invariant.extends.words c.requires.variables.1)
-
-pub loop-left-preserved : goal.loop-left-preserved
-loop-left-preserved g c =
-    let before = c.loop-left.invariant in
-    let goals = c.args.goals.now in
-    let left = c.loop-left.left in
-    let within : left - 1 < length goals = omega (arith, before.within) in
-    let next : left - 1 + 1 ≡ left = omega arith in
-    let at = renamed_at c.requires.variables.0 goals (left - 1) c.index-goals-left.result within c.index-goals-left.is in
-    let made = c.in_ok-goal.ensures.made in
-    let items = c.in_ok-push.ensures.items in
-    let place : c.len-place.result ≡ length c.loop-left.frames.items = cc (c.len-place.ensures, c.loop-left.frames.ok.0) in
+pub loop-part-preserved : goal.loop-part-preserved
+loop-part-preserved g c =
+    let before = c.loop-part.invariant in
+    let parts = c.args.parts.now in
+    let i = c.loop-part.part-index in
+    let part = c.part-item.result in
+    let made = c.in_ok-node.ensures.copies in
+    let fits : PartsFit (length c.args.variables.now) (trees_of (drop i parts)) = before.fits in
+    let first = c.requires.variables.0 in
     record {
-      within = omega (arith, before.within);
-      links = λ first h. (let m = made first (variables_more before.extends.words h) in
-          let all : renamed_terms first (drop (left - 1) goals) ≡ renamed first (term_of c.index-goals-left.result) ∷ renamed_terms first (drop left goals) =
-          rw next at (renamed_at first goals (left - 1) c.index-goals-left.result within c.index-goals-left.is) in
-          rw (all, items, place) (links_push (renamed_terms first (drop left goals)) _ _ m.words m.holds m.term (before.links first h)));
-      extends = extends_made before.extends (made c.requires.variables.0 (variables_more before.extends.words c.requires.variables.1)) c.in_ok-goal.ensures.numbers;
-      frames = rw items (frames_push c.args.frames.now.items c.loop-left.frames.items _ before.frames);
-      marks = λ m p h. c.in_ok-goal.ensures.marks m p (before.marks m p h);
+      fits = (rw (trees_at parts i part c.loop-part-test.true c.part-item.is) at fits).1;
+      copies = λ first h. rw (c.in_ok-push.ensures.items, trees_front first parts i part c.loop-part-test.true c.part-item.is) (copies_push _ _ (before.copies first h) (made first (variables_more before.extends.words h)));
+      extends = extends_on before.extends (made first (variables_more before.extends.words c.requires.variables.1)).extends;
+      nodes = rw c.in_ok-push.ensures.items (adds_push _ _ _ before.nodes);
+      marks = λ m p h. c.in_ok-node.ensures.marks m p (before.marks m p h);
     }
