@@ -1,5 +1,5 @@
 -- Where the frames are full the search has as many alternatives.
-use Rattle.std.proofs.Common.{◌≡◌, ℕ, List, length, refl, ap, subst, arith, Result, Ok, Err}
+use Rattle.std.proofs.Common.{◌≡◌, ℕ, List, length, refl, ap, ◌∙◌, subst, arith, Result, Ok, Err}
 use Rattle.iso_model.specs.Search.Walker.{State}
 use Rattle.iso_model.specs.Search.Runs.{ComesOver}
 use Rattle.iso_model.specs.Search.Engines.{MayMeet, RefusesStart, MeetsLimit, KeepsLimits}
@@ -11,6 +11,8 @@ use Rattle.iso_model.specs.declared.pauses.Pause.TheVariants as pause
 use Rattle.iso_store.specs.declared.shapes.StoreFault.{StoreFault}
 use Rattle.iso_plain.specs.declared.plain.Move.{Move}
 use Rattle.iso_plain.specs.declared.plain.Move.TheVariants as move
+use Rattle.iso_plain.specs.Stays.{Stays}
+use Rattle.iso_plain.specs.declared.plain.Plain.{Plain}
 use Rattle.iso_plain.specs.Limits.{WhereFull, MoveFull, ResultFull}
 
 -- ---- a fact for another
@@ -59,3 +61,11 @@ pub refuses_start : (most : ℕ) (s : State) (r : Result Unit StartFault) → Re
 refuses_start most s (Ok u) = tt
 refuses_start most s (Err start.HeapFull) = tt
 refuses_start most s (Err start.NoMemory) = tt
+
+-- ---- what stays
+
+pub stays_same : {S W M : Type 0} (e : Plain S W M) → Stays e e
+stays_same e = record { limit = refl; settings = refl; procedures = refl; within = λ h. h }
+
+pub stays_on : {S W M : Type 0} {old between new : Plain S W M} → Stays old between → Stays between new → Stays old new
+stays_on a b = record { limit = b.limit ∙ a.limit; settings = b.settings ∙ a.settings; procedures = b.procedures ∙ a.procedures; within = λ h. b.within (a.within h) }

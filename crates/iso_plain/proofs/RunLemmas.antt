@@ -19,6 +19,7 @@ use Rattle.iso_plain.specs.declared.parts.Now.TheVariants as now
 use Rattle.iso_plain.specs.declared.plain.Plain.{Plain}
 use Rattle.iso_plain.specs.Standing.{IsBody, runs, joins, Links, Chain, First, GoesOn, HaveRoom}
 use Rattle.iso_plain.specs.EngineStates.{IsEngine, Calls, left_at, links_of}
+use Rattle.iso_plain.proofs.StandingLemmas.{body_within}
 use Rattle.iso_plain.proofs.EndLemmas.{next_is}
 
 some_same : {X : Type 0} {x y : X} → Some x ≡ Some y → x ≡ y
@@ -119,3 +120,7 @@ module _ {S W M : Type 0} (present : S → Present W) (stands : S → M → Pres
     at = record { subst_is = a.goes.subst; next_is = a.goes.next; holds = a.holds; value = refl; chain = a.chain; words = a.goes.words };
     clauses = clauses;
   }
+
+  -- the place of the body is one of a node
+  pub runs_within : (e : Plain S W M) (s : State) (f : Frame) → e.now ≡ now.Running f → IsEngine present stands older e s → f.body < length e.nodes.items
+  runs_within e s f doing is = body_within ((next_is present stands older e s (now.Running f) doing is).0).node
