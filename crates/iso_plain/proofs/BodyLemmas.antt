@@ -6,13 +6,13 @@ use Rattle.iso_model.specs.declared.terms.Term.{Term}
 use Rattle.iso_model.specs.declared.terms.Term.TheVariants.{Compound}
 use Rattle.iso_model.specs.Terms.Trees.{Tree, Apply, row}
 use Rattle.iso_model.specs.Terms.TermOf.{term_of}
-use Rattle.iso_model.specs.Search.Bodies.{Body, Run, And, both, two, converted}
+use Rattle.iso_model.specs.Search.Bodies.{Body, Run, both, two, converted}
 use Rattle.iso_model.proofs.OnTerms.RowLemmas.{term_of_compound}
 use Rattle.iso_plain.specs.declared.bodies.Node.{Node}
 use Rattle.iso_plain.specs.declared.bodies.Node.TheVariants as node
 use Rattle.iso_plain.specs.declared.bodies.BodyFault.{BodyFault}
 use Rattle.iso_plain.specs.declared.bodies.BodyFault.TheVariants.{NotCallable, NoMemory}
-use Rattle.iso_plain.specs.Nodes.{layout, trees_of, map_node, AppendsBody}
+use Rattle.iso_plain.specs.Nodes.{layout, trees_of, AppendsBody}
 
 -- a compound that is no conjunction is a goal
 pub converted_other : (f : List ℕ) (ts : List Tree) → (length ts ≡ 2 → bytes_eq f (codes ",") ≡ false) → converted (Apply f (row ts)) ≡ Some (Run (Apply f (row ts)))

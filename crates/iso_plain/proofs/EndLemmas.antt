@@ -4,8 +4,7 @@ use Rattle.std.specs.Prelude.{option_map}
 use Rattle.iso_model.specs.Terms.Variables.{variables}
 use Rattle.iso_model.specs.Terms.TermOf.{term_of}
 use Rattle.iso_model.specs.Terms.Substitutions.{Subst}
-use Rattle.iso_model.specs.Search.Walker.{State, World, Member, Fail, Raise, Ending, Answered, NoMore, Uncaught, fails, idle}
-use Rattle.iso_model.specs.Search.Runs.{Comes}
+use Rattle.iso_model.specs.Search.Walker.{State, World, Answered, NoMore, Uncaught, fails, idle}
 use Rattle.iso_model.specs.declared.terms.Term.{Term}
 use Rattle.iso_model.specs.declared.pauses.Ball.{Ball}
 use Rattle.iso_model.specs.declared.pauses.Pause.TheVariants as pause
@@ -16,7 +15,7 @@ use Rattle.iso_plain.specs.declared.plain.Move.TheVariants as move
 use Rattle.iso_plain.specs.declared.plain.Plain.{Plain}
 use Rattle.iso_plain.specs.Standing.{AreVariables, no_word, one_word, DoesNext}
 use Rattle.iso_plain.specs.Programs.{IsWorld}
-use Rattle.iso_plain.specs.EngineStates.{IsEngine, Represents, StandsFor, Moves, phase_of, links_of}
+use Rattle.iso_plain.specs.EngineStates.{IsEngine, Represents, Moves, phase_of, links_of}
 use Rattle.iso_plain.proofs.SearchSteps.{last_step, answer_step, raise_step}
 use Rattle.iso_plain.proofs.SearchMoves.{ends, gives}
 

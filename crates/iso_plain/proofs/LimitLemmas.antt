@@ -1,5 +1,5 @@
 -- Where the frames are full the search has as many alternatives.
-use Rattle.std.proofs.Common.{◌≡◌, ℕ, List, length, refl, ap, ◌∙◌, subst, arith, Result, Ok, Err}
+use Rattle.std.proofs.Common.{◌≡◌, ℕ, refl, ◌∙◌, subst, Result, Ok, Err}
 use Rattle.iso_model.specs.Search.Walker.{State}
 use Rattle.iso_model.specs.Search.Runs.{ComesOver}
 use Rattle.iso_model.specs.Search.Engines.{MayMeet, RefusesStart, MeetsLimit, KeepsLimits}

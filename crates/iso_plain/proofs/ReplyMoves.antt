@@ -1,5 +1,5 @@
 -- A goal of a built-in: whatever its reply is, the engine's move is a step.
-use Rattle.std.proofs.Common.{◌≡◌, ◌≢◌, ◌+◌, ◌-◌, ℕ, suc, List, [], ◌∷◌, Bool, true, false, Some, length, refl, ap, sym, ◌∙◌, subst, arith}
+use Rattle.std.proofs.Common.{◌≡◌, ◌≢◌, ◌+◌, ◌-◌, ℕ, suc, [], ◌∷◌, Bool, true, false, Some, refl, ap, sym, ◌∙◌, subst, arith}
 use Rattle.std.specs.Prelude.{option_map}
 use Rattle.std.specs.List.{slice_get}
 use Rattle.iso_model.specs.Terms.Trees.{Tree}
@@ -24,7 +24,7 @@ use Rattle.iso_plain.specs.EngineStates.{IsEngine, Represents, Moves, links_of}
 use Rattle.iso_plain.proofs.EnteringLemmas.{words_same}
 use Rattle.iso_plain.proofs.FailLemmas.{awake_behind}
 use Rattle.iso_plain.proofs.RunLemmas.{AtRun, room_less, one_less}
-use Rattle.iso_plain.proofs.RunMoves.{failed_engine, own, at, call, runs_to}
+use Rattle.iso_plain.proofs.RunMoves.{failed_engine, at, runs_to}
 use Rattle.iso_plain.proofs.SearchMoves.{goes}
 use Rattle.iso_plain.proofs.SearchSteps.{own_goal}
 use Rattle.iso_plain.proofs.StandingLemmas.{choices_keep, chain_keep, variables_more, next_behind}

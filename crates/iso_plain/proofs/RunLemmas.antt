@@ -1,11 +1,8 @@
 -- The engine is at a body.
-use Rattle.std.proofs.Common.{◌≡◌, ◌≢◌, ◌<◌, ◌≤◌, ◌+◌, ◌-◌, ℕ, zero, suc, List, [], ◌∷◌, Option, Some, length, true, refl, ap, sym, ◌∙◌, subst, arith}
-use Rattle.std.specs.Prelude.{option_map}
+use Rattle.std.proofs.Common.{◌≡◌, ◌≢◌, ◌<◌, ◌≤◌, ◌-◌, ℕ, zero, suc, List, [], ◌∷◌, Some, length, true, refl, ap, sym, ◌∙◌, subst, arith}
 use Rattle.std.specs.List.{slice_get}
 use Rattle.iso_model.specs.Terms.Trees.{Tree}
-use Rattle.iso_model.specs.Terms.TermOf.{term_of}
 use Rattle.iso_model.specs.Terms.Substitutions.{Subst, apply}
-use Rattle.iso_model.specs.Terms.Variables.{variables}
 use Rattle.iso_model.specs.Search.Bodies.{Body, Run, And}
 use Rattle.iso_model.specs.Search.Databases as databases
 use Rattle.iso_model.specs.Search.Walker.{State, Member, Goal, Alternative}
@@ -14,10 +11,9 @@ use Rattle.iso_plain.specs.Callable.{IsGoal}
 use Rattle.iso_plain.specs.declared.bodies.Node.{Node}
 use Rattle.iso_plain.specs.declared.bodies.Node.TheVariants as node
 use Rattle.iso_plain.specs.declared.parts.Frame.{Frame}
-use Rattle.iso_plain.specs.declared.parts.Attempt.{Attempt}
 use Rattle.iso_plain.specs.declared.parts.Now.TheVariants as now
 use Rattle.iso_plain.specs.declared.plain.Plain.{Plain}
-use Rattle.iso_plain.specs.Standing.{IsBody, runs, joins, Links, Chain, First, GoesOn, HaveRoom}
+use Rattle.iso_plain.specs.Standing.{IsBody, runs, joins, Chain, GoesOn, HaveRoom}
 use Rattle.iso_plain.specs.EngineStates.{IsEngine, Calls, left_at, links_of}
 use Rattle.iso_plain.proofs.StandingLemmas.{body_within}
 use Rattle.iso_plain.proofs.EndLemmas.{next_is}

@@ -1,11 +1,8 @@
 -- What running a body comes to.
-use Rattle.std.proofs.Common.{◌≡◌, ◌≢◌, ◌<◌, ◌≤◌, ◌+◌, ◌-◌, ◌++◌, ℕ, suc, List, [], ◌∷◌, Option, Some, None, length, refl, ap, sym, ◌∙◌, subst, arith, inl, inr, Result, Ok, Err, IfOk, Vec, Global}
-use Rattle.std.specs.Prelude.{option_map}
+use Rattle.std.proofs.Common.{◌≡◌, ◌≢◌, ◌<◌, ◌≤◌, ◌-◌, ◌++◌, ℕ, suc, List, [], ◌∷◌, Some, None, length, refl, ap, ◌∙◌, subst, arith, inl, inr, Result, Ok, Err, IfOk, Vec, Global}
 use Rattle.std.specs.List.{slice_get}
 use Rattle.iso_ops.specs.declared.settings.Unknown.TheVariants as on_unknown
 use Rattle.iso_model.specs.Terms.Trees.{Tree}
-use Rattle.iso_model.specs.Terms.TermOf.{term_of}
-use Rattle.iso_model.specs.Terms.Variables.{variables}
 use Rattle.iso_model.specs.Search.Databases as databases
 use Rattle.iso_model.specs.Search.Databases.{Key, clauses_at}
 use Rattle.iso_model.specs.Search.Errors.{existence_error}
@@ -25,7 +22,7 @@ use Rattle.iso_plain.specs.declared.plain.Move.TheVariants as move
 use Rattle.iso_plain.specs.declared.plain.Plain.{Plain}
 use Rattle.iso_plain.specs.Called.{IsUser}
 use Rattle.iso_plain.specs.Programs.{IsWorld}
-use Rattle.iso_plain.specs.Standing.{Links, IsBody, Chain, leads, HaveRoom}
+use Rattle.iso_plain.specs.Standing.{Links, Chain, leads, HaveRoom}
 use Rattle.iso_plain.specs.EngineStates.{IsEngine, Represents, StandsFor, Keeps, Stopped, WasCalled, WasRefused, Moves, phase_of, links_of}
 use Rattle.iso_plain.proofs.EndLemmas.{next_is}
 use Rattle.iso_plain.proofs.EngineMoves.{spent_stands}

@@ -1,5 +1,5 @@
 -- How a goal is started, and how a clause comes to an engine that was cleared.
-use Rattle.std.proofs.Common.{◌≡◌, ◌<◌, ℕ, ◌+◌, List, [], ◌∷◌, ◌++◌, Bool, true, Option, Some, None, codes, refl, ap, sym, ◌∙◌, subst, arith, inl, inr, length}
+use Rattle.std.proofs.Common.{◌≡◌, ◌<◌, ℕ, List, [], ◌∷◌, ◌++◌, true, Option, Some, None, codes, refl, ap, sym, ◌∙◌, arith, inl, inr}
 use Rattle.std.specs.Str.{bytes_eq}
 use Rattle.std.proofs.lemmas.Bool.{cases_Bool}
 use Rattle.iso_model.specs.Terms.Trees.{Tree, Variable, Integer, Name, Apply, End, More}
@@ -17,7 +17,7 @@ use Rattle.iso_plain.specs.declared.parts.Choice as kept
 use Rattle.iso_plain.specs.declared.parts.Now.TheVariants as now
 use Rattle.iso_plain.specs.Standing.{Links, StandsForChoices, none_kept, one_kept}
 use Rattle.std.specs.Prelude.{Result, Ok, Err, IsErrAnd}
-use Rattle.iso_model.specs.Search.Walker.{World, Alternative, Member, Goal, Raise, idle, opening, shown_query}
+use Rattle.iso_model.specs.Search.Walker.{World, Alternative, Goal, Raise, idle, opening, shown_query}
 use Rattle.iso_model.specs.Search.Additions.{Addition, Adds, Refuses, Check, Fits, Faulty, checked, addition_by, consulted, consult_key}
 use Rattle.iso_model.specs.declared.pauses.AddFault.{AddFault}
 use Rattle.iso_model.specs.declared.pauses.AddFault.TheVariants as add

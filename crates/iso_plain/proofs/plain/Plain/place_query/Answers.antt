@@ -1,5 +1,4 @@
-use Rattle.std.proofs.Common.{◌≡◌, ◌<◌, ◌≤◌, ℕ, ◌+◌, ◌-◌, ◌*◌, ◌++◌, List, [], length, refl, sym, ap, ap₂, ◌∙◌, subst, arith, append-nil, length-append}
-use Rattle.iso_model.specs.Terms.Trees.{Tree, Variable}
+use Rattle.std.proofs.Common.{◌≡◌, ◌≤◌, ℕ, ◌+◌, ◌-◌, ◌*◌, ◌++◌, List, [], length, refl, sym, ap, ap₂, ◌∙◌, subst, arith, append-nil, length-append}
 use Rattle.iso_model.specs.Terms.TermOf.{term_of}
 use Rattle.iso_model.specs.Terms.Variables.{variables, variable_count}
 use Rattle.iso_model.specs.Terms.Copies.{numbers_from}
@@ -9,9 +8,8 @@ use Rattle.iso_model.specs.Search.Walker.{started, shown_query}
 use Rattle.iso_model.specs.Search.Bodies.{converted}
 use Rattle.iso_model.specs.Search.RunLaws.SameSteps.{same_itself}
 use Rattle.iso_plain.specs.Nodes.{layout, trees_of}
-use Rattle.iso_plain.specs.Kept.{AreTemplates}
 use Rattle.iso_plain.specs.Standing.{AreVariables, IsBody, none_kept, ends}
-use Rattle.iso_plain.specs.Entering.{AreNodes, Copies, renamed_nodes}
+use Rattle.iso_plain.specs.Entering.{AreNodes, renamed_nodes}
 use Rattle.iso_plain.proofs.StoppedLemmas.{behind_error, keeps_none, keeps_store, keeps_more}
 use Rattle.iso_plain.proofs.StandingLemmas.{variables_more}
 use Rattle.iso_plain.proofs.EnteringLemmas.{variables_length, adds_none, copies_some}

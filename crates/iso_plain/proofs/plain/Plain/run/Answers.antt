@@ -1,8 +1,6 @@
-use Rattle.std.proofs.Common.{◌≡◌, ◌<◌, Some, length, arith, ap, ◌∙◌}
-use Rattle.std.specs.List.{slice_get}
+use Rattle.std.proofs.Common.{Some, arith, ap, ◌∙◌}
 use Rattle.iso_plain.specs.EngineStates.{}
 use Rattle.iso_plain.proofs.BackLemmas.{get_at}
-use Rattle.iso_plain.proofs.LimitLemmas.{result_full}
 use Rattle.iso_plain.proofs.RunLemmas.{runs_within}
 use Rattle.iso_plain.proofs.plain.Plain.run.Goals as goal
 

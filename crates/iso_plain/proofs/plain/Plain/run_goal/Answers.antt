@@ -1,4 +1,4 @@
-use Rattle.std.proofs.Common.{◌≡◌, ◌<◌, ◌-◌, length, ap, refl, sym, subst, arith}
+use Rattle.std.proofs.Common.{◌-◌, ap, refl}
 use Rattle.iso_model.specs.Terms.TermOf.{term_of}
 use Rattle.std.proofs.lemmas.Result.{on_err_weaker}
 use Rattle.iso_store.specs.Presents.{meaning}
@@ -6,7 +6,7 @@ use Rattle.iso_plain.specs.EngineStates.{phase_of}
 use Rattle.iso_plain.proofs.StoppedLemmas.{behind_error, keeps_all, keeps_store}
 use Rattle.iso_plain.proofs.SearchMoves.{stops_here}
 use Rattle.iso_plain.proofs.StandingLemmas.{chain_place}
-use Rattle.iso_plain.proofs.RunLemmas.{at_run, calls_engine, one_less}
+use Rattle.iso_plain.proofs.RunLemmas.{calls_engine, one_less}
 use Rattle.iso_plain.proofs.RunMoves.{at, spends, raises_error, fails_unknown, called_on, refused_on, over, if_ok_map}
 use Rattle.iso_plain.proofs.ReplyMoves.{replied_on}
 use Rattle.iso_plain.proofs.LimitLemmas.{result_full}
