@@ -1,5 +1,5 @@
 -- Clauses taken apart: heads and their keys, bodies and their goals.
-use Rattle.std.proofs.Common.{◌≡◌, ℕ, List, [], ◌∷◌, map, length, refl, sym, ap, ◌∙◌, true, false, inl, inr, Option, Some, None, Ok, Err, codes, String, Vec, Global, vec_len}
+use Rattle.std.proofs.Common.{◌≡◌, ℕ, List, [], ◌∷◌, map, length, refl, sym, ap, ◌∙◌, true, false, inl, inr, Option, Some, None, Result, Ok, Err, IsErrAnd, codes, String, Vec, Global, vec_len}
 use Rattle.std.specs.String.{string_bytes}
 use Rattle.std.specs.Str.{bytes_eq}
 use Rattle.std.proofs.lemmas.Bool.{cases_Bool}
@@ -13,9 +13,11 @@ use Rattle.iso_model.specs.Search.Databases.{key_of}
 use Rattle.iso_model.specs.Search.Errors.{key}
 use Rattle.iso_model.specs.Search.Additions.{head_of, body_of}
 use Rattle.iso_model.proofs.OnTerms.RowLemmas.{term_of_compound, count_row_of}
-use Rattle.iso_plain.specs.declared.bodies.BodyFault.TheVariants.{NotCallable}
-use Rattle.iso_plain.specs.Goals.{AppendsGoals}
-use Rattle.iso_plain.specs.Linked.{goals_of}
+use Rattle.iso_plain.specs.declared.bodies.Node.{Node}
+use Rattle.iso_plain.specs.declared.bodies.BodyFault.{BodyFault}
+use Rattle.iso_plain.specs.declared.bodies.BodyFault.TheVariants.{NotCallable, NoMemory}
+use Rattle.iso_plain.specs.Nodes.{layout_of, AppendsBody}
+use Rattle.iso_plain.specs.Kept.{PartsOf}
 use Rattle.iso_plain.proofs.BodyLemmas.{length-row_of}
 
 pub key_of_compound : (t : Term) (f : String Global) (v : Vec Term Global) → t ≡ Compound f v → key_of (term_of t) ≡ Some (key (string_bytes f) (vec_len v))
@@ -23,9 +25,9 @@ key_of_compound t f v is =
     let n = count_row_of v.items ∙ sym v.ok.0 in
     rw (is, term_of_compound f v, n) refl
 
--- the goals of a body that is `true`
-pub true_goals : (t : Tree) → t ≡ Name (codes "true") → (b : Body) × (converted t ≡ Some b) × ([] ≡ goals_of b)
-true_goals t e = (Run (Name (codes "true")), ap converted e, refl)
+-- the parts of a body that is `true`
+pub true_parts : (t : Tree) → t ≡ Name (codes "true") → (b : Body) × (converted t ≡ Some b) × ([] ≡ layout_of b)
+true_parts t e = (Run (Name (codes "true")), ap converted e, refl)
 
 is_true_name : (a : List ℕ) → bytes_eq a (codes "true") ≡ true → Name a ≡ Name (codes "true")
 is_true_name a h = ap Name ((bytes_eq-Decides a (codes "true")).0 h)
@@ -53,16 +55,22 @@ untrue (Apply f t) b e h = let same : Run (Apply f t) ≡ b = cc in rw (← same
 untrue End b e h = cc
 untrue (More t ts) b e h = cc
 
--- the goals of a body that isn't
-pub other_goals : (t : Tree) (new : List Tree) → (t ≡ Name (codes "true") → ⊥) → AppendsGoals (converted t) [] (Ok tt) new → (b : Body) × (converted t ≡ Some b) × (new ≡ goals_of b)
-other_goals t new h k = appended (converted t) refl k where
-  appended : (o : Option Body) → converted t ≡ o → AppendsGoals o [] (Ok tt) new → (b : Body) × (converted t ≡ Some b) × (new ≡ goals_of b)
+-- the parts of a body that isn't
+pub other_parts : (t : Tree) (new : List (Node Tree)) → (t ≡ Name (codes "true") → ⊥) → AppendsBody (converted t) [] (Ok tt) new → (b : Body) × (converted t ≡ Some b) × (new ≡ layout_of b)
+other_parts t new h k = appended (converted t) refl k where
+  appended : (o : Option Body) → converted t ≡ o → AppendsBody o [] (Ok tt) new → (b : Body) × (converted t ≡ Some b) × (new ≡ layout_of b)
   appended None e k = absurd k
   appended (Some b) e k = (b, e, rw (untrue t b e h) k)
 
-pub not_converted : (o : Option Body) (old new : List Tree) → AppendsGoals o old (Err NotCallable) new → o ≡ None
+pub not_converted : (o : Option Body) (old new : List (Node Tree)) → AppendsBody o old (Err NotCallable) new → o ≡ None
 not_converted None old new h = refl
 not_converted (Some b) old new h = absurd h
+
+-- the error of a body that doesn't come
+pub fault_of : (t : Tree) (old new : List (Node Tree)) (e : BodyFault) (r : Result (Vec (Node Term) Global) BodyFault) → IsErrAnd r (λ x. x ≡ e) → AppendsBody (converted t) old (Err e) new → PartsOf t r
+fault_of t old new e (Ok ps) err h = absurd err
+fault_of t old new NotCallable (Err x) err h = rw err (not_converted (converted t) old new h)
+fault_of t old new NoMemory (Err x) err h = rw err tt
 
 -- what is no clause with a body is a fact
 fact_of : (f : List ℕ) (ts : List Tree) → (length ts ≡ 2 → bytes_eq f (codes ":-") ≡ false) → (head_of (Apply f (row ts)) ≡ Apply f (row ts)) × (body_of (Apply f (row ts)) ≡ Name (codes "true"))

@@ -10,8 +10,11 @@ use Rattle.iso_model.specs.Terms.Unification.Applied.{apply_same}
 use Rattle.iso_model.specs.Terms.Unification.Listed.{Covers, distinct_covers}
 use Rattle.iso_model.specs.Terms.TermOf.{term_of, row_of}
 use Rattle.iso_model.specs.declared.terms.Term.{Term}
-use Rattle.iso_plain.specs.Goals.{terms_of}
 use Rattle.iso_plain.specs.Kept.{numbers}
+
+-- the terms that Rust terms are
+abbrev pub terms_of : List Term → List Tree
+terms_of ts = map term_of ts
 
 -- ---- the place of a number in a list of numbers
 

@@ -8,22 +8,22 @@ ghost use Rattle.iso_model.specs.Terms.Copies as copies;
 ghost use Rattle.iso_model.specs.Search.Databases.{key_of};
 ghost use Rattle.iso_model.specs.Search.Errors.{key};
 ghost use Rattle.iso_model.specs.Search.Additions as additions;
-ghost use Rattle.iso_plain.specs.Goals.{terms_of};
-ghost use Rattle.iso_plain.specs.Kept.{numbers, IsRenamed, Splits, GoalsOf, RefusesHead, ChecksUser, Prepares};
+ghost use Rattle.iso_plain.specs.Kept.{numbers, Splits, PartsOf, NumbersBody, Numbers, RefusesHead, ChecksUser, Prepares};
 
 use super::balls;
-use super::bodies::{self, BodyFault};
+use super::bodies::{self, BodyFault, Node};
 use iso_model::{AddFault, Term, copied, is_built_in};
 use std::alloc::{AllocError, Global};
 
 /// The most distinct variables that an added clause may have (own limit).
 pub const MOST_VARIABLES: usize = 65_535;
 
-/// A clause ready to be tried: its variables are numbered 0, 1, .. by first occurrence, and a body `true` has no goals.
+/// A clause ready to be tried: its variables are numbered 0, 1, .. by first occurrence, and a body `true` has no parts.
 #[derive(Drop)]
 pub struct Clause {
     pub head: Term,
-    pub goals: Vec<Term>,
+    /// The converted body's parts, its own last.
+    pub parts: Vec<Node<Term>>,
     pub variables: usize,
 }
 
@@ -118,16 +118,30 @@ pub fn numbered_all(
     Ok(renamed)
 }
 
-/// The goals of a clause's body, or the error that refuses it.
-fn goals_of(alloc: Global, body: &Term) -> Result<Vec<Term>, AddFault>
-    ensures { GoalsOf (term_of body.now) result }
+/// The parts of a body, none of one that is `true`; the error is that a part of it is a number, or that memory was refused.
+fn parts_of(alloc: Global, body: &Term) -> Result<Vec<Node<Term>>, BodyFault>
+    ensures { PartsOf (term_of body.now) result }
 {
-    let mut goals = Vec::new(alloc);
+    let mut parts = Vec::new(alloc);
     if is_true(body) {
-        return Ok(goals);
+        return Ok(parts);
     }
-    match bodies::append_goals(alloc, body, &mut goals) {
-        Ok(()) => Ok(goals),
+    bodies::append_body(alloc, body, &mut parts)?;
+    Ok(parts)
+}
+
+/// The parts of the body with its variables numbered behind those seen so far, or the error that refuses it.
+fn numbered_parts(
+    alloc: Global,
+    body: &Term,
+    seen: &mut Vec<u64>,
+) -> Result<Vec<Node<Term>>, AddFault>
+    ensures parts { NumbersBody (term_of body.now) seen.new.items result }
+    ensures seen { OnOk result (seen.new.items ≡ distinct_from seen.old.items (term_of body.now)) }
+{
+    let renamed = numbered(alloc, body, seen)?;
+    match parts_of(alloc, &renamed) {
+        Ok(parts) => Ok(parts),
         Err(BodyFault::NoMemory) => Err(AddFault::NoMemory),
         Err(BodyFault::NotCallable) => {
             let culprit = copied(alloc, body)?;
@@ -159,26 +173,31 @@ fn head_of(clause: &Term) -> &Term
     parts(clause).0
 }
 
-/// The goals of a clause, or the error that refuses it.
-fn clause_goals(alloc: Global, clause: &Term) -> Result<Vec<Term>, AddFault>
-    ensures { GoalsOf (additions.body_of (term_of clause.now)) result }
+/// The parts of a clause's body, with its variables numbered behind those seen so far, or the error that refuses it.
+fn clause_parts(
+    alloc: Global,
+    clause: &Term,
+    seen: &mut Vec<u64>,
+) -> Result<Vec<Node<Term>>, AddFault>
+    ensures parts { NumbersBody (additions.body_of (term_of clause.now)) seen.new.items result }
+    ensures seen { OnOk result (seen.new.items ≡ distinct_from seen.old.items (additions.body_of (term_of clause.now))) }
 {
     match parts(clause).1 {
-        Some(body) => goals_of(alloc, body),
+        Some(body) => numbered_parts(alloc, body, seen),
         None => Ok(Vec::new(alloc)),
     }
 }
 
-/// The clause with this head and these goals, with its variables numbered 0, 1, .. by first occurrence.
-fn with_numbers(alloc: Global, head: &Term, goals: &[Term]) -> Result<Clause, AllocError>
-    ensures { IfOk result (IsRenamed (term_of head.now) (terms_of goals.now)) }
+/// The clause with its variables numbered 0, 1, .. by first occurrence, or the error of its body; its head is callable.
+fn numbered_clause(alloc: Global, clause: &Term) -> Result<Clause, AddFault>
+    ensures { Numbers (term_of clause.now) result }
 {
     let mut seen = Vec::new(alloc);
-    let head = numbered(alloc, head, &mut seen)?;
-    let goals = numbered_all(alloc, goals, &mut seen)?;
+    let head = numbered(alloc, head_of(clause), &mut seen)?;
+    let parts = clause_parts(alloc, clause, &mut seen)?;
     Ok(Clause {
         head,
-        goals,
+        parts,
         variables: seen.len(),
     })
 }
@@ -203,10 +222,8 @@ pub fn prepare(alloc: Global, clause: &Term) -> Result<Clause, AddFault>
     requires { arities_fit (term_of clause.now) ≡ true }
     ensures { Prepares (term_of clause.now) result }
 {
-    let head = head_of(clause);
-    let (name, arity) = checked_head(alloc, head)?;
-    let goals = clause_goals(alloc, clause)?;
-    let kept = with_numbers(alloc, head, goals.as_slice())?;
+    let (name, arity) = checked_head(alloc, head_of(clause))?;
+    let kept = numbered_clause(alloc, clause)?;
     if kept.variables > MOST_VARIABLES {
         return Err(AddFault::Refused(balls::too_many_variables(alloc)?));
     }
