@@ -26,4 +26,4 @@ pub use limit::{Limit, Limits};
 pub use numbering::Numbering;
 pub use pauses::{AddFault, Ball, Ending, Indicator, Pause, Program, StartFault};
 pub use std::alloc::AllocError as NoMemory;
-pub use terms::{MAX_ARITY, Term, copied, well_formed};
+pub use terms::{MAX_ARITY, Term, copied, renumbered, well_formed};
