@@ -3,6 +3,7 @@ pub mod SearchMoves
 pub mod StandingLemmas
 pub mod WeightLemmas
 pub mod NodeLemmas
+pub mod PatternLemmas
 pub mod EnteringLemmas
 pub mod BodyLemmas
 pub mod NumberLemmas

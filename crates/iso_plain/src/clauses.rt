@@ -12,7 +12,7 @@ ghost use Rattle.iso_plain.specs.Kept.{numbers, Splits, PartsOf, NumbersBody, Nu
 
 use super::balls;
 use super::bodies::{self, BodyFault, Node};
-use iso_model::{AddFault, Term, copied, is_built_in};
+use iso_model::{AddFault, Numbering, Term, copied, is_built_in, renumbered};
 use std::alloc::{AllocError, Global};
 
 /// The most distinct variables that an added clause may have (own limit).
@@ -62,60 +62,13 @@ pub fn indicator_of(term: &Term) -> Option<(&str, usize)>
     }
 }
 
-/// The place of the number, if it is among those seen so far.
-fn known_place(seen: &[u64], number: u64) -> Option<usize>
-    ensures { result ≡ position (λ m. m == number) seen.now }
-{
-    seen.iter().position(|known| *known == number)
-}
-
-/// The place of the number among those seen so far; where it isn't seen, it is the next.
-fn place_of(seen: &mut Vec<u64>, number: u64) -> Result<u64, AllocError>
-    ensures place { IfOk result (λ p. p ≡ copies.place_of number seen.new.items) }
-    ensures seen { OnOk result (seen.new.items ≡ distinct_from seen.old.items (Variable number)) }
-{
-    if let Some(place) = known_place(seen.as_slice(), number) {
-        return Ok(place as u64);
-    }
-    let place = seen.len();
-    seen.push(number)?;
-    Ok(place as u64)
-}
-
 /// The term with each variable's number replaced by its place among those seen so far.
-#[cycle(numbering)]
-pub fn numbered(alloc: Global, term: &Term, seen: &mut Vec<u64>) -> Result<Term, AllocError>
-    ensures term { IfOk result (λ t. term_of t ≡ apply (numbers seen.new.items) (term_of term.now)) }
-    ensures seen { OnOk result (seen.new.items ≡ distinct_from seen.old.items (term_of term.now)) }
+fn numbered(alloc: Global, term: &Term, seen: &mut Numbering) -> Result<Term, AllocError>
+    ensures term { IfOk result (λ t. term_of t ≡ apply (numbers seen.new) (term_of term.now)) }
+    ensures seen { OnOk result (seen.new ≡ distinct_from seen.old (term_of term.now)) }
 {
-    match term {
-        Term::Var(number) => Ok(Term::Var(place_of(seen, *number)?)),
-        Term::Int(value) => Ok(Term::Int(*value)),
-        Term::Atom(text) => Ok(Term::Atom(text.clone()?)),
-        Term::Compound(name, arguments) => {
-            let name = name.clone()?;
-            let arguments = numbered_all(alloc, arguments.as_slice(), seen)?;
-            Ok(Term::Compound(name, arguments))
-        }
-    }
-}
-
-/// The terms with each variable's number replaced by its place among those seen so far.
-#[cycle(numbering)]
-pub fn numbered_all(
-    alloc: Global,
-    terms: &[Term],
-    seen: &mut Vec<u64>,
-) -> Result<Vec<Term>, AllocError>
-    ensures terms { IfOk result (λ ts. row_of ts.items ≡ apply (numbers seen.new.items) (row_of terms.now)) }
-    ensures seen { OnOk result (seen.new.items ≡ distinct_from seen.old.items (row_of terms.now)) }
-{
-    let mut renamed = Vec::new(alloc);
-    for term in terms {
-        let term = numbered(alloc, term, seen)?;
-        renamed.push(term)?;
-    }
-    Ok(renamed)
+    seen.note_all(alloc, term)?;
+    renumbered(alloc, term, seen)
 }
 
 /// The parts of a body, none of one that is `true`; the error is that a part of it is a number, or that memory was refused.
@@ -134,10 +87,10 @@ fn parts_of(alloc: Global, body: &Term) -> Result<Vec<Node<Term>>, BodyFault>
 fn numbered_parts(
     alloc: Global,
     body: &Term,
-    seen: &mut Vec<u64>,
+    seen: &mut Numbering,
 ) -> Result<Vec<Node<Term>>, AddFault>
-    ensures parts { NumbersBody (term_of body.now) seen.new.items result }
-    ensures seen { OnOk result (seen.new.items ≡ distinct_from seen.old.items (term_of body.now)) }
+    ensures parts { NumbersBody (term_of body.now) seen.new result }
+    ensures seen { OnOk result (seen.new ≡ distinct_from seen.old (term_of body.now)) }
 {
     let renamed = numbered(alloc, body, seen)?;
     match parts_of(alloc, &renamed) {
@@ -177,10 +130,10 @@ fn head_of(clause: &Term) -> &Term
 fn clause_parts(
     alloc: Global,
     clause: &Term,
-    seen: &mut Vec<u64>,
+    seen: &mut Numbering,
 ) -> Result<Vec<Node<Term>>, AddFault>
-    ensures parts { NumbersBody (additions.body_of (term_of clause.now)) seen.new.items result }
-    ensures seen { OnOk result (seen.new.items ≡ distinct_from seen.old.items (additions.body_of (term_of clause.now))) }
+    ensures parts { NumbersBody (additions.body_of (term_of clause.now)) seen.new result }
+    ensures seen { OnOk result (seen.new ≡ distinct_from seen.old (additions.body_of (term_of clause.now))) }
 {
     match parts(clause).1 {
         Some(body) => numbered_parts(alloc, body, seen),
@@ -192,7 +145,7 @@ fn clause_parts(
 fn numbered_clause(alloc: Global, clause: &Term) -> Result<Clause, AddFault>
     ensures { Numbers (term_of clause.now) result }
 {
-    let mut seen = Vec::new(alloc);
+    let mut seen = Numbering::new(alloc);
     let head = numbered(alloc, head_of(clause), &mut seen)?;
     let parts = clause_parts(alloc, clause, &mut seen)?;
     Ok(Clause {

@@ -38,7 +38,6 @@ pub fn new_variables<S: Store>(
 /// The term in the store, with its variables 0, 1, .. standing for these words, which are those numbered from `first` on.
 /// The errors: the store is full, or memory was refused.
 pub fn instantiate<S: Store>(
-    alloc: Global,
     store: &mut S,
     term: &Term,
     variables: &[S::Word],
@@ -52,28 +51,12 @@ pub fn instantiate<S: Store>(
     ensures full { result ≡ Err StoreFault.Full → S.full store.new }
     ensures marks { KeepsMarks (S.stands store.old) (S.stands store.new) }
 {
-    match term {
-        Term::Var(number) => Ok(variables[*number as usize]),
-        Term::Int(value) => store.int(*value),
-        Term::Atom(text) => {
-            let atom = store.intern(text.as_str())?;
-            store.atom(atom)
-        }
-        Term::Compound(name, arguments) => {
-            let mut words = Vec::with_capacity(alloc, arguments.len())?;
-            for argument in arguments {
-                let word = instantiate(alloc, store, argument, variables)?;
-                words.push(word)?;
-            }
-            let atom = store.intern(name.as_str())?;
-            store.compound(atom, words.as_slice())
-        }
-    }
+    let pattern = store.pattern(term)?;
+    store.instantiate(&pattern, variables)
 }
 
 /// The part with its goal in the store, its variables standing for these words. The errors: the store is full, or memory was refused.
 fn copied_part<S: Store>(
-    alloc: Global,
     store: &mut S,
     part: &Node<Term>,
     variables: &[S::Word],
@@ -86,7 +69,7 @@ fn copied_part<S: Store>(
     ensures marks { KeepsMarks (S.stands store.old) (S.stands store.new) }
 {
     match part {
-        Node::Run(goal) => Ok(Node::Run(instantiate(alloc, store, goal, variables)?)),
+        Node::Run(goal) => Ok(Node::Run(instantiate(store, goal, variables)?)),
         Node::And(distance) => Ok(Node::And(*distance)),
     }
 }
@@ -94,7 +77,6 @@ fn copied_part<S: Store>(
 /// Appends the parts to the nodes, their goals made in the store with their variables standing for these words, which are those
 /// numbered from some number on. The errors: the store is full, or memory was refused.
 pub fn copy_parts<S: Store>(
-    alloc: Global,
     store: &mut S,
     nodes: &mut Vec<Node<S::Word>>,
     parts: &[Node<Term>],
@@ -110,7 +92,7 @@ pub fn copy_parts<S: Store>(
     ensures marks { KeepsMarks (S.stands store.old) (S.stands store.new) }
 {
     for part in parts {
-        let node = copied_part(alloc, store, part, variables)?;
+        let node = copied_part(store, part, variables)?;
         nodes.push(node)?;
     }
     Ok(())
@@ -147,12 +129,12 @@ pub fn enter<S: Store>(
     ensures marks { KeepsMarks (S.stands store.old) (S.stands store.new) }
 {
     let variables = new_variables(alloc, store, clause.variables)?;
-    let head = instantiate(alloc, store, &clause.head, variables.as_slice())?;
+    let head = instantiate(store, &clause.head, variables.as_slice())?;
     if !store.unify(goal, head)? {
         return Ok(Entered::Missed);
     }
     let parts = clause.parts.as_slice();
-    copy_parts(alloc, store, nodes, parts, variables.as_slice())?;
+    copy_parts(store, nodes, parts, variables.as_slice())?;
     if parts.is_empty() {
         return Ok(Entered::Fact);
     }

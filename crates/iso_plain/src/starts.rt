@@ -1,5 +1,5 @@
 //! How an engine is made, and how a goal is started and a clause added (7.5, 7.7).
-ghost use Rattle.std.specs.Prelude.{◌≡◌, ◌<◌, ◌^◌, IfOk, OnOk, OnErr, Some, true, [], Err};
+ghost use Rattle.std.specs.Prelude.{◌≡◌, ◌<◌, ◌^◌, vec_len, IfOk, OnOk, OnErr, Some, true, [], Err};
 ghost use Rattle.iso_model.specs.Terms.Trees.{arities_fit};
 ghost use Rattle.iso_model.specs.Terms.TermOf.{term_of};
 ghost use Rattle.iso_model.specs.Terms.Variables.{variable_count};
@@ -13,19 +13,31 @@ use super::bodies::{self, BodyFault, Node};
 use super::parts::{Frame, Now};
 use super::plain::Plain;
 use super::{balls, clauses, entries, procedures};
-use iso_model::{AddFault, Term, copied};
+use iso_model::{AddFault, Numbering, Term, copied};
 use iso_ops::{Flags, OpTable};
 use iso_store::{Store, StoreFault};
 use std::alloc::{AllocError, Global};
+
+/// The places of the term's distinct variables: 0, 1, ..
+fn variable_places(alloc: Global, term: &Term) -> Result<Vec<u64>, AllocError>
+    ensures { IfOk result (λ places. vec_len places ≡ variable_count (term_of term.now)) }
+{
+    let mut seen = Numbering::new(alloc);
+    seen.note_all(alloc, term)?;
+    let mut places = Vec::new(alloc);
+    for place in 0..seen.len() {
+        places.push(place as u64)?;
+    }
+    Ok(places)
+}
 
 /// How many distinct variables the term has.
 fn count_variables(alloc: Global, term: &Term) -> Result<usize, AllocError>
     ensures count { IfOk result (λ n. n ≡ variable_count (term_of term.now)) }
     ensures few { IfOk result (λ n. n < 2 ^ 60) }
 {
-    let mut seen = Vec::new(alloc);
-    clauses::numbered(alloc, term, &mut seen)?;
-    Ok(seen.as_slice().len())
+    let places = variable_places(alloc, term)?;
+    Ok(places.as_slice().len())
 }
 
 impl<S: Store + Drop> Plain<S> {
@@ -101,7 +113,6 @@ impl<S: Store + Drop> Plain<S> {
         let count = count_variables(self.alloc, query)?;
         let variables = entries::new_variables(self.alloc, &mut self.store, count)?;
         entries::copy_parts(
-            self.alloc,
             &mut self.store,
             &mut self.nodes,
             parts,

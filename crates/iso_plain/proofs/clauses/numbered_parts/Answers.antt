@@ -9,4 +9,4 @@ use Rattle.iso_plain.proofs.clauses.numbered_parts.Goals as goal
 pub returns-clause-parts : goal.returns-clause-parts
 returns-clause-parts c =
     let none : converted (term_of c.in_ok-renamed.renamed) ≡ None = rw c.in-Err-NotCallable.field-0-is at c.in-Err-NotCallable.ensures in
-    (unnumbered c.numbered.new.seen.items (term_of c.args.body.now) (ap converted (sym c.in_ok-renamed.ensures.term) ∙ none), c.in_ok-not_callable-in-Err-NotCallable.ensures ∙ ap (λ t. type_error_callable t consult_key) c.in_ok-culprit-in-Err-NotCallable.ensures)
+    (unnumbered c.numbered.new.seen (term_of c.args.body.now) (ap converted (sym c.in_ok-renamed.ensures.term) ∙ none), c.in_ok-not_callable-in-Err-NotCallable.ensures ∙ ap (λ t. type_error_callable t consult_key) c.in_ok-culprit-in-Err-NotCallable.ensures)
