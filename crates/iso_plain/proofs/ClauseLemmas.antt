@@ -66,12 +66,6 @@ pub not_converted : (o : Option Body) (old new : List (Node Tree)) → AppendsBo
 not_converted None old new h = refl
 not_converted (Some b) old new h = absurd h
 
--- the error of a body that doesn't come
-pub fault_of : (t : Tree) (old new : List (Node Tree)) (e : BodyFault) (r : Result (Vec (Node Term) Global) BodyFault) → IsErrAnd r (λ x. x ≡ e) → AppendsBody (converted t) old (Err e) new → PartsOf t r
-fault_of t old new e (Ok ps) err h = absurd err
-fault_of t old new NotCallable (Err x) err h = rw err (not_converted (converted t) old new h)
-fault_of t old new NoMemory (Err x) err h = rw err tt
-
 -- what is no clause with a body is a fact
 fact_of : (f : List ℕ) (ts : List Tree) → (length ts ≡ 2 → bytes_eq f (codes ":-") ≡ false) → (head_of (Apply f (row ts)) ≡ Apply f (row ts)) × (body_of (Apply f (row ts)) ≡ Name (codes "true"))
 fact_of f [] h = (refl, refl)

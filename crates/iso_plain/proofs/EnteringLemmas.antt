@@ -153,17 +153,6 @@ made_behind e same m = record { words = words_on e.words m.words; substitution =
 pub numbers_behind : {W : Type 0} {p q r : Present W} → KeepsNumbers p q → KeepsNumbers q r → KeepsNumbers p r
 numbers_behind a b = record { next = b.next ∙ a.next; taken = λ n. b.taken n ∙ a.taken n }
 
--- each term of a list of terms that fit
-pub fits_at : (xs : List Term) (i : ℕ) (x : Term) → i < length xs → x ≡ get_or xs i x → arities_fit (row_of xs) ≡ true → arities_fit (term_of x) ≡ true
-fits_at [] i x within is h = absurd (omega arith)
-fits_at (y ∷ ys) zero x within is h = subst (λ (z : Term). arities_fit (term_of z) ≡ true) (sym is) (both_true (arities_fit (term_of y)) (arities_fit (row_of ys)) h).0
-fits_at (y ∷ ys) (suc i) x within is h = fits_at ys i x (omega arith) is (both_true (arities_fit (term_of y)) (arities_fit (row_of ys)) h).1
-
-pub below_at : (n : ℕ) (xs : List Term) (i : ℕ) (x : Term) → i < length xs → x ≡ get_or xs i x → is_below n (row_of xs) ≡ true → is_below n (term_of x) ≡ true
-below_at n [] i x within is h = absurd (omega arith)
-below_at n (y ∷ ys) zero x within is h = subst (λ (z : Term). is_below n (term_of z) ≡ true) (sym is) (both_true (is_below n (term_of y)) (is_below n (row_of ys)) h).0
-below_at n (y ∷ ys) (suc i) x within is h = below_at n ys i x (omega arith) is (both_true (is_below n (term_of y)) (is_below n (row_of ys)) h).1
-
 pub adds_none : {X : Type 0} (xs : List X) → Adds xs xs
 adds_none xs = ([], sym (append-nil xs))
 

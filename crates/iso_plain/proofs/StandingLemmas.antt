@@ -26,11 +26,6 @@ pub at_last : {X : Type 0} (xs : List X) (x : X) → At (xs ++ x ∷ []) (length
 at_last [] x = record { is = refl }
 at_last (y ∷ xs) x = record { is = (at_last xs x).is }
 
-pub at_within : {X : Type 0} (xs : List X) (i : ℕ) (x : X) → At xs i x → i < length xs
-at_within [] i x h = absurd (cc (h.is))
-at_within (y ∷ xs) zero x h = omega arith
-at_within (y ∷ xs) (suc i) x h = omega (arith, at_within xs i x (record { is = h.is }))
-
 -- ---- bodies and frames
 
 -- more nodes, and a store that keeps its words
@@ -90,19 +85,9 @@ pub among_last : {X : Type 0} (xs : List X) (y : X) → Among y (xs ++ y ∷ [])
 among_last [] y = inl refl
 among_last (z ∷ xs) y = inr (among_last xs y)
 
-take_take : {X : Type 0} (n : ℕ) (xs : List X) → take n (take n xs) ≡ take n xs
-take_take zero xs = refl
-take_take (suc n) [] = refl
-take_take (suc n) (x ∷ xs) = ap (λ (ys : List _). x ∷ ys) (take_take n xs)
-
 take_whole : {X : Type 0} (xs : List X) → take (length xs) xs ≡ xs
 take_whole [] = refl
 take_whole (x ∷ xs) = ap (λ (ys : List _). x ∷ ys) (take_whole xs)
-
-length_taken : {X : Type 0} (n : ℕ) (xs : List X) → n ≤ length xs → length (take n xs) ≡ n
-length_taken zero xs h = refl
-length_taken (suc n) [] h = absurd (omega arith)
-length_taken (suc n) (x ∷ xs) h = ap suc (length_taken n xs (omega arith))
 
 some_same : {X : Type 0} {x y : X} → Some x ≡ Some y → x ≡ y
 some_same h = cc
