@@ -1,5 +1,5 @@
 -- Clauses taken apart: heads and their keys, bodies and their goals.
-use Rattle.std.proofs.Common.{◌≡◌, ℕ, List, [], ◌∷◌, map, length, refl, sym, ap, ◌∙◌, true, false, inl, inr, Option, Some, None, Result, Ok, Err, IsErrAnd, codes, String, Vec, Global, vec_len}
+use Rattle.std.proofs.Common.{◌≡◌, ℕ, List, [], ◌∷◌, map, length, refl, sym, ap, ◌∙◌, true, false, inl, inr, Option, Some, None, Ok, Err, codes, String, Vec, Global, vec_len}
 use Rattle.std.specs.String.{string_bytes}
 use Rattle.std.specs.Str.{bytes_eq}
 use Rattle.std.proofs.lemmas.Bool.{cases_Bool}
@@ -14,10 +14,8 @@ use Rattle.iso_model.specs.Search.Errors.{key}
 use Rattle.iso_model.specs.Search.Additions.{head_of, body_of}
 use Rattle.iso_model.proofs.OnTerms.RowLemmas.{term_of_compound, count_row_of}
 use Rattle.iso_plain.specs.declared.bodies.Node.{Node}
-use Rattle.iso_plain.specs.declared.bodies.BodyFault.{BodyFault}
-use Rattle.iso_plain.specs.declared.bodies.BodyFault.TheVariants.{NotCallable, NoMemory}
+use Rattle.iso_plain.specs.declared.bodies.BodyFault.TheVariants.{NotCallable}
 use Rattle.iso_plain.specs.Nodes.{layout_of, AppendsBody}
-use Rattle.iso_plain.specs.Kept.{PartsOf}
 use Rattle.iso_plain.proofs.BodyLemmas.{length-row_of}
 
 pub key_of_compound : (t : Term) (f : String Global) (v : Vec Term Global) → t ≡ Compound f v → key_of (term_of t) ≡ Some (key (string_bytes f) (vec_len v))

@@ -1,5 +1,5 @@
 -- A call of `resume` is moves up to an event.
-use Rattle.std.proofs.Common.{◌≡◌, ◌≤◌, ℕ, ap, ◌∙◌, arith, Result, Ok, Err}
+use Rattle.std.proofs.Common.{◌≡◌, ap, ◌∙◌, Result, Ok, Err}
 use Rattle.iso_model.specs.Search.Walker.{State, World, idle}
 use Rattle.iso_model.specs.Search.Additions.{Addition, Adds, Refuses}
 use Rattle.iso_model.specs.declared.pauses.AddFault.{AddFault}
@@ -20,19 +20,6 @@ use Rattle.iso_model.specs.Search.RunLaws.SameSteps.{same_itself}
 use Rattle.iso_model.specs.Search.RunLaws.SameRuns.{same_world}
 use Rattle.iso_plain.proofs.StoppedLemmas.{keeps_all}
 use Rattle.iso_plain.proofs.SearchMoves.{world_settings, stops_here, stopped_behind}
-
--- a number that falls does so behind others that fall
-pub falls_behind : (p : Pause) (a b c : ℕ) → b ≤ a → engines.FallsAtEvent p b c → engines.FallsAtEvent p a c
-falls_behind (pause.Answer values) a b c h falls = omega (arith, h, falls)
-falls_behind (pause.Output bytes) a b c h falls = omega (arith, h, falls)
-falls_behind pause.NoMore a b c h falls = falls
-falls_behind pause.Budget a b c h falls = falls
-falls_behind (pause.Uncaught ball) a b c h falls = falls
-falls_behind (pause.Halt status) a b c h falls = falls
-falls_behind pause.HeapFull a b c h falls = falls
-falls_behind pause.FramesFull a b c h falls = falls
-falls_behind pause.NoMemory a b c h falls = falls
-falls_behind pause.Spent a b c h falls = falls
 
 module _ {S W M : Type 0} (present : S → Present W) (stands : S → M → Present W → Type 0) (older : M → M → Type 0) where
   -- an engine that is awake stands for what it represents

@@ -1,22 +1,15 @@
 -- What makers add to a store, call by call.
-use Rattle.std.proofs.Common.{◌≡◌, ℕ, zero, suc, ◌+◌, List, [], ◌∷◌, ◌++◌, Bool, true, false, ◌&&◌, ◌<◌, ◌≤◌, nat_le, leb-true, length, take, drop, get_or, map, add-one, append_assoc, append-nil, length-append, ◌==◌, ap₂, refl, ap, sym, ◌∙◌, subst, arith}
-use Rattle.std.specs.Prelude.{Result, Ok, Err, IfOk}
+use Rattle.std.proofs.Common.{◌≡◌, ℕ, zero, suc, ◌+◌, List, [], ◌∷◌, ◌++◌, Bool, true, false, ◌&&◌, ◌<◌, ◌≤◌, length, take, drop, get_or, add-one, append_assoc, append-nil, length-append, ◌==◌, refl, ap, sym, ◌∙◌, subst, arith}
 use Rattle.std.proofs.Math.Seq.{drop-cons, take-suc}
-use Rattle.std.proofs.lemmas.List.Elements.{All-nil, All-cons}
-use Rattle.std.specs.List.{All}
 use Rattle.iso_model.specs.declared.terms.Term.{Term}
-use Rattle.iso_model.specs.declared.terms.Term.TheOpen.{Term-F}
-use Rattle.iso_model.specs.declared.terms.Term.TheVariants.{Var, rolls-Var}
-use Rattle.iso_model.specs.declared.terms.Term.TheFolds.{fold-roll-Term}
-use Rattle.iso_model.specs.Terms.TermOf.{term_of, row_of, term_step}
-use Rattle.iso_model.specs.Terms.Trees.{Tree, Variable, Apply, More, row, count, arities_fit}
-use Rattle.iso_model.proofs.OnTerms.RowLemmas.{count_row_of}
+use Rattle.iso_model.specs.Terms.TermOf.{term_of}
+use Rattle.iso_model.specs.Terms.Trees.{Tree, Variable, count}
 use Rattle.iso_model.specs.Terms.Substitutions.{Subst, apply, compose}
 use Rattle.iso_model.specs.Terms.Unifiers.{Unifier, NeverEqual}
 use Rattle.iso_model.specs.Terms.Copies.{numbers_from, renamed}
-use Rattle.iso_store.specs.Presents.{Present, meaning, IsUnification, Binds, Holds, KeepsWords, Makes, MovesOn, KeepsNumbers}
+use Rattle.iso_store.specs.Presents.{Present, meaning, IsUnification, Binds, KeepsWords, Makes, MovesOn, KeepsNumbers}
 use Rattle.iso_plain.specs.Standing.{AreVariables, no_word, one_word}
-use Rattle.iso_plain.specs.Entering.{Extends, AreTerms, no_terms, one_more, is_below, Adds, Copies, CopiesPart, Meets, no_nodes, renamed_nodes}
+use Rattle.iso_plain.specs.Entering.{Extends, Adds, Copies, CopiesPart, Meets, no_nodes, renamed_nodes}
 use Rattle.iso_plain.specs.Nodes.{map_node, trees_of}
 use Rattle.std.proofs.lemmas.List.{map-append}
 use Rattle.iso_plain.specs.declared.bodies.Node.{Node}
@@ -31,10 +24,6 @@ words_on a b = record { stand = λ w h. b.stand w (a.stand w h); terms = λ w h.
 
 pub extends_none : {W : Type 0} (p : Present W) → Extends p p 0
 extends_none p = record { words = words_same p; substitution = refl; next = omega arith }
-
--- a word that comes without a number
-pub extends_made : {W : Type 0} {p q r : Present W} {w : W} {t : Tree} {n : ℕ} → Extends p q n → Makes q r w t → KeepsNumbers q r → Extends p r n
-extends_made e m k = record { words = words_on e.words m.words; substitution = m.substitution ∙ e.substitution; next = k.next ∙ e.next }
 
 -- a word that comes with a new number
 pub extends_new : {W : Type 0} {p q r : Present W} {w : W} {t : Tree} {n : ℕ} → Extends p q n → Makes q r w t → MovesOn q r 1 → Extends p r (n + 1)
@@ -64,73 +53,9 @@ variables_push {q = q} (v ∷ ws) w n (suc k) (one_word there same others) holds
     let count : suc k + 1 ≡ suc (k + 1) = omega arith in
     rw count (one_word there same (variables_push ws w (n + 1) k others holds (is ∙ ap Variable next)))
 
--- ---- arguments
-
--- what is left of a list of terms, its first taken off
-pub row_at : (xs : List Term) (i : ℕ) (x : Term) → i < length xs → x ≡ get_or xs i x → row_of (drop i xs) ≡ More (term_of x) (row_of (drop (i + 1) xs))
-row_at xs i x within is = rw (drop-cons xs i x within, ← is, add-one) refl
-
--- the first of a list of terms, with one more
-pub front_at : (xs : List Term) (i : ℕ) (x : Term) → i < length xs → x ≡ get_or xs i x → take (i + 1) xs ≡ take i xs ++ x ∷ []
-front_at xs i x within is = rw (add-one, take-suc xs i x within, ← is) refl
-
 pub both_true : (a b : Bool) → a && b ≡ true → (a ≡ true) × (b ≡ true)
 both_true true b h = (refl, h)
 both_true false b h = absurd (cc)
-
--- words for a list of terms, with one more
-pub terms_push : {W : Type 0} {p q : Present W} (first : ℕ) (ws : List W) (ts : List Term) (w : W) (t : Term) → AreTerms p ws (renamed first (row_of ts)) → KeepsWords p q → q.holds w ≡ true
-    → q.term w ≡ renamed first (term_of t) → AreTerms q (ws ++ w ∷ []) (renamed first (row_of (ts ++ t ∷ [])))
-terms_push first [] [] w t no_terms keeps holds is = one_more holds is no_terms
-terms_push first [] (u ∷ ts) w t h keeps holds is = elim h [ ]
-terms_push first (v ∷ ws) [] w t h keeps holds is = elim h [ ]
-terms_push first (v ∷ ws) (u ∷ ts) w t (one_more there same others) keeps holds is =
-    one_more (keeps.stand v there) (keeps.terms v there ∙ same) (terms_push first ws ts w t others keeps holds is)
-
--- what the words of a list of terms stand for
-pub terms_row : {W : Type 0} {p : Present W} {ws : List W} {ts : Tree} → AreTerms p ws ts → row (map p.term ws) ≡ ts
-terms_row no_terms = refl
-terms_row (one_more {w = w} {t = t} {ts = ts} holds is others) = ap₂ More is (terms_row others)
-
-pub terms_hold : {W : Type 0} {p : Present W} (ws : List W) {ts : Tree} → AreTerms p ws ts → All (λ w. Holds p w) ws
-terms_hold {p = p} [] no_terms = All-nil (λ w. Holds p w)
-terms_hold {p = p} (w ∷ ws) (one_more holds is others) = All-cons (λ w. Holds p w) w ws holds (terms_hold ws others)
-
-pub terms_count : {W : Type 0} {p : Present W} {ws : List W} {ts : Tree} → AreTerms p ws ts → length ws ≡ count ts
-terms_count no_terms = refl
-terms_count (one_more holds is others) = omega (arith, terms_count others)
-
--- a variable's word
-pub variable_at : {W : Type 0} {p : Present W} (ws : List W) (first count k : ℕ) (w : W) → AreVariables p ws (numbers_from first count) → k < length ws → w ≡ get_or ws k w
-    → (p.holds w ≡ true) × (p.term w ≡ Variable (first + k))
-variable_at [] first count k w h within is = absurd (omega arith)
-variable_at (v ∷ ws) first zero k w h within is = elim h [ ]
-variable_at {p = p} (v ∷ ws) first (suc count) zero w (one_word holds named others) within is =
-    let number : first ≡ first + 0 = omega arith in
-    (subst (λ (x : _). p.holds x ≡ true) (sym is) holds, ap (λ (x : _). p.term x) is ∙ (named ∙ ap Variable number))
-variable_at {p = p} (v ∷ ws) first (suc count) (suc k) w (one_word holds named others) within is =
-    let there = variable_at ws (first + 1) count k w others (omega arith) is in
-    let number : first + 1 + k ≡ first + suc k = omega arith in
-    (there.0, there.1 ∙ ap Variable number)
-
-pub count_renamed : (first : ℕ) (ts : List Term) → count (renamed first (row_of ts)) ≡ length ts
-count_renamed first [] = refl
-count_renamed first (t ∷ ts) = omega (arith, count_renamed first ts)
-
--- a compound has 1 to 255 arguments
-pub arity_range : (f : List ℕ) (ts : List Term) → arities_fit (Apply f (row_of ts)) ≡ true → (0 < length ts) × (length ts < 256)
-arity_range f ts h =
-    let a = both_true (nat_le 1 (count (row_of ts))) (nat_le (count (row_of ts)) 255 && arities_fit (row_of ts)) h in
-    let b = both_true (nat_le (count (row_of ts)) 255) (arities_fit (row_of ts)) a.1 in
-    let n = count_row_of ts in
-    let low : 1 ≤ count (row_of ts) = leb-true 1 (count (row_of ts)) a.0 in
-    let high : count (row_of ts) ≤ 255 = leb-true (count (row_of ts)) 255 b.0 in
-    (omega arith, omega arith)
-
-pub arguments_fit : (f : List ℕ) (ts : List Term) → arities_fit (Apply f (row_of ts)) ≡ true → arities_fit (row_of ts) ≡ true
-arguments_fit f ts h =
-    let a = both_true (nat_le 1 (count (row_of ts))) (nat_le (count (row_of ts)) 255 && arities_fit (row_of ts)) h in
-    (both_true (nat_le (count (row_of ts)) 255) (arities_fit (row_of ts)) a.1).1
 
 -- words for all of a list of terms
 pub take_all : {X : Type 0} (xs : List X) (i : ℕ) → length xs ≤ i → take i xs ≡ xs
@@ -138,20 +63,6 @@ take_all [] zero h = refl
 take_all [] (suc i) h = refl
 take_all (x ∷ xs) zero h = absurd (omega arith)
 take_all (x ∷ xs) (suc i) h = ap (λ (ys : List _). x ∷ ys) (take_all xs i (omega arith))
-
-pub term_of_variable : (n : ℕ) → term_of (Var n) ≡ Variable n
-term_of_variable n = ap term_of (sym (rolls-Var n)) ∙ fold-roll-Term Tree term_step (Term-F.Var n)
-
-pub if_ok : {A B : Type 0} (r : Result A B) (P Q : A → Type 0) → ((x : A) → P x → Q x) → IfOk r P → IfOk r Q
-if_ok (Ok x) P Q f h = f x h
-if_ok (Err e) P Q f h = h
-
--- a word made behind others
-pub made_behind : {W : Type 0} {p q r : Present W} {w : W} {t u : Tree} {n : ℕ} → Extends p q n → t ≡ u → Makes q r w t → Makes p r w u
-made_behind e same m = record { words = words_on e.words m.words; substitution = m.substitution ∙ e.substitution; holds = m.holds; term = m.term ∙ same }
-
-pub numbers_behind : {W : Type 0} {p q r : Present W} → KeepsNumbers p q → KeepsNumbers q r → KeepsNumbers p r
-numbers_behind a b = record { next = b.next ∙ a.next; taken = λ n. b.taken n ∙ a.taken n }
 
 pub adds_none : {X : Type 0} (xs : List X) → Adds xs xs
 adds_none xs = ([], sym (append-nil xs))

@@ -1,11 +1,5 @@
 -- Where the frames are full the search has as many alternatives.
-use Rattle.std.proofs.Common.{◌≡◌, ℕ, refl, ◌∙◌, subst, Result, Ok, Err}
-use Rattle.iso_model.specs.Search.Walker.{State}
-use Rattle.iso_model.specs.Search.Runs.{ComesOver}
-use Rattle.iso_model.specs.Search.Engines.{MayMeet, RefusesStart, MeetsLimit, KeepsLimits}
-use Rattle.iso_model.specs.declared.limit.Limit.TheVariants as limit
-use Rattle.iso_model.specs.declared.pauses.StartFault.{StartFault}
-use Rattle.iso_model.specs.declared.pauses.StartFault.TheVariants as start
+use Rattle.std.proofs.Common.{refl, ◌∙◌, Result, Ok, Err}
 use Rattle.iso_model.specs.declared.pauses.Pause.{Pause}
 use Rattle.iso_model.specs.declared.pauses.Pause.TheVariants as pause
 use Rattle.iso_store.specs.declared.shapes.StoreFault.{StoreFault}
@@ -36,31 +30,6 @@ move_full (move.Pauses p) f h = where_full p f h
 pub result_full : {A B : Type 0} (r : Result Move StoreFault) → (A → B) → ResultFull A r → ResultFull B r
 result_full (Ok m) f h = move_full m f h
 result_full (Err e) f h = tt
-
--- ---- limits by the piece of the walk
-
-pub meets_limit : (most : ℕ) (s : State) (p : Pause) → WhereFull (ComesOver most s) p → MeetsLimit (MayMeet (λ t. Unit {0}) (ComesOver most)) s p
-meets_limit most s (pause.Answer values) h = tt
-meets_limit most s (pause.Output bytes) h = tt
-meets_limit most s pause.NoMore h = tt
-meets_limit most s pause.Budget h = tt
-meets_limit most s (pause.Uncaught ball) h = tt
-meets_limit most s (pause.Halt status) h = tt
-meets_limit most s pause.HeapFull h = tt
-meets_limit most s pause.FramesFull h = h
-meets_limit most s pause.NoMemory h = tt
-meets_limit most s pause.Spent h = tt
-
--- as many frames
-pub same_limits : (old new : ℕ) → new ≡ old → KeepsLimits (MayMeet (λ t. Unit {0}) (ComesOver old)) (MayMeet (λ t. Unit {0}) (ComesOver new))
-same_limits old new same limit.Heap s h = tt
-same_limits old new same limit.Frames s h = subst (λ (n : ℕ). ComesOver n s) same h
-same_limits old new same limit.Memory s h = tt
-
-pub refuses_start : (most : ℕ) (s : State) (r : Result Unit StartFault) → RefusesStart (MayMeet (λ t. Unit {0}) (ComesOver most)) s r
-refuses_start most s (Ok u) = tt
-refuses_start most s (Err start.HeapFull) = tt
-refuses_start most s (Err start.NoMemory) = tt
 
 -- ---- what stays
 

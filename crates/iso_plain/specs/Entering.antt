@@ -41,11 +41,6 @@ pub record Extends {W : Type 0} (p q : Present W) (count : ℕ) : Type 0 where
   pub substitution : q.substitution ≡ p.substitution
   pub next : q.next ≡ p.next + count
 
--- These words come for the terms, in their order.
-pub data AreTerms {W : Type 0} (p : Present W) : List W → Tree → Type 0 where
-  no_terms : AreTerms p [] End
-  one_more : {w : W} {ws : List W} {t : Tree} {ts : Tree} → p.holds w ≡ true → p.term w ≡ t → AreTerms p ws ts → AreTerms p (w ∷ ws) (More t ts)
-
 -- the parts, with n added to the number of each variable
 abbrev pub renamed_nodes : ℕ → List (Node Tree) → List (Node Tree)
 renamed_nodes n ts = map (map_node (renamed n)) ts

@@ -1,4 +1,4 @@
-use Rattle.std.proofs.Common.{◌≡◌, length}
+use Rattle.std.proofs.Common.{length}
 use Rattle.iso_model.specs.Terms.TermOf.{term_of}
 use Rattle.iso_plain.proofs.PatternLemmas.{below_to, renamed_as, variables_hold}
 use Rattle.iso_plain.proofs.entries.instantiate.Goals as goal
