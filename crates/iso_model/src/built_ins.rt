@@ -29,9 +29,16 @@ pub fn built_in(name: &str, arity: usize) -> Option<BuiltIn>
     }
 }
 
+/// Whether this is the name and the arity of a control construct, which bodies are converted through (7.6.2).
+fn is_control(name: &str, arity: usize) -> bool
+    ensures { result ≡ table.is_control (key name.now arity) }
+{
+    matches!((name, arity), ("," | ";" | "->", 2) | ("!", 0))
+}
+
 /// Whether a procedure of this name and arity is a built-in or a control construct, which no clause may be added to.
 pub fn is_built_in(name: &str, arity: usize) -> bool
     ensures { result ≡ table.is_built_in (key name.now arity) }
 {
-    (name == "," && arity == 2) || built_in(name, arity).is_some()
+    is_control(name, arity) || built_in(name, arity).is_some()
 }

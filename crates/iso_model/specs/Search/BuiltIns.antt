@@ -27,7 +27,7 @@ is_some_built_in (Some b) = true
 
 -- the control constructs that bodies are converted through: no goal is one
 abbrev pub is_control : Key → Bool
-is_control k = same_key (key (codes ",") 2) k
+is_control k = same_key (key (codes ",") 2) k || (same_key (key (codes ";") 2) k || (same_key (key (codes "->") 2) k || same_key (key (codes "!") 0) k))
 
 -- whether this is the key of a built-in or of a control construct, which no clause may be added to
 abbrev pub is_built_in : Key → Bool
