@@ -8,12 +8,20 @@ ghost use Rattle.iso_model.specs.Search.BuiltIns as table;
 pub enum BuiltIn {
     /// `true/0` (7.8.1).
     True,
-    /// `fail/0` (7.8.2).
+    /// `fail/0` and `false/0` (7.8.2; the second name is own).
     Fail,
     /// `=/2`: its two arguments are unified (8.2.1).
     Unify,
     /// `\=/2`: its two arguments don't unify (8.2.3).
     Differ,
+    /// `call/1` to `call/8`: the first argument is run, with the others behind its own (7.8.3; those beyond `call/1` are own).
+    Call,
+    /// `once/1`: the first solution of its argument (8.15.2).
+    Once,
+    /// `\+ /1`: its argument has no solution (8.15.1).
+    Not,
+    /// `repeat/0`: it succeeds again and again (8.15.3).
+    Repeat,
 }
 
 /// The built-in of this name and arity, where there is one.
@@ -23,6 +31,18 @@ pub fn built_in(name: &str, arity: usize) -> Option<BuiltIn>
     match (name, arity) {
         ("true", 0) => Some(BuiltIn::True),
         ("fail", 0) => Some(BuiltIn::Fail),
+        ("false", 0) => Some(BuiltIn::Fail),
+        ("repeat", 0) => Some(BuiltIn::Repeat),
+        ("call", 1) => Some(BuiltIn::Call),
+        ("call", 2) => Some(BuiltIn::Call),
+        ("call", 3) => Some(BuiltIn::Call),
+        ("call", 4) => Some(BuiltIn::Call),
+        ("call", 5) => Some(BuiltIn::Call),
+        ("call", 6) => Some(BuiltIn::Call),
+        ("call", 7) => Some(BuiltIn::Call),
+        ("call", 8) => Some(BuiltIn::Call),
+        ("once", 1) => Some(BuiltIn::Once),
+        ("\\+", 1) => Some(BuiltIn::Not),
         ("=", 2) => Some(BuiltIn::Unify),
         ("\\=", 2) => Some(BuiltIn::Differ),
         _ => None,

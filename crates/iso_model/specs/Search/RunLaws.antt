@@ -4,6 +4,7 @@ pub mod Exists
 pub mod Named
 pub mod Quiets
 pub mod Moves
+pub mod Values
 pub mod Sameness
 pub mod SameSteps
 pub mod SameRuns

@@ -14,7 +14,7 @@ use Rattle.iso_model.specs.Terms.Unification.{unifier_of}
 use Rattle.iso_model.specs.Terms.Copies.{renamed}
 use Rattle.iso_model.specs.Search.Bodies.{Body, Cut, Run, And, Or, If, Choose, converted, body_term, map_body, is_true}
 use Rattle.iso_model.specs.Search.Databases.{Clause, Key, Database, key, key_of, no_clauses, clauses_at}
-use Rattle.iso_model.specs.Search.BuiltIns.{Reply, Fails, Succeeds, Equates, built_in, reply}
+use Rattle.iso_model.specs.Search.BuiltIns.{Reply, Fails, Succeeds, Equates, Raises, Calls, CallsOnce, Refutes, Repeats, built_in, reply}
 use Rattle.iso_model.specs.Search.Errors.{type_error_callable, existence_error}
 use Rattle.iso_model.specs.declared.built_ins.BuiltIn.{BuiltIn}
 
@@ -38,9 +38,10 @@ pub data Member : Type 0 where
   Fail : Member
   Raise : (ball : Tree) → Member
 
--- what is left to be tried at an alternative: its goals as they are, or these clauses for this call
+-- what is left to be tried at an alternative: its goals as they are, once or again and again, or these clauses for this call
 pub data Left : Type 0 where
   AsIs : Left
+  Again : Left
   Clauses : (call : Tree) → (clauses : List Clause) → Left
 
 -- An alternative: the goals, the substitution, the next number and what was built, as they were when it was made, and what is left to
@@ -157,9 +158,10 @@ abbrev pub tried : Tree → List Clause → List Member → State → State
 tried call [] rest s = fails s
 tried call (c ∷ cs) rest s = tried_clause call c (length s.stack) rest (with_others call cs rest s)
 
--- what is left at an alternative is tried: a further solution may be one that is paid for
+-- What is left at an alternative is tried. A further solution of `repeat` takes a step (8.15.3; that it does is own).
 abbrev pub retried : Left → State → Outcome
 retried AsIs s = Goes s
+retried Again s = paid s.steps s (Goes (pushed s.list Again s))
 retried (Clauses call cs) s = Goes (tried call cs s.list s)
 
 -- failure goes on with the newest alternative; where there is none the search ends
@@ -182,10 +184,20 @@ abbrev pub equated : Option Subst → List Member → State → State
 equated None rest s = fails s
 equated (Some u) rest s = record s { list = rest; subst = u }
 
--- a goal of a built-in comes to this
+-- what a built-in makes is the goal that it runs (own)
+abbrev pub with_goal : Body → State → State
+with_goal b s = record s { built = s.built + size (body_term b) }
+
+-- A goal of a built-in comes to this. Where it runs a goal, a cut in that is one back to the height of the stack at its call.
 abbrev pub replied : Reply → List Member → State → Outcome
 replied Fails rest s = Goes (fails s)
 replied Succeeds rest s = Goes (record s { list = rest })
+replied (Raises error) rest s = Goes (record s { list = Raise error ∷ rest })
+replied (Calls b) rest s = Goes (record (with_goal b s) { list = Goal b (length s.stack) ∷ rest })
+replied (CallsOnce b) rest s = Goes (record (with_goal b s) { list = Goal b (length s.stack) ∷ CutTo (length s.stack) ∷ rest })
+replied (Refutes b) rest s =
+    Goes (record (pushed rest AsIs (with_goal b s)) { list = Goal b (suc (length s.stack)) ∷ CutTo (length s.stack) ∷ Fail ∷ rest })
+replied Repeats rest s = Goes (record (pushed rest Again s) { list = rest })
 replied (Equates a b) rest s = Goes (equated (under s.subst (unifier_of a b)) rest (record s { built = s.built + 2 }))
 
 -- what a goal of this name and arity runs: a built-in where there is one, else a user procedure

@@ -15,11 +15,11 @@ list_back same_failure = same_failure
 list_back same_ball = same_ball
 
 agree_back : {r q : Subst} {vs ws : List ℕ} (n m : ℕ) → n ≡ m → Agree r q vs ws n → Agree q r ws vs m
-agree_back n m e h = record { shown = sym h.shown; beyond = λ x more. sym (h.beyond x (omega (arith, e, more))) }
+agree_back n m e h = record { shown = sym h.shown; beyond = λ x more. sym (h.beyond x (omega (arith, e, more))); twice = h.other; other = h.twice }
 
 stack_back : {vs ws : List ℕ} {xs ys : List Alternative} → SameStack vs ws xs ys → SameStack ws vs ys xs
 stack_back no_alternative = no_alternative
-stack_back (same_alternative {a = a} {b = b} agree next list left others) = same_alternative (agree_back a.next b.next next agree) (sym next) (list_back list) (sym left) (stack_back others)
+stack_back (same_alternative {a = a} {b = b} agree next list left own other others) = same_alternative (agree_back a.next b.next next agree) (sym next) (list_back list) (sym left) other own (stack_back others)
 
 beside_back : {s t : State} → Beside s t → Beside t s
 beside_back h = record { stack = stack_back h.stack; world = sym h.world; steps = sym h.steps }
@@ -43,12 +43,12 @@ list_on_list same_failure same_failure = same_failure
 list_on_list same_ball same_ball = same_ball
 
 agree_on_agree : {r q p : Subst} {us vs ws : List ℕ} (n m : ℕ) → n ≡ m → Agree r q us vs n → Agree q p vs ws m → Agree r p us ws n
-agree_on_agree n m e h k = record { shown = h.shown ∙ k.shown; beyond = λ x more. h.beyond x more ∙ k.beyond x (omega (arith, e, more)) }
+agree_on_agree n m e h k = record { shown = h.shown ∙ k.shown; beyond = λ x more. h.beyond x more ∙ k.beyond x (omega (arith, e, more)); twice = h.twice; other = k.other }
 
 stack_on_stack : {us vs ws : List ℕ} {xs ys zs : List Alternative} → SameStack us vs xs ys → SameStack vs ws ys zs → SameStack us ws xs zs
 stack_on_stack no_alternative no_alternative = no_alternative
-stack_on_stack (same_alternative {a = a} {b = b} agree next list left others) (same_alternative agree' next' list' left' others') =
-    same_alternative (agree_on_agree a.next b.next next agree agree') (next ∙ next') (list_on_list list list') (left ∙ left') (stack_on_stack others others')
+stack_on_stack (same_alternative {a = a} {b = b} agree next list left own other others) (same_alternative agree' next' list' left' own' other' others') =
+    same_alternative (agree_on_agree a.next b.next next agree agree') (next ∙ next') (list_on_list list list') (left ∙ left') own other' (stack_on_stack others others')
 
 beside_on : {s t u : State} → Beside s t → Beside t u → Beside s u
 beside_on h k = record { stack = stack_on_stack h.stack k.stack; world = h.world ∙ k.world; steps = h.steps ∙ k.steps }

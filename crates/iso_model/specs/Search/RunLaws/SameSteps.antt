@@ -5,15 +5,17 @@ use Rattle.iso_ops.specs.declared.settings.Unknown.TheVariants as on_unknown
 use Rattle.iso_model.specs.Terms.Trees.{Tree, Variable}
 use Rattle.iso_model.specs.Terms.Variables.{variables}
 use Rattle.iso_model.specs.Terms.Substitutions.{Subst, apply, compose}
-use Rattle.iso_model.specs.Terms.Unification.{unifier_of}
+use Rattle.iso_model.specs.Terms.Unifiers.{Unifier, IsUnifierOf}
+use Rattle.iso_model.specs.Terms.Unification.{unifier_of, unifier_of_is}
 use Rattle.iso_model.specs.Terms.Unification.Applied.{apply_apply, apply_same}
 use Rattle.iso_model.specs.Terms.Copies.{renamed}
 use Rattle.iso_model.specs.Search.Bodies.{Body, Cut, Run, And, Or, If, Choose, map_body, is_true}
 use Rattle.iso_model.specs.Search.Databases.{Clause, Key, key_of, clauses_at}
-use Rattle.iso_model.specs.Search.BuiltIns.{Reply, Fails, Succeeds, Equates, built_in, reply}
+use Rattle.iso_model.specs.Search.BuiltIns.{Reply, Fails, Succeeds, Equates, Raises, Calls, CallsOnce, Refutes, Repeats, built_in, reply}
 use Rattle.iso_model.specs.declared.built_ins.BuiltIn.{BuiltIn}
-use Rattle.iso_model.specs.Search.Walker.{State, World, Member, Goal, CutTo, Fail, Raise, Left, AsIs, Clauses, Alternative, Event, Ending, Outcome, Goes, Gives, Ends, Answered, NoMore, Budget, Uncaught, charged, paid, before, entered, under, tried_clause, with_others, tried, retried, backtracked, unknown_called, called, equated, replied, selected, run_goal, run_value, thrown, fails, values, clause_size, shortened, cut_back, pushed, step_goal, step_list, step}
+use Rattle.iso_model.specs.Search.Walker.{State, World, Member, Goal, CutTo, Fail, Raise, Left, AsIs, Again, Clauses, Alternative, Event, Ending, Outcome, Goes, Gives, Ends, Answered, NoMore, Budget, Uncaught, charged, paid, before, entered, under, tried_clause, with_others, tried, retried, backtracked, unknown_called, called, equated, with_goal, replied, selected, run_goal, run_value, thrown, fails, values, clause_size, shortened, cut_back, pushed, step_goal, step_list, step}
 use Rattle.iso_model.specs.Search.Runs.{Quiet, here, onward}
+use Rattle.iso_model.specs.Search.RunLaws.Values.{IsValue, IsTwice, IsOwnBody, IsOwnLeft, IsOwnReply, value_is, twice_on, reply_own}
 use Rattle.iso_model.specs.Search.RunLaws.Sameness.{put, flat, SameList, no_member, same_goal, same_construct, same_cut, same_failure, same_ball, Agree, SameStack, no_alternative, same_alternative, Beside, Around, Same, going, failing}
 
 -- ---- substitutions
@@ -49,14 +51,23 @@ map_on : (r u : Subst) (vs : List ℕ) → map (compose r u) vs ≡ map (apply u
 map_on r u [] = refl
 map_on r u (v ∷ vs) = ap (λ (ts : List Tree). apply u (r v) ∷ ts) (map_on r u vs)
 
-agree_on : {r q : Subst} {vs ws : List ℕ} {n : ℕ} (u : Subst) → Agree r q vs ws n → Agree (compose r u) (compose q u) vs ws n
-agree_on {r} {q} {vs} {ws} u h = record {
+-- terms that both substitutions leave as they are
+record AreValues (r q : Subst) (a b : Tree) : Type 0 where
+  first : IsValue r a
+  second : IsValue r b
+  third : IsValue q a
+  fourth : IsValue q b
+
+agree_on : {r q : Subst} {vs ws : List ℕ} {n : ℕ} (u : Subst) (a b : Tree) → AreValues r q a b → Unifier a b u → Agree r q vs ws n → Agree (compose r u) (compose q u) vs ws n
+agree_on {r} {q} {vs} {ws} u a b are unifies h = record {
   shown = map_on r u vs ∙ (ap (map (apply u)) h.shown ∙ sym (map_on q u ws));
   beyond = λ x more. ap (apply u) (h.beyond x more);
+  twice = twice_on r u a b h.twice are.first are.second unifies;
+  other = twice_on q u a b h.other are.third are.fourth unifies;
 }
 
 agree_more : {r q : Subst} {vs ws : List ℕ} {n : ℕ} (k : ℕ) → Agree r q vs ws n → Agree r q vs ws (n + k)
-agree_more {n = n} k h = record { shown = h.shown; beyond = λ x more. h.beyond x (omega (arith, more)) }
+agree_more {n = n} k h = record { shown = h.shown; beyond = λ x more. h.beyond x (omega (arith, more)); twice = h.twice; other = h.other }
 
 -- a term whose variables are not used yet
 renamed_same : (r q : Subst) (n : ℕ) (t : Tree) → ((x : ℕ) → n ≤ x → r x ≡ q x) → apply r (renamed n t) ≡ apply q (renamed n t)
@@ -168,26 +179,18 @@ list_same (CutTo height ∷ ms) = same_cut (list_same ms)
 list_same (Fail ∷ ms) = same_failure
 list_same (Raise ball ∷ ms) = same_ball
 
-pub stack_same : (vs : List ℕ) (xs : List Alternative) → SameStack vs vs xs xs
-stack_same vs [] = no_alternative
-stack_same vs (a ∷ xs) = same_alternative (record { shown = refl; beyond = λ x more. refl }) refl (list_same a.list) refl (stack_same vs xs)
-
 pub stack_length : {vs ws : List ℕ} {xs ys : List Alternative} → SameStack vs ws xs ys → length xs ≡ length ys
 stack_length no_alternative = refl
-stack_length (same_alternative agree next list left others) = ap suc (stack_length others)
+stack_length (same_alternative agree next list left own other others) = ap suc (stack_length others)
 
 dropped_same : {vs ws : List ℕ} {xs ys : List Alternative} (n : ℕ) → SameStack vs ws xs ys → SameStack vs ws (drop n xs) (drop n ys)
 dropped_same zero others = others
 dropped_same (suc n) no_alternative = no_alternative
-dropped_same (suc n) (same_alternative agree next list left others) = dropped_same n others
+dropped_same (suc n) (same_alternative agree next list left own other others) = dropped_same n others
 
 shortened_same : {vs ws : List ℕ} {xs ys : List Alternative} (height : ℕ) → SameStack vs ws xs ys → SameStack vs ws (shortened height xs) (shortened height ys)
 shortened_same {vs} {ws} {xs} {ys} height same =
     subst (λ (n : ℕ). SameStack vs ws (shortened height xs) (drop (n - height) ys)) (stack_length same) (dropped_same (length xs - height) same)
-
--- each state is the same as itself
-pub same_itself : (s : State) → Same s s
-same_itself s = going (record { agree = record { shown = refl; beyond = λ x more. refl }; next = refl; beside = record { stack = stack_same (variables s.query) s.stack; world = refl; steps = refl } }) (list_same s.list)
 
 -- ---- what steps come to
 
@@ -200,74 +203,123 @@ fails_same : {s t : State} → Beside s t → Same (fails s) (fails t)
 fails_same h = failing [] [] refl refl (record { stack = h.stack; world = h.world; steps = h.steps })
 
 -- a clause was met, with the same unifier of the two calls with its head
-entered_same : (s t : State) (ms ns : List Member) (o : Option Subst) (c : Clause) (mark : ℕ) → Around s t → SameList s.subst t.subst (flat ms) (flat ns)
+entered_same : (s t : State) (ms ns : List Member) (o : Option Subst) (a b : Tree) (c : Clause) (mark : ℕ) → AreValues s.subst t.subst a b → IsUnifierOf a b o → Around s t → SameList s.subst t.subst (flat ms) (flat ns)
     → Same (entered (under s.subst o) c s.next mark ms (record s { next = s.next + c.variables; built = s.built + clause_size c }))
     (entered (under t.subst o) c t.next mark ns (record t { next = t.next + c.variables; built = t.built + clause_size c }))
-entered_same s t ms ns None c mark at list = failing [] [] refl refl (record { stack = at.beside.stack; world = at.beside.world; steps = at.beside.steps })
-entered_same s t ms ns (Some u) c mark at list =
+entered_same s t ms ns None a b c mark are is at list = failing [] [] refl refl (record { stack = at.beside.stack; world = at.beside.world; steps = at.beside.steps })
+entered_same s t ms ns (Some u) a b c mark are is at list =
     let r = compose s.subst u in
     let q = compose t.subst u in
-    let agree = agree_on u at.agree in
+    let agree = agree_on u a b are is at.agree in
     let lists : SameList r q (flat (before (map_body (λ k. Variable (s.next + k)) c.body) mark ms)) (flat (before (map_body (λ k. Variable (t.next + k)) c.body) mark ns)) =
     subst (λ (n : ℕ). SameList r q (flat (before (map_body (λ k. Variable (s.next + k)) c.body) mark ms)) (flat (before (map_body (λ k. Variable (n + k)) c.body) mark ns))) at.next
     (before_same r q ms ns s.next c.body mark agree.beyond (list_on u list)) in
     going (record { agree = agree_more c.variables agree; next = ap (λ (n : ℕ). n + c.variables) at.next; beside = record { stack = at.beside.stack; world = at.beside.world; steps = at.beside.steps } }) lists
 
-others_same : (s t : State) (ms ns : List Member) (call : Tree) (cs : List Clause) → Around s t → SameList s.subst t.subst (flat ms) (flat ns) → Around (with_others call cs ms s) (with_others call cs ns t)
-others_same s t ms ns call [] at list = at
-others_same s t ms ns call (c ∷ cs) at list = record {
+others_same : (s t : State) (ms ns : List Member) (call : Tree) (cs : List Clause) → IsValue s.subst call → IsValue t.subst call → Around s t → SameList s.subst t.subst (flat ms) (flat ns) → Around (with_others call cs ms s) (with_others call cs ns t)
+others_same s t ms ns call [] own other at list = at
+others_same s t ms ns call (c ∷ cs) own other at list = record {
   agree = at.agree;
   next = at.next;
-  beside = record { stack = same_alternative at.agree at.next list refl at.beside.stack; world = at.beside.world; steps = at.beside.steps };
+  beside = record { stack = same_alternative at.agree at.next list refl own other at.beside.stack; world = at.beside.world; steps = at.beside.steps };
 }
 
-clause_same : (s t : State) (ms ns : List Member) (call : Tree) (c : Clause) (mark : ℕ) → Around s t → SameList s.subst t.subst (flat ms) (flat ns)
+-- what is left to be tried changes no substitution
+others_value : (v call : Tree) (cs : List Clause) (ms : List Member) (s : State) → IsValue s.subst v → IsValue (with_others call cs ms s).subst v
+others_value v call [] ms s own = own
+others_value v call (c ∷ cs) ms s own = own
+
+clause_same : (s t : State) (ms ns : List Member) (call : Tree) (c : Clause) (mark : ℕ) → IsValue s.subst call → IsValue t.subst call → Around s t → SameList s.subst t.subst (flat ms) (flat ns)
     → Same (tried_clause call c mark ms s) (tried_clause call c mark ns t)
-clause_same s t ms ns call c mark at list =
-    let o = unifier_of call (apply s.subst (renamed s.next c.head)) in
+clause_same s t ms ns call c mark own other at list =
+    let head = apply s.subst (renamed s.next c.head) in
+    let o = unifier_of call head in
     let one = renamed_same s.subst t.subst s.next c.head at.agree.beyond ∙ ap (λ (n : ℕ). apply t.subst (renamed n c.head)) at.next in
     let same : o ≡ unifier_of call (apply t.subst (renamed t.next c.head)) = ap (unifier_of call) one in
+    let are : AreValues s.subst t.subst call head = record {
+      first = own;
+      second = value_is s.subst (renamed s.next c.head) at.agree.twice;
+      third = other;
+      fourth = subst (λ (x : Tree). IsValue t.subst x) (sym one) (value_is t.subst (renamed t.next c.head) at.agree.other);
+    } in
     subst (λ (p : Option Subst). Same (tried_clause call c mark ms s) (entered (under t.subst p) c t.next mark ns (record t { next = t.next + c.variables; built = t.built + clause_size c }))) same
-    (entered_same s t ms ns o c mark at list)
+    (entered_same s t ms ns o call head c mark are (unifier_of_is call head) at list)
 
 others_list : (s t : State) (ms ns : List Member) (call : Tree) (cs : List Clause) → SameList s.subst t.subst (flat ms) (flat ns)
     → SameList (with_others call cs ms s).subst (with_others call cs ns t).subst (flat ms) (flat ns)
 others_list s t ms ns call [] list = list
 others_list s t ms ns call (c ∷ cs) list = list
 
-tried_same : (s t : State) (ms ns : List Member) (call : Tree) (cs : List Clause) → Around s t → SameList s.subst t.subst (flat ms) (flat ns) → Same (tried call cs ms s) (tried call cs ns t)
-tried_same s t ms ns call [] at list = fails_same at.beside
-tried_same s t ms ns call (c ∷ cs) at list =
-    let one = clause_same (with_others call cs ms s) (with_others call cs ns t) ms ns call c (length s.stack) (others_same s t ms ns call cs at list) (others_list s t ms ns call cs list) in
+tried_same : (s t : State) (ms ns : List Member) (call : Tree) (cs : List Clause) → IsValue s.subst call → IsValue t.subst call → Around s t → SameList s.subst t.subst (flat ms) (flat ns) → Same (tried call cs ms s) (tried call cs ns t)
+tried_same s t ms ns call [] own other at list = fails_same at.beside
+tried_same s t ms ns call (c ∷ cs) own other at list =
+    let one = clause_same (with_others call cs ms s) (with_others call cs ns t) ms ns call c (length s.stack) (others_value call call cs ms s own) (others_value call call cs ns t other) (others_same s t ms ns call cs own other at list) (others_list s t ms ns call cs list) in
     subst (λ (h : ℕ). Same (tried call (c ∷ cs) ms s) (tried_clause call c h ns (with_others call cs ns t))) (stack_length at.beside.stack) one
 
 unknown_same : (s t : State) (ms ns : List Member) (u : Unknown) (k : Key) → Around s t → Same (unknown_called u k ms s) (unknown_called u k ns t)
 unknown_same s t ms ns on_unknown.Error k at = going (record { agree = at.agree; next = at.next; beside = record { stack = at.beside.stack; world = at.beside.world; steps = at.beside.steps } }) same_ball
 unknown_same s t ms ns on_unknown.Fail k at = fails_same at.beside
 
-called_same : (s t : State) (ms ns : List Member) (cs : Option (List Clause)) (k : Key) (v : Tree) → Around s t → SameList s.subst t.subst (flat ms) (flat ns) → Same (called cs k v ms s) (called cs k v ns t)
-called_same s t ms ns (Some cs) k v at list = tried_same s t ms ns v cs at list
-called_same s t ms ns None k v at list =
+called_same : (s t : State) (ms ns : List Member) (cs : Option (List Clause)) (k : Key) (v : Tree) → IsValue s.subst v → IsValue t.subst v → Around s t → SameList s.subst t.subst (flat ms) (flat ns) → Same (called cs k v ms s) (called cs k v ns t)
+called_same s t ms ns (Some cs) k v own other at list = tried_same s t ms ns v cs own other at list
+called_same s t ms ns None k v own other at list =
     subst (λ (w : World). Same (unknown_called s.world.flags.unknown k ms s) (unknown_called w.flags.unknown k ns t)) at.beside.world (unknown_same s t ms ns s.world.flags.unknown k at)
 
-equated_same : (s t : State) (ms ns : List Member) (o : Option Subst) → Around s t → SameList s.subst t.subst (flat ms) (flat ns)
+equated_same : (s t : State) (ms ns : List Member) (o : Option Subst) (a b : Tree) → AreValues s.subst t.subst a b → IsUnifierOf a b o → Around s t → SameList s.subst t.subst (flat ms) (flat ns)
     → Same (equated (under s.subst o) ms (record s { built = s.built + 2 })) (equated (under t.subst o) ns (record t { built = t.built + 2 }))
-equated_same s t ms ns None at list = failing [] [] refl refl (record { stack = at.beside.stack; world = at.beside.world; steps = at.beside.steps })
-equated_same s t ms ns (Some u) at list = going (record { agree = agree_on u at.agree; next = at.next; beside = record { stack = at.beside.stack; world = at.beside.world; steps = at.beside.steps } }) (list_on u list)
+equated_same s t ms ns None a b are is at list = failing [] [] refl refl (record { stack = at.beside.stack; world = at.beside.world; steps = at.beside.steps })
+equated_same s t ms ns (Some u) a b are is at list = going (record { agree = agree_on u a b are is at.agree; next = at.next; beside = record { stack = at.beside.stack; world = at.beside.world; steps = at.beside.steps } }) (list_on u list)
 
-replied_same : (s t : State) (ms ns : List Member) (r : Reply) → Around s t → SameList s.subst t.subst (flat ms) (flat ns) → SameOut (replied r ms s) (replied r ns t)
-replied_same s t ms ns Fails at list = both_go (fails_same at.beside)
-replied_same s t ms ns Succeeds at list = both_go (going (record { agree = at.agree; next = at.next; beside = record { stack = at.beside.stack; world = at.beside.world; steps = at.beside.steps } }) list)
-replied_same s t ms ns (Equates a b) at list = both_go (equated_same s t ms ns (unifier_of a b) at list)
+-- an alternative before the stack, and then these lists
+pushed_same : (s t : State) (left : Left) (xs ys ms ns : List Member) → IsOwnLeft s.subst left → IsOwnLeft t.subst left → Around s t → SameList s.subst t.subst (flat xs) (flat ys) → SameList s.subst t.subst (flat ms) (flat ns)
+    → Same (record (pushed xs left s) { list = ms }) (record (pushed ys left t) { list = ns })
+pushed_same s t left xs ys ms ns own other at kept list =
+    going (record {
+      agree = at.agree;
+      next = at.next;
+      beside = record { stack = same_alternative at.agree at.next kept refl own other at.beside.stack; world = at.beside.world; steps = at.beside.steps };
+    }) list
 
-selected_same : (s t : State) (ms ns : List Member) (b : Option BuiltIn) (k : Key) (v : Tree) → Around s t → SameList s.subst t.subst (flat ms) (flat ns) → SameOut (selected b k v ms s) (selected b k v ns t)
-selected_same s t ms ns (Some b) k v at list = replied_same s t ms ns (reply b v) at list
-selected_same s t ms ns None k v at list =
-    both_go (subst (λ (w : World). Same (called (clauses_at s.world.database.procedures k) k v ms s) (called (clauses_at w.database.procedures k) k v ns t)) at.beside.world (called_same s t ms ns (clauses_at s.world.database.procedures k) k v at list))
+-- the states with other lists, and whatever was built
+listed_same : (s t : State) (ms ns : List Member) (m n : ℕ) → Around s t → SameList s.subst t.subst (flat ms) (flat ns) → Same (record s { list = ms; built = m }) (record t { list = ns; built = n })
+listed_same s t ms ns m n at list = going (record { agree = at.agree; next = at.next; beside = record { stack = at.beside.stack; world = at.beside.world; steps = at.beside.steps } }) list
 
-run_same : (s t : State) (ms ns : List Member) (k : Option Key) (v : Tree) → Around s t → SameList s.subst t.subst (flat ms) (flat ns) → SameOut (run_goal k v ms s) (run_goal k v ns t)
-run_same s t ms ns (Some k) v at list = selected_same s t ms ns (built_in k) k v at list
-run_same s t ms ns None v at list = both_go (fails_same at.beside)
+-- a goal's converted body, which both substitutions leave as it is
+own_put : (r q : Subst) (b : Body) (mark : ℕ) (ms ns : List Member) → IsOwnBody r b → IsOwnBody q b → SameList r q (flat ms) (flat ns) → SameList r q (put b mark (flat ms)) (put b mark (flat ns))
+own_put r q b mark ms ns own other list = put_alike r q (flat ms) (flat ns) b b mark (own ∙ sym other) list
+
+replied_same : (s t : State) (ms ns : List Member) (r : Reply) → IsOwnReply s.subst r → IsOwnReply t.subst r → Around s t → SameList s.subst t.subst (flat ms) (flat ns) → SameOut (replied r ms s) (replied r ns t)
+replied_same s t ms ns Fails own other at list = both_go (fails_same at.beside)
+replied_same s t ms ns Succeeds own other at list = both_go (listed_same s t ms ns s.built t.built at list)
+replied_same s t ms ns (Equates a b) own other at list =
+    both_go (equated_same s t ms ns (unifier_of a b) a b (record { first = own.0; second = own.1; third = other.0; fourth = other.1 }) (unifier_of_is a b) at list)
+replied_same s t ms ns (Raises error) own other at list = both_go (listed_same s t (Raise error ∷ ms) (Raise error ∷ ns) s.built t.built at same_ball)
+replied_same s t ms ns (Calls b) own other at list =
+    let h = length s.stack in
+    subst (λ (k : ℕ). SameOut (replied (Calls b) ms s) (Goes (record (with_goal b t) { list = Goal b k ∷ ns }))) (stack_length at.beside.stack)
+    (both_go (listed_same s t (Goal b h ∷ ms) (Goal b h ∷ ns) (with_goal b s).built (with_goal b t).built at (own_put s.subst t.subst b h ms ns own other list)))
+replied_same s t ms ns (CallsOnce b) own other at list =
+    let h = length s.stack in
+    subst (λ (k : ℕ). SameOut (replied (CallsOnce b) ms s) (Goes (record (with_goal b t) { list = Goal b k ∷ CutTo k ∷ ns }))) (stack_length at.beside.stack)
+    (both_go (listed_same s t (Goal b h ∷ CutTo h ∷ ms) (Goal b h ∷ CutTo h ∷ ns) (with_goal b s).built (with_goal b t).built at (own_put s.subst t.subst b h (CutTo h ∷ ms) (CutTo h ∷ ns) own other (same_cut list))))
+replied_same s t ms ns (Refutes b) own other at list =
+    let h = length s.stack in
+    let u = with_goal b s in
+    let v = with_goal b t in
+    let around : Around u v = record { agree = at.agree; next = at.next; beside = record { stack = at.beside.stack; world = at.beside.world; steps = at.beside.steps } } in
+    subst (λ (k : ℕ). SameOut (replied (Refutes b) ms s) (Goes (record (pushed ns AsIs v) { list = Goal b (suc k) ∷ CutTo k ∷ Fail ∷ ns }))) (stack_length at.beside.stack)
+    (both_go (pushed_same u v AsIs ms ns (Goal b (suc h) ∷ CutTo h ∷ Fail ∷ ms) (Goal b (suc h) ∷ CutTo h ∷ Fail ∷ ns) tt tt around list
+      (own_put s.subst t.subst b (suc h) (CutTo h ∷ Fail ∷ ms) (CutTo h ∷ Fail ∷ ns) own other (same_cut same_failure))))
+replied_same s t ms ns Repeats own other at list = both_go (pushed_same s t Again ms ns ms ns tt tt at list list)
+
+selected_same : (s t : State) (ms ns : List Member) (b : Option BuiltIn) (k : Key) (v : Tree) → IsValue s.subst v → IsValue t.subst v → Around s t → SameList s.subst t.subst (flat ms) (flat ns) → SameOut (selected b k v ms s) (selected b k v ns t)
+selected_same s t ms ns (Some b) k v own other at list = replied_same s t ms ns (reply b v) (reply_own s.subst b v own) (reply_own t.subst b v other) at list
+selected_same s t ms ns None k v own other at list =
+    both_go (subst (λ (w : World). Same (called (clauses_at s.world.database.procedures k) k v ms s) (called (clauses_at w.database.procedures k) k v ns t)) at.beside.world (called_same s t ms ns (clauses_at s.world.database.procedures k) k v own other at list))
+
+run_same : (s t : State) (ms ns : List Member) (k : Option Key) (v : Tree) → IsValue s.subst v → IsValue t.subst v → Around s t → SameList s.subst t.subst (flat ms) (flat ns) → SameOut (run_goal k v ms s) (run_goal k v ns t)
+run_same s t ms ns (Some k) v own other at list = selected_same s t ms ns (built_in k) k v own other at list
+run_same s t ms ns None v own other at list = both_go (fails_same at.beside)
 
 -- with as many steps left
 pub steps_same : {s t : State} (n : ℕ) → Same s t → Same (record s { steps = n }) (record t { steps = n })
@@ -285,24 +337,28 @@ paid_same s t {o} {p} zero m steps world out =
     subst (λ (k : ℕ). SameOut (paid zero s o) (paid k t p)) steps ended
 paid_same s t {o} {p} (suc n) m steps world out = subst (λ (k : ℕ). SameOut (paid (suc n) s o) (paid k t p)) steps (charged_same n out)
 
-retried_same : (s t : State) (ms ns : List Member) (l : Left) → s.list ≡ ms → t.list ≡ ns → Around s t → SameList s.subst t.subst (flat ms) (flat ns) → SameOut (retried l s) (retried l t)
-retried_same s t ms ns AsIs first second at list =
+retried_same : (s t : State) (ms ns : List Member) (l : Left) → IsOwnLeft s.subst l → IsOwnLeft t.subst l → s.list ≡ ms → t.list ≡ ns → Around s t → SameList s.subst t.subst (flat ms) (flat ns) → SameOut (retried l s) (retried l t)
+retried_same s t ms ns AsIs own other first second at list =
     let here : SameList s.subst t.subst (flat s.list) (flat t.list) = rw (first, second) list in
     both_go (going at here)
-retried_same s t ms ns (Clauses call cs) first second at list =
+retried_same s t ms ns Again own other first second at list =
     let here : SameList s.subst t.subst (flat s.list) (flat t.list) = rw (first, second) list in
-    both_go (tried_same s t s.list t.list call cs at here)
+    paid_same s t s.steps t.steps at.beside.steps at.beside.world (both_go (pushed_same s t Again s.list t.list s.list t.list tt tt at here here))
+retried_same s t ms ns (Clauses call cs) own other first second at list =
+    let here : SameList s.subst t.subst (flat s.list) (flat t.list) = rw (first, second) list in
+    both_go (tried_same s t s.list t.list call cs own other at here)
 
 backtracked_same : {vs ws : List ℕ} {xs ys : List Alternative} (s t : State) → variables s.query ≡ vs → variables t.query ≡ ws → s.world ≡ t.world → s.steps ≡ t.steps → SameStack vs ws xs ys
     → SameOut (backtracked xs s) (backtracked ys t)
 backtracked_same s t first second world steps no_alternative = subst (λ (w : World). SameOut (Ends NoMore s.world) (Ends NoMore w)) world both_end
-backtracked_same {vs} {ws} s t first second world steps (same_alternative {a = a} {b = b} {xs = xs} {ys = ys} agree next list left others) =
+backtracked_same {vs} {ws} s t first second world steps (same_alternative {a = a} {b = b} {xs = xs} {ys = ys} agree next list left own other others) =
     let s' : State = record s { list = a.list; subst = a.subst; next = a.next; built = a.built; stack = xs } in
     let t' : State = record t { list = b.list; subst = b.subst; next = b.next; built = b.built; stack = ys } in
+    let other_left : IsOwnLeft b.subst a.left = subst (λ (l : Left). IsOwnLeft b.subst l) (sym left) other in
     let known : Agree a.subst b.subst (variables s.query) (variables t.query) a.next = rw (first, second) agree in
     let stack : SameStack (variables s.query) (variables t.query) xs ys = rw (first, second) others in
     subst (λ (l : Left). SameOut (retried a.left s') (retried l t')) left
-    (retried_same s' t' a.list b.list a.left refl refl (record { agree = known; next = next; beside = record { stack = stack; world = world; steps = steps } }) list)
+    (retried_same s' t' a.list b.list a.left own other_left refl refl (record { agree = known; next = next; beside = record { stack = stack; world = world; steps = steps } }) list)
 
 failing_same : (s t : State) → Beside s t → SameOut (backtracked s.stack s) (backtracked t.stack t)
 failing_same s t h = backtracked_same s t refl refl h.world h.steps h.stack
@@ -426,23 +482,15 @@ goal_same : (s t : State) (a b : Tree) (ms ns : List Member) → apply s.subst a
     → SameOut (paid s.steps s (run_value (apply s.subst a) ms s)) (paid t.steps t (run_value (apply t.subst b) ns t))
 goal_same s t a b ms ns value at list =
     let v = apply s.subst a in
-    let out = subst (λ (x : Tree). SameOut (run_value v ms s) (run_value x ns t)) value (run_same s t ms ns (key_of v) v at list) in
+    let own = value_is s.subst a at.agree.twice in
+    let other = subst (λ (x : Tree). IsValue t.subst x) (sym value) (value_is t.subst b at.agree.other) in
+    let out = subst (λ (x : Tree). SameOut (run_value v ms s) (run_value x ns t)) value (run_same s t ms ns (key_of v) v own other at list) in
     paid_same s t s.steps t.steps at.beside.steps at.beside.world out
 
 -- the same cut
 cut_same : (s t : State) (height : ℕ) (ms ns : List Member) → Around s t → SameList s.subst t.subst (flat ms) (flat ns) → SameOut (Goes (cut_back height ms s)) (Goes (cut_back height ns t))
 cut_same s t height ms ns at list =
     both_go (going (record { agree = at.agree; next = at.next; beside = record { stack = shortened_same height at.beside.stack; world = at.beside.world; steps = at.beside.steps } }) list)
-
--- the same alternative before the stack, and then these lists
-pushed_same : (s t : State) (xs ys ms ns : List Member) → Around s t → SameList s.subst t.subst (flat xs) (flat ys) → SameList s.subst t.subst (flat ms) (flat ns)
-    → Same (record (pushed xs AsIs s) { list = ms }) (record (pushed ys AsIs t) { list = ns })
-pushed_same s t xs ys ms ns at kept list =
-    going (record {
-      agree = at.agree;
-      next = at.next;
-      beside = record { stack = same_alternative at.agree at.next kept refl at.beside.stack; world = at.beside.world; steps = at.beside.steps };
-    }) list
 
 -- a condition, the cut behind it, and the next goal
 condition_same : (r q : Subst) (c d x y : Body) (inner height mark : ℕ) (ms ns : List Member) → map_body r c ≡ map_body q d → map_body r x ≡ map_body q y → SameList r q (flat ms) (flat ns)
@@ -462,7 +510,7 @@ construct_same s t (Run a) c mark ms ns alone same at list =
 construct_same s t (Or x y) c mark ms ns alone same at list =
     let p = parts_of_or t.subst (map_body s.subst x) (map_body s.subst y) c same in
     subst (λ (d : Body). SameOut (step_goal (Or x y) mark ms s) (step_goal d mark ns t)) (sym p.2)
-    (both_go (pushed_same s t (Goal y mark ∷ ms) (Goal p.1 mark ∷ ns) (Goal x mark ∷ ms) (Goal p.0 mark ∷ ns) at
+    (both_go (pushed_same s t AsIs (Goal y mark ∷ ms) (Goal p.1 mark ∷ ns) (Goal x mark ∷ ms) (Goal p.0 mark ∷ ns) tt tt at
     (put_alike s.subst t.subst (flat ms) (flat ns) y p.1 mark p.4 list) (put_alike s.subst t.subst (flat ms) (flat ns) x p.0 mark p.3 list)))
 construct_same s t (If x y) c mark ms ns alone same at list =
     let p = parts_of_if t.subst (map_body s.subst x) (map_body s.subst y) c same in
@@ -475,7 +523,7 @@ construct_same s t (Choose x y z) c mark ms ns alone same at list =
     let p = parts_of_choose t.subst (map_body s.subst x) (map_body s.subst y) (map_body s.subst z) c same in
     let h = length s.stack in
     let lists = condition_same s.subst t.subst x p.0 y p.1 (suc h) h mark ms ns p.4 p.5 list in
-    let one = pushed_same s t (Goal z mark ∷ ms) (Goal p.2 mark ∷ ns) (Goal x (suc h) ∷ CutTo h ∷ Goal y mark ∷ ms) (Goal p.0 (suc h) ∷ CutTo h ∷ Goal p.1 mark ∷ ns) at
+    let one = pushed_same s t AsIs (Goal z mark ∷ ms) (Goal p.2 mark ∷ ns) (Goal x (suc h) ∷ CutTo h ∷ Goal y mark ∷ ms) (Goal p.0 (suc h) ∷ CutTo h ∷ Goal p.1 mark ∷ ns) tt tt at
     (put_alike s.subst t.subst (flat ms) (flat ns) z p.2 mark p.6 list) lists in
     subst (λ (d : Body). SameOut (step_goal (Choose x y z) mark ms s) (step_goal d mark ns t)) (sym p.3)
     (subst (λ (k : ℕ). SameOut (step_goal (Choose x y z) mark ms s) (Goes (record (pushed (Goal p.2 mark ∷ ns) AsIs t) { list = Goal p.0 (suc k) ∷ CutTo k ∷ Goal p.1 mark ∷ ns }))) (stack_length at.beside.stack) (both_go one))

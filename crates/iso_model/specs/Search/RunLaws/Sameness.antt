@@ -5,6 +5,7 @@ use Rattle.iso_model.specs.Terms.Trees.{Tree}
 use Rattle.iso_model.specs.Terms.Variables.{variables}
 use Rattle.iso_model.specs.Terms.Substitutions.{Subst, apply}
 use Rattle.iso_model.specs.Search.Bodies.{Body, Cut, Run, And, Or, If, Choose, map_body}
+use Rattle.iso_model.specs.Search.RunLaws.Values.{IsTwice, IsOwnLeft}
 use Rattle.iso_model.specs.Search.Walker.{State, Member, Goal, CutTo, Fail, Raise, Alternative}
 
 -- a body's goals before what follows, its conjunctions taken apart
@@ -34,16 +35,18 @@ pub data SameList (r q : Subst) : List Member → List Member → Type 0 where
   same_failure : {ms ns : List Member} → SameList r q (Fail ∷ ms) (Fail ∷ ns)
   same_ball : {ball : Tree} {ms ns : List Member} → SameList r q (Raise ball ∷ ms) (Raise ball ∷ ns)
 
--- The substitutions give the queries' variables the same values, and agree on the numbers that are not used yet.
+-- The substitutions give the queries' variables the same values, agree on the numbers that are not used yet, and leave their own terms as they are.
 pub record Agree (r q : Subst) (vs ws : List ℕ) (n : ℕ) : Type 0 where
   pub shown : map r vs ≡ map q ws
   pub beyond : (x : ℕ) → n ≤ x → r x ≡ q x
+  pub twice : IsTwice r
+  pub other : IsTwice q
 
 -- the alternatives are the same, each under its own substitutions, for queries with these variables
 pub data SameStack (vs ws : List ℕ) : List Alternative → List Alternative → Type 0 where
   no_alternative : SameStack vs ws [] []
   same_alternative : {a b : Alternative} {xs ys : List Alternative} → Agree a.subst b.subst vs ws a.next → a.next ≡ b.next → SameList a.subst b.subst (flat a.list) (flat b.list) → a.left ≡ b.left
-      → SameStack vs ws xs ys → SameStack vs ws (a ∷ xs) (b ∷ ys)
+      → IsOwnLeft a.subst a.left → IsOwnLeft b.subst b.left → SameStack vs ws xs ys → SameStack vs ws (a ∷ xs) (b ∷ ys)
 
 -- The states are the same, whatever comes next.
 pub record Beside (s t : State) : Type 0 where

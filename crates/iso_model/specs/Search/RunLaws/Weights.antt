@@ -7,7 +7,7 @@ use Rattle.iso_model.specs.Terms.Unification.{unifier_of}
 use Rattle.iso_model.specs.Terms.Copies.{renamed}
 use Rattle.iso_model.specs.Search.Bodies.{Body, Cut, Run, And, Or, If, Choose, map_body, is_true}
 use Rattle.iso_model.specs.Search.Databases.{Clause}
-use Rattle.iso_model.specs.Search.Walker.{State, Member, Goal, CutTo, Fail, Raise, Left, AsIs, Clauses, Alternative, Outcome, Goes, Gives, Ends, charged, paid, before, entered, pushed, shortened, cut_back, with_others, tried, retried, backtracked, thrown, step_goal, step_list, step, run_value, under, clause_size}
+use Rattle.iso_model.specs.Search.Walker.{State, Member, Goal, CutTo, Fail, Raise, Left, AsIs, Again, Clauses, Alternative, Outcome, Goes, Gives, Ends, charged, paid, before, entered, pushed, shortened, cut_back, with_others, tried, retried, backtracked, thrown, step_goal, step_list, step, run_value, under, clause_size}
 
 -- a body, before what weighs r
 abbrev pub body_weight : Body → ℕ → ℕ
@@ -33,6 +33,7 @@ clauses_weight (c ∷ cs) r = suc (body_weight c.body r) + clauses_weight cs r
 
 abbrev pub left_weight : Left → ℕ → ℕ
 left_weight AsIs r = suc r
+left_weight Again r = 1
 left_weight (Clauses call cs) r = clauses_weight cs r
 
 abbrev pub stack_weight : List Alternative → ℕ
@@ -119,18 +120,6 @@ tried_lighter call (c ∷ cs) rest s =
     let light = t.lighter in
     record { steps = t.steps ∙ others.0; lighter = omega arith }
 
-retried_progress : (l : Left) (s : State) → Progress s.steps (left_weight l (list_weight s.list) + stack_weight s.stack) (retried l s)
-retried_progress AsIs s = inr (record { steps = refl; lighter = omega arith })
-retried_progress (Clauses call cs) s = inr (tried_lighter call cs s.list s)
-
-backtracked_progress : (stack : List Alternative) (s : State) → Progress s.steps (stack_weight stack) (backtracked stack s)
-backtracked_progress [] s = tt
-backtracked_progress (a ∷ below) s = retried_progress a.left (record s { list = a.list; subst = a.subst; next = a.next; built = a.built; stack = below })
-
-thrown_progress : (ball : Tree) (rest : List Member) (n w : ℕ) (s : State) → Progress n w (thrown ball rest s)
-thrown_progress ball [] n w s = tt
-thrown_progress ball (m ∷ rest) n w s = thrown_progress ball rest n w s
-
 charged_progress : (n k w : ℕ) (o : Outcome) → k < n → Progress n w (charged k o)
 charged_progress n k w (Goes t) h = inl h
 charged_progress n k w (Gives e t) h = inl h
@@ -140,6 +129,19 @@ charged_progress n k w (Ends e world) h = tt
 paid_progress : (n w : ℕ) (s : State) (o : Outcome) → Progress n w (paid n s o)
 paid_progress zero w s o = tt
 paid_progress (suc n) w s o = charged_progress (suc n) n w o (omega arith)
+
+retried_progress : (l : Left) (s : State) → Progress s.steps (left_weight l (list_weight s.list) + stack_weight s.stack) (retried l s)
+retried_progress AsIs s = inr (record { steps = refl; lighter = omega arith })
+retried_progress Again s = paid_progress s.steps (1 + stack_weight s.stack) s (Goes (pushed s.list Again s))
+retried_progress (Clauses call cs) s = inr (tried_lighter call cs s.list s)
+
+backtracked_progress : (stack : List Alternative) (s : State) → Progress s.steps (stack_weight stack) (backtracked stack s)
+backtracked_progress [] s = tt
+backtracked_progress (a ∷ below) s = retried_progress a.left (record s { list = a.list; subst = a.subst; next = a.next; built = a.built; stack = below })
+
+thrown_progress : (ball : Tree) (rest : List Member) (n w : ℕ) (s : State) → Progress n w (thrown ball rest s)
+thrown_progress ball [] n w s = tt
+thrown_progress ball (m ∷ rest) n w s = thrown_progress ball rest n w s
 
 goal_progress : (b : Body) (mark : ℕ) (rest : List Member) (s : State)
     → Progress s.steps (body_weight b (list_weight rest) + stack_weight s.stack) (step_goal b mark rest s)
