@@ -1,7 +1,8 @@
 //! The built-ins, by name and arity.
-ghost use Rattle.std.specs.Prelude.{◌≡◌};
+ghost use Rattle.std.specs.Prelude.{◌≡◌, List};
 ghost use Rattle.iso_model.specs.Search.Keys.{key};
 ghost use Rattle.iso_model.specs.Search.BuiltIns as table;
+ghost use Rattle.iso_model.specs.Search.Rows.{entries_of};
 
 /// A procedure of the language itself (7.8, 8).
 #[derive(Clone, Copy, Debug, PartialEq, Eq)]
@@ -24,29 +25,49 @@ pub enum BuiltIn {
     Repeat,
 }
 
+// The name and the arity of a built-in.
+#[derive(Clone, Copy)]
+struct Row(&'static str, usize, BuiltIn);
+
+const ROWS: [Row; 16] = [
+    Row("true", 0, BuiltIn::True),
+    Row("fail", 0, BuiltIn::Fail),
+    Row("false", 0, BuiltIn::Fail),
+    Row("repeat", 0, BuiltIn::Repeat),
+    Row("call", 1, BuiltIn::Call),
+    Row("call", 2, BuiltIn::Call),
+    Row("call", 3, BuiltIn::Call),
+    Row("call", 4, BuiltIn::Call),
+    Row("call", 5, BuiltIn::Call),
+    Row("call", 6, BuiltIn::Call),
+    Row("call", 7, BuiltIn::Call),
+    Row("call", 8, BuiltIn::Call),
+    Row("once", 1, BuiltIn::Once),
+    Row("\\+", 1, BuiltIn::Not),
+    Row("=", 2, BuiltIn::Unify),
+    Row("\\=", 2, BuiltIn::Differ),
+];
+
+// The built-in of this name and arity among these rows.
+fn among(rows: &[Row], name: &str, arity: usize) -> Option<BuiltIn>
+    ensures { result ≡ table.built_in_among (entries_of rows.now) (key name.now arity) }
+{
+    match rows {
+        [] => None,
+        [first, others @ ..] => {
+            if first.0 == name && first.1 == arity {
+                return Some(first.2);
+            }
+            among(others, name, arity)
+        }
+    }
+}
+
 /// The built-in of this name and arity, where there is one.
 pub fn built_in(name: &str, arity: usize) -> Option<BuiltIn>
     ensures { result ≡ table.built_in (key name.now arity) }
 {
-    match (name, arity) {
-        ("true", 0) => Some(BuiltIn::True),
-        ("fail", 0) => Some(BuiltIn::Fail),
-        ("false", 0) => Some(BuiltIn::Fail),
-        ("repeat", 0) => Some(BuiltIn::Repeat),
-        ("call", 1) => Some(BuiltIn::Call),
-        ("call", 2) => Some(BuiltIn::Call),
-        ("call", 3) => Some(BuiltIn::Call),
-        ("call", 4) => Some(BuiltIn::Call),
-        ("call", 5) => Some(BuiltIn::Call),
-        ("call", 6) => Some(BuiltIn::Call),
-        ("call", 7) => Some(BuiltIn::Call),
-        ("call", 8) => Some(BuiltIn::Call),
-        ("once", 1) => Some(BuiltIn::Once),
-        ("\\+", 1) => Some(BuiltIn::Not),
-        ("=", 2) => Some(BuiltIn::Unify),
-        ("\\=", 2) => Some(BuiltIn::Differ),
-        _ => None,
-    }
+    among(&ROWS, name, arity)
 }
 
 /// Whether this is the name and the arity of a control construct, which bodies are converted through (7.6.2).
