@@ -11,7 +11,7 @@ use Rattle.iso_model.specs.Terms.Unification.Applied.{apply_apply, apply_none, a
 use Rattle.iso_model.specs.Terms.Unification.Composed.{variable_from, unifier_sym, unifier_apply, unifier_more, never_sym, never_apply, never_first, never_rest}
 use Rattle.iso_model.specs.Terms.Unification.Bindings.{unifier_leaves, unifier_brings, unifier_fixes}
 use Rattle.iso_model.specs.Terms.Unification.Unique.{unifier_unique}
-use Rattle.iso_model.specs.Terms.Unification.Exists.{Outcome, solved_unifier, exists_or_not, alone_or_not}
+use Rattle.iso_model.specs.Terms.Unification.Exists.{alone_or_not}
 
 -- two answers for the same terms are the same
 pub answers_same : (a b : Tree) (o p : Option Subst) → IsUnifierOf a b o → IsUnifierOf a b p → o ≡ p

@@ -15,7 +15,7 @@ use Rattle.iso_model.specs.Search.BuiltIns.{Reply, Fails, Succeeds, Equates, Rai
 use Rattle.iso_model.specs.declared.built_ins.BuiltIn.{BuiltIn}
 use Rattle.iso_model.specs.Search.Walker.{State, World, Member, Goal, CutTo, Fail, Raise, Left, AsIs, Again, Clauses, Alternative, Event, Ending, Outcome, Goes, Gives, Ends, Answered, NoMore, Budget, Uncaught, charged, paid, before, entered, under, tried_clause, with_others, tried, retried, backtracked, unknown_called, called, equated, with_goal, replied, selected, run_goal, run_value, thrown, fails, values, clause_size, shortened, cut_back, pushed, step_goal, step_list, step}
 use Rattle.iso_model.specs.Search.Runs.{Quiet, here, onward}
-use Rattle.iso_model.specs.Search.RunLaws.Values.{IsValue, IsTwice, IsOwnBody, IsOwnLeft, IsOwnReply, value_is, twice_on, reply_own}
+use Rattle.iso_model.specs.Search.RunLaws.Values.{IsValue, IsOwnBody, IsOwnLeft, IsOwnReply, value_is, twice_on, reply_own}
 use Rattle.iso_model.specs.Search.RunLaws.Sameness.{put, flat, SameList, no_member, same_goal, same_construct, same_cut, same_failure, same_ball, Agree, SameStack, no_alternative, same_alternative, Beside, Around, Same, going, failing}
 
 -- ---- substitutions
@@ -309,7 +309,7 @@ replied_same s t ms ns (Refutes b) own other at list =
     let around : Around u v = record { agree = at.agree; next = at.next; beside = record { stack = at.beside.stack; world = at.beside.world; steps = at.beside.steps } } in
     subst (λ (k : ℕ). SameOut (replied (Refutes b) ms s) (Goes (record (pushed ns AsIs v) { list = Goal b (suc k) ∷ CutTo k ∷ Fail ∷ ns }))) (stack_length at.beside.stack)
     (both_go (pushed_same u v AsIs ms ns (Goal b (suc h) ∷ CutTo h ∷ Fail ∷ ms) (Goal b (suc h) ∷ CutTo h ∷ Fail ∷ ns) tt tt around list
-      (own_put s.subst t.subst b (suc h) (CutTo h ∷ Fail ∷ ms) (CutTo h ∷ Fail ∷ ns) own other (same_cut same_failure))))
+    (own_put s.subst t.subst b (suc h) (CutTo h ∷ Fail ∷ ms) (CutTo h ∷ Fail ∷ ns) own other (same_cut same_failure))))
 replied_same s t ms ns Repeats own other at list = both_go (pushed_same s t Again ms ns ms ns tt tt at list list)
 
 selected_same : (s t : State) (ms ns : List Member) (b : Option BuiltIn) (k : Key) (v : Tree) → IsValue s.subst v → IsValue t.subst v → Around s t → SameList s.subst t.subst (flat ms) (flat ns) → SameOut (selected b k v ms s) (selected b k v ns t)

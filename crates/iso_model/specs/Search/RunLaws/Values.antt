@@ -1,5 +1,5 @@
 -- Values: terms that a substitution leaves as they are. What a goal's value runs is made of values.
-use Rattle.std.proofs.Common.{◌≡◌, ℕ, zero, suc, List, Bool, true, false, Option, Some, None, refl, sym, ap, ap₂, ◌∙◌, codes, if◌then◌else◌, nat_lt}
+use Rattle.std.proofs.Common.{◌≡◌, ℕ, zero, suc, List, true, false, Option, Some, None, refl, sym, ap, ap₂, ◌∙◌, codes, if◌then◌else◌, nat_lt}
 use Rattle.std.specs.Str.{bytes_eq}
 use Rattle.iso_model.specs.Terms.Trees.{Tree, Variable, Integer, Name, Apply, End, More}
 use Rattle.iso_model.specs.Terms.Substitutions.{Subst, apply, compose}
@@ -7,7 +7,7 @@ use Rattle.iso_model.specs.Terms.Arguments.{arguments, member, argument, others,
 use Rattle.iso_model.specs.Terms.Unifiers.{Unifier}
 use Rattle.iso_model.specs.Terms.Unification.{unifier_of}
 use Rattle.iso_model.specs.Terms.Unification.Applied.{apply_apply, apply_same}
-use Rattle.iso_model.specs.Search.Bodies.{Body, Cut, Run, And, Or, If, Choose, map_body, either, both, converted, converted_name, converted_two, one, two}
+use Rattle.iso_model.specs.Search.Bodies.{Body, Cut, Run, And, Or, If, Choose, map_body, either, both, converted, converted_two, one, two}
 use Rattle.iso_model.specs.Search.Keys.{Key, key}
 use Rattle.iso_model.specs.Search.Errors.{max_arity_error}
 use Rattle.iso_model.specs.Search.BuiltIns.{Reply, Fails, Succeeds, Equates, Raises, Calls, CallsOnce, Refutes, Repeats, differ, converted_reply, goal_reply, called_reply, reply}
@@ -165,12 +165,12 @@ two_own r f o p goal h k own =
     elim (bytes_eq f (codes ",")) as (λ x. IsOwnOption r (if x then both And o p else (if bytes_eq f (codes ";") then both either o p else (if bytes_eq f (codes "->") then both If o p else Some (Run goal))))) [
       | true ↦ both_own r And o p (λ a b first second. ap₂ And first second) h k
       | false ↦ elim (bytes_eq f (codes ";")) as (λ x. IsOwnOption r (if x then both either o p else (if bytes_eq f (codes "->") then both If o p else Some (Run goal)))) [
-          | true ↦ both_own r either o p (either_own r) h k
-          | false ↦ elim (bytes_eq f (codes "->")) as (λ x. IsOwnOption r (if x then both If o p else Some (Run goal))) [
-              | true ↦ both_own r If o p (λ a b first second. ap₂ If first second) h k
-              | false ↦ ap Run own
-            ]
+        | true ↦ both_own r either o p (either_own r) h k
+        | false ↦ elim (bytes_eq f (codes "->")) as (λ x. IsOwnOption r (if x then both If o p else Some (Run goal))) [
+          | true ↦ both_own r If o p (λ a b first second. ap₂ If first second) h k
+          | false ↦ ap Run own
         ]
+      ]
     ]
 
 -- a value's converted body
@@ -178,9 +178,9 @@ pub converted_own : (r : Subst) (t : Tree) → IsValue r t → IsOwnOption r (co
 converted_own r (Variable n) h = ap (λ x. Run (one (codes "call") x)) h
 converted_own r (Integer z) h = tt
 converted_own r (Name a) h = elim (bytes_eq a (codes "!")) as (λ x. IsOwnBody r (if x then Cut else Run (Name a))) [
-    | true ↦ refl
-    | false ↦ refl
-  ]
+  | true ↦ refl
+  | false ↦ refl
+]
 converted_own r (Apply f (More a (More b End))) h =
     let first : apply r a ≡ a = cc in
     let second : apply r b ≡ b = cc in
