@@ -11,3 +11,4 @@ pub mod Runs
 pub mod RunLaws
 pub mod Engines
 pub mod WorkedRuns
+pub mod WorkedControl
