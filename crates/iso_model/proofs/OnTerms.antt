@@ -1,5 +1,6 @@
 -- Lemmas on terms and unifiers.
 pub mod RowLemmas
+pub mod SeenRows
 pub mod UnifierLemmas
 pub mod Cost
 pub mod CostOfRows

@@ -62,7 +62,7 @@ fn operand(language: Language<'_>, depth: usize, input: &mut Input<'_>) -> Resul
         return Err(ReadFault::Syntax);
     };
     match token.kind {
-        Kind::Variable => Ok(variable(language.alloc, &token, input)?),
+        Kind::Variable => Ok(variable(&token, input)?),
         Kind::Integer => integer(&token).ok_or(ReadFault::Syntax),
         Kind::Double => Ok(quoted(language, &token)?),
         Kind::Name => {

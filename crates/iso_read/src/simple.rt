@@ -21,11 +21,11 @@ use std::alloc::{AllocError, Global};
 const MAX_INTEGER: u64 = 9_223_372_036_854_775_807;
 
 /// The variable of its token, at one more occurrence.
-pub fn variable(alloc: Global, token: &Token<'_>, input: &mut Input<'_>) -> Result<Node, AllocError>
+pub fn variable<'c>(token: &Token<'c>, input: &mut Input<'c>) -> Result<Node, AllocError>
     ensures node { IfOk result (λ node. node_of node ≡ grammar.closed (Variable (grammar.number_of token.now.text.now input.old.names)) 0) }
     ensures after { IfOk result (λ _. input.new ≡ grammar.with_name token.now.text.now input.old) }
 {
-    let number = input.variable(alloc, token.text)?;
+    let number = input.variable(token.text)?;
     Ok(closed(Term::Var(number), 0))
 }
 
