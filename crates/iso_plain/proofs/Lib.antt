@@ -16,7 +16,6 @@ pub mod BackLemmas
 pub mod StartLemmas
 pub mod EndLemmas
 pub mod CalledLemmas
-pub mod CallableLemmas
 pub mod RunLemmas
 pub mod CallLemmas
 pub mod ChoiceLemmas
