@@ -1,6 +1,7 @@
 pub mod SearchSteps
 pub mod SearchMoves
 pub mod StandingLemmas
+pub mod WeightLemmas
 pub mod NodeLemmas
 pub mod EnteringLemmas
 pub mod BodyLemmas

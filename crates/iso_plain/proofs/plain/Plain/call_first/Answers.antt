@@ -3,11 +3,11 @@ use Rattle.iso_plain.proofs.StoppedLemmas.{behind_error}
 use Rattle.iso_plain.proofs.plain.Plain.call_first.Goals as goal
 
 pub returns-then-branch-clause-called : goal.returns-then-branch-clause-called
-returns-then-branch-clause-called g c = λ l call k ks gs t.
-    (c.in_ok-call.ensures.tried l call k ks gs t (ap Ok c.if-branch.true), c.in_ok-call.ensures.awake (ap Ok c.if-branch.true))
+returns-then-branch-clause-called g c = λ s call k ks gs t.
+    (c.in_ok-call.ensures.tried s call k ks gs t (ap Ok c.if-branch.true), c.in_ok-call.ensures.awake (ap Ok c.if-branch.true))
 
 pub returns-clause-frames : goal.returns-clause-frames
-returns-clause-frames g c = λ l call k ks gs t. c.in_ok-call.ensures.frames l call k ks gs t (ap Ok c.if-branch.false)
+returns-clause-frames g c = λ s call k ks gs t. c.in_ok-call.ensures.frames s call k ks gs t (ap Ok c.if-branch.false)
 
 pub returns-clause-met : goal.returns-clause-met
 returns-clause-met g c =
@@ -15,4 +15,4 @@ returns-clause-met g c =
     rw (c.in_ok-call.ensures.refused (ap Ok c.if-branch.false)) full.0
 
 pub returns-in_err-call-clause-kept : goal.returns-in_err-call-clause-kept
-returns-in_err-call-clause-kept g c = λ l call k ks gs t. behind_error c.from_residual.result (c.in_err-call.ensures.kept l call k ks gs t)
+returns-in_err-call-clause-kept g c = λ s call k ks gs t. behind_error c.from_residual.result (c.in_err-call.ensures.kept s call k ks gs t)

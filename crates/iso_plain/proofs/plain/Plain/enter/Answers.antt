@@ -5,7 +5,7 @@ use Rattle.iso_plain.proofs.KeptLemmas.{kept_at}
 use Rattle.iso_plain.proofs.NodeLemmas.{template_fits, layout_of_fits}
 use Rattle.iso_plain.proofs.EnteringLemmas.{adds_none}
 use Rattle.iso_plain.proofs.StandingLemmas.{chain_place}
-use Rattle.iso_plain.proofs.EngineLemmas.{tried_engine}
+use Rattle.iso_plain.proofs.EngineLemmas.{Tried, tried_engine}
 use Rattle.iso_plain.proofs.FailLemmas.{awake_entered}
 use Rattle.iso_plain.proofs.plain.Plain.enter.Goals as goal
 
@@ -43,7 +43,8 @@ behind-self-requires g c = rw c.as_slice-2.ensures.value (chain_place c.args.att
 pub returns-clause-tried : goal.returns-clause-tried
 returns-clause-tried g c = λ s call k ks gs t.
     (let is = c.clause_at-clause.ensures s.world.database.procedures k ks (rw c.as_slice.ensures.value t.world.procedures_are) t.clauses in
-    let tried = record { calls = t; keeps = c.in_ok-entered.ensures.marks; adds = c.in_ok-entered.ensures.nodes; is = is } in
+    let tried : Tried g.S.Store.present g.S.Store.stands g.S.Store.older c.args.self.now c.args.attempt s call k ks gs c.enter.new.store c.enter.new.nodes c.clause_at-clause.result.now =
+    record { calls = t; keeps = c.in_ok-entered.ensures.marks; adds = c.in_ok-entered.ensures.nodes; is = is } in
     rw (c.behind-self.ensures, c.as_slice-2.ensures.value)
     (tried_engine g.S.Store.present g.S.Store.stands g.S.Store.older c.args.self.now c.args.attempt s call k ks gs c.enter.new.store c.enter.new.nodes c.clause_at-clause.result.now c.args.mark tried c.in_ok-entered.entered c.in_ok-entered.ensures.enters))
 
