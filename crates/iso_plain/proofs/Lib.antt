@@ -4,6 +4,7 @@ pub mod StandingLemmas
 pub mod WeightLemmas
 pub mod NodeLemmas
 pub mod EnteringLemmas
+pub mod ConstructLemmas
 pub mod BodyLemmas
 pub mod NumberLemmas
 pub mod ClauseLemmas

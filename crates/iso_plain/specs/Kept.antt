@@ -6,7 +6,7 @@ use Rattle.iso_model.specs.Terms.TermOf.{term_of}
 use Rattle.iso_model.specs.Terms.Variables.{occurs, variable_count}
 use Rattle.iso_model.specs.Terms.Substitutions.{Subst, apply}
 use Rattle.iso_model.specs.Terms.Copies.{place_of, copy_from}
-use Rattle.iso_model.specs.Search.Bodies.{Body, Run, And, two, converted}
+use Rattle.iso_model.specs.Search.Bodies.{Body, Cut, Run, And, Or, If, Choose, two, converted}
 use Rattle.iso_model.specs.Search.Databases as databases
 use Rattle.iso_model.specs.Search.Databases.{Key, key_of}
 use Rattle.iso_model.specs.Search.BuiltIns.{is_built_in}
@@ -40,8 +40,12 @@ pub record IsTemplate (n : ℕ) (t : Tree) : Type 0 where
 
 -- each goal of the body is one
 abbrev pub AreTemplates : ℕ → Body → Type 0
+AreTemplates n Cut = Unit {0}
 AreTemplates n (Run t) = IsTemplate n t
 AreTemplates n (And a b) = AreTemplates n a × AreTemplates n b
+AreTemplates n (Or a b) = AreTemplates n a × AreTemplates n b
+AreTemplates n (If a b) = AreTemplates n a × AreTemplates n b
+AreTemplates n (Choose a b c) = (AreTemplates n a × AreTemplates n b) × AreTemplates n c
 
 -- The engine keeps the clause of the database so.
 pub record IsClause (kept : Clause) (c : databases.Clause) : Type 0 where
