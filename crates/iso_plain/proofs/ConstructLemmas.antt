@@ -6,7 +6,7 @@ use Rattle.std.proofs.lemmas.Bool.{cases_Bool}
 use Rattle.std.proofs.lemmas.List.{length-map}
 use Rattle.std.proofs.lemmas.Option.{slice_get-map}
 use Rattle.iso_model.specs.Terms.Trees.{Tree}
-use Rattle.iso_model.specs.Terms.Substitutions.{Subst}
+use Rattle.iso_model.specs.Terms.Substitutions.{Subst, apply}
 use Rattle.iso_model.specs.Search.Bodies.{Body, Cut, Run, And, Or, If, Choose, both, either, converted_two, map_body, is_true}
 use Rattle.iso_plain.specs.declared.bodies.Construct.{Construct}
 use Rattle.iso_plain.specs.declared.bodies.Construct.TheVariants as construct
@@ -162,3 +162,23 @@ behind_mapped construct.And f ts = refl
 behind_mapped construct.Or f ts = ap (λ (b : Bool). if b then construct.Choose else construct.Or) (ends_mapped f ts)
 behind_mapped construct.If f ts = refl
 behind_mapped construct.Choose f ts = ap (λ (b : Bool). if b then construct.Choose else construct.Or) (ends_mapped f ts)
+
+-- ---- what a compound is converted to
+
+pub by_mapped : (s : Subst) (o : Option Construct) (a b : Option Body) (goal : Tree)
+    → by_construct o (option_map (map_body s) a) (option_map (map_body s) b) (apply s goal) ≡ option_map (map_body s) (by_construct o a b goal)
+by_mapped s None a b goal = refl
+by_mapped s (Some k) a b goal = both_mapped s k a b
+
+-- it is `true` alone only where the compound is
+pub by_untrue : (o : Option Construct) (a b : Option Body) (goal : Tree) (c : Body) → is_true (Run goal) ≡ false → by_construct o a b goal ≡ Some c → is_true c ≡ false
+by_untrue None a b goal c h e = let same : Run goal ≡ c = cc in rw (← same) h
+by_untrue (Some k) a b goal c h e = let j = both_parts (join_of k) a b c e in rw j.is (pair_untrue (join_pair k [] j.first j.second))
+
+-- its goals are the compound, or those of its bodies
+pub by_templates : (n : ℕ) (o : Option Construct) (a b : Option Body) (goal : Tree) (c : Body) → by_construct o a b goal ≡ Some c → ((x : Body) → a ≡ Some x → AreTemplates n x)
+    → ((y : Body) → b ≡ Some y → AreTemplates n y) → AreTemplates n (Run goal) → AreTemplates n c
+by_templates n None a b goal c e first second whole = let same : Run goal ≡ c = cc in subst (λ (d : Body). AreTemplates n d) same whole
+by_templates n (Some k) a b goal c e first second whole =
+    let j = both_parts (join_of k) a b c e in
+    rw j.is (pair_templates n (join_pair k [] j.first j.second) (first j.first j.first_is) (second j.second j.second_is))

@@ -11,7 +11,7 @@ use Rattle.iso_model.specs.Search.Databases as databases
 use Rattle.iso_model.specs.Search.Databases.{Key, key_of}
 use Rattle.iso_model.specs.Search.BuiltIns.{is_built_in}
 use Rattle.iso_model.specs.Search.Errors.{type_error_callable, permission_error}
-use Rattle.iso_model.specs.Search.Additions.{head_of, body_of, most_variables, consult_key, Check, Fits, Faulty, checked, checked_head, fault_error, clause_of}
+use Rattle.iso_model.specs.Search.Additions.{head_of, body_of, most_variables, consult_key, Check, Fits, Faulty, checked, prepared_head, fault_error, clause_of}
 use Rattle.iso_model.specs.declared.terms.Term.{Term}
 use Rattle.iso_model.specs.declared.pauses.AddFault.{AddFault}
 use Rattle.iso_model.specs.declared.pauses.AddFault.TheVariants as add
@@ -81,7 +81,7 @@ IsRefused (Faulty fault) error = fault_error consult_key fault ≡ error
 
 -- The head is not callable, and the clause is refused.
 abbrev pub RefusesHead : Tree → AddFault → Type 0
-RefusesHead head (add.Refused ball) = (t : Tree) → IsRefused (checked_head t head (key_of head)) (term_of ball.term)
+RefusesHead head (add.Refused ball) = (t : Tree) → IsRefused (prepared_head t head (key_of head)) (term_of ball.term)
 RefusesHead head add.NoMemory = Unit {0}
 
 -- The head is that of no built-in, or the clause is refused.
