@@ -13,6 +13,7 @@ use Rattle.iso_plain.specs.declared.bodies.Construct.TheVariants as construct
 use Rattle.iso_plain.specs.declared.bodies.Node.{Node}
 use Rattle.iso_plain.specs.declared.bodies.Node.TheVariants as node
 use Rattle.iso_plain.specs.Nodes.{IsPair, conjunction, disjunction, if_then, if_then_else, named_construct, join_of, paired, layout, is_if, some_if, ends_if, behind, map_node}
+use Rattle.iso_plain.specs.Callable.{AreGoals}
 use Rattle.iso_plain.specs.Kept.{AreTemplates}
 
 -- ---- conversion by the construct of a compound
@@ -90,6 +91,12 @@ pair_templates n disjunction h g = (h, g)
 pair_templates n if_then h g = (h, g)
 pair_templates n if_then_else h g = (h, g)
 
+pub pair_goals : {k : Construct} {a b c : Body} → IsPair k a b c → AreGoals c → AreGoals a × AreGoals b
+pair_goals conjunction h = h
+pair_goals disjunction h = h
+pair_goals if_then h = h
+pair_goals if_then_else h = h
+
 -- ---- the last part of a body
 
 pub at_seam : {X : Type 0} (front : List X) (x : X) (back : List X) → slice_get (front ++ x ∷ back) (length front) ≡ Some x
@@ -102,7 +109,7 @@ ends_last front t =
     ap some_if (ap (slice_get (front ++ t ∷ [])) place ∙ at_seam front t [])
 
 -- the part of the body itself
-abbrev own : Body → Node Tree
+abbrev pub own : Body → Node Tree
 own Cut = node.Cut
 own (Run t) = node.Run t
 own (And a b) = node.Pair construct.And (length (layout b) + 1)
@@ -110,7 +117,7 @@ own (Or a b) = node.Pair construct.Or (length (layout b) + 1)
 own (If a b) = node.Pair construct.If (length (layout b) + 1)
 own (Choose a b c) = node.Pair construct.Choose (length (layout c) + 1)
 
-own_last : (b : Body) → (front : List (Node Tree)) × (layout b ≡ front ++ own b ∷ [])
+pub own_last : (b : Body) → (front : List (Node Tree)) × (layout b ≡ front ++ own b ∷ [])
 own_last Cut = ([], refl)
 own_last (Run t) = ([], refl)
 own_last (And a b) = (layout a ++ layout b, refl)

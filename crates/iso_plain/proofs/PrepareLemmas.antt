@@ -13,7 +13,7 @@ use Rattle.iso_model.specs.Terms.Copies.{place_of, copy_from}
 use Rattle.iso_model.specs.Search.Bodies.{Body, Cut, Run, converted, two, map_body}
 use Rattle.iso_model.specs.Search.Databases.{Key, key_of}
 use Rattle.iso_model.specs.Search.BuiltIns.{is_built_in}
-use Rattle.iso_model.specs.Search.Additions.{head_of, body_of, most_variables, consult_key, Check, Fits, Faulty, NotCallable, TooManyVariables, NotUser, checked, prepared_head, prepared_body, user_checked, fault_error}
+use Rattle.iso_model.specs.Search.Additions.{head_of, body_of, most_variables, consult_key, Check, Fits, Faulty, NotCallable, TooManyVariables, NotUser, checked, prepared_head, prepared_body, prepared_small, user_checked, fault_error}
 use Rattle.iso_plain.specs.declared.bodies.Node.{Node}
 use Rattle.iso_plain.specs.declared.clauses.Clause.{Clause}
 use Rattle.iso_plain.specs.Nodes.{named_construct, trees_of, layout_of}
@@ -154,12 +154,14 @@ refused_body t k h e =
 pub refused_large : (t : Tree) (b : Body) (k : Key) → key_of (head_of t) ≡ Some k → converted (body_of (copy_from t 0)) ≡ Some b → most_variables < variable_count t → checked t ≡ Faulty TooManyVariables
 refused_large t b k h e large =
     let over : nat_lt most_variables (variable_count t) ≡ true = search rules in
-    ap user_checked (callable_prepared t (head_of t) k h ∙ ap (λ o. prepared_body t k o) e ∙ rw over refl)
+    let small : prepared_small t k b ≡ Faulty TooManyVariables = rw over refl in
+    ap user_checked (callable_prepared t (head_of t) k h ∙ ap (λ o. prepared_body t k o) e ∙ small)
 
 small_checked : (t : Tree) (b : Body) (k : Key) → key_of (head_of t) ≡ Some k → converted (body_of (copy_from t 0)) ≡ Some b → variable_count t ≤ most_variables → checked t ≡ user_checked (Fits k b)
 small_checked t b k h e small =
     let fits : nat_lt most_variables (variable_count t) ≡ false = search rules in
-    ap user_checked (callable_prepared t (head_of t) k h ∙ ap (λ o. prepared_body t k o) e ∙ rw fits refl)
+    let small : prepared_small t k b ≡ Fits k b = rw fits refl in
+    ap user_checked (callable_prepared t (head_of t) k h ∙ ap (λ o. prepared_body t k o) e ∙ small)
 
 pub refused_user : (t : Tree) (b : Body) (k : Key) → key_of (head_of t) ≡ Some k → converted (body_of (copy_from t 0)) ≡ Some b → variable_count t ≤ most_variables → is_built_in k ≡ true → checked t ≡ Faulty (NotUser k)
 refused_user t b k h e small built = small_checked t b k h e small ∙ rw built refl
