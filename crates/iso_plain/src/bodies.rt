@@ -132,7 +132,10 @@ pub fn append_body(alloc: Global, body: &Term, parts: &mut Vec<Node<Term>>) -> R
         Term::Var(number) => push_part(parts, Node::Run(call_of(alloc, *number)?)),
         Term::Atom(name) if name.as_str() == "!" => push_part(parts, Node::Cut),
         Term::Atom(_) => push_part(parts, Node::Run(copied(alloc, body)?)),
-        Term::Compound(name, arguments) => match (construct_of(name.as_str()), arguments.as_slice()) {
+        Term::Compound(name, arguments) => match (
+            construct_of(name.as_str()),
+            arguments.as_slice(),
+        ) {
             (Some(construct), [first, second]) => {
                 append_body(alloc, first, parts)?;
                 let between = parts.len();
