@@ -1,6 +1,6 @@
 -- The engine's parts behind a clause that was tried.
-use Rattle.std.proofs.Common.{◌≡◌, ◌≤◌, ◌<◌, ℕ, ◌+◌, List, [], ◌∷◌, ◌++◌, Option, true, false, length, refl, ap, ◌∙◌, sym, subst, arith, Vec, Global, append-nil, length-append}
-use Rattle.std.specs.Prelude.{option_map, if◌then◌else◌}
+use Rattle.std.proofs.Common.{◌≡◌, ◌<◌, ℕ, ◌+◌, List, [], ◌∷◌, ◌++◌, true, false, length, refl, ap, ◌∙◌, sym, subst, arith, Vec, Global, append-nil, length-append}
+use Rattle.std.specs.Prelude.{option_map}
 use Rattle.iso_model.specs.Terms.Variables.{variables}
 use Rattle.iso_model.specs.Terms.Trees.{Tree, Variable}
 use Rattle.iso_model.specs.Terms.TermOf.{term_of}
@@ -9,9 +9,9 @@ use Rattle.iso_model.specs.Terms.Unifiers.{Unifier, NeverEqual}
 use Rattle.iso_model.specs.Terms.Copies.{renamed}
 use Rattle.iso_model.specs.Search.Bodies.{Body, map_body, is_true}
 use Rattle.iso_model.specs.Search.Databases as databases
-use Rattle.iso_model.specs.Search.Walker.{State, Member, Goal, Fail, tried_clause, before, clause_size}
+use Rattle.iso_model.specs.Search.Walker.{State, Member, Goal, tried_clause, before, clause_size}
 use Rattle.iso_model.proofs.Search.CallLemmas.{clause_found, clause_missed}
-use Rattle.iso_store.specs.Presents.{Present, KeepsMarks, meaning}
+use Rattle.iso_store.specs.Presents.{Present, KeepsMarks}
 use Rattle.iso_plain.specs.Nodes.{layout, layout_of, trees_of}
 use Rattle.iso_plain.specs.declared.bodies.Node.{Node}
 use Rattle.iso_plain.specs.declared.clauses.Clause.{Clause}

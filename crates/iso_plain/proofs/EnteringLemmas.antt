@@ -1,5 +1,5 @@
 -- What makers add to a store, call by call.
-use Rattle.std.proofs.Common.{◌≡◌, ℕ, zero, suc, ◌+◌, List, [], ◌∷◌, ◌++◌, Bool, true, false, ◌&&◌, ◌<◌, ◌≤◌, nat_le, leb-true, length, take, drop, get_or, map, add-one, append_assoc, append-nil, length-append, ◌==◌, Option, Some, ap₂, refl, ap, sym, ◌∙◌, subst, arith}
+use Rattle.std.proofs.Common.{◌≡◌, ℕ, zero, suc, ◌+◌, List, [], ◌∷◌, ◌++◌, Bool, true, false, ◌&&◌, ◌<◌, ◌≤◌, nat_le, leb-true, length, take, drop, get_or, map, add-one, append_assoc, append-nil, length-append, ◌==◌, ap₂, refl, ap, sym, ◌∙◌, subst, arith}
 use Rattle.std.specs.Prelude.{Result, Ok, Err, IfOk}
 use Rattle.std.proofs.Math.Seq.{drop-cons, take-suc}
 use Rattle.std.proofs.lemmas.List.Elements.{All-nil, All-cons}

@@ -1,9 +1,9 @@
 -- The engine fails: it goes on with the newest choice, or the run ends.
-use Rattle.std.proofs.Common.{◌≡◌, ℕ, ◌<◌, List, [], ◌∷◌, length, Option, Some, None, refl, ap, sym, ◌∙◌, subst, arith}
+use Rattle.std.proofs.Common.{◌≡◌, ℕ, List, [], ◌∷◌, length, Option, Some, None, refl, ap, ◌∙◌, subst, arith}
 use Rattle.std.specs.Prelude.{option_map}
 use Rattle.std.specs.List.{slice_get}
 use Rattle.iso_model.specs.Terms.TermOf.{term_of}
-use Rattle.iso_model.specs.Search.Walker.{State, World, Alternative, Member, Fail, NoMore, idle, tried, tried_clause, with_others}
+use Rattle.iso_model.specs.Search.Walker.{State, World, Alternative, Fail, NoMore, idle, tried, tried_clause, with_others}
 use Rattle.iso_model.specs.Search.Engines.{IsAwake}
 use Rattle.iso_model.specs.declared.pauses.Pause.TheVariants as pause
 use Rattle.iso_model.proofs.Search.CallLemmas.{clause_keeps}

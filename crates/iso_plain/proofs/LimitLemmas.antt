@@ -1,35 +1,19 @@
 -- Where the frames are full the search has as many alternatives.
-use Rattle.std.proofs.Common.{◌≡◌, ℕ, List, length, refl, ap, subst, arith, Result, Ok, Err}
+use Rattle.std.proofs.Common.{◌≡◌, ℕ, refl, ◌∙◌, subst, Result, Ok, Err}
 use Rattle.iso_model.specs.Search.Walker.{State}
 use Rattle.iso_model.specs.Search.Runs.{ComesOver}
 use Rattle.iso_model.specs.Search.Engines.{MayMeet, RefusesStart, MeetsLimit, KeepsLimits}
-use Rattle.iso_model.specs.Search.Databases.{Clause}
 use Rattle.iso_model.specs.declared.limit.Limit.TheVariants as limit
 use Rattle.iso_model.specs.declared.pauses.StartFault.{StartFault}
 use Rattle.iso_model.specs.declared.pauses.StartFault.TheVariants as start
 use Rattle.iso_model.specs.declared.pauses.Pause.{Pause}
 use Rattle.iso_model.specs.declared.pauses.Pause.TheVariants as pause
-use Rattle.iso_store.specs.Presents.{Present}
 use Rattle.iso_store.specs.declared.shapes.StoreFault.{StoreFault}
-use Rattle.iso_plain.specs.declared.parts.Frame.{Frame}
-use Rattle.iso_plain.specs.declared.parts.Choice as kept
 use Rattle.iso_plain.specs.declared.plain.Move.{Move}
 use Rattle.iso_plain.specs.declared.plain.Move.TheVariants as move
-use Rattle.iso_plain.specs.Linked.{Choice}
-use Rattle.iso_plain.specs.Standing.{StandsForChoices, none_kept, one_kept}
+use Rattle.iso_plain.specs.Stays.{Stays}
+use Rattle.iso_plain.specs.declared.plain.Plain.{Plain}
 use Rattle.iso_plain.specs.Limits.{WhereFull, MoveFull, ResultFull}
-use Rattle.iso_plain.proofs.StandingLemmas.{length_last}
-
--- ---- as many choices as alternatives
-
-pub choices_count : {W M : Type 0} {stands : M → Present W → Type 0} {older : M → M → Type 0} {base : M} {left : ℕ → ℕ → List Clause} {query : List W} {named : List ℕ} {frames : List (Frame W)}
-    {cs : List (kept.Choice W M)} {ks : List Choice} → StandsForChoices stands older base left query named frames cs ks → length cs ≡ length ks
-choices_count none_kept = refl
-choices_count (one_kept {before = before} {c = c} is within here newer below) =
-    let last = ap length is in
-    let more = length_last before c in
-    let others = choices_count below in
-    omega (arith, last, more, others)
 
 -- ---- a fact for another
 
@@ -77,3 +61,11 @@ pub refuses_start : (most : ℕ) (s : State) (r : Result Unit StartFault) → Re
 refuses_start most s (Ok u) = tt
 refuses_start most s (Err start.HeapFull) = tt
 refuses_start most s (Err start.NoMemory) = tt
+
+-- ---- what stays
+
+pub stays_same : {S W M : Type 0} (e : Plain S W M) → Stays e e
+stays_same e = record { limit = refl; settings = refl; procedures = refl; within = λ h. h }
+
+pub stays_on : {S W M : Type 0} {old between new : Plain S W M} → Stays old between → Stays between new → Stays old new
+stays_on a b = record { limit = b.limit ∙ a.limit; settings = b.settings ∙ a.settings; procedures = b.procedures ∙ a.procedures; within = λ h. b.within (a.within h) }

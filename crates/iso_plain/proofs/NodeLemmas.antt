@@ -1,9 +1,8 @@
 -- Bodies laid out part by part, as parts of clauses and as nodes of the engine.
-use Rattle.std.proofs.Common.{◌≡◌, ℕ, zero, suc, ◌+◌, ◌-◌, ◌<◌, ◌≤◌, List, [], ◌∷◌, ◌++◌, map, length, Bool, true, false, Some, inl, inr, refl, ap, ap₂, sym, ◌∙◌, subst, arith, length-append, append_assoc, append-nil, zero-add, if◌then◌else◌}
+use Rattle.std.proofs.Common.{◌≡◌, ℕ, suc, ◌+◌, ◌<◌, List, [], ◌∷◌, ◌++◌, length, true, false, inl, inr, refl, ap, ap₂, sym, ◌∙◌, subst, arith, length-append, append_assoc, zero-add}
 use Rattle.std.proofs.lemmas.Bool.{cases_Bool}
 use Rattle.std.proofs.lemmas.List.{map-append}
 use Rattle.iso_model.specs.Terms.Trees.{Tree, Variable, Integer, Name, Apply, End, More}
-use Rattle.iso_model.specs.Terms.Substitutions.{apply}
 use Rattle.iso_model.specs.Terms.Unification.Applied.{apply_alone}
 use Rattle.iso_model.specs.Terms.Copies.{renamed}
 use Rattle.iso_model.specs.Search.Bodies.{Body, Cut, Run, And, Or, If, Choose, map_body, is_true}

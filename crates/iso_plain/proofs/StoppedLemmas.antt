@@ -1,5 +1,5 @@
 -- What is left of an engine that stops.
-use Rattle.std.proofs.Common.{◌≡◌, ℕ, List, [], refl, ap, sym, ◌∙◌, subst, inr, Vec, Global, Result, Ok, Err, OnErr}
+use Rattle.std.proofs.Common.{ℕ, List, [], refl, inr, Vec, Global, Result, Ok, Err, OnErr}
 use Rattle.iso_model.specs.Terms.Variables.{variables}
 use Rattle.iso_model.specs.Search.Walker.{State, World, Alternative}
 use Rattle.iso_model.specs.Search.Runs.{here}
@@ -8,11 +8,11 @@ use Rattle.iso_plain.specs.declared.bodies.Node.{Node}
 use Rattle.iso_plain.specs.declared.parts.Frame.{Frame}
 use Rattle.iso_plain.specs.declared.plain.Plain.{Plain}
 use Rattle.iso_plain.specs.Entering.{Adds}
-use Rattle.iso_plain.specs.Standing.{Links, StandsForChoices, none_kept}
+use Rattle.iso_plain.specs.Standing.{StandsForChoices, none_kept}
 use Rattle.iso_plain.specs.Starts.{IsFresh}
 use Rattle.iso_plain.specs.EngineStates.{IsBase, IsEngine, Keeps, Stopped, left_at, links_of}
 use Rattle.iso_plain.proofs.SearchMoves.{world_settings}
-use Rattle.iso_plain.proofs.StandingLemmas.{AddsLinks, choices_more, choices_keep}
+use Rattle.iso_plain.proofs.StandingLemmas.{choices_more, choices_keep}
 
 -- what holds, holds behind an error
 pub behind_error : {T E : Type 0} (result : Result T E) {Fact : Type 0} → Fact → OnErr result Fact

@@ -1,5 +1,5 @@
 -- By what moves fall: a step or a clause that is left weighs more than any body.
-use Rattle.std.proofs.Common.{◌≡◌, ◌<◌, ◌≤◌, ◌+◌, ◌*◌, ◌-◌, ◌^◌, ℕ, suc, List, Option, length, refl, ap, sym, ◌∙◌, subst, arith, Vec, Global}
+use Rattle.std.proofs.Common.{◌≡◌, ◌<◌, ◌≤◌, ◌+◌, ◌*◌, ℕ, List, Option, arith, Vec, Global}
 use Rattle.std.specs.Prelude.{option_map}
 use Rattle.iso_model.specs.Terms.Trees.{Tree}
 use Rattle.iso_model.specs.Terms.TermOf.{term_of}
@@ -10,8 +10,7 @@ use Rattle.iso_plain.specs.declared.parts.Frame.{Frame}
 use Rattle.iso_plain.specs.declared.parts.Now.{Now}
 use Rattle.iso_plain.specs.declared.parts.Now.TheVariants as now
 use Rattle.iso_plain.specs.declared.plain.Plain.{Plain}
-use Rattle.iso_plain.specs.declared.procedures.Procedure.{Procedure}
-use Rattle.iso_plain.specs.Standing.{Links, DoesNext}
+use Rattle.iso_plain.specs.Standing.{DoesNext}
 use Rattle.iso_plain.specs.EngineStates.{IsEngine, rank, body_weight, weight, most_clauses, clauses_left}
 use Rattle.iso_plain.proofs.StandingLemmas.{body_within}
 
@@ -19,9 +18,9 @@ use Rattle.iso_plain.proofs.StandingLemmas.{body_within}
 fewer_clauses : (steps most c d r q : ℕ) → d + 1 ≤ c → q < body_weight → body_weight * (steps * (most + 1) + d) + q < body_weight * (steps * (most + 1) + c) + r
 fewer_clauses steps most c d r q less small = omega (arith, less, small)
 
--- a step less, and not more clauses than a procedure has
-fewer_steps : (n most c d r q : ℕ) → d ≤ c + most → q < body_weight → body_weight * (n * (most + 1) + d) + q < body_weight * (suc n * (most + 1) + c) + r
-fewer_steps n most c d r q less small = omega (arith, less, small)
+-- as many steps, and fewer clauses more than a procedure has
+called_clauses : (steps most c d r q : ℕ) → d + 1 ≤ c + most → q < body_weight → body_weight * (steps * (most + 1) + d) + q < body_weight * (steps * (most + 1) + c) + r + body_weight * (most + 1)
+called_clauses steps most c d r q less small = omega (arith, less, small)
 
 rank_of : {W : Type 0} (p : Present W) (nodes : Vec (Node W) Global) (frames : List Frame) (query : List W) (n : Now) (raised : Option Tree) (s : State) → DoesNext p (record { nodes = nodes.items; frames = frames }) query n raised s
     → rank n < body_weight
@@ -45,9 +44,9 @@ falls_clause e new steps procedures less small =
     let h = fewer_clauses e.steps (most_clauses e.procedures.items) (clauses_left e.procedures.items e.choices.items) (clauses_left e.procedures.items new.choices.items) (rank e.now) (rank new.now) less small in
     rw (steps, procedures) h
 
--- a step was taken
-pub falls_step : {S W M : Type 0} (e new : Plain S W M) (n : ℕ) → e.steps ≡ suc n → new.steps ≡ n → new.procedures ≡ e.procedures → clauses_left e.procedures.items new.choices.items ≤ clauses_left e.procedures.items e.choices.items + most_clauses e.procedures.items
-    → rank new.now < body_weight → weight new < weight e
-falls_step e new n many steps procedures less small =
-    let h = fewer_steps n (most_clauses e.procedures.items) (clauses_left e.procedures.items e.choices.items) (clauses_left e.procedures.items new.choices.items) (rank e.now) (rank new.now) less small in
-    rw (steps, procedures, many) h
+-- a procedure was called, for which a step was taken
+pub falls_call : {S W M : Type 0} (e new : Plain S W M) → new.steps ≡ e.steps → new.procedures ≡ e.procedures → clauses_left e.procedures.items new.choices.items + 1 ≤ clauses_left e.procedures.items e.choices.items + most_clauses e.procedures.items
+    → rank new.now < body_weight → weight new < weight e + body_weight * (most_clauses e.procedures.items + 1)
+falls_call e new steps procedures less small =
+    let h = called_clauses e.steps (most_clauses e.procedures.items) (clauses_left e.procedures.items e.choices.items) (clauses_left e.procedures.items new.choices.items) (rank e.now) (rank new.now) less small in
+    rw (steps, procedures) h

@@ -44,11 +44,7 @@ impl<S: Store + Drop> Plain<S> {
     ghost use Rattle.iso_plain.specs.declared.parts.Now.TheVariants as now;
 
     /// Enters the clause, with this cut mark; where its head doesn't unify with the goal the engine fails next (7.7.10).
-    pub(crate) fn enter(
-        &mut self,
-        attempt: Attempt<S::Word>,
-        mark: usize,
-    ) -> Result<(), StoreFault>
+    pub(crate) fn enter(&mut self, attempt: Attempt<S::Word>, mark: usize) -> Result<(), StoreFault>
         requires { (s : State) × (call : Tree) × (c : databases.Clause) × (cs : List databases.Clause) × (behind : List Member)
             × Calls S.present S.stands S.older self.old attempt s call c cs behind }
         ensures tried { (s : State) (call : Tree) (c : databases.Clause) (cs : List databases.Clause) (behind : List Member)

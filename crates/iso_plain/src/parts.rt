@@ -84,5 +84,9 @@ pub(crate) fn replied(frames: &[Frame], goes_on: bool, next: Option<usize>) -> N
     requires { IsPlace frames.now next }
     ensures { result ≡ now_replied frames.now goes_on next }
 {
-    if goes_on { at(frames, next) } else { Now::Failing }
+    if goes_on {
+        at(frames, next)
+    } else {
+        Now::Failing
+    }
 }

@@ -60,7 +60,10 @@ impl<S: Store + Drop> Plain<S> {
         ensures substitution { (S.present self.new.store).substitution ≡ Variable }
         ensures next { (S.present self.new.store).next ≡ 0 }
         ensures nodes { self.new.nodes.items ≡ [] }
+        ensures frames { self.new.frames.items ≡ [] }
         ensures choices { self.new.choices.items ≡ [] }
+        ensures query { self.new.query.items ≡ [] }
+        ensures raised { self.new.raised ≡ None }
         ensures stays { Stays self.old self.new }
         ensures base { IsBase (S.stands self.new.store) self.new.base }
     {

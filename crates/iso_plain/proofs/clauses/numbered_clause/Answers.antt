@@ -1,4 +1,4 @@
-use Rattle.std.proofs.Common.{◌≡◌, length, arith, ◌∙◌, ap}
+use Rattle.std.proofs.Common.{◌≡◌, length, arith}
 use Rattle.iso_model.specs.Terms.TermOf.{term_of}
 use Rattle.iso_plain.proofs.PrepareLemmas.{numbered_clause}
 use Rattle.iso_plain.proofs.clauses.numbered_clause.Goals as goal

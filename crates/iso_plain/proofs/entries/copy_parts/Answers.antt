@@ -1,7 +1,6 @@
-use Rattle.std.proofs.Common.{arith, take, drop, length, ◌+◌, ◌≡◌}
-use Rattle.std.proofs.lemmas.List.{take_all}
+use Rattle.std.proofs.Common.{drop, length}
 use Rattle.iso_plain.specs.Nodes.{trees_of}
-use Rattle.iso_plain.specs.Entering.{PartsFit, Extends}
+use Rattle.iso_plain.specs.Entering.{PartsFit}
 use Rattle.iso_plain.proofs.StandingLemmas.{variables_more}
 use Rattle.iso_plain.proofs.EnteringLemmas.{extends_none, extends_on, copies_none, copies_push, adds_none, adds_push, trees_at, trees_front}
 use Rattle.iso_plain.proofs.entries.copy_parts.Goals as goal

@@ -1,12 +1,10 @@
-use Rattle.std.proofs.Common.{◌≡◌, ◌<◌, ◌≤◌, length, arith, ap, ◌∙◌, sym, List, [], ◌++◌}
+use Rattle.std.proofs.Common.{◌≡◌, length, arith, ◌∙◌}
 use Rattle.iso_model.specs.Terms.TermOf.{term_of}
 use Rattle.iso_model.specs.Terms.Copies.{numbers_from}
 use Rattle.iso_model.proofs.OnTerms.CopyLemmas.{length-numbers_from}
 use Rattle.iso_plain.specs.Nodes.{trees_of}
 use Rattle.iso_plain.specs.Standing.{AreVariables}
-use Rattle.iso_plain.specs.Entering.{Copies, renamed_nodes}
 use Rattle.iso_plain.proofs.StandingLemmas.{variables_more}
-use Rattle.iso_plain.proofs.BodyLemmas.{length-trees}
 use Rattle.iso_plain.proofs.EnteringLemmas.{variables_length, enters_none, meets, unifier_there, words_on, no_trees, some_trees, copies_some}
 use Rattle.iso_plain.proofs.NodeLemmas.{length-renamed}
 use Rattle.iso_plain.proofs.entries.enter.Goals as goal

@@ -1,6 +1,5 @@
 use Rattle.std.proofs.Common.{rules, ◌≡◌, ◌∙◌, length, arith, ap}
 use Rattle.iso_model.specs.Search.Walker.{with_others}
-use Rattle.iso_plain.specs.EngineStates.{Retries}
 use Rattle.iso_plain.proofs.StoppedLemmas.{behind_error}
 use Rattle.iso_plain.proofs.StandingLemmas.{choices_length}
 use Rattle.iso_plain.proofs.SearchSteps.{back}
