@@ -6,8 +6,9 @@ use Rattle.std.proofs.lemmas.Bool.{cases_Bool}
 use Rattle.std.proofs.lemmas.List.{length-map}
 use Rattle.std.proofs.lemmas.Option.{slice_get-map}
 use Rattle.iso_model.specs.Terms.Trees.{Tree}
+use Rattle.iso_model.specs.Terms.Variables.{distinct_from}
 use Rattle.iso_model.specs.Terms.Substitutions.{Subst, apply}
-use Rattle.iso_model.specs.Search.Bodies.{Body, Cut, Run, And, Or, If, Choose, both, either, converted_two, map_body, is_true}
+use Rattle.iso_model.specs.Search.Bodies.{Body, Cut, Run, And, Or, If, Choose, both, either, converted_two, body_term, map_body, is_true}
 use Rattle.iso_plain.specs.declared.bodies.Construct.{Construct}
 use Rattle.iso_plain.specs.declared.bodies.Construct.TheVariants as construct
 use Rattle.iso_plain.specs.declared.bodies.Node.{Node}
@@ -90,6 +91,13 @@ pair_templates n conjunction h g = (h, g)
 pair_templates n disjunction h g = (h, g)
 pair_templates n if_then h g = (h, g)
 pair_templates n if_then_else h g = (h, g)
+
+-- the variables of a pair are those of its first body and then those of its second one
+pair_variables : {k : Construct} {a b c : Body} (seen : List ℕ) → IsPair k a b c → distinct_from seen (body_term c) ≡ distinct_from (distinct_from seen (body_term a)) (body_term b)
+pair_variables seen conjunction = refl
+pair_variables seen disjunction = refl
+pair_variables seen if_then = refl
+pair_variables seen if_then_else = refl
 
 pub pair_goals : {k : Construct} {a b c : Body} → IsPair k a b c → AreGoals c → AreGoals a × AreGoals b
 pair_goals conjunction h = h
@@ -189,3 +197,14 @@ by_templates n None a b goal c e first second whole = let same : Run goal ≡ c 
 by_templates n (Some k) a b goal c e first second whole =
     let j = both_parts (join_of k) a b c e in
     rw j.is (pair_templates n (join_pair k [] j.first j.second) (first j.first j.first_is) (second j.second j.second_is))
+
+-- its variables are those of the compound
+pub by_variables : (o : Option Construct) (a b : Option Body) (x y goal : Tree) (c : Body) (seen : List ℕ) → by_construct o a b goal ≡ Some c
+    → ((d : Body) → a ≡ Some d → distinct_from seen (body_term d) ≡ distinct_from seen x) → ((d : Body) → b ≡ Some d → distinct_from (distinct_from seen x) (body_term d) ≡ distinct_from (distinct_from seen x) y)
+    → distinct_from seen goal ≡ distinct_from (distinct_from seen x) y → distinct_from seen (body_term c) ≡ distinct_from (distinct_from seen x) y
+by_variables None a b x y goal c seen e first second whole = let same : c ≡ Run goal = cc in ap (λ (d : Body). distinct_from seen (body_term d)) same ∙ whole
+by_variables (Some k) a b x y goal c seen e first second whole =
+    let j = both_parts (join_of k) a b c e in
+    ap (λ (d : Body). distinct_from seen (body_term d)) j.is
+    ∙ (pair_variables seen (join_pair k [] j.first j.second)
+    ∙ (ap (λ (vs : List ℕ). distinct_from vs (body_term j.second)) (first j.first j.first_is) ∙ second j.second j.second_is))
