@@ -14,7 +14,6 @@ use Rattle.iso_model.specs.Search.Bodies.{Body, Cut, Run, converted, two, map_bo
 use Rattle.iso_model.specs.Search.Databases.{Key, key_of}
 use Rattle.iso_model.specs.Search.BuiltIns.{is_built_in}
 use Rattle.iso_model.specs.Search.Additions.{head_of, body_of, most_variables, consult_key, Check, Fits, Faulty, NotCallable, TooManyVariables, NotUser, checked, prepared_head, prepared_body, prepared_small, user_checked, fault_error}
-use Rattle.iso_plain.specs.declared.bodies.Node.{Node}
 use Rattle.iso_plain.specs.declared.clauses.Clause.{Clause}
 use Rattle.iso_plain.specs.Nodes.{named_construct, trees_of, layout_of}
 use Rattle.iso_plain.specs.Kept.{numbers, IsTemplate, AreTemplates, IsRefused, IsAddition, Numbers, ChecksUser, Prepares}

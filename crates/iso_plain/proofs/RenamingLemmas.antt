@@ -1,11 +1,11 @@
 -- What renaming the variables of a term keeps.
-use Rattle.std.proofs.Common.{◌≡◌, ℕ, ◌+◌, refl, sym, ap, ap₂, ◌∙◌, ◌&&◌, inl, inr, Option, Some, None, option_map, codes, nat_le}
+use Rattle.std.proofs.Common.{◌≡◌, ℕ, ◌+◌, refl, sym, ap, ap₂, ◌∙◌, ◌&&◌, inl, inr, Option, Some, option_map, codes, nat_le}
 use Rattle.std.specs.Str.{bytes_eq}
 use Rattle.std.proofs.lemmas.Bool.{cases_Bool}
 use Rattle.iso_model.specs.Terms.Trees.{Tree, Variable, Integer, Name, Apply, End, More, count}
 use Rattle.iso_model.specs.Terms.Sorts.{is_term, is_row}
 use Rattle.iso_model.specs.Terms.Substitutions.{Subst, apply}
-use Rattle.iso_model.specs.Search.Bodies.{Body, Run, two, converted, map_body}
+use Rattle.iso_model.specs.Search.Bodies.{Body, two, converted, map_body}
 use Rattle.iso_model.specs.Search.Databases.{key_of}
 use Rattle.iso_model.specs.Search.Additions.{head_of, body_of}
 use Rattle.iso_plain.specs.Nodes.{named_construct}

@@ -12,7 +12,7 @@ use Rattle.iso_plain.specs.Next.{IsPlace, now_at, now_behind}
 use Rattle.iso_plain.specs.declared.bodies.Node.{Node}
 use Rattle.iso_plain.specs.declared.parts.Frame.{Frame}
 use Rattle.iso_plain.specs.declared.parts.Choice as kept
-use Rattle.iso_plain.specs.Standing.{At, Among, Links, IsBody, runs, cuts, joins, Chain, ends, leads, First, AtGoal, StandsOn, StandsForChoice, StandsForChoices, none_kept, one_kept, links_at, Newest, AreVariables, no_word, one_word, GoesOn, DoesNext}
+use Rattle.iso_plain.specs.Standing.{At, Among, Links, IsBody, runs, cuts, joins, Chain, ends, leads, First, StandsOn, StandsForChoice, StandsForChoices, none_kept, one_kept, links_at, Newest, AreVariables, no_word, one_word, GoesOn, DoesNext}
 use Rattle.iso_plain.specs.Entering.{Adds}
 
 -- ---- places

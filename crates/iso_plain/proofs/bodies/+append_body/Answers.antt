@@ -1,5 +1,5 @@
 use borrow.Author.Tests.{ltb-true, ltb-false}
-use Rattle.std.proofs.Common.{rules, arith, ap, sym, ◌∙◌, ◌≡◌, ◌≤◌, ◌+◌, ◌-◌, length, ◌∷◌, [], Some, None}
+use Rattle.std.proofs.Common.{rules, arith, sym, ◌∙◌, ◌≡◌, ◌+◌, ◌-◌, length, ◌∷◌, [], Some, None}
 use Rattle.std.specs.String.{string_bytes}
 use Rattle.iso_model.specs.Terms.TermOf.{term_of}
 use Rattle.iso_plain.specs.Nodes.{trees_of, named_construct, behind}
