@@ -3,6 +3,7 @@ pub mod SearchMoves
 pub mod StandingLemmas
 pub mod WeightLemmas
 pub mod NodeLemmas
+pub mod PlaceLemmas
 pub mod EnteringLemmas
 pub mod ConstructLemmas
 pub mod BodyLemmas
