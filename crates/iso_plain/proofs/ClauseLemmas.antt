@@ -8,14 +8,17 @@ use Rattle.iso_model.specs.declared.terms.Term.{Term}
 use Rattle.iso_model.specs.declared.terms.Term.TheVariants.{Compound}
 use Rattle.iso_model.specs.Terms.Trees.{Tree, Variable, Integer, Name, Apply, End, More, row}
 use Rattle.iso_model.specs.Terms.TermOf.{term_of}
-use Rattle.iso_model.specs.Search.Bodies.{Body, Run, And, converted, both, one, two, is_true}
+use Rattle.iso_model.specs.Search.Bodies.{Body, Cut, Run, converted, one, two, is_true}
 use Rattle.iso_model.specs.Search.Databases.{key_of}
 use Rattle.iso_model.specs.Search.Errors.{key}
 use Rattle.iso_model.specs.Search.Additions.{head_of, body_of}
 use Rattle.iso_model.proofs.OnTerms.RowLemmas.{term_of_compound, count_row_of}
 use Rattle.iso_plain.specs.declared.bodies.Node.{Node}
-use Rattle.iso_plain.specs.declared.bodies.BodyFault.TheVariants.{NotCallable}
-use Rattle.iso_plain.specs.Nodes.{layout_of, AppendsBody}
+use Rattle.iso_plain.specs.declared.bodies.BodyFault.{BodyFault}
+use Rattle.iso_plain.specs.declared.bodies.BodyFault.TheVariants.{NotCallable, NoMemory}
+use Rattle.iso_plain.specs.Nodes.{named_construct, layout_of, AppendsBody}
+use Rattle.iso_plain.specs.Kept.{PartsOf}
+use Rattle.iso_plain.proofs.ConstructLemmas.{converted_by, by_untrue}
 use Rattle.iso_plain.proofs.BodyLemmas.{length-row_of}
 
 pub key_of_compound : (t : Term) (f : String Global) (v : Vec Term Global) → t ≡ Compound f v → key_of (term_of t) ≡ Some (key (string_bytes f) (vec_len v))
@@ -30,25 +33,21 @@ true_parts t e = (Run (Name (codes "true")), ap converted e, refl)
 is_true_name : (a : List ℕ) → bytes_eq a (codes "true") ≡ true → Name a ≡ Name (codes "true")
 is_true_name a h = ap Name ((bytes_eq-Decides a (codes "true")).0 h)
 
-both_untrue : (a b : Option Body) (c : Body) → both a b ≡ Some c → is_true c ≡ false
-both_untrue (Some a) (Some b) c e = let same : And a b ≡ c = cc in rw (← same) refl
-both_untrue (Some a) None c e = cc
-both_untrue None b c e = cc
-
 untrue : (t : Tree) (b : Body) → converted t ≡ Some b → (t ≡ Name (codes "true") → ⊥) → is_true b ≡ false
 untrue (Variable n) b e h = let same : Run (one (codes "call") (Variable n)) ≡ b = cc in rw (← same) refl
 untrue (Integer z) b e h = cc
 untrue (Name a) b e h =
-    let same : Run (Name a) ≡ b = cc in
-    elim (cases_Bool (bytes_eq a (codes "true"))) [
-      | inl same_name ↦ absurd (h (is_true_name a same_name))
-      | inr other ↦ rw (← same) other
+    elim (cases_Bool (bytes_eq a (codes "!"))) [
+      | inl cut ↦ (let d : Some Cut ≡ Some b = rw cut at e in let same : Cut ≡ b = cc in rw (← same) refl)
+      | inr no_cut ↦ (let d : Some (Run (Name a)) ≡ Some b = rw no_cut at e in
+          let same : Run (Name a) ≡ b = cc in
+          elim (cases_Bool (bytes_eq a (codes "true"))) [
+            | inl same_name ↦ absurd (h (is_true_name a same_name))
+            | inr other ↦ rw (← same) other
+          ])
     ]
 untrue (Apply f (More x (More y End))) b e h =
-    elim (cases_Bool (bytes_eq f (codes ","))) [
-      | inl same_name ↦ both_untrue (converted x) (converted y) b (rw same_name at e)
-      | inr other ↦ (let d : Some (Run (two f x y)) ≡ Some b = rw other at e in let same : Run (two f x y) ≡ b = cc in rw (← same) refl)
-    ]
+    by_untrue (named_construct f) (converted x) (converted y) (two f x y) b refl (sym (converted_by f (converted x) (converted y) (two f x y)) ∙ e)
 untrue (Apply f t) b e h = let same : Run (Apply f t) ≡ b = cc in rw (← same) refl
 untrue End b e h = cc
 untrue (More t ts) b e h = cc

@@ -4,7 +4,9 @@ pub mod StandingLemmas
 pub mod WeightLemmas
 pub mod NodeLemmas
 pub mod PatternLemmas
+pub mod PlaceLemmas
 pub mod EnteringLemmas
+pub mod ConstructLemmas
 pub mod BodyLemmas
 pub mod NumberLemmas
 pub mod ClauseLemmas

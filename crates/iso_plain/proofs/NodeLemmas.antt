@@ -5,16 +5,19 @@ use Rattle.std.proofs.lemmas.List.{map-append}
 use Rattle.iso_model.specs.Terms.Trees.{Tree, Variable, Integer, Name, Apply, End, More}
 use Rattle.iso_model.specs.Terms.Unification.Applied.{apply_alone}
 use Rattle.iso_model.specs.Terms.Copies.{renamed}
-use Rattle.iso_model.specs.Search.Bodies.{Body, Run, And, map_body, is_true}
+use Rattle.iso_model.specs.Search.Bodies.{Body, Cut, Run, And, Or, If, Choose, map_body, is_true}
 use Rattle.iso_model.proofs.OnTerms.SortLemmas.{term_fits}
 use Rattle.iso_store.specs.Presents.{Present, KeepsWords}
+use Rattle.iso_plain.specs.declared.bodies.Construct.{Construct}
+use Rattle.iso_plain.specs.declared.bodies.Construct.TheVariants as construct
 use Rattle.iso_plain.specs.declared.bodies.Node.{Node}
 use Rattle.iso_plain.specs.declared.bodies.Node.TheVariants as node
-use Rattle.iso_plain.specs.Nodes.{layout, layout_of, map_node}
+use Rattle.iso_plain.specs.Nodes.{IsPair, conjunction, disjunction, if_then, if_then_else, paired, layout, layout_of, map_node}
 use Rattle.iso_plain.specs.Callable.{IsGoal, AreGoals}
 use Rattle.iso_plain.specs.Kept.{IsTemplate, AreTemplates}
-use Rattle.iso_plain.specs.Standing.{At, IsBody, runs, joins}
+use Rattle.iso_plain.specs.Standing.{At, IsBody, runs, cuts, joins}
 use Rattle.iso_plain.specs.Entering.{Fits, PartsFit, renamed_nodes, IsNode, AreNodes, no_nodes, one_node}
+use Rattle.iso_plain.proofs.ConstructLemmas.{pair_layout, pair_goals, own, own_last, at_seam}
 use Rattle.iso_plain.proofs.RenamingLemmas.{is_term-renamed, key-renamed}
 use Rattle.iso_plain.proofs.KeptLemmas.{below_from}
 
@@ -27,34 +30,47 @@ parts_fit-append n (x ∷ xs) ys h k = (h.0, parts_fit-append n xs ys h.1 k)
 pub template_fits : (n : ℕ) (t : Tree) → IsTemplate n t → Fits n t
 template_fits n t h = record { arities = term_fits t h.is; below = below_from n t h.below }
 
+paired_fits : (n : ℕ) (k : Construct) (xs ys : List (Node Tree)) → PartsFit n xs → PartsFit n ys → PartsFit n (paired k xs ys)
+paired_fits n k xs ys h g = parts_fit-append n (xs ++ ys) (node.Pair k (length ys + 1) ∷ []) (parts_fit-append n xs ys h g) (tt, tt)
+
 pub layout_fits : (n : ℕ) (b : Body) → AreTemplates n b → PartsFit n (layout b)
+layout_fits n Cut h = (tt, tt)
 layout_fits n (Run t) h = (template_fits n t h, tt)
-layout_fits n (And a b) h =
-    parts_fit-append n (layout a ++ layout b) (node.And (length (layout b) + 1) ∷ []) (parts_fit-append n (layout a) (layout b) (layout_fits n a h.0) (layout_fits n b h.1)) (tt, tt)
+layout_fits n (And a b) h = paired_fits n construct.And (layout a) (layout b) (layout_fits n a h.0) (layout_fits n b h.1)
+layout_fits n (Or a b) h = paired_fits n construct.Or (layout a) (layout b) (layout_fits n a h.0) (layout_fits n b h.1)
+layout_fits n (If a b) h = paired_fits n construct.If (layout a) (layout b) (layout_fits n a h.0) (layout_fits n b h.1)
+layout_fits n (Choose a b c) h =
+    paired_fits n construct.Choose (paired construct.If (layout a) (layout b)) (layout c) (paired_fits n construct.If (layout a) (layout b) (layout_fits n a h.0.0) (layout_fits n b h.0.1)) (layout_fits n c h.1)
 
 pub layout_of_fits : (n : ℕ) (b : Body) → AreTemplates n b → PartsFit n (layout_of b)
 layout_of_fits n b h = elim (cases_Bool (is_true b)) [ inl fact ↦ rw fact tt | inr other ↦ rw other (layout_fits n b h) ]
 
 -- some part is there
 pub layout_some : (b : Body) → 0 < length (layout b)
-layout_some (Run t) = omega arith
-layout_some (And a b) = (let more = length-append (layout a ++ layout b) (node.And (length (layout b) + 1) ∷ []) in omega (arith, more))
+layout_some b = (let last = own_last b in let e = ap length last.1 in let more = length-append last.0 (own b ∷ []) in omega (arith, e, more))
 
 pub length-renamed : (n : ℕ) (ts : List (Node Tree)) → length (renamed_nodes n ts) ≡ length ts
 length-renamed n [] = refl
 length-renamed n (t ∷ ts) = ap suc (length-renamed n ts)
 
+paired_renamed : (n : ℕ) (k : Construct) (xs ys : List (Node Tree)) → renamed_nodes n (paired k xs ys) ≡ paired k (renamed_nodes n xs) (renamed_nodes n ys)
+paired_renamed n k xs ys =
+    map-append (map_node (renamed n)) (xs ++ ys) (node.Pair k (length ys + 1) ∷ [])
+    ∙ ap₂ ◌++◌ (map-append (map_node (renamed n)) xs ys) (ap (λ (d : ℕ). node.Pair k (d + 1) ∷ []) (sym (length-renamed n ys)))
+
 -- renaming the parts renames the body
 pub layout_renamed : (n : ℕ) (b : Body) → renamed_nodes n (layout b) ≡ layout (map_body (λ k. Variable (n + k)) b)
+layout_renamed n Cut = refl
 layout_renamed n (Run t) = refl
-layout_renamed n (And a b) =
-    let first = layout_renamed n a in
-    let second = layout_renamed n b in
-    let many : length (layout b) ≡ length (layout (map_body (λ k. Variable (n + k)) b)) = sym (length-renamed n (layout b)) ∙ ap length second in
-    map-append (map_node (renamed n)) (layout a ++ layout b) (node.And (length (layout b) + 1) ∷ [])
-    ∙ ap₂ ◌++◌ (map-append (map_node (renamed n)) (layout a) (layout b) ∙ ap₂ ◌++◌ first second) (ap (λ (k : ℕ). node.And (k + 1) ∷ []) many)
+layout_renamed n (And a b) = paired_renamed n construct.And (layout a) (layout b) ∙ ap₂ (paired construct.And) (layout_renamed n a) (layout_renamed n b)
+layout_renamed n (Or a b) = paired_renamed n construct.Or (layout a) (layout b) ∙ ap₂ (paired construct.Or) (layout_renamed n a) (layout_renamed n b)
+layout_renamed n (If a b) = paired_renamed n construct.If (layout a) (layout b) ∙ ap₂ (paired construct.If) (layout_renamed n a) (layout_renamed n b)
+layout_renamed n (Choose a b c) =
+    let condition = paired_renamed n construct.If (layout a) (layout b) ∙ ap₂ (paired construct.If) (layout_renamed n a) (layout_renamed n b) in
+    paired_renamed n construct.Choose (paired construct.If (layout a) (layout b)) (layout c) ∙ ap₂ (paired construct.Choose) condition (layout_renamed n c)
 
 true_renamed : (n : ℕ) (b : Body) → is_true (map_body (λ k. Variable (n + k)) b) ≡ is_true b
+true_renamed n Cut = refl
 true_renamed n (Run (Variable k)) = refl
 true_renamed n (Run (Integer z)) = refl
 true_renamed n (Run (Name a)) = refl
@@ -62,6 +78,9 @@ true_renamed n (Run (Apply f ts)) = refl
 true_renamed n (Run End) = refl
 true_renamed n (Run (More t ts)) = refl
 true_renamed n (And a b) = refl
+true_renamed n (Or a b) = refl
+true_renamed n (If a b) = refl
+true_renamed n (Choose a b c) = refl
 
 -- a clause's body without parts is `true` alone, also with its variables renamed
 pub fact_true : (n : ℕ) (b : Body) → layout_of b ≡ [] → is_true (map_body (λ k. Variable (n + k)) b) ≡ true
@@ -93,24 +112,32 @@ renamed_none t = apply_alone (λ x. Variable (0 + x)) t (λ x o. ap Variable (ze
 pub nodes_not_renamed : (ts : List (Node Tree)) → renamed_nodes 0 ts ≡ ts
 nodes_not_renamed [] = refl
 nodes_not_renamed (node.Run t ∷ ts) = ap₂ ◌∷◌ (ap node.Run (renamed_none t)) (nodes_not_renamed ts)
-nodes_not_renamed (node.And d ∷ ts) = ap₂ ◌∷◌ refl (nodes_not_renamed ts)
+nodes_not_renamed (node.Cut ∷ ts) = ap₂ ◌∷◌ refl (nodes_not_renamed ts)
+nodes_not_renamed (node.Pair k d ∷ ts) = ap₂ ◌∷◌ refl (nodes_not_renamed ts)
 
 -- ---- goals that can be run
 
 pub templates_goals : (n : ℕ) (b : Body) → AreTemplates n b → AreGoals b
+templates_goals n Cut h = tt
 templates_goals n (Run t) h = record { is = h.is; key = h.key }
 templates_goals n (And a b) h = (templates_goals n a h.0, templates_goals n b h.1)
+templates_goals n (Or a b) h = (templates_goals n a h.0, templates_goals n b h.1)
+templates_goals n (If a b) h = (templates_goals n a h.0, templates_goals n b h.1)
+templates_goals n (Choose a b c) h = ((templates_goals n a h.0.0, templates_goals n b h.0.1), templates_goals n c h.1)
 
 -- with their variables numbered from m on
 pub goals_renamed : (m n : ℕ) (b : Body) → AreTemplates n b → AreGoals (map_body (λ k. Variable (m + k)) b)
+goals_renamed m n Cut h = tt
 goals_renamed m n (Run t) h = record { is = is_term-renamed (λ k. m + k) t ∙ h.is; key = (h.key.0, key-renamed (λ k. m + k) t ∙ h.key.1) }
 goals_renamed m n (And a b) h = (goals_renamed m n a h.0, goals_renamed m n b h.1)
+goals_renamed m n (Or a b) h = (goals_renamed m n a h.0, goals_renamed m n b h.1)
+goals_renamed m n (If a b) h = (goals_renamed m n a h.0, goals_renamed m n b h.1)
+goals_renamed m n (Choose a b c) h = ((goals_renamed m n a h.0.0, goals_renamed m n b h.0.1), goals_renamed m n c h.1)
 
 -- ---- nodes
 
 at_here : {X : Type 0} (front : List X) (x : X) (back : List X) → At (front ++ x ∷ back) (length front) x
-at_here [] x back = record { is = refl }
-at_here (y ∷ front) x back = record { is = (at_here front x back).is }
+at_here front x back = record { is = at_seam front x back }
 
 -- nodes for one list of parts and then another
 record Split {W : Type 0} (p : Present W) (ns : List (Node W)) (xs ys : List (Node Tree)) : Type 0 where
@@ -133,9 +160,14 @@ nodes_length (one_node is others) = ap suc (nodes_length others)
 
 node_kept : {W : Type 0} {p q : Present W} (n : Node W) (t : Node Tree) → KeepsWords p q → IsNode p n t → IsNode q n t
 node_kept (node.Run w) (node.Run t) keeps h = (keeps.stand w h.0, keeps.terms w h.0 ∙ h.1)
-node_kept (node.And d) (node.And e) keeps h = h
-node_kept (node.Run w) (node.And e) keeps h = absurd h
-node_kept (node.And d) (node.Run t) keeps h = absurd h
+node_kept (node.Run w) node.Cut keeps h = absurd h
+node_kept (node.Run w) (node.Pair l e) keeps h = absurd h
+node_kept node.Cut (node.Run t) keeps h = absurd h
+node_kept node.Cut node.Cut keeps h = h
+node_kept node.Cut (node.Pair l e) keeps h = absurd h
+node_kept (node.Pair k d) (node.Run t) keeps h = absurd h
+node_kept (node.Pair k d) node.Cut keeps h = absurd h
+node_kept (node.Pair k d) (node.Pair l e) keeps h = h
 
 -- a node more
 pub nodes_push : {W : Type 0} {p q : Present W} (ns : List (Node W)) (ts : List (Node Tree)) (n : Node W) (t : Node Tree) → AreNodes p ns ts → KeepsWords p q → IsNode q n t → AreNodes q (ns ++ n ∷ []) (ts ++ t ∷ [])
@@ -163,45 +195,72 @@ pub record BodyAt {W : Type 0} (p : Present W) (nodes : List (Node W)) (size : �
 
 one_body : {W : Type 0} (p : Present W) (front back : List (Node W)) (n : Node W) (t : Tree) → IsNode p n (node.Run t) → IsGoal t → IsBody p (front ++ n ∷ back) (length front) (Run t)
 one_body p front back (node.Run w) t is goal = runs (at_here front (node.Run w) back) is.0 (sym is.1) goal
-one_body p front back (node.And d) t is goal = absurd is
+one_body p front back node.Cut t is goal = absurd is
+one_body p front back (node.Pair k d) t is goal = absurd is
 
-joined : {W : Type 0} (p : Present W) (front back : List (Node W)) (n : Node W) (i j d : ℕ) (a b : Body) → IsNode p n (node.And d) → length front ≡ i + d → length front ≡ j + 1 → 0 < d
-    → IsBody p (front ++ n ∷ back) i a → IsBody p (front ++ n ∷ back) j b → IsBody p (front ++ n ∷ back) (length front) (And a b)
-joined p front back (node.And e) i j d a b is first second some x y =
-    joins (at_here front (node.And e) back) (first ∙ ap (λ (k : ℕ). i + k) (sym is)) second (omega (arith, some, is)) x y
-joined p front back (node.Run w) i j d a b is first second some x y = absurd is
+one_cut : {W : Type 0} (p : Present W) (front back : List (Node W)) (n : Node W) → IsNode p n node.Cut → IsBody p (front ++ n ∷ back) (length front) Cut
+one_cut p front back (node.Run w) is = absurd is
+one_cut p front back node.Cut is = cuts (at_here front node.Cut back)
+one_cut p front back (node.Pair k d) is = absurd is
 
-pub body_at : {W : Type 0} (p : Present W) (b : Body) (nodes front ns back : List (Node W)) → nodes ≡ front ++ ns ++ back → AreNodes p ns (layout b) → AreGoals b → BodyAt p nodes (length front + length ns) b
-body_at {W} p (Run t) nodes front ns back e h goals =
-    let l = last_of ns (node.Run t) h in
-    let are : nodes ≡ front ++ l.node ∷ back = e ∙ (append_assoc front ns back ∙ ap (λ (ms : List (Node W)). front ++ (ms ++ back)) l.only) in
-    let one : length ns ≡ 1 = ap length l.only in
-    record { place = length front; end = omega (arith, one); body = subst (λ (ms : List (Node W)). IsBody p ms (length front) (Run t)) (sym are) (one_body p front back l.node t l.is goals) }
-body_at {W} p (And a b) nodes front ns back e h goals =
+joined : {W : Type 0} (p : Present W) (front back : List (Node W)) (n : Node W) (i j d : ℕ) (k : Construct) (a b c : Body) → IsNode p n (node.Pair k d) → length front ≡ i + d → length front ≡ j + 1 → 0 < d
+    → IsPair k a b c → IsBody p (front ++ n ∷ back) i a → IsBody p (front ++ n ∷ back) j b → IsBody p (front ++ n ∷ back) (length front) c
+joined p front back (node.Pair l e) i j d k a b c is first second some pair x y =
+    let distance = is.1 in
+    joins (at_here front (node.Pair l e) back) (first ∙ ap (λ (m : ℕ). i + m) (sym distance)) second (omega (arith, some, distance)) (subst (λ (m : Construct). IsPair m a b c) (sym is.0) pair) x y
+joined p front back (node.Run w) i j d k a b c is first second some pair x y = absurd is
+joined p front back node.Cut i j d k a b c is first second some pair x y = absurd is
+
+-- Wherever the body's parts are nodes, there the body is.
+abbrev pub IsPlaced : {W : Type 0} → Present W → Body → Type 0
+IsPlaced {W} p b = (nodes front ns back : List (Node W)) → nodes ≡ front ++ ns ++ back → AreNodes p ns (layout b) → AreGoals b → BodyAt p nodes (length front + length ns) b
+
+last_placed : {W : Type 0} (p : Present W) (nodes front ns back : List (Node W)) (n : Node W) (b : Body) → nodes ≡ front ++ ns ++ back → ns ≡ n ∷ [] → IsBody p (front ++ n ∷ back) (length front) b
+    → BodyAt p nodes (length front + length ns) b
+last_placed {W} p nodes front ns back n b e only here =
+    let are : nodes ≡ front ++ n ∷ back = e ∙ (append_assoc front ns back ∙ ap (λ (ms : List (Node W)). front ++ (ms ++ back)) only) in
+    let one : length ns ≡ 1 = ap length only in
+    record { place = length front; end = omega (arith, one); body = subst (λ (ms : List (Node W)). IsBody p ms (length front) b) (sym are) here }
+
+pair_placed : {W : Type 0} (p : Present W) {k : Construct} {a b c : Body} → IsPair k a b c → IsPlaced p a → IsPlaced p b → IsPlaced p c
+pair_placed {W} p {k = k} {a = a} {b = b} {c = c} pair first_placed second_placed nodes front ns back e h goals =
+    let parts = pair_goals pair goals in
     let d = length (layout b) + 1 in
-    let s = split ns (layout a ++ layout b) (node.And d ∷ []) h in
+    let s = split ns (layout a ++ layout b) (node.Pair k d ∷ []) (subst (λ (ts : List (Node Tree)). AreNodes p ns ts) (pair_layout pair) h) in
     let r = split s.front (layout a) (layout b) s.first in
-    let l = last_of s.back (node.And d) s.second in
+    let l = last_of s.back (node.Pair k d) s.second in
     let n = l.node in
     let all : ns ≡ r.front ++ r.back ++ n ∷ [] = s.is ∙ ap₂ ◌++◌ r.is l.only in
     let start : nodes ≡ front ++ (r.front ++ r.back ++ n ∷ []) ++ back = e ∙ ap (λ (ms : List (Node W)). front ++ ms ++ back) all in
     let tail : (r.front ++ r.back ++ n ∷ []) ++ back ≡ r.front ++ (r.back ++ n ∷ back) = append_assoc (r.front ++ r.back) (n ∷ []) back ∙ append_assoc r.front r.back (n ∷ back) in
     let first_e : nodes ≡ front ++ r.front ++ (r.back ++ n ∷ back) = start ∙ (append_assoc front (r.front ++ r.back ++ n ∷ []) back ∙ (ap (λ (ms : List (Node W)). front ++ ms) tail ∙ sym (append_assoc front r.front (r.back ++ n ∷ back)))) in
     let second_e : nodes ≡ front ++ r.front ++ r.back ++ n ∷ back = first_e ∙ sym (append_assoc (front ++ r.front) r.back (n ∷ back)) in
-    let x = body_at p a nodes front r.front (r.back ++ n ∷ back) first_e r.first goals.0 in
-    let y = body_at p b nodes (front ++ r.front) r.back (n ∷ back) second_e r.second goals.1 in
+    let x = first_placed nodes front r.front (r.back ++ n ∷ back) first_e r.first parts.0 in
+    let y = second_placed nodes (front ++ r.front) r.back (n ∷ back) second_e r.second parts.1 in
     let whole = front ++ r.front ++ r.back in
     let one = length-append front r.front in
     let two = length-append (front ++ r.front) r.back in
     let many = nodes_length r.second in
     let size : length ns ≡ length r.front + length r.back + 1 =
-    ap length all ∙ (length-append (r.front ++ r.back) (n ∷ []) ∙ ap (λ (k : ℕ). k + 1) (length-append r.front r.back)) in
+    ap length all ∙ (length-append (r.front ++ r.back) (n ∷ []) ∙ ap (λ (m : ℕ). m + 1) (length-append r.front r.back)) in
     let xe = x.end in
     let ye = y.end in
     record {
       place = length whole;
       end = omega (arith, one, two, size);
-      body = subst (λ (ms : List (Node W)). IsBody p ms (length whole) (And a b)) (sym second_e)
-          (joined p whole back n x.place y.place d a b l.is (omega (arith, one, two, many, xe)) (omega (arith, one, two, ye)) (omega arith)
+      body = subst (λ (ms : List (Node W)). IsBody p ms (length whole) c) (sym second_e)
+          (joined p whole back n x.place y.place d k a b c l.is (omega (arith, one, two, many, xe)) (omega (arith, one, two, ye)) (omega arith) pair
           (subst (λ (ms : List (Node W)). IsBody p ms x.place a) second_e x.body) (subst (λ (ms : List (Node W)). IsBody p ms y.place b) second_e y.body));
     }
+
+pub body_at : {W : Type 0} (p : Present W) (b : Body) → IsPlaced p b
+body_at p Cut nodes front ns back e h goals =
+    let l = last_of ns node.Cut h in
+    last_placed p nodes front ns back l.node Cut e l.only (one_cut p front back l.node l.is)
+body_at p (Run t) nodes front ns back e h goals =
+    let l = last_of ns (node.Run t) h in
+    last_placed p nodes front ns back l.node (Run t) e l.only (one_body p front back l.node t l.is goals)
+body_at p (And a b) nodes front ns back e h goals = pair_placed p conjunction (body_at p a) (body_at p b) nodes front ns back e h goals
+body_at p (Or a b) nodes front ns back e h goals = pair_placed p disjunction (body_at p a) (body_at p b) nodes front ns back e h goals
+body_at p (If a b) nodes front ns back e h goals = pair_placed p if_then (body_at p a) (body_at p b) nodes front ns back e h goals
+body_at p (Choose a b c) nodes front ns back e h goals = pair_placed p if_then_else (pair_placed p if_then (body_at p a) (body_at p b)) (body_at p c) nodes front ns back e h goals

@@ -10,15 +10,16 @@ use Rattle.iso_model.specs.Terms.Substitutions.{apply}
 use Rattle.iso_model.specs.Terms.Unification.Applied.{apply_same, occurs_from}
 use Rattle.iso_model.specs.Terms.Unification.Listed.{Covers, distinct_covers}
 use Rattle.iso_model.specs.Terms.Copies.{place_of, copy_from}
-use Rattle.iso_model.specs.Search.Bodies.{Body, Run, And, converted, both, two, map_body}
+use Rattle.iso_model.specs.Search.Bodies.{Body, Cut, Run, converted, two, map_body}
 use Rattle.iso_model.specs.Search.Databases.{Key, key_of}
 use Rattle.iso_model.specs.Search.BuiltIns.{is_built_in}
-use Rattle.iso_model.specs.Search.Additions.{head_of, body_of, most_variables, consult_key, Check, Faulty, NotCallable, TooManyVariables, NotUser, checked, checked_head, checked_body, checked_user, fault_error}
+use Rattle.iso_model.specs.Search.Additions.{head_of, body_of, most_variables, consult_key, Check, Fits, Faulty, NotCallable, TooManyVariables, NotUser, checked, prepared_head, prepared_body, prepared_small, user_checked, fault_error}
 use Rattle.iso_plain.specs.declared.clauses.Clause.{Clause}
-use Rattle.iso_plain.specs.Nodes.{trees_of, layout_of}
+use Rattle.iso_plain.specs.Nodes.{named_construct, trees_of, layout_of}
 use Rattle.iso_plain.specs.Kept.{numbers, IsTemplate, AreTemplates, IsRefused, IsAddition, Numbers, ChecksUser, Prepares}
 use Rattle.iso_model.specs.declared.pauses.AddFault.{AddFault}
 use Rattle.iso_model.specs.declared.pauses.AddFault.TheVariants as add
+use Rattle.iso_plain.proofs.ConstructLemmas.{converted_by, by_templates}
 use Rattle.iso_plain.proofs.NumberLemmas.{place_known, numbers_more}
 use Rattle.iso_plain.proofs.RenamingLemmas.{is_term-renamed, key-renamed, converted-renamed, head-renamed, body-renamed}
 
@@ -76,12 +77,6 @@ template vs t k fits e covers = record {
 one_template : (n : ℕ) (t : Tree) (b : Body) (k : Key) → Run t ≡ b → is_term t ≡ true → key_of t ≡ Some k → ((x : ℕ) → occurs x t ≡ true → x < n) → AreTemplates n b
 one_template n t b k same fits e below = subst (λ (c : Body). AreTemplates n c) same (record { is = fits; key = (k, e); below = below })
 
--- a conjunction's goals are those of its parts
-both_parts : (a b : Option Body) (c : Body) → both a b ≡ Some c → (x y : Body) × (a ≡ Some x) × (b ≡ Some y) × (c ≡ And x y)
-both_parts (Some a) (Some b) c e = let same : c ≡ And a b = cc in (a, b, refl, refl, same)
-both_parts (Some a) None c e = cc
-both_parts None b c e = cc
-
 -- the goals of a body whose variables are below n
 pub body_templates : (n : ℕ) (t : Tree) (b : Body) → converted t ≡ Some b → is_term t ≡ true → ((x : ℕ) → occurs x t ≡ true → x < n) → AreTemplates n b
 body_templates n (Variable k) b e fits below =
@@ -91,19 +86,20 @@ body_templates n (Variable k) b e fits below =
     only : (x : ℕ) → occurs x (Apply (codes "call") (More (Variable k) End)) ≡ true → occurs x (Variable k) ≡ true
     only x o = elim (or_cases (k == x) false o) [ inl here ↦ here | inr there ↦ absurd (false≢true there) ]
 body_templates n (Integer z) b e fits below = cc
-body_templates n (Name a) b e fits below = let same : Run (Name a) ≡ b = cc in one_template n (Name a) b (record { name = a; arity = 0 }) same fits refl below
-body_templates n (Apply f (More x (More y End))) b e fits below =
-    elim (cases_Bool (bytes_eq f (codes ","))) [
-      | inl conjunction ↦ (let p = both_parts (converted x) (converted y) b (rw conjunction at e) in
-          let inner = and_parts (is_term x) (is_term y && true) fits in
-          let second = and_parts (is_term y) true inner.1 in
-          let first = body_templates n x p.0 p.2 inner.0 (λ z o. below z (or_left (occurs z x) (occurs z y || false) o)) in
-          let last = body_templates n y p.1 p.3 second.0 (λ z o. below z (or_right (occurs z x) (occurs z y || false) (or_left (occurs z y) false o))) in
-          rw p.4 (first, last))
-      | inr other ↦ (let d : Some (Run (two f x y)) ≡ Some b = rw other at e in
-          let same : Run (two f x y) ≡ b = cc in
-          one_template n (two f x y) b (record { name = f; arity = count (More x (More y End)) }) same fits refl below)
+body_templates n (Name a) b e fits below =
+    elim (cases_Bool (bytes_eq a (codes "!"))) [
+      | inl cut ↦ (let d : Some Cut ≡ Some b = rw cut at e in let same : Cut ≡ b = cc in rw (← same) tt)
+      | inr other ↦ (let d : Some (Run (Name a)) ≡ Some b = rw other at e in
+          let same : Run (Name a) ≡ b = cc in
+          one_template n (Name a) b (record { name = a; arity = 0 }) same fits refl below)
     ]
+body_templates n (Apply f (More x (More y End))) b e fits below =
+    let inner = and_parts (is_term x) (is_term y && true) fits in
+    let second = and_parts (is_term y) true inner.1 in
+    by_templates n (named_construct f) (converted x) (converted y) (two f x y) b (sym (converted_by f (converted x) (converted y) (two f x y)) ∙ e)
+    (λ c h. body_templates n x c h inner.0 (λ z o. below z (or_left (occurs z x) (occurs z y || false) o)))
+    (λ c h. body_templates n y c h second.0 (λ z o. below z (or_right (occurs z x) (occurs z y || false) (or_left (occurs z y) false o))))
+    (record { is = fits; key = (record { name = f; arity = count (More x (More y End)) }, refl); below = below })
 body_templates n (Apply f t) b e fits below = let same : Run (Apply f t) ≡ b = cc in one_template n (Apply f t) b (record { name = f; arity = count t }) same fits refl below
 body_templates n End b e fits below = cc
 body_templates n (More t ts) b e fits below = cc
@@ -140,29 +136,31 @@ parts_covered t vs covers = (covers, λ x o. absurd (false≢true o))
 
 -- ---- the clause is added, or refused
 
-callable_checked : (t h : Tree) (k : Key) → key_of h ≡ Some k → checked_head t h (key_of h) ≡ checked_body t k (converted (body_of (copy_from t 0)))
-callable_checked t (Variable n) k e = cc
-callable_checked t (Integer z) k e = cc
-callable_checked t (Name a) k e = let same : record { name = a; arity = 0 } ≡ k = cc in ap (λ k. checked_body t k (converted (body_of (copy_from t 0)))) same
-callable_checked t (Apply f ts) k e = let same : record { name = f; arity = count ts } ≡ k = cc in ap (λ k. checked_body t k (converted (body_of (copy_from t 0)))) same
-callable_checked t End k e = cc
-callable_checked t (More u us) k e = cc
+callable_prepared : (t h : Tree) (k : Key) → key_of h ≡ Some k → prepared_head t h (key_of h) ≡ prepared_body t k (converted (body_of (copy_from t 0)))
+callable_prepared t (Variable n) k e = cc
+callable_prepared t (Integer z) k e = cc
+callable_prepared t (Name a) k e = let same : record { name = a; arity = 0 } ≡ k = cc in ap (λ k. prepared_body t k (converted (body_of (copy_from t 0)))) same
+callable_prepared t (Apply f ts) k e = let same : record { name = f; arity = count ts } ≡ k = cc in ap (λ k. prepared_body t k (converted (body_of (copy_from t 0)))) same
+callable_prepared t End k e = cc
+callable_prepared t (More u us) k e = cc
 
 -- a head that is callable, and a body that can't be converted
 pub refused_body : (t : Tree) (k : Key) → key_of (head_of t) ≡ Some k → converted (body_of t) ≡ None → checked t ≡ Faulty (NotCallable (body_of t))
 refused_body t k h e =
     let none : converted (body_of (copy_from t 0)) ≡ None = ap converted (body_copied t) ∙ (converted-renamed (λ x. place_of x (variables t)) (body_of t) ∙ ap (option_map (map_body (numbers (variables t)))) e) in
-    callable_checked t (head_of t) k h ∙ ap (λ o. checked_body t k o) none
+    ap user_checked (callable_prepared t (head_of t) k h ∙ ap (λ o. prepared_body t k o) none)
 
 pub refused_large : (t : Tree) (b : Body) (k : Key) → key_of (head_of t) ≡ Some k → converted (body_of (copy_from t 0)) ≡ Some b → most_variables < variable_count t → checked t ≡ Faulty TooManyVariables
 refused_large t b k h e large =
     let over : nat_lt most_variables (variable_count t) ≡ true = search rules in
-    callable_checked t (head_of t) k h ∙ ap (λ o. checked_body t k o) e ∙ rw over refl
+    let small : prepared_small t k b ≡ Faulty TooManyVariables = rw over refl in
+    ap user_checked (callable_prepared t (head_of t) k h ∙ ap (λ o. prepared_body t k o) e ∙ small)
 
-small_checked : (t : Tree) (b : Body) (k : Key) → key_of (head_of t) ≡ Some k → converted (body_of (copy_from t 0)) ≡ Some b → variable_count t ≤ most_variables → checked t ≡ checked_user k b
+small_checked : (t : Tree) (b : Body) (k : Key) → key_of (head_of t) ≡ Some k → converted (body_of (copy_from t 0)) ≡ Some b → variable_count t ≤ most_variables → checked t ≡ user_checked (Fits k b)
 small_checked t b k h e small =
     let fits : nat_lt most_variables (variable_count t) ≡ false = search rules in
-    callable_checked t (head_of t) k h ∙ ap (λ o. checked_body t k o) e ∙ rw fits refl
+    let small : prepared_small t k b ≡ Fits k b = rw fits refl in
+    ap user_checked (callable_prepared t (head_of t) k h ∙ ap (λ o. prepared_body t k o) e ∙ small)
 
 pub refused_user : (t : Tree) (b : Body) (k : Key) → key_of (head_of t) ≡ Some k → converted (body_of (copy_from t 0)) ≡ Some b → variable_count t ≤ most_variables → is_built_in k ≡ true → checked t ≡ Faulty (NotUser k)
 refused_user t b k h e small built = small_checked t b k h e small ∙ rw built refl

@@ -1,13 +1,15 @@
 -- What renaming the variables of a term keeps.
-use Rattle.std.proofs.Common.{◌≡◌, ℕ, ◌+◌, refl, ap, ap₂, ◌∙◌, ◌&&◌, inl, inr, Option, Some, None, option_map, codes, nat_le}
+use Rattle.std.proofs.Common.{◌≡◌, ℕ, ◌+◌, refl, sym, ap, ap₂, ◌∙◌, ◌&&◌, inl, inr, Option, Some, option_map, codes, nat_le}
 use Rattle.std.specs.Str.{bytes_eq}
 use Rattle.std.proofs.lemmas.Bool.{cases_Bool}
 use Rattle.iso_model.specs.Terms.Trees.{Tree, Variable, Integer, Name, Apply, End, More, count}
 use Rattle.iso_model.specs.Terms.Sorts.{is_term, is_row}
 use Rattle.iso_model.specs.Terms.Substitutions.{Subst, apply}
-use Rattle.iso_model.specs.Search.Bodies.{Body, converted, both, map_body}
+use Rattle.iso_model.specs.Search.Bodies.{Body, two, converted, map_body}
 use Rattle.iso_model.specs.Search.Databases.{key_of}
 use Rattle.iso_model.specs.Search.Additions.{head_of, body_of}
+use Rattle.iso_plain.specs.Nodes.{named_construct}
+use Rattle.iso_plain.proofs.ConstructLemmas.{by_construct, converted_by, by_mapped}
 
 -- each variable by another
 abbrev pub renaming : (ℕ → ℕ) → Subst
@@ -46,21 +48,17 @@ key-renamed f (Apply g ts) = ap (λ n. Some (record { name = g; arity = n })) (c
 key-renamed f End = refl
 key-renamed f (More t ts) = refl
 
-both-mapped : (f : ℕ → ℕ) (a b : Option Body) → both (option_map (map_body (renaming f)) a) (option_map (map_body (renaming f)) b) ≡ option_map (map_body (renaming f)) (both a b)
-both-mapped f (Some a) (Some b) = refl
-both-mapped f (Some a) None = refl
-both-mapped f None (Some b) = refl
-both-mapped f None None = refl
-
 pub converted-renamed : (f : ℕ → ℕ) (t : Tree) → converted (apply (renaming f) t) ≡ option_map (map_body (renaming f)) (converted t)
 converted-renamed f (Variable n) = refl
 converted-renamed f (Integer z) = refl
-converted-renamed f (Name a) = refl
+converted-renamed f (Name a) = elim (cases_Bool (bytes_eq a (codes "!"))) [ inl cut ↦ rw cut refl | inr other ↦ rw other refl ]
 converted-renamed f (Apply g (More a (More b End))) =
-    elim (cases_Bool (bytes_eq g (codes ","))) [
-      | inl same ↦ rw same (ap₂ both (converted-renamed f a) (converted-renamed f b) ∙ both-mapped f (converted a) (converted b))
-      | inr other ↦ rw other refl
-    ]
+    let s = renaming f in
+    let o = named_construct g in
+    let whole = two g a b in
+    converted_by g (converted (apply s a)) (converted (apply s b)) (apply s whole)
+    ∙ (ap₂ (λ (x y : Option Body). by_construct o x y (apply s whole)) (converted-renamed f a) (converted-renamed f b)
+    ∙ (by_mapped s o (converted a) (converted b) whole ∙ ap (option_map (map_body s)) (sym (converted_by g (converted a) (converted b) whole))))
 converted-renamed f (Apply g t) = refl
 converted-renamed f End = refl
 converted-renamed f (More t ts) = refl

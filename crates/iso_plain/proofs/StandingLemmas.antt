@@ -12,7 +12,7 @@ use Rattle.iso_plain.specs.Next.{IsPlace, now_at, now_behind}
 use Rattle.iso_plain.specs.declared.bodies.Node.{Node}
 use Rattle.iso_plain.specs.declared.parts.Frame.{Frame}
 use Rattle.iso_plain.specs.declared.parts.Choice as kept
-use Rattle.iso_plain.specs.Standing.{At, Among, Links, IsBody, runs, joins, Chain, ends, leads, First, StandsOn, StandsForChoice, StandsForChoices, none_kept, one_kept, links_at, Newest, AreVariables, no_word, one_word, GoesOn, DoesNext}
+use Rattle.iso_plain.specs.Standing.{At, Among, Links, IsBody, runs, cuts, joins, Chain, ends, leads, First, StandsOn, StandsForChoice, StandsForChoices, none_kept, one_kept, links_at, Newest, AreVariables, no_word, one_word, GoesOn, DoesNext}
 use Rattle.iso_plain.specs.Entering.{Adds}
 
 -- ---- places
@@ -31,17 +31,20 @@ at_last (y ∷ xs) x = record { is = (at_last xs x).is }
 -- more nodes, and a store that keeps its words
 pub body_more : {W : Type 0} {p q : Present W} {nodes : List (Node W)} {i : ℕ} {b : Body} (more : List (Node W)) → KeepsWords p q → IsBody p nodes i b → IsBody q (nodes ++ more) i b
 body_more {nodes = nodes} more keeps (runs {i = i} {w = w} at holds is goal) = runs (at_more nodes more i _ at) (keeps.stand w holds) (is ∙ sym (keeps.terms w holds)) goal
-body_more {nodes = nodes} more keeps (joins {k = k} at first second some a b) = joins (at_more nodes more k _ at) first second some (body_more more keeps a) (body_more more keeps b)
+body_more {nodes = nodes} more keeps (cuts {i = i} at) = cuts (at_more nodes more i _ at)
+body_more {nodes = nodes} more keeps (joins {k = k} at first second some pair a b) = joins (at_more nodes more k _ at) first second some pair (body_more more keeps a) (body_more more keeps b)
 
 -- a store that keeps its words
 pub body_keep : {W : Type 0} {p q : Present W} {nodes : List (Node W)} {i : ℕ} {b : Body} → KeepsWords p q → IsBody p nodes i b → IsBody q nodes i b
 body_keep keeps (runs {w = w} at holds is goal) = runs at (keeps.stand w holds) (is ∙ sym (keeps.terms w holds)) goal
-body_keep keeps (joins at first second some a b) = joins at first second some (body_keep keeps a) (body_keep keeps b)
+body_keep keeps (cuts at) = cuts at
+body_keep keeps (joins at first second some pair a b) = joins at first second some pair (body_keep keeps a) (body_keep keeps b)
 
 -- the place of a body is one of a node
 pub body_within : {W : Type 0} {p : Present W} {nodes : List (Node W)} {i : ℕ} {b : Body} → IsBody p nodes i b → i < length nodes
 body_within {nodes = nodes} (runs {i = i} at holds is goal) = slice_get_within nodes i _ at.is
-body_within {nodes = nodes} (joins {k = k} at first second some a b) = slice_get_within nodes k _ at.is
+body_within {nodes = nodes} (cuts {i = i} at) = slice_get_within nodes i _ at.is
+body_within {nodes = nodes} (joins {k = k} at first second some pair a b) = slice_get_within nodes k _ at.is
 
 -- nodes and frames that were added at the end
 pub record AddsLinks {W : Type 0} (old new : Links W) : Type 0 where

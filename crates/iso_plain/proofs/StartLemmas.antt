@@ -1,12 +1,13 @@
 -- How a goal is started, and how a clause comes to an engine that was cleared.
-use Rattle.std.proofs.Common.{◌≡◌, ◌<◌, ℕ, List, [], ◌∷◌, ◌++◌, true, Option, Some, None, codes, refl, ap, sym, ◌∙◌, arith, inl, inr}
+use Rattle.std.proofs.Common.{◌≡◌, ◌<◌, ℕ, List, [], ◌∷◌, ◌++◌, true, Option, Some, None, codes, refl, ap, sym, ◌∙◌, subst, arith, inl, inr}
 use Rattle.std.specs.Str.{bytes_eq}
 use Rattle.std.proofs.lemmas.Bool.{cases_Bool}
 use Rattle.iso_model.specs.Terms.Trees.{Tree, Variable, Integer, Name, Apply, End, More}
 use Rattle.iso_model.specs.Terms.TermOf.{term_of}
+use Rattle.iso_model.specs.Terms.Substitutions.{Subst}
 use Rattle.iso_model.specs.Terms.Variables.{occurs, is_in, distinct_from, variables, variable_count}
 use Rattle.iso_model.specs.Terms.Copies.{numbers_from, IsNumbered}
-use Rattle.iso_model.specs.Search.Bodies.{Body, Run, And, converted, body_term, both, two}
+use Rattle.iso_model.specs.Search.Bodies.{Body, Cut, Run, converted, body_term, two}
 use Rattle.iso_model.proofs.OnTerms.VariableLemmas.{listed_occurring}
 use Rattle.iso_model.proofs.OnTerms.CopyLemmas.{in_numbers_from}
 use Rattle.iso_model.specs.Search.Databases.{Clause, at_end}
@@ -17,7 +18,10 @@ use Rattle.iso_plain.specs.declared.parts.Choice as kept
 use Rattle.iso_plain.specs.declared.parts.Now.TheVariants as now
 use Rattle.iso_plain.specs.Standing.{Links, StandsForChoices, none_kept, one_kept}
 use Rattle.std.specs.Prelude.{Result, Ok, Err, IsErrAnd}
-use Rattle.iso_model.specs.Search.Walker.{World, Alternative, Goal, Raise, idle, opening, shown_query}
+use Rattle.iso_model.specs.Search.RunLaws.Values.{IsTwice}
+use Rattle.iso_model.specs.Search.RunLaws.Sameness.{Same, going, SameStack, no_alternative}
+use Rattle.iso_model.specs.Search.RunLaws.SameSteps.{list_same}
+use Rattle.iso_model.specs.Search.Walker.{World, State, Alternative, Goal, Raise, idle, opening, shown_query}
 use Rattle.iso_model.specs.Search.Additions.{Addition, Adds, Refuses, Check, Fits, Faulty, checked, addition_by, consulted, consult_key}
 use Rattle.iso_model.specs.declared.pauses.AddFault.{AddFault}
 use Rattle.iso_model.specs.declared.pauses.AddFault.TheVariants as add
@@ -26,7 +30,8 @@ use Rattle.iso_plain.specs.Programs.{IsWorld}
 use Rattle.iso_plain.specs.EngineStates.{IsEngine}
 use Rattle.iso_plain.specs.Kept.{Prepares, IsRefused}
 use Rattle.iso_plain.specs.Starts.{IsFresh, Comes}
-use Rattle.iso_plain.specs.Nodes.{layout, AppendsBody}
+use Rattle.iso_plain.specs.Nodes.{named_construct, layout, AppendsBody}
+use Rattle.iso_plain.proofs.ConstructLemmas.{converted_by, by_variables}
 
 -- where no choice is stood for, there is none
 pub no_choice_left : {W M : Type 0} {stands : M → Present W → Type 0} {older : M → M → Type 0} {base : M} {left_at : ℕ → ℕ → List Clause} {query : List W} {named : List ℕ}
@@ -36,29 +41,36 @@ no_choice_left e (one_kept is on here newer below) = absurd (cc)
 
 -- ---- the query
 
+-- a state in which nothing is bound and no alternative is left is the same as itself
+pub same_fresh : (s : State) → s.subst ≡ Variable → s.stack ≡ [] → Same s s
+same_fresh s subst_is stack_is =
+    let twice : IsTwice s.subst = subst (λ (r : Subst). IsTwice r) (sym subst_is) (λ n. refl) in
+    going
+    (record {
+      agree = record { shown = refl; beyond = λ x more. refl; twice = twice; other = twice };
+      next = refl;
+      beside = record { stack = subst (λ (ks : List Alternative). SameStack (variables s.query) (variables s.query) ks ks) (sym stack_is) no_alternative; world = refl; steps = refl };
+    })
+    (list_same s.list)
+
 pub opening_error : (goal : Tree) → converted goal ≡ None → opening goal (converted goal) ≡ Raise (type_error_callable goal (key (codes "call") 1)) ∷ []
 opening_error goal is = ap (opening goal) is
 
 pub opening_body : (goal : Tree) (b : Body) → converted goal ≡ Some b → opening goal (converted goal) ≡ Goal b 0 ∷ []
 opening_body goal b is = ap (opening goal) is
 
--- a conjunction's parts
-both_parts : (a b : Option Body) (c : Body) → both a b ≡ Some c → (x y : Body) × (a ≡ Some x) × (b ≡ Some y) × (c ≡ And x y)
-both_parts (Some a) (Some b) c e = let same : c ≡ And a b = cc in (a, b, refl, refl, same)
-both_parts (Some a) None c e = cc
-both_parts None b c e = cc
-
 -- a converted query has the variables of the query
 converted_same : (t : Tree) (b : Body) (seen : List ℕ) → converted t ≡ Some b → distinct_from seen (body_term b) ≡ distinct_from seen t
 converted_same (Variable n) b seen e = let same : b ≡ Run (Apply (codes "call") (More (Variable n) End)) = cc in rw same refl
 converted_same (Integer z) b seen e = cc
-converted_same (Name a) b seen e = let same : b ≡ Run (Name a) = cc in rw same refl
-converted_same (Apply f (More x (More y End))) b seen e =
-    elim (cases_Bool (bytes_eq f (codes ","))) [
-      | inl conjunction ↦ (let p = both_parts (converted x) (converted y) b (rw conjunction at e) in
-          rw p.4 (ap (λ vs. distinct_from vs (body_term p.1)) (converted_same x p.0 seen p.2) ∙ converted_same y p.1 (distinct_from seen x) p.3))
-      | inr other ↦ (let d : Some (Run (two f x y)) ≡ Some b = rw other at e in let same : b ≡ Run (two f x y) = cc in rw same refl)
+converted_same (Name a) b seen e =
+    elim (cases_Bool (bytes_eq a (codes "!"))) [
+      | inl cut ↦ (let d : Some Cut ≡ Some b = rw cut at e in let same : b ≡ Cut = cc in rw same refl)
+      | inr other ↦ (let d : Some (Run (Name a)) ≡ Some b = rw other at e in let same : b ≡ Run (Name a) = cc in rw same refl)
     ]
+converted_same (Apply f (More x (More y End))) b seen e =
+    by_variables (named_construct f) (converted x) (converted y) x y (two f x y) b seen (sym (converted_by f (converted x) (converted y) (two f x y)) ∙ e) (λ c h. converted_same x c seen h)
+    (λ c h. converted_same y c (distinct_from seen x) h) refl
 converted_same (Apply f t) b seen e = let same : b ≡ Run (Apply f t) = cc in rw same refl
 converted_same End b seen e = cc
 converted_same (More t ts) b seen e = cc

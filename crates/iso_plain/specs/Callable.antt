@@ -2,7 +2,7 @@
 use Rattle.std.specs.Prelude.{◌≡◌, Some, true}
 use Rattle.iso_model.specs.Terms.Trees.{Tree}
 use Rattle.iso_model.specs.Terms.Sorts.{is_term}
-use Rattle.iso_model.specs.Search.Bodies.{Body, Run, And}
+use Rattle.iso_model.specs.Search.Bodies.{Body, Cut, Run, And, Or, If, Choose}
 use Rattle.iso_model.specs.Search.Databases.{Key, key_of}
 
 -- A goal that can be run: an atom or a compound.
@@ -12,5 +12,9 @@ pub record IsGoal (t : Tree) : Type 0 where
 
 -- each goal of the body is one
 abbrev pub AreGoals : Body → Type 0
+AreGoals Cut = Unit {0}
 AreGoals (Run t) = IsGoal t
 AreGoals (And a b) = AreGoals a × AreGoals b
+AreGoals (Or a b) = AreGoals a × AreGoals b
+AreGoals (If a b) = AreGoals a × AreGoals b
+AreGoals (Choose a b c) = (AreGoals a × AreGoals b) × AreGoals c

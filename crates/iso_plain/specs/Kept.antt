@@ -6,12 +6,12 @@ use Rattle.iso_model.specs.Terms.TermOf.{term_of}
 use Rattle.iso_model.specs.Terms.Variables.{occurs, variable_count}
 use Rattle.iso_model.specs.Terms.Substitutions.{Subst, apply}
 use Rattle.iso_model.specs.Terms.Copies.{place_of, copy_from}
-use Rattle.iso_model.specs.Search.Bodies.{Body, Run, And, two, converted}
+use Rattle.iso_model.specs.Search.Bodies.{Body, Cut, Run, And, Or, If, Choose, two, converted}
 use Rattle.iso_model.specs.Search.Databases as databases
 use Rattle.iso_model.specs.Search.Databases.{Key, key_of}
 use Rattle.iso_model.specs.Search.BuiltIns.{is_built_in}
 use Rattle.iso_model.specs.Search.Errors.{type_error_callable, permission_error}
-use Rattle.iso_model.specs.Search.Additions.{head_of, body_of, most_variables, consult_key, Check, Fits, Faulty, checked, checked_head, fault_error, clause_of}
+use Rattle.iso_model.specs.Search.Additions.{head_of, body_of, most_variables, consult_key, Check, Fits, Faulty, checked, prepared_head, fault_error, clause_of}
 use Rattle.iso_model.specs.declared.terms.Term.{Term}
 use Rattle.iso_model.specs.declared.pauses.AddFault.{AddFault}
 use Rattle.iso_model.specs.declared.pauses.AddFault.TheVariants as add
@@ -40,8 +40,12 @@ pub record IsTemplate (n : ℕ) (t : Tree) : Type 0 where
 
 -- each goal of the body is one
 abbrev pub AreTemplates : ℕ → Body → Type 0
+AreTemplates n Cut = Unit {0}
 AreTemplates n (Run t) = IsTemplate n t
 AreTemplates n (And a b) = AreTemplates n a × AreTemplates n b
+AreTemplates n (Or a b) = AreTemplates n a × AreTemplates n b
+AreTemplates n (If a b) = AreTemplates n a × AreTemplates n b
+AreTemplates n (Choose a b c) = (AreTemplates n a × AreTemplates n b) × AreTemplates n c
 
 -- The engine keeps the clause of the database so.
 pub record IsClause (kept : Clause) (c : databases.Clause) : Type 0 where
@@ -77,7 +81,7 @@ IsRefused (Faulty fault) error = fault_error consult_key fault ≡ error
 
 -- The head is not callable, and the clause is refused.
 abbrev pub RefusesHead : Tree → AddFault → Type 0
-RefusesHead head (add.Refused ball) = (t : Tree) → IsRefused (checked_head t head (key_of head)) (term_of ball.term)
+RefusesHead head (add.Refused ball) = (t : Tree) → IsRefused (prepared_head t head (key_of head)) (term_of ball.term)
 RefusesHead head add.NoMemory = Unit {0}
 
 -- The head is that of no built-in, or the clause is refused.

@@ -4,11 +4,13 @@ use Rattle.std.specs.List.{slice_get}
 use Rattle.iso_model.specs.Terms.Trees.{Tree, Variable}
 use Rattle.iso_model.specs.Terms.Variables.{variables}
 use Rattle.iso_model.specs.Terms.Substitutions.{Subst}
-use Rattle.iso_model.specs.Search.Bodies.{Body, Run, And}
+use Rattle.iso_model.specs.Search.Bodies.{Body, Cut, Run}
 use Rattle.iso_model.specs.Search.Databases.{Clause}
 use Rattle.iso_model.specs.Search.Walker.{State, Member, Goal, Fail, Raise, Alternative, Clauses, idle}
 use Rattle.iso_store.specs.Presents.{Present, meaning}
 use Rattle.iso_plain.specs.Callable.{IsGoal}
+use Rattle.iso_plain.specs.Nodes.{IsPair}
+use Rattle.iso_plain.specs.declared.bodies.Construct.{Construct}
 use Rattle.iso_plain.specs.declared.bodies.Node.{Node}
 use Rattle.iso_plain.specs.declared.bodies.Node.TheVariants as node
 use Rattle.iso_plain.specs.declared.parts.Frame.{Frame}
@@ -33,8 +35,9 @@ pub record Links (W : Type 0) : Type 0 where
 -- The node at this place is this body's, each goal of which can be run.
 pub data IsBody {W : Type 0} (p : Present W) (nodes : List (Node W)) : ℕ → Body → Type 0 where
   runs : {i : ℕ} {w : W} {t : Tree} → At nodes i (node.Run w) → p.holds w ≡ true → t ≡ p.term w → IsGoal t → IsBody p nodes i (Run t)
-  joins : {i j k distance : ℕ} {a b : Body} → At nodes k (node.And distance) → k ≡ i + distance → k ≡ j + 1 → 0 < distance → IsBody p nodes i a → IsBody p nodes j b
-      → IsBody p nodes k (And a b)
+  cuts : {i : ℕ} → At nodes i node.Cut → IsBody p nodes i Cut
+  joins : {i j k distance : ℕ} {construct : Construct} {a b c : Body} → At nodes k (node.Pair construct distance) → k ≡ i + distance → k ≡ j + 1 → 0 < distance → IsPair construct a b c
+      → IsBody p nodes i a → IsBody p nodes j b → IsBody p nodes k c
 
 -- The frames from this place on are these members.
 pub data Chain {W : Type 0} (p : Present W) (links : Links W) : Option ℕ → List Member → Type 0 where

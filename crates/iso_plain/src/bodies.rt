@@ -1,22 +1,37 @@
 //! Bodies of clauses and goals of queries, converted (7.6.2).
-ghost use Rattle.std.specs.Prelude.{◌≡◌, ◌+◌, ◌++◌, ◌∷◌, [], IfOk, OnOk, OnErr, codes, length};
+ghost use Rattle.std.specs.Prelude.{◌≡◌, ◌+◌, ◌-◌, ◌≤◌, ◌++◌, ◌∷◌, [], IfOk, OnOk, OnErr, codes, length};
 ghost use Rattle.iso_model.specs.Terms.Trees.{Variable};
 ghost use Rattle.iso_model.specs.Terms.TermOf.{term_of};
 ghost use Rattle.iso_model.specs.Search.Bodies.{one, converted};
 ghost use Rattle.iso_plain.specs.declared.bodies.BodyFault.TheVariants.{NoMemory};
-ghost use Rattle.iso_plain.specs.declared.bodies.Node as node;
-ghost use Rattle.iso_plain.specs.Nodes.{trees_of, map_node, AppendsBody};
+ghost use Rattle.iso_plain.specs.declared.bodies.Node.TheVariants as node;
+ghost use Rattle.iso_plain.specs.Nodes.{named_construct, ends_if, behind, trees_of, map_node, AppendsBody};
 
 use iso_model::{Term, copied};
 use std::alloc::{AllocError, AllocFailed, Global};
+
+/// How two bodies are put together (7.8.5 to 7.8.8).
+#[derive(Clone, Copy, Debug, PartialEq, Eq)]
+pub enum Construct {
+    /// `A, B`.
+    And,
+    /// `A ; B`, where A is no if-then.
+    Or,
+    /// `C -> T`.
+    If,
+    /// `C -> T ; E`, of `C -> T` and `E`.
+    Choose,
+}
 
 /// A part of a converted body, over goals of this type. Its own parts come before it, the last one right before it.
 #[derive(Clone, Copy, Drop)]
 pub enum Node<G> {
     /// A goal.
     Run(G),
-    /// A conjunction: its second body ends right before it, its first one so many places before it.
-    And(usize),
+    /// `!` (7.8.4).
+    Cut,
+    /// Two bodies put together: the second one ends right before it, the first one so many places before it.
+    Pair(Construct, usize),
 }
 
 /// Why a body was not converted.
@@ -62,6 +77,51 @@ fn push_part(parts: &mut Vec<Node<Term>>, part: Node<Term>) -> Result<(), BodyFa
     Ok(())
 }
 
+/// The construct that a compound of this name and two arguments is converted through, where it is one.
+fn construct_of(name: &str) -> Option<Construct>
+    ensures { result ≡ named_construct name.now }
+{
+    match name {
+        "," => Some(Construct::And),
+        ";" => Some(Construct::Or),
+        "->" => Some(Construct::If),
+        _ => None,
+    }
+}
+
+/// Whether the last of the parts is an if-then's.
+fn ends_with_if(parts: &[Node<Term>]) -> bool
+    ensures { result ≡ ends_if parts.now }
+{
+    matches!(parts.last(), Some(Node::Pair(Construct::If, _)))
+}
+
+/// The construct of the pair whose first body these parts end with: a disjunction behind an if-then is an if-then-else.
+fn construct_behind(construct: Construct, parts: &[Node<Term>]) -> Construct
+    ensures { result ≡ behind construct parts.now }
+{
+    match construct {
+        Construct::And | Construct::If => construct,
+        Construct::Or | Construct::Choose if ends_with_if(parts) => Construct::Choose,
+        Construct::Or | Construct::Choose => Construct::Or,
+    }
+}
+
+/// Appends the pair's own part, where its second body's parts are those from this place on.
+fn push_pair(
+    parts: &mut Vec<Node<Term>>,
+    construct: Construct,
+    between: usize,
+) -> Result<(), BodyFault>
+    requires { between ≤ length parts.old.items }
+    ensures ok { OnOk result (trees_of parts.new.items
+        ≡ trees_of parts.old.items ++ node.Pair construct (length parts.old.items - between + 1) ∷ []) }
+    ensures err { OnErr result (result ≡ Err NoMemory) }
+{
+    let distance = parts.len() - between + 1;
+    push_part(parts, Node::Pair(construct, distance))
+}
+
 /// Appends the parts of the converted body, its own last; a variable `X` becomes `call(X)`. The errors: a part is a number, or
 /// memory was refused; some of the parts may have been appended then.
 pub fn append_body(alloc: Global, body: &Term, parts: &mut Vec<Node<Term>>) -> Result<(), BodyFault>
@@ -70,14 +130,18 @@ pub fn append_body(alloc: Global, body: &Term, parts: &mut Vec<Node<Term>>) -> R
     match body {
         Term::Int(_) => Err(BodyFault::NotCallable),
         Term::Var(number) => push_part(parts, Node::Run(call_of(alloc, *number)?)),
+        Term::Atom(name) if name.as_str() == "!" => push_part(parts, Node::Cut),
         Term::Atom(_) => push_part(parts, Node::Run(copied(alloc, body)?)),
-        Term::Compound(name, arguments) => match arguments.as_slice() {
-            [first, second] if name.as_str() == "," => {
+        Term::Compound(name, arguments) => match (
+            construct_of(name.as_str()),
+            arguments.as_slice(),
+        ) {
+            (Some(construct), [first, second]) => {
                 append_body(alloc, first, parts)?;
                 let between = parts.len();
+                let construct = construct_behind(construct, parts.as_slice());
                 append_body(alloc, second, parts)?;
-                let distance = parts.len() - between + 1;
-                push_part(parts, Node::And(distance))
+                push_pair(parts, construct, between)
             }
             _ => push_part(parts, Node::Run(copied(alloc, body)?)),
         },

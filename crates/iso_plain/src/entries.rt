@@ -70,7 +70,8 @@ fn copied_part<S: Store>(
 {
     match part {
         Node::Run(goal) => Ok(Node::Run(instantiate(store, goal, variables)?)),
-        Node::And(distance) => Ok(Node::And(*distance)),
+        Node::Cut => Ok(Node::Cut),
+        Node::Pair(construct, distance) => Ok(Node::Pair(*construct, *distance)),
     }
 }
 

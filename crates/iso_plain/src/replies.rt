@@ -25,6 +25,7 @@ pub fn reply<S: Store>(store: &mut S, built_in: BuiltIn, goal: S::Word) -> Resul
             let right = store.arg(goal, 1);
             store.unify(left, right)
         }
+        BuiltIn::Call | BuiltIn::Once | BuiltIn::Not | BuiltIn::Repeat => unreachable!(),
         BuiltIn::Differ => {
             let left = store.arg(goal, 0);
             let right = store.arg(goal, 1);

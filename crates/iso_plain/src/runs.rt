@@ -5,9 +5,10 @@ ghost use Rattle.iso_model.specs.Terms.Trees.{Tree};
 ghost use Rattle.iso_model.specs.Search.Databases as databases;
 ghost use Rattle.iso_model.specs.Search.Walker.{State, Member, tried, with_others};
 ghost use Rattle.iso_model.specs.Search.Runs.{ComesOver};
+ghost use Rattle.iso_plain.specs.declared.bodies.Construct.TheVariants as construct;
 ghost use Rattle.iso_plain.specs.declared.bodies.Node.TheVariants as node;
 
-use super::bodies::Node;
+use super::bodies::{Construct, Node};
 use super::calls::Called;
 use super::parts::{Attempt, Frame, Now, replied};
 use super::plain::{Move, Plain};
@@ -35,7 +36,9 @@ impl<S: Store + Drop> Plain<S> {
     {
         match self.nodes[frame.body] {
             Node::Run(goal) => self.run_goal(frame, goal),
-            Node::And(distance) => self.take_apart(frame, distance),
+            Node::Pair(Construct::And, distance) => self.take_apart(frame, distance),
+            Node::Pair(Construct::Or | Construct::If | Construct::Choose, _) => unreachable!(),
+            Node::Cut => unreachable!(),
         }
     }
 
@@ -44,7 +47,7 @@ impl<S: Store + Drop> Plain<S> {
     fn take_apart(&mut self, frame: Frame, distance: usize) -> Result<Move, StoreFault>
         requires now { self.old.now ≡ now.Running frame }
         requires stands { (s : State) × Represents S.present S.stands S.older self.old s }
-        requires node { slice_get self.old.nodes.items frame.body ≡ Some (node.And distance) }
+        requires node { slice_get self.old.nodes.items frame.body ≡ Some (node.Pair construct.And distance) }
         ensures moves { (s : State) → Represents S.present S.stands S.older self.old s
             → IfOk result (λ m. Moves S.present S.stands S.older m s self.new) }
         ensures stopped { (s : State) → Represents S.present S.stands S.older self.old s → OnErr result (Stopped S.present S.stands S.older self.new s) }

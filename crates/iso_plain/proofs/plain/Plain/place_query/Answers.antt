@@ -6,7 +6,6 @@ use Rattle.iso_model.proofs.OnTerms.CopyLemmas.{length-numbers_from}
 use Rattle.iso_model.proofs.OnTerms.MeaningLemmas.{meaning_is_term}
 use Rattle.iso_model.specs.Search.Walker.{started, shown_query}
 use Rattle.iso_model.specs.Search.Bodies.{converted}
-use Rattle.iso_model.specs.Search.RunLaws.SameSteps.{same_itself}
 use Rattle.iso_plain.specs.Nodes.{layout, trees_of}
 use Rattle.iso_plain.specs.Standing.{AreVariables, IsBody, none_kept, ends}
 use Rattle.iso_plain.specs.Entering.{AreNodes, renamed_nodes}
@@ -15,7 +14,7 @@ use Rattle.iso_plain.proofs.StandingLemmas.{variables_more}
 use Rattle.iso_plain.proofs.EnteringLemmas.{variables_length, adds_none, copies_some}
 use Rattle.iso_plain.proofs.NodeLemmas.{layout_fits, layout_some, length-renamed, nodes_not_renamed, templates_goals, body_at}
 use Rattle.iso_plain.proofs.PrepareLemmas.{body_templates}
-use Rattle.iso_plain.proofs.StartLemmas.{numbered_below, opening_body, query_variables}
+use Rattle.iso_plain.proofs.StartLemmas.{same_fresh, numbered_below, opening_body, query_variables}
 use Rattle.iso_plain.proofs.plain.Plain.place_query.Goals as goal
 
 pub copy_parts-requires-clause-fits : goal.copy_parts-requires-clause-fits
@@ -78,7 +77,7 @@ returns-clause-started g c = λ w fresh.
     let place : at.place ≡ c.len.result - 1 = (let end = at.end in let l = ap length copies.are in let n = length-append old copies.more in omega (arith, end, l, n, len)) in
     record {
       own = s;
-      same = same_itself s;
+      same = same_fresh s refl refl;
       engine = record {
         world = record { procedures_are = fresh.world.procedures_are; operators_are = fresh.world.operators_are; flags_are = fresh.world.flags_are };
         steps = refl;

@@ -3,10 +3,9 @@ use Rattle.std.specs.Prelude.{codes}
 use Rattle.iso_model.specs.Terms.TermOf.{term_of}
 use Rattle.iso_model.specs.Search.Errors.{key, type_error_callable}
 use Rattle.iso_model.specs.Search.Walker.{started}
-use Rattle.iso_model.specs.Search.RunLaws.SameSteps.{same_itself}
 use Rattle.iso_plain.specs.Standing.{none_kept}
 use Rattle.iso_plain.proofs.StoppedLemmas.{behind_error, keeps_none}
-use Rattle.iso_plain.proofs.StartLemmas.{opening_error}
+use Rattle.iso_plain.proofs.StartLemmas.{same_fresh, opening_error}
 use Rattle.iso_plain.proofs.plain.Plain.raise_query.Goals as goal
 
 pub returns-clause-started : goal.returns-clause-started
@@ -17,7 +16,7 @@ returns-clause-started g c = λ w fresh.
     let s = started goal c.args.self.now.steps w in
     record {
       own = s;
-      same = same_itself s;
+      same = same_fresh s refl refl;
       engine = record {
         world = record { procedures_are = fresh.world.procedures_are; operators_are = fresh.world.operators_are; flags_are = fresh.world.flags_are };
         steps = refl;
