@@ -1,0 +1,3 @@
+pub mod Classes
+pub mod Preparations
+pub mod Connectives

@@ -1,0 +1,9 @@
+//! Clauses and goals made ready once, before they are run: checked and converted, with their variables numbered (7.6).
+#![tactic(auto)]
+
+pub mod classes;
+mod connectives;
+pub mod fault;
+
+pub use classes::Class;
+pub use fault::Fault;
