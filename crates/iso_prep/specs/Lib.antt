@@ -1,3 +1,5 @@
 pub mod Classes
 pub mod Preparations
 pub mod Connectives
+pub mod Conversions
+pub mod Loads

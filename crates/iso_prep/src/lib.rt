@@ -1,8 +1,10 @@
 //! Clauses and goals made ready once, before they are run: checked and converted, with their variables numbered (7.6).
 #![tactic(auto)]
 
+mod callable;
 pub mod classes;
 mod connectives;
+mod copies;
 pub mod fault;
 
 pub use classes::Class;
