@@ -3,3 +3,4 @@ pub mod ConnectiveLemmas
 pub mod PlaceLemmas
 pub mod ConversionLemmas
 pub mod CopyLemmas
+pub mod PrepareLemmas

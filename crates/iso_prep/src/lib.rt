@@ -6,6 +6,8 @@ pub mod classes;
 mod connectives;
 mod copies;
 pub mod fault;
+mod prepared;
 
 pub use classes::Class;
 pub use fault::Fault;
+pub use prepared::{Prepared, prepare, prepare_goal};
