@@ -24,12 +24,12 @@ named_by_text f k e =
     elim (cases_Bool (bytes_eq f (codes ","))) [
       | inl comma ↦ (let d : Some And ≡ Some k = rw comma at e in let same : And ≡ k = cc in is_text f (codes ",") comma ∙ ap text_of same)
       | inr no_comma ↦ elim (cases_Bool (bytes_eq f (codes ";"))) [
-          | inl bar ↦ (let d : Some Or ≡ Some k = rw (no_comma, bar) at e in let same : Or ≡ k = cc in is_text f (codes ";") bar ∙ ap text_of same)
-          | inr no_bar ↦ elim (cases_Bool (bytes_eq f (codes "->"))) [
-              | inl arrow ↦ (let d : Some If ≡ Some k = rw (no_comma, no_bar, arrow) at e in let same : If ≡ k = cc in is_text f (codes "->") arrow ∙ ap text_of same)
-              | inr other ↦ (let d : None ≡ Some k = rw (no_comma, no_bar, other) at e in cc)
-            ]
+        | inl bar ↦ (let d : Some Or ≡ Some k = rw (no_comma, bar) at e in let same : Or ≡ k = cc in is_text f (codes ";") bar ∙ ap text_of same)
+        | inr no_bar ↦ elim (cases_Bool (bytes_eq f (codes "->"))) [
+          | inl arrow ↦ (let d : Some If ≡ Some k = rw (no_comma, no_bar, arrow) at e in let same : If ≡ k = cc in is_text f (codes "->") arrow ∙ ap text_of same)
+          | inr other ↦ (let d : None ≡ Some k = rw (no_comma, no_bar, other) at e in cc)
         ]
+      ]
     ]
 
 -- a list of two items, by what is read of it
@@ -49,10 +49,6 @@ control_of_others f [] h = refl
 control_of_others f (a ∷ []) h = refl
 control_of_others f (a ∷ b ∷ []) h = absurd (h refl)
 control_of_others f (a ∷ b ∷ c ∷ ts) h = refl
-
-
-
-
 
 pub no_control : (t : Term) (f : String Global) (v : Vec Term Global) → t ≡ Compound f v → (length v.items ≡ 2 → ⊥) → control_of (term_of t) ≡ None
 no_control t f v is other = ap control_of (ap term_of is ∙ term_of_compound f v) ∙ control_of_others (string_bytes f) (map term_of v.items) (λ e. other (sym (length-map v.items term_of) ∙ e))

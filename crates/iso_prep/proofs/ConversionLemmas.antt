@@ -98,12 +98,12 @@ converted_by_connective f a b =
     elim (cases_Bool (bytes_eq f (codes ","))) [
       | inl comma ↦ rw comma refl
       | inr no_comma ↦ elim (cases_Bool (bytes_eq f (codes ";"))) [
-          | inl bar ↦ rw (no_comma, bar) refl
-          | inr no_bar ↦ elim (cases_Bool (bytes_eq f (codes "->"))) [
-              | inl arrow ↦ rw (no_comma, no_bar, arrow) refl
-              | inr other ↦ rw (no_comma, no_bar, other) refl
-            ]
+        | inl bar ↦ rw (no_comma, bar) refl
+        | inr no_bar ↦ elim (cases_Bool (bytes_eq f (codes "->"))) [
+          | inl arrow ↦ rw (no_comma, no_bar, arrow) refl
+          | inr other ↦ rw (no_comma, no_bar, other) refl
         ]
+      ]
     ]
 
 -- a joined body's parts were converted
@@ -186,7 +186,7 @@ callable_numbered vs (Name a) = refl
 callable_numbered vs (Apply f (More a (More b End))) =
     ap is_some (converted_by_connective f (apply (numbers vs) a) (apply (numbers vs) b))
     ∙ callable_by_connective (connective_of f) (converted (apply (numbers vs) a)) (converted (apply (numbers vs) b)) (converted a) (converted b) (two f (apply (numbers vs) a) (apply (numbers vs) b)) (two f a b)
-      (callable_numbered vs a) (callable_numbered vs b)
+    (callable_numbered vs a) (callable_numbered vs b)
     ∙ sym (ap is_some (converted_by_connective f a b))
 callable_numbered vs (Apply f t) = refl
 callable_numbered vs End = refl

@@ -1,8 +1,8 @@
 -- A clause that was taken apart, checked and put together again is the one that the definitions prepare.
-use Rattle.std.proofs.Common.{◌≡◌, ℕ, ◌<◌, ◌≤◌, List, [], ◌∷◌, length, map, refl, sym, ap, ap₂, ◌∙◌, arith, Bool, true, false, inl, inr, Option, Some, None, is_some, option_map, codes, String, Vec, Global, Result, Ok, Err}
+use Rattle.std.proofs.Common.{◌≡◌, ℕ, ◌<◌, ◌≤◌, List, [], ◌∷◌, length, map, refl, sym, ap, ap₂, ◌∙◌, arith, Bool, true, false, inl, inr, Option, Some, None, is_some, option_map, codes, String, Vec, Global, Result, Ok, Err, IsErrAnd, nat_lt}
 use Rattle.std.specs.String.{string_bytes}
 use Rattle.std.specs.Str.{bytes_eq}
-use Rattle.std.proofs.lemmas.Bool.{cases_Bool, false≢true, true≢false}
+use Rattle.std.proofs.lemmas.Bool.{cases_Bool, false≢true, true≢false, lt-ltb, ltb-true}
 use Rattle.std.proofs.lemmas.List.{length-map}
 use Rattle.iso_model.specs.declared.terms.Term.{Term}
 use Rattle.iso_model.specs.declared.terms.Term.TheVariants.{Compound}
@@ -77,6 +77,16 @@ module _ (vs : List ℕ) (t u : Tree) (can : is_callable t ≡ true) (is : u ≡
 pub term_of_body : (t : Tree) → IsConverted t → t ≡ body_term (body_from (converted t))
 term_of_body t h = sym (ap (λ o. body_term (body_from o)) h.is ∙ h.same)
 
+abbrev preparation : Option Tree → Body → ℕ → Preparation
+preparation h b n = record { head = h; body = b; variables = n }
+
+not_more : (m n : ℕ) → n ≤ m → nat_lt m n ≡ false
+not_more m n few =
+    elim (cases_Bool (nat_lt m n)) [
+      | inr less ↦ less
+      | inl more ↦ (let above = ltb-true m n more in absurd (omega arith))
+    ]
+
 -- ---- the checks of a clause
 
 head_found : (t h : Tree) (k : Option Key) → key_of h ≡ k → is_some k ≡ true → (j : Key) × (prepared_head t h k ≡ prepared_body t j (converted (body_of (copy_from t 0))))
@@ -94,3 +104,55 @@ module _ (t : Tree) (key : is_some (key_of (head_of t)) ≡ true) where
   prepared_by_body =
       let p = head_found t (head_of t) (key_of (head_of t)) refl key in
       (p.0, p.1 ∙ ap (λ u. prepared_body t p.0 (converted u)) (body_numbered (variables t) t))
+
+  -- and the body can't be converted
+  module _ (bd : Tree) (same : bd ≡ body_of t) where
+    pub refused_body : (e : Fault) (r : Result Preparation Fault) → IsErrAnd r (λ x. x ≡ e) → ChecksBody bd (Err e) → PreparesClause (λ p. p) t (prepared t) r
+    refused_body e (Ok p) is h = absurd is
+    refused_body (fault.Callable culprit) (Err x) is h =
+        let p = prepared_by_body in
+        let none : converted (apply (numbers (variables t)) (body_of t)) ≡ None = no_body (apply (numbers (variables t)) (body_of t)) (callable_numbered (variables t) (body_of t) ∙ ap is_callable (sym same) ∙ h.0) in
+        rw (is, p.1, none) (h.1 ∙ same)
+    refused_body fault.NoMemory (Err x) is h = rw is tt
+    refused_body fault.Instantiation (Err x) is h = absurd h
+    refused_body fault.TooManyVariables (Err x) is h = absurd h
+
+    -- and it can
+    module _ (can : is_callable bd ≡ true) where
+      body_found : (b : Body) × (converted (apply (numbers (variables t)) (body_of t)) ≡ Some b)
+      body_found = some_body (apply (numbers (variables t)) (body_of t)) (callable_numbered (variables t) (body_of t) ∙ ap is_callable (sym same) ∙ can)
+
+      pub refused_large : most_variables < variable_count t → PreparesClause (λ p. p) t (prepared t) (Err fault.TooManyVariables)
+      refused_large many =
+          let p = prepared_by_body in
+          let b = body_found in
+          rw (p.1, b.1, lt-ltb most_variables (variable_count t) many) tt
+
+      pub fits : (p : Preparation) → variable_count t ≤ most_variables → p ≡ assembly (variables t) (Some (head_of t)) bd → PreparesClause (λ p. p) t (prepared t) (Ok p)
+      fits p few is =
+          let q = prepared_by_body in
+          let b = body_found in
+          rw (q.1, b.1, not_more most_variables (variable_count t) few) (is ∙ ap₂ (λ h c. preparation h (body_from c) (variable_count t)) (ap Some (sym (head_numbered (variables t) t))) (ap (λ u. converted (apply (numbers (variables t)) u)) same ∙ b.1))
+
+-- ---- the checks of a goal
+
+pub refused_goal : (t : Tree) (e : Fault) (r : Result Preparation Fault) → IsErrAnd r (λ x. x ≡ e) → ChecksBody t (Err e) → PreparesGoal (λ p. p) t (converted (copy_from t 0)) r
+refused_goal t e (Ok p) is h = absurd is
+refused_goal t (fault.Callable culprit) (Err x) is h =
+    let none : converted (apply (numbers (variables t)) t) ≡ None = no_body (apply (numbers (variables t)) t) (callable_numbered (variables t) t ∙ h.0) in
+    rw (is, none) h.1
+refused_goal t fault.NoMemory (Err x) is h = rw is tt
+refused_goal t fault.Instantiation (Err x) is h = absurd h
+refused_goal t fault.TooManyVariables (Err x) is h = absurd h
+
+pub goal_fits : (t : Tree) (p : Preparation) → is_callable t ≡ true → p ≡ assembly (variables t) None t → PreparesGoal (λ p. p) t (converted (copy_from t 0)) (Ok p)
+goal_fits t p can is =
+    let b = some_body (apply (numbers (variables t)) t) (callable_numbered (variables t) t ∙ can) in
+    rw b.1 (is ∙ ap (λ c. preparation None (body_from c) (variable_count t)) b.1)
+
+-- ---- what is put together
+
+pub assembled_is : (vs : List ℕ) (t u : Tree) (can : is_callable t ≡ true) (is : u ≡ with_calls (apply (numbers vs) t)) (h k : Option Tree) (n : ℕ) → h ≡ option_map (apply (numbers vs)) k → n ≡ length vs
+    → preparation_of h u n ≡ assembly vs k t
+assembled_is vs t u can is h k n head count =
+    ap (λ c. preparation h (body_from c) n) (converted_again vs t u can is) ∙ ap₂ (λ g m. preparation g (body_from (converted (apply (numbers vs) t))) m) head count

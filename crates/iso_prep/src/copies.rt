@@ -179,11 +179,7 @@ pub fn numbered(alloc: Global, variables: &Numbering, term: &Term) -> Result<Ter
 }
 
 /// The same of a body, with `call(X)` for each variable `X` that is a goal. The error is that memory was refused.
-pub fn numbered_body(
-    alloc: Global,
-    variables: &Numbering,
-    body: &Term,
-) -> Result<Term, AllocError>
+pub fn numbered_body(alloc: Global, variables: &Numbering, body: &Term) -> Result<Term, AllocError>
     ensures { IfOk result (λ copy. term_of copy ≡ with_calls (apply (numbers variables.now) (term_of body.now))) }
 {
     let mut tasks = Vec::new(alloc);

@@ -2,6 +2,7 @@
 ghost use Rattle.std.specs.Prelude.{◌≡◌, true, length, Some, None, option_map, IfOk, MatchOption};
 ghost use Rattle.iso_model.specs.Terms.TermOf.{term_of};
 ghost use Rattle.iso_model.specs.Terms.Substitutions.{apply};
+ghost use Rattle.iso_model.specs.Terms.Variables.{variables};
 ghost use Rattle.iso_model.specs.Terms.Copies.{copy_from};
 ghost use Rattle.iso_model.specs.Search.Bodies.{converted, body_term};
 ghost use Rattle.iso_model.specs.Search.Additions as additions;
@@ -33,7 +34,6 @@ impl Model for Prepared {
     ghost use Rattle.iso_prep.specs.Preparations.{Preparation};
     ghost use Rattle.iso_prep.specs.Conversions.{IsConverted};
     ghost use Rattle.iso_prep.specs.Assembling.{preparation_of};
-
     ghost use Rattle.iso_prep.specs.Codes.{coded_preparation};
 
     ghost Value = { Preparation };
@@ -116,6 +116,29 @@ fn body_of(alloc: Global, variables: &Numbering, body: Option<&Term>) -> Result<
     }
 }
 
+/// The variables of the term by first occurrence.
+fn variables_of(alloc: Global, term: &Term) -> Result<Numbering, AllocError>
+    ensures { IfOk result (λ numbering. numbering ≡ variables (term_of term.now)) }
+{
+    let mut numbering = Numbering::new(alloc);
+    numbering.note_all(alloc, term)?;
+    Ok(numbering)
+}
+
+/// The head with its variables numbered, where there is one.
+fn numbered_head(
+    alloc: Global,
+    variables: &Numbering,
+    head: Option<&Term>,
+) -> Result<Option<Term>, AllocError>
+    ensures { IfOk result (λ copy. option_map term_of copy ≡ option_map (apply (numbers variables.now)) (option_map (λ h. term_of h.now) head.entry)) }
+{
+    match head {
+        Some(head) => Ok(Some(numbered(alloc, variables, head)?)),
+        None => Ok(None),
+    }
+}
+
 /// The head and the body with their variables numbered and the body converted.
 fn assembled(
     alloc: Global,
@@ -126,10 +149,7 @@ fn assembled(
     requires { is_callable (given body) ≡ true }
     ensures { IfOk result (λ p. p ≡ assembly variables.now (option_map (λ h. term_of h.now) head.entry) (given body.entry)) }
 {
-    let head = match head {
-        Some(head) => Some(numbered(alloc, variables, head)?),
-        None => None,
-    };
+    let head = numbered_head(alloc, variables, head)?;
     let body = body_of(alloc, variables, body)?;
     Ok(Prepared {
         head,
@@ -146,8 +166,7 @@ pub fn prepare(alloc: Global, clause: &Term) -> Result<Prepared, Fault>
     let (head, body) = parts(clause);
     check_head(head)?;
     check_body(alloc, body)?;
-    let mut variables = Numbering::new(alloc);
-    variables.note_all(alloc, clause)?;
+    let variables = variables_of(alloc, clause)?;
     if variables.len() > MOST_VARIABLES {
         return Err(Fault::TooManyVariables);
     }
@@ -159,7 +178,6 @@ pub fn prepare_goal(alloc: Global, goal: &Term) -> Result<Prepared, Fault>
     ensures { PreparesGoal (λ p. p) (term_of goal.now) (converted (copy_from (term_of goal.now) 0)) result }
 {
     check_body(alloc, Some(goal))?;
-    let mut variables = Numbering::new(alloc);
-    variables.note_all(alloc, goal)?;
+    let variables = variables_of(alloc, goal)?;
     Ok(assembled(alloc, &variables, None, Some(goal))?)
 }
