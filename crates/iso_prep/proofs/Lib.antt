@@ -4,3 +4,5 @@ pub mod PlaceLemmas
 pub mod ConversionLemmas
 pub mod CopyLemmas
 pub mod PrepareLemmas
+pub mod TreeLemmas
+pub mod ReadingLemmas

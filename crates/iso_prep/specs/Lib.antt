@@ -5,3 +5,5 @@ pub mod Conversions
 pub mod Loads
 pub mod Assembling
 pub mod Codes
+pub mod Trees
+pub mod Readings

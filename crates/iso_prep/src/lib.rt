@@ -3,11 +3,13 @@
 
 mod callable;
 pub mod classes;
-mod connectives;
+pub mod connectives;
+pub mod constructs;
 mod copies;
 pub mod fault;
 mod prepared;
 
 pub use classes::Class;
+pub use constructs::Construct;
 pub use fault::Fault;
 pub use prepared::{Prepared, prepare, prepare_goal};
