@@ -6,3 +6,6 @@ pub mod CopyLemmas
 pub mod PrepareLemmas
 pub mod TreeLemmas
 pub mod ReadingLemmas
+pub mod GoalLemmas
+pub mod UseLemmas
+pub mod VariableUses

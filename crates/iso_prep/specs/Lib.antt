@@ -7,3 +7,4 @@ pub mod Assembling
 pub mod Codes
 pub mod Trees
 pub mod Readings
+pub mod Uses

@@ -32,7 +32,7 @@ pub enum Construct<'t> {
 
 /// What is left to do behind a part that was read.
 #[derive(Clone, Copy)]
-pub enum Task<'t> {
+enum Task<'t> {
     /// It was the first of two parts; this is the second.
     Second(Connective, &'t Term),
     /// It was the second; the first ends at this place.
@@ -60,7 +60,7 @@ fn choice(joint: Connective, first: &Term) -> Option<(&Term, &Term)>
 }
 
 /// A cut or a goal.
-fn leaf(term: &Term) -> Construct<'_>
+pub fn leaf(term: &Term) -> Construct<'_>
     ensures { control_of (term_of term.now) ≡ None → IsLeaf result (read (term_of term.now)) }
 {
     match term {

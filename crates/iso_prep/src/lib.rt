@@ -3,11 +3,13 @@
 
 mod callable;
 pub mod classes;
-pub mod connectives;
+mod connectives;
 pub mod constructs;
 mod copies;
 pub mod fault;
+mod goals;
 mod prepared;
+mod uses;
 
 pub use classes::Class;
 pub use constructs::Construct;
