@@ -9,3 +9,4 @@ pub mod ReadingLemmas
 pub mod GoalLemmas
 pub mod UseLemmas
 pub mod VariableUses
+pub mod ClassLemmas
