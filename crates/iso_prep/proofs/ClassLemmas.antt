@@ -41,9 +41,9 @@ last_some x n l (g ∷ gs) h =
       | inr other ↦ (let e : 0 < 0 + goals_with x gs = rw other at h in let f : 0 < goals_with x gs = omega arith in let k = last_some x (n + 1) l gs f in rw other (omega arith))
     ]
   where
-  kept : (k : ℕ) → goals_with x gs ≡ k → (0 < goals_with x gs → n + 1 ≤ last_from x (n + 1) n gs) → n ≤ last_from x (n + 1) n gs
-  kept zero e later = let same = last_none x (n + 1) n gs e in omega arith
-  kept (suc k) e later = let far : n + 1 ≤ last_from x (n + 1) n gs = later (omega arith) in omega arith
+    kept : (k : ℕ) → goals_with x gs ≡ k → (0 < goals_with x gs → n + 1 ≤ last_from x (n + 1) n gs) → n ≤ last_from x (n + 1) n gs
+    kept zero e later = let same = last_none x (n + 1) n gs e in omega arith
+    kept (suc k) e later = let far : n + 1 ≤ last_from x (n + 1) n gs = later (omega arith) in omega arith
 
 -- more than one goal has it exactly where its last goal is behind its first
 pub more_goals : (x n : ℕ) (gs : List Tree) → nat_lt 1 (goals_with x gs) ≡ nat_lt (first_from x n gs) (last_from x n 0 gs)
@@ -54,9 +54,9 @@ more_goals x n (g ∷ gs) =
       | inr other ↦ (let e : 0 + goals_with x gs ≡ goals_with x gs = omega arith in rw other (ap (nat_lt 1) e ∙ more_goals x (n + 1) gs))
     ]
   where
-  by_count : (k : ℕ) → goals_with x gs ≡ k → nat_lt 1 (1 + goals_with x gs) ≡ nat_lt n (last_from x (n + 1) n gs)
-  by_count zero e = let same = last_none x (n + 1) n gs e in same_test 1 (1 + goals_with x gs) n (last_from x (n + 1) n gs) (λ h. absurd (omega arith)) (λ h. omega arith)
-  by_count (suc k) e = let later = last_some x (n + 1) n gs (omega arith) in same_test 1 (1 + goals_with x gs) n (last_from x (n + 1) n gs) (λ h. omega arith) (λ h. absurd (omega arith))
+    by_count : (k : ℕ) → goals_with x gs ≡ k → nat_lt 1 (1 + goals_with x gs) ≡ nat_lt n (last_from x (n + 1) n gs)
+    by_count zero e = let same = last_none x (n + 1) n gs e in same_test 1 (1 + goals_with x gs) n (last_from x (n + 1) n gs) (λ h. absurd (omega arith)) (λ h. omega arith)
+    by_count (suc k) e = let later = last_some x (n + 1) n gs (omega arith) in same_test 1 (1 + goals_with x gs) n (last_from x (n + 1) n gs) (λ h. omega arith) (λ h. absurd (omega arith))
 
 some_goals : (x : ℕ) (gs : List Tree) → list_any (occurs x) gs ≡ nat_lt 0 (goals_with x gs)
 some_goals x [] = refl
@@ -90,7 +90,7 @@ class_by u = if nat_lt u.times 2 then Void else (if nat_lt u.first u.last || (u.
 pub class_of_use : (x : ℕ) (head : Tree) (gs : List Tree) → class_by (use_of x head gs) ≡ class_in_clause x head gs
 class_of_use x head gs =
     let few : nat_lt (min 2 (occurrences x head + occurrences x (row gs))) 2 ≡ nat_lt (occurrences x head + occurrences x (row gs)) 2 =
-        same_test (min 2 (occurrences x head + occurrences x (row gs))) 2 (occurrences x head + occurrences x (row gs)) 2 (λ h. omega arith) (λ h. omega arith) in
+    same_test (min 2 (occurrences x head + occurrences x (row gs))) 2 (occurrences x head + occurrences x (row gs)) 2 (λ h. omega arith) (λ h. omega arith) in
     let permanent : nat_lt (first_from x 1 gs) (last_goal x gs) || (occurs x head && nat_lt 1 (last_goal x gs)) ≡ is_permanent x head gs =
-        ap₂ (λ a b. a || (occurs x head && b)) (sym (more_goals x 1 gs)) (sym (behind_first x gs)) in
+    ap₂ (λ a b. a || (occurs x head && b)) (sym (more_goals x 1 gs)) (sym (behind_first x gs)) in
     ap₂ (λ a b. if a then Void else (if b then Permanent else Temporary)) few permanent

@@ -88,12 +88,11 @@ test_true b x y h e = rw h at e
 
 -- ---- what a compound of two arguments becomes
 
-by_connective : Option Connective → Option Body → Option Body → Tree → Option Body
+abbrev pub by_connective : Option Connective → Option Body → Option Body → Tree → Option Body
 by_connective (Some k) x y whole = both (join_of k) x y
 by_connective None x y whole = Some (Run whole)
 
-converted_by_connective : (f : List ℕ) (a b : Tree) → converted (two f a b) ≡ by_connective (connective_of f) (converted a) (converted b) (two f a b)
-unfolding by_connective
+pub converted_by_connective : (f : List ℕ) (a b : Tree) → converted (two f a b) ≡ by_connective (connective_of f) (converted a) (converted b) (two f a b)
 converted_by_connective f a b =
     elim (cases_Bool (bytes_eq f (codes ","))) [
       | inl comma ↦ rw comma refl
@@ -107,7 +106,7 @@ converted_by_connective f a b =
     ]
 
 -- a joined body's parts were converted
-both_parts : (join : Body → Body → Body) (x y : Option Body) (d : Body) → both join x y ≡ Some d → (a b : Body) × (x ≡ Some a) × (y ≡ Some b) × (d ≡ join a b)
+pub both_parts : (join : Body → Body → Body) (x y : Option Body) (d : Body) → both join x y ≡ Some d → (a b : Body) × (x ≡ Some a) × (y ≡ Some b) × (d ≡ join a b)
 both_parts join (Some a) (Some b) d e = let same : d ≡ join a b = cc in (a, b, refl, refl, same)
 both_parts join (Some a) None d e = cc
 both_parts join None y d e = cc
@@ -133,7 +132,6 @@ pub record Converts (d : Body) (t : Tree) : Type 0 where
 module _ (f : List ℕ) (a b : Tree) (x y : Option Body) (wa wb : Tree) (first : (c : Body) → x ≡ Some c → Converts c wa) (second : (c : Body) → y ≡ Some c → Converts c wb) where
   converts_joined : (o : Option Connective) (d : Body) → ((k : Connective) → o ≡ Some k → f ≡ text_of k) → converted (two f a b) ≡ by_connective o x y (two f a b) → by_connective o x y (two f a b) ≡ Some d
       → Converts d (joined o f wa wb (two f a b))
-  unfolding by_connective
   converts_joined None d named whole e =
       let same : Run (two f a b) ≡ d = cc in
       record { term = ap body_term (sym same); again = ap (λ c. converted (body_term c)) (sym same) ∙ whole ∙ e }
@@ -175,7 +173,6 @@ converts (More t ts) d e = cc
 -- ---- numbered variables
 
 callable_by_connective : (o : Option Connective) (x y u v : Option Body) (s t : Tree) → is_some x ≡ is_some u → is_some y ≡ is_some v → is_some (by_connective o x y s) ≡ is_some (by_connective o u v t)
-unfolding by_connective
 callable_by_connective None x y u v s t p q = refl
 callable_by_connective (Some k) x y u v s t p q = both_callable (join_of k) x y ∙ ap₂ ◌&&◌ p q ∙ sym (both_callable (join_of k) u v)
 

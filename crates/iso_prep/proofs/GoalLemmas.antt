@@ -30,7 +30,7 @@ goals_joined connective.And a b = refl
 goals_joined connective.Or a b = goals_either a b
 goals_joined connective.If a b = refl
 
-read_joint : (k : Connective) (a b : Tree) → read (two (text_of k) a b) ≡ join_of k (read a) (read b)
+pub read_joint : (k : Connective) (a b : Tree) → read (two (text_of k) a b) ≡ join_of k (read a) (read b)
 read_joint connective.And a b = refl
 read_joint connective.Or a b = refl
 read_joint connective.If a b = refl

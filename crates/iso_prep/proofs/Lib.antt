@@ -10,3 +10,5 @@ pub mod GoalLemmas
 pub mod UseLemmas
 pub mod VariableUses
 pub mod ClassLemmas
+pub mod ReadLemmas
+pub mod KeptLemmas

@@ -76,9 +76,9 @@ first_twice place f =
       | inr some ↦ rw (some, some) refl
     ]
   where
-  same_either : (b : Bool) (n : ℕ) → (if b then n else n) ≡ n
-  same_either true n = refl
-  same_either false n = refl
+    same_either : (b : Bool) (n : ℕ) → (if b then n else n) ≡ n
+    same_either true n = refl
+    same_either false n = refl
 
 use_with : ℕ → Bool → ℕ → ℕ → Use
 use_with t h f l = record { times = t; in_head = h; first = f; last = l }
@@ -94,7 +94,7 @@ again_suc (suc k) place u =
     let count : min 2 (min 2 (u.times + 1) + suc k) ≡ min 2 (u.times + suc (suc k)) = omega arith in
     again_suc k place (noted place u)
     ∙ uses_same (min 2 (min 2 (u.times + 1) + suc k)) (min 2 (u.times + suc (suc k))) ((u.in_head || place == 0) || place == 0) (u.in_head || place == 0) (kept_first place (kept_first place u.first)) (kept_first place u.first) place
-      count (or_twice u.in_head (place == 0)) (first_twice place u.first)
+    count (or_twice u.in_head (place == 0)) (first_twice place u.first)
 
 -- ---- occurrences in terms and in goals
 
@@ -175,18 +175,18 @@ module _ (x : ℕ) (head : Tree) where
         let first : first_from x 1 (gs ++ g ∷ []) ≡ first_from x 1 gs = first_push x 1 gs g (omega arith) ∙ ap (λ b. kept_first (if b then 1 + length gs else 0) (first_from x 1 gs)) none ∙ kept_none (first_from x 1 gs) in
         let last : last_goal x (gs ++ g ∷ []) ≡ last_goal x gs = last_push x 1 0 gs g ∙ ap (λ b. if b then 1 + length gs else last_from x 1 0 gs) none in
         uses_same (min 2 (occurrences x head + occurrences x (row gs))) (min 2 (occurrences x head + occurrences x (row (gs ++ g ∷ [])))) (occurs x head) (occurs x head) (first_from x 1 gs) (first_from x 1 (gs ++ g ∷ [])) (last_goal x gs)
-          count refl (sym first) ∙ ap (λ l. use_with (min 2 (occurrences x head + occurrences x (row (gs ++ g ∷ [])))) (occurs x head) (first_from x 1 (gs ++ g ∷ [])) l) (sym last)
+        count refl (sym first) ∙ ap (λ l. use_with (min 2 (occurrences x head + occurrences x (row (gs ++ g ∷ [])))) (occurs x head) (first_from x 1 (gs ++ g ∷ [])) l) (sym last)
     goal_step (suc k) e =
         let some = occurs_some x k g e in
         let here : 1 + length gs ≡ length gs + 1 = omega arith in
         let count : min 2 (min 2 (occurrences x head + occurrences x (row gs)) + suc k) ≡ min 2 (occurrences x head + occurrences x (row (gs ++ g ∷ []))) = (let all = total in omega arith) in
         let in_head : occurs x head || (length gs + 1) == 0 ≡ occurs x head = ap (λ b. occurs x head || b) (not_zero (length gs + 1) (omega arith)) ∙ or_false (occurs x head) in
         let first : first_from x 1 (gs ++ g ∷ []) ≡ kept_first (length gs + 1) (first_from x 1 gs) =
-            first_push x 1 gs g (omega arith) ∙ ap (λ b. kept_first (if b then 1 + length gs else 0) (first_from x 1 gs)) some ∙ ap (λ n. kept_first n (first_from x 1 gs)) here in
+        first_push x 1 gs g (omega arith) ∙ ap (λ b. kept_first (if b then 1 + length gs else 0) (first_from x 1 gs)) some ∙ ap (λ n. kept_first n (first_from x 1 gs)) here in
         let last : last_goal x (gs ++ g ∷ []) ≡ length gs + 1 = last_push x 1 0 gs g ∙ ap (λ b. if b then 1 + length gs else last_from x 1 0 gs) some ∙ here in
         again_suc k (length gs + 1) (use_of x head gs)
         ∙ uses_same (min 2 (min 2 (occurrences x head + occurrences x (row gs)) + suc k)) (min 2 (occurrences x head + occurrences x (row (gs ++ g ∷ [])))) (occurs x head || (length gs + 1) == 0) (occurs x head)
-          (kept_first (length gs + 1) (first_from x 1 gs)) (first_from x 1 (gs ++ g ∷ [])) (length gs + 1) count in_head (sym first)
+        (kept_first (length gs + 1) (first_from x 1 gs)) (first_from x 1 (gs ++ g ∷ [])) (length gs + 1) count in_head (sym first)
         ∙ ap (λ l. use_with (min 2 (occurrences x head + occurrences x (row (gs ++ g ∷ [])))) (occurs x head) (first_from x 1 (gs ++ g ∷ [])) l) (sym last)
 
   goals_at : (gs done : List Tree) (n : ℕ) (us : List Use) → x < length us → get_or us x unused ≡ use_of x head done → n ≡ length done + 1 → get_or (with_goals n gs us) x unused ≡ use_of x head (done ++ gs)
@@ -194,7 +194,7 @@ module _ (x : ℕ) (head : Tree) where
   goals_at (g ∷ gs) done n us h e place =
       let long = length-term n g us in
       let next : get_or (with_term n g us) x unused ≡ use_of x head (done ++ g ∷ []) =
-          at_term n g x us h ∙ ap₂ (λ m u. again (occurrences x g) m u) place e ∙ goal_step done g (occurrences x g) refl in
+      at_term n g x us h ∙ ap₂ (λ m u. again (occurrences x g) m u) place e ∙ goal_step done g (occurrences x g) refl in
       let count : n + 1 ≡ length (done ++ g ∷ []) + 1 = (let l = length-append done (g ∷ []) in omega arith) in
       goals_at gs (done ++ g ∷ []) (n + 1) (with_term n g us) (omega arith) next count ∙ ap (use_of x head) (append_assoc done (g ∷ []) gs)
 

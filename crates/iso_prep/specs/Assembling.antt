@@ -10,7 +10,10 @@ use Rattle.iso_model.specs.Search.Databases.{key_of}
 use Rattle.iso_prep.specs.declared.fault.Fault.{Fault}
 use Rattle.iso_prep.specs.declared.fault.Fault.TheVariants as fault
 use Rattle.iso_prep.specs.Preparations.{Preparation}
-use Rattle.iso_prep.specs.Conversions.{is_callable, numbers, body_from}
+use Rattle.iso_prep.specs.Conversions.{is_callable, numbers, body_from, IsConverted}
+use Rattle.iso_prep.specs.declared.uses.Use.{Use}
+use Rattle.iso_prep.specs.Classes.{goals_of}
+use Rattle.iso_prep.specs.Uses.{AreUses, head_or_end}
 
 -- the body that is given; a fact's is `true`
 abbrev pub given : Option (Bor Term) → Tree
@@ -20,6 +23,11 @@ given None = Name (codes "true")
 -- what a head, a body as a term and a number of variables are
 abbrev pub preparation_of : Option Tree → Tree → ℕ → Preparation
 preparation_of h t n = record { head = h; body = body_from (converted t); variables = n }
+
+-- The body's term is converted, and these are the uses of the variables in the head and in its goals.
+pub record KeepsUses (h : Option Tree) (t : Tree) (us : List Use) : Type 0 where
+  pub body : IsConverted t
+  pub uses : AreUses us (length us) (head_or_end h) (goals_of (body_from (converted t)))
 
 -- with the variables by their places
 abbrev pub assembly : List ℕ → Option Tree → Tree → Preparation

@@ -138,8 +138,8 @@ fn go_on<'t>(
     }
 }
 
-/// The parts of a body that is converted: the whole is the last of them. The error is that memory was refused.
-pub fn constructs(alloc: Global, body: &Term) -> Result<Vec<Construct<'_>>, AllocError>
+/// The parts of what the term is, where no part of it needs to be converted.
+pub fn parts_of(alloc: Global, body: &Term) -> Result<Vec<Construct<'_>>, AllocError>
     ensures { IfOk result (λ parts. EndsWith parts.items (read (term_of body.now))) }
 {
     let mut tasks = Vec::new(alloc);
@@ -154,4 +154,12 @@ pub fn constructs(alloc: Global, body: &Term) -> Result<Vec<Construct<'_>>, Allo
             },
         };
     }
+}
+
+/// The parts of a converted body, each part before what it is a part of, and the whole last. The error is that memory was
+/// refused.
+pub fn constructs(alloc: Global, body: &Term) -> Result<Vec<Construct<'_>>, AllocError>
+    ensures { IfOk result (λ parts. (b : Body) → converted (term_of body.now) ≡ Some b → body_term b ≡ term_of body.now → EndsWith parts.items b) }
+{
+    parts_of(alloc, body)
 }

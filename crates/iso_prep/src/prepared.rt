@@ -1,5 +1,5 @@
 //! Clauses and goals made ready (7.4, 7.6).
-ghost use Rattle.std.specs.Prelude.{◌≡◌, true, length, Some, None, option_map, IfOk, MatchOption};
+ghost use Rattle.std.specs.Prelude.{◌≡◌, ◌<◌, true, length, Some, None, option_map, IfOk, MatchOption};
 ghost use Rattle.iso_model.specs.Terms.TermOf.{term_of};
 ghost use Rattle.iso_model.specs.Terms.Substitutions.{apply};
 ghost use Rattle.iso_model.specs.Terms.Variables.{variables};
@@ -9,10 +9,18 @@ ghost use Rattle.iso_model.specs.Search.Additions as additions;
 ghost use Rattle.iso_prep.specs.Conversions.{is_callable, with_calls, numbers};
 ghost use Rattle.iso_prep.specs.Assembling.{given, assembly, ChecksHead, ChecksBody};
 ghost use Rattle.iso_prep.specs.Preparations.{PreparesClause, PreparesGoal};
+ghost use Rattle.iso_prep.specs.Classes.{class_of, goals_of, last_goal};
+ghost use Rattle.iso_prep.specs.Readings.{read};
+ghost use Rattle.iso_prep.specs.Trees.{EndsWith};
+ghost use Rattle.iso_prep.specs.Uses.{AreUses, head_or_end};
 
 use super::callable::can_be_called;
+use super::classes::Class;
+use super::constructs::{Construct, parts_of};
 use super::copies::{numbered, numbered_body};
 use super::fault::Fault;
+use super::goals::collected;
+use super::uses::{UNUSED, Use, note_goals, note_head};
 use iso_model::{Numbering, Term, copied};
 use std::alloc::{AllocError, Global};
 use std::marker::Model;
@@ -25,24 +33,23 @@ pub const MOST_VARIABLES: usize = 65_535;
 pub struct Prepared {
     head: Option<Term>,
     body: Term,
-    variables: usize,
+    uses: Vec<Use>,
 }
 
 impl Model for Prepared {
     ghost use Rattle.iso_model.specs.Terms.TermOf.{term_of};
-    ghost use Rattle.std.specs.Prelude.{option_map};
+    ghost use Rattle.std.specs.Prelude.{option_map, length};
     ghost use Rattle.iso_prep.specs.Preparations.{Preparation};
-    ghost use Rattle.iso_prep.specs.Conversions.{IsConverted};
-    ghost use Rattle.iso_prep.specs.Assembling.{preparation_of};
+    ghost use Rattle.iso_prep.specs.Assembling.{preparation_of, KeepsUses};
     ghost use Rattle.iso_prep.specs.Codes.{coded_preparation};
 
     ghost Value = { Preparation };
 
     ghost coded = { coded_preparation };
 
-    ghost view = { λ p. preparation_of (option_map term_of p.head) (term_of p.body) p.variables };
+    ghost view = { λ p. preparation_of (option_map term_of p.head) (term_of p.body) (length p.uses.items) };
 
-    ghost invariant = { λ p. IsConverted (term_of p.body) };
+    ghost invariant = { λ p. KeepsUses (option_map term_of p.head) (term_of p.body) p.uses.items };
 }
 
 impl Prepared {
@@ -64,7 +71,34 @@ impl Prepared {
     pub fn variables(&self) -> usize
         ensures { result ≡ self.now.variables }
     {
-        self.variables
+        self.uses.len()
+    }
+
+    /// The class of a variable. All those of a goal that is no clause are permanent, since their values are asked for behind it.
+    pub fn class(&self, variable: usize) -> Class
+        requires { variable < self.now.variables }
+        ensures { result ≡ class_of variable self.now.head (goals_of self.now.body) }
+    {
+        match &self.head {
+            Some(_) => self.uses[variable].class(),
+            None => Class::Permanent,
+        }
+    }
+
+    /// The number of the last goal of the body that has the variable, counted from 1; 0 where none has it.
+    pub fn last_use(&self, variable: usize) -> usize
+        requires { variable < self.now.variables }
+        ensures { result ≡ last_goal variable (goals_of self.now.body) }
+    {
+        self.uses[variable].last
+    }
+
+    /// The body as a list of its parts, each part before what it is a part of, and the whole last. The error is that memory was
+    /// refused.
+    pub fn constructs(&self, alloc: Global) -> Result<Vec<Construct<'_>>, AllocError>
+        ensures { IfOk result (λ parts. EndsWith parts.items self.now.body) }
+    {
+        parts_of(alloc, &self.body)
     }
 }
 
@@ -139,6 +173,22 @@ fn numbered_head(
     }
 }
 
+/// The uses of so many variables in the head and in the goals of the body.
+fn uses_of(
+    alloc: Global,
+    count: usize,
+    head: Option<&Term>,
+    body: &Term,
+) -> Result<Vec<Use>, AllocError>
+    ensures { IfOk result (λ uses. AreUses uses.items count (head_or_end (option_map (λ h. term_of h.now) head.entry)) (goals_of (read (term_of body.now)))) }
+{
+    let mut uses = vec![in alloc; UNUSED; count]?;
+    note_head(alloc, head, &mut uses)?;
+    let goals = collected(alloc, body)?;
+    note_goals(alloc, goals.as_slice(), &mut uses)?;
+    Ok(uses)
+}
+
 /// The head and the body with their variables numbered and the body converted.
 fn assembled(
     alloc: Global,
@@ -151,11 +201,8 @@ fn assembled(
 {
     let head = numbered_head(alloc, variables, head)?;
     let body = body_of(alloc, variables, body)?;
-    Ok(Prepared {
-        head,
-        body,
-        variables: variables.len(),
-    })
+    let uses = uses_of(alloc, variables.len(), head.as_ref(), &body)?;
+    Ok(Prepared { head, body, uses })
 }
 
 /// The clause ready to be run. The errors, in this order: its head is a variable or a number, its body can't be converted (all of

@@ -1,10 +1,10 @@
 //! How the variables of a clause are used, found in one pass through its head and its goals.
-ghost use Rattle.std.specs.Prelude.{◌≡◌, ◌+◌, ◌*◌, ◌<◌, ◌∷◌, [], vec_len, sum_by, get_or, nat_lt, ◌&&◌, ◌||◌, IfOk, OnOk, if◌then◌else◌};
+ghost use Rattle.std.specs.Prelude.{◌≡◌, ◌+◌, ◌*◌, ◌<◌, ◌∷◌, [], vec_len, sum_by, get_or, nat_lt, ◌&&◌, ◌||◌, IfOk, OnOk, if◌then◌else◌, option_map};
 ghost use Rattle.iso_model.specs.Terms.TermOf.{term_of, row_of};
 ghost use Rattle.iso_model.specs.Terms.Sizes.{size};
 ghost use Rattle.iso_model.specs.Terms.Rows.{row_load};
 ghost use Rattle.iso_prep.specs.declared.classes.Class.TheVariants.{Void, Temporary, Permanent};
-ghost use Rattle.iso_prep.specs.Uses.{noted, with_use, with_term, with_rows, with_goals, goal_terms};
+ghost use Rattle.iso_prep.specs.Uses.{noted, with_use, with_term, with_rows, with_goals, goal_terms, head_or_end};
 
 use super::classes::Class;
 use iso_model::Term;
@@ -22,6 +22,14 @@ pub struct Use {
     /// The last goal in which it occurs, counted from 1; 0 for none.
     pub last: usize,
 }
+
+/// A variable that isn't used yet.
+pub const UNUSED: Use = Use {
+    times: 0,
+    in_head: false,
+    first: 0,
+    last: 0,
+};
 
 impl Use {
     /// The use with an occurrence more, in the goal of this number; the head is 0.
@@ -51,8 +59,8 @@ impl Use {
 }
 
 /// Notes a variable in the goal of this number; one without a place is left out.
-fn note_use(place: usize, number: u64, uses: &mut [Use])
-    ensures { uses.new ≡ with_use place number uses.old }
+fn note_use(place: usize, number: u64, uses: &mut Vec<Use>)
+    ensures { uses.new.items ≡ with_use place number uses.old.items }
 {
     let number = number as usize;
     if number < uses.len() {
@@ -65,9 +73,9 @@ fn note_next<'t>(
     place: usize,
     term: &'t Term,
     rows: &mut Vec<&'t [Term]>,
-    uses: &mut [Use],
+    uses: &mut Vec<Use>,
 ) -> Result<(), AllocError>
-    ensures uses { OnOk result (with_rows place rows.new.items uses.new ≡ with_rows place rows.old.items (with_term place (term_of term.now) uses.old)) }
+    ensures uses { OnOk result (with_rows place rows.new.items uses.new.items ≡ with_rows place rows.old.items (with_term place (term_of term.now) uses.old.items)) }
     ensures load { OnOk result (sum_by row_load rows.new.items < 2 * size (term_of term.now) + sum_by row_load rows.old.items) }
 {
     match term {
@@ -88,9 +96,9 @@ fn note_row<'t>(
     place: usize,
     row: &'t [Term],
     rows: &mut Vec<&'t [Term]>,
-    uses: &mut [Use],
+    uses: &mut Vec<Use>,
 ) -> Result<(), AllocError>
-    ensures uses { OnOk result (with_rows place rows.new.items uses.new ≡ with_rows place rows.old.items (with_term place (row_of row.now) uses.old)) }
+    ensures uses { OnOk result (with_rows place rows.new.items uses.new.items ≡ with_rows place rows.old.items (with_term place (row_of row.now) uses.old.items)) }
     ensures load { OnOk result (sum_by row_load rows.new.items < 1 + 2 * size (row_of row.now) + sum_by row_load rows.old.items) }
 {
     match row {
@@ -108,9 +116,9 @@ pub fn note_term(
     alloc: Global,
     place: usize,
     term: &Term,
-    uses: &mut [Use],
+    uses: &mut Vec<Use>,
 ) -> Result<(), AllocError>
-    ensures { OnOk result (uses.new ≡ with_term place (term_of term.now) uses.old) }
+    ensures { OnOk result (uses.new.items ≡ with_term place (term_of term.now) uses.old.items) }
 {
     let mut rows = Vec::new(alloc);
     note_next(place, term, &mut rows, uses)?;
@@ -120,9 +128,19 @@ pub fn note_term(
     Ok(())
 }
 
+/// Notes each variable of the head, where there is one. The error is that memory was refused.
+pub fn note_head(alloc: Global, head: Option<&Term>, uses: &mut Vec<Use>) -> Result<(), AllocError>
+    ensures { OnOk result (uses.new.items ≡ with_term 0 (head_or_end (option_map (λ h. term_of h.now) head.entry)) uses.old.items) }
+{
+    match head {
+        Some(head) => note_term(alloc, 0, head, uses),
+        None => Ok(()),
+    }
+}
+
 /// Notes each variable of the goals, which are numbered from 1. The error is that memory was refused.
-pub fn note_goals(alloc: Global, goals: &[&Term], uses: &mut [Use]) -> Result<(), AllocError>
-    ensures { OnOk result (uses.new ≡ with_goals 1 (goal_terms goals.now) uses.old) }
+pub fn note_goals(alloc: Global, goals: &[&Term], uses: &mut Vec<Use>) -> Result<(), AllocError>
+    ensures { OnOk result (uses.new.items ≡ with_goals 1 (goal_terms goals.now) uses.old.items) }
 {
     for (index, goal) in goals.iter().enumerate() {
         note_term(alloc, index + 1, goal, uses)?;
