@@ -60,7 +60,7 @@ fn choice(joint: Connective, first: &Term) -> Option<(&Term, &Term)>
 }
 
 /// A cut or a goal.
-pub fn leaf(term: &Term) -> Construct<'_>
+pub(crate) fn leaf(term: &Term) -> Construct<'_>
     ensures { control_of (term_of term.now) ≡ None → IsLeaf result (read (term_of term.now)) }
 {
     match term {
@@ -139,7 +139,7 @@ fn go_on<'t>(
 }
 
 /// The parts of what the term is, where no part of it needs to be converted.
-pub fn parts_of(alloc: Global, body: &Term) -> Result<Vec<Construct<'_>>, AllocError>
+pub(crate) fn parts_of(alloc: Global, body: &Term) -> Result<Vec<Construct<'_>>, AllocError>
     ensures { IfOk result (λ parts. EndsWith parts.items (read (term_of body.now))) }
 {
     let mut tasks = Vec::new(alloc);

@@ -6,6 +6,8 @@ mod atoms;
 #[cfg(test)]
 mod ops;
 #[cfg(test)]
+mod prep;
+#[cfg(test)]
 mod read;
 #[cfg(test)]
 mod read_texts;
