@@ -5,7 +5,7 @@ use Rattle.iso_model.specs.Terms.TermOf.{term_of}
 use Rattle.iso_model.specs.Terms.Variables.{variable_count}
 use Rattle.iso_model.specs.Terms.Copies.{copy_from}
 use Rattle.iso_model.specs.Search.Bodies.{Body, converted}
-use Rattle.iso_model.specs.Search.Additions.{Check, Fits, Faulty, UnboundHead, NotCallable, TooManyVariables, NotUser, head_of}
+use Rattle.iso_model.specs.Search.Additions.{Check, Fits, Faulty, UnboundHead, NotCallable, TooManyVariables, head_of}
 use Rattle.iso_prep.specs.declared.fault.Fault.{Fault}
 use Rattle.iso_prep.specs.declared.fault.Fault.TheVariants as fault
 
@@ -25,18 +25,18 @@ goal_preparation t b = record { head = None; body = b; variables = variable_coun
 
 -- what preparing a clause answers, by the checks of the definitions; memory may be refused at any time
 abbrev pub PreparesClause : {P : Type 0} → (P → Preparation) → Tree → Check → Result P Fault → Type 0
+PreparesClause view t check (Err fault.NoMemory) = Unit {0}
 PreparesClause view t (Fits k b) (Ok p) = view p ≡ clause_preparation t b
 PreparesClause view t (Faulty f) (Ok p) = ⊥
 PreparesClause view t (Faulty UnboundHead) (Err fault.Instantiation) = Unit {0}
 PreparesClause view t (Faulty (NotCallable c)) (Err (fault.Callable culprit)) = term_of culprit ≡ c
 PreparesClause view t (Faulty TooManyVariables) (Err fault.TooManyVariables) = Unit {0}
-PreparesClause view t check (Err fault.NoMemory) = Unit {0}
 PreparesClause view t check (Err f) = ⊥
 
 -- what preparing a goal answers: where it can't be converted all of it is the culprit
 abbrev pub PreparesGoal : {P : Type 0} → (P → Preparation) → Tree → Option Body → Result P Fault → Type 0
+PreparesGoal view t o (Err fault.NoMemory) = Unit {0}
 PreparesGoal view t (Some b) (Ok p) = view p ≡ goal_preparation t b
 PreparesGoal view t None (Ok p) = ⊥
 PreparesGoal view t None (Err (fault.Callable culprit)) = term_of culprit ≡ t
-PreparesGoal view t o (Err fault.NoMemory) = Unit {0}
 PreparesGoal view t o (Err f) = ⊥
