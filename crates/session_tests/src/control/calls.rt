@@ -78,6 +78,12 @@ pub const ROWS: &[Row] = &[
         ..PLAIN
     },
     Row {
+        name: "an if-then that is there when call converts makes an if-then-else",
+        queries: "call(;, ( true -> X = 1 ), X = 2). C = ( true -> X = 1 ), call(( C ; X = 2 )).",
+        output: "answer 1: X = 1\nend: no more\nanswer 1: C = (true->1=1), X = 1\nend: no more\n",
+        ..PLAIN
+    },
+    Row {
         name: "arguments make a goal that can't be converted",
         queries: "call(',', fail, 1). call(;(true), 2).",
         output: "end: error error(type_error(callable,(fail,1)),call/3)\nend: error error(type_error(callable,(true;2)),call/2)\n",

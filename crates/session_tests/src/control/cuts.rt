@@ -163,6 +163,12 @@ pub const ROWS: &[Row] = &[
         ..PLAIN
     },
     Row {
+        name: "a cut within a condition, a negation, once and call leaves older alternatives",
+        queries: "( true ; true ), ( ! -> true ; true ). ( true ; true ), ( ! -> true ). ( true ; true ), \\+ \\+ ! . ( true ; true ), once(!). ( true ; true ), call(!).",
+        output: "answer 1: true\nanswer 2: true\nend: no more\nanswer 1: true\nanswer 2: true\nend: no more\nanswer 1: true\nanswer 2: true\nend: no more\nanswer 1: true\nanswer 2: true\nend: no more\nanswer 1: true\nanswer 2: true\nend: no more\n",
+        ..PLAIN
+    },
+    Row {
         name: "a cut in quotes",
         text: "a(1). a(2). a(3).\n",
         queries: "a(X), '!' .",
