@@ -8,6 +8,7 @@ mod branches;
 mod calls;
 mod clauses;
 mod cuts;
+mod language;
 mod limits;
 mod negations;
 mod steps;
@@ -33,6 +34,7 @@ const TABLES: &[&[Row]] = &[
     clauses::ROWS,
     steps::ROWS,
     limits::ROWS,
+    language::ROWS,
 ];
 
 #[test]
