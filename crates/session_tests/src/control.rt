@@ -2,6 +2,8 @@
 //! engine.
 use super::rows::Row;
 use iso_session::{Choice, session, status_of};
+use std::alloc::Global;
+use std::process::Abort;
 use std::test::Fail;
 
 mod branches;
@@ -25,36 +27,62 @@ const PLAIN: Row = Row {
     status: 0,
 };
 
-/// The tables, one of each file.
-const TABLES: &[&[Row]] = &[
-    cuts::ROWS,
-    branches::ROWS,
-    calls::ROWS,
-    negations::ROWS,
-    clauses::ROWS,
-    steps::ROWS,
-    limits::ROWS,
-    language::ROWS,
-];
-
-#[test]
-fn control_constructs_give_their_output(rt: HostRuntime) -> Result<(), Fail> {
-    for rows in TABLES {
-        for row in rows.iter() {
-            let mut out: Vec<u8> = Vec::new(rt.alloc());
-            let limits = row.limits();
-            let outcome = session(
-                rt.alloc(),
-                row.text,
-                row.queries,
-                &limits,
-                Choice::Plain,
-                &mut out,
-            );
-            let name = row.name;
-            assert_eq!(rt; out.as_slice(), row.output.as_bytes(), "{name}");
-            assert_eq!(rt; status_of(&outcome), row.status, "{name}");
-        }
+/// Runs each row of a table: its session gives the row's output and status.
+fn give_their_output(rt: &impl Abort, alloc: Global, rows: &[Row]) -> Result<(), Fail> {
+    for row in rows {
+        let mut out: Vec<u8> = Vec::new(alloc);
+        let limits = row.limits();
+        let outcome = session(
+            alloc,
+            row.text,
+            row.queries,
+            &limits,
+            Choice::Plain,
+            &mut out,
+        );
+        let name = row.name;
+        assert_eq!(rt; out.as_slice(), row.output.as_bytes(), "{name}");
+        assert_eq!(rt; status_of(&outcome), row.status, "{name}");
     }
     Ok(())
+}
+
+#[test]
+fn cuts_give_their_output(rt: HostRuntime) -> Result<(), Fail> {
+    give_their_output(&rt, rt.alloc(), cuts::ROWS)
+}
+
+#[test]
+fn branches_give_their_output(rt: HostRuntime) -> Result<(), Fail> {
+    give_their_output(&rt, rt.alloc(), branches::ROWS)
+}
+
+#[test]
+fn calls_give_their_output(rt: HostRuntime) -> Result<(), Fail> {
+    give_their_output(&rt, rt.alloc(), calls::ROWS)
+}
+
+#[test]
+fn negations_give_their_output(rt: HostRuntime) -> Result<(), Fail> {
+    give_their_output(&rt, rt.alloc(), negations::ROWS)
+}
+
+#[test]
+fn clauses_give_their_output(rt: HostRuntime) -> Result<(), Fail> {
+    give_their_output(&rt, rt.alloc(), clauses::ROWS)
+}
+
+#[test]
+fn sessions_of_counted_steps_give_their_output(rt: HostRuntime) -> Result<(), Fail> {
+    give_their_output(&rt, rt.alloc(), steps::ROWS)
+}
+
+#[test]
+fn sessions_within_small_limits_give_their_output(rt: HostRuntime) -> Result<(), Fail> {
+    give_their_output(&rt, rt.alloc(), limits::ROWS)
+}
+
+#[test]
+fn examples_of_the_language_give_their_output(rt: HostRuntime) -> Result<(), Fail> {
+    give_their_output(&rt, rt.alloc(), language::ROWS)
 }
