@@ -1,15 +1,15 @@
 -- What is left to do of a copy, as steps.
-use Rattle.std.proofs.Common.{◌≡◌, ℕ, ◌+◌, ◌-◌, ◌*◌, ◌<◌, ◌≤◌, List, [], ◌∷◌, ◌++◌, length, map, refl, ap, ap₂, sym, ◌∙◌, arith, append_assoc, String, Vec, Global, zero-add, codes}
+use Rattle.std.proofs.Common.{◌≡◌, ℕ, ◌+◌, ◌*◌, ◌<◌, List, [], ◌∷◌, ◌++◌, length, map, refl, ap, ap₂, sym, ◌∙◌, arith, append_assoc, String, Vec, Global, zero-add, codes}
 use Rattle.std.specs.Borrow.{Bor}
 use Rattle.std.specs.String.{string_bytes}
 use Rattle.std.proofs.lemmas.List.{map-append, length-map}
 use Rattle.iso_model.specs.declared.terms.Term.{Term}
 use Rattle.iso_model.specs.declared.terms.Term.TheVariants.{Compound, Var}
 use Rattle.iso_model.specs.Terms.Trees.{Tree, Apply, More, Variable, row}
-use Rattle.iso_model.specs.Terms.TermOf.{term_of, row_of}
+use Rattle.iso_model.specs.Terms.TermOf.{term_of}
 use Rattle.iso_model.specs.Terms.Sizes.{size}
 use Rattle.iso_model.specs.Terms.Substitutions.{Subst, apply}
-use Rattle.iso_model.specs.Terms.Building.{Give, Gather, with_step, with_steps, step_load, steps_load}
+use Rattle.iso_model.specs.Terms.Building.{Give, Gather, with_step, with_steps, steps_load}
 use Rattle.iso_model.proofs.OnTerms.RowLemmas.{term_of_compound}
 use Rattle.iso_model.proofs.OnTerms.BuildingLemmas.{with_gathered, with_steps-more, steps_load-more, with_steps-opened, steps_load-opened}
 use Rattle.iso_model.specs.Terms.Copies.{place_of}

@@ -1,21 +1,18 @@
 -- The goals of a body, gone through part by part.
-use Rattle.std.proofs.Common.{◌≡◌, ◌+◌, ◌<◌, List, [], ◌∷◌, ◌++◌, length, refl, sym, ap, ap₂, ◌∙◌, arith, append_assoc}
+use Rattle.std.proofs.Common.{◌≡◌, List, [], ◌∷◌, ◌++◌, refl, sym, ap, ◌∙◌, append_assoc}
 use Rattle.std.proofs.lemmas.List.{append-nil}
 use Rattle.std.specs.Borrow.{Bor}
 use Rattle.iso_model.specs.declared.terms.Term.{Term}
 use Rattle.iso_model.specs.Terms.Trees.{Tree}
 use Rattle.iso_model.specs.Terms.TermOf.{term_of}
-use Rattle.iso_model.specs.Terms.Sizes.{size}
 use Rattle.iso_model.specs.Search.Bodies as bodies
 use Rattle.iso_model.specs.Search.Bodies.{Body, Run, two, either}
 use Rattle.iso_prep.specs.declared.connectives.Connective.{Connective}
 use Rattle.iso_prep.specs.declared.connectives.Connective.TheVariants as connective
 use Rattle.iso_prep.specs.Connectives.{text_of, join_of}
 use Rattle.iso_prep.specs.Classes.{goals_of}
-use Rattle.iso_prep.specs.Loads.{terms_load}
 use Rattle.iso_prep.specs.Readings.{read}
 use Rattle.iso_prep.specs.Uses.{goals_left, goal_terms}
-use Rattle.iso_prep.proofs.ConversionLemmas.{terms_load-push}
 
 goals_either : (a b : Body) → goals_of (either a b) ≡ goals_of a ++ goals_of b
 goals_either bodies.Cut b = refl

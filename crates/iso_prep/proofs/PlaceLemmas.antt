@@ -1,6 +1,5 @@
 -- The place of a number in a list of numbers, by what a search for it finds.
-use Rattle.std.proofs.Common.{◌≡◌, ◌<◌, ◌≤◌, ◌==◌, ℕ, List, length, arith, true, false, Some, None, inl, inr, position, nat_lt}
-use Rattle.std.specs.List.{prefix_len}
+use Rattle.std.proofs.Common.{◌≡◌, ◌≤◌, ◌==◌, ℕ, List, length, arith, Some, None, inl, inr, position, nat_lt}
 use Rattle.std.proofs.lemmas.Bool.{cases_Bool, ltb-false}
 use Rattle.std.proofs.lemmas.List.Sums.{prefix_len-le-length}
 use Rattle.iso_model.specs.Terms.Copies.{place_of}

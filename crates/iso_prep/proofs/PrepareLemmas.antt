@@ -1,5 +1,5 @@
 -- A clause that was taken apart, checked and put together again is the one that the definitions prepare.
-use Rattle.std.proofs.Common.{◌≡◌, ℕ, ◌<◌, ◌≤◌, List, [], ◌∷◌, length, map, refl, sym, ap, ap₂, ◌∙◌, arith, Bool, true, false, inl, inr, Option, Some, None, is_some, option_map, codes, String, Vec, Global, Result, Ok, Err, IsErrAnd, nat_lt}
+use Rattle.std.proofs.Common.{◌≡◌, ℕ, ◌<◌, ◌≤◌, List, [], ◌∷◌, length, map, refl, sym, ap, ap₂, ◌∙◌, arith, true, false, inl, inr, Option, Some, None, is_some, option_map, codes, String, Vec, Global, Result, Ok, Err, IsErrAnd, nat_lt}
 use Rattle.std.specs.String.{string_bytes}
 use Rattle.std.specs.Str.{bytes_eq}
 use Rattle.std.proofs.lemmas.Bool.{cases_Bool, false≢true, true≢false, lt-ltb, ltb-true}
@@ -11,16 +11,16 @@ use Rattle.iso_model.specs.Terms.TermOf.{term_of}
 use Rattle.iso_model.specs.Terms.Variables.{variables, variable_count}
 use Rattle.iso_model.specs.Terms.Substitutions.{apply}
 use Rattle.iso_model.specs.Terms.Copies.{copy_from}
-use Rattle.iso_model.specs.Search.Bodies.{Body, two, converted, body_term}
+use Rattle.iso_model.specs.Search.Bodies.{Body, converted, body_term}
 use Rattle.iso_model.specs.Search.Databases.{Key, key_of}
-use Rattle.iso_model.specs.Search.Additions.{head_of, body_of, prepared, prepared_head, prepared_body, prepared_small, most_variables, Check, Fits, Faulty, UnboundHead, NotCallable, TooManyVariables}
+use Rattle.iso_model.specs.Search.Additions.{head_of, body_of, prepared, prepared_head, prepared_body, most_variables}
 use Rattle.iso_model.proofs.OnTerms.RowLemmas.{term_of_compound}
 use Rattle.iso_prep.specs.declared.fault.Fault.{Fault}
 use Rattle.iso_prep.specs.declared.fault.Fault.TheVariants as fault
 use Rattle.iso_prep.specs.Conversions.{is_callable, with_calls, numbers, body_from, IsConverted}
 use Rattle.iso_prep.specs.Preparations.{Preparation, PreparesClause, PreparesGoal}
-use Rattle.iso_prep.specs.Assembling.{assembly, preparation_of, ChecksHead, ChecksBody}
-use Rattle.iso_prep.proofs.ConversionLemmas.{Converts, converts, callable_numbered}
+use Rattle.iso_prep.specs.Assembling.{assembly, preparation_of, ChecksBody}
+use Rattle.iso_prep.proofs.ConversionLemmas.{converts, callable_numbered}
 
 -- ---- a clause in its parts
 

@@ -1,13 +1,13 @@
 -- What is read of a converted body's term is the body.
-use Rattle.std.proofs.Common.{◌≡◌, ℕ, List, refl, sym, ap, ap₂, ◌∙◌, subst, Bool, true, false, Option, Some, None, inl, inr, codes, Result, Ok, Err, IfOk}
+use Rattle.std.proofs.Common.{◌≡◌, ℕ, List, refl, sym, ap, ap₂, ◌∙◌, subst, Option, Some, None, codes, Result, Ok, Err, IfOk}
 use Rattle.iso_model.specs.Terms.Trees.{Tree, Variable, Integer, Name, Apply, End, More}
 use Rattle.iso_model.specs.Search.Bodies.{Body, Run, one, two, converted, body_term}
 use Rattle.iso_prep.specs.declared.connectives.Connective.{Connective}
-use Rattle.iso_prep.specs.Connectives.{text_of, connective_of, join_of}
+use Rattle.iso_prep.specs.Connectives.{connective_of, join_of}
 use Rattle.iso_prep.specs.declared.constructs.Construct.{Construct}
 use Rattle.iso_prep.specs.Conversions.{joined, with_calls, body_from, IsConverted}
 use Rattle.iso_prep.specs.Trees.{EndsWith}
-use Rattle.iso_prep.specs.Readings.{read, read_joined}
+use Rattle.iso_prep.specs.Readings.{read}
 use Rattle.iso_prep.proofs.ConnectiveLemmas.{named_by_text}
 use Rattle.iso_prep.proofs.ConversionLemmas.{by_connective, both_parts, converted_by_connective, converts}
 use Rattle.iso_prep.proofs.GoalLemmas.{read_joint}

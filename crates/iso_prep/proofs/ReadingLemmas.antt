@@ -2,7 +2,7 @@
 use Rattle.std.proofs.Common.{◌≡◌, ℕ, ◌+◌, ◌-◌, ◌*◌, ◌<◌, List, [], ◌∷◌, ◌++◌, length, refl, sym, ap, ap₂, ◌∙◌, subst, arith, Bool, true, false, inl, inr, Option, Some, None, codes}
 use Rattle.std.specs.Str.{bytes_eq}
 use Rattle.std.specs.Borrow.{Bor}
-use Rattle.std.proofs.lemmas.Bool.{cases_Bool, false≢true, true≢false}
+use Rattle.std.proofs.lemmas.Bool.{cases_Bool, true≢false}
 use Rattle.iso_model.specs.declared.terms.Term.{Term}
 use Rattle.iso_model.specs.Terms.Trees.{Tree, Variable, Integer, Name, Apply, End, More}
 use Rattle.iso_model.specs.Terms.TermOf.{term_of}
@@ -11,7 +11,7 @@ use Rattle.iso_model.specs.Search.Bodies as bodies
 use Rattle.iso_model.specs.Search.Bodies.{Body, Run, two, either, converted_name}
 use Rattle.iso_prep.specs.declared.connectives.Connective.{Connective}
 use Rattle.iso_prep.specs.declared.connectives.Connective.TheVariants as connective
-use Rattle.iso_prep.specs.Connectives.{text_of, connective_of, join_of, control_of}
+use Rattle.iso_prep.specs.Connectives.{text_of, connective_of, control_of}
 use Rattle.iso_prep.specs.declared.constructs.Construct.{Construct}
 use Rattle.iso_prep.specs.declared.constructs.Task.{Task}
 use Rattle.iso_prep.specs.declared.constructs.Task.TheVariants.{Second, Join, Next, Other, Choose}

@@ -1,7 +1,6 @@
 -- What variables, integers and atoms are as terms.
 use Rattle.std.proofs.Common.{◌≡◌, ℕ, ℤ, ap, sym, ◌∙◌, String, Global}
 use Rattle.std.specs.String.{string_bytes}
-use Rattle.iso_model.specs.declared.terms.Term.{Term}
 use Rattle.iso_model.specs.declared.terms.Term.TheOpen.{Term-F}
 use Rattle.iso_model.specs.declared.terms.Term.TheVariants.{Var, Int, Atom, rolls-Var, rolls-Int, rolls-Atom}
 use Rattle.iso_model.specs.declared.terms.Term.TheFolds.{fold-roll-Term}

@@ -1,13 +1,12 @@
 -- The uses of variables, gone through row by row.
-use Rattle.std.proofs.Common.{◌≡◌, ℕ, ◌+◌, ◌*◌, ◌<◌, ◌≤◌, List, [], ◌∷◌, ◌++◌, length, take, drop, get_or, refl, sym, ap, ◌∙◌, arith, String, Vec, Global}
+use Rattle.std.proofs.Common.{◌≡◌, ℕ, List, [], ◌∷◌, ◌++◌, refl, sym, ap, ◌∙◌, String, Vec, Global}
 use Rattle.std.specs.Borrow.{Bor}
 use Rattle.iso_model.specs.declared.terms.Term.{Term}
 use Rattle.iso_model.specs.declared.terms.Term.TheVariants.{Compound}
-use Rattle.iso_model.specs.Terms.Trees.{Tree}
 use Rattle.iso_model.specs.Terms.TermOf.{term_of, row_of}
 use Rattle.iso_model.proofs.OnTerms.RowLemmas.{term_of_compound}
 use Rattle.iso_prep.specs.declared.uses.Use.{Use}
-use Rattle.iso_prep.specs.Uses.{with_term, with_rows, with_goals, goal_terms}
+use Rattle.iso_prep.specs.Uses.{with_term, with_rows}
 
 rows_push : (place : ℕ) (rows : List (Bor (List Term))) (row : Bor (List Term)) (us : List Use) → with_rows place (rows ++ row ∷ []) us ≡ with_rows place rows (with_term place (row_of row.now) us)
 rows_push place [] row us = refl

@@ -1,13 +1,12 @@
 -- What is noted of each variable is how the definitions say that it is used.
-use Rattle.std.proofs.Common.{◌≡◌, ℕ, zero, suc, ◌+◌, ◌*◌, ◌<◌, ◌≤◌, min, List, [], ◌∷◌, ◌++◌, length, drop, get_or, Bool, true, false, ◌||◌, ◌&&◌, ◌==◌, nat_lt, refl, sym, ap, ap₂, ◌∙◌, arith, inl, inr, Some, replicate, if◌then◌else◌, append_assoc, length-append}
-use Rattle.std.specs.List.{slice_get, slice_set, list_any}
-use Rattle.std.proofs.lemmas.Bool.{cases_Bool, false≢true, true≢false, eqb-true, eq-eqb, lt-ltb, ltb-true, ltb-false}
+use Rattle.std.proofs.Common.{◌≡◌, ℕ, zero, suc, ◌+◌, ◌<◌, min, List, [], ◌∷◌, ◌++◌, length, get_or, Bool, true, false, ◌||◌, ◌==◌, nat_lt, refl, sym, ap, ap₂, ◌∙◌, arith, inl, inr, Some, replicate, if◌then◌else◌, append_assoc, length-append}
+use Rattle.std.proofs.lemmas.Bool.{cases_Bool, true≢false, eqb-true, eq-eqb, lt-ltb}
 use Rattle.std.proofs.lemmas.List.{length-set, get_or-set_same, get_or-set_other, get_or-replicate, append-nil, length-replicate}
 use Rattle.std.proofs.lemmas.Option.{slice_get-get_or}
 use Rattle.iso_model.specs.Terms.Trees.{Tree, Variable, Integer, Name, Apply, End, More, row}
 use Rattle.iso_model.specs.Terms.Variables.{occurs}
 use Rattle.iso_prep.specs.declared.uses.Use.{Use}
-use Rattle.iso_prep.specs.Classes.{occurrences, goals_with, last_from, last_goal}
+use Rattle.iso_prep.specs.Classes.{occurrences, last_from, last_goal}
 use Rattle.iso_prep.specs.Uses.{unused, noted, with_use, with_term, with_goals, first_from, use_of, AreUses}
 
 -- ---- one variable's use behind so many occurrences in one goal

@@ -1,11 +1,11 @@
 -- Clauses and goals put together from parts that were checked.
-use Rattle.std.specs.Prelude.{◌≡◌, ℕ, ℤ, List, length, Bool, true, false, Option, Some, None, Result, Ok, Err, option_map, is_some, codes}
+use Rattle.std.specs.Prelude.{◌≡◌, ℕ, ℤ, List, length, true, false, Option, Some, None, Result, Ok, Err, option_map, is_some, codes}
 use Rattle.std.specs.Borrow.{Bor}
 use Rattle.iso_model.specs.declared.terms.Term.{Term}
 use Rattle.iso_model.specs.Terms.Trees.{Tree, Variable, Integer, Name}
 use Rattle.iso_model.specs.Terms.TermOf.{term_of}
 use Rattle.iso_model.specs.Terms.Substitutions.{apply}
-use Rattle.iso_model.specs.Search.Bodies.{Body, converted}
+use Rattle.iso_model.specs.Search.Bodies.{converted}
 use Rattle.iso_model.specs.Search.Databases.{key_of}
 use Rattle.iso_prep.specs.declared.fault.Fault.{Fault}
 use Rattle.iso_prep.specs.declared.fault.Fault.TheVariants as fault

@@ -1,5 +1,5 @@
 -- The control constructs of two parts, by their functors.
-use Rattle.std.specs.Prelude.{ℕ, List, [], Option, Some, None, option_map, codes, if◌then◌else◌}
+use Rattle.std.specs.Prelude.{ℕ, List, Option, Some, None, codes, if◌then◌else◌}
 use Rattle.std.specs.Str.{bytes_eq}
 use Rattle.iso_model.specs.Terms.Trees.{Tree, Apply, End, More}
 use Rattle.iso_model.specs.Search.Bodies as bodies

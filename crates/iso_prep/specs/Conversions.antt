@@ -1,8 +1,8 @@
 -- Conversion of terms into bodies, step by step (ISO/IEC 13211-1:1995, 7.6.2).
-use Rattle.std.specs.Prelude.{◌≡◌, ℕ, ◌+◌, List, [], ◌∷◌, Bool, true, false, ◌&&◌, Option, Some, None, is_some, map, codes}
+use Rattle.std.specs.Prelude.{◌≡◌, ℕ, ◌+◌, List, [], ◌∷◌, Bool, true, ◌&&◌, Option, Some, None, is_some, map, codes}
 use Rattle.std.specs.Borrow.{Bor}
 use Rattle.iso_model.specs.declared.terms.Term.{Term}
-use Rattle.iso_model.specs.Terms.Trees.{Tree, Variable, Integer, Name, Apply, End, More}
+use Rattle.iso_model.specs.Terms.Trees.{Tree, Variable, Apply, End, More}
 use Rattle.iso_model.specs.Terms.TermOf.{term_of}
 use Rattle.iso_model.specs.Terms.Substitutions.{Subst, apply}
 use Rattle.iso_model.specs.Terms.Copies.{place_of}

@@ -4,7 +4,7 @@ use Rattle.iso_model.specs.Terms.Trees.{Tree}
 use Rattle.iso_model.specs.Terms.TermOf.{term_of}
 use Rattle.iso_model.specs.Terms.Variables.{variable_count}
 use Rattle.iso_model.specs.Terms.Copies.{copy_from}
-use Rattle.iso_model.specs.Search.Bodies.{Body, converted}
+use Rattle.iso_model.specs.Search.Bodies.{Body}
 use Rattle.iso_model.specs.Search.Additions.{Check, Fits, Faulty, UnboundHead, NotCallable, TooManyVariables, head_of}
 use Rattle.iso_prep.specs.declared.fault.Fault.{Fault}
 use Rattle.iso_prep.specs.declared.fault.Fault.TheVariants as fault

@@ -1,5 +1,5 @@
 -- How the variables of a clause are used, found in one pass: its head is goal 0, and its goals are 1, 2, ..
-use Rattle.std.specs.Prelude.{◌≡◌, ℕ, ◌+◌, ◌<◌, min, List, [], ◌∷◌, ◌++◌, length, Bool, ◌||◌, ◌==◌, false, Option, Some, None, get_or, if◌then◌else◌}
+use Rattle.std.specs.Prelude.{◌≡◌, ℕ, ◌+◌, ◌<◌, min, List, [], ◌∷◌, ◌++◌, length, ◌||◌, ◌==◌, false, Option, Some, None, get_or, if◌then◌else◌}
 use Rattle.std.specs.List.{slice_get, slice_set}
 use Rattle.std.specs.Borrow.{Bor}
 use Rattle.iso_model.specs.declared.terms.Term.{Term}

@@ -18,10 +18,13 @@ fn write_term(out: &mut String, term: &Term) -> Result<(), Fail> {
         Term::Atom(name) => out.push_str(name.as_str())?,
         Term::Compound(name, arguments) => {
             out.push_str(name.as_str())?;
-            let mut before = "(";
+            out.push_str("(")?;
+            let mut is_first = true;
             for argument in arguments {
-                out.push_str(before)?;
-                before = " ";
+                if !is_first {
+                    out.push_str(" ")?;
+                }
+                is_first = false;
                 write_term(out, argument)?;
             }
             out.push_str(")")?;
@@ -111,10 +114,7 @@ static CLAUSES: [(&str, &str); 22] = [
         "p(X, _) :- q(Y).",
         "p(_0 _1) :- q(_2) | void 0 void 0 void 1 | q(_2)",
     ),
-    (
-        "p(X, X).",
-        "p(_0 _0) :- true | temporary 0 | true",
-    ),
+    ("p(X, X).", "p(_0 _0) :- true | temporary 0 | true"),
     (
         "p :- q(X), r(X).",
         "p :- ,(q(_0) r(_0)) | permanent 2 | q(_0) r(_0) And(2)",
@@ -181,10 +181,7 @@ static FAULTY: [(&str, &str); 9] = [
     ("p :- 1.", "callable 1"),
     ("p :- (a ; 1).", "callable ;(a 1)"),
     ("p :- (1 -> a ; b).", "callable ;(->(1 a) b)"),
-    (
-        "p(X) :- a, (X -> 1 ; b).",
-        "callable ,(a ;(->(_0 1) b))",
-    ),
+    ("p(X) :- a, (X -> 1 ; b).", "callable ,(a ;(->(_0 1) b))"),
 ];
 
 /// Texts of goals, each with what it becomes.
@@ -251,7 +248,10 @@ fn variables_are_numbered_by_first_occurrence(rt: HostRuntime) -> Result<(), Fai
     let body = two(alloc, "q", Term::Var(3), Term::Var(500))?;
     let clause = two(alloc, ":-", head, body)?;
     let found = shown(alloc, prepare(alloc, &clause))?;
-    assert_eq!(rt; found.as_str(), "p(_0 _1) :- q(_1 _2) | void 0 temporary 1 void 1 | q(_1 _2)");
+    assert_eq!(rt;
+        found.as_str(),
+        "p(_0 _1) :- q(_1 _2) | void 0 temporary 1 void 1 | q(_1 _2)"
+    );
     Ok(())
 }
 
@@ -279,9 +279,15 @@ fn a_clause_has_at_most_65535_variables(rt: HostRuntime) -> Result<(), Fail> {
         Err(_) => return Err(Fail::from("not prepared")),
     }
     let wider = wide_clause(alloc, 65_536, atom(alloc, "a")?)?;
-    assert_eq!(rt; shown(alloc, prepare(alloc, &wider))?.as_str(), "too many variables");
+    assert_eq!(rt;
+        shown(alloc, prepare(alloc, &wider))?.as_str(),
+        "too many variables"
+    );
     let faulty = wide_clause(alloc, 65_536, Term::Int(1))?;
-    assert_eq!(rt; shown(alloc, prepare(alloc, &faulty))?.as_str(), "callable 1");
+    assert_eq!(rt;
+        shown(alloc, prepare(alloc, &faulty))?.as_str(),
+        "callable 1"
+    );
     Ok(())
 }
 

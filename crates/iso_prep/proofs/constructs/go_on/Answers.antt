@@ -1,5 +1,5 @@
-use Rattle.std.proofs.Common.{◌≡◌, ◌-◌, ◌<◌, ◌∙◌, ◌++◌, ◌∷◌, [], ap, arith, length}
-use Rattle.iso_prep.specs.Readings.{task_load, tasks_load}
+use Rattle.std.proofs.Common.{◌≡◌, ◌-◌, ap, arith, length}
+use Rattle.iso_prep.specs.Readings.{task_load}
 use Rattle.iso_prep.proofs.ReadingLemmas.{after_first, after_condition, after_next, after_second, after_other, tasks_load-more}
 use Rattle.iso_prep.proofs.constructs.go_on.Goals as goal
 

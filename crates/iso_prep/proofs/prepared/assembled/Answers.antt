@@ -1,4 +1,4 @@
-use Rattle.std.proofs.Common.{ap, sym, ◌∙◌, option_map, subst}
+use Rattle.std.proofs.Common.{◌∙◌, option_map, subst}
 use Rattle.iso_model.specs.Terms.TermOf.{term_of}
 use Rattle.iso_prep.specs.Classes.{goals_of}
 use Rattle.iso_prep.specs.Readings.{read}

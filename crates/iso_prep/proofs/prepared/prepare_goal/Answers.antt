@@ -1,6 +1,6 @@
-use Rattle.std.proofs.Common.{◌≡◌, ap, sym, ◌∙◌, None}
+use Rattle.std.proofs.Common.{ap, ◌∙◌, None}
 use Rattle.iso_model.specs.Terms.TermOf.{term_of}
-use Rattle.iso_prep.specs.Assembling.{given, assembly}
+use Rattle.iso_prep.specs.Assembling.{assembly}
 use Rattle.iso_prep.proofs.PrepareLemmas.{refused_goal, goal_fits}
 use Rattle.iso_prep.proofs.prepared.prepare_goal.Goals as goal
 

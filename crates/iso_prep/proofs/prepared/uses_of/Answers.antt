@@ -1,8 +1,8 @@
-use Rattle.std.proofs.Common.{◌≡◌, ap, ap₂, sym, ◌∙◌, replicate, option_map, subst}
+use Rattle.std.proofs.Common.{◌≡◌, ap, ap₂, ◌∙◌, replicate, option_map}
 use Rattle.iso_model.specs.Terms.TermOf.{term_of}
 use Rattle.iso_prep.specs.Classes.{goals_of}
 use Rattle.iso_prep.specs.Readings.{read}
-use Rattle.iso_prep.specs.Uses.{unused, with_term, with_goals, goal_terms, head_or_end, AreUses}
+use Rattle.iso_prep.specs.Uses.{unused, with_term, with_goals, goal_terms, head_or_end}
 use Rattle.iso_prep.proofs.VariableUses.{are_uses}
 use Rattle.iso_prep.proofs.prepared.uses_of.Goals as goal
 

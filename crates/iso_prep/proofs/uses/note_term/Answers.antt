@@ -1,5 +1,4 @@
-use Rattle.std.proofs.Common.{sym, ◌∙◌, arith}
-use Rattle.iso_model.proofs.OnTerms.SeenRows.{row_load-more}
+use Rattle.std.proofs.Common.{sym, ◌∙◌}
 use Rattle.iso_prep.proofs.UseLemmas.{rows_more}
 use Rattle.iso_prep.proofs.uses.note_term.Goals as goal
 
