@@ -54,6 +54,6 @@ module _ (names more : List (Bor (List ℕ))) (name : Bor (List ℕ)) (is : more
   placed_with_named places after n named new count updates placed text =
       btree_map_updates_str name.now places after (Some n) updates text ∙ elim (cases_Bool (bytes_eq name.now text)) [
         | inl same ↦ rw same (ap Some (count ∙ sym (length-map names (λ k. k.now))) ∙ sym (name_place-last name.now (texts_of names) named new)
-          ∙ ap (λ k. name_place k (texts_of names ++ name.now ∷ [])) ((bytes_eq-Decides name.now text).0 same) ∙ sym (ap (name_place text) texts))
+            ∙ ap (λ k. name_place k (texts_of names ++ name.now ∷ [])) ((bytes_eq-Decides name.now text).0 same) ∙ sym (ap (name_place text) texts))
         | inr other ↦ rw other (placed text ∙ sym (ap (name_place text) texts ∙ name_place-past text name.now (texts_of names) other))
       ]

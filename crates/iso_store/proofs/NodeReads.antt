@@ -126,8 +126,8 @@ module _ (names : List (List ℕ)) where
     no_other j (Var m b) is below =
         ne_eqb m n
         (λ same.
-          let place = store.one_node j k n b None (is ∙ ap (λ i. Some (Var i b)) same) there in
-          omega arith)
+        let place = store.one_node j k n b None (is ∙ ap (λ i. Some (Var i b)) same) there in
+        omega arith)
     no_other j (Int z) is below = refl
     no_other j (Atom a) is below = refl
     no_other j (Compound f ws) is below = refl

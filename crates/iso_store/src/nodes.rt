@@ -12,7 +12,7 @@ use super::cells::Cells;
 use super::copies::{build, copy_out};
 use super::instances::instantiate;
 use super::marks::{NodesMark, unwind};
-use super::patterns::{written, Pattern, Places};
+use super::patterns::{Pattern, Places, written};
 use super::reaches::{farther, within};
 use super::scratch::Scratch;
 use super::shapes::{Shape, StoreFault};
@@ -288,11 +288,7 @@ impl Store for Nodes {
         written(self.alloc, self, term, Places::Numbers)
     }
 
-    fn instantiate(
-        &mut self,
-        pattern: &Pattern,
-        variables: &[usize],
-    ) -> Result<usize, StoreFault> {
+    fn instantiate(&mut self, pattern: &Pattern, variables: &[usize]) -> Result<usize, StoreFault> {
         instantiate(self.alloc, self, pattern, variables)
     }
 

@@ -155,7 +155,11 @@ pub trait Store {
         ensures marks { KeepsMarks (stands self.old) (stands self.new) };
 
     /// The term of a pattern of this store, well formed, with the word at its place for each variable.
-    fn instantiate(&mut self, pattern: &Pattern, variables: &[Self::Word]) -> Result<Self::Word, StoreFault>
+    fn instantiate(
+        &mut self,
+        pattern: &Pattern,
+        variables: &[Self::Word],
+    ) -> Result<Self::Word, StoreFault>
         requires pattern { (t : Tree) × IsPattern (names self.old) pattern.now.parts.items t × (arities_fit t ≡ true) × HasPlaces (length variables.now) t }
         requires variables { All (λ w. Holds (present self.old) w) variables.now }
         ensures made { (t : Tree) → IsPattern (names self.old) pattern.now.parts.items t

@@ -49,12 +49,12 @@ fn expect(rt: &impl Abort, alloc: Global, text: &str, expected: &str) -> Result<
     Ok(())
 }
 
-/// `[` and so many of these texts, each with its number behind it, and `]`.
-fn numbered(alloc: Global, text: &str, first: usize, count: usize) -> Result<String, Fail> {
+/// `[` and this text with each of these numbers behind it, and `]`.
+fn numbered(alloc: Global, text: &str, first: u64, end: u64) -> Result<String, Fail> {
     let mut list = String::from_str(alloc, "[")?;
-    for place in 0..count {
-        let separator = if place == 0 { "" } else { "," };
-        write!(list, "{separator}{text}{}", place as u64 + first as u64)?;
+    for number in first..end {
+        let separator = if number == first { "" } else { "," };
+        write!(list, "{separator}{text}{number}")?;
     }
     list.push_str("]")?;
     Ok(list)
@@ -63,19 +63,18 @@ fn numbered(alloc: Global, text: &str, first: usize, count: usize) -> Result<Str
 #[test]
 fn a_clause_with_many_variables_is_read_and_written(rt: HostRuntime) -> Result<(), Fail> {
     let alloc = rt.alloc();
-    let count = 60_000;
-    let names = numbered(alloc, "Variable_", 0, count)?;
+    let names = numbered(alloc, "Variable_", 0, 60_000)?;
     let source = format!(in alloc; "p({names},{names}).")?;
     assert!(rt; source.len() >= 1_000_000);
     let Some(read) = first_clause(alloc, source.as_str())? else {
         return Err(Fail::from("not read"));
     };
-    assert_eq!(rt; read.names.len(), count);
+    assert_eq!(rt; read.names.len(), 60_000);
     for (place, (name, number)) in read.names.iter().enumerate() {
         assert_eq!(rt; *number, place as u64);
         assert!(rt; name.as_str() == format!(in alloc; "Variable_{place}")?.as_str());
     }
-    let variables = numbered(alloc, "_", 1, count)?;
+    let variables = numbered(alloc, "_", 1, 60_001)?;
     let expected = format!(in alloc; "p({variables},{variables})")?;
     let found = written(alloc, &read.term)?;
     assert!(rt; found.as_slice() == expected.as_bytes());
@@ -114,14 +113,14 @@ fn deep_terms_are_read_and_written(rt: HostRuntime) -> Result<(), Fail> {
 /// How many tokens the text has, and how many of them are bad characters.
 fn counted(text: &str) -> (u64, u64) {
     let mut tokens = Tokens::new(text);
-    let (mut all, mut bad) = (0, 0);
+    let (mut all, mut bad) = (0u64, 0u64);
     for _ in 0..text.len() {
         let Some(token) = tokens.next() else {
             break;
         };
-        all += 1;
+        all = all.saturating_add(1);
         if token.kind == Kind::Bad {
-            bad += 1;
+            bad = bad.saturating_add(1);
         }
     }
     (all, bad)
