@@ -10,7 +10,7 @@ use Rattle.iso_prep.specs.declared.uses.Use.{Use}
 use Rattle.iso_prep.specs.Classes.{occurrences, goals_with, last_from, last_goal, is_permanent, class_in_clause}
 use Rattle.iso_prep.specs.Uses.{first_from, use_of}
 
-not_less : (m n : ℕ) → n ≤ m → nat_lt m n ≡ false
+pub not_less : (m n : ℕ) → n ≤ m → nat_lt m n ≡ false
 not_less m n few =
     elim (cases_Bool (nat_lt m n)) [
       | inr less ↦ less

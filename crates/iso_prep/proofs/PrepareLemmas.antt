@@ -20,6 +20,7 @@ use Rattle.iso_prep.specs.declared.fault.Fault.TheVariants as fault
 use Rattle.iso_prep.specs.Conversions.{is_callable, with_calls, numbers, body_from, IsConverted}
 use Rattle.iso_prep.specs.Preparations.{Preparation, PreparesClause, PreparesGoal}
 use Rattle.iso_prep.specs.Assembling.{assembly, preparation_of, ChecksBody}
+use Rattle.iso_prep.proofs.ClassLemmas.{not_less}
 use Rattle.iso_prep.proofs.ConversionLemmas.{converts, callable_numbered}
 
 -- ---- a clause in its parts
@@ -80,13 +81,6 @@ term_of_body t h = sym (ap (λ o. body_term (body_from o)) h.is ∙ h.same)
 abbrev preparation : Option Tree → Body → ℕ → Preparation
 preparation h b n = record { head = h; body = b; variables = n }
 
-not_more : (m n : ℕ) → n ≤ m → nat_lt m n ≡ false
-not_more m n few =
-    elim (cases_Bool (nat_lt m n)) [
-      | inr less ↦ less
-      | inl more ↦ (let above = ltb-true m n more in absurd (omega arith))
-    ]
-
 -- ---- the checks of a clause
 
 head_found : (t h : Tree) (k : Option Key) → key_of h ≡ k → is_some k ≡ true → (j : Key) × (prepared_head t h k ≡ prepared_body t j (converted (body_of (copy_from t 0))))
@@ -132,7 +126,7 @@ module _ (t : Tree) (key : is_some (key_of (head_of t)) ≡ true) where
       fits p few is =
           let q = prepared_by_body in
           let b = body_found in
-          rw (q.1, b.1, not_more most_variables (variable_count t) few) (is ∙ ap₂ (λ h c. preparation h (body_from c) (variable_count t)) (ap Some (sym (head_numbered (variables t) t))) (ap (λ u. converted (apply (numbers (variables t)) u)) same ∙ b.1))
+          rw (q.1, b.1, not_less most_variables (variable_count t) few) (is ∙ ap₂ (λ h c. preparation h (body_from c) (variable_count t)) (ap Some (sym (head_numbered (variables t) t))) (ap (λ u. converted (apply (numbers (variables t)) u)) same ∙ b.1))
 
 -- ---- the checks of a goal
 

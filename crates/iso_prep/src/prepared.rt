@@ -26,7 +26,7 @@ use std::alloc::{AllocError, Global};
 use std::marker::Model;
 
 /// The most distinct variables that a clause may have (own limit).
-pub const MOST_VARIABLES: usize = 65_535;
+const MOST_VARIABLES: usize = 65_535;
 
 /// A clause or a goal that is ready to be run: its variables are numbered 0, 1, .. by first occurrence, and its body is converted.
 #[derive(Drop)]
