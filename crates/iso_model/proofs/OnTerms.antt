@@ -1,5 +1,7 @@
 -- Lemmas on terms and unifiers.
 pub mod RowLemmas
+pub mod SeenRows
+pub mod PlaceLemmas
 pub mod UnifierLemmas
 pub mod Cost
 pub mod CostOfRows

@@ -5,6 +5,7 @@ pub mod Sorts
 pub mod Sizes
 pub mod Building
 pub mod Copying
+pub mod Rows
 pub mod Variables
 pub mod Substitutions
 pub mod Unifiers

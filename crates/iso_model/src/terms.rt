@@ -1,11 +1,14 @@
 //! Terms (ISO/IEC 13211-1:1995, 6.1.2 and 7.1) as Rust data.
 ghost use Rattle.std.specs.Prelude.{◌≡◌, ◌&&◌, ◌+◌, ◌-◌, ◌*◌, ◌<◌, ◌∷◌, [], ◌++◌, nat_le, map, take, slice_get, vec_len, Some, IfOk, OnOk, MatchOption};
-ghost use Rattle.iso_model.specs.Terms.Trees.{arities_fit};
+ghost use Rattle.iso_model.specs.Terms.Trees.{Variable, arities_fit, row};
 ghost use Rattle.iso_model.specs.Terms.TermOf.{term_of, row_of};
 ghost use Rattle.iso_model.specs.Terms.Sizes.{size, light_size};
 ghost use Rattle.iso_model.specs.Terms.Building.{Gather, with_step, with_steps, step_load, steps_load};
-ghost use Rattle.iso_model.specs.Terms.Copying.{step_of, steps_of};
+ghost use Rattle.iso_model.specs.Terms.Copying.{named_by, step_of, steps_of};
+ghost use Rattle.iso_model.specs.Terms.Copies.{place_of};
+ghost use Rattle.iso_model.specs.Terms.Substitutions.{apply};
 
+use super::numbering::Numbering;
 use std::alloc::{AllocError, Global};
 use std::mem;
 
@@ -142,6 +145,25 @@ pub fn well_formed(term: &Term) -> bool
     }
 }
 
+/// How the variables of a copy are named.
+#[derive(Clone, Copy)]
+enum Naming<'n> {
+    /// As they are.
+    Same,
+    /// Each by its place among these; one that isn't there by how many there are.
+    Places(&'n Numbering),
+}
+
+/// The number of this variable in a copy.
+fn name_of(naming: Naming<'_>, number: u64) -> u64
+    ensures { Variable result ≡ named_by naming.entry number }
+{
+    match naming {
+        Naming::Same => number,
+        Naming::Places(variables) => variables.place_or_len(number) as u64,
+    }
+}
+
 /// What is left to do of a copy.
 #[derive(Clone, Copy)]
 enum Task<'t> {
@@ -153,17 +175,18 @@ enum Task<'t> {
 
 /// Copies a term that has no arguments, and leaves a compound to be copied by its arguments.
 fn copy_next<'t>(
+    naming: Naming<'_>,
     term: &'t Term,
     tasks: &mut Vec<Task<'t>>,
     copies: &mut Vec<Term>,
 ) -> Result<(), AllocError>
-    ensures steps { OnOk result (with_steps (steps_of tasks.new.items) (map term_of copies.new.items)
-        ≡ with_steps (steps_of tasks.old.items) (map term_of copies.old.items ++ term_of term.now ∷ [])) }
-    ensures load { OnOk result (steps_load (steps_of tasks.new.items) < 2 * size (term_of term.now) + steps_load (steps_of tasks.old.items)) }
+    ensures steps { OnOk result (with_steps (steps_of (named_by naming.entry) tasks.new.items) (map term_of copies.new.items)
+        ≡ with_steps (steps_of (named_by naming.entry) tasks.old.items) (map term_of copies.old.items ++ apply (named_by naming.entry) (term_of term.now) ∷ [])) }
+    ensures load { OnOk result (steps_load (steps_of (named_by naming.entry) tasks.new.items) < 2 * size (apply (named_by naming.entry) (term_of term.now)) + steps_load (steps_of (named_by naming.entry) tasks.old.items)) }
 {
     match term {
         Term::Var(number) => {
-            copies.push(Term::Var(*number))?;
+            copies.push(Term::Var(name_of(naming, *number)))?;
             Ok(())
         }
         Term::Int(value) => {
@@ -184,20 +207,21 @@ fn copy_next<'t>(
 
 /// Copies the first of the terms, and leaves the others.
 fn copy_row<'t>(
+    naming: Naming<'_>,
     terms: &'t [Term],
     tasks: &mut Vec<Task<'t>>,
     copies: &mut Vec<Term>,
 ) -> Result<(), AllocError>
-    ensures steps { OnOk result (with_steps (steps_of tasks.new.items) (map term_of copies.new.items)
-        ≡ with_steps (steps_of tasks.old.items) (map term_of copies.old.items ++ map term_of terms.now)) }
-    ensures load { OnOk result (steps_load (steps_of tasks.new.items) < 1 + 2 * size (row_of terms.now) + steps_load (steps_of tasks.old.items)) }
+    ensures steps { OnOk result (with_steps (steps_of (named_by naming.entry) tasks.new.items) (map term_of copies.new.items)
+        ≡ with_steps (steps_of (named_by naming.entry) tasks.old.items) (map term_of copies.old.items ++ map (apply (named_by naming.entry)) (map term_of terms.now))) }
+    ensures load { OnOk result (steps_load (steps_of (named_by naming.entry) tasks.new.items) < 1 + 2 * size (row (map (apply (named_by naming.entry)) (map term_of terms.now))) + steps_load (steps_of (named_by naming.entry) tasks.old.items)) }
 {
     match terms {
         [] => Ok(()),
-        [only] => copy_next(only, tasks, copies),
+        [only] => copy_next(naming, only, tasks, copies),
         [first, others @ ..] => {
             tasks.push(Task::Copy(others))?;
-            copy_next(first, tasks, copies)
+            copy_next(naming, first, tasks, copies)
         }
     }
 }
@@ -220,32 +244,48 @@ pub fn build_last(
 /// Does what a task says.
 fn do_task<'t>(
     alloc: Global,
+    naming: Naming<'_>,
     task: Task<'t>,
     tasks: &mut Vec<Task<'t>>,
     copies: &mut Vec<Term>,
 ) -> Result<(), AllocError>
-    ensures steps { OnOk result (with_steps (steps_of tasks.new.items) (map term_of copies.new.items)
-        ≡ with_steps (steps_of tasks.old.items) (with_step (step_of task.entry) (map term_of copies.old.items))) }
-    ensures load { OnOk result (steps_load (steps_of tasks.new.items) < step_load (step_of task.entry) + steps_load (steps_of tasks.old.items)) }
+    ensures steps { OnOk result (with_steps (steps_of (named_by naming.entry) tasks.new.items) (map term_of copies.new.items)
+        ≡ with_steps (steps_of (named_by naming.entry) tasks.old.items) (with_step (step_of (named_by naming.entry) task.entry) (map term_of copies.old.items))) }
+    ensures load { OnOk result (steps_load (steps_of (named_by naming.entry) tasks.new.items) < step_load (step_of (named_by naming.entry) task.entry) + steps_load (steps_of (named_by naming.entry) tasks.old.items)) }
 {
     match task {
-        Task::Copy(terms) => copy_row(terms, tasks, copies),
+        Task::Copy(terms) => copy_row(naming, terms, tasks, copies),
         Task::Build(name, count) => build_last(alloc, name, count, copies),
     }
+}
+
+/// The term with its variables named so. The error is that memory was refused.
+fn copied_by(alloc: Global, naming: Naming<'_>, term: &Term) -> Result<Term, AllocError>
+    ensures { IfOk result (λ copy. term_of copy ≡ apply (named_by naming.entry) (term_of term.now)) }
+{
+    let mut tasks = Vec::new(alloc);
+    let mut copies = Vec::new(alloc);
+    copy_next(naming, term, &mut tasks, &mut copies)?;
+    while let Some(task) = tasks.pop() {
+        do_task(alloc, naming, task, &mut tasks, &mut copies)?;
+    }
+    let Some(copy) = copies.pop() else {
+        unreachable!()
+    };
+    Ok(copy)
 }
 
 /// The same term once more. The error is that memory was refused.
 pub fn copied(alloc: Global, term: &Term) -> Result<Term, AllocError>
     ensures { IfOk result (λ copy. term_of copy ≡ term_of term.now) }
 {
-    let mut tasks = Vec::new(alloc);
-    let mut copies = Vec::new(alloc);
-    copy_next(term, &mut tasks, &mut copies)?;
-    while let Some(task) = tasks.pop() {
-        do_task(alloc, task, &mut tasks, &mut copies)?;
-    }
-    let Some(copy) = copies.pop() else {
-        unreachable!()
-    };
-    Ok(copy)
+    copied_by(alloc, Naming::Same, term)
+}
+
+/// The term with each variable's number replaced by its place among the variables; by how many there are where it isn't
+/// there. The error is that memory was refused.
+pub fn renumbered(alloc: Global, term: &Term, variables: &Numbering) -> Result<Term, AllocError>
+    ensures { IfOk result (λ copy. term_of copy ≡ apply (λ x. Variable (place_of x variables.now)) (term_of term.now)) }
+{
+    copied_by(alloc, Naming::Places(variables), term)
 }

@@ -1,19 +1,18 @@
 -- The engine calls a procedure: the clauses behind the first are kept as a choice.
-use Rattle.std.proofs.Common.{◌≡◌, ℕ, ◌+◌, ◌<◌, ◌≤◌, List, [], ◌∷◌, ◌++◌, length, refl, sym, subst, arith, inl, inr, ◌⊎◌, Vec, Global}
+use Rattle.std.proofs.Common.{◌≡◌, ℕ, ◌+◌, ◌<◌, ◌≤◌, List, [], ◌∷◌, ◌++◌, length, refl, ap, sym, subst, arith, inl, inr, ◌⊎◌, Vec, Global}
 use Rattle.iso_model.specs.Terms.Variables.{variables}
 use Rattle.iso_model.specs.Terms.Trees.{Tree}
 use Rattle.iso_model.specs.Search.Databases as databases
 use Rattle.iso_model.specs.Search.Databases.{Procedures}
+use Rattle.iso_model.specs.Search.Walker.{State, Member, Alternative, Clauses, with_others}
 use Rattle.iso_store.specs.Presents.{Present, KeepsMarks}
-use Rattle.iso_plain.specs.declared.parts.Frame.{Frame}
 use Rattle.iso_plain.specs.declared.parts.Attempt.{Attempt}
 use Rattle.iso_plain.specs.declared.parts.Choice as kept
 use Rattle.iso_plain.specs.declared.procedures.Procedure.{Procedure}
 use Rattle.iso_plain.specs.declared.plain.Plain.{Plain}
-use Rattle.iso_plain.specs.Linked.{Linked, Choice}
 use Rattle.iso_plain.specs.Programs.{IsDatabase}
-use Rattle.iso_plain.specs.Standing.{Among, StandsForChoice, StandsForChoices, none_kept, one_kept}
-use Rattle.iso_plain.specs.EngineStates.{Tries, Calls, left_at, clauses_left, most_clauses}
+use Rattle.iso_plain.specs.Standing.{Among, Links, AtGoal, StandsForChoice, StandsForChoices, none_kept, one_kept}
+use Rattle.iso_plain.specs.EngineStates.{Calls, left_at, links_of, clauses_left, most_clauses}
 use Rattle.iso_plain.proofs.CountLemmas.{clauses_counted, left_next, at_most, left_last}
 use Rattle.iso_plain.proofs.StandingLemmas.{choices_keep, choices_push}
 
@@ -49,10 +48,10 @@ among_end x (z ∷ xs) y (inr h) = on_end (among_end x xs y h) where
 
 module _ {W M : Type 0} {stands : M → Present W → Type 0} {older : M → M → Type 0} {base : M} {left : ℕ → ℕ → List databases.Clause} {query : List W} {named : List ℕ} where
   -- The mark of each choice stands for something.
-  pub marks_stand : {frames : List (Frame W)} {cs : List (kept.Choice W M)} {ks : List Choice} (d : kept.Choice W M) → StandsForChoices stands older base left query named frames cs ks
+  pub marks_stand : {links : Links W} {cs : List (kept.Choice W M)} {ks : List Alternative} (d : kept.Choice W M) → StandsForChoices stands older base left query named links cs ks
       → Among d cs → (p : Present W) × stands d.mark p
   marks_stand d none_kept among = absurd among
-  marks_stand d (one_kept {frames = frames} {before = before} {c = c} {k = k} {ks = ks} is within here newer below) among =
+  marks_stand d (one_kept {before = before} {c = c} is on here newer below) among =
       on_end (marks_stand d below) (among_end d before c (subst (λ (ds : List (kept.Choice W M)). Among d ds) is among)) where
         on_end : (Among d before → (p : Present W) × stands d.mark p) → Among d before ⊎ (d ≡ c) → (p : Present W) × stands d.mark p
         on_end before_stand (inl a) = before_stand a
@@ -60,69 +59,46 @@ module _ {W M : Type 0} {stands : M → Present W → Type 0} {older : M → M �
 
 module _ {S W M : Type 0} (present : S → Present W) (stands : S → M → Present W → Type 0) (older : M → M → Type 0) where
   -- no clause behind the attempt's
-  pub tries_last : (e : Plain S W M) (attempt : Attempt W) (l : Linked) (call : Tree) (c : databases.Clause) (cs : List databases.Clause) (behind : List Tree)
-      → Calls present stands older e attempt l call c cs behind → length cs ≡ 0 → Tries present stands older e attempt l call c cs behind
-  tries_last e attempt l call c [] behind t many = record {
-    world = t.world;
-    steps = t.steps;
-    base = t.base;
-    choices = t.choices;
-    room = t.room;
-    space = t.space;
-    subst = t.subst;
-    next = t.next;
-    holds = t.holds;
-    call_is = t.call_is;
-    links = t.links;
-    variables = t.variables;
-    clauses = t.clauses;
-  }
-  tries_last e attempt l call c (d ∷ cs) behind t many = absurd (omega (arith, many))
+  pub calls_last : (e : Plain S W M) (attempt : Attempt W) (s : State) (call : Tree) (c : databases.Clause) (cs : List databases.Clause) (behind : List Member)
+      → Calls present stands older e attempt s call c cs behind → length cs ≡ 0 → Calls present stands older e attempt (with_others call cs behind s) call c cs behind
+  calls_last e attempt s call c [] behind t many = t
+  calls_last e attempt s call c (d ∷ cs) behind t many = absurd (omega (arith, many))
 
   -- the choice that is made of the clauses behind the attempt's
   abbrev pub later : Plain S W M → Attempt W → M → kept.Choice W M
-  later e attempt mark = record { mark = mark; frames = length e.frames.items; attempt = record attempt { clause = attempt.clause + 1 } }
+  later e attempt mark = record { mark = mark; nodes = length e.nodes.items; frames = length e.frames.items; attempt = record attempt { clause = attempt.clause + 1 } }
 
-  pub tries_later : (e : Plain S W M) (attempt : Attempt W) (l : Linked) (call : Tree) (c : databases.Clause) (cs : List databases.Clause) (behind : List Tree)
+  pub calls_later : (e : Plain S W M) (attempt : Attempt W) (s : State) (call : Tree) (c : databases.Clause) (cs : List databases.Clause) (behind : List Member)
       (store : S) (choices : Vec (kept.Choice W M) Global) (mark : M)
-      → Calls present stands older e attempt l call c cs behind → 0 < length cs
+      → Calls present stands older e attempt s call c cs behind → 0 < length cs
       → present store ≡ present e.store → stands store mark (present e.store) → ((m : M) (p : Present W) → stands e.store m p → older m mark)
       → KeepsMarks (stands e.store) (stands store) → choices.items ≡ e.choices.items ++ later e attempt mark ∷ []
-      → Tries present stands older (record e { store = store; choices = choices }) attempt l call c cs behind
-  tries_later e attempt l call c [] behind store choices mark t many same stood newest keeps pushed = absurd (omega (arith, many))
-  tries_later e attempt l call c (d ∷ cs) behind store choices mark t many same stood newest keeps pushed =
+      → Calls present stands older (record e { store = store; choices = choices }) attempt (with_others call cs behind s) call c cs behind
+  calls_later e attempt s call c [] behind store choices mark t many same stood newest keeps pushed = absurd (omega (arith, many))
+  calls_later e attempt s call c (d ∷ cs) behind store choices mark t many same stood newest keeps pushed =
       let b = t.base in
-      let k : Choice = record { call = call; clauses = d ∷ cs; behind = behind; subst = l.subst; next = l.next } in
-      let old : StandsForChoices (stands store) older e.base (left_at l.world.database.procedures) e.query.items (variables l.query) e.frames.items e.choices.items l.stack =
+      let next = left_next s.world.database.procedures attempt.procedure attempt.clause c (d ∷ cs) t.clauses in
+      let a : Alternative = record { list = behind; subst = s.subst; next = s.next; built = s.built; left = Clauses call (d ∷ cs) } in
+      let old : StandsForChoices (stands store) older e.base (left_at s.world.database.procedures) e.query.items (variables s.query) (links_of e) e.choices.items s.stack =
       choices_keep (λ x p among there. keeps x.mark p there) t.choices in
-      let here : StandsForChoice (stands store) older e.base (left_at l.world.database.procedures) e.query.items (variables l.query) e.frames.items (later e attempt mark) k = record {
+      let here : StandsForChoice (stands store) older e.base (left_at s.world.database.procedures) e.query.items (variables s.query) (links_of e) (later e attempt mark) a = record {
         present = present e.store;
         mark = stood;
         newer = newest e.base b.present b.stands_for;
-        subst = t.subst;
-        next = t.next;
-        goal = t.holds;
-        call = sym t.call_is;
-        behind = t.links;
-        clauses = sym (left_next l.world.database.procedures attempt.procedure attempt.clause c (d ∷ cs) t.clauses);
-        some = many;
-        words = t.variables;
+        call = call;
+        at = t.at;
+        left = ap (Clauses call) (sym next);
+        some = subst (λ (xs : List databases.Clause). 0 < length xs) (sym next) many;
       } in
       let newer : (x : kept.Choice W M) → Among x e.choices.items → older x.mark mark = λ x among.
       (let there = marks_stand x t.choices among in newest x.mark there.0 there.1) in
-      let back : present e.store ≡ present store = sym same in
       record {
-        world = t.world;
+        world = record { procedures_are = t.world.procedures_are; operators_are = t.world.operators_are; flags_are = t.world.flags_are };
         steps = t.steps;
         base = record { present = b.present; stands_for = keeps e.base b.present b.stands_for; substitution = b.substitution; next = b.next };
-        choices = rw pushed (choices_push (later e attempt mark) k refl here newer old);
+        choices = rw pushed (choices_push (later e attempt mark) a refl refl here newer old);
         room = (t.space, t.room);
         space = t.space;
-        subst = rw same t.subst;
-        next = rw same t.next;
-        holds = rw same t.holds;
-        call_is = rw same t.call_is;
-        links = rw same t.links;
-        variables = rw same t.variables;
+        at = subst (λ (p : Present W). AtGoal p (links_of e) e.query.items (variables s.query) attempt.goal attempt.rest call behind s.subst s.next) (sym same) t.at;
         clauses = t.clauses;
       }

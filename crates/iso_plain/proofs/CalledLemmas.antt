@@ -1,12 +1,11 @@
 -- What a goal calls, by its name and arity.
-use Rattle.std.proofs.Common.{◌≡◌, ℕ, ◌<◌, List, [], ◌∷◌, length, Bool, true, false, ◌&&◌, ◌==◌, nat_le, Some, refl, ap, sym, ◌∙◌, arith, codes, ◌⊎◌, inl, inr, IfOk, Result, Ok, Err}
+use Rattle.std.proofs.Common.{◌≡◌, ℕ, ◌<◌, List, [], ◌∷◌, length, Bool, true, false, ◌&&◌, ◌==◌, nat_le, Some, refl, ap, sym, ◌∙◌, arith, inl, inr, IfOk, Result, Ok, Err}
 use Rattle.std.specs.Str.{bytes_eq}
 use Rattle.std.proofs.lemmas.Bool.{cases_Bool, eqb-true}
 use Rattle.iso_ops.specs.Operators.{Operator}
 use Rattle.iso_ops.specs.declared.settings.Flags.{Flags}
 use Rattle.iso_model.specs.Terms.Trees.{Tree, Variable, Integer, Name, Apply, End, More, count}
 use Rattle.iso_model.specs.Terms.Sorts.{is_term, is_row}
-use Rattle.iso_model.specs.Terms.Substitutions.{Subst, apply}
 use Rattle.iso_model.specs.Search.Databases as databases
 use Rattle.iso_model.specs.Search.Databases.{Key, Procedures, key, key_of, same_key, clauses_at}
 use Rattle.iso_model.specs.Terms.Arguments.{arity}
@@ -14,7 +13,6 @@ use Rattle.iso_model.specs.Search.BuiltIns.{built_ins, built_in_among}
 use Rattle.iso_model.specs.declared.built_ins.BuiltIn.{BuiltIn}
 use Rattle.iso_model.specs.declared.built_ins.BuiltIn.TheVariants.{True, Fail, Unify, Differ}
 use Rattle.iso_model.specs.Search.Walker.{World}
-use Rattle.iso_model.proofs.OnTerms.SortLemmas.{count-apply}
 use Rattle.iso_plain.specs.declared.clauses.Clause.{Clause}
 use Rattle.iso_plain.specs.declared.procedures.Procedure.{Procedure}
 use Rattle.iso_plain.specs.declared.calls.Called.{Called}
@@ -35,14 +33,6 @@ both_of false b h = absurd cc
 
 row_of_goal : (f : List ℕ) (ts : Tree) → is_term (Apply f ts) ≡ true → is_row ts ≡ true
 row_of_goal f ts h = (both_of (nat_le (count ts) 255) (is_row ts) (both_of (nat_le 1 (count ts)) _ h).1).1
-
-pub key_kept : (s : Subst) (t : Tree) (k : Key) → is_term t ≡ true → key_of t ≡ Some k → key_of (apply s t) ≡ Some k
-key_kept s (Variable n) k is h = absurd cc
-key_kept s (Integer z) k is h = absurd cc
-key_kept s (Name a) k is h = h
-key_kept s (Apply f ts) k is h = ap (λ (n : ℕ). Some (key f n)) (count-apply s ts (row_of_goal f ts is)) ∙ h
-key_kept s End k is h = absurd cc
-key_kept s (More t ts) k is h = absurd cc
 
 -- ---- built-ins and their arguments
 

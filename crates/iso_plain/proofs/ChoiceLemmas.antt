@@ -1,19 +1,20 @@
 -- The newest choice is left at its next clause, or is taken away with its last one.
-use Rattle.std.proofs.Common.{◌≡◌, ℕ, zero, suc, ◌+◌, ◌-◌, ◌<◌, ◌≤◌, List, [], ◌∷◌, ◌++◌, length, take, get_or, slice_set, Some, true, refl, ap, sym, ◌∙◌, subst, arith, Vec, Global}
+use Rattle.std.proofs.Common.{◌≡◌, ℕ, zero, suc, ◌+◌, ◌-◌, ◌<◌, ◌≤◌, List, [], ◌∷◌, ◌++◌, length, take, get_or, slice_set, Some, refl, ap, sym, ◌∙◌, subst, arith, Vec, Global}
 use Rattle.std.specs.List.{slice_get}
 use Rattle.iso_model.specs.Terms.Variables.{variables}
 use Rattle.iso_model.specs.Search.Databases as databases
 use Rattle.iso_model.specs.Search.Databases.{Procedures}
+use Rattle.iso_model.specs.Search.Walker.{State, Alternative, Clauses, with_others}
+use Rattle.iso_store.specs.Presents.{Present}
 use Rattle.iso_plain.specs.declared.procedures.Procedure.{Procedure}
 use Rattle.iso_plain.specs.declared.parts.Choice as kept
-use Rattle.iso_plain.specs.Programs.{IsDatabase}
-use Rattle.iso_store.specs.Presents.{Present}
 use Rattle.iso_plain.specs.declared.plain.Plain.{Plain}
-use Rattle.iso_plain.specs.Linked.{Linked, Choice, with_choice}
-use Rattle.iso_plain.specs.Standing.{Chain, AreVariables, StandsForChoices, HaveRoom}
-use Rattle.iso_plain.specs.EngineStates.{Tries, WentBack, left_at, clauses_at_place, clauses_left}
+use Rattle.iso_plain.specs.Programs.{IsDatabase}
+use Rattle.iso_plain.specs.Standing.{AtGoal, StandsForChoices}
+use Rattle.iso_plain.specs.EngineStates.{Calls, WentBack, Retries, left_at, links_of, clauses_at_place, clauses_left}
 use Rattle.iso_plain.proofs.KeptLemmas.{kept_at}
 use Rattle.iso_plain.proofs.CountLemmas.{clauses_counted, left_next, left_last}
+use Rattle.iso_plain.proofs.SearchSteps.{back}
 use Rattle.iso_plain.proofs.StandingLemmas.{choices_push, choices_keep}
 
 -- The clauses behind the one at this place.
@@ -50,7 +51,7 @@ last_set (x ∷ xs) (suc i) d all = ap (λ (ys : List _). x ∷ ys) (last_set xs
 
 -- the choice at this clause
 abbrev pub at_clause : {W M : Type 0} → kept.Choice W M → ℕ → kept.Choice W M
-at_clause c n = record { mark = c.mark; frames = c.frames; attempt = record { procedure = c.attempt.procedure; clause = n; goal = c.attempt.goal; rest = c.attempt.rest } }
+at_clause c n = record { mark = c.mark; nodes = c.nodes; frames = c.frames; attempt = record { procedure = c.attempt.procedure; clause = n; goal = c.attempt.goal; rest = c.attempt.rest } }
 
 -- the choice at its next clause
 abbrev pub next_of : {W M : Type 0} → kept.Choice W M → kept.Choice W M
@@ -82,112 +83,98 @@ pub fewer_choices : {W M : Type 0} (ps : List Procedure) (before : List (kept.Ch
     → clauses_left ps before + 1 ≤ clauses_left ps (before ++ c ∷ [])
 fewer_choices ps before c within = (let old = left_last ps before c in omega (arith, old, within))
 
+-- the first of some clauses
+pub record First (cs : List databases.Clause) : Type 0 where
+  pub clause : databases.Clause
+  pub others : List databases.Clause
+  pub is : cs ≡ clause ∷ others
+
+pub first_of : (cs : List databases.Clause) → 0 < length cs → First cs
+first_of [] h = absurd (omega (arith, h))
+first_of (c ∷ cs) h = record { clause = c; others = cs; is = refl }
+
 module _ {S W M : Type 0} (present : S → Present W) (stands : S → M → Present W → Type 0) (older : M → M → Type 0) where
-  -- the clauses behind the one that is tried
-  pub rest_of : (e : Plain S W M) (c : kept.Choice W M) (l : Linked) (k : Choice) (below : List Choice) (x : databases.Clause) (xs : List databases.Clause)
-      → WentBack present stands older e c l k below → k.clauses ≡ x ∷ xs → Rest e.procedures.items l.world.database.procedures c.attempt.procedure c.attempt.clause xs
-  rest_of e c l k below x xs w is = rest_at e.procedures.items l.world.database.procedures c.attempt.procedure c.attempt.clause x xs w.world.procedures_are (sym w.clauses ∙ is)
+  module _ (e : Plain S W M) (c : kept.Choice W M) (s : State) (a : Alternative) (below : List Alternative) (w : WentBack present stands older e c s a below) where
+    -- the clauses that are left
+    abbrev pub left : First (left_at s.world.database.procedures c.attempt.procedure c.attempt.clause)
+    left = first_of (left_at s.world.database.procedures c.attempt.procedure c.attempt.clause) w.some
 
-  -- what is left at the choice, whatever it is
-  pub record Within (e : Plain S W M) (c : kept.Choice W M) : Type 0 where
-    pub procedure : c.attempt.procedure < length e.procedures.items
-    pub clause : c.attempt.clause < clauses_at_place e.procedures.items c.attempt.procedure
+    pub rest : Rest e.procedures.items s.world.database.procedures c.attempt.procedure c.attempt.clause left.others
+    rest = rest_at e.procedures.items s.world.database.procedures c.attempt.procedure c.attempt.clause left.clause left.others w.world.procedures_are left.is
 
-  within_of : (e : Plain S W M) (c : kept.Choice W M) (l : Linked) (k : Choice) (below : List Choice) (cs : List databases.Clause)
-      → WentBack present stands older e c l k below → k.clauses ≡ cs → Within e c
-  within_of e c l k below [] w is = absurd (let some = w.some in let none : length k.clauses ≡ 0 = ap length is in omega (arith, some, none))
-  within_of e c l k below (x ∷ xs) w is =
-      let r = rest_of e c l k below x xs w is in
-      let many = r.count in
-      record { procedure = r.within; clause = omega (arith, many) }
+    pub within : c.attempt.clause < clauses_at_place e.procedures.items c.attempt.procedure
+    within = (let many = rest.count in omega (arith, many))
 
-  pub within : (e : Plain S W M) (c : kept.Choice W M) (l : Linked) (k : Choice) (below : List Choice) → WentBack present stands older e c l k below → Within e c
-  within e c l k below w = within_of e c l k below k.clauses w refl
+    -- the choices as they are, by the newest
+    pub choices_are : 0 < length e.choices.items → e.choices.items ≡ take (length e.choices.items - 1) e.choices.items ++ c ∷ []
+    choices_are some = last_split e.choices.items (length e.choices.items - 1) c w.newest (omega (arith, some))
 
-  -- the choices as they are, by the newest
-  pub choices_are : (e : Plain S W M) (c : kept.Choice W M) (l : Linked) (k : Choice) (below : List Choice) → WentBack present stands older e c l k below → 0 < length e.choices.items
-      → e.choices.items ≡ take (length e.choices.items - 1) e.choices.items ++ c ∷ []
-  choices_are e c l k below w some = last_split e.choices.items (length e.choices.items - 1) c w.newest (omega (arith, some))
+    next_calls : (xs : List databases.Clause) (choices : Vec (kept.Choice W M) Global) → left_at s.world.database.procedures c.attempt.procedure c.attempt.clause ≡ left.clause ∷ xs
+        → left_at s.world.database.procedures c.attempt.procedure (c.attempt.clause + 1) ≡ xs → 0 < length xs
+        → choices.items ≡ take (length e.choices.items - 1) e.choices.items ++ next_of c ∷ []
+        → Calls present stands older (record e { choices = choices }) c.attempt (with_others w.call xs a.list (back a below s)) w.call left.clause xs a.list
+    next_calls [] choices is next some made = absurd (omega (arith, some))
+    next_calls (y ∷ ys) choices is next some made =
+        let b : Alternative = record { list = a.list; subst = a.subst; next = a.next; built = a.built; left = Clauses w.call (y ∷ ys) } in
+        record {
+          world = record { procedures_are = w.world.procedures_are; operators_are = w.world.operators_are; flags_are = w.world.flags_are };
+          steps = w.steps;
+          base = w.base;
+          choices = subst (λ (ds : List (kept.Choice W M)). StandsForChoices (stands e.store) older e.base (left_at s.world.database.procedures) e.query.items (variables s.query) (links_of e) ds (b ∷ below)) (sym made)
+              (choices_push (next_of c) b w.nodes w.frames
+              (record {
+                present = present e.store;
+                mark = w.mark;
+                newer = w.newer_base;
+                call = w.call;
+                at = w.at;
+                left = ap (Clauses w.call) (sym next);
+                some = subst (λ (cs : List databases.Clause). 0 < length cs) (sym next) some;
+              }) w.newer w.stands_below);
+          room = (w.room.0, w.room.1);
+          space = w.room.0;
+          at = w.at;
+          clauses = is;
+        }
 
-  next_choices : (e : Plain S W M) (c : kept.Choice W M) (l : Linked) (k : Choice) (below : List Choice) (x : databases.Clause) (xs : List databases.Clause) (new : List (kept.Choice W M))
-      → WentBack present stands older e c l k below → k.clauses ≡ x ∷ xs → c.attempt.clause + 1 < clauses_at_place e.procedures.items c.attempt.procedure
-      → new ≡ take (length e.choices.items - 1) e.choices.items ++ next_of c ∷ []
-      → StandsForChoices (stands e.store) older e.base (left_at l.world.database.procedures) e.query.items (variables l.query) e.frames.items new (with_choice k.call xs k.behind k.subst k.next below)
-  next_choices e c l k below x [] new w is more made = absurd (let r = rest_of e c l k below x [] w is in let many = r.count in omega (arith, many, more))
-  next_choices e c l k below x (y ∷ ys) new w is more made =
-      let r = rest_of e c l k below x (y ∷ ys) w is in
-      subst (λ (ds : List (kept.Choice W M)). StandsForChoices (stands e.store) older e.base (left_at l.world.database.procedures) e.query.items (variables l.query) e.frames.items ds
-      (record { call = k.call; clauses = y ∷ ys; behind = k.behind; subst = k.subst; next = k.next } ∷ below)) (sym made)
-      (choices_push (next_of c) (record { call = k.call; clauses = y ∷ ys; behind = k.behind; subst = k.subst; next = k.next }) w.kept_frames
-      (record {
-        present = present e.store;
-        mark = w.mark;
-        newer = w.newer_base;
-        subst = w.subst;
-        next = w.next;
-        goal = w.holds;
-        call = w.call_is;
-        behind = w.links;
-        clauses = sym r.next;
-        some = omega arith;
-        words = w.words;
-      }) w.newer w.stands_below)
+    -- the newest choice was left at its next clause
+    pub retries_next : (choices : Vec (kept.Choice W M) Global) → c.attempt.clause + 1 < clauses_at_place e.procedures.items c.attempt.procedure
+        → choices.items ≡ take (length e.choices.items - 1) e.choices.items ++ next_of c ∷ [] → Retries present stands older (record e { choices = choices }) c.attempt s a below
+    retries_next choices more made = record {
+      call = w.call;
+      clause = left.clause;
+      others = left.others;
+      left = w.left ∙ ap (Clauses w.call) left.is;
+      calls = next_calls left.others choices left.is rest.next (let many = rest.count in omega (arith, many, more)) made;
+    }
 
-  room_with : (steps : ℕ) (k : Choice) (below : List Choice) (xs : List databases.Clause) → HaveRoom steps (k ∷ below) → HaveRoom steps (with_choice k.call xs k.behind k.subst k.next below)
-  room_with steps k below [] h = h.1
-  room_with steps k below (x ∷ xs) h = (h.0, h.1)
+    last_calls : (xs : List databases.Clause) (store : S) (choices : Vec (kept.Choice W M) Global) → left_at s.world.database.procedures c.attempt.procedure c.attempt.clause ≡ left.clause ∷ xs → length xs ≡ 0
+        → present store ≡ present e.store → ((m : M) (p : Present W) → older m c.mark → stands e.store m p → stands store m p)
+        → choices.items ≡ take (length e.choices.items - 1) e.choices.items
+        → Calls present stands older (record e { store = store; choices = choices }) c.attempt (with_others w.call xs a.list (back a below s)) w.call left.clause xs a.list
+    last_calls (y ∷ ys) store choices is none same marks made = absurd (omega (arith, none))
+    last_calls [] store choices is none same marks made =
+        let b = w.base in
+        record {
+          world = record { procedures_are = w.world.procedures_are; operators_are = w.world.operators_are; flags_are = w.world.flags_are };
+          steps = w.steps;
+          base = record { present = b.present; stands_for = marks e.base b.present w.newer_base b.stands_for; substitution = b.substitution; next = b.next };
+          choices = subst (λ (ds : List (kept.Choice W M)). StandsForChoices (stands store) older e.base (left_at s.world.database.procedures) e.query.items (variables s.query) (links_of e) ds below) (sym made)
+              (choices_keep (λ d p among stood. marks d.mark p (w.newer d among) stood) w.stands_below);
+          room = w.room.1;
+          space = w.room.0;
+          at = subst (λ (p : Present W). AtGoal p (links_of e) e.query.items (variables s.query) c.attempt.goal c.attempt.rest w.call a.list a.subst a.next) (sym same) w.at;
+          clauses = is;
+        }
 
-  -- the newest choice was left at its next clause
-  pub tries_next : (e : Plain S W M) (c : kept.Choice W M) (l : Linked) (k : Choice) (below : List Choice) (x : databases.Clause) (xs : List databases.Clause) (choices : Vec (kept.Choice W M) Global)
-      → WentBack present stands older e c l k below → k.clauses ≡ x ∷ xs → c.attempt.clause + 1 < clauses_at_place e.procedures.items c.attempt.procedure
-      → choices.items ≡ take (length e.choices.items - 1) e.choices.items ++ next_of c ∷ []
-      → Tries present stands older (record e { choices = choices }) c.attempt (record l { subst = k.subst; next = k.next; stack = below }) k.call x xs k.behind
-  tries_next e c l k below x xs choices w is more made = record {
-    world = w.world;
-    steps = w.steps;
-    base = w.base;
-    choices = next_choices e c l k below x xs choices.items w is more made;
-    room = room_with e.steps k below xs w.room;
-    space = w.room.0;
-    subst = w.subst;
-    next = w.next;
-    holds = w.holds;
-    call_is = sym w.call_is;
-    links = w.links;
-    variables = w.words;
-    clauses = sym w.clauses ∙ is;
-  }
-
-  last_choices : (e : Plain S W M) (store : S) (c : kept.Choice W M) (l : Linked) (k : Choice) (below : List Choice) (x : databases.Clause) (xs : List databases.Clause) (new : List (kept.Choice W M))
-      → WentBack present stands older e c l k below → k.clauses ≡ x ∷ xs → clauses_at_place e.procedures.items c.attempt.procedure ≤ c.attempt.clause + 1
-      → ((m : M) (p : Present W) → older m c.mark → stands e.store m p → stands store m p) → new ≡ take (length e.choices.items - 1) e.choices.items
-      → StandsForChoices (stands store) older e.base (left_at l.world.database.procedures) e.query.items (variables l.query) e.frames.items new (with_choice k.call xs k.behind k.subst k.next below)
-  last_choices e store c l k below x (y ∷ ys) new w is none marks made = absurd (let r = rest_of e c l k below x (y ∷ ys) w is in let many = r.count in omega (arith, many, none))
-  last_choices e store c l k below x [] new w is none marks made =
-      subst (λ (ds : List (kept.Choice W M)). StandsForChoices (stands store) older e.base (left_at l.world.database.procedures) e.query.items (variables l.query) e.frames.items ds below) (sym made)
-      (choices_keep (λ d p among stood. marks d.mark p (w.newer d among) stood) w.stands_below)
-
-  -- the newest choice was taken away with its last clause
-  pub tries_last : (e : Plain S W M) (store : S) (c : kept.Choice W M) (l : Linked) (k : Choice) (below : List Choice) (x : databases.Clause) (xs : List databases.Clause) (choices : Vec (kept.Choice W M) Global)
-      → WentBack present stands older e c l k below → k.clauses ≡ x ∷ xs → clauses_at_place e.procedures.items c.attempt.procedure ≤ c.attempt.clause + 1
-      → present store ≡ present e.store → ((m : M) (p : Present W) → older m c.mark → stands e.store m p → stands store m p)
-      → choices.items ≡ take (length e.choices.items - 1) e.choices.items
-      → Tries present stands older (record e { store = store; choices = choices }) c.attempt (record l { subst = k.subst; next = k.next; stack = below }) k.call x xs k.behind
-  tries_last e store c l k below x xs choices w is none same marks made =
-      let b = w.base in
-      let back = sym same in
-      record {
-        world = w.world;
-        steps = w.steps;
-        base = record { present = b.present; stands_for = marks e.base b.present w.newer_base b.stands_for; substitution = b.substitution; next = b.next };
-        choices = last_choices e store c l k below x xs choices.items w is none marks made;
-        room = room_with e.steps k below xs w.room;
-        space = w.room.0;
-        subst = subst (λ (p : Present W). p.substitution ≡ k.subst) back w.subst;
-        next = subst (λ (p : Present W). p.next ≡ k.next) back w.next;
-        holds = subst (λ (p : Present W). p.holds c.attempt.goal ≡ true) back w.holds;
-        call_is = subst (λ (p : Present W). p.term c.attempt.goal ≡ k.call) back (sym w.call_is);
-        links = subst (λ (p : Present W). Chain p e.frames.items c.attempt.rest k.behind) back w.links;
-        variables = subst (λ (p : Present W). AreVariables p e.query.items (variables l.query)) back w.words;
-        clauses = sym w.clauses ∙ is;
-      }
+    -- the newest choice was taken away with its last clause
+    pub retries_last : (store : S) (choices : Vec (kept.Choice W M) Global) → clauses_at_place e.procedures.items c.attempt.procedure ≤ c.attempt.clause + 1
+        → present store ≡ present e.store → ((m : M) (p : Present W) → older m c.mark → stands e.store m p → stands store m p)
+        → choices.items ≡ take (length e.choices.items - 1) e.choices.items → Retries present stands older (record e { store = store; choices = choices }) c.attempt s a below
+    retries_last store choices none same marks made = record {
+      call = w.call;
+      clause = left.clause;
+      others = left.others;
+      left = w.left ∙ ap (Clauses w.call) left.is;
+      calls = last_calls left.others store choices left.is (let many = rest.count in omega (arith, many, none)) same marks made;
+    }

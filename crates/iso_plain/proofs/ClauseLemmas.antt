@@ -13,9 +13,9 @@ use Rattle.iso_model.specs.Search.Databases.{key_of}
 use Rattle.iso_model.specs.Search.Errors.{key}
 use Rattle.iso_model.specs.Search.Additions.{head_of, body_of}
 use Rattle.iso_model.proofs.OnTerms.RowLemmas.{term_of_compound, count_row_of}
+use Rattle.iso_plain.specs.declared.bodies.Node.{Node}
 use Rattle.iso_plain.specs.declared.bodies.BodyFault.TheVariants.{NotCallable}
-use Rattle.iso_plain.specs.Goals.{AppendsGoals}
-use Rattle.iso_plain.specs.Linked.{goals_of}
+use Rattle.iso_plain.specs.Nodes.{layout_of, AppendsBody}
 use Rattle.iso_plain.proofs.BodyLemmas.{length-row_of}
 
 pub key_of_compound : (t : Term) (f : String Global) (v : Vec Term Global) → t ≡ Compound f v → key_of (term_of t) ≡ Some (key (string_bytes f) (vec_len v))
@@ -23,9 +23,9 @@ key_of_compound t f v is =
     let n = count_row_of v.items ∙ sym v.ok.0 in
     rw (is, term_of_compound f v, n) refl
 
--- the goals of a body that is `true`
-pub true_goals : (t : Tree) → t ≡ Name (codes "true") → (b : Body) × (converted t ≡ Some b) × ([] ≡ goals_of b)
-true_goals t e = (Run (Name (codes "true")), ap converted e, refl)
+-- the parts of a body that is `true`
+pub true_parts : (t : Tree) → t ≡ Name (codes "true") → (b : Body) × (converted t ≡ Some b) × ([] ≡ layout_of b)
+true_parts t e = (Run (Name (codes "true")), ap converted e, refl)
 
 is_true_name : (a : List ℕ) → bytes_eq a (codes "true") ≡ true → Name a ≡ Name (codes "true")
 is_true_name a h = ap Name ((bytes_eq-Decides a (codes "true")).0 h)
@@ -53,14 +53,14 @@ untrue (Apply f t) b e h = let same : Run (Apply f t) ≡ b = cc in rw (← same
 untrue End b e h = cc
 untrue (More t ts) b e h = cc
 
--- the goals of a body that isn't
-pub other_goals : (t : Tree) (new : List Tree) → (t ≡ Name (codes "true") → ⊥) → AppendsGoals (converted t) [] (Ok tt) new → (b : Body) × (converted t ≡ Some b) × (new ≡ goals_of b)
-other_goals t new h k = appended (converted t) refl k where
-  appended : (o : Option Body) → converted t ≡ o → AppendsGoals o [] (Ok tt) new → (b : Body) × (converted t ≡ Some b) × (new ≡ goals_of b)
+-- the parts of a body that isn't
+pub other_parts : (t : Tree) (new : List (Node Tree)) → (t ≡ Name (codes "true") → ⊥) → AppendsBody (converted t) [] (Ok tt) new → (b : Body) × (converted t ≡ Some b) × (new ≡ layout_of b)
+other_parts t new h k = appended (converted t) refl k where
+  appended : (o : Option Body) → converted t ≡ o → AppendsBody o [] (Ok tt) new → (b : Body) × (converted t ≡ Some b) × (new ≡ layout_of b)
   appended None e k = absurd k
   appended (Some b) e k = (b, e, rw (untrue t b e h) k)
 
-pub not_converted : (o : Option Body) (old new : List Tree) → AppendsGoals o old (Err NotCallable) new → o ≡ None
+pub not_converted : (o : Option Body) (old new : List (Node Tree)) → AppendsBody o old (Err NotCallable) new → o ≡ None
 not_converted None old new h = refl
 not_converted (Some b) old new h = absurd h
 

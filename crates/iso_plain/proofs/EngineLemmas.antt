@@ -1,90 +1,143 @@
 -- The engine's parts behind a clause that was tried.
-use Rattle.std.proofs.Common.{◌≡◌, ℕ, ◌+◌, List, ◌++◌, Option, Some, None, refl, ap, ◌∙◌, arith, inl, inr, Vec, Global}
+use Rattle.std.proofs.Common.{◌≡◌, ◌<◌, ℕ, ◌+◌, List, [], ◌∷◌, ◌++◌, true, false, length, refl, ap, ◌∙◌, sym, subst, arith, Vec, Global, append-nil, length-append}
 use Rattle.std.specs.Prelude.{option_map}
 use Rattle.iso_model.specs.Terms.Variables.{variables}
-use Rattle.iso_model.specs.Terms.Trees.{Tree}
+use Rattle.iso_model.specs.Terms.Trees.{Tree, Variable}
 use Rattle.iso_model.specs.Terms.TermOf.{term_of}
 use Rattle.iso_model.specs.Terms.Substitutions.{Subst, apply, compose}
 use Rattle.iso_model.specs.Terms.Unifiers.{Unifier, NeverEqual}
 use Rattle.iso_model.specs.Terms.Copies.{renamed}
+use Rattle.iso_model.specs.Search.Bodies.{Body, map_body, is_true}
 use Rattle.iso_model.specs.Search.Databases as databases
-use Rattle.iso_store.specs.Presents.{Present, KeepsWords, KeepsMarks}
+use Rattle.iso_model.specs.Search.Walker.{State, Member, Goal, tried_clause, before, clause_size}
+use Rattle.iso_model.proofs.Search.CallLemmas.{clause_found, clause_missed}
+use Rattle.iso_store.specs.Presents.{Present, KeepsMarks}
+use Rattle.iso_plain.specs.Nodes.{layout, layout_of, trees_of}
+use Rattle.iso_plain.specs.declared.bodies.Node.{Node}
 use Rattle.iso_plain.specs.declared.clauses.Clause.{Clause}
-use Rattle.iso_plain.specs.declared.parts.Frame.{Frame}
+use Rattle.iso_plain.specs.declared.entries.Entered.{Entered}
+use Rattle.iso_plain.specs.declared.entries.Entered.TheVariants as entered
 use Rattle.iso_plain.specs.declared.parts.Attempt.{Attempt}
 use Rattle.iso_plain.specs.declared.parts.Now.{Now}
 use Rattle.iso_plain.specs.declared.parts.Now.TheVariants as now
 use Rattle.iso_plain.specs.declared.plain.Plain.{Plain}
-use Rattle.iso_plain.specs.Linked.{Linked, clause_goals, with_choice, linked_missed, linked_entered}
-use Rattle.iso_plain.specs.Standing.{Chain, StandsForChoices}
+use Rattle.iso_plain.specs.Standing.{Links, IsBody, GoesOn, DoesNext}
 use Rattle.iso_plain.specs.Kept.{IsClause}
-use Rattle.iso_plain.specs.Entering.{Enters, AddsFrames, renamed_terms}
+use Rattle.iso_plain.specs.Entering.{Enters, Meets, Copies, Adds, AreNodes, renamed_nodes}
 use Rattle.iso_plain.specs.Next.{now_behind, now_entered}
-use Rattle.iso_plain.specs.EngineStates.{IsBase, IsEngine, Tries, Tried, left_at}
-use Rattle.iso_plain.proofs.StandingLemmas.{choices_more, choices_keep, variables_more, next_behind}
-use Rattle.iso_plain.proofs.KeptLemmas.{kept_goals}
-use Rattle.iso_plain.proofs.CallableLemmas.{goals_entered}
+use Rattle.iso_plain.specs.EngineStates.{IsEngine, Calls, links_of}
+use Rattle.iso_plain.proofs.StandingLemmas.{AddsLinks, chain_more, variables_more, next_behind}
+use Rattle.iso_plain.proofs.NodeLemmas.{layout_is, layout_renamed, fact_true, body_untrue, goals_renamed, body_at}
+use Rattle.iso_plain.proofs.EnteringLemmas.{adds_none}
+use Rattle.iso_plain.proofs.StoppedLemmas.{base_kept, choices_on}
+
+-- the members that a clause brings: its body where it isn't `true`
+before_fact : (b : Body) (mark : ℕ) (rest : List Member) → is_true b ≡ true → before b mark rest ≡ rest
+before_fact b mark rest is = rw is refl
+
+before_body : (b : Body) (mark : ℕ) (rest : List Member) → is_true b ≡ false → before b mark rest ≡ Goal b mark ∷ rest
+before_body b mark rest is = rw is refl
 
 module _ {S W M : Type 0} (present : S → Present W) (stands : S → M → Present W → Type 0) (older : M → M → Type 0) where
-  -- the engine with another store, other frames and something else to do next
-  abbrev pub onward : Plain S W M → S → Vec (Frame W) Global → Now → Plain S W M
-  onward e store frames doing = record e { store = store; frames = frames; now = doing }
+  -- the engine with another store, other nodes and something else to do next
+  abbrev pub onward : Plain S W M → S → Vec (Node W) Global → Now → Plain S W M
+  onward e store nodes doing = record e { store = store; nodes = nodes; now = doing }
 
-  -- the mark for the empty store, the choices and their marks behind calls that keep marks
-  pub base_kept : (old new : M → Present W → Type 0) (base : M) → KeepsMarks old new → IsBase old base → IsBase new base
-  base_kept old new base keeps b = record { present = b.present; stands_for = keeps base b.present b.stands_for; substitution = b.substitution; next = b.next }
+  -- The engine tried the clause, and these are the store and the nodes now.
+  pub record Tried (e : Plain S W M) (attempt : Attempt W) (s : State) (call : Tree) (c : databases.Clause) (cs : List databases.Clause) (behind : List Member) (store : S) (nodes : Vec (Node W) Global) (k : Clause) : Type 0 where
+    pub calls : Calls present stands older e attempt s call c cs behind
+    pub keeps : KeepsMarks (stands e.store) (stands store)
+    pub adds : Adds e.nodes.items nodes.items
+    pub is : IsClause k c
 
-  pub choices_on : (e : Plain S W M) (attempt : Attempt W) (l : Linked) (call : Tree) (c : databases.Clause) (cs : List databases.Clause) (behind : List Tree) (store : S) (frames : Vec (Frame W) Global)
-      → Tries present stands older e attempt l call c cs behind → KeepsMarks (stands e.store) (stands store) → AddsFrames e.frames.items frames.items
-      → StandsForChoices (stands store) older e.base (left_at l.world.database.procedures) e.query.items (variables l.query) frames.items e.choices.items (with_choice call cs behind l.subst l.next l.stack)
-  choices_on e attempt l call c cs behind store frames t keeps adds =
-      rw adds.1 (choices_more adds.0 (choices_keep (λ d p among stood. keeps d.mark p stood) t.choices))
+  module _ (e : Plain S W M) (attempt : Attempt W) (s : State) (call : Tree) (c : databases.Clause) (cs : List databases.Clause) (behind : List Member) (store : S) (nodes : Vec (Node W) Global) (k : Clause) (mark : ℕ)
+      (t : Tried e attempt s call c cs behind store nodes k) where
+    abbrev p : Present W
+    p = present e.store
 
-  pub missed_engine : (e : Plain S W M) (attempt : Attempt W) (l : Linked) (call : Tree) (c : databases.Clause) (cs : List databases.Clause) (behind : List Tree) (store : S) (frames : Vec (Frame W) Global)
-      → Tries present stands older e attempt l call c cs behind → KeepsMarks (stands e.store) (stands store) → AddsFrames e.frames.items frames.items
-      → IsEngine present stands older (onward e store frames now.Failing) (linked_missed call c cs behind l)
-  missed_engine e attempt l call c cs behind store frames t keeps adds = record {
-    world = t.world;
-    steps = t.steps;
-    base = base_kept (stands e.store) (stands store) e.base keeps t.base;
-    choices = choices_on e attempt l call c cs behind store frames t keeps adds;
-    room = t.room;
-    next = refl;
-  }
+    abbrev q : Present W
+    q = present store
 
-  pub entered_engine : (e : Plain S W M) (attempt : Attempt W) (l : Linked) (call : Tree) (c : databases.Clause) (cs : List databases.Clause) (behind : List Tree) (store : S) (frames : Vec (Frame W) Global)
-      (place : Option ℕ) (k : Clause) (u : Subst)
-      → Tries present stands older e attempt l call c cs behind → KeepsMarks (stands e.store) (stands store) → AddsFrames e.frames.items frames.items → IsClause k c
-      → (present store).substitution ≡ compose (present e.store).substitution u → (present store).next ≡ (present e.store).next + k.variables → KeepsWords (present e.store) (present store)
-      → Chain (present store) frames.items place (renamed_terms (present e.store).next k.goals.items ++ behind)
-      → IsEngine present stands older (onward e store frames (now_behind place)) (linked_entered call c cs behind l (compose l.subst u))
-  entered_engine e attempt l call c cs behind store frames place k u t keeps adds is substitution next words chain =
-      let goals : renamed_terms (present e.store).next k.goals.items ≡ clause_goals l.next c = rw t.next (kept_goals l.next k c is) in
-      let here : Chain (present store) frames.items place (clause_goals l.next c ++ behind) = rw goals at chain in
-      let subst_is : (present store).substitution ≡ compose l.subst u = substitution ∙ ap (λ (r : Subst). compose r u) t.subst in
-      let next_is : (present store).next ≡ l.next + c.variables = (let a = t.next in let b = is.variables in omega (arith, next)) in
-      record {
-        world = t.world;
-        steps = t.steps;
-        base = base_kept (stands e.store) (stands store) e.base keeps t.base;
-        choices = choices_on e attempt l call c cs behind store frames t keeps adds;
-        room = t.room;
-        next = next_behind (present store) frames.items e.query.items (option_map (λ b. term_of b.term) e.raised) (linked_entered call c cs behind l (compose l.subst u)) place (clause_goals l.next c ++ behind) refl here
-            (record { subst = subst_is; next = next_is; room = (let few = is.few in let space = t.space in let steps = t.steps in omega (arith, few, space, steps)); words = variables_more words t.variables });
-      }
+    abbrev links : Links W
+    links = record { nodes = nodes.items; frames = e.frames.items }
 
-  -- what an entry comes to
-  pub tried_engine : (e : Plain S W M) (attempt : Attempt W) (l : Linked) (call : Tree) (c : databases.Clause) (cs : List databases.Clause) (behind : List Tree) (store : S) (frames : Vec (Frame W) Global)
-      (entered : Option (Option ℕ)) (k : Clause) → Tries present stands older e attempt l call c cs behind → KeepsMarks (stands e.store) (stands store) → AddsFrames e.frames.items frames.items
-      → IsClause k c
-      → Enters (present e.store) e.frames.items attempt.rest (present store) frames.items ((present e.store).term attempt.goal) (term_of k.head) k.goals.items k.variables entered
-      → Tried present stands older (onward e store frames (now_entered entered)) l call c cs behind
-  tried_engine e attempt l call c cs behind store frames None k t keeps adds is never =
-      let P : Subst → ℕ → Tree → Tree → Type 0 = λ r n a h. NeverEqual (apply r a) (apply r (renamed n h)) in
-      let here : P l.subst l.next call c.head = rw (← t.subst, ← t.next, ← t.call_is, ← is.head) never in
-      inl (here, missed_engine e attempt l call c cs behind store frames t keeps adds)
-  tried_engine e attempt l call c cs behind store frames (Some place) k t keeps adds is h =
-      let u = h.0 in
-      let P : Subst → ℕ → Tree → Tree → Type 0 = λ r n a x. Unifier (apply r a) (apply r (renamed n x)) u in
-      let here : P l.subst l.next call c.head = rw (← t.subst, ← t.next, ← t.call_is, ← is.head) h.1 in
-      inr (u, here, entered_engine e attempt l call c cs behind store frames place k u t keeps adds is h.2 h.3 h.4 (h.5 behind t.links (goals_entered (present e.store).next k c is)))
+    -- the parts that don't depend on what comes next
+    with_next : (doing : Now) (v : State) → v.world ≡ s.world → v.steps ≡ s.steps → v.stack ≡ s.stack → v.query ≡ s.query
+        → DoesNext q links e.query.items doing (option_map (λ b. term_of b.term) e.raised) v → IsEngine present stands older (onward e store nodes doing) v
+    with_next doing v world steps stack query next =
+        let h = t.calls in
+        let w = h.world in
+        record {
+          world = rw world (record { procedures_are = w.procedures_are; operators_are = w.operators_are; flags_are = w.flags_are });
+          steps = steps ∙ h.steps;
+          base = base_kept (stands e.store) (stands store) e.base t.keeps h.base;
+          choices = rw (world, stack, query) (choices_on present stands older e store nodes e.frames s.world (variables s.query) s.stack t.keeps t.adds (adds_none e.frames.items) h.choices);
+          room = rw stack h.room;
+          next = next;
+        }
+
+    pub missed_engine : NeverEqual (apply p.substitution (p.term attempt.goal)) (apply p.substitution (renamed p.next (term_of k.head))) → IsEngine present stands older (onward e store nodes now.Failing) (tried_clause call c mark behind s)
+    missed_engine never =
+        let at = (t.calls).at in
+        let P : Tree → Subst → ℕ → Tree → Type 0 = λ a r n h. NeverEqual a (apply r (renamed n h)) in
+        let none : P call s.subst s.next c.head = rw (at.value, ← at.subst_is, ← at.next_is, ← t.is.head) never in
+        let is = clause_missed call c mark behind s none in
+        subst (λ (v : State). IsEngine present stands older (onward e store nodes now.Failing) v) (sym is) (with_next now.Failing _ refl refl refl refl refl)
+
+    -- where members are still to be run
+    goes_on : (m : Meets p q (p.term attempt.goal) (term_of k.head) k.variables) (list : List Member)
+        → GoesOn q e.query.items (record s { list = list; subst = compose s.subst m.unifier; next = s.next + c.variables; built = s.built + clause_size c })
+    goes_on m list =
+        let at = (t.calls).at in
+        record {
+          subst = m.substitution ∙ ap (λ (r : Subst). compose r m.unifier) at.subst_is;
+          next = (let a = at.next_is in let b = t.is.variables in let d = m.next in omega (arith, a, b, d));
+          room = (let few = t.is.few in let space = (t.calls).space in let steps = (t.calls).steps in omega (arith, few, space, steps));
+          words = variables_more m.words at.words;
+        }
+
+    unifies : (m : Meets p q (p.term attempt.goal) (term_of k.head) k.variables) → Unifier call (apply s.subst (renamed s.next c.head)) m.unifier
+    unifies m =
+        let at = (t.calls).at in
+        let P : Tree → Subst → ℕ → Tree → Type 0 = λ a r n h. Unifier a (apply r (renamed n h)) m.unifier in
+        let here : P call s.subst s.next c.head = rw (at.value, ← at.subst_is, ← at.next_is, ← t.is.head) m.is in
+        here
+
+    links_add : AddsLinks (links_of e) links
+    links_add = record { nodes = t.adds; frames = adds_none e.frames.items }
+
+    pub fact_engine : Meets p q (p.term attempt.goal) (term_of k.head) k.variables → trees_of k.parts.items ≡ []
+        → IsEngine present stands older (onward e store nodes (now_behind e.frames.items attempt.rest)) (tried_clause call c mark behind s)
+    fact_engine m none =
+        let b = map_body (λ x. Variable (s.next + x)) c.body in
+        let fact = before_fact b mark behind (fact_true s.next c.body (sym t.is.parts ∙ none)) in
+        let v : State = record s { list = before b mark behind; subst = compose s.subst m.unifier; next = s.next + c.variables; built = s.built + clause_size c } in
+        let next : DoesNext q links e.query.items (now_behind e.frames.items attempt.rest) (option_map (λ b. term_of b.term) e.raised) v =
+        next_behind q links e.query.items (option_map (λ b. term_of b.term) e.raised) v attempt.rest behind fact (chain_more links links_add m.words (t.calls).at.chain) (goes_on m (before b mark behind)) in
+        subst (λ (x : State). IsEngine present stands older (onward e store nodes (now_behind e.frames.items attempt.rest)) x) (sym (clause_found call c mark behind s m.unifier (unifies m)))
+        (with_next (now_behind e.frames.items attempt.rest) v refl refl refl refl next)
+
+    pub body_engine : (place : ℕ) → Meets p q (p.term attempt.goal) (term_of k.head) k.variables → Copies q e.nodes.items nodes.items (renamed_nodes p.next (trees_of k.parts.items)) → place + 1 ≡ length nodes.items
+        → 0 < length (trees_of k.parts.items)
+        → IsEngine present stands older (onward e store nodes (now.Running (record { body = place; mark = mark; next = attempt.rest }))) (tried_clause call c mark behind s)
+    body_engine place m copies end some =
+        let b = map_body (λ x. Variable (s.next + x)) c.body in
+        let many : 0 < length (layout_of c.body) = subst (λ ts. 0 < length ts) t.is.parts some in
+        let whole = before_body b mark behind (body_untrue s.next c.body many) in
+        let v : State = record s { list = before b mark behind; subst = compose s.subst m.unifier; next = s.next + c.variables; built = s.built + clause_size c } in
+        let parts : renamed_nodes p.next (trees_of k.parts.items) ≡ layout b =
+        ap (renamed_nodes p.next) (t.is.parts ∙ layout_is c.body many) ∙ (ap (λ (n : ℕ). renamed_nodes n (layout c.body)) (t.calls).at.next_is ∙ layout_renamed s.next c.body) in
+        let are : AreNodes q copies.more (layout b) = subst (λ ts. AreNodes q copies.more ts) parts copies.nodes in
+        let at = body_at q b nodes.items e.nodes.items copies.more [] (copies.are ∙ sym (append-nil (e.nodes.items ++ copies.more))) are (goals_renamed s.next c.variables c.body t.is.goal_templates) in
+        let same : at.place ≡ place = (let a = at.end in let l = ap length copies.are in let n = length-append e.nodes.items copies.more in omega (arith, a, l, n, end)) in
+        let next : DoesNext q links e.query.items (now.Running (record { body = place; mark = mark; next = attempt.rest })) (option_map (λ b. term_of b.term) e.raised) v =
+        (record { body = b; behind = behind; is = whole; node = subst (λ (i : ℕ). IsBody q nodes.items i b) same at.body; chain = chain_more links links_add m.words (t.calls).at.chain }, goes_on m (before b mark behind)) in
+        subst (λ (x : State). IsEngine present stands older (onward e store nodes (now.Running (record { body = place; mark = mark; next = attempt.rest }))) x) (sym (clause_found call c mark behind s m.unifier (unifies m)))
+        (with_next (now.Running (record { body = place; mark = mark; next = attempt.rest })) v refl refl refl refl next)
+
+    -- what an entry comes to
+    pub tried_engine : (entered : Entered) → Enters p q e.nodes.items nodes.items (p.term attempt.goal) k entered
+        → IsEngine present stands older (onward e store nodes (now_entered e.frames.items entered mark attempt.rest)) (tried_clause call c mark behind s)
+    tried_engine entered.Missed never = missed_engine never
+    tried_engine entered.Fact h = fact_engine h.0 h.1
+    tried_engine (entered.Body place) h = body_engine place h.0 h.1 h.2 h.3

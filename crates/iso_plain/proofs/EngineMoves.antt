@@ -1,5 +1,5 @@
 -- A call of `resume` is moves up to an event.
-use Rattle.std.proofs.Common.{◌≡◌, ◌≤◌, ℕ, refl, ap, sym, ◌∙◌, arith, Result, Ok, Err}
+use Rattle.std.proofs.Common.{◌≡◌, ap, ◌∙◌, Result, Ok, Err}
 use Rattle.iso_model.specs.Search.Walker.{State, World, idle}
 use Rattle.iso_model.specs.Search.Additions.{Addition, Adds, Refuses}
 use Rattle.iso_model.specs.declared.pauses.AddFault.{AddFault}
@@ -12,26 +12,14 @@ use Rattle.iso_model.specs.declared.limit.Limit.{Limit}
 use Rattle.iso_model.specs.declared.pauses.Pause.{Pause}
 use Rattle.iso_model.specs.declared.pauses.Pause.TheVariants as pause
 use Rattle.iso_store.specs.Presents.{Present}
-use Rattle.iso_plain.specs.Linked.{idle_linked}
 use Rattle.iso_plain.specs.EngineStates.{IsEngine, Represents, Stopped, StandsBy, StandsFor, phase_of, settings_of, settings_in}
 use Rattle.iso_plain.specs.declared.parts.Now.{Now}
 use Rattle.iso_plain.specs.declared.parts.Now.TheVariants as now
 use Rattle.iso_plain.specs.declared.plain.Plain.{Plain}
-use Rattle.iso_plain.proofs.LinkedMoves.{is_idle, world_is}
-use Rattle.iso_plain.proofs.StoppedLemmas.{world_settings, keeps_all, stopped_here, stopped_behind}
-
--- a number that falls does so behind others that fall
-pub falls_behind : (p : Pause) (a b c : ℕ) → b ≤ a → engines.FallsAtEvent p b c → engines.FallsAtEvent p a c
-falls_behind (pause.Answer values) a b c h falls = omega (arith, h, falls)
-falls_behind (pause.Output bytes) a b c h falls = omega (arith, h, falls)
-falls_behind pause.NoMore a b c h falls = falls
-falls_behind pause.Budget a b c h falls = falls
-falls_behind (pause.Uncaught ball) a b c h falls = falls
-falls_behind (pause.Halt status) a b c h falls = falls
-falls_behind pause.HeapFull a b c h falls = falls
-falls_behind pause.FramesFull a b c h falls = falls
-falls_behind pause.NoMemory a b c h falls = falls
-falls_behind pause.Spent a b c h falls = falls
+use Rattle.iso_model.specs.Search.RunLaws.SameSteps.{same_itself}
+use Rattle.iso_model.specs.Search.RunLaws.SameRuns.{same_world}
+use Rattle.iso_plain.proofs.StoppedLemmas.{keeps_all}
+use Rattle.iso_plain.proofs.SearchMoves.{world_settings, stops_here, stopped_behind}
 
 module _ {S W M : Type 0} (present : S → Present W) (stands : S → M → Present W → Type 0) (older : M → M → Type 0) where
   -- an engine that is awake stands for what it represents
@@ -39,7 +27,7 @@ module _ {S W M : Type 0} (present : S → Present W) (stands : S → M → Pres
   awake_stands now.Idle e s awake r = r
   awake_stands now.Failing e s awake r = r
   awake_stands now.Answering e s awake r = r
-  awake_stands (now.Running place) e s awake r = r
+  awake_stands (now.Running frame) e s awake r = r
   awake_stands now.Raising e s awake r = r
   awake_stands (now.Spent limit) e s awake r = absurd awake
 
@@ -47,19 +35,19 @@ module _ {S W M : Type 0} (present : S → Present W) (stands : S → M → Pres
   ready_stands now.Idle e s ready r = r
   ready_stands now.Failing e s ready r = r
   ready_stands now.Answering e s ready r = r
-  ready_stands (now.Running place) e s ready r = r
+  ready_stands (now.Running frame) e s ready r = r
   ready_stands now.Raising e s ready r = r
   ready_stands (now.Spent limit) e s ready r = absurd (cc)
 
   -- an engine keeps the operators and the flags of the states that it stands for
   represents_settings : (e : Plain S W M) (s : State) → Represents present stands older e s → settings_of e ≡ settings_in s.world
-  represents_settings e s r = world_settings present stands older e r.search.world r.engine.world ∙ ap settings_in (sym (world_is r.search s r.state))
+  represents_settings e s r = world_settings present stands older e r.own.world r.engine.world ∙ ap settings_in (same_world r.same)
 
   pub stands_settings : (n : Now) (e : Plain S W M) (s : State) → StandsBy present stands older n e s → settings_of e ≡ settings_in s.world
   stands_settings now.Idle e s r = represents_settings e s r
   stands_settings now.Failing e s r = represents_settings e s r
   stands_settings now.Answering e s r = represents_settings e s r
-  stands_settings (now.Running place) e s r = represents_settings e s r
+  stands_settings (now.Running frame) e s r = represents_settings e s r
   stands_settings now.Raising e s r = represents_settings e s r
   stands_settings (now.Spent limit) e s r = r.settings
 
@@ -67,16 +55,16 @@ module _ {S W M : Type 0} (present : S → Present W) (stands : S → M → Pres
   represents_stands now.Idle e s r = r
   represents_stands now.Failing e s r = r
   represents_stands now.Answering e s r = r
-  represents_stands (now.Running place) e s r = r
+  represents_stands (now.Running frame) e s r = r
   represents_stands now.Raising e s r = r
-  represents_stands (now.Spent limit) e s r = stopped_here present stands older e r.search s r.state (keeps_all present stands older e r.search r.engine)
+  represents_stands (now.Spent limit) e s r = stops_here present stands older e r.own s r.same (keeps_all present stands older e r.own r.engine)
 
   -- a spent engine
   pub spent_stands : (limit : Limit) (n : Now) (e : Plain S W M) (s : State) → phase_of n ≡ engines.Spent limit → Stopped present stands older e s → StandsBy present stands older n e s
   spent_stands limit now.Idle e s h stopped = absurd (cc h)
   spent_stands limit now.Failing e s h stopped = absurd (cc h)
   spent_stands limit now.Answering e s h stopped = absurd (cc h)
-  spent_stands limit (now.Running place) e s h stopped = absurd (cc h)
+  spent_stands limit (now.Running frame) e s h stopped = absurd (cc h)
   spent_stands limit now.Raising e s h stopped = absurd (cc h)
   spent_stands limit (now.Spent k) e s h stopped = stopped
 
@@ -84,7 +72,7 @@ module _ {S W M : Type 0} (present : S → Present W) (stands : S → M → Pres
   spent_behind limit now.Idle e s t h same q stopped = absurd (cc h)
   spent_behind limit now.Failing e s t h same q stopped = absurd (cc h)
   spent_behind limit now.Answering e s t h same q stopped = absurd (cc h)
-  spent_behind limit (now.Running place) e s t h same q stopped = absurd (cc h)
+  spent_behind limit (now.Running frame) e s t h same q stopped = absurd (cc h)
   spent_behind limit now.Raising e s t h same q stopped = absurd (cc h)
   spent_behind limit (now.Spent k) e s t h same q stopped = stopped_behind present stands older e s t same q stopped
 
@@ -102,8 +90,8 @@ module _ {S W M : Type 0} (present : S → Present W) (stands : S → M → Pres
   pauses_behind e s t pause.NoMemory same q h = (spent_behind _ e.now e s t h.1 same q h.0, h.1)
   pauses_behind e s t pause.Spent same q h = absurd h
 
-  pub idle_stands : (e : Plain S W M) (w : World) → IsEngine present stands older e (idle_linked w) → StandsFor present stands older e (idle w)
-  idle_stands e w is = represents_stands e.now e (idle w) (record { search = idle_linked w; engine = is; state = is_idle w w refl })
+  idle_stands : (e : Plain S W M) (w : World) → IsEngine present stands older e (idle w) → StandsFor present stands older e (idle w)
+  idle_stands e w is = represents_stands e.now e (idle w) (record { own = idle w; engine = is; same = same_itself (idle w) })
 
   -- what adding a clause comes to
   pub consults_stand : (a : Addition) (s : State) (result : Result Unit AddFault) (e : Plain S W M) → Comes present stands older a s.world result e

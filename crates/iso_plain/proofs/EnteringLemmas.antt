@@ -1,24 +1,20 @@
 -- What makers add to a store, call by call.
-use Rattle.std.proofs.Common.{◌≡◌, ℕ, zero, suc, ◌+◌, List, [], ◌∷◌, ◌++◌, Bool, true, false, ◌&&◌, ◌<◌, ◌≤◌, nat_le, leb-true, length, take, drop, get_or, map, add-one, append_assoc, Option, Some, ap₂, refl, ap, sym, ◌∙◌, subst, arith}
-use Rattle.std.specs.Prelude.{Result, Ok, Err, IfOk}
+use Rattle.std.proofs.Common.{◌≡◌, ℕ, zero, suc, ◌+◌, List, [], ◌∷◌, ◌++◌, Bool, true, false, ◌&&◌, ◌<◌, ◌≤◌, length, take, drop, get_or, add-one, append_assoc, append-nil, length-append, ◌==◌, refl, ap, sym, ◌∙◌, subst, arith}
 use Rattle.std.proofs.Math.Seq.{drop-cons, take-suc}
-use Rattle.std.proofs.lemmas.List.Elements.{All-nil, All-cons}
-use Rattle.std.specs.List.{All}
 use Rattle.iso_model.specs.declared.terms.Term.{Term}
-use Rattle.iso_model.specs.declared.terms.Term.TheOpen.{Term-F}
-use Rattle.iso_model.specs.declared.terms.Term.TheVariants.{Var, rolls-Var}
-use Rattle.iso_model.specs.declared.terms.Term.TheFolds.{fold-roll-Term}
-use Rattle.iso_model.specs.Terms.TermOf.{term_of, row_of, term_step}
-use Rattle.iso_model.specs.Terms.Trees.{Tree, Variable, Apply, More, row, count, arities_fit}
-use Rattle.iso_model.proofs.OnTerms.RowLemmas.{count_row_of}
+use Rattle.iso_model.specs.Terms.TermOf.{term_of}
+use Rattle.iso_model.specs.Terms.Trees.{Tree, Variable, count}
 use Rattle.iso_model.specs.Terms.Substitutions.{Subst, apply, compose}
 use Rattle.iso_model.specs.Terms.Unifiers.{Unifier, NeverEqual}
 use Rattle.iso_model.specs.Terms.Copies.{numbers_from, renamed}
-use Rattle.iso_store.specs.Presents.{Present, meaning, IsUnification, Binds, Holds, KeepsWords, Makes, MovesOn, KeepsNumbers}
-use Rattle.iso_plain.specs.Standing.{Chain, ends, leads, AreVariables, no_word, one_word}
-use Rattle.iso_plain.specs.Entering.{Extends, AreTerms, no_terms, one_more, is_below, Links, AddsFrames, renamed_terms}
-use Rattle.iso_plain.specs.declared.parts.Frame.{Frame}
-use Rattle.iso_plain.proofs.StandingLemmas.{chain_more, chain_push}
+use Rattle.iso_store.specs.Presents.{Present, meaning, IsUnification, Binds, KeepsWords, Makes, MovesOn, KeepsNumbers}
+use Rattle.iso_plain.specs.Standing.{AreVariables, no_word, one_word}
+use Rattle.iso_plain.specs.Entering.{Extends, Adds, Copies, CopiesPart, Meets, no_nodes, renamed_nodes}
+use Rattle.iso_plain.specs.Nodes.{map_node, trees_of}
+use Rattle.std.proofs.lemmas.List.{map-append}
+use Rattle.iso_plain.specs.declared.bodies.Node.{Node}
+use Rattle.iso_plain.proofs.NodeLemmas.{nodes_push, nodes_length}
+use Rattle.std.proofs.lemmas.Bool.{eqb-true, eq-eqb, true≢false}
 
 pub words_same : {W : Type 0} (p : Present W) → KeepsWords p p
 words_same p = record { stand = λ w h. h; terms = λ w h. refl }
@@ -28,10 +24,6 @@ words_on a b = record { stand = λ w h. b.stand w (a.stand w h); terms = λ w h.
 
 pub extends_none : {W : Type 0} (p : Present W) → Extends p p 0
 extends_none p = record { words = words_same p; substitution = refl; next = omega arith }
-
--- a word that comes without a number
-pub extends_made : {W : Type 0} {p q r : Present W} {w : W} {t : Tree} {n : ℕ} → Extends p q n → Makes q r w t → KeepsNumbers q r → Extends p r n
-extends_made e m k = record { words = words_on e.words m.words; substitution = m.substitution ∙ e.substitution; next = k.next ∙ e.next }
 
 -- a word that comes with a new number
 pub extends_new : {W : Type 0} {p q r : Present W} {w : W} {t : Tree} {n : ℕ} → Extends p q n → Makes q r w t → MovesOn q r 1 → Extends p r (n + 1)
@@ -61,73 +53,9 @@ variables_push {q = q} (v ∷ ws) w n (suc k) (one_word there same others) holds
     let count : suc k + 1 ≡ suc (k + 1) = omega arith in
     rw count (one_word there same (variables_push ws w (n + 1) k others holds (is ∙ ap Variable next)))
 
--- ---- arguments
-
--- what is left of a list of terms, its first taken off
-pub row_at : (xs : List Term) (i : ℕ) (x : Term) → i < length xs → x ≡ get_or xs i x → row_of (drop i xs) ≡ More (term_of x) (row_of (drop (i + 1) xs))
-row_at xs i x within is = rw (drop-cons xs i x within, ← is, add-one) refl
-
--- the first of a list of terms, with one more
-pub front_at : (xs : List Term) (i : ℕ) (x : Term) → i < length xs → x ≡ get_or xs i x → take (i + 1) xs ≡ take i xs ++ x ∷ []
-front_at xs i x within is = rw (add-one, take-suc xs i x within, ← is) refl
-
 pub both_true : (a b : Bool) → a && b ≡ true → (a ≡ true) × (b ≡ true)
 both_true true b h = (refl, h)
 both_true false b h = absurd (cc)
-
--- words for a list of terms, with one more
-pub terms_push : {W : Type 0} {p q : Present W} (first : ℕ) (ws : List W) (ts : List Term) (w : W) (t : Term) → AreTerms p ws (renamed first (row_of ts)) → KeepsWords p q → q.holds w ≡ true
-    → q.term w ≡ renamed first (term_of t) → AreTerms q (ws ++ w ∷ []) (renamed first (row_of (ts ++ t ∷ [])))
-terms_push first [] [] w t no_terms keeps holds is = one_more holds is no_terms
-terms_push first [] (u ∷ ts) w t h keeps holds is = elim h [ ]
-terms_push first (v ∷ ws) [] w t h keeps holds is = elim h [ ]
-terms_push first (v ∷ ws) (u ∷ ts) w t (one_more there same others) keeps holds is =
-    one_more (keeps.stand v there) (keeps.terms v there ∙ same) (terms_push first ws ts w t others keeps holds is)
-
--- what the words of a list of terms stand for
-pub terms_row : {W : Type 0} {p : Present W} {ws : List W} {ts : Tree} → AreTerms p ws ts → row (map p.term ws) ≡ ts
-terms_row no_terms = refl
-terms_row (one_more {w = w} {t = t} {ts = ts} holds is others) = ap₂ More is (terms_row others)
-
-pub terms_hold : {W : Type 0} {p : Present W} (ws : List W) {ts : Tree} → AreTerms p ws ts → All (λ w. Holds p w) ws
-terms_hold {p = p} [] no_terms = All-nil (λ w. Holds p w)
-terms_hold {p = p} (w ∷ ws) (one_more holds is others) = All-cons (λ w. Holds p w) w ws holds (terms_hold ws others)
-
-pub terms_count : {W : Type 0} {p : Present W} {ws : List W} {ts : Tree} → AreTerms p ws ts → length ws ≡ count ts
-terms_count no_terms = refl
-terms_count (one_more holds is others) = omega (arith, terms_count others)
-
--- a variable's word
-pub variable_at : {W : Type 0} {p : Present W} (ws : List W) (first count k : ℕ) (w : W) → AreVariables p ws (numbers_from first count) → k < length ws → w ≡ get_or ws k w
-    → (p.holds w ≡ true) × (p.term w ≡ Variable (first + k))
-variable_at [] first count k w h within is = absurd (omega arith)
-variable_at (v ∷ ws) first zero k w h within is = elim h [ ]
-variable_at {p = p} (v ∷ ws) first (suc count) zero w (one_word holds named others) within is =
-    let number : first ≡ first + 0 = omega arith in
-    (subst (λ (x : _). p.holds x ≡ true) (sym is) holds, ap (λ (x : _). p.term x) is ∙ (named ∙ ap Variable number))
-variable_at {p = p} (v ∷ ws) first (suc count) (suc k) w (one_word holds named others) within is =
-    let there = variable_at ws (first + 1) count k w others (omega arith) is in
-    let number : first + 1 + k ≡ first + suc k = omega arith in
-    (there.0, there.1 ∙ ap Variable number)
-
-pub count_renamed : (first : ℕ) (ts : List Term) → count (renamed first (row_of ts)) ≡ length ts
-count_renamed first [] = refl
-count_renamed first (t ∷ ts) = omega (arith, count_renamed first ts)
-
--- a compound has 1 to 255 arguments
-pub arity_range : (f : List ℕ) (ts : List Term) → arities_fit (Apply f (row_of ts)) ≡ true → (0 < length ts) × (length ts < 256)
-arity_range f ts h =
-    let a = both_true (nat_le 1 (count (row_of ts))) (nat_le (count (row_of ts)) 255 && arities_fit (row_of ts)) h in
-    let b = both_true (nat_le (count (row_of ts)) 255) (arities_fit (row_of ts)) a.1 in
-    let n = count_row_of ts in
-    let low : 1 ≤ count (row_of ts) = leb-true 1 (count (row_of ts)) a.0 in
-    let high : count (row_of ts) ≤ 255 = leb-true (count (row_of ts)) 255 b.0 in
-    (omega arith, omega arith)
-
-pub arguments_fit : (f : List ℕ) (ts : List Term) → arities_fit (Apply f (row_of ts)) ≡ true → arities_fit (row_of ts) ≡ true
-arguments_fit f ts h =
-    let a = both_true (nat_le 1 (count (row_of ts))) (nat_le (count (row_of ts)) 255 && arities_fit (row_of ts)) h in
-    (both_true (nat_le (count (row_of ts)) 255) (arities_fit (row_of ts)) a.1).1
 
 -- words for all of a list of terms
 pub take_all : {X : Type 0} (xs : List X) (i : ℕ) → length xs ≤ i → take i xs ≡ xs
@@ -136,42 +64,11 @@ take_all [] (suc i) h = refl
 take_all (x ∷ xs) zero h = absurd (omega arith)
 take_all (x ∷ xs) (suc i) h = ap (λ (ys : List _). x ∷ ys) (take_all xs i (omega arith))
 
-pub term_of_variable : (n : ℕ) → term_of (Var n) ≡ Variable n
-term_of_variable n = ap term_of (sym (rolls-Var n)) ∙ fold-roll-Term Tree term_step (Term-F.Var n)
+pub adds_none : {X : Type 0} (xs : List X) → Adds xs xs
+adds_none xs = ([], sym (append-nil xs))
 
-pub if_ok : {A B : Type 0} (r : Result A B) (P Q : A → Type 0) → ((x : A) → P x → Q x) → IfOk r P → IfOk r Q
-if_ok (Ok x) P Q f h = f x h
-if_ok (Err e) P Q f h = h
-
--- a word made behind others
-pub made_behind : {W : Type 0} {p q r : Present W} {w : W} {t u : Tree} {n : ℕ} → Extends p q n → t ≡ u → Makes q r w t → Makes p r w u
-made_behind e same m = record { words = words_on e.words m.words; substitution = m.substitution ∙ e.substitution; holds = m.holds; term = m.term ∙ same }
-
-pub numbers_behind : {W : Type 0} {p q r : Present W} → KeepsNumbers p q → KeepsNumbers q r → KeepsNumbers p r
-numbers_behind a b = record { next = b.next ∙ a.next; taken = λ n. b.taken n ∙ a.taken n }
-
--- each term of a list of terms that fit
-pub fits_at : (xs : List Term) (i : ℕ) (x : Term) → i < length xs → x ≡ get_or xs i x → arities_fit (row_of xs) ≡ true → arities_fit (term_of x) ≡ true
-fits_at [] i x within is h = absurd (omega arith)
-fits_at (y ∷ ys) zero x within is h = subst (λ (z : Term). arities_fit (term_of z) ≡ true) (sym is) (both_true (arities_fit (term_of y)) (arities_fit (row_of ys)) h).0
-fits_at (y ∷ ys) (suc i) x within is h = fits_at ys i x (omega arith) is (both_true (arities_fit (term_of y)) (arities_fit (row_of ys)) h).1
-
-pub below_at : (n : ℕ) (xs : List Term) (i : ℕ) (x : Term) → i < length xs → x ≡ get_or xs i x → is_below n (row_of xs) ≡ true → is_below n (term_of x) ≡ true
-below_at n [] i x within is h = absurd (omega arith)
-below_at n (y ∷ ys) zero x within is h = subst (λ (z : Term). is_below n (term_of z) ≡ true) (sym is) (both_true (is_below n (term_of y)) (is_below n (row_of ys)) h).0
-below_at n (y ∷ ys) (suc i) x within is h = below_at n ys i x (omega arith) is (both_true (is_below n (term_of y)) (is_below n (row_of ys)) h).1
-
--- one goal more is linked, before those that are
-pub links_push : {W : Type 0} {p q r : Present W} {frames old : List (Frame W)} {rest : Option ℕ} (ts : List Tree) (f : Frame W) (t : Tree) → KeepsWords q r → r.holds f.goal ≡ true → r.term f.goal ≡ t
-    → Links p old rest q frames f.next ts → Links p old rest r (frames ++ f ∷ []) (Some (length frames)) (t ∷ ts)
-links_push {frames = frames} ts f t keeps holds is links gs chain goals = chain_push frames f t holds (sym is) goals.0 (chain_more (f ∷ []) keeps (links gs chain goals.1))
-
-pub frames_push : {W : Type 0} (old new : List (Frame W)) (f : Frame W) → AddsFrames old new → AddsFrames old (new ++ f ∷ [])
-frames_push old new f h = (h.0 ++ f ∷ [], ap (λ (xs : List _). xs ++ f ∷ []) h.1 ∙ append_assoc old h.0 (f ∷ []))
-
--- the last goal of a list
-pub renamed_at : (first : ℕ) (xs : List Term) (i : ℕ) (x : Term) → i < length xs → x ≡ get_or xs i x → renamed_terms first (drop i xs) ≡ renamed first (term_of x) ∷ renamed_terms first (drop (i + 1) xs)
-renamed_at first xs i x within is = rw (drop-cons xs i x within, ← is, add-one) refl
+pub adds_push : {X : Type 0} (old new : List X) (x : X) → Adds old new → Adds old (new ++ x ∷ [])
+adds_push old new x h = (h.0 ++ x ∷ [], ap (λ (xs : List _). xs ++ x ∷ []) h.1 ∙ append_assoc old h.0 (x ∷ []))
 
 -- as many words as numbers
 pub variables_length : {W : Type 0} {p : Present W} {ws : List W} {ns : List ℕ} → AreVariables p ws ns → length ws ≡ length ns
@@ -200,27 +97,53 @@ enters_none {p = p} {r = r} {call = call} {head = head} {t = t} s answer e m hel
 pub unifier_there : {W : Type 0} (p q : Present W) (a b : Tree) (answer : Bool) → answer ≡ true → IsUnification p q a b answer → (u : Subst) × Unifier a b u × Binds p q u
 unifier_there p q a b answer positive h = subst (λ (x : Bool). IsUnification p q a b x) positive h
 
--- a store that keeps its words
-pub chain_keep : {W : Type 0} {p q : Present W} {frames : List (Frame W)} {place : Option ℕ} {gs : List Tree} → KeepsWords p q → Chain p frames place gs → Chain q frames place gs
-chain_keep keeps ends = ends
-chain_keep keeps (leads {f = f} at holds is goal others) = leads at (keeps.stand f.goal holds) (is ∙ sym (keeps.terms f.goal holds)) goal (chain_keep keeps others)
-
--- The head has a unifier with the call, and the goals are linked.
-pub enters_some : {W : Type 0} {p q r s v : Present W} {call head : W} {t : Tree} {count : ℕ} {frames new : List (Frame W)} {rest place : Option ℕ} (goals : List Term)
-    → Extends p q count → Makes q r head t → KeepsNumbers q r → p.holds call ≡ true → ((u : Subst) × Unifier (meaning r call) (meaning r head) u × Binds r s u) → Extends s v 0
-    → Links s frames rest v new place (renamed_terms p.next goals)
-    → (u : Subst) × Unifier (apply p.substitution (p.term call)) (apply p.substitution t) u × (v.substitution ≡ compose p.substitution u) × (v.next ≡ p.next + count) × KeepsWords p v
-    × Links p frames rest v new place (renamed_terms p.next goals)
-enters_some {p = p} {q = q} {r = r} {s = s} {v = v} {count = count} goals e m k held h x links =
+-- The head has a unifier with the call, and words come behind it.
+pub meets : {W : Type 0} {p q r s v : Present W} {call : W} (head : W) (t : Tree) {count : ℕ} → Extends p q count → Makes q r head (renamed p.next t) → KeepsNumbers q r → p.holds call ≡ true
+    → ((u : Subst) × Unifier (meaning r call) (meaning r head) u × Binds r s u) → Extends s v 0 → Meets p v (p.term call) t count
+meets {p = p} {q = q} {r = r} {s = s} {v = v} head t {count = count} e m k held h x =
     let u = h.0 in
     let b = h.2 in
     let same : r.substitution ≡ p.substitution = m.substitution ∙ e.substitution in
-    let words = words_on e.words (words_on m.words b.words) in
-    let next : v.next ≡ p.next + count = (let n1 = x.next in let n2 = b.numbers.next in let n3 = k.next in let n4 = e.next in omega arith) in (
-      u,
-      met (λ a b. Unifier a b u) e m held h.1,
-      x.substitution ∙ (b.substitution ∙ ap (λ (y : Subst). compose y u) same),
-      next,
-      words_on words x.words,
-      λ gs chain. links gs (chain_keep words chain),
-    )
+    record {
+      unifier = u;
+      is = met (λ a b. Unifier a b u) e m held h.1;
+      substitution = x.substitution ∙ (b.substitution ∙ ap (λ (y : Subst). compose y u) same);
+      next = (let n1 = x.next in let n2 = b.numbers.next in let n3 = k.next in let n4 = e.next in omega arith);
+      words = words_on (words_on e.words (words_on m.words b.words)) x.words;
+    }
+
+-- a copied part more
+pub copies_push : {W : Type 0} {p q : Present W} {old new : List (Node W)} {ts : List (Node Tree)} (n : Node W) (t : Node Tree) → Copies p old new ts → CopiesPart p q n t → Copies q old (new ++ n ∷ []) (ts ++ t ∷ [])
+copies_push {old = old} {new = new} {ts = ts} n t h made = record {
+  more = h.more ++ n ∷ [];
+  are = ap (λ (xs : List (Node _)). xs ++ n ∷ []) h.are ∙ append_assoc old h.more (n ∷ []);
+  nodes = nodes_push h.more ts n t h.nodes made.extends.words made.is;
+}
+
+pub copies_none : {W : Type 0} (p : Present W) (old : List (Node W)) → Copies p old old []
+copies_none p old = record { more = []; are = sym (append-nil old); nodes = no_nodes }
+
+-- the next part of a list of parts
+pub trees_at : (xs : List (Node Term)) (i : ℕ) (x : Node Term) → i < length xs → x ≡ get_or xs i x → trees_of (drop i xs) ≡ map_node term_of x ∷ trees_of (drop (i + 1) xs)
+trees_at xs i x within is = rw (drop-cons xs i x within, ← is, add-one) refl
+
+-- the parts before it, and it
+pub trees_front : (first : ℕ) (xs : List (Node Term)) (i : ℕ) (x : Node Term) → i < length xs → x ≡ get_or xs i x
+    → renamed_nodes first (trees_of (take (i + 1) xs)) ≡ renamed_nodes first (trees_of (take i xs)) ++ map_node (renamed first) (map_node term_of x) ∷ []
+trees_front first xs i x within is =
+    let next : take (i + 1) xs ≡ take i xs ++ x ∷ [] = rw (add-one, take-suc xs i x within, ← is) refl in
+    ap (λ (ts : List (Node Term)). renamed_nodes first (trees_of ts)) next
+    ∙ (ap (renamed_nodes first) (map-append (map_node term_of) (take i xs) (x ∷ [])) ∙ map-append (map_node (renamed first)) (trees_of (take i xs)) (map_node term_of x ∷ []))
+
+-- whether there are parts
+pub no_trees : (xs : List (Node Term)) (b : Bool) → b ≡ length xs == 0 → b ≡ true → trees_of xs ≡ []
+no_trees [] b is e = refl
+no_trees (x ∷ xs) b is e = absurd (let none = eqb-true (length (x ∷ xs)) 0 (sym is ∙ e) in omega (arith, none))
+
+pub some_trees : (xs : List (Node Term)) (b : Bool) → b ≡ length xs == 0 → b ≡ false → 0 < length (trees_of xs)
+some_trees [] b is e = absurd (true≢false (sym (eq-eqb 0 0 refl) ∙ (sym is ∙ e)))
+some_trees (x ∷ xs) b is e = omega arith
+
+-- where some parts were copied there are some nodes
+pub copies_some : {W : Type 0} {p : Present W} {old new : List (Node W)} {ts : List (Node Tree)} → Copies p old new ts → 0 < length ts → 0 < length new
+copies_some {old = old} h some = (let all = ap length h.are in let more = length-append old h.more in let same = nodes_length h.nodes in omega (arith, all, more, same, some))

@@ -1,23 +1,15 @@
 -- Clauses as the engine keeps them: where they are, and that they can be entered.
-use Rattle.std.proofs.Common.{◌≡◌, ℕ, zero, suc, ◌+◌, ◌<◌, List, [], ◌∷◌, ◌++◌, length, drop, get_or, map, Bool, true, false, ◌&&◌, cond, refl, ap, ap₂, sym, ◌∙◌, subst, arith}
+use Rattle.std.proofs.Common.{◌≡◌, ℕ, zero, suc, ◌<◌, List, ◌∷◌, length, drop, get_or, Bool, true, ◌&&◌, refl, sym, subst, arith}
 use Rattle.std.proofs.lemmas.Bool.{lt-ltb, eq-eqb, or_left, or_right}
-use Rattle.std.proofs.lemmas.List.{map-append}
-use Rattle.iso_model.proofs.OnTerms.SortLemmas.{term_fits}
-use Rattle.iso_model.specs.declared.terms.Term.{Term}
-use Rattle.iso_model.specs.Terms.Trees.{Tree, Variable, Integer, Name, Apply, End, More, row, arities_fit}
-use Rattle.iso_model.specs.Terms.TermOf.{term_of, row_of}
+use Rattle.iso_model.specs.Terms.Trees.{Tree, Variable, Integer, Name, Apply, End, More}
 use Rattle.iso_model.specs.Terms.Variables.{occurs}
-use Rattle.iso_model.specs.Terms.Copies.{renamed}
-use Rattle.iso_model.specs.Search.Bodies.{Body, Run, And, map_body, is_true}
 use Rattle.iso_model.specs.Search.Databases as databases
 use Rattle.iso_model.specs.Search.Databases.{Procedures}
 use Rattle.iso_plain.specs.declared.clauses.Clause.{Clause}
 use Rattle.iso_plain.specs.declared.procedures.Procedure.{Procedure}
-use Rattle.iso_plain.specs.Goals.{leaves, terms_of}
-use Rattle.iso_plain.specs.Linked.{goals_of, clause_goals}
-use Rattle.iso_plain.specs.Kept.{IsClause, AreTemplates}
+use Rattle.iso_plain.specs.Kept.{IsClause}
 use Rattle.iso_plain.specs.Programs.{AreClauses, no_clauses, more_clauses, IsDatabase, no_procedures, more_procedures}
-use Rattle.iso_plain.specs.Entering.{is_below, renamed_terms}
+use Rattle.iso_plain.specs.Entering.{is_below}
 use Rattle.iso_plain.specs.EngineStates.{left_at}
 
 both_from : {a b : Bool} → a ≡ true → b ≡ true → a && b ≡ true
@@ -63,60 +55,3 @@ below_from n (Apply f ts) h = below_from n ts h
 below_from n End h = refl
 below_from n (More t ts) h =
     both_from (below_from n t (λ x o. h x (or_left (occurs x t) (occurs x ts) o))) (below_from n ts (λ x o. h x (or_right (occurs x t) (occurs x ts) o)))
-
--- a list of goals
-pub templates_below : (n : ℕ) (ts : List Tree) → AreTemplates n ts → is_below n (row ts) ≡ true
-templates_below n [] h = refl
-templates_below n (t ∷ ts) h = both_from (below_from n t h.0.below) (templates_below n ts h.1)
-
-pub templates_fit : (n : ℕ) (ts : List Tree) → AreTemplates n ts → arities_fit (row ts) ≡ true
-templates_fit n [] h = refl
-templates_fit n (t ∷ ts) h = both_from (term_fits t h.0.is) (templates_fit n ts h.1)
-
-leaves_renamed : (n : ℕ) (b : Body) → leaves (map_body (λ k. Variable (n + k)) b) ≡ map (renamed n) (leaves b)
-leaves_renamed n (Run t) = refl
-leaves_renamed n (And a b) = ap₂ ◌++◌ (leaves_renamed n a) (leaves_renamed n b) ∙ sym (map-append (renamed n) (leaves a) (leaves b))
-
-true_renamed : (n : ℕ) (b : Body) → is_true (map_body (λ k. Variable (n + k)) b) ≡ is_true b
-true_renamed n (Run (Variable k)) = refl
-true_renamed n (Run (Integer z)) = refl
-true_renamed n (Run (Name a)) = refl
-true_renamed n (Run (Apply f ts)) = refl
-true_renamed n (Run End) = refl
-true_renamed n (Run (More t ts)) = refl
-true_renamed n (And a b) = refl
-
-pub goals_renamed : (n : ℕ) (b : Body) → goals_of (map_body (λ k. Variable (n + k)) b) ≡ map (renamed n) (goals_of b)
-goals_renamed n b = rw (true_renamed n b) (by_truth (is_true b)) where
-  by_truth : (t : Bool) → cond t [] (leaves (map_body (λ k. Variable (n + k)) b)) ≡ map (renamed n) (cond t [] (leaves b))
-  by_truth true = refl
-  by_truth false = leaves_renamed n b
-
-terms_renamed : (n : ℕ) (ts : List Term) → renamed_terms n ts ≡ map (renamed n) (terms_of ts)
-terms_renamed n [] = refl
-terms_renamed n (t ∷ ts) = ap (λ (xs : List Tree). renamed n (term_of t) ∷ xs) (terms_renamed n ts)
-
--- the clause's goals with their variables numbered from n on
-pub kept_goals : (n : ℕ) (k : Clause) (c : databases.Clause) → IsClause k c → renamed_terms n k.goals.items ≡ clause_goals n c
-kept_goals n k c is = terms_renamed n k.goals.items ∙ (ap (map (renamed n)) is.goals ∙ sym (goals_renamed n c.body))
-
-row_terms : (ts : List Term) → row_of ts ≡ row (terms_of ts)
-row_terms ts = refl
-
--- What entering the clause asks of it.
-pub record CanBeEntered (k : Clause) : Type 0 where
-  pub head_fits : arities_fit (term_of k.head) ≡ true
-  pub goals_fit : arities_fit (row_of k.goals.items) ≡ true
-  pub head_below : is_below k.variables (term_of k.head) ≡ true
-  pub goals_below : is_below k.variables (row_of k.goals.items) ≡ true
-
-pub can_be_entered : (k : Clause) (c : databases.Clause) → IsClause k c → CanBeEntered k
-can_be_entered k c is =
-    let head = is.templates.0 in
-    let goals = is.templates.1 in
-    record {
-      head_fits = rw is.head (term_fits c.head head.is);
-      goals_fit = rw is.goals (templates_fit c.variables (goals_of c.body) goals);
-      head_below = rw (is.head, is.variables) (below_from c.variables c.head head.below);
-      goals_below = rw (is.goals, is.variables) (templates_below c.variables (goals_of c.body) goals);
-    }

@@ -1,6 +1,9 @@
-pub mod LinkedMoves
-pub mod LinkedStarts
+pub mod SearchSteps
+pub mod SearchMoves
 pub mod StandingLemmas
+pub mod WeightLemmas
+pub mod NodeLemmas
+pub mod PatternLemmas
 pub mod EnteringLemmas
 pub mod BodyLemmas
 pub mod NumberLemmas
@@ -15,7 +18,6 @@ pub mod BackLemmas
 pub mod StartLemmas
 pub mod EndLemmas
 pub mod CalledLemmas
-pub mod CallableLemmas
 pub mod RunLemmas
 pub mod CallLemmas
 pub mod ChoiceLemmas

@@ -1,35 +1,13 @@
 -- Where the frames are full the search has as many alternatives.
-use Rattle.std.proofs.Common.{◌≡◌, ℕ, List, length, refl, ap, subst, arith, Result, Ok, Err}
-use Rattle.iso_model.specs.Search.Walker.{State}
-use Rattle.iso_model.specs.Search.Runs.{ComesOver}
-use Rattle.iso_model.specs.Search.Engines.{MayMeet, RefusesStart, MeetsLimit, KeepsLimits}
-use Rattle.iso_model.specs.Search.Databases.{Clause}
-use Rattle.iso_model.specs.declared.limit.Limit.TheVariants as limit
-use Rattle.iso_model.specs.declared.pauses.StartFault.{StartFault}
-use Rattle.iso_model.specs.declared.pauses.StartFault.TheVariants as start
+use Rattle.std.proofs.Common.{refl, ◌∙◌, Result, Ok, Err}
 use Rattle.iso_model.specs.declared.pauses.Pause.{Pause}
 use Rattle.iso_model.specs.declared.pauses.Pause.TheVariants as pause
-use Rattle.iso_store.specs.Presents.{Present}
 use Rattle.iso_store.specs.declared.shapes.StoreFault.{StoreFault}
-use Rattle.iso_plain.specs.declared.parts.Frame.{Frame}
-use Rattle.iso_plain.specs.declared.parts.Choice as kept
 use Rattle.iso_plain.specs.declared.plain.Move.{Move}
 use Rattle.iso_plain.specs.declared.plain.Move.TheVariants as move
-use Rattle.iso_plain.specs.Linked.{Choice}
-use Rattle.iso_plain.specs.Standing.{StandsForChoices, none_kept, one_kept}
+use Rattle.iso_plain.specs.Stays.{Stays}
+use Rattle.iso_plain.specs.declared.plain.Plain.{Plain}
 use Rattle.iso_plain.specs.Limits.{WhereFull, MoveFull, ResultFull}
-use Rattle.iso_plain.proofs.StandingLemmas.{length_last}
-
--- ---- as many choices as alternatives
-
-pub choices_count : {W M : Type 0} {stands : M → Present W → Type 0} {older : M → M → Type 0} {base : M} {left : ℕ → ℕ → List Clause} {query : List W} {named : List ℕ} {frames : List (Frame W)}
-    {cs : List (kept.Choice W M)} {ks : List Choice} → StandsForChoices stands older base left query named frames cs ks → length cs ≡ length ks
-choices_count none_kept = refl
-choices_count (one_kept {before = before} {c = c} is within here newer below) =
-    let last = ap length is in
-    let more = length_last before c in
-    let others = choices_count below in
-    omega (arith, last, more, others)
 
 -- ---- a fact for another
 
@@ -53,27 +31,10 @@ pub result_full : {A B : Type 0} (r : Result Move StoreFault) → (A → B) → 
 result_full (Ok m) f h = move_full m f h
 result_full (Err e) f h = tt
 
--- ---- limits by the piece of the walk
+-- ---- what stays
 
-pub meets_limit : (most : ℕ) (s : State) (p : Pause) → WhereFull (ComesOver most s) p → MeetsLimit (MayMeet (λ t. Unit {0}) (ComesOver most)) s p
-meets_limit most s (pause.Answer values) h = tt
-meets_limit most s (pause.Output bytes) h = tt
-meets_limit most s pause.NoMore h = tt
-meets_limit most s pause.Budget h = tt
-meets_limit most s (pause.Uncaught ball) h = tt
-meets_limit most s (pause.Halt status) h = tt
-meets_limit most s pause.HeapFull h = tt
-meets_limit most s pause.FramesFull h = h
-meets_limit most s pause.NoMemory h = tt
-meets_limit most s pause.Spent h = tt
+pub stays_same : {S W M : Type 0} (e : Plain S W M) → Stays e e
+stays_same e = record { limit = refl; settings = refl; procedures = refl; within = λ h. h }
 
--- as many frames
-pub same_limits : (old new : ℕ) → new ≡ old → KeepsLimits (MayMeet (λ t. Unit {0}) (ComesOver old)) (MayMeet (λ t. Unit {0}) (ComesOver new))
-same_limits old new same limit.Heap s h = tt
-same_limits old new same limit.Frames s h = subst (λ (n : ℕ). ComesOver n s) same h
-same_limits old new same limit.Memory s h = tt
-
-pub refuses_start : (most : ℕ) (s : State) (r : Result Unit StartFault) → RefusesStart (MayMeet (λ t. Unit {0}) (ComesOver most)) s r
-refuses_start most s (Ok u) = tt
-refuses_start most s (Err start.HeapFull) = tt
-refuses_start most s (Err start.NoMemory) = tt
+pub stays_on : {S W M : Type 0} {old between new : Plain S W M} → Stays old between → Stays between new → Stays old new
+stays_on a b = record { limit = b.limit ∙ a.limit; settings = b.settings ∙ a.settings; procedures = b.procedures ∙ a.procedures; within = λ h. b.within (a.within h) }

@@ -1,94 +1,64 @@
--- A clause that was checked, converted and numbered is the clause that is added.
-use Rattle.std.proofs.Common.{◌≡◌, ◌<◌, ◌≤◌, ℕ, ◌+◌, List, [], ◌∷◌, ◌++◌, map, length, refl, sym, ap, ap₂, ◌∙◌, subst, arith, true, false, ◌&&◌, ◌||◌, inl, inr, Option, Some, None, option_map, codes, nat_lt, zero-add, ◌==◌, rules, Result, Ok, Err, IsErrAnd}
+-- A clause that was checked, numbered and converted is the clause that is added.
+use Rattle.std.proofs.Common.{◌≡◌, ◌<◌, ◌≤◌, ℕ, ◌+◌, List, [], length, refl, sym, ap, ◌∙◌, subst, arith, true, false, ◌&&◌, ◌||◌, inl, inr, Option, Some, None, option_map, codes, nat_lt, zero-add, ◌==◌, rules, Result, Ok, Err, IsErrAnd}
 use Rattle.std.specs.Str.{bytes_eq}
 use Rattle.std.proofs.lemmas.Bool.{cases_Bool, eqb-true, and_parts, or_cases, or_left, or_right, false≢true}
-use Rattle.iso_model.specs.Terms.Trees.{Tree, Variable, Integer, Name, Apply, End, More, row, count}
+use Rattle.iso_model.specs.Terms.Trees.{Tree, Variable, Integer, Name, Apply, End, More, count}
 use Rattle.iso_model.specs.Terms.Sorts.{is_term}
-use Rattle.iso_model.specs.Terms.TermOf.{term_of, row_of}
+use Rattle.iso_model.specs.Terms.TermOf.{term_of}
 use Rattle.iso_model.specs.Terms.Variables.{occurs, distinct_from, variables, variable_count}
-use Rattle.iso_model.specs.Terms.Substitutions.{Subst, apply}
+use Rattle.iso_model.specs.Terms.Substitutions.{apply}
 use Rattle.iso_model.specs.Terms.Unification.Applied.{apply_same, occurs_from}
 use Rattle.iso_model.specs.Terms.Unification.Listed.{Covers, distinct_covers}
 use Rattle.iso_model.specs.Terms.Copies.{place_of, copy_from}
-use Rattle.iso_model.specs.Search.Bodies.{Body, Run, And, converted, both, two, map_body, is_true}
+use Rattle.iso_model.specs.Search.Bodies.{Body, Run, And, converted, both, two, map_body}
 use Rattle.iso_model.specs.Search.Databases.{Key, key_of}
 use Rattle.iso_model.specs.Search.BuiltIns.{is_built_in}
 use Rattle.iso_model.specs.Search.Additions.{head_of, body_of, most_variables, consult_key, Check, Faulty, NotCallable, TooManyVariables, NotUser, checked, checked_head, checked_body, checked_user, fault_error}
 use Rattle.iso_plain.specs.declared.clauses.Clause.{Clause}
-use Rattle.iso_plain.specs.Goals.{leaves, terms_of}
-use Rattle.iso_plain.specs.Linked.{goals_of}
-use Rattle.iso_plain.specs.Kept.{numbers, IsTemplate, AreTemplates, IsRenamed, IsRefused, IsAddition, GoalsOf, ChecksUser, Prepares}
+use Rattle.iso_plain.specs.Nodes.{trees_of, layout_of}
+use Rattle.iso_plain.specs.Kept.{numbers, IsTemplate, AreTemplates, IsRefused, IsAddition, Numbers, ChecksUser, Prepares}
 use Rattle.iso_model.specs.declared.pauses.AddFault.{AddFault}
 use Rattle.iso_model.specs.declared.pauses.AddFault.TheVariants as add
-use Rattle.iso_plain.proofs.NumberLemmas.{place_known, numbers_more, apply-row}
-use Rattle.iso_plain.proofs.RenamingLemmas.{is_term-renamed, key-renamed, converted-renamed, head-renamed, body-renamed, goals-renamed}
+use Rattle.iso_plain.proofs.NumberLemmas.{place_known, numbers_more}
+use Rattle.iso_plain.proofs.RenamingLemmas.{is_term-renamed, key-renamed, converted-renamed, head-renamed, body-renamed}
 
--- the head was numbered first, and then the goals
-pub renamed_clause : (head : Tree) (goals : List Tree) (none first whole : List ℕ) (kept : Clause) → none ≡ [] → first ≡ distinct_from none head → whole ≡ distinct_from first (row goals)
-    → term_of kept.head ≡ apply (numbers first) head → row_of kept.goals.items ≡ apply (numbers whole) (row goals) → kept.variables ≡ length whole → IsRenamed head goals kept
-renamed_clause head goals none first whole kept z f w h g n =
-    let from : first ≡ distinct_from [] head = f ∙ ap (λ vs. distinct_from vs head) z in
-    let all : whole ≡ variables (More head (row goals)) = w ∙ ap (λ vs. distinct_from vs (row goals)) from in
-    let covers : Covers (distinct_from [] head) head = distinct_covers [] head in
-    record {
-      head_is = h ∙ ap (λ vs. apply (numbers vs) head) from ∙ sym (numbers_more (distinct_from [] head) (row goals) head covers);
-      goals_are = g ∙ ap (λ vs. apply (numbers vs) (row goals)) all;
-      variables_are = n ∙ ap length all;
-    }
+-- ---- a clause's variables, numbered
 
--- ---- the variables of a clause are those of its head and then those of its goals
+-- the variables of a clause are those of its head and then those of its body
+variables_split : (t : Tree) → distinct_from (distinct_from [] (head_of t)) (body_of t) ≡ variables t
+variables_split (Apply f (More h (More u End))) =
+    elim (cases_Bool (bytes_eq f (codes ":-"))) [ inl same ↦ rw same refl | inr other ↦ rw other refl ]
+variables_split t = refl
 
-distinct_from-append : (seen : List ℕ) (xs ys : List Tree) → distinct_from seen (row (xs ++ ys)) ≡ distinct_from (distinct_from seen (row xs)) (row ys)
-distinct_from-append seen [] ys = refl
-distinct_from-append seen (x ∷ xs) ys = distinct_from-append (distinct_from seen x) xs ys
+-- a copy from 0 numbers the variables by their places
+copy_zero : (t : Tree) → copy_from t 0 ≡ apply (numbers (variables t)) t
+copy_zero t = apply_same (λ x. Variable (0 + place_of x (variables t))) (numbers (variables t)) t (λ x o. ap Variable (zero-add (place_of x (variables t))))
 
--- a conjunction's goals are those of its parts
-both_parts : (a b : Option Body) (c : Body) → both a b ≡ Some c → (x y : Body) × (a ≡ Some x) × (b ≡ Some y) × (c ≡ And x y)
-both_parts (Some a) (Some b) c e = let same : c ≡ And a b = cc in (a, b, refl, refl, same)
-both_parts (Some a) None c e = cc
-both_parts None b c e = cc
+head_copied : (t : Tree) → head_of (copy_from t 0) ≡ apply (numbers (variables t)) (head_of t)
+head_copied t = ap head_of (copy_zero t) ∙ head-renamed (λ x. place_of x (variables t)) t
 
-pub distinct_leaves : (t : Tree) (b : Body) (seen : List ℕ) → converted t ≡ Some b → distinct_from seen (row (leaves b)) ≡ distinct_from seen t
-distinct_leaves (Variable n) b seen e = let same : b ≡ Run (Apply (codes "call") (More (Variable n) End)) = cc in rw same refl
-distinct_leaves (Integer z) b seen e = cc
-distinct_leaves (Name a) b seen e = let same : b ≡ Run (Name a) = cc in rw same refl
-distinct_leaves (Apply f (More x (More y End))) b seen e =
-    elim (cases_Bool (bytes_eq f (codes ","))) [
-      | inl same ↦ (let p = both_parts (converted x) (converted y) b (rw same at e) in
-          rw p.4 (distinct_from-append seen (leaves p.0) (leaves p.1) ∙ ap (λ vs. distinct_from vs (row (leaves p.1))) (distinct_leaves x p.0 seen p.2) ∙ distinct_leaves y p.1 (distinct_from seen x) p.3))
-      | inr other ↦ (let d : Some (Run (two f x y)) ≡ Some b = rw other at e in let same : b ≡ Run (two f x y) = cc in rw same refl)
-    ]
-distinct_leaves (Apply f t) b seen e = let same : b ≡ Run (Apply f t) = cc in rw same refl
-distinct_leaves End b seen e = cc
-distinct_leaves (More t ts) b seen e = cc
+body_copied : (t : Tree) → body_of (copy_from t 0) ≡ apply (numbers (variables t)) (body_of t)
+body_copied t = ap body_of (copy_zero t) ∙ body-renamed (λ x. place_of x (variables t)) t
 
-true_converted : (t : Tree) (b : Body) → converted t ≡ Some b → is_true b ≡ true → (a : List ℕ) × (t ≡ Name a)
-true_converted (Variable n) b e h = let same : b ≡ Run (Apply (codes "call") (More (Variable n) End)) = cc in absurd (false≢true (rw same at h))
-true_converted (Integer z) b e h = cc
-true_converted (Name a) b e h = (a, refl)
-true_converted (Apply f (More x (More y End))) b e h =
-    elim (cases_Bool (bytes_eq f (codes ","))) [
-      | inl same ↦ (let p = both_parts (converted x) (converted y) b (rw same at e) in absurd (false≢true (rw p.4 at h)))
-      | inr other ↦ (let d : Some (Run (two f x y)) ≡ Some b = rw other at e in let same : b ≡ Run (two f x y) = cc in absurd (false≢true (rw same at h)))
-    ]
-true_converted (Apply f t) b e h = let same : b ≡ Run (Apply f t) = cc in absurd (false≢true (rw same at h))
-true_converted End b e h = cc
-true_converted (More t ts) b e h = cc
+-- a body that can't be converted can't with its variables numbered, and the other way
+pub unnumbered : (vs : List ℕ) (t : Tree) → converted (apply (numbers vs) t) ≡ None → converted t ≡ None
+unnumbered vs t h = by_body (converted t) (sym (converted-renamed (λ x. place_of x vs) t) ∙ h) where
+  by_body : (o : Option Body) → option_map (map_body (numbers vs)) o ≡ None → o ≡ None
+  by_body (Some b) e = cc
+  by_body None e = refl
 
-distinct_goals : (t : Tree) (b : Body) (seen : List ℕ) → converted t ≡ Some b → distinct_from seen (row (goals_of b)) ≡ distinct_from seen t
-distinct_goals t b seen e =
-    elim (cases_Bool (is_true b)) [
-      | inl alone ↦ (let name = true_converted t b e alone in rw (alone, name.1) refl)
-      | inr other ↦ rw other (distinct_leaves t b seen e)
-    ]
-
-pub variables_of_clause : (t : Tree) (b : Body) → converted (body_of t) ≡ Some b → variables (More (head_of t) (row (goals_of b))) ≡ variables t
-variables_of_clause (Apply f (More h (More u End))) b e =
-    elim (cases_Bool (bytes_eq f (codes ":-"))) [
-      | inl same ↦ rw same (distinct_goals u b (distinct_from [] h) (rw same at e))
-      | inr other ↦ rw other (distinct_goals (Name (codes "true")) b (variables (Apply f (More h (More u End)))) (rw other at e))
-    ]
-variables_of_clause t b e = distinct_goals (Name (codes "true")) b (variables t) e
+-- the head was numbered first, and then the body
+pub numbered_clause : (t : Tree) (none first whole : List ℕ) (kept : Clause) → none ≡ [] → first ≡ distinct_from none (head_of t) → whole ≡ distinct_from first (body_of t)
+    → term_of kept.head ≡ apply (numbers first) (head_of t) → (b : Body) × (converted (apply (numbers whole) (body_of t)) ≡ Some b) × (trees_of kept.parts.items ≡ layout_of b) → kept.variables ≡ length whole
+    → Numbers t (Ok kept)
+numbered_clause t none first whole kept z f w head body n =
+    let from : first ≡ distinct_from [] (head_of t) = f ∙ ap (λ vs. distinct_from vs (head_of t)) z in
+    let all : whole ≡ variables t = w ∙ (ap (λ vs. distinct_from vs (body_of t)) from ∙ variables_split t) in
+    let covers : Covers (distinct_from [] (head_of t)) (head_of t) = distinct_covers [] (head_of t) in
+    let head_is : term_of kept.head ≡ apply (numbers (variables t)) (head_of t) =
+    head ∙ (ap (λ vs. apply (numbers vs) (head_of t)) from ∙ (sym (numbers_more (distinct_from [] (head_of t)) (body_of t) (head_of t) covers) ∙ ap (λ vs. apply (numbers vs) (head_of t)) (variables_split t))) in
+    let body_is : converted (body_of (copy_from t 0)) ≡ Some body.0 = ap converted (body_copied t ∙ ap (λ vs. apply (numbers vs) (body_of t)) (sym all)) ∙ body.1 in
+    (body.0, body_is, head_is ∙ sym (head_copied t), body.2, n ∙ ap length all)
 
 -- ---- what is numbered is a template
 
@@ -103,45 +73,48 @@ template vs t k fits e covers = record {
       omega arith);
 }
 
-pub templates-append : (n : ℕ) (xs ys : List Tree) → AreTemplates n xs → AreTemplates n ys → AreTemplates n (xs ++ ys)
-templates-append n [] ys h k = k
-templates-append n (x ∷ xs) ys h k = (h.0, templates-append n xs ys h.1 k)
+one_template : (n : ℕ) (t : Tree) (b : Body) (k : Key) → Run t ≡ b → is_term t ≡ true → key_of t ≡ Some k → ((x : ℕ) → occurs x t ≡ true → x < n) → AreTemplates n b
+one_template n t b k same fits e below = subst (λ (c : Body). AreTemplates n c) same (record { is = fits; key = (k, e); below = below })
 
-map-append : (s : Subst) (xs ys : List Tree) → map (apply s) (xs ++ ys) ≡ map (apply s) xs ++ map (apply s) ys
-map-append s [] ys = refl
-map-append s (x ∷ xs) ys = ap (λ z. apply s x ∷ z) (map-append s xs ys)
+-- a conjunction's goals are those of its parts
+both_parts : (a b : Option Body) (c : Body) → both a b ≡ Some c → (x y : Body) × (a ≡ Some x) × (b ≡ Some y) × (c ≡ And x y)
+both_parts (Some a) (Some b) c e = let same : c ≡ And a b = cc in (a, b, refl, refl, same)
+both_parts (Some a) None c e = cc
+both_parts None b c e = cc
 
-one_template : (vs : List ℕ) (t : Tree) (b : Body) (k : Key) → Run t ≡ b → is_term t ≡ true → key_of t ≡ Some k → Covers vs t → AreTemplates (length vs) (map (apply (numbers vs)) (leaves b))
-one_template vs t b k same fits e covers = rw (← same) (template vs t k fits e covers, tt)
-
-pub templates_of : (vs : List ℕ) (t : Tree) (b : Body) → converted t ≡ Some b → is_term t ≡ true → Covers vs t → AreTemplates (length vs) (map (apply (numbers vs)) (leaves b))
-templates_of vs (Variable n) b e fits covers =
-    let same : Run (Apply (codes "call") (More (Variable n) End)) ≡ b = cc in
-    one_template vs (Apply (codes "call") (More (Variable n) End)) b (record { name = codes "call"; arity = 1 }) same refl refl (λ x o. covers x (only x n o))
+-- the goals of a body whose variables are below n
+pub body_templates : (n : ℕ) (t : Tree) (b : Body) → converted t ≡ Some b → is_term t ≡ true → ((x : ℕ) → occurs x t ≡ true → x < n) → AreTemplates n b
+body_templates n (Variable k) b e fits below =
+    let same : Run (Apply (codes "call") (More (Variable k) End)) ≡ b = cc in
+    one_template n (Apply (codes "call") (More (Variable k) End)) b (record { name = codes "call"; arity = 1 }) same refl refl (λ x o. below x (only x o))
   where
-    only : (x n : ℕ) → occurs x (Apply (codes "call") (More (Variable n) End)) ≡ true → occurs x (Variable n) ≡ true
-    only x n o = elim (or_cases (n == x) false o) [ inl here ↦ here | inr there ↦ absurd (false≢true there) ]
-templates_of vs (Integer z) b e fits covers = cc
-templates_of vs (Name a) b e fits covers = let same : Run (Name a) ≡ b = cc in one_template vs (Name a) b (record { name = a; arity = 0 }) same fits refl covers
-templates_of vs (Apply f (More x (More y End))) b e fits covers =
+    only : (x : ℕ) → occurs x (Apply (codes "call") (More (Variable k) End)) ≡ true → occurs x (Variable k) ≡ true
+    only x o = elim (or_cases (k == x) false o) [ inl here ↦ here | inr there ↦ absurd (false≢true there) ]
+body_templates n (Integer z) b e fits below = cc
+body_templates n (Name a) b e fits below = let same : Run (Name a) ≡ b = cc in one_template n (Name a) b (record { name = a; arity = 0 }) same fits refl below
+body_templates n (Apply f (More x (More y End))) b e fits below =
     elim (cases_Bool (bytes_eq f (codes ","))) [
       | inl conjunction ↦ (let p = both_parts (converted x) (converted y) b (rw conjunction at e) in
           let inner = and_parts (is_term x) (is_term y && true) fits in
           let second = and_parts (is_term y) true inner.1 in
-          let first = templates_of vs x p.0 p.2 inner.0 (λ z o. covers z (or_left (occurs z x) (occurs z y || false) o)) in
-          let last = templates_of vs y p.1 p.3 second.0 (λ z o. covers z (or_right (occurs z x) (occurs z y || false) (or_left (occurs z y) false o))) in
-          rw p.4 (rw (map-append (numbers vs) (leaves p.0) (leaves p.1)) (templates-append (length vs) (map (apply (numbers vs)) (leaves p.0)) (map (apply (numbers vs)) (leaves p.1)) first last)))
+          let first = body_templates n x p.0 p.2 inner.0 (λ z o. below z (or_left (occurs z x) (occurs z y || false) o)) in
+          let last = body_templates n y p.1 p.3 second.0 (λ z o. below z (or_right (occurs z x) (occurs z y || false) (or_left (occurs z y) false o))) in
+          rw p.4 (first, last))
       | inr other ↦ (let d : Some (Run (two f x y)) ≡ Some b = rw other at e in
           let same : Run (two f x y) ≡ b = cc in
-          one_template vs (two f x y) b (record { name = f; arity = count (More x (More y End)) }) same fits refl covers)
+          one_template n (two f x y) b (record { name = f; arity = count (More x (More y End)) }) same fits refl below)
     ]
-templates_of vs (Apply f t) b e fits covers = let same : Run (Apply f t) ≡ b = cc in one_template vs (Apply f t) b (record { name = f; arity = count t }) same fits refl covers
-templates_of vs End b e fits covers = cc
-templates_of vs (More t ts) b e fits covers = cc
+body_templates n (Apply f t) b e fits below = let same : Run (Apply f t) ≡ b = cc in one_template n (Apply f t) b (record { name = f; arity = count t }) same fits refl below
+body_templates n End b e fits below = cc
+body_templates n (More t ts) b e fits below = cc
 
-pub goals_templates : (vs : List ℕ) (t : Tree) (b : Body) → converted t ≡ Some b → is_term t ≡ true → Covers vs t → AreTemplates (length vs) (map (apply (numbers vs)) (goals_of b))
-goals_templates vs t b e fits covers =
-    elim (cases_Bool (is_true b)) [ inl alone ↦ rw alone tt | inr other ↦ rw other (templates_of vs t b e fits covers) ]
+-- a term whose variables were numbered
+numbered_below : (vs : List ℕ) (t : Tree) → Covers vs t → (x : ℕ) → occurs x (apply (numbers vs) t) ≡ true → x < length vs
+numbered_below vs t covers x o =
+    let from = occurs_from (numbers vs) t x o in
+    let at : place_of from.0 vs ≡ x = eqb-true (place_of from.0 vs) x from.2 in
+    let known = place_known from.0 vs (covers from.0 from.1) in
+    omega arith
 
 -- ---- the parts of a clause
 
@@ -165,17 +138,6 @@ parts_covered (Apply f (More h (More b End))) vs covers =
     ]
 parts_covered t vs covers = (covers, λ x o. absurd (false≢true o))
 
--- a copy from 0 numbers the variables by their places
-copy_zero : (t : Tree) → copy_from t 0 ≡ apply (numbers (variables t)) t
-copy_zero t = apply_same (λ x. Variable (0 + place_of x (variables t))) (numbers (variables t)) t (λ x o. ap Variable (zero-add (place_of x (variables t))))
-
--- a list of terms by the list of terms of its row
-row_same : (xs ys : List Tree) → row xs ≡ row ys → xs ≡ ys
-row_same [] [] e = refl
-row_same [] (y ∷ ys) e = cc
-row_same (x ∷ xs) [] e = cc
-row_same (x ∷ xs) (y ∷ ys) e = let first : x ≡ y = cc in let others : row xs ≡ row ys = cc in ap₂ ◌∷◌ first (row_same xs ys others)
-
 -- ---- the clause is added, or refused
 
 callable_checked : (t h : Tree) (k : Key) → key_of h ≡ Some k → checked_head t h (key_of h) ≡ checked_body t k (converted (body_of (copy_from t 0)))
@@ -186,57 +148,49 @@ callable_checked t (Apply f ts) k e = let same : record { name = f; arity = coun
 callable_checked t End k e = cc
 callable_checked t (More u us) k e = cc
 
-body_copied : (t : Tree) (o : Option Body) → converted (body_of t) ≡ o → converted (body_of (copy_from t 0)) ≡ option_map (map_body (numbers (variables t))) o
-body_copied t o e =
-    ap (λ u. converted (body_of u)) (copy_zero t) ∙ ap converted (body-renamed (λ x. place_of x (variables t)) t) ∙ converted-renamed (λ x. place_of x (variables t)) (body_of t) ∙ ap (option_map (map_body (numbers (variables t)))) e
-
 -- a head that is callable, and a body that can't be converted
 pub refused_body : (t : Tree) (k : Key) → key_of (head_of t) ≡ Some k → converted (body_of t) ≡ None → checked t ≡ Faulty (NotCallable (body_of t))
-refused_body t k h e = callable_checked t (head_of t) k h ∙ ap (λ o. checked_body t k o) (body_copied t None e)
+refused_body t k h e =
+    let none : converted (body_of (copy_from t 0)) ≡ None = ap converted (body_copied t) ∙ (converted-renamed (λ x. place_of x (variables t)) (body_of t) ∙ ap (option_map (map_body (numbers (variables t)))) e) in
+    callable_checked t (head_of t) k h ∙ ap (λ o. checked_body t k o) none
 
-pub refused_large : (t : Tree) (b : Body) (k : Key) → key_of (head_of t) ≡ Some k → converted (body_of t) ≡ Some b → most_variables < variable_count t → checked t ≡ Faulty TooManyVariables
+pub refused_large : (t : Tree) (b : Body) (k : Key) → key_of (head_of t) ≡ Some k → converted (body_of (copy_from t 0)) ≡ Some b → most_variables < variable_count t → checked t ≡ Faulty TooManyVariables
 refused_large t b k h e large =
     let over : nat_lt most_variables (variable_count t) ≡ true = search rules in
-    callable_checked t (head_of t) k h ∙ ap (λ o. checked_body t k o) (body_copied t (Some b) e) ∙ rw over refl
+    callable_checked t (head_of t) k h ∙ ap (λ o. checked_body t k o) e ∙ rw over refl
 
-small_checked : (t : Tree) (b : Body) (k : Key) → key_of (head_of t) ≡ Some k → converted (body_of t) ≡ Some b → variable_count t ≤ most_variables
-    → checked t ≡ checked_user k (map_body (numbers (variables t)) b)
+small_checked : (t : Tree) (b : Body) (k : Key) → key_of (head_of t) ≡ Some k → converted (body_of (copy_from t 0)) ≡ Some b → variable_count t ≤ most_variables → checked t ≡ checked_user k b
 small_checked t b k h e small =
     let fits : nat_lt most_variables (variable_count t) ≡ false = search rules in
-    callable_checked t (head_of t) k h ∙ ap (λ o. checked_body t k o) (body_copied t (Some b) e) ∙ rw fits refl
+    callable_checked t (head_of t) k h ∙ ap (λ o. checked_body t k o) e ∙ rw fits refl
 
-pub refused_user : (t : Tree) (b : Body) (k : Key) → key_of (head_of t) ≡ Some k → converted (body_of t) ≡ Some b → variable_count t ≤ most_variables → is_built_in k ≡ true → checked t ≡ Faulty (NotUser k)
+pub refused_user : (t : Tree) (b : Body) (k : Key) → key_of (head_of t) ≡ Some k → converted (body_of (copy_from t 0)) ≡ Some b → variable_count t ≤ most_variables → is_built_in k ≡ true → checked t ≡ Faulty (NotUser k)
 refused_user t b k h e small built = small_checked t b k h e small ∙ rw built refl
 
-pub count_of_clause : (t : Tree) (b : Body) (kept : Clause) → converted (body_of t) ≡ Some b → IsRenamed (head_of t) (goals_of b) kept → kept.variables ≡ variable_count t
-count_of_clause t b kept e h = h.variables_are ∙ ap length (variables_of_clause t b e)
-
-pub prepared : (t : Tree) (b : Body) (k : Key) (kept : Clause) → is_term t ≡ true → key_of (head_of t) ≡ Some k → converted (body_of t) ≡ Some b → IsRenamed (head_of t) (goals_of b) kept
-    → kept.variables ≤ most_variables → is_built_in k ≡ false → IsAddition t kept
-prepared t b k kept fits h e renamed small user =
+pub prepared : (t : Tree) (k : Key) (kept : Clause) → is_term t ≡ true → key_of (head_of t) ≡ Some k → Numbers t (Ok kept) → kept.variables ≤ most_variables → is_built_in k ≡ false → IsAddition t kept
+prepared t k kept fits h n small user =
     let vs = variables t in
-    let f : ℕ → ℕ = λ x. place_of x vs in
-    let n = count_of_clause t b kept e renamed in
-    let few : variable_count t ≤ most_variables = omega arith in
-    let copied : head_of (copy_from t 0) ≡ apply (numbers vs) (head_of t) = ap head_of (copy_zero t) ∙ head-renamed f t in
-    let head : term_of kept.head ≡ apply (numbers vs) (head_of t) = renamed.head_is ∙ ap (λ ws. apply (numbers ws) (head_of t)) (variables_of_clause t b e) in
-    let mapped : goals_of (map_body (numbers vs) b) ≡ map (apply (numbers vs)) (goals_of b) = goals-renamed f b in
-    let goals : row (terms_of kept.goals.items) ≡ row (map (apply (numbers vs)) (goals_of b)) =
-    renamed.goals_are ∙ ap (λ ws. apply (numbers ws) (row (goals_of b))) (variables_of_clause t b e) ∙ apply-row (numbers vs) (goals_of b) in
+    let many = n.4 in
+    let few : variable_count t ≤ most_variables = omega (arith, many, small) in
     let fit = parts_fit t fits in
     let covered = parts_covered t vs (distinct_covers [] t) in
+    let u = body_of (copy_from t 0) in
+    let term : is_term u ≡ true = ap is_term (body_copied t) ∙ (is_term-renamed (λ x. place_of x vs) (body_of t) ∙ fit.1) in
+    let below : (x : ℕ) → occurs x u ≡ true → x < variable_count t = λ x o. numbered_below vs (body_of t) covered.1 x (sym (ap (occurs x) (body_copied t)) ∙ o) in
+    let head : term_of kept.head ≡ apply (numbers vs) (head_of t) = n.2 ∙ head_copied t in
     record {
-      body = map_body (numbers vs) b;
+      body = n.0;
       key = k;
       clause = λ m. record {
-        head = head ∙ sym copied;
-        goals = row_same (terms_of kept.goals.items) (map (apply (numbers vs)) (goals_of b)) goals ∙ sym mapped;
-        variables = n;
+        head = n.2;
+        parts = n.3;
+        variables = n.4;
         few = few;
-        templates = (rw copied (template vs (head_of t) k fit.0 h covered.0), rw mapped (goals_templates vs (body_of t) b e fit.1 covered.1));
+        head_template = subst (λ (x : Tree). IsTemplate (variable_count t) x) (sym (head_copied t)) (template vs (head_of t) k fit.0 h covered.0);
+        goal_templates = body_templates (variable_count t) u n.0 n.1 term below;
       };
-      named = ap key_of head ∙ key-renamed f (head_of t) ∙ h;
-      fits = small_checked t b k h e few ∙ rw user refl;
+      named = ap key_of head ∙ key-renamed (λ x. place_of x vs) (head_of t) ∙ h;
+      fits = small_checked t n.0 k h n.1 few ∙ rw user refl;
     }
 
 -- ---- by the answers of the calls
@@ -245,12 +199,12 @@ prepared t b k kept fits h e renamed small user =
 pub refuses : (t : Tree) (fault : _) (error : Tree) → checked t ≡ Faulty fault → fault_error consult_key fault ≡ error → IsRefused (checked t) error
 refuses t fault error is same = subst (λ (c : Check). IsRefused c error) (sym is) same
 
-pub refused_goals : (t : Tree) (k : Key) (r : Result Clause AddFault) (e : AddFault) → key_of (head_of t) ≡ Some k → IsErrAnd r (λ x. x ≡ e) → GoalsOf (body_of t) (Err e) → Prepares t r
-refused_goals t k (Ok c) e h err g = absurd err
-refused_goals t k (Err x) (add.Refused ball) h err g = rw err (refuses t (NotCallable (body_of t)) (term_of ball.term) (refused_body t k h g.0) (sym g.1))
-refused_goals t k (Err x) add.NoMemory h err g = rw err tt
+pub refused_numbers : (t : Tree) (k : Key) (r : Result Clause AddFault) (e : AddFault) → key_of (head_of t) ≡ Some k → IsErrAnd r (λ x. x ≡ e) → Numbers t (Err e) → Prepares t r
+refused_numbers t k (Ok c) e h err g = absurd err
+refused_numbers t k (Err x) (add.Refused ball) h err g = rw err (refuses t (NotCallable (body_of t)) (term_of ball.term) (refused_body t k h g.0) (sym g.1))
+refused_numbers t k (Err x) add.NoMemory h err g = rw err tt
 
-pub refused_built_in : (t : Tree) (b : Body) (k : Key) (r : Result Clause AddFault) (e : AddFault) → key_of (head_of t) ≡ Some k → converted (body_of t) ≡ Some b → variable_count t ≤ most_variables
+pub refused_built_in : (t : Tree) (b : Body) (k : Key) (r : Result Clause AddFault) (e : AddFault) → key_of (head_of t) ≡ Some k → converted (body_of (copy_from t 0)) ≡ Some b → variable_count t ≤ most_variables
     → IsErrAnd r (λ x. x ≡ e) → ChecksUser k (Err e) → Prepares t r
 refused_built_in t b k (Ok c) e h g small err u = absurd err
 refused_built_in t b k (Err x) (add.Refused ball) h g small err u = rw err (refuses t (NotUser k) (term_of ball.term) (refused_user t b k h g small u.0) (sym u.1))

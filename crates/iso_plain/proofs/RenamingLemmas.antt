@@ -1,15 +1,13 @@
 -- What renaming the variables of a term keeps.
-use Rattle.std.proofs.Common.{◌≡◌, ℕ, ◌+◌, List, [], ◌∷◌, ◌++◌, map, refl, sym, ap, ap₂, ◌∙◌, ◌&&◌, inl, inr, Option, Some, None, option_map, codes, nat_le}
+use Rattle.std.proofs.Common.{◌≡◌, ℕ, ◌+◌, refl, ap, ap₂, ◌∙◌, ◌&&◌, inl, inr, Option, Some, None, option_map, codes, nat_le}
 use Rattle.std.specs.Str.{bytes_eq}
 use Rattle.std.proofs.lemmas.Bool.{cases_Bool}
 use Rattle.iso_model.specs.Terms.Trees.{Tree, Variable, Integer, Name, Apply, End, More, count}
 use Rattle.iso_model.specs.Terms.Sorts.{is_term, is_row}
 use Rattle.iso_model.specs.Terms.Substitutions.{Subst, apply}
-use Rattle.iso_model.specs.Search.Bodies.{Body, Run, And, converted, both, map_body, is_true}
+use Rattle.iso_model.specs.Search.Bodies.{Body, converted, both, map_body}
 use Rattle.iso_model.specs.Search.Databases.{key_of}
 use Rattle.iso_model.specs.Search.Additions.{head_of, body_of}
-use Rattle.iso_plain.specs.Goals.{leaves}
-use Rattle.iso_plain.specs.Linked.{goals_of}
 
 -- each variable by another
 abbrev pub renaming : (ℕ → ℕ) → Subst
@@ -76,29 +74,3 @@ pub body-renamed : (f : ℕ → ℕ) (t : Tree) → body_of (apply (renaming f) 
 body-renamed f (Apply g (More h (More b End))) =
     elim (cases_Bool (bytes_eq g (codes ":-"))) [ inl same ↦ rw same refl | inr other ↦ rw other refl ]
 body-renamed f t = refl
-
-map-append : (s : Subst) (xs ys : List Tree) → map (apply s) (xs ++ ys) ≡ map (apply s) xs ++ map (apply s) ys
-map-append s [] ys = refl
-map-append s (x ∷ xs) ys = ap (λ z. apply s x ∷ z) (map-append s xs ys)
-
-pub leaves-mapped : (s : Subst) (b : Body) → leaves (map_body s b) ≡ map (apply s) (leaves b)
-leaves-mapped s (Run t) = refl
-leaves-mapped s (And a b) = ap₂ ◌++◌ (leaves-mapped s a) (leaves-mapped s b) ∙ sym (map-append s (leaves a) (leaves b))
-
-pub is_true-renamed : (f : ℕ → ℕ) (b : Body) → is_true (map_body (renaming f) b) ≡ is_true b
-is_true-renamed f (Run t) = true_leaf t where
-  true_leaf : (t : Tree) → is_true (Run (apply (renaming f) t)) ≡ is_true (Run t)
-  true_leaf (Variable n) = refl
-  true_leaf (Integer z) = refl
-  true_leaf (Name a) = refl
-  true_leaf (Apply g ts) = refl
-  true_leaf End = refl
-  true_leaf (More t ts) = refl
-is_true-renamed f (And a b) = refl
-
-pub goals-renamed : (f : ℕ → ℕ) (b : Body) → goals_of (map_body (renaming f) b) ≡ map (apply (renaming f)) (goals_of b)
-goals-renamed f b =
-    elim (cases_Bool (is_true b)) [
-      | inl alone ↦ rw (is_true-renamed f b, alone) refl
-      | inr other ↦ rw (is_true-renamed f b, other) (leaves-mapped (renaming f) b)
-    ]

@@ -1,16 +1,19 @@
--- Linked goals and choices, as the store and the frames change.
-use Rattle.std.proofs.Common.{◌≡◌, ℕ, zero, suc, ◌+◌, ◌-◌, ◌<◌, ◌≤◌, List, [], ◌∷◌, ◌++◌, length, take, Option, Some, None, true, refl, ap, sym, ◌∙◌, subst, arith, inl, inr, length-append}
+-- Bodies, frames and choices, as the store, the nodes and the frames change.
+use Rattle.std.proofs.Common.{◌≡◌, ℕ, zero, suc, ◌+◌, ◌-◌, ◌<◌, List, [], ◌∷◌, ◌++◌, length, take, Option, Some, None, refl, ap, ap₂, sym, ◌∙◌, subst, arith, inl, inr, length-append}
 use Rattle.std.specs.List.{slice_get}
 use Rattle.std.proofs.lemmas.List.{take-append-le}
+use Rattle.std.proofs.lemmas.Option.{slice_get_within}
 use Rattle.iso_model.specs.Terms.Trees.{Tree}
+use Rattle.iso_model.specs.Search.Bodies.{Body}
 use Rattle.iso_model.specs.Search.Databases.{Clause}
+use Rattle.iso_model.specs.Search.Walker.{State, Member, Alternative}
 use Rattle.iso_store.specs.Presents.{Present, KeepsWords}
-use Rattle.iso_plain.specs.Callable.{IsGoal}
-use Rattle.iso_plain.specs.Linked.{Linked, Choice, Running}
-use Rattle.iso_plain.specs.Next.{now_behind}
+use Rattle.iso_plain.specs.Next.{IsPlace, now_at, now_behind}
+use Rattle.iso_plain.specs.declared.bodies.Node.{Node}
 use Rattle.iso_plain.specs.declared.parts.Frame.{Frame}
 use Rattle.iso_plain.specs.declared.parts.Choice as kept
-use Rattle.iso_plain.specs.Standing.{At, Among, Chain, ends, leads, StandsForChoice, StandsForChoices, none_kept, one_kept, Newest, AreVariables, no_word, one_word, Goes, DoesNext}
+use Rattle.iso_plain.specs.Standing.{At, Among, Links, IsBody, runs, joins, Chain, ends, leads, First, StandsOn, StandsForChoice, StandsForChoices, none_kept, one_kept, links_at, Newest, AreVariables, no_word, one_word, GoesOn, DoesNext}
+use Rattle.iso_plain.specs.Entering.{Adds}
 
 -- ---- places
 
@@ -23,23 +26,42 @@ pub at_last : {X : Type 0} (xs : List X) (x : X) → At (xs ++ x ∷ []) (length
 at_last [] x = record { is = refl }
 at_last (y ∷ xs) x = record { is = (at_last xs x).is }
 
-pub at_within : {X : Type 0} (xs : List X) (i : ℕ) (x : X) → At xs i x → i < length xs
-at_within [] i x h = absurd (cc (h.is))
-at_within (y ∷ xs) zero x h = omega arith
-at_within (y ∷ xs) (suc i) x h = omega (arith, at_within xs i x (record { is = h.is }))
+-- ---- bodies and frames
 
--- ---- linked goals
+-- more nodes, and a store that keeps its words
+pub body_more : {W : Type 0} {p q : Present W} {nodes : List (Node W)} {i : ℕ} {b : Body} (more : List (Node W)) → KeepsWords p q → IsBody p nodes i b → IsBody q (nodes ++ more) i b
+body_more {nodes = nodes} more keeps (runs {i = i} {w = w} at holds is goal) = runs (at_more nodes more i _ at) (keeps.stand w holds) (is ∙ sym (keeps.terms w holds)) goal
+body_more {nodes = nodes} more keeps (joins {k = k} at first second some a b) = joins (at_more nodes more k _ at) first second some (body_more more keeps a) (body_more more keeps b)
 
--- more frames, and a store that keeps its words
-pub chain_more : {W : Type 0} {p q : Present W} {frames : List (Frame W)} {place : Option ℕ} {gs : List Tree} (more : List (Frame W)) → KeepsWords p q → Chain p frames place gs → Chain q (frames ++ more) place gs
-chain_more more keeps ends = ends
-chain_more {frames = frames} more keeps (leads {i = i} {f = f} at holds is goal others) =
-    leads (at_more frames more i f at) (keeps.stand f.goal holds) (is ∙ sym (keeps.terms f.goal holds)) goal (chain_more more keeps others)
+-- a store that keeps its words
+pub body_keep : {W : Type 0} {p q : Present W} {nodes : List (Node W)} {i : ℕ} {b : Body} → KeepsWords p q → IsBody p nodes i b → IsBody q nodes i b
+body_keep keeps (runs {w = w} at holds is goal) = runs at (keeps.stand w holds) (is ∙ sym (keeps.terms w holds)) goal
+body_keep keeps (joins at first second some a b) = joins at first second some (body_keep keeps a) (body_keep keeps b)
 
--- one goal more
-pub chain_push : {W : Type 0} {p : Present W} (frames : List (Frame W)) (f : Frame W) {gs : List Tree} (t : Tree) → p.holds f.goal ≡ true → t ≡ p.term f.goal → IsGoal t → Chain p (frames ++ f ∷ []) f.next gs
-    → Chain p (frames ++ f ∷ []) (Some (length frames)) (t ∷ gs)
-chain_push frames f t holds is goal others = leads (at_last frames f) holds is goal others
+-- the place of a body is one of a node
+pub body_within : {W : Type 0} {p : Present W} {nodes : List (Node W)} {i : ℕ} {b : Body} → IsBody p nodes i b → i < length nodes
+body_within {nodes = nodes} (runs {i = i} at holds is goal) = slice_get_within nodes i _ at.is
+body_within {nodes = nodes} (joins {k = k} at first second some a b) = slice_get_within nodes k _ at.is
+
+-- nodes and frames that were added at the end
+pub record AddsLinks {W : Type 0} (old new : Links W) : Type 0 where
+  pub nodes : Adds old.nodes new.nodes
+  pub frames : Adds old.frames new.frames
+
+pub chain_more : {W : Type 0} {p q : Present W} {old : Links W} {place : Option ℕ} {ms : List Member} (new : Links W) → AddsLinks old new → KeepsWords p q → Chain p old place ms → Chain q new place ms
+chain_more new adds keeps ends = ends
+chain_more {q = q} {old = old} new adds keeps (leads {i = i} {f = f} {b = b} at body others) =
+    leads (subst (λ (fs : List Frame). At fs i f) (sym adds.frames.1) (at_more old.frames adds.frames.0 i f at))
+    (subst (λ (ns : List (Node _)). IsBody q ns f.body b) (sym adds.nodes.1) (body_more adds.nodes.0 keeps body)) (chain_more new adds keeps others)
+
+pub chain_keep : {W : Type 0} {p q : Present W} {links : Links W} {place : Option ℕ} {ms : List Member} → KeepsWords p q → Chain p links place ms → Chain q links place ms
+chain_keep keeps ends = ends
+chain_keep keeps (leads at body others) = leads at (body_keep keeps body) (chain_keep keeps others)
+
+-- the place that a chain begins at
+pub chain_place : {W : Type 0} {p : Present W} {links : Links W} (place : Option ℕ) {ms : List Member} → Chain p links place ms → IsPlace links.frames place
+chain_place None ends = tt
+chain_place {links = links} (Some i) (leads at body others) = slice_get_within links.frames i _ at.is
 
 -- ---- lists that end in an item
 
@@ -63,115 +85,105 @@ pub among_last : {X : Type 0} (xs : List X) (y : X) → Among y (xs ++ y ∷ [])
 among_last [] y = inl refl
 among_last (z ∷ xs) y = inr (among_last xs y)
 
-take_take : {X : Type 0} (n : ℕ) (xs : List X) → take n (take n xs) ≡ take n xs
-take_take zero xs = refl
-take_take (suc n) [] = refl
-take_take (suc n) (x ∷ xs) = ap (λ (ys : List _). x ∷ ys) (take_take n xs)
-
 take_whole : {X : Type 0} (xs : List X) → take (length xs) xs ≡ xs
 take_whole [] = refl
 take_whole (x ∷ xs) = ap (λ (ys : List _). x ∷ ys) (take_whole xs)
-
-length_taken : {X : Type 0} (n : ℕ) (xs : List X) → n ≤ length xs → length (take n xs) ≡ n
-length_taken zero xs h = refl
-length_taken (suc n) [] h = absurd (omega arith)
-length_taken (suc n) (x ∷ xs) h = ap suc (length_taken n xs (omega arith))
 
 some_same : {X : Type 0} {x y : X} → Some x ≡ Some y → x ≡ y
 some_same h = cc
 
 -- ---- choices
 
+-- what stood when a choice was made stands as it was
+links_same : {W M : Type 0} (c : kept.Choice W M) (old new : Links W) → StandsOn c old → AddsLinks old new → links_at c new ≡ links_at c old
+links_same c old new on adds =
+    let links : List (Node _) → List Frame → Links _ = λ ns fs. record { nodes = ns; frames = fs } in
+    ap₂ links (ap (λ (ns : List (Node _)). take c.nodes ns) adds.nodes.1 ∙ take-append-le c.nodes old.nodes adds.nodes.0 on.nodes) (ap (λ (fs : List Frame). take c.frames fs) adds.frames.1 ∙ take-append-le c.frames old.frames adds.frames.0 on.frames)
+
+stands_more : {W M : Type 0} (c : kept.Choice W M) (old new : Links W) → StandsOn c old → AddsLinks old new → StandsOn c new
+stands_more c old new on adds = record {
+  nodes = (let a = on.nodes in let b = ap length adds.nodes.1 in let d = length-append old.nodes adds.nodes.0 in omega (arith, a, b, d));
+  frames = (let a = on.frames in let b = ap length adds.frames.1 in let d = length-append old.frames adds.frames.0 in omega (arith, a, b, d));
+}
+
 module _ {W M : Type 0} {older : M → M → Type 0} {base : M} {left_at : ℕ → ℕ → List Clause} {query : List W} {named : List ℕ} where
-  -- more frames
-  pub choices_more : {stands : M → Present W → Type 0} {frames : List (Frame W)} {cs : List (kept.Choice W M)} {ks : List Choice} (more : List (Frame W))
-      → StandsForChoices stands older base left_at query named frames cs ks → StandsForChoices stands older base left_at query named (frames ++ more) cs ks
-  choices_more more none_kept = none_kept
-  choices_more {stands = stands} {frames = frames} more (one_kept {before = before} {c = c} {k = k} {ks = ks} is within here newer below) =
-      let same : take c.frames (frames ++ more) ≡ take c.frames frames = take-append-le c.frames frames more within in
-      one_kept is (omega (arith, length-append frames more))
-      (subst (λ (fs : List (Frame W)). StandsForChoice stands older base left_at query named fs c k) (sym same) here) newer
-      (subst (λ (fs : List (Frame W)). StandsForChoices stands older base left_at query named fs before ks) (sym same) below)
+  -- more nodes and frames
+  pub choices_more : {stands : M → Present W → Type 0} {links : Links W} {cs : List (kept.Choice W M)} {ks : List Alternative} (new : Links W) → AddsLinks links new
+      → StandsForChoices stands older base left_at query named links cs ks → StandsForChoices stands older base left_at query named new cs ks
+  choices_more new adds none_kept = none_kept
+  choices_more {stands = stands} {links = links} new adds (one_kept {before = before} {c = c} {a = a} {ks = ks} is on here newer below) =
+      let same : links_at c new ≡ links_at c links = links_same c links new on adds in
+      one_kept is (stands_more c links new on adds)
+      (subst (λ (ls : Links W). StandsForChoice stands older base left_at query named ls c a) (sym same) here) newer
+      (subst (λ (ls : Links W). StandsForChoices stands older base left_at query named ls before ks) (sym same) below)
 
   -- marks that stand on
-  pub choices_keep : {stands stands' : M → Present W → Type 0} {frames : List (Frame W)} {cs : List (kept.Choice W M)} {ks : List Choice}
+  pub choices_keep : {stands stands' : M → Present W → Type 0} {links : Links W} {cs : List (kept.Choice W M)} {ks : List Alternative}
       → ((d : kept.Choice W M) (p : Present W) → Among d cs → stands d.mark p → stands' d.mark p)
-      → StandsForChoices stands older base left_at query named frames cs ks → StandsForChoices stands' older base left_at query named frames cs ks
+      → StandsForChoices stands older base left_at query named links cs ks → StandsForChoices stands' older base left_at query named links cs ks
   choices_keep keeps none_kept = none_kept
-  choices_keep {stands = stands} {stands' = stands'} {cs = cs} keeps (one_kept {before = before} {c = c} {k = k} is within here newer below) =
-      one_kept is within
+  choices_keep {stands = stands} {stands' = stands'} {cs = cs} keeps (one_kept {before = before} {c = c} is on here newer below) =
+      one_kept is on
       (record {
         present = here.present;
         mark = keeps c here.present (subst (λ (ds : List (kept.Choice W M)). Among c ds) (sym is) (among_last before c)) here.mark;
         newer = here.newer;
-        subst = here.subst;
-        next = here.next;
-        goal = here.goal;
         call = here.call;
-        behind = here.behind;
-        clauses = here.clauses;
+        at = here.at;
+        left = here.left;
         some = here.some;
-        words = here.words;
       })
       newer
       (choices_keep (λ d p among stood. keeps d p (subst (λ (ds : List (kept.Choice W M)). Among d ds) (sym is) (among_front d before c among)) stood) below)
 
   -- as many choices
-  pub choices_length : {stands : M → Present W → Type 0} {frames : List (Frame W)} {cs : List (kept.Choice W M)} {ks : List Choice}
-      → StandsForChoices stands older base left_at query named frames cs ks → length cs ≡ length ks
+  pub choices_length : {stands : M → Present W → Type 0} {links : Links W} {cs : List (kept.Choice W M)} {ks : List Alternative}
+      → StandsForChoices stands older base left_at query named links cs ks → length cs ≡ length ks
   choices_length none_kept = refl
-  choices_length (one_kept {before = before} {c = c} is within here newer below) = ap length is ∙ (length_last before c ∙ omega (arith, choices_length below))
+  choices_length (one_kept {before = before} {c = c} is on here newer below) = ap length is ∙ (length_last before c ∙ omega (arith, choices_length below))
 
-  newest_of : {stands : M → Present W → Type 0} {frames : List (Frame W)} {before : List (kept.Choice W M)} {c : kept.Choice W M} {k : Choice} {ks : List Choice}
-      → c.frames ≤ length frames → StandsForChoice stands older base left_at query named (take c.frames frames) c k → ((d : kept.Choice W M) → Among d before → older d.mark c.mark)
-      → StandsForChoices stands older base left_at query named (take c.frames frames) before ks → Newest stands older base left_at query named frames (before ++ c ∷ []) c (k ∷ ks)
-  newest_of {stands = stands} {frames = frames} {before = before} {c = c} {k = k} {ks = ks} within here newer below =
+  newest_of : {stands : M → Present W → Type 0} {links : Links W} {before : List (kept.Choice W M)} {c : kept.Choice W M} {a : Alternative} {ks : List Alternative}
+      → StandsOn c links → StandsForChoice stands older base left_at query named (links_at c links) c a → ((d : kept.Choice W M) → Among d before → older d.mark c.mark)
+      → StandsForChoices stands older base left_at query named (links_at c links) before ks → Newest stands older base left_at query named links (before ++ c ∷ []) c (a ∷ ks)
+  newest_of {stands = stands} {links = links} {before = before} {c = c} {a = a} {ks = ks} on here newer below =
       let place : length (before ++ c ∷ []) - 1 ≡ length before = omega (arith, length_last before c) in
       let front : take (length (before ++ c ∷ []) - 1) (before ++ c ∷ []) ≡ before = rw place (front_is before c) in
       record {
-        choice = k;
+        alternative = a;
         below = ks;
         is = refl;
-        within = within;
+        within = on;
         here = here;
         newer = λ d among. newer d (subst (λ (ds : List (kept.Choice W M)). Among d ds) front among);
-        stands_below = subst (λ (ds : List (kept.Choice W M)). StandsForChoices stands older base left_at query named (take c.frames frames) ds ks) (sym front) below;
+        stands_below = subst (λ (ds : List (kept.Choice W M)). StandsForChoices stands older base left_at query named (links_at c links) ds ks) (sym front) below;
       }
 
-  pub newest : {stands : M → Present W → Type 0} {frames : List (Frame W)} {cs : List (kept.Choice W M)} {ks : List Choice} (c : kept.Choice W M)
-      → slice_get cs (length cs - 1) ≡ Some c → StandsForChoices stands older base left_at query named frames cs ks → Newest stands older base left_at query named frames cs c ks
+  pub newest : {stands : M → Present W → Type 0} {links : Links W} {cs : List (kept.Choice W M)} {ks : List Alternative} (c : kept.Choice W M)
+      → slice_get cs (length cs - 1) ≡ Some c → StandsForChoices stands older base left_at query named links cs ks → Newest stands older base left_at query named links cs c ks
   newest c last none_kept = absurd (cc)
-  newest {stands = stands} {frames = frames} {cs = cs} c last (one_kept {before = before} {c = d} {k = k} {ks = ks} is within here newer below) =
+  newest {stands = stands} {links = links} {cs = cs} c last (one_kept {before = before} {c = d} {a = a} {ks = ks} is on here newer below) =
       let place : length (before ++ d ∷ []) - 1 ≡ length before = omega (arith, length_last before d) in
       let there : slice_get (before ++ d ∷ []) (length (before ++ d ∷ []) - 1) ≡ Some c = subst (λ (ds : List (kept.Choice W M)). slice_get ds (length ds - 1) ≡ Some c) is last in
       let same : d ≡ c = some_same (sym (last_is before d) ∙ (ap (slice_get (before ++ d ∷ [])) (sym place) ∙ there)) in
-      subst (λ (e : kept.Choice W M). Newest stands older base left_at query named frames cs e (k ∷ ks)) same
-      (subst (λ (ds : List (kept.Choice W M)). Newest stands older base left_at query named frames ds d (k ∷ ks)) (sym is) (newest_of within here newer below))
+      subst (λ (e : kept.Choice W M). Newest stands older base left_at query named links cs e (a ∷ ks)) same
+      (subst (λ (ds : List (kept.Choice W M)). Newest stands older base left_at query named links ds d (a ∷ ks)) (sym is) (newest_of on here newer below))
 
-  -- A choice that keeps all frames, newer than all others.
-  pub choices_push : {stands : M → Present W → Type 0} {frames : List (Frame W)} {cs : List (kept.Choice W M)} {ks : List Choice} (c : kept.Choice W M) (k : Choice) → c.frames ≡ length frames
-      → StandsForChoice stands older base left_at query named frames c k → ((d : kept.Choice W M) → Among d cs → older d.mark c.mark)
-      → StandsForChoices stands older base left_at query named frames cs ks → StandsForChoices stands older base left_at query named frames (cs ++ c ∷ []) (k ∷ ks)
-  choices_push {stands = stands} {frames = frames} {cs = cs} {ks = ks} c k all here newer below =
-      let whole : take c.frames frames ≡ frames = rw all (take_whole frames) in
-      one_kept refl (omega (arith, all))
-      (subst (λ (fs : List (Frame W)). StandsForChoice stands older base left_at query named fs c k) (sym whole) here) newer
-      (subst (λ (fs : List (Frame W)). StandsForChoices stands older base left_at query named fs cs ks) (sym whole) below)
-
-  -- the newest choice at its next clause
-  pub choices_next : {stands : M → Present W → Type 0} (frames : List (Frame W)) {ks : List Choice} (c d : kept.Choice W M) (k : Choice) (front : List (kept.Choice W M))
-      → c.frames ≤ length frames → d.frames ≡ c.frames → d.mark ≡ c.mark → StandsForChoice stands older base left_at query named (take c.frames frames) d k
-      → ((e : kept.Choice W M) → Among e front → older e.mark c.mark)
-      → StandsForChoices stands older base left_at query named (take c.frames frames) front ks
-      → StandsForChoices stands older base left_at query named (take c.frames frames) (front ++ d ∷ []) (k ∷ ks)
-  choices_next frames c d k front within same same_mark here newer below =
-      choices_push d k (same ∙ sym (length_taken c.frames frames within)) here (λ e among. subst (λ (m : M). older e.mark m) (sym same_mark) (newer e among)) below
+  -- A choice that keeps all nodes and frames, newer than all others.
+  pub choices_push : {stands : M → Present W → Type 0} {links : Links W} {cs : List (kept.Choice W M)} {ks : List Alternative} (c : kept.Choice W M) (a : Alternative) → c.nodes ≡ length links.nodes → c.frames ≡ length links.frames
+      → StandsForChoice stands older base left_at query named links c a → ((d : kept.Choice W M) → Among d cs → older d.mark c.mark)
+      → StandsForChoices stands older base left_at query named links cs ks → StandsForChoices stands older base left_at query named links (cs ++ c ∷ []) (a ∷ ks)
+  choices_push {stands = stands} {links = links} {cs = cs} {ks = ks} c a nodes frames here newer below =
+      let make : List (Node W) → List Frame → Links W = λ ns fs. record { nodes = ns; frames = fs } in
+      let whole : links_at c links ≡ links = ap₂ make (ap (λ (n : ℕ). take n links.nodes) nodes ∙ take_whole links.nodes) (ap (λ (n : ℕ). take n links.frames) frames ∙ take_whole links.frames) in
+      one_kept refl (record { nodes = omega (arith, nodes); frames = omega (arith, frames) })
+      (subst (λ (ls : Links W). StandsForChoice stands older base left_at query named ls c a) (sym whole) here) newer
+      (subst (λ (ls : Links W). StandsForChoices stands older base left_at query named ls cs ks) (sym whole) below)
 
   -- no choice
-  pub no_choices : {stands : M → Present W → Type 0} {frames : List (Frame W)} {cs : List (kept.Choice W M)} {ks : List Choice} → cs ≡ []
-      → StandsForChoices stands older base left_at query named frames cs ks → ks ≡ []
+  pub no_choices : {stands : M → Present W → Type 0} {links : Links W} {cs : List (kept.Choice W M)} {ks : List Alternative} → cs ≡ []
+      → StandsForChoices stands older base left_at query named links cs ks → ks ≡ []
   no_choices e none_kept = refl
-  no_choices {cs = cs} e (one_kept {before = before} {c = c} is within here newer below) =
+  no_choices {cs = cs} e (one_kept {before = before} {c = c} is on here newer below) =
       absurd (let l : length cs ≡ length before + 1 = ap length is ∙ length_last before c in let z : length cs ≡ 0 = ap length e in omega arith)
 
 -- the words of variables, in a store that keeps its words
@@ -181,12 +193,26 @@ variables_more keeps (one_word {w = w} holds is others) = one_word (keeps.stand 
 
 -- ---- what comes next
 
--- no goals are linked behind the last
-pub none_linked : {W : Type 0} {p : Present W} {frames : List (Frame W)} (gs : List Tree) → Chain p frames None gs → gs ≡ []
-none_linked gs ends = refl
+-- the first of the members that a frame leads to
+pub record Leads {W : Type 0} (p : Present W) (links : Links W) (place : ℕ) (ms : List Member) : Type 0 where
+  pub frame : Frame
+  pub at : slice_get links.frames place ≡ Some frame
+  pub first : First p links frame ms
 
--- the goals that are linked from the place on come next; where there are none, an answer
-pub next_behind : {W : Type 0} (q : Present W) (frames : List (Frame W)) (query : List W) (raised : Option Tree) (l : Linked) (place : Option ℕ) (gs : List Tree) → l.doing ≡ Running gs → Chain q frames place gs
-    → Goes q query l → DoesNext q frames query (now_behind place) raised l
-next_behind q frames query raised l None gs doing chain goes = (doing ∙ ap Running (none_linked gs chain), goes)
-next_behind q frames query raised l (Some i) gs doing chain goes = (gs, doing, chain, goes)
+pub leads_to : {W : Type 0} {p : Present W} {links : Links W} {place : ℕ} {ms : List Member} → Chain p links (Some place) ms → Leads p links place ms
+leads_to (leads {f = f} {b = b} {ms = ms} at body others) = record { frame = f; at = at.is; first = record { body = b; behind = ms; is = refl; node = body; chain = others } }
+
+-- no members are behind the last
+pub none_linked : {W : Type 0} {p : Present W} {links : Links W} {ms : List Member} → Chain p links None ms → ms ≡ []
+none_linked ends = refl
+
+first_as : {W : Type 0} {p : Present W} {links : Links W} {f : Frame} {ms ns : List Member} → First p links f ms → ns ≡ ms → First p links f ns
+first_as h same = record { body = h.body; behind = h.behind; is = same ∙ h.is; node = h.node; chain = h.chain }
+
+-- the members from the place on come next; where there are none, an answer
+pub next_behind : {W : Type 0} (q : Present W) (links : Links W) (query : List W) (raised : Option Tree) (s : State) (place : Option ℕ) (ms : List Member) → s.list ≡ ms → Chain q links place ms → GoesOn q query s
+    → DoesNext q links query (now_behind links.frames place) raised s
+next_behind q links query raised s None ms list chain goes = (list ∙ none_linked chain, goes)
+next_behind q links query raised s (Some i) ms list chain goes =
+    let l = leads_to chain in
+    subst (λ (f : Option Frame). DoesNext q links query (now_at f) raised s) (sym l.at) (first_as l.first list, goes)

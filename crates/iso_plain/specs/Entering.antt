@@ -1,15 +1,17 @@
--- What entering a clause makes of a store.
-use Rattle.std.specs.Prelude.{◌≡◌, ℕ, ◌+◌, List, [], ◌∷◌, ◌++◌, map, Bool, true, ◌&&◌, nat_lt, Option, Some, None}
-use Rattle.iso_model.specs.Terms.Trees.{Tree, Variable, Integer, Name, Apply, End, More}
+-- What entering a clause makes of a store and of the nodes.
+use Rattle.std.specs.Prelude.{◌≡◌, ℕ, ◌+◌, ◌<◌, List, [], ◌∷◌, ◌++◌, map, length, Bool, true, ◌&&◌, nat_lt}
+use Rattle.iso_model.specs.Terms.Trees.{Tree, Variable, Integer, Name, Apply, End, More, arities_fit}
+use Rattle.iso_model.specs.Terms.TermOf.{term_of}
 use Rattle.iso_model.specs.Terms.Substitutions.{Subst, apply, compose}
 use Rattle.iso_model.specs.Terms.Unifiers.{Unifier, NeverEqual}
 use Rattle.iso_model.specs.Terms.Copies.{renamed}
 use Rattle.iso_store.specs.Presents.{Present, KeepsWords}
-use Rattle.iso_model.specs.declared.terms.Term.{Term}
-use Rattle.iso_model.specs.Terms.TermOf.{term_of}
-use Rattle.iso_plain.specs.Callable.{AreGoals}
-use Rattle.iso_plain.specs.Standing.{Chain}
-use Rattle.iso_plain.specs.declared.parts.Frame.{Frame}
+use Rattle.iso_plain.specs.Nodes.{map_node, trees_of}
+use Rattle.iso_plain.specs.declared.bodies.Node.{Node}
+use Rattle.iso_plain.specs.declared.bodies.Node.TheVariants as node
+use Rattle.iso_plain.specs.declared.clauses.Clause.{Clause}
+use Rattle.iso_plain.specs.declared.entries.Entered.{Entered}
+use Rattle.iso_plain.specs.declared.entries.Entered.TheVariants as entered
 
 -- whether all variables of the term have numbers below this one
 abbrev pub is_below : ℕ → Tree → Bool
@@ -20,33 +22,67 @@ is_below n (Apply f ts) = is_below n ts
 is_below n End = true
 is_below n (More t ts) = is_below n t && is_below n ts
 
+-- The term can be made in a store, with its variables standing for n words.
+pub record Fits (n : ℕ) (t : Tree) : Type 0 where
+  pub arities : arities_fit t ≡ true
+  pub below : is_below n t ≡ true
+
+abbrev pub PartFits : ℕ → Node Tree → Type 0
+PartFits n (node.Run t) = Fits n t
+PartFits n (node.And distance) = Unit {0}
+
+abbrev pub PartsFit : ℕ → List (Node Tree) → Type 0
+PartsFit n [] = Unit {0}
+PartsFit n (t ∷ ts) = PartFits n t × PartsFit n ts
+
 -- Words and numbers come, no binding changes.
 pub record Extends {W : Type 0} (p q : Present W) (count : ℕ) : Type 0 where
   pub words : KeepsWords p q
   pub substitution : q.substitution ≡ p.substitution
   pub next : q.next ≡ p.next + count
 
--- These words come for the terms, in their order.
-pub data AreTerms {W : Type 0} (p : Present W) : List W → Tree → Type 0 where
-  no_terms : AreTerms p [] End
-  one_more : {w : W} {ws : List W} {t : Tree} {ts : Tree} → p.holds w ≡ true → p.term w ≡ t → AreTerms p ws ts → AreTerms p (w ∷ ws) (More t ts)
+-- the parts, with n added to the number of each variable
+abbrev pub renamed_nodes : ℕ → List (Node Tree) → List (Node Tree)
+renamed_nodes n ts = map (map_node (renamed n)) ts
 
--- the terms of a list, with n added to the number of each variable
-abbrev pub renamed_terms : ℕ → List Term → List Tree
-renamed_terms n ts = map (λ t. renamed n (term_of t)) ts
+-- the node stands for this part
+abbrev pub IsNode : {W : Type 0} → Present W → Node W → Node Tree → Type 0
+IsNode p (node.Run w) (node.Run t) = (p.holds w ≡ true) × (p.term w ≡ t)
+IsNode p (node.And d) (node.And e) = d ≡ e
+IsNode p (node.Run w) (node.And e) = ⊥
+IsNode p (node.And d) (node.Run t) = ⊥
 
--- The frames that are linked to some goals from `rest` on are linked to these terms before them from the place on, where each can be run.
-abbrev pub Links : {W : Type 0} → Present W → List (Frame W) → Option ℕ → Present W → List (Frame W) → Option ℕ → List Tree → Type 0
-Links p frames rest q new place ts = (gs : List Tree) → Chain p frames rest gs → AreGoals ts → Chain q new place (ts ++ gs)
+-- These nodes stand for the parts, in their order.
+pub data AreNodes {W : Type 0} (p : Present W) : List (Node W) → List (Node Tree) → Type 0 where
+  no_nodes : AreNodes p [] []
+  one_node : {n : Node W} {ns : List (Node W)} {t : Node Tree} {ts : List (Node Tree)} → IsNode p n t → AreNodes p ns ts → AreNodes p (n ∷ ns) (t ∷ ts)
 
--- frames that were added at the end
-abbrev pub AddsFrames : {W : Type 0} → List (Frame W) → List (Frame W) → Type 0
-AddsFrames {W} old new = (more : List (Frame W)) × (new ≡ old ++ more)
+-- A node comes for the part.
+pub record CopiesPart {W : Type 0} (p q : Present W) (n : Node W) (t : Node Tree) : Type 0 where
+  pub extends : Extends p q 0
+  pub is : IsNode q n t
 
--- Entering the clause with this head and these goals for a call: where the head has a unifier with it, the store is under it, and the goals are linked
--- before those behind the call; else they are never equal.
-abbrev pub Enters : {W : Type 0} → Present W → List (Frame W) → Option ℕ → Present W → List (Frame W) → Tree → Tree → List Term → ℕ → Option (Option ℕ) → Type 0
-Enters p frames rest q new call head goals count None = NeverEqual (apply p.substitution call) (apply p.substitution (renamed p.next head))
-Enters p frames rest q new call head goals count (Some place) =
-    (u : Subst) × Unifier (apply p.substitution call) (apply p.substitution (renamed p.next head)) u × (q.substitution ≡ compose p.substitution u) × (q.next ≡ p.next + count) × KeepsWords p q
-    × Links p frames rest q new place (renamed_terms p.next goals)
+-- items that were added at the end
+abbrev pub Adds : {X : Type 0} → List X → List X → Type 0
+Adds {X} old new = (more : List X) × (new ≡ old ++ more)
+
+-- Nodes for the parts were added at the end.
+pub record Copies {W : Type 0} (p : Present W) (old new : List (Node W)) (ts : List (Node Tree)) : Type 0 where
+  pub more : List (Node W)
+  pub are : new ≡ old ++ more
+  pub nodes : AreNodes p more ts
+
+-- The head, with its variables new, was unified with the call, and the store is under the unifier.
+pub record Meets {W : Type 0} (p q : Present W) (call head : Tree) (count : ℕ) : Type 0 where
+  pub unifier : Subst
+  pub is : Unifier (apply p.substitution call) (apply p.substitution (renamed p.next head)) unifier
+  pub substitution : q.substitution ≡ compose p.substitution unifier
+  pub next : q.next ≡ p.next + count
+  pub words : KeepsWords p q
+
+-- What trying the clause for a call comes to.
+abbrev pub Enters : {W : Type 0} → Present W → Present W → List (Node W) → List (Node W) → Tree → Clause → Entered → Type 0
+Enters p q old new call clause entered.Missed = NeverEqual (apply p.substitution call) (apply p.substitution (renamed p.next (term_of clause.head)))
+Enters p q old new call clause entered.Fact = Meets p q call (term_of clause.head) clause.variables × (trees_of clause.parts.items ≡ [])
+Enters p q old new call clause (entered.Body place) =
+    Meets p q call (term_of clause.head) clause.variables × Copies q old new (renamed_nodes p.next (trees_of clause.parts.items)) × (place + 1 ≡ length new) × (0 < length (trees_of clause.parts.items))

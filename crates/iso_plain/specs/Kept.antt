@@ -1,12 +1,12 @@
 -- Clauses as the engine keeps them, and the checks by which they come.
-use Rattle.std.specs.Prelude.{◌≡◌, ℕ, ◌<◌, ◌≤◌, List, [], ◌∷◌, Option, Some, None, Result, Ok, Err, true, false, codes}
-use Rattle.iso_model.specs.Terms.Trees.{Tree, Variable, Name, More, row}
+use Rattle.std.specs.Prelude.{◌≡◌, ℕ, ◌<◌, ◌≤◌, List, Option, Some, None, Result, Ok, Err, true, false, codes}
+use Rattle.iso_model.specs.Terms.Trees.{Tree, Variable, Name}
 use Rattle.iso_model.specs.Terms.Sorts.{is_term}
-use Rattle.iso_model.specs.Terms.TermOf.{term_of, row_of}
-use Rattle.iso_model.specs.Terms.Variables.{occurs, variables, variable_count}
+use Rattle.iso_model.specs.Terms.TermOf.{term_of}
+use Rattle.iso_model.specs.Terms.Variables.{occurs, variable_count}
 use Rattle.iso_model.specs.Terms.Substitutions.{Subst, apply}
-use Rattle.iso_model.specs.Terms.Copies.{place_of}
-use Rattle.iso_model.specs.Search.Bodies.{Body, two, converted}
+use Rattle.iso_model.specs.Terms.Copies.{place_of, copy_from}
+use Rattle.iso_model.specs.Search.Bodies.{Body, Run, And, two, converted}
 use Rattle.iso_model.specs.Search.Databases as databases
 use Rattle.iso_model.specs.Search.Databases.{Key, key_of}
 use Rattle.iso_model.specs.Search.BuiltIns.{is_built_in}
@@ -18,8 +18,10 @@ use Rattle.iso_model.specs.declared.pauses.AddFault.TheVariants as add
 use Rattle.std.specs.declared.vec.Vec.{Vec}
 use Rattle.std.specs.declared.alloc.Global.{Global}
 use Rattle.iso_plain.specs.declared.clauses.Clause.{Clause}
-use Rattle.iso_plain.specs.Goals.{terms_of}
-use Rattle.iso_plain.specs.Linked.{goals_of}
+use Rattle.iso_plain.specs.declared.bodies.Node.{Node}
+use Rattle.iso_plain.specs.declared.bodies.BodyFault.{BodyFault}
+use Rattle.iso_plain.specs.declared.bodies.BodyFault.TheVariants as fault
+use Rattle.iso_plain.specs.Nodes.{trees_of, layout_of}
 
 -- each variable by its place in the list
 abbrev pub numbers : List ℕ → Subst
@@ -36,30 +38,37 @@ pub record IsTemplate (n : ℕ) (t : Tree) : Type 0 where
   pub key : (k : Key) × (key_of t ≡ Some k)
   pub below : (x : ℕ) → occurs x t ≡ true → x < n
 
--- each of them is one
-abbrev pub AreTemplates : ℕ → List Tree → Type 0
-AreTemplates n [] = Unit {0}
-AreTemplates n (t ∷ ts) = IsTemplate n t × AreTemplates n ts
-
--- The variables of the head and of the goals are numbered 0, 1, .. by first occurrence.
-pub record IsRenamed (head : Tree) (goals : List Tree) (kept : Clause) : Type 0 where
-  pub head_is : term_of kept.head ≡ apply (numbers (variables (More head (row goals)))) head
-  pub goals_are : row_of kept.goals.items ≡ apply (numbers (variables (More head (row goals)))) (row goals)
-  pub variables_are : kept.variables ≡ variable_count (More head (row goals))
+-- each goal of the body is one
+abbrev pub AreTemplates : ℕ → Body → Type 0
+AreTemplates n (Run t) = IsTemplate n t
+AreTemplates n (And a b) = AreTemplates n a × AreTemplates n b
 
 -- The engine keeps the clause of the database so.
 pub record IsClause (kept : Clause) (c : databases.Clause) : Type 0 where
   pub head : term_of kept.head ≡ c.head
-  pub goals : terms_of kept.goals.items ≡ goals_of c.body
+  pub parts : trees_of kept.parts.items ≡ layout_of c.body
   pub variables : kept.variables ≡ c.variables
   pub few : c.variables ≤ most_variables
-  pub templates : AreTemplates c.variables (c.head ∷ goals_of c.body)
+  pub head_template : IsTemplate c.variables c.head
+  pub goal_templates : AreTemplates c.variables c.body
 
--- The goals of a body come, or the body can't be converted.
-abbrev pub GoalsOf : Tree → Result (Vec Term Global) AddFault → Type 0
-GoalsOf body (Ok goals) = (b : Body) × (converted body ≡ Some b) × (terms_of goals.items ≡ goals_of b)
-GoalsOf body (Err (add.Refused ball)) = (converted body ≡ None) × (term_of ball.term ≡ type_error_callable body consult_key)
-GoalsOf body (Err add.NoMemory) = Unit {0}
+-- The parts of a body come, or the body can't be converted.
+abbrev pub PartsOf : Tree → Result (Vec (Node Term) Global) BodyFault → Type 0
+PartsOf body (Ok parts) = (b : Body) × (converted body ≡ Some b) × (trees_of parts.items ≡ layout_of b)
+PartsOf body (Err fault.NotCallable) = converted body ≡ None
+PartsOf body (Err fault.NoMemory) = Unit {0}
+
+-- The parts of the body with its variables numbered by this list come, or the body can't be converted.
+abbrev pub NumbersBody : Tree → List ℕ → Result (Vec (Node Term) Global) AddFault → Type 0
+NumbersBody body vs (Ok parts) = (b : Body) × (converted (apply (numbers vs) body) ≡ Some b) × (trees_of parts.items ≡ layout_of b)
+NumbersBody body vs (Err (add.Refused ball)) = (converted body ≡ None) × (term_of ball.term ≡ type_error_callable body consult_key)
+NumbersBody body vs (Err add.NoMemory) = Unit {0}
+
+-- The clause comes with its variables numbered, or its body can't be converted.
+abbrev pub Numbers : Tree → Result Clause AddFault → Type 0
+Numbers t (Ok kept) = (b : Body) × (converted (body_of (copy_from t 0)) ≡ Some b) × (term_of kept.head ≡ head_of (copy_from t 0)) × (trees_of kept.parts.items ≡ layout_of b) × (kept.variables ≡ variable_count t)
+Numbers t (Err (add.Refused ball)) = (converted (body_of t) ≡ None) × (term_of ball.term ≡ type_error_callable (body_of t) consult_key)
+Numbers t (Err add.NoMemory) = Unit {0}
 
 -- the checks found a fault, for which this is the error of a clause of the text
 abbrev pub IsRefused : Check → Tree → Type 0

@@ -1,12 +1,12 @@
-pub mod Linked
+pub mod Nodes
 pub mod Standing
 pub mod Entering
-pub mod Goals
 pub mod Kept
 pub mod Programs
 pub mod Next
 pub mod EngineStates
 pub mod Limits
+pub mod Stays
 pub mod Starts
 pub mod Callable
 pub mod Replies

@@ -1,19 +1,33 @@
 -- What the engine does next.
-use Rattle.std.specs.Prelude.{ℕ, Bool, true, false, Option, Some, None}
+use Rattle.std.specs.Prelude.{◌<◌, ℕ, List, length, Bool, true, false, Option, Some, None}
+use Rattle.std.specs.List.{slice_get}
+use Rattle.iso_plain.specs.declared.entries.Entered.{Entered}
+use Rattle.iso_plain.specs.declared.entries.Entered.TheVariants as entered
+use Rattle.iso_plain.specs.declared.parts.Frame.{Frame}
 use Rattle.iso_plain.specs.declared.parts.Now.{Now}
 use Rattle.iso_plain.specs.declared.parts.Now.TheVariants as now
 
--- behind a goal or a head that succeeded: the goal at the place, or an answer where there is none
-abbrev pub now_behind : Option ℕ → Now
-now_behind None = now.Answering
-now_behind (Some i) = now.Running i
+-- the place of a frame, or none
+abbrev pub IsPlace : List Frame → Option ℕ → Type 0
+IsPlace frames None = Unit {0}
+IsPlace frames (Some i) = i < length frames
 
--- behind a clause that was tried, with the place to go on at where it was entered
-abbrev pub now_entered : Option (Option ℕ) → Now
-now_entered None = now.Failing
-now_entered (Some place) = now_behind place
+abbrev pub now_at : Option Frame → Now
+now_at None = now.Answering
+now_at (Some f) = now.Running f
 
--- behind a goal that went on, or failed, with the place of the goal behind it
-abbrev pub now_replied : Bool → Option ℕ → Now
-now_replied false place = now.Failing
-now_replied true place = now_behind place
+-- behind a goal or a head that succeeded: the member at the place, or an answer where there is none
+abbrev pub now_behind : List Frame → Option ℕ → Now
+now_behind frames None = now.Answering
+now_behind frames (Some i) = now_at (slice_get frames i)
+
+-- behind a clause that was tried, with its cut mark, before the member at the place
+abbrev pub now_entered : List Frame → Entered → ℕ → Option ℕ → Now
+now_entered frames entered.Missed mark rest = now.Failing
+now_entered frames entered.Fact mark rest = now_behind frames rest
+now_entered frames (entered.Body body) mark rest = now.Running (record { body = body; mark = mark; next = rest })
+
+-- behind a goal that went on, or failed, with the place of the member behind it
+abbrev pub now_replied : List Frame → Bool → Option ℕ → Now
+now_replied frames false place = now.Failing
+now_replied frames true place = now_behind frames place

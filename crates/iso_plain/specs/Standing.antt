@@ -1,12 +1,16 @@
--- How the engine's parts stand for a search with its goals linked.
+-- How the engine's parts stand for a state of the search.
 use Rattle.std.specs.Prelude.{◌≡◌, ℕ, ◌+◌, ◌*◌, ◌-◌, ◌≤◌, ◌<◌, List, [], ◌∷◌, ◌++◌, length, take, Option, Some, None, true, ◌⊎◌}
 use Rattle.std.specs.List.{slice_get}
 use Rattle.iso_model.specs.Terms.Trees.{Tree, Variable}
 use Rattle.iso_model.specs.Terms.Variables.{variables}
+use Rattle.iso_model.specs.Terms.Substitutions.{Subst}
+use Rattle.iso_model.specs.Search.Bodies.{Body, Run, And}
 use Rattle.iso_model.specs.Search.Databases.{Clause}
-use Rattle.iso_store.specs.Presents.{Present}
+use Rattle.iso_model.specs.Search.Walker.{State, Member, Goal, Fail, Raise, Alternative, Clauses, idle}
+use Rattle.iso_store.specs.Presents.{Present, meaning}
 use Rattle.iso_plain.specs.Callable.{IsGoal}
-use Rattle.iso_plain.specs.Linked.{Choice, Linked, idle_linked, Running, Failing, Raising}
+use Rattle.iso_plain.specs.declared.bodies.Node.{Node}
+use Rattle.iso_plain.specs.declared.bodies.Node.TheVariants as node
 use Rattle.iso_plain.specs.declared.parts.Frame.{Frame}
 use Rattle.iso_plain.specs.declared.parts.Choice as kept
 use Rattle.iso_plain.specs.declared.parts.Now.{Now}
@@ -21,49 +25,83 @@ abbrev pub Among : {X : Type 0} → X → List X → Type 0
 Among x [] = ⊥
 Among x (y ∷ ys) = (x ≡ y) ⊎ Among x ys
 
--- The frames from this place on are linked to these goals, each of which can be run.
-pub data Chain {W : Type 0} (p : Present W) (frames : List (Frame W)) : Option ℕ → List Tree → Type 0 where
-  ends : Chain p frames None []
-  leads : {i : ℕ} {f : Frame W} {t : Tree} {gs : List Tree} → At frames i f → p.holds f.goal ≡ true → t ≡ p.term f.goal → IsGoal t → Chain p frames f.next gs → Chain p frames (Some i) (t ∷ gs)
+-- The nodes of bodies and the frames that stand.
+pub record Links (W : Type 0) : Type 0 where
+  pub nodes : List (Node W)
+  pub frames : List Frame
+
+-- The node at this place is this body's, each goal of which can be run.
+pub data IsBody {W : Type 0} (p : Present W) (nodes : List (Node W)) : ℕ → Body → Type 0 where
+  runs : {i : ℕ} {w : W} {t : Tree} → At nodes i (node.Run w) → p.holds w ≡ true → t ≡ p.term w → IsGoal t → IsBody p nodes i (Run t)
+  joins : {i j k distance : ℕ} {a b : Body} → At nodes k (node.And distance) → k ≡ i + distance → k ≡ j + 1 → 0 < distance → IsBody p nodes i a → IsBody p nodes j b
+      → IsBody p nodes k (And a b)
+
+-- The frames from this place on are these members.
+pub data Chain {W : Type 0} (p : Present W) (links : Links W) : Option ℕ → List Member → Type 0 where
+  ends : Chain p links None []
+  leads : {i : ℕ} {f : Frame} {b : Body} {ms : List Member} → At links.frames i f → IsBody p links.nodes f.body b → Chain p links f.next ms → Chain p links (Some i) (Goal b f.mark ∷ ms)
+
+-- The frame comes first, and then the members behind it.
+pub record First {W : Type 0} (p : Present W) (links : Links W) (f : Frame) (list : List Member) : Type 0 where
+  pub body : Body
+  pub behind : List Member
+  pub is : list ≡ Goal body f.mark ∷ behind
+  pub node : IsBody p links.nodes f.body body
+  pub chain : Chain p links f.next behind
 
 -- These words are the variables of these numbers.
 pub data AreVariables {W : Type 0} (p : Present W) : List W → List ℕ → Type 0 where
   no_word : AreVariables p [] []
   one_word : {w : W} {ws : List W} {n : ℕ} {ns : List ℕ} → p.holds w ≡ true → p.term w ≡ Variable n → AreVariables p ws ns → AreVariables p (w ∷ ws) (n ∷ ns)
 
+-- What comes next is the goal of this word, whose value is the call; behind it are these members, under this substitution and with this next number.
+-- The words of the query's variables have these numbers.
+pub record AtGoal {W : Type 0} (p : Present W) (links : Links W) (query : List W) (named : List ℕ) (goal : W) (rest : Option ℕ) (call : Tree) (behind : List Member) (subst : Subst) (next : ℕ) : Type 0 where
+  pub subst_is : p.substitution ≡ subst
+  pub next_is : p.next ≡ next
+  pub holds : p.holds goal ≡ true
+  pub value : call ≡ meaning p goal
+  pub chain : Chain p links rest behind
+  pub words : AreVariables p query named
+
+-- what stood when the choice was made
+abbrev pub links_at : {W M : Type 0} → kept.Choice W M → Links W → Links W
+links_at c links = record { nodes = take c.nodes links.nodes; frames = take c.frames links.frames }
+
+-- it still stands
+pub record StandsOn {W M : Type 0} (c : kept.Choice W M) (links : Links W) : Type 0 where
+  pub nodes : c.nodes ≤ length links.nodes
+  pub frames : c.frames ≤ length links.frames
+
 -- Choices are made of an engine's marks (whether a mark stands for a store, and which is older), its mark for the empty store, the clauses left at a
 -- procedure from a place on, and the words of the query's variables with their numbers.
 module _ {W M : Type 0} (stands : M → Present W → Type 0) (older : M → M → Type 0) (base : M) (left_at : ℕ → ℕ → List Clause) (query : List W) (named : List ℕ) where
-  -- What one choice stands for: its mark brings back a store in which its goal and the goals behind it are these.
-  pub record StandsForChoice (frames : List (Frame W)) (c : kept.Choice W M) (k : Choice) : Type 0 where
+  -- What one choice stands for: its mark brings back a store in which its goal is called, with what is behind it.
+  pub record StandsForChoice (links : Links W) (c : kept.Choice W M) (a : Alternative) : Type 0 where
     pub present : Present W
     pub mark : stands c.mark present
     pub newer : older base c.mark
-    pub subst : present.substitution ≡ k.subst
-    pub next : present.next ≡ k.next
-    pub goal : present.holds c.attempt.goal ≡ true
-    pub call : k.call ≡ present.term c.attempt.goal
-    pub behind : Chain present frames c.attempt.rest k.behind
-    pub clauses : k.clauses ≡ left_at c.attempt.procedure c.attempt.clause
-    pub some : 0 < length k.clauses
-    pub words : AreVariables present query named
+    pub call : Tree
+    pub at : AtGoal present links query named c.attempt.goal c.attempt.rest call a.list a.subst a.next
+    pub left : a.left ≡ Clauses call (left_at c.attempt.procedure c.attempt.clause)
+    pub some : 0 < length (left_at c.attempt.procedure c.attempt.clause)
 
-  -- The choices, the newest last, are these, the newest first. What is below a choice stands over the frames that it kept.
-  pub data StandsForChoices : List (Frame W) → List (kept.Choice W M) → List Choice → Type 0 where
-    none_kept : {frames : List (Frame W)} → StandsForChoices frames [] []
-    one_kept : {frames : List (Frame W)} {before cs : List (kept.Choice W M)} {c : kept.Choice W M} {k : Choice} {ks : List Choice} → cs ≡ before ++ c ∷ [] → c.frames ≤ length frames
-        → StandsForChoice (take c.frames frames) c k → ((d : kept.Choice W M) → Among d before → older d.mark c.mark)
-        → StandsForChoices (take c.frames frames) before ks → StandsForChoices frames cs (k ∷ ks)
+  -- The choices, the newest last, are these alternatives, the newest first. What is below a choice stands over what stood when it was made.
+  pub data StandsForChoices : Links W → List (kept.Choice W M) → List Alternative → Type 0 where
+    none_kept : {links : Links W} → StandsForChoices links [] []
+    one_kept : {links : Links W} {before cs : List (kept.Choice W M)} {c : kept.Choice W M} {a : Alternative} {ks : List Alternative} → cs ≡ before ++ c ∷ [] → StandsOn c links
+        → StandsForChoice (links_at c links) c a → ((d : kept.Choice W M) → Among d before → older d.mark c.mark)
+        → StandsForChoices (links_at c links) before ks → StandsForChoices links cs (a ∷ ks)
 
   -- What the newest choice stands for, and what stands below it.
-  pub record Newest (frames : List (Frame W)) (cs : List (kept.Choice W M)) (c : kept.Choice W M) (ks : List Choice) : Type 0 where
-    pub choice : Choice
-    pub below : List Choice
-    pub is : ks ≡ choice ∷ below
-    pub within : c.frames ≤ length frames
-    pub here : StandsForChoice (take c.frames frames) c choice
+  pub record Newest (links : Links W) (cs : List (kept.Choice W M)) (c : kept.Choice W M) (ks : List Alternative) : Type 0 where
+    pub alternative : Alternative
+    pub below : List Alternative
+    pub is : ks ≡ alternative ∷ below
+    pub within : StandsOn c links
+    pub here : StandsForChoice (links_at c links) c alternative
     pub newer : (d : kept.Choice W M) → Among d (take (length cs - 1) cs) → older d.mark c.mark
-    pub stands_below : StandsForChoices (take c.frames frames) (take (length cs - 1) cs) below
+    pub stands_below : StandsForChoices (links_at c links) (take (length cs - 1) cs) below
 
 -- the most variable numbers that a run uses
 abbrev pub most_numbers : ℕ
@@ -73,23 +111,23 @@ most_numbers = 4611686018427387904
 abbrev pub numbers_a_step : ℕ
 numbers_a_step = 65535
 
--- Room is left for the numbers of a clause entered at each choice and in each step that is left.
-abbrev pub HaveRoom : ℕ → List Choice → Type 0
+-- Room is left for the numbers of a clause entered at each alternative and in each step that is left.
+abbrev pub HaveRoom : ℕ → List Alternative → Type 0
 HaveRoom steps [] = Unit {0}
-HaveRoom steps (k ∷ ks) = (k.next + numbers_a_step * (steps + 1) ≤ most_numbers) × HaveRoom steps ks
+HaveRoom steps (a ∷ ks) = (a.next + numbers_a_step * (steps + 1) ≤ most_numbers) × HaveRoom steps ks
 
--- where goals are still to be run, the store's substitution and next number are those of the search, and room is left
-pub record Goes {W : Type 0} (p : Present W) (query : List W) (l : Linked) : Type 0 where
-  pub subst : p.substitution ≡ l.subst
-  pub next : p.next ≡ l.next
-  pub room : l.next + numbers_a_step * l.steps ≤ most_numbers
-  pub words : AreVariables p query (variables l.query)
+-- where members are still to be run, the store's substitution and next number are those of the search, and room is left
+pub record GoesOn {W : Type 0} (p : Present W) (query : List W) (s : State) : Type 0 where
+  pub subst : p.substitution ≡ s.subst
+  pub next : p.next ≡ s.next
+  pub room : s.next + numbers_a_step * s.steps ≤ most_numbers
+  pub words : AreVariables p query (variables s.query)
 
--- What comes next, as the engine has it.
-abbrev pub DoesNext : {W : Type 0} → Present W → List (Frame W) → List W → Now → Option Tree → Linked → Type 0
-DoesNext p frames query now.Idle raised l = l ≡ idle_linked l.world
-DoesNext p frames query now.Failing raised l = l.doing ≡ Failing
-DoesNext p frames query now.Answering raised l = (l.doing ≡ Running []) × Goes p query l
-DoesNext p frames query (now.Running place) raised l = (gs : List Tree) × (l.doing ≡ Running gs) × Chain p frames (Some place) gs × Goes p query l
-DoesNext p frames query now.Raising raised l = (ball : Tree) × (l.doing ≡ Raising ball) × (raised ≡ Some ball)
-DoesNext p frames query (now.Spent limit) raised l = Unit {0}
+-- What comes next, as the engine has it. Of a state that fails the substitution and the next number don't count.
+abbrev pub DoesNext : {W : Type 0} → Present W → Links W → List W → Now → Option Tree → State → Type 0
+DoesNext p links query now.Idle raised s = s ≡ idle s.world
+DoesNext p links query now.Failing raised s = s.list ≡ Fail ∷ []
+DoesNext p links query now.Answering raised s = (s.list ≡ []) × GoesOn p query s
+DoesNext p links query (now.Running f) raised s = First p links f s.list × GoesOn p query s
+DoesNext p links query now.Raising raised s = (ball : Tree) × (s.list ≡ Raise ball ∷ []) × (raised ≡ Some ball)
+DoesNext p links query (now.Spent limit) raised s = Unit {0}

@@ -3,11 +3,10 @@ use Rattle.std.specs.Prelude.{◌≡◌, [], Result, Ok, Err}
 use Rattle.iso_model.specs.Terms.Trees.{Variable}
 use Rattle.iso_model.specs.Terms.TermOf.{term_of}
 use Rattle.iso_model.specs.Search.Additions.{Addition, Adds, Refuses}
-use Rattle.iso_model.specs.Search.Walker.{World}
+use Rattle.iso_model.specs.Search.Walker.{World, idle}
 use Rattle.iso_model.specs.declared.pauses.AddFault.{AddFault}
 use Rattle.iso_model.specs.declared.pauses.AddFault.TheVariants as add
 use Rattle.iso_store.specs.Presents.{Present}
-use Rattle.iso_plain.specs.Linked.{idle_linked}
 use Rattle.iso_plain.specs.Programs.{IsWorld}
 use Rattle.iso_plain.specs.EngineStates.{IsBase, IsEngine}
 use Rattle.iso_plain.specs.declared.plain.Plain.{Plain}
@@ -23,8 +22,8 @@ module _ {S W M : Type 0} (present : S → Present W) (stands : S → M → Pres
 
   -- What adding a clause makes of an engine with this world: it comes to the database, or the engine keeps the world.
   abbrev pub Comes : Addition → World → Result Unit AddFault → Plain S W M → Type 0
-  Comes (Adds db) w (Ok u) e = IsEngine present stands older e (idle_linked (record w { database = db }))
+  Comes (Adds db) w (Ok u) e = IsEngine present stands older e (idle (record w { database = db }))
   Comes (Refuses error) w (Ok u) e = ⊥
   Comes (Adds db) w (Err (add.Refused ball)) e = ⊥
-  Comes (Refuses error) w (Err (add.Refused ball)) e = (term_of ball.term ≡ error) × IsEngine present stands older e (idle_linked w)
-  Comes addition w (Err add.NoMemory) e = IsEngine present stands older e (idle_linked w)
+  Comes (Refuses error) w (Err (add.Refused ball)) e = (term_of ball.term ≡ error) × IsEngine present stands older e (idle w)
+  Comes addition w (Err add.NoMemory) e = IsEngine present stands older e (idle w)

@@ -8,22 +8,22 @@ ghost use Rattle.iso_model.specs.Terms.Copies as copies;
 ghost use Rattle.iso_model.specs.Search.Databases.{key_of};
 ghost use Rattle.iso_model.specs.Search.Errors.{key};
 ghost use Rattle.iso_model.specs.Search.Additions as additions;
-ghost use Rattle.iso_plain.specs.Goals.{terms_of};
-ghost use Rattle.iso_plain.specs.Kept.{numbers, IsRenamed, Splits, GoalsOf, RefusesHead, ChecksUser, Prepares};
+ghost use Rattle.iso_plain.specs.Kept.{numbers, Splits, PartsOf, NumbersBody, Numbers, RefusesHead, ChecksUser, Prepares};
 
 use super::balls;
-use super::bodies::{self, BodyFault};
-use iso_model::{AddFault, Term, copied, is_built_in};
+use super::bodies::{self, BodyFault, Node};
+use iso_model::{AddFault, Numbering, Term, copied, is_built_in, renumbered};
 use std::alloc::{AllocError, Global};
 
 /// The most distinct variables that an added clause may have (own limit).
 pub const MOST_VARIABLES: usize = 65_535;
 
-/// A clause ready to be tried: its variables are numbered 0, 1, .. by first occurrence, and a body `true` has no goals.
+/// A clause ready to be tried: its variables are numbered 0, 1, .. by first occurrence, and a body `true` has no parts.
 #[derive(Drop)]
 pub struct Clause {
     pub head: Term,
-    pub goals: Vec<Term>,
+    /// The converted body's parts, its own last.
+    pub parts: Vec<Node<Term>>,
     pub variables: usize,
 }
 
@@ -62,72 +62,39 @@ pub fn indicator_of(term: &Term) -> Option<(&str, usize)>
     }
 }
 
-/// The place of the number, if it is among those seen so far.
-fn known_place(seen: &[u64], number: u64) -> Option<usize>
-    ensures { result ≡ position (λ m. m == number) seen.now }
-{
-    seen.iter().position(|known| *known == number)
-}
-
-/// The place of the number among those seen so far; where it isn't seen, it is the next.
-fn place_of(seen: &mut Vec<u64>, number: u64) -> Result<u64, AllocError>
-    ensures place { IfOk result (λ p. p ≡ copies.place_of number seen.new.items) }
-    ensures seen { OnOk result (seen.new.items ≡ distinct_from seen.old.items (Variable number)) }
-{
-    if let Some(place) = known_place(seen.as_slice(), number) {
-        return Ok(place as u64);
-    }
-    let place = seen.len();
-    seen.push(number)?;
-    Ok(place as u64)
-}
-
 /// The term with each variable's number replaced by its place among those seen so far.
-#[cycle(numbering)]
-pub fn numbered(alloc: Global, term: &Term, seen: &mut Vec<u64>) -> Result<Term, AllocError>
-    ensures term { IfOk result (λ t. term_of t ≡ apply (numbers seen.new.items) (term_of term.now)) }
-    ensures seen { OnOk result (seen.new.items ≡ distinct_from seen.old.items (term_of term.now)) }
+fn numbered(alloc: Global, term: &Term, seen: &mut Numbering) -> Result<Term, AllocError>
+    ensures term { IfOk result (λ t. term_of t ≡ apply (numbers seen.new) (term_of term.now)) }
+    ensures seen { OnOk result (seen.new ≡ distinct_from seen.old (term_of term.now)) }
 {
-    match term {
-        Term::Var(number) => Ok(Term::Var(place_of(seen, *number)?)),
-        Term::Int(value) => Ok(Term::Int(*value)),
-        Term::Atom(text) => Ok(Term::Atom(text.clone()?)),
-        Term::Compound(name, arguments) => {
-            let name = name.clone()?;
-            let arguments = numbered_all(alloc, arguments.as_slice(), seen)?;
-            Ok(Term::Compound(name, arguments))
-        }
-    }
+    seen.note_all(alloc, term)?;
+    renumbered(alloc, term, seen)
 }
 
-/// The terms with each variable's number replaced by its place among those seen so far.
-#[cycle(numbering)]
-pub fn numbered_all(
-    alloc: Global,
-    terms: &[Term],
-    seen: &mut Vec<u64>,
-) -> Result<Vec<Term>, AllocError>
-    ensures terms { IfOk result (λ ts. row_of ts.items ≡ apply (numbers seen.new.items) (row_of terms.now)) }
-    ensures seen { OnOk result (seen.new.items ≡ distinct_from seen.old.items (row_of terms.now)) }
+/// The parts of a body, none of one that is `true`; the error is that a part of it is a number, or that memory was refused.
+fn parts_of(alloc: Global, body: &Term) -> Result<Vec<Node<Term>>, BodyFault>
+    ensures { PartsOf (term_of body.now) result }
 {
-    let mut renamed = Vec::new(alloc);
-    for term in terms {
-        let term = numbered(alloc, term, seen)?;
-        renamed.push(term)?;
-    }
-    Ok(renamed)
-}
-
-/// The goals of a clause's body, or the error that refuses it.
-fn goals_of(alloc: Global, body: &Term) -> Result<Vec<Term>, AddFault>
-    ensures { GoalsOf (term_of body.now) result }
-{
-    let mut goals = Vec::new(alloc);
+    let mut parts = Vec::new(alloc);
     if is_true(body) {
-        return Ok(goals);
+        return Ok(parts);
     }
-    match bodies::append_goals(alloc, body, &mut goals) {
-        Ok(()) => Ok(goals),
+    bodies::append_body(alloc, body, &mut parts)?;
+    Ok(parts)
+}
+
+/// The parts of the body with its variables numbered behind those seen so far, or the error that refuses it.
+fn numbered_parts(
+    alloc: Global,
+    body: &Term,
+    seen: &mut Numbering,
+) -> Result<Vec<Node<Term>>, AddFault>
+    ensures parts { NumbersBody (term_of body.now) seen.new result }
+    ensures seen { OnOk result (seen.new ≡ distinct_from seen.old (term_of body.now)) }
+{
+    let renamed = numbered(alloc, body, seen)?;
+    match parts_of(alloc, &renamed) {
+        Ok(parts) => Ok(parts),
         Err(BodyFault::NoMemory) => Err(AddFault::NoMemory),
         Err(BodyFault::NotCallable) => {
             let culprit = copied(alloc, body)?;
@@ -159,26 +126,31 @@ fn head_of(clause: &Term) -> &Term
     parts(clause).0
 }
 
-/// The goals of a clause, or the error that refuses it.
-fn clause_goals(alloc: Global, clause: &Term) -> Result<Vec<Term>, AddFault>
-    ensures { GoalsOf (additions.body_of (term_of clause.now)) result }
+/// The parts of a clause's body, with its variables numbered behind those seen so far, or the error that refuses it.
+fn clause_parts(
+    alloc: Global,
+    clause: &Term,
+    seen: &mut Numbering,
+) -> Result<Vec<Node<Term>>, AddFault>
+    ensures parts { NumbersBody (additions.body_of (term_of clause.now)) seen.new result }
+    ensures seen { OnOk result (seen.new ≡ distinct_from seen.old (additions.body_of (term_of clause.now))) }
 {
     match parts(clause).1 {
-        Some(body) => goals_of(alloc, body),
+        Some(body) => numbered_parts(alloc, body, seen),
         None => Ok(Vec::new(alloc)),
     }
 }
 
-/// The clause with this head and these goals, with its variables numbered 0, 1, .. by first occurrence.
-fn with_numbers(alloc: Global, head: &Term, goals: &[Term]) -> Result<Clause, AllocError>
-    ensures { IfOk result (IsRenamed (term_of head.now) (terms_of goals.now)) }
+/// The clause with its variables numbered 0, 1, .. by first occurrence, or the error of its body; its head is callable.
+fn numbered_clause(alloc: Global, clause: &Term) -> Result<Clause, AddFault>
+    ensures { Numbers (term_of clause.now) result }
 {
-    let mut seen = Vec::new(alloc);
-    let head = numbered(alloc, head, &mut seen)?;
-    let goals = numbered_all(alloc, goals, &mut seen)?;
+    let mut seen = Numbering::new(alloc);
+    let head = numbered(alloc, head_of(clause), &mut seen)?;
+    let parts = clause_parts(alloc, clause, &mut seen)?;
     Ok(Clause {
         head,
-        goals,
+        parts,
         variables: seen.len(),
     })
 }
@@ -203,10 +175,8 @@ pub fn prepare(alloc: Global, clause: &Term) -> Result<Clause, AddFault>
     requires { arities_fit (term_of clause.now) ≡ true }
     ensures { Prepares (term_of clause.now) result }
 {
-    let head = head_of(clause);
-    let (name, arity) = checked_head(alloc, head)?;
-    let goals = clause_goals(alloc, clause)?;
-    let kept = with_numbers(alloc, head, goals.as_slice())?;
+    let (name, arity) = checked_head(alloc, head_of(clause))?;
+    let kept = numbered_clause(alloc, clause)?;
     if kept.variables > MOST_VARIABLES {
         return Err(AddFault::Refused(balls::too_many_variables(alloc)?));
     }

@@ -25,8 +25,9 @@ fn values<S: Store>(alloc: Global, store: &S, words: &[S::Word]) -> Result<Vec<T
 }
 
 impl<S: Store + Drop> Plain<S> {
-    ghost use Rattle.iso_plain.specs.EngineStates.{IsBase, Represents, Stopped, Moves, Falls, weight, settings_of};
-    ghost use Rattle.iso_plain.specs.Limits.{IsWithin, MoveMet, ResultMet, MoveFull, ResultFull};
+    ghost use Rattle.iso_plain.specs.EngineStates.{IsBase, Represents, Stopped, Moves, Falls, weight};
+    ghost use Rattle.iso_plain.specs.Limits.{MoveMet, ResultMet, MoveFull, ResultFull};
+    ghost use Rattle.iso_plain.specs.Stays.{Stays};
     ghost use Rattle.iso_plain.specs.declared.parts.Now.TheVariants.{Answering, Raising};
 
     /// The values of the query's variables, by first occurrence; the engine fails next.
@@ -39,9 +40,7 @@ impl<S: Store + Drop> Plain<S> {
         ensures falls { IfOk result (λ m. Falls m (weight self.old) (weight self.new)) }
         ensures frames { ResultFull ⊥ result }
         ensures met { ResultMet S.full result self.new }
-        ensures limit { self.new.limit ≡ self.old.limit }
-        ensures settings { settings_of self.new ≡ settings_of self.old }
-        ensures within { IsWithin self.old → IsWithin self.new }
+        ensures stays { Stays self.old self.new }
         ensures base { IsBase (S.stands self.old.store) self.old.base → IsBase (S.stands self.new.store) self.new.base }
     {
         let values = values(self.alloc, &self.store, self.query.as_slice())?;
@@ -57,9 +56,7 @@ impl<S: Store + Drop> Plain<S> {
         ensures falls { Falls result (weight self.old) (weight self.new) }
         ensures frames { MoveFull ⊥ result }
         ensures met { MoveMet S.full result self.new }
-        ensures limit { self.new.limit ≡ self.old.limit }
-        ensures settings { settings_of self.new ≡ settings_of self.old }
-        ensures within { IsWithin self.old → IsWithin self.new }
+        ensures stays { Stays self.old self.new }
         ensures base { IsBase (S.stands self.old.store) self.old.base → IsBase (S.stands self.new.store) self.new.base }
     {
         let ball = self.raised.take();

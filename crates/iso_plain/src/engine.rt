@@ -15,9 +15,10 @@ use iso_ops::{Flags, OpTable};
 use iso_store::{Store, StoreFault};
 
 impl<S: Store + Drop> Plain<S> {
-    ghost use Rattle.iso_plain.specs.EngineStates.{StandsFor, Moves, Falls, Stopped, weight, phase_of, settings_of};
+    ghost use Rattle.iso_plain.specs.EngineStates.{StandsFor, Moves, Falls, Stopped, weight, phase_of};
+    ghost use Rattle.iso_plain.specs.Stays.{Stays};
     ghost use Rattle.iso_model.specs.Search.Engines.{IsAwake, Pauses, FallsAtEvent};
-    ghost use Rattle.iso_plain.specs.Limits.{IsWithin, LimitMet, MoveMet, ResultMet, WhereFull, MoveFull, ResultFull};
+    ghost use Rattle.iso_plain.specs.Limits.{LimitMet, MoveMet, ResultMet, WhereFull, MoveFull, ResultFull};
     ghost use Rattle.iso_model.specs.Search.Runs.{ComesOver};
 
     /// Ends at a limit: the engine is spent.
@@ -26,9 +27,7 @@ impl<S: Store + Drop> Plain<S> {
         ensures falls { (old new : ℕ) → FallsAtEvent result old new }
         ensures frames { WhereFull ⊥ result }
         ensures met { (fault ≡ StoreFault.Full → S.full self.old.store) → LimitMet S.full result self.new }
-        ensures limit { self.new.limit ≡ self.old.limit }
-        ensures settings { settings_of self.new ≡ settings_of self.old }
-        ensures within { IsWithin self.old → IsWithin self.new }
+        ensures stays { Stays self.old self.new }
     {
         match fault {
             StoreFault::Full => {
@@ -52,16 +51,14 @@ impl<S: Store + Drop> Plain<S> {
         ensures falls { IfOk result (λ m. Falls m (weight self.old) (weight self.new)) }
         ensures frames { (s : State) → StandsFor S.present S.stands S.older self.old s → ResultFull (ComesOver self.old.limit s) result }
         ensures met { ResultMet S.full result self.new }
-        ensures limit { self.new.limit ≡ self.old.limit }
-        ensures settings { settings_of self.new ≡ settings_of self.old }
-        ensures within { IsWithin self.old → IsWithin self.new }
+        ensures stays { Stays self.old self.new }
     {
         match self.now {
             Now::Idle => Ok(Move::Pauses(Pause::NoMore)),
             Now::Spent(_) => unreachable!(),
             Now::Failing => self.fail(),
             Now::Answering => self.answer(),
-            Now::Running(place) => self.run(place),
+            Now::Running(frame) => self.run(frame),
             Now::Raising => Ok(self.raise()),
         }
     }
@@ -74,9 +71,7 @@ impl<S: Store + Drop> Plain<S> {
         ensures falls { Falls result (weight self.old) (weight self.new) }
         ensures frames { (s : State) → StandsFor S.present S.stands S.older self.old s → MoveFull (ComesOver self.old.limit s) result }
         ensures met { MoveMet S.full result self.new }
-        ensures limit { self.new.limit ≡ self.old.limit }
-        ensures settings { settings_of self.new ≡ settings_of self.old }
-        ensures within { IsWithin self.old → IsWithin self.new }
+        ensures stays { Stays self.old self.new }
     {
         match self.moved() {
             Ok(next) => next,
@@ -93,8 +88,7 @@ impl<S: Store + Drop> Plain<S> {
         ensures left { FallsAtEvent result (weight self.old) (weight self.new) }
         ensures frames { (s : State) → StandsFor S.present S.stands S.older self.old s → WhereFull (ComesOver self.old.limit s) result }
         ensures met { LimitMet S.full result self.new }
-        ensures limit { self.new.limit ≡ self.old.limit }
-        ensures within { IsWithin self.old → IsWithin self.new }
+        ensures stays { Stays self.old self.new }
     {
         loop {
             match self.advance() {

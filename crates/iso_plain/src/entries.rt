@@ -1,15 +1,16 @@
-//! The entry of a clause: its variables get new numbers, its head is unified with the goal, and its goals are
-//! linked before the rest (7.7.10, 7.7.11).
+//! The entry of a clause: its variables get new numbers, its head is unified with the goal, and the parts of its body are
+//! copied (7.7.10, 7.7.11).
 ghost use Rattle.std.specs.Prelude.{◌≡◌, ℕ, ◌+◌, ◌<◌, ◌≤◌, ◌^◌, IfOk, OnOk, length, true, Err};
 ghost use Rattle.iso_model.specs.Terms.Trees.{arities_fit};
-ghost use Rattle.iso_model.specs.Terms.TermOf.{term_of, row_of};
+ghost use Rattle.iso_model.specs.Terms.TermOf.{term_of};
 ghost use Rattle.iso_model.specs.Terms.Copies.{renamed, numbers_from};
 ghost use Rattle.iso_store.specs.Presents.{KeepsMarks, KeepsNumbers, Makes, Holds};
 ghost use Rattle.iso_plain.specs.Standing.{AreVariables};
-ghost use Rattle.iso_plain.specs.Entering.{Enters, Extends, is_below, Links, AddsFrames, renamed_terms};
+ghost use Rattle.iso_plain.specs.Nodes.{map_node, trees_of};
+ghost use Rattle.iso_plain.specs.Entering.{Enters, Extends, is_below, Fits, PartFits, PartsFit, CopiesPart, Copies, Adds, renamed_nodes};
 
+use super::bodies::Node;
 use super::clauses::Clause;
-use super::parts::Frame;
 use iso_model::Term;
 use iso_store::{Store, StoreFault};
 use std::alloc::Global;
@@ -37,7 +38,6 @@ pub fn new_variables<S: Store>(
 /// The term in the store, with its variables 0, 1, .. standing for these words, which are those numbered from `first` on.
 /// The errors: the store is full, or memory was refused.
 pub fn instantiate<S: Store>(
-    alloc: Global,
     store: &mut S,
     term: &Term,
     variables: &[S::Word],
@@ -51,91 +51,92 @@ pub fn instantiate<S: Store>(
     ensures full { result ≡ Err StoreFault.Full → S.full store.new }
     ensures marks { KeepsMarks (S.stands store.old) (S.stands store.new) }
 {
-    match term {
-        Term::Var(number) => Ok(variables[*number as usize]),
-        Term::Int(value) => store.int(*value),
-        Term::Atom(text) => {
-            let atom = store.intern(text.as_str())?;
-            store.atom(atom)
-        }
-        Term::Compound(name, arguments) => {
-            let mut words = Vec::with_capacity(alloc, arguments.len())?;
-            for argument in arguments {
-                let word = instantiate(alloc, store, argument, variables)?;
-                words.push(word)?;
-            }
-            let atom = store.intern(name.as_str())?;
-            store.compound(atom, words.as_slice())
-        }
-    }
+    let pattern = store.pattern(term)?;
+    store.instantiate(&pattern, variables)
 }
 
-/// Links the goals, from the left, before the place `rest`; the answer is the place of the first. The variables are those
-/// numbered from some number on. The errors: the store is full, or memory was refused.
-pub fn link<S: Store>(
-    alloc: Global,
+/// The part with its goal in the store, its variables standing for these words. The errors: the store is full, or memory was refused.
+fn copied_part<S: Store>(
     store: &mut S,
-    frames: &mut Vec<Frame<S::Word>>,
-    goals: &[Term],
+    part: &Node<Term>,
     variables: &[S::Word],
-    rest: Option<usize>,
-) -> Result<Option<usize>, StoreFault>
-    requires fits { arities_fit (row_of goals.now) ≡ true }
-    requires below { is_below (length variables.now) (row_of goals.now) ≡ true }
+) -> Result<Node<S::Word>, StoreFault>
+    requires fits { PartFits (length variables.now) (map_node term_of part.now) }
     requires variables { (first : ℕ) × AreVariables (S.present store.old) variables.now (numbers_from first (length variables.now)) }
-    ensures links { (first : ℕ) → AreVariables (S.present store.old) variables.now (numbers_from first (length variables.now))
-        → IfOk result (λ place. Links (S.present store.old) frames.old.items rest (S.present store.new) frames.new.items place (renamed_terms first goals.now)) }
-    ensures extends { OnOk result (Extends (S.present store.old) (S.present store.new) 0) }
+    ensures copies { (first : ℕ) → AreVariables (S.present store.old) variables.now (numbers_from first (length variables.now))
+        → IfOk result (λ node. CopiesPart (S.present store.old) (S.present store.new) node (map_node (renamed first) (map_node term_of part.now))) }
     ensures full { result ≡ Err StoreFault.Full → S.full store.new }
-    ensures frames { AddsFrames frames.old.items frames.new.items }
     ensures marks { KeepsMarks (S.stands store.old) (S.stands store.new) }
 {
-    let mut next = rest;
-    let mut left = goals.len();
-    while left > 0 {
-        left -= 1;
-        let goal = instantiate(alloc, store, &goals[left], variables)?;
-        let place = frames.len();
-        frames.push(Frame { goal, next })?;
-        next = Some(place);
+    match part {
+        Node::Run(goal) => Ok(Node::Run(instantiate(store, goal, variables)?)),
+        Node::And(distance) => Ok(Node::And(*distance)),
     }
-    Ok(next)
 }
 
-/// Enters the clause for the goal: the place to go on at, or None where the head doesn't unify with the goal (7.7.10). The
-/// errors: the store is full, or memory was refused.
+/// Appends the parts to the nodes, their goals made in the store with their variables standing for these words, which are those
+/// numbered from some number on. The errors: the store is full, or memory was refused.
+pub fn copy_parts<S: Store>(
+    store: &mut S,
+    nodes: &mut Vec<Node<S::Word>>,
+    parts: &[Node<Term>],
+    variables: &[S::Word],
+) -> Result<(), StoreFault>
+    requires fits { PartsFit (length variables.now) (trees_of parts.now) }
+    requires variables { (first : ℕ) × AreVariables (S.present store.old) variables.now (numbers_from first (length variables.now)) }
+    ensures copies { (first : ℕ) → AreVariables (S.present store.old) variables.now (numbers_from first (length variables.now))
+        → OnOk result (Copies (S.present store.new) nodes.old.items nodes.new.items (renamed_nodes first (trees_of parts.now))) }
+    ensures extends { OnOk result (Extends (S.present store.old) (S.present store.new) 0) }
+    ensures full { result ≡ Err StoreFault.Full → S.full store.new }
+    ensures nodes { Adds nodes.old.items nodes.new.items }
+    ensures marks { KeepsMarks (S.stands store.old) (S.stands store.new) }
+{
+    for part in parts {
+        let node = copied_part(store, part, variables)?;
+        nodes.push(node)?;
+    }
+    Ok(())
+}
+
+/// What trying a clause comes to.
+#[derive(Clone, Copy)]
+pub enum Entered {
+    /// Its head doesn't unify with the goal.
+    Missed,
+    /// Its head was unified, and its body is `true`.
+    Fact,
+    /// Its head was unified, and its body is at this place of the nodes.
+    Body(usize),
+}
+
+/// Enters the clause for the goal (7.7.10): its head is unified with the goal, and its body's parts are appended. The errors: the
+/// store is full, or memory was refused.
 pub fn enter<S: Store>(
     alloc: Global,
     store: &mut S,
-    frames: &mut Vec<Frame<S::Word>>,
+    nodes: &mut Vec<Node<S::Word>>,
     clause: &Clause,
     goal: S::Word,
-    rest: Option<usize>,
-) -> Result<Option<Option<usize>>, StoreFault>
+) -> Result<Entered, StoreFault>
     requires goal { Holds (S.present store.old) goal }
     requires room { (S.present store.old).next + clause.now.variables < 2 ^ 63 }
-    requires head_fits { arities_fit (term_of clause.now.head) ≡ true }
-    requires goals_fit { arities_fit (row_of clause.now.goals.items) ≡ true }
-    requires head_below { is_below clause.now.variables (term_of clause.now.head) ≡ true }
-    requires goals_below { is_below clause.now.variables (row_of clause.now.goals.items) ≡ true }
-    ensures enters { IfOk result (λ place. Enters (S.present store.old) frames.old.items rest (S.present store.new) frames.new.items
-        ((S.present store.old).term goal) (term_of clause.now.head) clause.now.goals.items clause.now.variables place) }
+    requires head_fits { Fits clause.now.variables (term_of clause.now.head) }
+    requires parts_fit { PartsFit clause.now.variables (trees_of clause.now.parts.items) }
+    ensures enters { IfOk result (Enters (S.present store.old) (S.present store.new) nodes.old.items nodes.new.items
+        ((S.present store.old).term goal) clause.now) }
     ensures full { result ≡ Err StoreFault.Full → S.full store.new }
-    ensures frames { AddsFrames frames.old.items frames.new.items }
+    ensures nodes { Adds nodes.old.items nodes.new.items }
     ensures marks { KeepsMarks (S.stands store.old) (S.stands store.new) }
 {
     let variables = new_variables(alloc, store, clause.variables)?;
-    let head = instantiate(alloc, store, &clause.head, variables.as_slice())?;
+    let head = instantiate(store, &clause.head, variables.as_slice())?;
     if !store.unify(goal, head)? {
-        return Ok(None);
+        return Ok(Entered::Missed);
     }
-    let first = link(
-        alloc,
-        store,
-        frames,
-        clause.goals.as_slice(),
-        variables.as_slice(),
-        rest,
-    )?;
-    Ok(Some(first))
+    let parts = clause.parts.as_slice();
+    copy_parts(store, nodes, parts, variables.as_slice())?;
+    if parts.is_empty() {
+        return Ok(Entered::Fact);
+    }
+    Ok(Entered::Body(nodes.len() - 1))
 }

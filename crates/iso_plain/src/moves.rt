@@ -6,7 +6,7 @@ ghost use Rattle.iso_model.specs.Search.Databases.{Procedures};
 ghost use Rattle.iso_plain.specs.Kept.{IsClause};
 ghost use Rattle.iso_plain.specs.Programs.{IsDatabase};
 ghost use Rattle.iso_plain.specs.EngineStates.{left_at, clauses_at_place};
-ghost use Rattle.iso_model.specs.Search.Walker.{State};
+ghost use Rattle.iso_model.specs.Search.Walker.{State, Member, Alternative, tried, tried_clause, with_others};
 
 use super::clauses::Clause;
 use super::entries;
@@ -37,32 +37,27 @@ fn clause_count(procedures: &[Procedure], place: usize) -> usize
 }
 
 impl<S: Store + Drop> Plain<S> {
-    ghost use Rattle.iso_plain.specs.Linked.{Linked};
-    ghost use Rattle.iso_plain.specs.Linked as search;
-    ghost use Rattle.iso_plain.specs.EngineStates.{IsBase, IsEngine, Represents, Keeps, Stopped, WasRefused, Tries, Tried, Calls, WentBack, Moves, Falls, clauses_left, most_clauses, weight, phase_of, settings_of};
+    ghost use Rattle.iso_plain.specs.EngineStates.{IsBase, IsEngine, Represents, Keeps, Stopped, Calls, WentBack, Moves, Falls, Retries, WasRefused, clauses_left, most_clauses, weight, phase_of, settings_of};
+    ghost use Rattle.iso_plain.specs.Stays.{Stays};
     ghost use Rattle.iso_model.specs.Search.Engines.{IsAwake};
-    ghost use Rattle.iso_plain.specs.Limits.{IsWithin, ResultMet, ResultFull};
+    ghost use Rattle.iso_plain.specs.Limits.{ResultMet, ResultFull};
     ghost use Rattle.iso_plain.specs.declared.parts.Now.TheVariants as now;
 
-    /// Enters the clause; where its head doesn't unify with the goal the engine fails next (7.7.10).
-    pub(crate) fn enter(&mut self, attempt: Attempt<S::Word>) -> Result<(), StoreFault>
-        requires { (l : Linked) × (call : Tree) × (c : databases.Clause) × (cs : List databases.Clause) × (behind : List Tree)
-            × Tries S.present S.stands S.older self.old attempt l call c cs behind }
-        ensures tried { (l : Linked) (call : Tree) (c : databases.Clause) (cs : List databases.Clause) (behind : List Tree)
-            → Tries S.present S.stands S.older self.old attempt l call c cs behind
-            → OnOk result (Tried S.present S.stands S.older self.new l call c cs behind) }
-        ensures kept { (l : Linked) (call : Tree) (c : databases.Clause) (cs : List databases.Clause) (behind : List Tree)
-            → Tries S.present S.stands S.older self.old attempt l call c cs behind
-            → OnErr result (Keeps S.present S.stands S.older self.new l.world (search.with_choice call cs behind l.subst l.next l.stack)) }
+    /// Enters the clause, with this cut mark; where its head doesn't unify with the goal the engine fails next (7.7.10).
+    pub(crate) fn enter(&mut self, attempt: Attempt<S::Word>, mark: usize) -> Result<(), StoreFault>
+        requires { (s : State) × (call : Tree) × (c : databases.Clause) × (cs : List databases.Clause) × (behind : List Member)
+            × Calls S.present S.stands S.older self.old attempt s call c cs behind }
+        ensures tried { (s : State) (call : Tree) (c : databases.Clause) (cs : List databases.Clause) (behind : List Member)
+            → Calls S.present S.stands S.older self.old attempt s call c cs behind
+            → OnOk result (IsEngine S.present S.stands S.older self.new (tried_clause call c mark behind s)) }
+        ensures kept { (s : State) (call : Tree) (c : databases.Clause) (cs : List databases.Clause) (behind : List Member)
+            → Calls S.present S.stands S.older self.old attempt s call c cs behind
+            → OnErr result (Keeps S.present S.stands S.older self.new s.world s.stack) }
         ensures steps { self.new.steps ≡ self.old.steps }
         ensures awake { OnOk result (IsAwake (phase_of self.new.now)) }
         ensures full { result ≡ Err StoreFault.Full → S.full self.new.store }
-        ensures base { IsBase (S.stands self.old.store) self.old.base → IsBase (S.stands self.new.store) self.new.base }
-        ensures procedures { self.new.procedures ≡ self.old.procedures }
         ensures choices { self.new.choices ≡ self.old.choices }
-        ensures limit { self.new.limit ≡ self.old.limit }
-        ensures settings { settings_of self.new ≡ settings_of self.old }
-        ensures within { IsWithin self.old → IsWithin self.new }
+        ensures stays { Stays self.old self.new }
     {
         let clause = clause_at(
             self.procedures.as_slice(),
@@ -72,76 +67,71 @@ impl<S: Store + Drop> Plain<S> {
         let entered = entries::enter(
             self.alloc,
             &mut self.store,
-            &mut self.frames,
+            &mut self.nodes,
             clause,
             attempt.goal,
-            attempt.rest,
         )?;
-        self.now = behind(entered);
+        self.now = behind(self.frames.as_slice(), entered, mark, attempt.rest);
         Ok(())
     }
 
-    /// Goes back to the newest choice, which stays: the store and the frames are as they were when it was made (7.7.8).
+    /// Goes back to the newest choice, which stays: the store, the nodes and the frames are as they were when it was made (7.7.8).
     pub(crate) fn go_back(&mut self) -> Choice<S::Word, S::Mark>
         requires some { 0 < length self.old.choices.items }
-        requires failing { (l : Linked) × IsEngine S.present S.stands S.older self.old l }
-        ensures back { (l : Linked) → IsEngine S.present S.stands S.older self.old l → (k : search.Choice) × (below : List search.Choice)
-            × (l.stack ≡ k ∷ below) × WentBack S.present S.stands S.older self.new result l k below }
+        requires failing { (s : State) × IsEngine S.present S.stands S.older self.old s }
+        ensures back { (s : State) → IsEngine S.present S.stands S.older self.old s → (a : Alternative) × (below : List Alternative)
+            × (s.stack ≡ a ∷ below) × WentBack S.present S.stands S.older self.new result s a below }
         ensures steps { self.new.steps ≡ self.old.steps }
-        ensures procedures { self.new.procedures ≡ self.old.procedures }
         ensures choices { self.new.choices ≡ self.old.choices }
-        ensures limit { self.new.limit ≡ self.old.limit }
-        ensures settings { settings_of self.new ≡ settings_of self.old }
-        ensures within { IsWithin self.old → IsWithin self.new }
+        ensures stays { Stays self.old self.new }
     {
         let choice = self.choices[self.choices.len() - 1];
         self.store.undo(choice.mark);
+        self.nodes.truncate(choice.nodes);
         self.frames.truncate(choice.frames);
         choice
     }
 
     /// Keeps the clauses behind the attempt's as a choice (7.7.8). The error is that memory was refused.
     fn push_later(&mut self, attempt: Attempt<S::Word>) -> Result<(), AllocError>
-        requires { (l : Linked) × (call : Tree) × (c : databases.Clause) × (cs : List databases.Clause) × (behind : List Tree)
-            × (0 < length cs) × Calls S.present S.stands S.older self.old attempt l call c cs behind }
-        ensures tries { (l : Linked) (call : Tree) (c : databases.Clause) (cs : List databases.Clause) (behind : List Tree)
-            → Calls S.present S.stands S.older self.old attempt l call c cs behind → 0 < length cs
-            → OnOk result (Tries S.present S.stands S.older self.new attempt l call c cs behind) }
-        ensures kept { (l : Linked) (call : Tree) (c : databases.Clause) (cs : List databases.Clause) (behind : List Tree)
-            → Calls S.present S.stands S.older self.old attempt l call c cs behind
-            → OnErr result (Keeps S.present S.stands S.older self.new l.world l.stack) }
+        requires { (s : State) × (call : Tree) × (c : databases.Clause) × (cs : List databases.Clause) × (behind : List Member)
+            × (0 < length cs) × Calls S.present S.stands S.older self.old attempt s call c cs behind }
+        ensures calls { (s : State) (call : Tree) (c : databases.Clause) (cs : List databases.Clause) (behind : List Member)
+            → Calls S.present S.stands S.older self.old attempt s call c cs behind → 0 < length cs
+            → OnOk result (Calls S.present S.stands S.older self.new attempt (with_others call cs behind s) call c cs behind) }
+        ensures kept { (s : State) (call : Tree) (c : databases.Clause) (cs : List databases.Clause) (behind : List Member)
+            → Calls S.present S.stands S.older self.old attempt s call c cs behind
+            → OnErr result (Keeps S.present S.stands S.older self.new s.world s.stack) }
         ensures steps { self.new.steps ≡ self.old.steps }
-        ensures base { IsBase (S.stands self.old.store) self.old.base → IsBase (S.stands self.new.store) self.new.base }
-        ensures procedures { self.new.procedures ≡ self.old.procedures }
-        ensures limit { self.new.limit ≡ self.old.limit }
-        ensures settings { settings_of self.new ≡ settings_of self.old }
         ensures count { length self.new.choices.items ≤ length self.old.choices.items + 1 }
         ensures fewer { clauses_left self.old.procedures.items self.new.choices.items + 1
             ≤ clauses_left self.old.procedures.items self.old.choices.items + most_clauses self.old.procedures.items }
+        ensures limit { self.new.limit ≡ self.old.limit }
+        ensures settings { settings_of self.new ≡ settings_of self.old }
+        ensures procedures { self.new.procedures ≡ self.old.procedures }
     {
         let mark = self.store.mark();
+        let nodes = self.nodes.len();
         let frames = self.frames.len();
         let clause = attempt.clause + 1;
         self.choices.push(Choice {
             mark,
+            nodes,
             frames,
             attempt: Attempt { clause, ..attempt },
         })?;
         Ok(())
     }
 
-    /// Leaves the newest choice at its next clause, or takes it away where this is its last one.
-    pub(crate) fn leave_choice(&mut self, choice: Choice<S::Word, S::Mark>)
+    /// Leaves the newest choice at its next clause, or takes it away where this is its last one; how many stand below it.
+    pub(crate) fn leave_choice(&mut self, choice: Choice<S::Word, S::Mark>) -> usize
         requires some { 0 < length self.old.choices.items }
-        requires back { (l : Linked) × (k : search.Choice) × (below : List search.Choice) × WentBack S.present S.stands S.older self.old choice l k below }
-        ensures tries { (l : Linked) (k : search.Choice) (below : List search.Choice) (c : databases.Clause) (cs : List databases.Clause)
-            → WentBack S.present S.stands S.older self.old choice l k below → k.clauses ≡ c ∷ cs
-            → Tries S.present S.stands S.older self.new choice.attempt (record l { subst = k.subst; next = k.next; stack = below }) k.call c cs k.behind }
+        requires back { (s : State) × (a : Alternative) × (below : List Alternative) × WentBack S.present S.stands S.older self.old choice s a below }
+        ensures calls { (s : State) (a : Alternative) (below : List Alternative) → WentBack S.present S.stands S.older self.old choice s a below
+            → Retries S.present S.stands S.older self.new choice.attempt s a below }
+        ensures below { result + 1 ≡ length self.old.choices.items }
         ensures steps { self.new.steps ≡ self.old.steps }
-        ensures procedures { self.new.procedures ≡ self.old.procedures }
-        ensures limit { self.new.limit ≡ self.old.limit }
-        ensures settings { settings_of self.new ≡ settings_of self.old }
-        ensures within { IsWithin self.old → IsWithin self.new }
+        ensures stays { Stays self.old self.new }
         ensures fewer { clauses_left self.old.procedures.items self.new.choices.items + 1 ≤ clauses_left self.old.procedures.items self.old.choices.items }
     {
         let newest = self.choices.len() - 1;
@@ -152,6 +142,7 @@ impl<S: Store + Drop> Plain<S> {
             self.choices.truncate(newest);
             self.store.forget(choice.mark);
         }
+        newest
     }
 
     /// Goes on with the newest choice's next clause; where there is no choice the run ends (7.7.8).
@@ -163,41 +154,35 @@ impl<S: Store + Drop> Plain<S> {
         ensures falls { IfOk result (λ m. Falls m (weight self.old) (weight self.new)) }
         ensures frames { ResultFull ⊥ result }
         ensures met { ResultMet S.full result self.new }
-        ensures limit { self.new.limit ≡ self.old.limit }
-        ensures settings { settings_of self.new ≡ settings_of self.old }
-        ensures within { IsWithin self.old → IsWithin self.new }
+        ensures stays { Stays self.old self.new }
     {
         if self.choices.is_empty() {
             self.clear();
             return Ok(Move::Pauses(Pause::NoMore));
         }
         let choice = self.go_back();
-        self.leave_choice(choice);
-        self.enter(choice.attempt)?;
+        let below = self.leave_choice(choice);
+        self.enter(choice.attempt, below)?;
         Ok(Move::Goes)
     }
 
     /// Keeps the call's later clauses as a choice where there are any (7.7.8); false where no choice may be made any more.
     /// The error is that memory was refused.
     fn push_choice(&mut self, attempt: Attempt<S::Word>) -> Result<bool, AllocError>
-        requires { (l : Linked) × (call : Tree) × (c : databases.Clause) × (cs : List databases.Clause) × (behind : List Tree)
-            × Calls S.present S.stands S.older self.old attempt l call c cs behind }
-        ensures tries { (l : Linked) (call : Tree) (c : databases.Clause) (cs : List databases.Clause) (behind : List Tree)
-            → Calls S.present S.stands S.older self.old attempt l call c cs behind → result ≡ Ok true
-            → Tries S.present S.stands S.older self.new attempt l call c cs behind }
-        ensures kept { (l : Linked) (call : Tree) (c : databases.Clause) (cs : List databases.Clause) (behind : List Tree)
-            → Calls S.present S.stands S.older self.old attempt l call c cs behind
-            → OnErr result (Keeps S.present S.stands S.older self.new l.world l.stack) }
+        requires { (s : State) × (call : Tree) × (c : databases.Clause) × (cs : List databases.Clause) × (behind : List Member)
+            × Calls S.present S.stands S.older self.old attempt s call c cs behind }
+        ensures calls { (s : State) (call : Tree) (c : databases.Clause) (cs : List databases.Clause) (behind : List Member)
+            → Calls S.present S.stands S.older self.old attempt s call c cs behind → result ≡ Ok true
+            → Calls S.present S.stands S.older self.new attempt (with_others call cs behind s) call c cs behind }
+        ensures kept { (s : State) (call : Tree) (c : databases.Clause) (cs : List databases.Clause) (behind : List Member)
+            → Calls S.present S.stands S.older self.old attempt s call c cs behind
+            → OnErr result (Keeps S.present S.stands S.older self.new s.world s.stack) }
         ensures refused { result ≡ Ok false → self.new ≡ self.old }
-        ensures frames { (l : Linked) (call : Tree) (c : databases.Clause) (cs : List databases.Clause) (behind : List Tree)
-            → Calls S.present S.stands S.older self.old attempt l call c cs behind → result ≡ Ok false
+        ensures frames { (s : State) (call : Tree) (c : databases.Clause) (cs : List databases.Clause) (behind : List Member)
+            → Calls S.present S.stands S.older self.old attempt s call c cs behind → result ≡ Ok false
             → (self.old.limit ≤ length self.old.choices.items) × (0 < length cs) }
         ensures steps { self.new.steps ≡ self.old.steps }
-        ensures base { IsBase (S.stands self.old.store) self.old.base → IsBase (S.stands self.new.store) self.new.base }
-        ensures procedures { self.new.procedures ≡ self.old.procedures }
-        ensures limit { self.new.limit ≡ self.old.limit }
-        ensures settings { settings_of self.new ≡ settings_of self.old }
-        ensures within { IsWithin self.old → IsWithin self.new }
+        ensures stays { Stays self.old self.new }
         ensures fewer { clauses_left self.old.procedures.items self.new.choices.items + 1
             ≤ clauses_left self.old.procedures.items self.old.choices.items + most_clauses self.old.procedures.items }
     {
@@ -215,33 +200,30 @@ impl<S: Store + Drop> Plain<S> {
     /// Calls the procedure at the attempt's place: its first clause is entered, those behind it are one choice (7.7.7). False
     /// where no choice may be made any more; the engine is as it was then.
     pub(crate) fn call(&mut self, attempt: Attempt<S::Word>) -> Result<bool, StoreFault>
-        requires { (l : Linked) × (call : Tree) × (c : databases.Clause) × (cs : List databases.Clause) × (behind : List Tree)
-            × Calls S.present S.stands S.older self.old attempt l call c cs behind }
-        ensures tried { (l : Linked) (call : Tree) (c : databases.Clause) (cs : List databases.Clause) (behind : List Tree)
-            → Calls S.present S.stands S.older self.old attempt l call c cs behind → result ≡ Ok true
-            → Tried S.present S.stands S.older self.new l call c cs behind }
-        ensures kept { (l : Linked) (call : Tree) (c : databases.Clause) (cs : List databases.Clause) (behind : List Tree)
-            → Calls S.present S.stands S.older self.old attempt l call c cs behind
-            → OnErr result (WasRefused S.present S.stands S.older self.new l call cs behind) }
+        requires { (s : State) × (call : Tree) × (c : databases.Clause) × (cs : List databases.Clause) × (behind : List Member)
+            × Calls S.present S.stands S.older self.old attempt s call c cs behind }
+        ensures tried { (s : State) (call : Tree) (c : databases.Clause) (cs : List databases.Clause) (behind : List Member)
+            → Calls S.present S.stands S.older self.old attempt s call c cs behind → result ≡ Ok true
+            → IsEngine S.present S.stands S.older self.new (tried call (c ∷ cs) behind s) }
+        ensures kept { (s : State) (call : Tree) (c : databases.Clause) (cs : List databases.Clause) (behind : List Member)
+            → Calls S.present S.stands S.older self.old attempt s call c cs behind
+            → OnErr result (WasRefused S.present S.stands S.older self.new s (with_others call cs behind s)) }
         ensures awake { result ≡ Ok true → IsAwake (phase_of self.new.now) }
         ensures refused { result ≡ Ok false → self.new ≡ self.old }
-        ensures frames { (l : Linked) (call : Tree) (c : databases.Clause) (cs : List databases.Clause) (behind : List Tree)
-            → Calls S.present S.stands S.older self.old attempt l call c cs behind → result ≡ Ok false
+        ensures frames { (s : State) (call : Tree) (c : databases.Clause) (cs : List databases.Clause) (behind : List Member)
+            → Calls S.present S.stands S.older self.old attempt s call c cs behind → result ≡ Ok false
             → (self.old.limit ≤ length self.old.choices.items) × (0 < length cs) }
         ensures full { result ≡ Err StoreFault.Full → S.full self.new.store }
         ensures steps { self.new.steps ≡ self.old.steps }
-        ensures base { IsBase (S.stands self.old.store) self.old.base → IsBase (S.stands self.new.store) self.new.base }
-        ensures procedures { self.new.procedures ≡ self.old.procedures }
-        ensures limit { self.new.limit ≡ self.old.limit }
-        ensures settings { settings_of self.new ≡ settings_of self.old }
-        ensures within { IsWithin self.old → IsWithin self.new }
+        ensures stays { Stays self.old self.new }
         ensures fewer { clauses_left self.old.procedures.items self.new.choices.items + 1
             ≤ clauses_left self.old.procedures.items self.old.choices.items + most_clauses self.old.procedures.items }
     {
+        let mark = self.choices.len();
         if !self.push_choice(attempt)? {
             return Ok(false);
         }
-        self.enter(attempt)?;
+        self.enter(attempt, mark)?;
         Ok(true)
     }
 }

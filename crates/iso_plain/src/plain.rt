@@ -1,6 +1,7 @@
 //! The plain engine: its parts, and how a run begins and ends.
 ghost use Rattle.std.specs.Prelude.{◌≡◌, []};
 
+use super::bodies::Node;
 use super::parts::{Choice, Frame, Now};
 use super::procedures::Procedure;
 use iso_model::{Ball, Pause};
@@ -15,7 +16,7 @@ pub enum Move {
     Pauses(Pause),
 }
 
-/// An engine over copied bodies and linked goals, for any store.
+/// An engine over copied bodies and linked members, for any store.
 #[derive(Drop)]
 pub struct Plain<S: Store> {
     pub(crate) alloc: Global,
@@ -25,7 +26,10 @@ pub struct Plain<S: Store> {
     pub(crate) ops: OpTable,
     /// The flags as they are now.
     pub(crate) flags: Flags,
-    pub(crate) frames: Vec<Frame<S::Word>>,
+    /// The bodies that stand, part by part.
+    pub(crate) nodes: Vec<Node<S::Word>>,
+    /// The members of lists of goals, one behind the other.
+    pub(crate) frames: Vec<Frame>,
     pub(crate) choices: Vec<Choice<S::Word, S::Mark>>,
     /// How many alternatives may stand at once.
     pub(crate) limit: u32,
@@ -40,33 +44,31 @@ pub struct Plain<S: Store> {
 }
 
 impl<S: Store + Drop> Plain<S> {
-    ghost use Rattle.iso_plain.specs.Limits.{IsWithin};
+    ghost use Rattle.iso_plain.specs.Stays.{Stays};
     ghost use Rattle.iso_model.specs.Terms.Trees.{Variable};
-    ghost use Rattle.iso_model.specs.Search.Walker.{World};
-    ghost use Rattle.iso_plain.specs.Linked.{idle_linked};
+    ghost use Rattle.iso_model.specs.Search.Walker.{World, idle};
     ghost use Rattle.iso_plain.specs.Programs.{IsWorld};
-    ghost use Rattle.iso_plain.specs.EngineStates.{IsBase, IsEngine, settings_of};
+    ghost use Rattle.iso_plain.specs.EngineStates.{IsBase, IsEngine};
     ghost use Rattle.iso_plain.specs.declared.parts.Now.TheVariants.{Idle};
 
     /// Drops what is left of a run.
     pub(crate) fn clear(&mut self)
         requires { IsBase (S.stands self.old.store) self.old.base }
         ensures idle { (w : World) → IsWorld self.old w
-            → IsEngine S.present S.stands S.older self.new (idle_linked w) }
+            → IsEngine S.present S.stands S.older self.new (idle w) }
         ensures now { self.new.now ≡ Idle }
         ensures substitution { (S.present self.new.store).substitution ≡ Variable }
         ensures next { (S.present self.new.store).next ≡ 0 }
+        ensures nodes { self.new.nodes.items ≡ [] }
         ensures frames { self.new.frames.items ≡ [] }
         ensures choices { self.new.choices.items ≡ [] }
         ensures query { self.new.query.items ≡ [] }
         ensures raised { self.new.raised ≡ None }
-        ensures procedures { self.new.procedures ≡ self.old.procedures }
-        ensures limit { self.new.limit ≡ self.old.limit }
-        ensures settings { settings_of self.new ≡ settings_of self.old }
-        ensures within { IsWithin self.old → IsWithin self.new }
+        ensures stays { Stays self.old self.new }
         ensures base { IsBase (S.stands self.new.store) self.new.base }
     {
         self.choices.clear();
+        self.nodes.clear();
         self.frames.clear();
         self.query.clear();
         self.raised = None;

@@ -1,26 +1,29 @@
-//! The engine's move at a goal: it takes a step of the budget (7.7.4 to 7.7.7).
-ghost use Rattle.std.specs.Prelude.{◌≡◌, ◌+◌, ◌*◌, ◌<◌, ◌≤◌, IfOk, OnErr, List, length};
+//! The engine's move at a body: a conjunction is taken apart, a goal takes a step of the budget (7.7.4 to 7.7.7).
+ghost use Rattle.std.specs.Prelude.{◌≡◌, ◌+◌, ◌*◌, ◌<◌, ◌≤◌, IfOk, OnErr, List, ◌∷◌, length, Some};
+ghost use Rattle.std.specs.List.{slice_get};
 ghost use Rattle.iso_model.specs.Terms.Trees.{Tree};
 ghost use Rattle.iso_model.specs.Search.Databases as databases;
-ghost use Rattle.iso_model.specs.Search.Walker.{State};
+ghost use Rattle.iso_model.specs.Search.Walker.{State, Member, tried, with_others};
 ghost use Rattle.iso_model.specs.Search.Runs.{ComesOver};
+ghost use Rattle.iso_plain.specs.declared.bodies.Node.TheVariants as node;
 
+use super::bodies::Node;
 use super::calls::Called;
-use super::parts::{Attempt, Now, replied};
+use super::parts::{Attempt, Frame, Now, replied};
 use super::plain::{Move, Plain};
 use super::replies;
 use iso_model::{Limit, Pause};
 use iso_store::{Store, StoreFault};
 
 impl<S: Store + Drop> Plain<S> {
-    ghost use Rattle.iso_plain.specs.EngineStates.{Represents, Stopped, WasRefused, Moves, Falls, Calls, WasCalled, weight, most_clauses, settings_of};
-    ghost use Rattle.iso_plain.specs.Limits.{IsWithin, ResultMet, ResultFull};
-    ghost use Rattle.iso_plain.specs.Linked.{Linked};
+    ghost use Rattle.iso_plain.specs.EngineStates.{Represents, Stopped, WasRefused, Moves, Falls, Calls, WasCalled, weight, body_weight, most_clauses};
+    ghost use Rattle.iso_plain.specs.Stays.{Stays};
+    ghost use Rattle.iso_plain.specs.Limits.{ResultMet, ResultFull};
     ghost use Rattle.iso_plain.specs.declared.parts.Now.TheVariants as now;
 
-    /// Runs the goal at this place. The errors: the store is full, or memory was refused.
-    pub(crate) fn run(&mut self, place: usize) -> Result<Move, StoreFault>
-        requires now { self.old.now ≡ now.Running place }
+    /// Runs the body of the frame. The errors: the store is full, or memory was refused.
+    pub(crate) fn run(&mut self, frame: Frame) -> Result<Move, StoreFault>
+        requires now { self.old.now ≡ now.Running frame }
         requires stands { (s : State) × Represents S.present S.stands S.older self.old s }
         ensures moves { (s : State) → Represents S.present S.stands S.older self.old s
             → IfOk result (λ m. Moves S.present S.stands S.older m s self.new) }
@@ -28,21 +31,64 @@ impl<S: Store + Drop> Plain<S> {
         ensures falls { IfOk result (λ m. Falls m (weight self.old) (weight self.new)) }
         ensures frames { (s : State) → Represents S.present S.stands S.older self.old s → ResultFull (ComesOver self.old.limit s) result }
         ensures met { ResultMet S.full result self.new }
-        ensures limit { self.new.limit ≡ self.old.limit }
-        ensures settings { settings_of self.new ≡ settings_of self.old }
-        ensures within { IsWithin self.old → IsWithin self.new }
+        ensures stays { Stays self.old self.new }
+    {
+        match self.nodes[frame.body] {
+            Node::Run(goal) => self.run_goal(frame, goal),
+            Node::And(distance) => self.take_apart(frame, distance),
+        }
+    }
+
+    /// Takes the conjunction apart: its second body comes before what is behind it, its first one is run next (7.8.5). The error
+    /// is that memory was refused.
+    fn take_apart(&mut self, frame: Frame, distance: usize) -> Result<Move, StoreFault>
+        requires now { self.old.now ≡ now.Running frame }
+        requires stands { (s : State) × Represents S.present S.stands S.older self.old s }
+        requires node { slice_get self.old.nodes.items frame.body ≡ Some (node.And distance) }
+        ensures moves { (s : State) → Represents S.present S.stands S.older self.old s
+            → IfOk result (λ m. Moves S.present S.stands S.older m s self.new) }
+        ensures stopped { (s : State) → Represents S.present S.stands S.older self.old s → OnErr result (Stopped S.present S.stands S.older self.new s) }
+        ensures falls { IfOk result (λ m. Falls m (weight self.old) (weight self.new)) }
+        ensures frames { ResultFull ⊥ result }
+        ensures met { ResultMet S.full result self.new }
+        ensures stays { Stays self.old self.new }
+    {
+        let second = self.frames.len();
+        self.frames.push(Frame {
+            body: frame.body - 1,
+            ..frame
+        })?;
+        self.now = Now::Running(Frame {
+            body: frame.body - distance,
+            mark: frame.mark,
+            next: Some(second),
+        });
+        Ok(Move::Goes)
+    }
+
+    /// Runs the goal of the frame's body. The errors: the store is full, or memory was refused.
+    fn run_goal(&mut self, frame: Frame, goal: S::Word) -> Result<Move, StoreFault>
+        requires now { self.old.now ≡ now.Running frame }
+        requires stands { (s : State) × Represents S.present S.stands S.older self.old s }
+        requires node { slice_get self.old.nodes.items frame.body ≡ Some (node.Run goal) }
+        ensures moves { (s : State) → Represents S.present S.stands S.older self.old s
+            → IfOk result (λ m. Moves S.present S.stands S.older m s self.new) }
+        ensures stopped { (s : State) → Represents S.present S.stands S.older self.old s → OnErr result (Stopped S.present S.stands S.older self.new s) }
+        ensures falls { IfOk result (λ m. Falls m (weight self.old) (weight self.new)) }
+        ensures frames { (s : State) → Represents S.present S.stands S.older self.old s → ResultFull (ComesOver self.old.limit s) result }
+        ensures met { ResultMet S.full result self.new }
+        ensures stays { Stays self.old self.new }
     {
         if self.steps == 0 {
             self.clear();
             return Ok(Move::Pauses(Pause::Budget));
         }
-        let frame = self.frames[place];
-        let called = self.called(frame.goal)?;
+        let called = self.called(goal)?;
         self.steps -= 1;
         match called {
             Called::BuiltIn(built_in) => {
-                let goes_on = replies::reply(&mut self.store, built_in, frame.goal)?;
-                self.now = replied(goes_on, frame.next);
+                let goes_on = replies::reply(&mut self.store, built_in, goal)?;
+                self.now = replied(self.frames.as_slice(), goes_on, frame.next);
                 Ok(Move::Goes)
             }
             Called::Fails => {
@@ -56,7 +102,7 @@ impl<S: Store + Drop> Plain<S> {
             Called::User(procedure) => self.call_first(Attempt {
                 procedure,
                 clause: 0,
-                goal: frame.goal,
+                goal,
                 rest: frame.next,
             }),
         }
@@ -64,22 +110,20 @@ impl<S: Store + Drop> Plain<S> {
 
     /// Calls the procedure at the attempt's place; where no choice may be made any more the engine is spent.
     fn call_first(&mut self, attempt: Attempt<S::Word>) -> Result<Move, StoreFault>
-        requires { (l : Linked) × (call : Tree) × (c : databases.Clause) × (cs : List databases.Clause) × (behind : List Tree)
-            × Calls S.present S.stands S.older self.old attempt l call c cs behind }
-        ensures called { (l : Linked) (call : Tree) (c : databases.Clause) (cs : List databases.Clause) (behind : List Tree)
-            → Calls S.present S.stands S.older self.old attempt l call c cs behind
-            → IfOk result (λ m. WasCalled S.present S.stands S.older m self.new l call c cs behind) }
-        ensures kept { (l : Linked) (call : Tree) (c : databases.Clause) (cs : List databases.Clause) (behind : List Tree)
-            → Calls S.present S.stands S.older self.old attempt l call c cs behind
-            → OnErr result (WasRefused S.present S.stands S.older self.new l call cs behind) }
-        ensures falls { IfOk result (λ m. Falls m (weight self.old + (2 * most_clauses self.old.procedures.items + 1)) (weight self.new)) }
-        ensures frames { (l : Linked) (call : Tree) (c : databases.Clause) (cs : List databases.Clause) (behind : List Tree)
-            → Calls S.present S.stands S.older self.old attempt l call c cs behind
+        requires { (s : State) × (call : Tree) × (c : databases.Clause) × (cs : List databases.Clause) × (behind : List Member)
+            × Calls S.present S.stands S.older self.old attempt s call c cs behind }
+        ensures called { (s : State) (call : Tree) (c : databases.Clause) (cs : List databases.Clause) (behind : List Member)
+            → Calls S.present S.stands S.older self.old attempt s call c cs behind
+            → IfOk result (λ m. WasCalled S.present S.stands S.older m self.new s (tried call (c ∷ cs) behind s)) }
+        ensures kept { (s : State) (call : Tree) (c : databases.Clause) (cs : List databases.Clause) (behind : List Member)
+            → Calls S.present S.stands S.older self.old attempt s call c cs behind
+            → OnErr result (WasRefused S.present S.stands S.older self.new s (with_others call cs behind s)) }
+        ensures falls { IfOk result (λ m. Falls m (weight self.old + body_weight * (most_clauses self.old.procedures.items + 1)) (weight self.new)) }
+        ensures frames { (s : State) (call : Tree) (c : databases.Clause) (cs : List databases.Clause) (behind : List Member)
+            → Calls S.present S.stands S.older self.old attempt s call c cs behind
             → ResultFull ((self.old.limit ≤ length self.old.choices.items) × (0 < length cs)) result }
         ensures met { ResultMet S.full result self.new }
-        ensures limit { self.new.limit ≡ self.old.limit }
-        ensures settings { settings_of self.new ≡ settings_of self.old }
-        ensures within { IsWithin self.old → IsWithin self.new }
+        ensures stays { Stays self.old self.new }
     {
         if self.call(attempt)? {
             return Ok(Move::Goes);

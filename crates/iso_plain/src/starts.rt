@@ -1,5 +1,5 @@
 //! How an engine is made, and how a goal is started and a clause added (7.5, 7.7).
-ghost use Rattle.std.specs.Prelude.{◌≡◌, ◌<◌, ◌^◌, IfOk, OnOk, OnErr, Some, true, [], Err};
+ghost use Rattle.std.specs.Prelude.{◌≡◌, ◌<◌, ◌^◌, vec_len, IfOk, OnOk, OnErr, Some, true, [], Err};
 ghost use Rattle.iso_model.specs.Terms.Trees.{arities_fit};
 ghost use Rattle.iso_model.specs.Terms.TermOf.{term_of};
 ghost use Rattle.iso_model.specs.Terms.Variables.{variable_count};
@@ -7,32 +7,44 @@ ghost use Rattle.iso_model.specs.Terms.Copies.{IsNumbered};
 ghost use Rattle.iso_model.specs.Search.Bodies.{Body, converted};
 ghost use Rattle.iso_model.specs.Search.Additions.{consulted};
 ghost use Rattle.iso_model.specs.Search.Walker.{World, first_world, idle, started};
-ghost use Rattle.iso_plain.specs.Goals.{leaves, terms_of};
+ghost use Rattle.iso_plain.specs.Nodes.{layout, trees_of};
 
-use super::bodies::{self, BodyFault};
-use super::parts::{Now, at};
+use super::bodies::{self, BodyFault, Node};
+use super::parts::{Frame, Now};
 use super::plain::Plain;
 use super::{balls, clauses, entries, procedures};
-use iso_model::{AddFault, Term, copied};
+use iso_model::{AddFault, Numbering, Term, copied};
 use iso_ops::{Flags, OpTable};
 use iso_store::{Store, StoreFault};
 use std::alloc::{AllocError, Global};
+
+/// The places of the term's distinct variables: 0, 1, ..
+fn variable_places(alloc: Global, term: &Term) -> Result<Vec<u64>, AllocError>
+    ensures { IfOk result (λ places. vec_len places ≡ variable_count (term_of term.now)) }
+{
+    let mut seen = Numbering::new(alloc);
+    seen.note_all(alloc, term)?;
+    let mut places = Vec::new(alloc);
+    for place in 0..seen.len() {
+        places.push(place as u64)?;
+    }
+    Ok(places)
+}
 
 /// How many distinct variables the term has.
 fn count_variables(alloc: Global, term: &Term) -> Result<usize, AllocError>
     ensures count { IfOk result (λ n. n ≡ variable_count (term_of term.now)) }
     ensures few { IfOk result (λ n. n < 2 ^ 60) }
 {
-    let mut seen = Vec::new(alloc);
-    clauses::numbered(alloc, term, &mut seen)?;
-    Ok(seen.as_slice().len())
+    let places = variable_places(alloc, term)?;
+    Ok(places.as_slice().len())
 }
 
 impl<S: Store + Drop> Plain<S> {
     ghost use Rattle.iso_plain.specs.Limits.{IsWithin};
     ghost use Rattle.iso_model.specs.Terms.Trees.{Variable};
-    ghost use Rattle.iso_plain.specs.Linked.{idle_linked};
-    ghost use Rattle.iso_plain.specs.EngineStates.{IsEngine, Represents, Keeps, StandsFor, phase_of, settings_of};
+    ghost use Rattle.iso_plain.specs.Stays.{Stays};
+    ghost use Rattle.iso_plain.specs.EngineStates.{IsEngine, Represents, Keeps, StandsFor, phase_of};
     ghost use Rattle.iso_plain.specs.Starts.{IsFresh, Comes};
     ghost use Rattle.iso_model.specs.Search.Engines.{Ready, Midway};
     ghost use Rattle.iso_plain.specs.declared.parts.Now.TheVariants.{Idle};
@@ -56,6 +68,7 @@ impl<S: Store + Drop> Plain<S> {
             procedures: Vec::new(alloc),
             ops,
             flags: Flags::initial(),
+            nodes: Vec::new(alloc),
             frames: Vec::new(alloc),
             choices: Vec::new(alloc),
             limit: frames,
@@ -74,9 +87,7 @@ impl<S: Store + Drop> Plain<S> {
             → Represents S.present S.stands S.older self.new (started (term_of query.now) self.old.steps w)) }
         ensures kept { (w : World) → IsFresh S.present S.stands S.older self.old w → OnErr result (Keeps S.present S.stands S.older self.new w []) }
         ensures midway { OnOk result (phase_of self.new.now ≡ Midway) }
-        ensures limit { self.new.limit ≡ self.old.limit }
-        ensures settings { settings_of self.new ≡ settings_of self.old }
-        ensures within { IsWithin self.old → IsWithin self.new }
+        ensures stays { Stays self.old self.new }
     {
         let culprit = copied(self.alloc, query)?;
         let ball = balls::not_callable(self.alloc, culprit, "call", 1)?;
@@ -85,11 +96,11 @@ impl<S: Store + Drop> Plain<S> {
         Ok(())
     }
 
-    /// Links the query's goals, with its variables new in the store. The errors: the store is full, or memory was refused.
-    fn link_query(&mut self, query: &Term, goals: &[Term]) -> Result<(), StoreFault>
+    /// Copies the parts of the query, its variables new in the store, to be run next. The errors: the store is full, or memory was refused.
+    fn place_query(&mut self, query: &Term, parts: &[Node<Term>]) -> Result<(), StoreFault>
         requires fits { arities_fit (term_of query.now) ≡ true }
         requires numbered { IsNumbered (term_of query.now) }
-        requires goals { (b : Body) × (converted (term_of query.now) ≡ Some b) × (terms_of goals.now ≡ leaves b) }
+        requires parts { (b : Body) × (converted (term_of query.now) ≡ Some b) × (trees_of parts.now ≡ layout b) }
         requires next { (S.present self.old.store).next ≡ 0 }
         requires steps { self.old.steps < 2 ^ 32 }
         ensures started { OnOk result ((w : World) → IsFresh S.present S.stands S.older self.old w
@@ -97,22 +108,22 @@ impl<S: Store + Drop> Plain<S> {
         ensures kept { (w : World) → IsFresh S.present S.stands S.older self.old w → OnErr result (Keeps S.present S.stands S.older self.new w []) }
         ensures midway { OnOk result (phase_of self.new.now ≡ Midway) }
         ensures full { result ≡ Err StoreFault.Full → S.full self.new.store }
-        ensures limit { self.new.limit ≡ self.old.limit }
-        ensures settings { settings_of self.new ≡ settings_of self.old }
-        ensures within { IsWithin self.old → IsWithin self.new }
+        ensures stays { Stays self.old self.new }
     {
         let count = count_variables(self.alloc, query)?;
         let variables = entries::new_variables(self.alloc, &mut self.store, count)?;
-        let first = entries::link(
-            self.alloc,
+        entries::copy_parts(
             &mut self.store,
-            &mut self.frames,
-            goals,
+            &mut self.nodes,
+            parts,
             variables.as_slice(),
-            None,
         )?;
         self.query = variables;
-        self.now = at(first);
+        self.now = Now::Running(Frame {
+            body: self.nodes.len() - 1,
+            mark: 0,
+            next: None,
+        });
         Ok(())
     }
 
@@ -123,19 +134,17 @@ impl<S: Store + Drop> Plain<S> {
         requires numbered { IsNumbered (term_of goal.now) }
         requires substitution { (S.present self.old.store).substitution ≡ Variable }
         requires next { (S.present self.old.store).next ≡ 0 }
-        ensures started { OnOk result ((w : World) → IsEngine S.present S.stands S.older self.old (idle_linked w)
+        ensures started { OnOk result ((w : World) → IsEngine S.present S.stands S.older self.old (idle w)
             → Represents S.present S.stands S.older self.new (started (term_of goal.now) budget w)) }
-        ensures kept { (w : World) → IsEngine S.present S.stands S.older self.old (idle_linked w) → OnErr result (Keeps S.present S.stands S.older self.new w []) }
+        ensures kept { (w : World) → IsEngine S.present S.stands S.older self.old (idle w) → OnErr result (Keeps S.present S.stands S.older self.new w []) }
         ensures midway { OnOk result (phase_of self.new.now ≡ Midway) }
         ensures full { result ≡ Err StoreFault.Full → S.full self.new.store }
-        ensures limit { self.new.limit ≡ self.old.limit }
-        ensures settings { settings_of self.new ≡ settings_of self.old }
-        ensures within { IsWithin self.old → IsWithin self.new }
+        ensures stays { Stays self.old self.new }
     {
         self.steps = budget;
-        let mut goals = Vec::new(self.alloc);
-        match bodies::append_goals(self.alloc, goal, &mut goals) {
-            Ok(()) => self.link_query(goal, goals.as_slice()),
+        let mut parts = Vec::new(self.alloc);
+        match bodies::append_body(self.alloc, goal, &mut parts) {
+            Ok(()) => self.place_query(goal, parts.as_slice()),
             Err(BodyFault::NotCallable) => Ok(self.raise_query(goal)?),
             Err(BodyFault::NoMemory) => Err(StoreFault::NoMemory),
         }
@@ -146,7 +155,7 @@ impl<S: Store + Drop> Plain<S> {
     pub(crate) fn add(&mut self, clause: &Term) -> Result<(), AddFault>
         requires fits { arities_fit (term_of clause.now) ≡ true }
         requires now { self.old.now ≡ Idle }
-        ensures comes { (w : World) → IsEngine S.present S.stands S.older self.old (idle_linked w)
+        ensures comes { (w : World) → IsEngine S.present S.stands S.older self.old (idle w)
             → Comes S.present S.stands S.older (consulted (term_of clause.now) w.database) w result self.new }
         ensures now { self.new.now ≡ self.old.now }
         ensures limit { self.new.limit ≡ self.old.limit }

@@ -1,4 +1,4 @@
-mod Names
+mod PlaceLemmas
 pub mod Found
 mod Joins
 mod Rows

@@ -4,7 +4,7 @@ use Rattle.std.specs.String.{string_bytes}
 use Rattle.iso_ops.specs.Operators.{Operator}
 use Rattle.iso_ops.specs.declared.settings.Flags.{Flags}
 use Rattle.iso_model.specs.Syntax.Token.{Shown}
-use Rattle.iso_model.specs.Syntax.Grammar.{Clause}
+use Rattle.iso_model.specs.Syntax.Grammar.{ReadTerm}
 use Rattle.iso_model.specs.Syntax.Clauses.{IsNextClause, next_clause, behind_clause}
 use Rattle.iso_model.specs.Syntax.ReadingLaws.{IsWellRead}
 use Rattle.iso_model.specs.Terms.TermOf.{term_of}
@@ -13,11 +13,11 @@ use Rattle.iso_read.specs.declared.clause.ReadFault.{ReadFault}
 use Rattle.iso_read.specs.declared.clause.ReadFault.TheVariants as fault
 
 -- the clause that was read
-abbrev pub clause_read : Read → Clause
+abbrev pub clause_read : Read → ReadTerm
 clause_read r = record { term = term_of r.term; names = map (λ entry. (string_bytes entry.0, entry.1)) r.names.items }
 
 -- The tokens are this clause, or none where it is a syntax error.
-abbrev pub IsWhole : Option Clause → Result Read ReadFault → Type 0
+abbrev pub IsWhole : Option ReadTerm → Result Read ReadFault → Type 0
 IsWhole c (Ok r) = c ≡ Some (clause_read r)
 IsWhole c (Err fault.Syntax) = c ≡ None
 IsWhole c (Err fault.NoMemory) = Unit {0}
@@ -27,7 +27,7 @@ IsWhole c (Err fault.NoMemory) = Unit {0}
 abbrev pub ReadsNext : List Operator → Flags → Result (Option Read) ReadFault → List Shown → Type 0
 ReadsNext table flags (Ok None) ts = ts ≡ []
 ReadsNext table flags (Ok (Some r)) ts = IsNextClause table flags ts (clause_read r)
-ReadsNext table flags (Err fault.Syntax) ts = (ts ≢ []) × ((c : Clause) → ¬ IsNextClause table flags ts c)
+ReadsNext table flags (Err fault.Syntax) ts = (ts ≢ []) × ((c : ReadTerm) → ¬ IsNextClause table flags ts c)
 ReadsNext table flags (Err fault.NoMemory) ts = Unit {0}
 
 -- the same by precedence

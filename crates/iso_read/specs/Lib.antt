@@ -1,4 +1,5 @@
 pub mod Views
 pub mod Cursor
+pub mod Places
 pub mod Gives
 pub mod Answers

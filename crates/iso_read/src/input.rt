@@ -6,16 +6,16 @@ ghost use Rattle.iso_model.specs.Syntax.Grammar as model;
 ghost use Rattle.iso_model.specs.Syntax.Reading.{rest};
 ghost use Rattle.iso_token.specs.Shows.{shown};
 
+use crate::names::Names;
 use iso_token::{Kind, Token};
 use std::alloc::{AllocError, Global};
 use std::marker::Model;
 
-/// The tokens that are left of a clause, and the names of the variables so far, in the order of their first
-/// occurrence: a variable's number is the place of its name. Each `_` has a place of its own.
+/// The tokens that are left of a clause, and the names of the variables so far.
 #[derive(Drop)]
 pub struct Input<'c> {
     tokens: &'c [Token<'c>],
-    names: Vec<String>,
+    names: Names<'c>,
 }
 
 impl<'c> Model for Input<'c> {
@@ -57,25 +57,6 @@ pub fn negates(unquoted: bool, name: &str, tokens: &[Token<'_>]) -> bool
     }
 }
 
-/// The place of a name among these.
-fn position_of(names: &[String], name: &str) -> Option<usize>
-    ensures { result ≡ position (λ other. bytes_eq (string_bytes other) name.now) names.now }
-{
-    names.iter().position(|other| other.as_str() == name)
-}
-
-/// The place of a variable's name among these; `_` has none.
-#[tactic(auto, using(crate::proofs::Names::position_map))]
-fn place_of(names: &[String], name: &str) -> Option<usize>
-    ensures { result ≡ model.place_of name.now (map string_bytes names.now) }
-{
-    if name == "_" {
-        None
-    } else {
-        position_of(names, name)
-    }
-}
-
 impl<'c> Input<'c> {
     /// These tokens, and no variable so far.
     pub fn new(alloc: Global, tokens: &'c [Token<'c>]) -> Input<'c>
@@ -83,7 +64,7 @@ impl<'c> Input<'c> {
     {
         Input {
             tokens,
-            names: Vec::new(alloc),
+            names: Names::new(alloc),
         }
     }
 
@@ -133,15 +114,11 @@ impl<'c> Input<'c> {
     }
 
     /// The number of the variable of this name, at one more occurrence.
-    pub fn variable(&mut self, alloc: Global, name: &str) -> Result<u64, AllocError>
+    pub fn variable(&mut self, name: &'c str) -> Result<u64, AllocError>
         ensures { IfOk result (λ number. (number ≡ model.number_of name.now self.old.names) × (self.new ≡ model.with_name name.now self.old)) }
     {
-        if let Some(place) = place_of(&self.names, name) {
-            return Ok(place as u64);
-        }
-        let number = self.names.len() as u64;
-        self.names.push(String::from_str(alloc, name)?)?;
-        Ok(number)
+        let number = self.names.number(name)?;
+        Ok(number as u64)
     }
 
     /// Whether no token is left.
@@ -156,12 +133,6 @@ impl<'c> Input<'c> {
         ensures { IfOk result (λ numbered. map (λ entry. (string_bytes entry.0, entry.1)) numbered.items ≡ model.numbered 0 self.entry.names) }
     {
         let Input { tokens: _, names } = self;
-        let mut numbered = Vec::new(alloc);
-        for (number, name) in names.into_iter().enumerate() {
-            if name.as_str() != "_" {
-                numbered.push((name, number as u64))?;
-            }
-        }
-        Ok(numbered)
+        names.numbered(alloc)
     }
 }

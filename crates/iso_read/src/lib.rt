@@ -6,6 +6,7 @@ mod clause;
 mod input;
 mod language;
 mod lists;
+mod names;
 mod node;
 mod operators;
 mod reader;

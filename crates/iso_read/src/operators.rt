@@ -75,6 +75,7 @@ fn following_named(language: Language<'_>, name: String) -> Option<Following>
 }
 
 /// The infix or postfix operator that the token is.
+#[inline(never)]
 pub fn operator_at(
     language: Language<'_>,
     token: &Token<'_>,
@@ -118,6 +119,7 @@ fn name_begins(
 }
 
 /// Whether these tokens can begin the operand of a prefix operator.
+#[inline(never)]
 pub fn begins(language: Language<'_>, tokens: &[Token<'_>]) -> Result<bool, AllocError>
     ensures { IfOk result (λ begins. begins ≡ grammar.begins language.entry.ops.now (map shown tokens.now)) }
 {

@@ -5,8 +5,8 @@ use Rattle.std.specs.Result.{IsErr}
 use Rattle.iso_model.specs.Search.Engines.{Phase, Ready, MayMeet, KeepsLimits}
 use Rattle.iso_model.specs.Search.Walker.{State, started}
 use Rattle.iso_model.specs.Search.Runs.{ComesOver}
-use Rattle.iso_model.specs.Session.Sessions.{Piece, Line, Script, Closes, Done, Halts, SessionEnd, prepend, piece_bytes, pieces_bytes, script_bytes, script_end, query_goal}
-use Rattle.iso_model.specs.Session.Beginnings.{Begins, IsWritten, whole, cut, cut_text, limit_line, IsBroken, Writes, StopsAt, before_run, within_run, further_on, EngineStops, WalkStops, Outcome, Closed, Limited, Broken}
+use Rattle.iso_model.specs.Session.Sessions.{Segment, Line, Script, Closes, Done, Halts, SessionEnd, prepend, segment_bytes, segments_bytes, script_bytes, script_end, query_goal}
+use Rattle.iso_model.specs.Session.Beginnings.{Begins, IsWritten, whole, cut, cut_text, limit_line, IsBroken, Writes, StopsAt, before_run, within_run, further_on, EngineStops, WalkStops, SessionOutcome, Closed, Limited, Broken}
 use Rattle.iso_model.specs.declared.limit.Limit.{Limit}
 use Rattle.iso_model.specs.declared.limit.Limit.TheVariants as limit
 use Rattle.iso_session.specs.declared.flows.Flow.{Flow}
@@ -15,44 +15,44 @@ use Rattle.iso_session.specs.declared.statuses.Ended.{Ended}
 use Rattle.iso_session.specs.declared.statuses.Fault.{Fault}
 use Rattle.iso_session.specs.Progress.{Place, outcome_of, within_after, Advances, Does, ended_of, closing_bytes}
 use Rattle.iso_session.proofs.WrittenLemmas.{appends_more, begins_behind}
-use Rattle.iso_session.proofs.ProgressLemmas.{pieces_bytes-append, script_bytes-prepend, stops_here}
+use Rattle.iso_session.proofs.ProgressLemmas.{segments_bytes-append, script_bytes-prepend, stops_here}
 
-script_end-prepend : (ps : List Piece) (s : Script) → script_end (prepend ps s) ≡ script_end s
+script_end-prepend : (ps : List Segment) (s : Script) → script_end (prepend ps s) ≡ script_end s
 script_end-prepend [] s = refl
 script_end-prepend (p ∷ ps) s = script_end-prepend ps s
 
 -- all pieces of a script that is at its end
-whole_bytes : (within : Bool) (ps : List Piece) (ending : SessionEnd) (s : Script) → s ≡ prepend ps (Closes ending) → script_bytes within s ≡ pieces_bytes within ps
-whole_bytes within ps ending s is = ap (script_bytes within) is ∙ script_bytes-prepend within ps (Closes ending) ∙ append-nil (pieces_bytes within ps)
+whole_bytes : (within : Bool) (ps : List Segment) (ending : SessionEnd) (s : Script) → s ≡ prepend ps (Closes ending) → script_bytes within s ≡ segments_bytes within ps
+whole_bytes within ps ending s is = ap (script_bytes within) is ∙ script_bytes-prepend within ps (Closes ending) ∙ append-nil (segments_bytes within ps)
 
 -- the session wrote its text
 all_written : (old : Option (List ℕ)) (mid : Place) (new : Option (List ℕ)) (script : Script) (ending : SessionEnd)
     → Advances (old, false) mid script (Closes ending) → Appends mid.0 new [] → Appends old new (script_bytes false script) × (ending ≡ script_end script)
 all_written old mid new script ending h none =
-    let bytes = appends_more old mid.0 new (pieces_bytes false h.gave) [] h.bytes none in
-    let same = whole_bytes false h.gave ending script h.is ∙ sym (append-nil (pieces_bytes false h.gave)) in
+    let bytes = appends_more old mid.0 new (segments_bytes false h.gave) [] h.bytes none in
+    let same = whole_bytes false h.gave ending script h.is ∙ sym (append-nil (segments_bytes false h.gave)) in
     (rw same bytes, sym (ap script_end h.is ∙ script_end-prepend h.gave (Closes ending)))
 
-cut_bytes : (gave : List Piece) (l : Limit) → cut_text gave l ≡ pieces_bytes false gave ++ piece_bytes (within_after false gave) (Line (limit_line l))
+cut_bytes : (gave : List Segment) (l : Limit) → cut_text gave l ≡ segments_bytes false gave ++ segment_bytes (within_after false gave) (Line (limit_line l))
 cut_bytes gave l =
-    pieces_bytes-append false gave (Line (limit_line l) ∷ [])
-    ∙ ap (λ z. pieces_bytes false gave ++ z) (append-nil (piece_bytes (within_after false gave) (Line (limit_line l))))
+    segments_bytes-append false gave (Line (limit_line l) ∷ [])
+    ∙ ap (λ z. segments_bytes false gave ++ z) (append-nil (segment_bytes (within_after false gave) (Line (limit_line l))))
 
 -- a limit's line was written behind what was given
 cut_written : (old : Option (List ℕ)) (mid : Place) (new : Option (List ℕ)) (script rest : Script) (l : Limit)
-    → (h : Advances (old, false) mid script rest) → Appends mid.0 new (piece_bytes mid.1 (Line (limit_line l))) → Appends old new (cut_text h.gave l)
+    → (h : Advances (old, false) mid script rest) → Appends mid.0 new (segment_bytes mid.1 (Line (limit_line l))) → Appends old new (cut_text h.gave l)
 cut_written old mid new script rest l h line =
-    let there = subst (λ w. Appends mid.0 new (piece_bytes w (Line (limit_line l)))) h.within line in
-    rw (cut_bytes h.gave l) (appends_more old mid.0 new (pieces_bytes false h.gave) (piece_bytes (within_after false h.gave) (Line (limit_line l))) h.bytes there)
+    let there = subst (λ w. Appends mid.0 new (segment_bytes w (Line (limit_line l)))) h.within line in
+    rw (cut_bytes h.gave l) (appends_more old mid.0 new (segments_bytes false h.gave) (segment_bytes (within_after false h.gave) (Line (limit_line l))) h.bytes there)
 
 cut_begun : (P : Limit → Script → Type 0) (old : Option (List ℕ)) (mid : Place) (new : Option (List ℕ)) (script rest : Script) (l : Limit)
-    → (h : Advances (old, false) mid script rest) → P l rest → Begins mid.0 new (piece_bytes mid.1 (Line (limit_line l))) → IsBroken script P old new
+    → (h : Advances (old, false) mid script rest) → P l rest → Begins mid.0 new (segment_bytes mid.1 (Line (limit_line l))) → IsBroken script P old new
 cut_begun P old mid new script rest l h stops line =
-    let there = subst (λ w. Begins mid.0 new (piece_bytes w (Line (limit_line l)))) h.within line in
+    let there = subst (λ w. Begins mid.0 new (segment_bytes w (Line (limit_line l)))) h.within line in
     record {
       text = cut_text h.gave l;
       would = cut h.gave rest h.is l stops;
-      begins = rw (cut_bytes h.gave l) (begins_behind old mid.0 new (pieces_bytes false h.gave) (piece_bytes (within_after false h.gave) (Line (limit_line l))) h.bytes there);
+      begins = rw (cut_bytes h.gave l) (begins_behind old mid.0 new (segments_bytes false h.gave) (segment_bytes (within_after false h.gave) (Line (limit_line l))) h.bytes there);
     }
 
 pub all_broken : (P : Limit → Script → Type 0) (old new : Option (List ℕ)) (script : Script) → Begins old new (script_bytes false script) → IsBroken script P old new
@@ -61,8 +61,8 @@ all_broken P old new script b = record { text = script_bytes false script; would
 all_begun : (P : Limit → Script → Type 0) (old : Option (List ℕ)) (mid : Place) (new : Option (List ℕ)) (script : Script) (ending : SessionEnd)
     → Advances (old, false) mid script (Closes ending) → Begins mid.0 new [] → IsBroken script P old new
 all_begun P old mid new script ending h none =
-    let same = whole_bytes false h.gave ending script h.is ∙ sym (append-nil (pieces_bytes false h.gave)) in
-    all_broken P old new script (rw same (begins_behind old mid.0 new (pieces_bytes false h.gave) [] h.bytes none))
+    let same = whole_bytes false h.gave ending script h.is ∙ sym (append-nil (segments_bytes false h.gave)) in
+    all_broken P old new script (rw same (begins_behind old mid.0 new (segments_bytes false h.gave) [] h.bytes none))
 
 -- the session began at the start of a line, and was closed behind its last part
 closes_from : (budget : ℕ) (Stands : State → Type 0) (May : Limit → State → Type 0) (now : Phase) (old : Option (List ℕ)) (mid : Place) (new : Option (List ℕ)) (script : Script) (f : Flow) (r : Result Ended Fault)
@@ -120,14 +120,14 @@ written_by : {script : Script} {P Q : Limit → Script → Type 0} {text : List 
 written_by f whole = whole
 written_by f (cut gave rest is l stops) = cut gave rest is l (f l rest stops)
 
-writes_by : (script : Script) (P Q : Limit → Script → Type 0) (old new : Option (List ℕ)) (outcome : Outcome) → ((l : Limit) (rest : Script) → P l rest → Q l rest)
+writes_by : (script : Script) (P Q : Limit → Script → Type 0) (old new : Option (List ℕ)) (outcome : SessionOutcome) → ((l : Limit) (rest : Script) → P l rest → Q l rest)
     → Writes script P old new outcome → Writes script Q old new outcome
 writes_by script P Q old new (Closed ending) f h = h
 writes_by script P Q old new (Limited l) f h = record { gave = h.gave; rest = h.rest; is = h.is; bytes = h.bytes; stands = f l h.rest h.stands }
 writes_by script P Q old new Broken f h = record { text = h.text; would = written_by f h.would; begins = h.begins }
 
 -- the limits that ended a session are those of the engine that it was given
-pub writes_kept : (budget : ℕ) (Stands : State → Type 0) (Old New : Limit → State → Type 0) (now : Phase) (script : Script) (old new : Option (List ℕ)) (outcome : Outcome) → KeepsLimits Old New
+pub writes_kept : (budget : ℕ) (Stands : State → Type 0) (Old New : Limit → State → Type 0) (now : Phase) (script : Script) (old new : Option (List ℕ)) (outcome : SessionOutcome) → KeepsLimits Old New
     → Writes script (EngineStops budget Stands New now script) old new outcome → Writes script (EngineStops budget Stands Old now script) old new outcome
 writes_kept budget Stands Old New now script old new outcome keeps h =
     writes_by script (EngineStops budget Stands New now script) (EngineStops budget Stands Old now script) old new outcome (engine_stops-kept budget Stands Old New now script keeps) h
@@ -139,13 +139,13 @@ walk_stops budget frames Stands May now script over limit.Heap rest h = (h.at, s
 walk_stops budget frames Stands May now script over limit.Frames rest h = (h.at, stops_by budget May (MayMeet (λ t. Unit {0}) (ComesOver frames)) limit.Frames h.at over h.stops)
 walk_stops budget frames Stands May now script over limit.Memory rest h = tt
 
-pub writes_walk : (budget frames : ℕ) (Stands : State → Type 0) (May : Limit → State → Type 0) (now : Phase) (script : Script) (old new : Option (List ℕ)) (outcome : Outcome)
+pub writes_walk : (budget frames : ℕ) (Stands : State → Type 0) (May : Limit → State → Type 0) (now : Phase) (script : Script) (old new : Option (List ℕ)) (outcome : SessionOutcome)
     → ((s : State) → May limit.Frames s → ComesOver frames s) → Writes script (EngineStops budget Stands May now script) old new outcome → Writes script (WalkStops budget frames script) old new outcome
 writes_walk budget frames Stands May now script old new outcome over h =
     writes_by script (EngineStops budget Stands May now script) (WalkStops budget frames script) old new outcome (walk_stops budget frames Stands May now script over) h
 
 -- what was written, under another name of what the writer has at the end
-pub written_to : (script : Script) (P : Limit → Script → Type 0) (old last new : Option (List ℕ)) (outcome : Outcome) → Writes script P old last outcome → last ≡ new → Writes script P old new outcome
+pub written_to : (script : Script) (P : Limit → Script → Type 0) (old last new : Option (List ℕ)) (outcome : SessionOutcome) → Writes script P old last outcome → last ≡ new → Writes script P old new outcome
 written_to script P old last new outcome h same = subst (λ at. Writes script P old at outcome) same h
 
 -- memory was refused before a session began

@@ -4,7 +4,7 @@ use Rattle.std.specs.Io.KnownBytes.{Appends}
 use Rattle.std.specs.Result.{IsErr}
 use Rattle.iso_model.specs.Search.Engines.{Phase, Ready, Midway, IsAwake, KeepsLimits}
 use Rattle.iso_model.specs.Search.Walker.{World, State, idle}
-use Rattle.iso_model.specs.Session.Sessions.{Piece, Line, Script, Shows, Closes, Halts, prepend, piece_bytes, within_behind, pieces_bytes, script_bytes}
+use Rattle.iso_model.specs.Session.Sessions.{Segment, Line, Script, Shows, Closes, Halts, prepend, segment_bytes, within_behind, segments_bytes, script_bytes}
 use Rattle.iso_model.specs.Session.Beginnings.{Begins, EngineStops, StopsIn, further_on}
 use Rattle.iso_model.specs.declared.limit.Limit.{Limit}
 use Rattle.iso_model.specs.declared.limit.Limit.TheVariants as limit
@@ -14,25 +14,25 @@ use Rattle.iso_session.specs.declared.statuses.Fault.{Fault}
 use Rattle.iso_session.specs.Progress.{Place, within_after, Advances, Stops, Does, PutsLine}
 use Rattle.iso_session.proofs.WrittenLemmas.{appends_none, appends_more, begins_behind, begins_before}
 
-pub pieces_bytes-append : (within : Bool) (ps qs : List Piece) → pieces_bytes within (ps ++ qs) ≡ pieces_bytes within ps ++ pieces_bytes (within_after within ps) qs
-pieces_bytes-append within [] qs = refl
-pieces_bytes-append within (p ∷ ps) qs =
+pub segments_bytes-append : (within : Bool) (ps qs : List Segment) → segments_bytes within (ps ++ qs) ≡ segments_bytes within ps ++ segments_bytes (within_after within ps) qs
+segments_bytes-append within [] qs = refl
+segments_bytes-append within (p ∷ ps) qs =
     let later = within_behind within p in
-    ap (λ z. piece_bytes within p ++ z) (pieces_bytes-append later ps qs) ∙ sym (append_assoc (piece_bytes within p) (pieces_bytes later ps) (pieces_bytes (within_after later ps) qs))
+    ap (λ z. segment_bytes within p ++ z) (segments_bytes-append later ps qs) ∙ sym (append_assoc (segment_bytes within p) (segments_bytes later ps) (segments_bytes (within_after later ps) qs))
 
-within_after-append : (within : Bool) (ps qs : List Piece) → within_after within (ps ++ qs) ≡ within_after (within_after within ps) qs
+within_after-append : (within : Bool) (ps qs : List Segment) → within_after within (ps ++ qs) ≡ within_after (within_after within ps) qs
 within_after-append within [] qs = refl
 within_after-append within (p ∷ ps) qs = within_after-append (within_behind within p) ps qs
 
-prepend-append : (ps qs : List Piece) (s : Script) → prepend (ps ++ qs) s ≡ prepend ps (prepend qs s)
+prepend-append : (ps qs : List Segment) (s : Script) → prepend (ps ++ qs) s ≡ prepend ps (prepend qs s)
 prepend-append [] qs s = refl
 prepend-append (p ∷ ps) qs s = ap (Shows p) (prepend-append ps qs s)
 
-pub script_bytes-prepend : (within : Bool) (ps : List Piece) (s : Script) → script_bytes within (prepend ps s) ≡ pieces_bytes within ps ++ script_bytes (within_after within ps) s
+pub script_bytes-prepend : (within : Bool) (ps : List Segment) (s : Script) → script_bytes within (prepend ps s) ≡ segments_bytes within ps ++ script_bytes (within_after within ps) s
 script_bytes-prepend within [] s = refl
 script_bytes-prepend within (p ∷ ps) s =
     let later = within_behind within p in
-    ap (λ z. piece_bytes within p ++ z) (script_bytes-prepend later ps s) ∙ sym (append_assoc (piece_bytes within p) (pieces_bytes later ps) (script_bytes (within_after later ps) s))
+    ap (λ z. segment_bytes within p ++ z) (script_bytes-prepend later ps s) ∙ sym (append_assoc (segment_bytes within p) (segments_bytes later ps) (script_bytes (within_after later ps) s))
 
 -- nothing was written
 pub advance_none : (old : Place) (s : Script) → Advances old old s s
@@ -41,16 +41,16 @@ advance_none old s = record { gave = []; bytes = appends_none old.0; within = re
 pub advance_on : {old mid new : Place} {s t u : Script} → Advances old mid s t → Advances mid new t u → Advances old new s u
 advance_on {old} {mid} {new} {s} {t} {u} h k = record {
   gave = h.gave ++ k.gave;
-  bytes = rw (pieces_bytes-append old.1 h.gave k.gave, ← h.within) (appends_more old.0 mid.0 new.0 (pieces_bytes old.1 h.gave) (pieces_bytes mid.1 k.gave) h.bytes k.bytes);
+  bytes = rw (segments_bytes-append old.1 h.gave k.gave, ← h.within) (appends_more old.0 mid.0 new.0 (segments_bytes old.1 h.gave) (segments_bytes mid.1 k.gave) h.bytes k.bytes);
   within = k.within ∙ ap (λ w. within_after w k.gave) h.within ∙ sym (within_after-append old.1 h.gave k.gave);
   is = h.is ∙ ap (prepend h.gave) k.is ∙ sym (prepend-append h.gave k.gave u);
 }
 
 -- one piece was written
-pub advance_piece : (old new : Place) (p : Piece) (rest : Script) → Appends old.0 new.0 (piece_bytes old.1 p) → new.1 ≡ within_behind old.1 p → Advances old new (Shows p rest) rest
-advance_piece old new p rest bytes within = record {
+pub advance_segment : (old new : Place) (p : Segment) (rest : Script) → Appends old.0 new.0 (segment_bytes old.1 p) → new.1 ≡ within_behind old.1 p → Advances old new (Shows p rest) rest
+advance_segment old new p rest bytes within = record {
   gave = p ∷ [];
-  bytes = rw (append-nil (piece_bytes old.1 p)) bytes;
+  bytes = rw (append-nil (segment_bytes old.1 p)) bytes;
   within = within;
   is = refl;
 }
@@ -58,11 +58,11 @@ advance_piece old new p rest bytes within = record {
 -- a beginning of what is left, behind what was written
 pub begins_on : {old mid : Place} {s t : Script} (new : Option (List ℕ)) → Advances old mid s t → Begins mid.0 new (script_bytes mid.1 t) → Begins old.0 new (script_bytes old.1 s)
 begins_on {old} {mid} {s} {t} new h k =
-    let whole = ap (script_bytes old.1) h.is ∙ script_bytes-prepend old.1 h.gave t ∙ ap (λ w. pieces_bytes old.1 h.gave ++ script_bytes w t) (sym h.within) in
-    rw whole (begins_behind old.0 mid.0 new (pieces_bytes old.1 h.gave) (script_bytes mid.1 t) h.bytes k)
+    let whole = ap (script_bytes old.1) h.is ∙ script_bytes-prepend old.1 h.gave t ∙ ap (λ w. segments_bytes old.1 h.gave ++ script_bytes w t) (sym h.within) in
+    rw whole (begins_behind old.0 mid.0 new (segments_bytes old.1 h.gave) (script_bytes mid.1 t) h.bytes k)
 
 -- an engine stopped further on, behind what was written
-engine_stops-behind : (budget : ℕ) (Stands : State → Type 0) (May : Limit → State → Type 0) (now : Phase) (l : Limit) (ps : List Piece) {script rest : Script}
+engine_stops-behind : (budget : ℕ) (Stands : State → Type 0) (May : Limit → State → Type 0) (now : Phase) (l : Limit) (ps : List Segment) {script rest : Script}
     → StopsIn budget Stands May now l script rest → StopsIn budget Stands May now l (prepend ps script) rest
 engine_stops-behind budget Stands May now l [] h = h
 engine_stops-behind budget Stands May now l (p ∷ ps) h =
@@ -101,7 +101,7 @@ stops_same budget Stands May now old new script ready same = rw same (stops_here
 pub puts_on : (budget : ℕ) (Stands : State → Type 0) (May : Limit → State → Type 0) (now : Phase) (old new : Place) (text : List ℕ) (at : World) (behind : World → Script) (r : Result Flow Fault)
     → PutsLine text flow.On old new r → Stands (idle at) → now ≡ Ready → Does budget Stands May now old new (Shows (Line text) (behind at)) behind r
 puts_on budget Stands May now old new text at behind (Ok flow.On) (inl p) stands ready =
-    record { at = at; stands = stands; ready = ready; advances = advance_piece old new (Line text) (behind at) p.1 p.2 }
+    record { at = at; stands = stands; ready = ready; advances = advance_segment old new (Line text) (behind at) p.1 p.2 }
 puts_on budget Stands May now old new text at behind (Ok flow.On) (inr p) stands ready = cc
 puts_on budget Stands May now old new text at behind (Ok (flow.Halts n)) (inl p) stands ready = cc
 puts_on budget Stands May now old new text at behind (Ok (flow.Halts n)) (inr p) stands ready = cc
@@ -109,7 +109,7 @@ puts_on budget Stands May now old new text at behind (Ok (flow.Stops l)) (inl p)
 puts_on budget Stands May now old new text at behind (Ok (flow.Stops limit.Heap)) (inr p) stands ready = cc
 puts_on budget Stands May now old new text at behind (Ok (flow.Stops limit.Frames)) (inr p) stands ready = cc
 puts_on budget Stands May now old new text at behind (Ok (flow.Stops limit.Memory)) (inr p) stands ready = stops_same budget Stands May now old new (Shows (Line text) (behind at)) ready p.1
-puts_on budget Stands May now old new text at behind (Err e) p stands ready = begins_before old.0 new.0 (piece_bytes old.1 (Line text)) (script_bytes false (behind at)) p
+puts_on budget Stands May now old new text at behind (Err e) p stands ready = begins_before old.0 new.0 (segment_bytes old.1 (Line text)) (script_bytes false (behind at)) p
 
 -- a line was written, or memory for it was refused, that ends the script
 pub puts_halt : (budget : ℕ) (Stands : State → Type 0) (May : Limit → State → Type 0) (now : Phase) (old new : Place) (text : List ℕ) (status : ℕ) (behind : World → Script) (r : Result Flow Fault)
@@ -118,13 +118,13 @@ puts_halt budget Stands May now old new text status behind (Ok flow.On) (inl p) 
 puts_halt budget Stands May now old new text status behind (Ok flow.On) (inr p) ready = cc
 puts_halt budget Stands May now old new text status behind (Ok (flow.Halts n)) (inl p) ready =
     let same : n ≡ status = cc in
-    rw same (advance_piece old new (Line text) (Closes (Halts status)) p.1 p.2)
+    rw same (advance_segment old new (Line text) (Closes (Halts status)) p.1 p.2)
 puts_halt budget Stands May now old new text status behind (Ok (flow.Halts n)) (inr p) ready = cc
 puts_halt budget Stands May now old new text status behind (Ok (flow.Stops l)) (inl p) ready = cc
 puts_halt budget Stands May now old new text status behind (Ok (flow.Stops limit.Heap)) (inr p) ready = cc
 puts_halt budget Stands May now old new text status behind (Ok (flow.Stops limit.Frames)) (inr p) ready = cc
 puts_halt budget Stands May now old new text status behind (Ok (flow.Stops limit.Memory)) (inr p) ready = stops_same budget Stands May now old new (Shows (Line text) (Closes (Halts status))) ready p.1
-puts_halt budget Stands May now old new text status behind (Err e) p ready = begins_before old.0 new.0 (piece_bytes old.1 (Line text)) [] p
+puts_halt budget Stands May now old new text status behind (Err e) p ready = begins_before old.0 new.0 (segment_bytes old.1 (Line text)) [] p
 
 -- a part that doesn't go on, behind what was written
 pub stops_after : (budget : ℕ) (Stands : State → Type 0) (May : Limit → State → Type 0) (now : Phase) (old mid new : Place) (s t : Script) (behind other : World → Script) (f : Flow)

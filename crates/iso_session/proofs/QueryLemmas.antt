@@ -6,7 +6,7 @@ use Rattle.iso_ops.specs.Operators.{Operator}
 use Rattle.iso_model.specs.Terms.Trees.{Tree}
 use Rattle.iso_model.specs.Terms.TermOf.{term_of}
 use Rattle.iso_model.specs.Search.Engines.{Phase, Ready, Spent, Pauses, MeetsLimit}
-use Rattle.iso_model.specs.Syntax.Grammar.{Clause}
+use Rattle.iso_model.specs.Syntax.Grammar.{ReadTerm}
 use Rattle.iso_model.specs.Syntax.Token.{Shown}
 use Rattle.iso_model.specs.Syntax.Items.{Item, Readable, Taken, next_item}
 use Rattle.iso_model.specs.Session.Lines.{answer_line, solution_text, error_line, halt_line}
@@ -14,7 +14,7 @@ use Rattle.iso_model.specs.Search.Walker.{World, State, Ending, Answered, Wrote,
 use Rattle.iso_model.specs.Search.Runs as runs
 use Rattle.iso_model.specs.Search.Runs.{Trace, Then, HasGiven, begun, gave_answer, gave_output, Comes, Finishes}
 use Rattle.iso_model.specs.Search.RunLaws.{run_of, comes_run, finishes_run}
-use Rattle.iso_model.specs.Session.Sessions.{ends_within, piece_bytes, script_bytes, Script, Shows, Closes, Line, Output, Done, run_script, query_goal, query_script, queries_by, queries_script}
+use Rattle.iso_model.specs.Session.Sessions.{ends_within, segment_bytes, script_bytes, Script, Shows, Closes, Line, Output, Done, run_script, query_goal, query_script, queries_by, queries_script}
 use Rattle.iso_model.specs.Session.Beginnings.{Begins, MayRefuse, EngineStops, StopsIn, within_run, before_run}
 use Rattle.iso_model.specs.declared.terms.Term.{Term}
 use Rattle.iso_model.specs.declared.limit.Limit.{Limit}
@@ -29,18 +29,18 @@ use Rattle.iso_session.specs.Progress.{Place, Advances, GoesOn, Stops, Does, Put
 use Rattle.iso_session.specs.Read.{item_read, found}
 use Rattle.iso_session.proofs.WrittenLemmas.{begins_before}
 use Rattle.iso_session.proofs.ConsultLemmas.{counted_same, empty_by}
-use Rattle.iso_session.proofs.ProgressLemmas.{advance_none, advance_on, advance_piece, puts_on, puts_halt, does_after, breaks_after, ready_awake}
+use Rattle.iso_session.proofs.ProgressLemmas.{advance_none, advance_on, advance_segment, puts_on, puts_halt, does_after, breaks_after, ready_awake}
 
 -- How far the run of this query over this world has come: behind so many answers it stands at this state.
-abbrev pub Runs : Clause → World → ℕ → ℕ → State → Type 0
+abbrev pub Runs : ReadTerm → World → ℕ → ℕ → State → Type 0
 Runs query w budget k s = HasGiven (started (query_goal query.term) budget w) k s
 
 -- its script from there on
-abbrev pub script_from : Clause → ℕ → State → (World → Script) → Script
+abbrev pub script_from : ReadTerm → ℕ → State → (World → Script) → Script
 script_from query k s next = run_script query.names (k + 1) (run_of s) next
 
 -- a limit stopped the engine within the run, and nothing was written since
-within : (Stands : State → Type 0) (May : Limit → State → Type 0) (now : Phase) (l : Limit) (query : Clause) (w : World) (budget : ℕ) (k : ℕ) (s : State) (next : World → Script)
+within : (Stands : State → Type 0) (May : Limit → State → Type 0) (now : Phase) (l : Limit) (query : ReadTerm) (w : World) (budget : ℕ) (k : ℕ) (s : State) (next : World → Script)
     → Runs query w budget k s → Stands s × (now ≡ Spent l) → May l s → StopsIn budget Stands May now l (query_script budget (Readable query) w next) (script_from query k s next)
 within Stands May now l query w budget k s next gave stands may = record { at = s; stands = stands.0; spent = stands.1; stops = within_run query w next k gave may }
 
@@ -57,7 +57,7 @@ line_ends budget Stands May now old new names k s ending text next r f ready lin
     rw whole (puts_on budget Stands May now old new text f.world next r puts f.stands ready)
 
 -- a pause that is no answer and no output ends its query, where these are the operators of what the engine stands for
-pub query_ends : (Stands : State → Type 0) (May : Limit → State → Type 0) (table : List Operator) → ((t : State) → Stands t → table ≡ t.world.operators) → (now : Phase) (old mid new : Place) (query : Clause) (w : World) (budget : ℕ) (k : ℕ) (s : State) (p : Pause) (next : World → Script) (r : Result Flow Fault)
+pub query_ends : (Stands : State → Type 0) (May : Limit → State → Type 0) (table : List Operator) → ((t : State) → Stands t → table ≡ t.world.operators) → (now : Phase) (old mid new : Place) (query : ReadTerm) (w : World) (budget : ℕ) (k : ℕ) (s : State) (p : Pause) (next : World → Script) (r : Result Flow Fault)
     → Runs query w budget k s → Advances old mid (query_script budget (Readable query) w next) (script_from query k s next) → Pauses s p Stands now → MeetsLimit May s p → EndsQuery table p mid new r
     → ((values : Vec Term Global) → p ≡ pause.Answer values → ⊥) → ((bytes : Vec ℕ Global) → p ≡ pause.Output bytes → ⊥)
     → Does budget Stands May now old new (query_script budget (Readable query) w next) next r
@@ -88,7 +88,7 @@ query_ends Stands May table ops now old mid new query w budget k s p next r gave
     ends pause.Spent p m e answer output = absurd p
 
 -- How far a run has come: the state, how many answers it gave, and where its script is.
-pub record RunPlace (Stands : State → Type 0) (count : ℕ) (query : Clause) (w : World) (budget : ℕ) (old new : Place) (next : World → Script) : Type 0 where
+pub record RunPlace (Stands : State → Type 0) (count : ℕ) (query : ReadTerm) (w : World) (budget : ℕ) (old new : Place) (next : World → Script) : Type 0 where
   pub at : State
   pub stands : Stands at
   pub done : ℕ
@@ -96,7 +96,7 @@ pub record RunPlace (Stands : State → Type 0) (count : ℕ) (query : Clause) (
   pub gave : Runs query w budget done at
   pub advances : Advances old new (query_script budget (Readable query) w next) (script_from query done at next)
 
-pub run_begins : (Stands : State → Type 0) (query : Clause) (w : World) (budget : ℕ) (old : Place) (next : World → Script) → Stands (started (query_goal query.term) budget w)
+pub run_begins : (Stands : State → Type 0) (query : ReadTerm) (w : World) (budget : ℕ) (old : Place) (next : World → Script) → Stands (started (query_goal query.term) budget w)
     → RunPlace Stands 0 query w budget old old next
 run_begins Stands query w budget old next stands = record {
   at = started (query_goal query.term) budget w;
@@ -108,7 +108,7 @@ run_begins Stands query w budget old next stands = record {
 }
 
 -- the run gave an output, which is to be written
-pub record OutputTurn (Later : State → Type 0) (count : ℕ) (bytes : List ℕ) (query : Clause) (w : World) (budget : ℕ) (old mid : Place) (next : World → Script) : Type 0 where
+pub record OutputTurn (Later : State → Type 0) (count : ℕ) (bytes : List ℕ) (query : ReadTerm) (w : World) (budget : ℕ) (old mid : Place) (next : World → Script) : Type 0 where
   pub at : State
   pub stands : Later at
   pub done : ℕ
@@ -117,7 +117,7 @@ pub record OutputTurn (Later : State → Type 0) (count : ℕ) (bytes : List ℕ
   pub advances : Advances old mid (query_script budget (Readable query) w next) (Shows (Output bytes) (script_from query done at next))
 
 -- the run gave an answer, which is to be written
-pub record AnswerTurn (Later : State → Type 0) (count : ℕ) (values : List Tree) (query : Clause) (w : World) (budget : ℕ) (old mid : Place) (next : World → Script) : Type 0 where
+pub record AnswerTurn (Later : State → Type 0) (count : ℕ) (values : List Tree) (query : ReadTerm) (w : World) (budget : ℕ) (old mid : Place) (next : World → Script) : Type 0 where
   pub at : State
   pub stands : Later at
   pub k : ℕ
@@ -125,7 +125,7 @@ pub record AnswerTurn (Later : State → Type 0) (count : ℕ) (values : List Tr
   pub gave : Runs query w budget k at
   pub advances : Advances old mid (query_script budget (Readable query) w next) (Shows (Line (answer_line at.world.operators k query.names values)) (script_from query k at next))
 
-module _ {query : Clause} {w : World} {budget : ℕ} {old mid : Place} {next : World → Script} where
+module _ {query : ReadTerm} {w : World} {budget : ℕ} {old mid : Place} {next : World → Script} where
   pub output_comes : {Stands Later : State → Type 0} {count : ℕ} {bytes : List ℕ} → (p : RunPlace Stands count query w budget old mid next) → Comes p.at (Wrote bytes) Later
       → OutputTurn Later count bytes query w budget old mid next
   output_comes p c = record {
@@ -152,7 +152,7 @@ module _ {query : Clause} {w : World} {budget : ℕ} {old mid : Place} {next : W
     done = t.done;
     counts = t.counts;
     gave = t.gave;
-    advances = advance_on t.advances (advance_piece mid new (Output bytes) (script_from query t.done t.at next) written within);
+    advances = advance_on t.advances (advance_segment mid new (Output bytes) (script_from query t.done t.at next) written within);
   }
 
   pub answer_comes : {Stands Later : State → Type 0} {count : ℕ} {values : List Tree} → (later : ℕ) (p : RunPlace Stands count query w budget old mid next) → Comes p.at (Answered values) Later
@@ -173,7 +173,7 @@ answer_same : (table operators : List Operator) (count k : ℕ) (names : List (L
     → answer_line table count names values ≡ answer_line operators k names values
 answer_same table operators count k names values same counts = ap₂ (λ o z. answer_by o z names values) same (counted_same count k counts)
 
-module _ {Later : State → Type 0} {count : ℕ} {values : List Tree} {query : Clause} {w : World} {budget : ℕ} {old mid : Place} {next : World → Script} where
+module _ {Later : State → Type 0} {count : ℕ} {values : List Tree} {query : ReadTerm} {w : World} {budget : ℕ} {old mid : Place} {next : World → Script} where
   abbrev rest_of : AnswerTurn Later count values query w budget old mid next → Script
   rest_of t = script_from query t.k t.at next
 
@@ -191,29 +191,29 @@ module _ {Later : State → Type 0} {count : ℕ} {values : List Tree} {query : 
       rw (puts.0, puts.1) (record { rest = Shows (Line (line_of t)) (rest_of t); advances = t.advances; stops = inr (ready_awake now ready) })
 
   pub answer_breaks : (May : Limit → State → Type 0) (now : Phase) (new : Place) (r : Result Flow Fault) (t : AnswerTurn Later count values query w budget old mid next) (table : List Operator)
-      → table ≡ t.at.world.operators → IsErr r → Begins mid.0 new.0 (piece_bytes mid.1 (Line (answer_line table count query.names values)))
+      → table ≡ t.at.world.operators → IsErr r → Begins mid.0 new.0 (segment_bytes mid.1 (Line (answer_line table count query.names values)))
       → Does budget Later May now old new (query_script budget (Readable query) w next) next r
   answer_breaks May now new r t table same failed b =
-      let line = subst (λ z. Begins mid.0 new.0 (piece_bytes mid.1 (Line z))) (line_same t table same) b in
+      let line = subst (λ z. Begins mid.0 new.0 (segment_bytes mid.1 (Line z))) (line_same t table same) b in
       breaks_after budget Later May now old mid new (query_script budget (Readable query) w next) (Shows (Line (line_of t)) (rest_of t)) next r t.advances failed
-      (begins_before mid.0 new.0 (piece_bytes mid.1 (Line (line_of t))) (script_bytes false (rest_of t)) line)
+      (begins_before mid.0 new.0 (segment_bytes mid.1 (Line (line_of t))) (script_bytes false (rest_of t)) line)
 
   pub answer_goes : (new : Place) (t : AnswerTurn Later count values query w budget old mid next) (table : List Operator) → table ≡ t.at.world.operators → PutsLine (answer_line table count query.names values) flow.On mid new (Ok flow.On)
       → RunPlace Later count query w budget old new next
   answer_goes new t table same (inl puts) =
-      let line = subst (λ z. Appends mid.0 new.0 (piece_bytes mid.1 (Line z))) (line_same t table same) puts.1 in
+      let line = subst (λ z. Appends mid.0 new.0 (segment_bytes mid.1 (Line z))) (line_same t table same) puts.1 in
       record {
         at = t.at;
         stands = t.stands;
         done = t.k;
         counts = t.counts;
         gave = t.gave;
-        advances = advance_on t.advances (advance_piece mid new (Line (line_of t)) (rest_of t) line puts.2);
+        advances = advance_on t.advances (advance_segment mid new (Line (line_of t)) (rest_of t) line puts.2);
       }
   answer_goes new t table same (inr puts) = cc
 
 -- a query was not started
-pub start_refused : (Stands : State → Type 0) (May : Limit → State → Type 0) (now : Phase) (l : Limit) (query : Clause) (budget : ℕ) (w : World) (next : World → Script)
+pub start_refused : (Stands : State → Type 0) (May : Limit → State → Type 0) (now : Phase) (l : Limit) (query : ReadTerm) (budget : ℕ) (w : World) (next : World → Script)
     → Stands (idle w) × (now ≡ Spent l) → MayRefuse l → May l (started (query_goal query.term) budget w)
     → StopsIn budget Stands May now l (query_script budget (Readable query) w next) (query_script budget (Readable query) w next)
 start_refused Stands May now l query budget w next stands refuses may = record { at = idle w; stands = stands.0; spent = stands.1; stops = before_run query w next refl refuses may }

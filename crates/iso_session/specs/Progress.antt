@@ -4,8 +4,8 @@ use Rattle.std.specs.Io.KnownBytes.{Appends}
 use Rattle.iso_ops.specs.Operators.{Operator}
 use Rattle.iso_model.specs.Search.Engines.{Phase, Ready}
 use Rattle.iso_model.specs.Search.Walker.{World, State, idle}
-use Rattle.iso_model.specs.Session.Sessions.{Piece, Line, Script, Closes, Done, Halts, prepend, piece_bytes, within_behind, pieces_bytes, script_bytes}
-use Rattle.iso_model.specs.Session.Beginnings.{Begins, EngineStops, limit_line, Outcome, Closed, Limited, Broken}
+use Rattle.iso_model.specs.Session.Sessions.{Segment, Line, Script, Closes, Done, Halts, prepend, segment_bytes, within_behind, segments_bytes, script_bytes}
+use Rattle.iso_model.specs.Session.Beginnings.{Begins, EngineStops, limit_line, SessionOutcome, Closed, Limited, Broken}
 use Rattle.iso_model.specs.Terms.TermOf.{term_of}
 use Rattle.iso_model.specs.Session.Lines.{error_line, halt_line}
 use Rattle.iso_model.specs.declared.pauses.Pause.{Pause}
@@ -19,7 +19,7 @@ use Rattle.iso_session.specs.declared.statuses.Ended.TheVariants as ended
 use Rattle.iso_session.specs.declared.statuses.Fault.{Fault}
 
 -- how a session ended, by the answer of its function
-abbrev pub outcome_of : Result Ended Fault → Outcome
+abbrev pub outcome_of : Result Ended Fault → SessionOutcome
 outcome_of (Ok ended.Done) = Closed Done
 outcome_of (Ok (ended.Halt status)) = Closed (Halts status)
 outcome_of (Ok ended.HeapFull) = Limited limit.Heap
@@ -32,14 +32,14 @@ abbrev pub Place : Type 0
 Place = Option (List ℕ) × Bool
 
 -- whether bytes end within a line behind these pieces
-abbrev pub within_after : Bool → List Piece → Bool
+abbrev pub within_after : Bool → List Segment → Bool
 within_after within [] = within
 within_after within (p ∷ ps) = within_after (within_behind within p) ps
 
 -- From one place to another some pieces were written, which lead from one script to what is left of it.
 pub record Advances (old new : Place) (before after : Script) : Type 0 where
-  pub gave : List Piece
-  pub bytes : Appends old.0 new.0 (pieces_bytes old.1 gave)
+  pub gave : List Segment
+  pub bytes : Appends old.0 new.0 (segments_bytes old.1 gave)
   pub within : new.1 ≡ within_after old.1 gave
   pub is : before ≡ prepend gave after
 
@@ -68,8 +68,8 @@ Does budget Stands May now old new script behind (Err fault) = Begins old.0 new.
 -- A line was written, and the answer is `then`; or memory for the line was refused, nothing was written, and the answer says so. Where the write failed a beginning was written.
 abbrev pub PutsLine : List ℕ → Flow → Place → Place → Result Flow Fault → Type 0
 PutsLine text then old new (Ok now) =
-    ((now ≡ then) × Appends old.0 new.0 (piece_bytes old.1 (Line text)) × (new.1 ≡ false)) ⊎ ((now ≡ flow.Stops limit.Memory) × (new ≡ old))
-PutsLine text then old new (Err fault) = Begins old.0 new.0 (piece_bytes old.1 (Line text))
+    ((now ≡ then) × Appends old.0 new.0 (segment_bytes old.1 (Line text)) × (new.1 ≡ false)) ⊎ ((now ≡ flow.Stops limit.Memory) × (new ≡ old))
+PutsLine text then old new (Err fault) = Begins old.0 new.0 (segment_bytes old.1 (Line text))
 
 -- how a session ends behind its last part
 abbrev pub ended_of : Flow → Ended
@@ -81,7 +81,7 @@ ended_of (flow.Stops limit.Memory) = ended.NoMemory
 
 -- what is written at the end: the line of a limit
 abbrev pub closing_bytes : Bool → Flow → List ℕ
-closing_bytes within (flow.Stops limit) = piece_bytes within (Line (limit_line limit))
+closing_bytes within (flow.Stops limit) = segment_bytes within (Line (limit_line limit))
 closing_bytes within other = []
 
 -- a count of 64 bits, which stays at the greatest number

@@ -6,7 +6,7 @@ ghost use Rattle.iso_model.specs.Session.Lines as lines;
 ghost use Rattle.iso_model.specs.Terms.Variables.{distinct_from};
 ghost use Rattle.iso_session.specs.Named.{names_of};
 
-use iso_model::Term;
+use iso_model::{Numbering, Term};
 use iso_ops::OpTable;
 use iso_write::{Style, write_to};
 use std::alloc::{AllocError, Global};
@@ -63,10 +63,10 @@ fn append_term(
     ops: &OpTable,
     line: &mut Vec<u8>,
     term: &Term,
-    seen: &mut Vec<u64>,
+    seen: &mut Numbering,
 ) -> Result<(), AllocError>
-    ensures seen { OnOk result (seen.new.items ≡ distinct_from seen.old.items (term_of term.now)) }
-    ensures text { OnOk result (line.new.items ≡ line.old.items ++ lines.text_in ops.now seen.old.items (term_of term.now)) }
+    ensures seen { OnOk result (seen.new ≡ distinct_from seen.old (term_of term.now)) }
+    ensures text { OnOk result (line.new.items ≡ line.old.items ++ lines.text_in ops.now seen.old (term_of term.now)) }
 {
     write_to(alloc, line, term, Style::Writeq, 699, ops, seen)
 }
@@ -80,7 +80,7 @@ fn finish_with_term(
 ) -> Result<(), AllocError>
     ensures { OnOk result (line.new.items ≡ line.old.items ++ (lines.text_of ops.now (term_of term.now) ++ 10 ∷ [])) }
 {
-    let mut seen = Vec::new(alloc);
+    let mut seen = Numbering::new(alloc);
     append_term(alloc, ops, line, term, &mut seen)?;
     line.push(b'\n')?;
     Ok(())
@@ -117,7 +117,7 @@ fn append_solution(
     if names.is_empty() {
         return line.extend_from_slice(b" true");
     }
-    let mut seen = Vec::new(alloc);
+    let mut seen = Numbering::new(alloc);
     let mut before: &[u8] = b" ";
     for (name, number) in names {
         line.extend_from_slice(before)?;
@@ -135,12 +135,12 @@ fn append_equation(
     name: &str,
     number: u64,
     values: &[Term],
-    seen: &mut Vec<u64>,
+    seen: &mut Numbering,
 ) -> Result<(), AllocError>
-    ensures seen { OnOk result (seen.new.items
-        ≡ distinct_from seen.old.items (lines.value_at (map term_of values.now) number)) }
+    ensures seen { OnOk result (seen.new
+        ≡ distinct_from seen.old (lines.value_at (map term_of values.now) number)) }
     ensures text { OnOk result (line.new.items ≡ line.old.items
-        ++ (name.now ++ (codes " = " ++ lines.text_in ops.now seen.old.items (lines.value_at (map term_of values.now) number)))) }
+        ++ (name.now ++ (codes " = " ++ lines.text_in ops.now seen.old (lines.value_at (map term_of values.now) number)))) }
 {
     line.extend_from_slice(name.as_bytes())?;
     line.extend_from_slice(b" = ")?;

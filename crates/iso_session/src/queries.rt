@@ -1,7 +1,7 @@
 //! Running the queries, each to its end.
 ghost use Rattle.std.specs.Prelude.{◌≡◌, ℕ, true, length};
 ghost use Rattle.iso_model.specs.Search.Engines.{Ready, IsAwake, MayMeet, KeepsLimits};
-ghost use Rattle.iso_model.specs.Syntax.Grammar.{Clause};
+ghost use Rattle.iso_model.specs.Syntax.Grammar.{ReadTerm};
 ghost use Rattle.iso_model.specs.Syntax.Items.{Readable};
 ghost use Rattle.iso_model.specs.Session.Sessions.{Script, Closes, Done, query_goal, query_script, queries_script};
 ghost use Rattle.iso_model.specs.Terms.TermOf.{term_of};
@@ -66,7 +66,7 @@ fn run_pauses<E: Engine, W: Write>(
 ) -> Result<Flow, Fault>
     requires awake { IsAwake (E.phase engine.old) }
     requires stands { (s : State) × E.stands_for engine.old s }
-    ensures does { (query : Clause) (w : World) (budget : ℕ) → names_of names.now ≡ query.names
+    ensures does { (query : ReadTerm) (w : World) (budget : ℕ) → names_of names.now ≡ query.names
         → E.stands_for engine.old (started (query_goal query.term) budget w) → (next : World → Script)
         → Does budget (E.stands_for engine.new) (MayMeet (E.heap_pieces engine.new) (E.frames_pieces engine.new)) (E.phase engine.new)
         (place W.contents console.old) (place W.contents console.new)

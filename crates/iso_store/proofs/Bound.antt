@@ -1,5 +1,5 @@
 -- Bindings that come one after another.
-use Rattle.std.proofs.Common.{◌≡◌, ℕ, ◌<◌, Bool, true, false, refl, ap, sym, ◌∙◌, IfOk, Result, Ok, Err, arith}
+use Rattle.std.proofs.Common.{◌≡◌, Bool, true, false, refl, ap, sym, ◌∙◌, IfOk, Result, Ok, Err, arith}
 use Rattle.iso_model.specs.Terms.Trees.{Tree, Variable}
 use Rattle.iso_model.specs.Terms.Substitutions.{Subst, apply, compose}
 use Rattle.iso_model.specs.Terms.Unification.Applied.{apply_apply, apply_none}
@@ -7,7 +7,6 @@ use Rattle.iso_model.specs.Terms.Unification.Composed.{unifier_sym, never_sym}
 use Rattle.iso_model.proofs.OnTerms.UnifierLemmas.{compose_compose}
 use Rattle.iso_store.specs.declared.shapes.StoreFault.{StoreFault}
 use Rattle.iso_store.specs.Presents.{Present, Holds, meaning, Grows, Binds, IsUnification}
-use Rattle.iso_store.specs.Arguments.{arity, argument}
 
 pub binds-none : {W : Type 0} (p : Present W) → Binds p p Variable
 binds-none p = record {

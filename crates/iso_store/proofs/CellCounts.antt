@@ -22,6 +22,15 @@ counted-from seen (More t ts) = omega (arith, counted-from seen t, counted-from 
 pub nodes-within : (t : Tree) → variable_count t + cells_of (λ n. 1) t ≤ size t
 nodes-within t = let whole = counted-from [] t in omega arith
 
+-- no more where wider compounds take more
+pub nodes-no-wider : (t : Tree) → cells_of (λ n. 1) t ≤ cells_of (λ n. n + 1) t
+nodes-no-wider (Variable n) = omega arith
+nodes-no-wider (Integer z) = omega arith
+nodes-no-wider (Name a) = omega arith
+nodes-no-wider (Apply f ts) = omega (arith, nodes-no-wider ts)
+nodes-no-wider End = omega arith
+nodes-no-wider (More t ts) = omega (arith, nodes-no-wider t, nodes-no-wider ts)
+
 -- what building comes to: numbers reserved, a variable made for each, and then the term, which uses no number
 pub built-counted : {W E : Type 0} {p q r : Present W} {first count more : ℕ} (u : Present W) (result : Result W E) → MovesOn p q count → Grows p q 0 → TakesFrom q r first → q.cells + count ≤ r.cells → Grows r u more → OnOk result (KeepsNumbers r u) → OnOk result (NumbersHaveCells p u)
 built-counted u (Ok w) moved reserved taken each grows numbers =

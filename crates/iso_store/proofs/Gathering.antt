@@ -1,16 +1,14 @@
 -- Words that are made one after another, and the terms that they were made with.
-use Rattle.std.proofs.Common.{◌≡◌, ℕ, zero, suc, ◌+◌, ◌<◌, ◌≤◌, List, [], ◌∷◌, ◌++◌, length, map, take, get_or, true, false, refl, ap, ap₂, sym, ◌∙◌, subst, arith, IfOk, OnOk, Result, Ok, Err, Some}
-use Rattle.std.proofs.lemmas.List.{length-map, map-append, take_all, get_or-map}
-use Rattle.std.proofs.Math.Seq.{take-suc}
-use Rattle.iso_model.specs.Terms.Trees.{Tree, Variable, Apply, End, row}
+use Rattle.std.proofs.Common.{◌≡◌, ℕ, zero, suc, ◌+◌, ◌<◌, ◌≤◌, List, [], ◌∷◌, ◌++◌, length, map, get_or, true, false, refl, ap, ap₂, sym, ◌∙◌, subst, arith, IfOk, OnOk, Result, Ok, Err}
+use Rattle.std.proofs.lemmas.List.{length-map, map-append}
+use Rattle.iso_model.specs.Terms.Trees.{Tree, Variable, End}
 use Rattle.iso_model.specs.Terms.Variables.{occurs, variables, variable_count}
 use Rattle.iso_model.specs.Terms.Copies.{place_of, copy_from, numbers_from}
 use Rattle.iso_model.specs.Terms.Unification.Applied.{apply_same}
 use Rattle.iso_model.specs.Terms.Unification.Listed.{distinct_covers}
 use Rattle.iso_model.specs.Terms.Substitutions.{apply}
-use Rattle.iso_store.specs.Places.{place_in}
 use Rattle.iso_store.specs.Copying.{placed_terms}
-use Rattle.iso_store.proofs.Parts.{place-found, place-within}
+use Rattle.iso_store.proofs.Placing.{place-within}
 use Rattle.iso_store.specs.Presents.{Present, Gathers, KeepsWords, KeepsNumbers, TakesNumber, TakesFrom, MovesOn, Makes, Grows}
 
 pub keeps-none : {W : Type 0} (p : Present W) → KeepsWords p p
@@ -21,9 +19,6 @@ keeps-then first second = record {
   stand = λ w h. second.stand w (first.stand w h);
   terms = λ w h. second.terms w (first.stand w h) ∙ first.terms w h;
 }
-
-pub gathers-none : {W : Type 0} (p : Present W) → Gathers p p [] []
-gathers-none p = record { words = keeps-none p; substitution = refl; hold = λ k d h. absurd (omega arith); terms = refl }
 
 -- words that stood have their terms still
 pub terms-kept : {W : Type 0} {p q : Present W} → KeepsWords p q → (ws : List W) → ((k : ℕ) (d : W) → k < length ws → p.holds (get_or ws k d) ≡ true) → map q.term ws ≡ map p.term ws
@@ -57,56 +52,8 @@ grows-on k first second within = record {
   within = λ h. second.within (first.within h);
 }
 
--- a compound of the words
-pub gathers-compound : {W : Type 0} {p q r : Present W} {ws : List W} {ts : List Tree} {w : W} (f : List ℕ) (t : Tree) → Gathers p q ws ts → Makes q r w (Apply f (row (map q.term ws))) → Apply f (row ts) ≡ t → Makes p r w t
-gathers-compound {W} {p} {q} {r} {ws} {ts} {w} f t so made is = record {
-  words = keeps-then so.words made.words;
-  substitution = made.substitution ∙ so.substitution;
-  holds = made.holds;
-  term = made.term ∙ ap (λ us. Apply f (row us)) so.terms ∙ is;
-}
-
 pub gathers-length : {W : Type 0} {p q : Present W} {ws : List W} {ts : List Tree} → Gathers p q ws ts → length ws ≡ length ts
 gathers-length {W} {p} {q} {ws} {ts} so = sym (length-map ws q.term) ∙ ap length so.terms
-
--- one more word, for the next item of a list
-pub gathers-next : {W X : Type 0} {p q r : Present W} {ws : List W} (f : X → Tree) (items : List X) (i : ℕ) (x : X) {w : W} → i < length items → x ≡ get_or items i x → Gathers p q ws (map f (take i items)) → Makes q r w (f x) → Gathers p r (ws ++ w ∷ []) (map f (take (suc i) items))
-gathers-next {W} {X} {p} {q} {r} {ws} f items i x {w} below is so made =
-    let next : take (suc i) items ≡ take i items ++ x ∷ [] = take-suc items i x below ∙ ap (λ y. take i items ++ y ∷ []) (sym is) in
-    let terms : map f (take i items) ++ f x ∷ [] ≡ map f (take (suc i) items) = sym (ap (map f) next ∙ map-append f (take i items) (x ∷ [])) in
-    subst (Gathers p r (ws ++ w ∷ [])) terms (gathers-more so made)
-
--- all words, at the end of the list
-pub gathers-all : {W X : Type 0} {p q : Present W} {ws : List W} (f : X → Tree) (items : List X) (i : ℕ) → length items ≤ i → Gathers p q ws (map f (take i items)) → Gathers p q ws (map f items)
-gathers-all {W} {X} {p} {q} {ws} f items i past so = subst (Gathers p q ws) (ap (map f) (take_all i items past)) so
-
--- a word for a variable
-pub makes-placed : {W : Type 0} (p : Present W) (ws : List W) (vs : List ℕ) (x k : ℕ) (w : W) → place_in x vs ≡ Some k → length ws ≡ length vs → ((i : ℕ) (d : W) → i < length ws → p.holds (get_or ws i d) ≡ true) → w ≡ get_or ws k w → Makes p p w (placed_terms (map p.term ws) vs x)
-makes-placed p ws vs x k w found same hold is =
-    let place = place-found vs x k found in
-    let below : k < length ws = let b = place.1 in omega arith in
-    record {
-      words = keeps-none p;
-      substitution = refl;
-      holds = ap p.holds is ∙ hold k w below;
-      term = sym (ap (λ i. get_or (map p.term ws) i End) (sym place.0) ∙ get_or-map p.term ws k w End below ∙ ap p.term (sym is));
-    }
-
--- the variables stand for what they stood for
-pub placed-kept : {W : Type 0} {p q : Present W} → KeepsWords p q → (ws : List W) (vs : List ℕ) → ((k : ℕ) (d : W) → k < length ws → p.holds (get_or ws k d) ≡ true) → placed_terms (map q.term ws) vs ≡ placed_terms (map p.term ws) vs
-placed-kept keeps ws vs hold = ap (λ ts. placed_terms ts vs) (terms-kept keeps ws hold)
-
--- the result of making the compound
-pub compound-made : {W E : Type 0} {p q : Present W} (r : Present W) {ws : List W} {ts : List Tree} (f : List ℕ) (t : Tree) (result : Result W E) → Gathers p q ws ts → Apply f (row ts) ≡ t → IfOk result (λ w. Makes q r w (Apply f (row (map q.term ws)))) → IfOk result (λ w. Makes p r w t)
-compound-made r f t (Ok w) so is made = gathers-compound f t so made is
-compound-made r f t (Err e) so is made = made
-
-pub numbers-made : {W E : Type 0} {p q : Present W} (r : Present W) (result : Result W E) → KeepsNumbers p q → OnOk result (KeepsNumbers q r) → OnOk result (KeepsNumbers p r)
-numbers-made r (Ok w) first second = numbers-then first second
-numbers-made r (Err e) first second = second
-
-pub gathers-size : {W X : Type 0} {p q : Present W} {ws : List W} (f : X → Tree) (items : List X) (i : ℕ) → length items ≤ i → Gathers p q ws (map f (take i items)) → length ws ≡ length items
-gathers-size f items i past so = gathers-length (gathers-all f items i past so) ∙ length-map items f
 
 numbers_from-more : (n k : ℕ) → numbers_from n (suc k) ≡ numbers_from n k ++ (n + k) ∷ []
 numbers_from-more n zero = ap (λ m. m ∷ []) (omega arith)

@@ -1,5 +1,5 @@
 -- What is left of making lists of terms equal.
-use Rattle.std.proofs.Common.{◌≡◌, ℕ, List, [], ◌∷◌, ◌++◌, length, map, refl, ap, ap₂, sym, ◌∙◌, subst, arith}
+use Rattle.std.proofs.Common.{◌≡◌, ℕ, List, [], ◌∷◌, ◌++◌, length, map, refl, ap, ap₂, sym, subst, arith}
 use Rattle.iso_model.specs.Terms.Trees.{Tree, Variable, Apply, End, More, row}
 use Rattle.iso_model.specs.Terms.Substitutions.{Subst, apply, compose}
 use Rattle.iso_model.specs.Terms.Unifiers.{Unifier, NeverEqual}

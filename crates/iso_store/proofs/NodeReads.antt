@@ -1,16 +1,17 @@
 -- What the nodes of a store show of its words.
 use Rattle.std.proofs.Common.{◌≡◌, ◌≢◌, ℕ, zero, suc, ◌+◌, ◌<◌, ◌≤◌, List, [], ◌∷◌, length, map, get_or, false, refl, ap, sym, ◌∙◌, arith, Option, Some, None, Vec, Global, inl, inr}
-use Rattle.std.specs.List.{slice_get}
+use Rattle.std.specs.List.{slice_get, position_or_len}
 use Rattle.iso_atoms.specs.Texts.{text_at}
-use Rattle.std.proofs.lemmas.Bool.{false≢true}
-use Rattle.std.proofs.lemmas.Option.{slice_get_cases, slice_get_within, slice_get_read, get_or_from_slice_get}
+use Rattle.std.proofs.lemmas.Bool.{false≢true, eq-eqb, ne_eqb}
+use Rattle.std.proofs.lemmas.List.Sums.{position_or_len_is}
+use Rattle.std.proofs.lemmas.Option.{slice_get-get_or, slice_get_cases, slice_get_within, slice_get_read, get_or_from_slice_get}
 use Rattle.iso_model.specs.Terms.Trees.{Tree, Variable, Integer, Name, Apply, row, count}
 use Rattle.iso_model.specs.Terms.Substitutions.{Subst, apply}
 use Rattle.iso_store.specs.declared.nodes.Node.{Node}
 use Rattle.iso_store.specs.declared.nodes.Node.TheVariants.{Var, Int, Atom, Compound}
 use Rattle.iso_store.specs.Arguments.{member, arity, argument}
 use Rattle.iso_store.specs.NodeTerms.{term_at, substitution_of}
-use Rattle.iso_store.specs.NodeStores.{is_bound, IsStore}
+use Rattle.iso_store.specs.NodeStores.{has_number, is_bound, IsStore}
 use Rattle.iso_store.specs.NodeLemmas.{term_at-variable, term_at-integer, term_at-atom, term_at-compound}
 use Rattle.iso_store.specs.NodeNumbers.{unbound-value}
 use Rattle.iso_store.proofs.Trails.{bind_all-holds}
@@ -118,6 +119,26 @@ module _ (names : List (List ℕ)) where
           | inl found ↦ end_free n found.0 found.2 is
           | inr past ↦ let beyond = past.0 in absurd (omega arith)
         ]
+
+  -- the place of an unbound variable is that of its number
+  module _ (cs : List Node) (es : List ℕ) (next : ℕ) (store : IsStore names cs es next) (n k : ℕ) (there : slice_get cs k ≡ Some (Var n None)) where
+    no_other : (j : ℕ) (c : Node) → slice_get cs j ≡ Some c → j < k → has_number n c ≡ false
+    no_other j (Var m b) is below =
+        ne_eqb m n
+        (λ same.
+        let place = store.one_node j k n b None (is ∙ ap (λ i. Some (Var i b)) same) there in
+        omega arith)
+    no_other j (Int z) is below = refl
+    no_other j (Atom a) is below = refl
+    no_other j (Compound f ws) is below = refl
+
+    pub number_place : position_or_len (has_number n) cs ≡ k
+    number_place =
+        let within = slice_get_within cs k (Var n None) there in
+        let at = get_or_from_slice_get cs k (Var n None) (Var n None) there in
+        position_or_len_is (has_number n) cs k (Var n None) (omega arith)
+        (λ j below. no_other j (get_or cs j (Var n None)) (slice_get-get_or cs j (Var n None) (omega arith)) below)
+        (λ _. ap (has_number n) at ∙ eq-eqb n n refl)
 
   -- an argument of the compound at the end of the bindings of w
   module _ (cs : List Node) (es : List ℕ) (next : ℕ) (store : IsStore names cs es next) (w at index : ℕ) (f : ℕ) (ws : Vec ℕ Global) (there : slice_get cs at ≡ Some (Compound f ws)) (same : apply (substitution_of names cs es) (term_at names cs at) ≡ apply (substitution_of names cs es) (term_at names cs w)) (below : index < arity (apply (substitution_of names cs es) (term_at names cs w))) where

@@ -1,5 +1,5 @@
 -- What is left to do of making two terms equal, and what is done by a step.
-use Rattle.std.proofs.Common.{◌≡◌, ℕ, zero, suc, ◌+◌, ◌*◌, ◌<◌, List, [], ◌∷◌, ◌++◌, length, map, drop, true, refl, ap, ap₂, sym, ◌∙◌, subst, subst₂, arith, append_assoc, append-nil, length-append, Some, Bool, false, MatchBool, IsTrue, IfOk, Result, Ok, Err}
+use Rattle.std.proofs.Common.{◌≡◌, ℕ, zero, suc, ◌+◌, ◌<◌, List, [], ◌∷◌, ◌++◌, length, map, drop, true, refl, ap, ap₂, sym, ◌∙◌, subst, subst₂, arith, append_assoc, append-nil, length-append, Some, Bool, false, MatchBool, IsTrue, IfOk, Result, Ok, Err}
 use Rattle.std.specs.List.{All}
 use Rattle.std.proofs.lemmas.Bool.{false≢true}
 use Rattle.std.proofs.lemmas.List.{length-map, drop-map, map-append}
@@ -16,10 +16,10 @@ use Rattle.iso_store.specs.declared.shapes.StoreFault.{StoreFault}
 use Rattle.iso_store.specs.declared.unify.Task.{Task}
 use Rattle.iso_store.specs.declared.unify.Task.TheVariants.{Unify, Join}
 use Rattle.iso_store.specs.Presents.{Present, Holds, meaning, Binds, IsUnification}
-use Rattle.iso_store.specs.Arguments.{arguments, arity, argument, members_from, listed, arguments_from}
+use Rattle.iso_store.specs.Arguments.{arity, argument, members_from, listed, arguments_from}
 use Rattle.iso_store.specs.Shapes.{IsMeeting}
 use Rattle.iso_store.specs.declared.meetings.Meeting.TheVariants.{Arguments}
-use Rattle.iso_store.specs.Unifying.{MakesEqual, LeftBy, Measures, IsCompound, IsPair, terms, ones, others, AreSound, AreJoined, Stands, Steps}
+use Rattle.iso_store.specs.Unifying.{MakesEqual, IsCompound, IsPair, terms, ones, others, AreSound, AreJoined, Stands, Steps}
 use Rattle.iso_store.proofs.Bound.{binds-meaning, binds-none}
 use Rattle.iso_store.proofs.ArgumentLemmas.{row_of_term, row-listed, length-listed, arguments-more, arguments-last}
 use Rattle.iso_store.proofs.LeftLemmas.{equal-both, equal-parts, left-none, left-solved, left-opened}

@@ -1,13 +1,13 @@
 pub mod Presents
 pub mod Arguments
 pub mod Shapes
-pub mod Places
 pub mod Copying
 pub mod Tasks
+pub mod Patterns
 pub mod Notes
 pub mod Searching
+pub mod Listing
 pub mod Unifying
-pub mod Rows
 pub mod NodeTerms
 pub mod NodeStores
 pub mod NodeLemmas

@@ -31,6 +31,8 @@ pub(crate) trait Cells {
     ghost full: { Self → Type 0 };
     // what stands at a place, seen through bindings
     ghost at_place: { Self → ℕ → Tree };
+    // the place of the variable of a number
+    ghost variable_place: { Self → ℕ → ℕ };
     // how many cells a compound of so many arguments takes
     ghost width: { ℕ → ℕ };
 
@@ -51,7 +53,8 @@ pub(crate) trait Cells {
     /// The place of what the word stands for: words of one place stand for one term.
     fn place(&self, word: Self::Word) -> usize
         requires { Holds (present self.now) word }
-        ensures { at_place self.now result ≡ meaning (present self.now) word };
+        ensures value { at_place self.now result ≡ meaning (present self.now) word }
+        ensures variable { (n : ℕ) → meaning (present self.now) word ≡ Variable n → variable_place self.now n ≡ result };
 
     /// Whether it shows without a search that the unbound variable does not occur in what the other word stands for. False
     /// says nothing.

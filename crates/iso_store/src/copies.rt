@@ -11,16 +11,16 @@ ghost use Rattle.iso_model.specs.Terms.Substitutions.{apply};
 ghost use Rattle.iso_model.specs.Terms.Copies.{copy_from, numbers_from};
 ghost use Rattle.iso_model.specs.Terms.Unification.Listed.{Covers};
 ghost use Rattle.iso_store.specs.Presents.{Holds, meaning, Gathers, Makes, KeepsNumbers, MovesOn, TakesFrom, Grows, NumbersHaveCells, KeepsMarks};
-ghost use Rattle.iso_store.specs.Places.{IsPlaced};
 ghost use Rattle.iso_store.specs.Copying.{placed_terms, cells_of};
 ghost use Rattle.iso_store.specs.Tasks.{IsTask, step_of, steps_of};
 
 use super::cells::Cells;
-use super::numbering::Numbering;
+use super::instances::instantiate;
+use super::patterns::{Places, written};
 use super::shapes::{Shape, StoreFault};
 use iso_atoms::Atom;
 use iso_model::terms::build_last;
-use iso_model::{NoMemory, Term};
+use iso_model::{NoMemory, Numbering, Term};
 use std::alloc::Global;
 
 /// What is left to do of copying a term out.
@@ -147,46 +147,20 @@ fn make<C: Cells>(
     variables: &Numbering,
     words: &[C::Word],
 ) -> Result<C::Word, StoreFault>
-    requires placed { IsPlaced variables.now.places variables.now.numbers.items }
-    requires covered { Covers variables.now.numbers.items (term_of term.now) }
-    requires count { length words.now ≡ length variables.now.numbers.items }
+    requires covered { Covers variables.now (term_of term.now) }
+    requires count { length words.now ≡ length variables.now }
     requires words { All (λ w. Holds (C.present store.old) w) words.now }
     requires fits { arities_fit (term_of term.now) ≡ true }
     ensures made { IfOk result (λ w. Makes (C.present store.old) (C.present store.new) w
-        (apply (placed_terms (map (C.present store.old).term words.now) variables.now.numbers.items) (term_of term.now))) }
+        (apply (placed_terms (map (C.present store.old).term words.now) variables.now) (term_of term.now))) }
     ensures numbers { OnOk result (KeepsNumbers (C.present store.old) (C.present store.new)) }
     ensures cells { Grows (C.present store.old) (C.present store.new) (cells_of C.width (term_of term.now)) }
     ensures full { result ≡ Err StoreFault.Full → C.full store.new }
     ensures names { KeepsTexts (C.names store.old) (C.names store.new) }
     ensures marks { KeepsMarks (C.stands store.old) (C.stands store.new) }
 {
-    match term {
-        Term::Var(number) => {
-            let Some(place) = variables.place(*number) else {
-                unreachable!()
-            };
-            Ok(words[place])
-        }
-        Term::Int(value) => {
-            let value = *value;
-            store.int(value)
-        }
-        Term::Atom(name) => {
-            let atom = store.intern(name.as_str())?;
-            store.atom(atom)
-        }
-        Term::Compound(name, arguments) => {
-            let mut made = Vec::new(alloc);
-            for argument in arguments {
-                let word = make(alloc, store, argument, variables, words)?;
-                if made.push(word).is_err() {
-                    return Err(StoreFault::NoMemory);
-                }
-            }
-            let atom = store.intern(name.as_str())?;
-            store.compound(atom, made.as_slice())
-        }
-    }
+    let pattern = written(alloc, store, term, Places::Among(variables))?;
+    instantiate(alloc, store, &pattern, words)
 }
 
 /// Words for variables of these reserved numbers, from `first` on.

@@ -40,6 +40,8 @@ impl Cells for Counting {
 
     ghost at_place = { λ s. ⟦<Nodes as Cells>⟧.at_place s.nodes };
 
+    ghost variable_place = { λ s. ⟦<Nodes as Cells>⟧.variable_place s.nodes };
+
     ghost width = { ⟦<Nodes as Cells>⟧.width };
 
     fn shape(&self, word: usize) -> Shape {

@@ -6,13 +6,14 @@ mod cells;
 mod copies;
 #[cfg(test)]
 mod counting;
+mod instances;
 mod joins;
 mod marks;
 mod meetings;
 mod nodes;
 mod notes;
-mod numbering;
 mod occurs;
+mod patterns;
 mod reaches;
 mod refusals;
 mod scratch;
@@ -21,8 +22,10 @@ mod stores;
 #[cfg(test)]
 mod tests;
 mod unify;
+mod variables;
 
 pub use marks::NodesMark;
 pub use nodes::Nodes;
+pub use patterns::{Part, Pattern};
 pub use shapes::{Shape, StoreFault};
 pub use stores::Store;

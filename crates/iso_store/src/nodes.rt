@@ -1,21 +1,24 @@
 //! A store of nodes: a vector of at most `limit` of them.
 ghost use Rattle.std.specs.Prelude.{◌≡◌, ℕ, ◌+◌, ◌<◌, ◌≤◌, ◌++◌, ◌∷◌, [], length, IfOk, is_ok, if◌then◌else◌, MatchOption, true, false};
-ghost use Rattle.std.specs.List.{slice_get};
+ghost use Rattle.std.specs.List.{slice_get, position_or_len};
 ghost use Rattle.iso_atoms.specs.Texts.{EachOnce};
 ghost use Rattle.iso_model.specs.Terms.Substitutions.{apply};
 ghost use Rattle.iso_store.specs.declared.nodes.Node.TheVariants.{Var};
 ghost use Rattle.iso_store.specs.NodeTerms.{term_at, substitution_of};
-ghost use Rattle.iso_store.specs.NodeStores.{IsStore, LeadsBack, MayPush, StandsFor, IsOlder, is_bound, present_of, empty};
+ghost use Rattle.iso_store.specs.NodeStores.{IsStore, LeadsBack, MayPush, StandsFor, IsOlder, has_number, is_bound, present_of, empty};
 ghost use Rattle.iso_store.specs.NodeNumbers.{nodes-untouched};
 
 use super::cells::Cells;
 use super::copies::{build, copy_out};
+use super::instances::instantiate;
 use super::marks::{NodesMark, unwind};
+use super::patterns::{Pattern, Places, written};
 use super::reaches::{farther, within};
 use super::scratch::Scratch;
 use super::shapes::{Shape, StoreFault};
 use super::stores::Store;
 use super::unify::unify;
+use super::variables::variables;
 use iso_atoms::{Atom, Atoms};
 use iso_model::{NoMemory, Term};
 use std::alloc::Global;
@@ -131,6 +134,8 @@ impl Cells for Nodes {
     ghost full = { λ s. s.limit ≤ length s.nodes.items };
 
     ghost at_place = { λ s k. apply (substitution_of s.atoms s.nodes.items s.trail.items) (term_at s.atoms s.nodes.items k) };
+
+    ghost variable_place = { λ s n. position_or_len (has_number n) s.nodes.items };
 
     ghost width = { λ _. 1 };
 
@@ -279,6 +284,14 @@ impl Store for Nodes {
         build(self.alloc, self, term)
     }
 
+    fn pattern(&mut self, term: &Term) -> Result<Pattern, NoMemory> {
+        written(self.alloc, self, term, Places::Numbers)
+    }
+
+    fn instantiate(&mut self, pattern: &Pattern, variables: &[usize]) -> Result<usize, StoreFault> {
+        instantiate(self.alloc, self, pattern, variables)
+    }
+
     fn unify(&mut self, first: usize, second: usize) -> Result<bool, StoreFault> {
         unify(self, first, second)
     }
@@ -305,6 +318,10 @@ impl Store for Nodes {
 
     fn copy_out(&self, word: usize) -> Result<Term, NoMemory> {
         copy_out(self.alloc, self, word)
+    }
+
+    fn variables(&self, word: usize) -> Result<Vec<usize>, NoMemory> {
+        variables(self.alloc, self, word)
     }
 
     ghost untouched = { λ s n none. nodes-untouched s.atoms s.nodes.items s.trail.items s.next s.is_store s.limit n none };

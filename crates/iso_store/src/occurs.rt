@@ -15,7 +15,7 @@ use iso_model::NoMemory;
 
 /// What is left to do of a search.
 #[derive(Clone, Copy)]
-enum Task<W: Copy> {
+pub(crate) enum Task<W: Copy> {
     /// The arguments of the compound that the word stands for are to be searched, from this place on; in all it has so many.
     Search(W, usize, usize),
     /// All that stands at the place was searched.

@@ -2,17 +2,20 @@
 ghost use Rattle.std.specs.Prelude.{◌≡◌, ℕ, List, Some, slice_get, ◌+◌, ◌*◌, ◌<◌, ◌≤◌, ◌^◌, IfOk, OnOk, OnErr, length, map, true, false};
 ghost use Rattle.std.specs.List.{All};
 ghost use Rattle.iso_atoms.specs.Texts.{EachOnce, KeepsTexts, text_at};
-ghost use Rattle.iso_model.specs.Terms.Trees.{Integer, Name, Apply, Variable, row, arities_fit};
+ghost use Rattle.iso_model.specs.Terms.Trees.{Tree, Integer, Name, Apply, Variable, row, arities_fit};
 ghost use Rattle.iso_model.specs.Terms.TermOf.{term_of};
 ghost use Rattle.iso_model.specs.Terms.Sorts.{is_term};
 ghost use Rattle.iso_model.specs.Terms.Sizes.{size};
-ghost use Rattle.iso_model.specs.Terms.Variables.{variable_count};
-ghost use Rattle.iso_model.specs.Terms.Substitutions.{IsSubstitution};
+ghost use Rattle.iso_model.specs.Terms.Variables.{variables, variable_count};
+ghost use Rattle.iso_model.specs.Terms.Substitutions.{IsSubstitution, apply};
 ghost use Rattle.iso_model.specs.Terms.Copies.{copy_from};
 ghost use Rattle.iso_store.specs.Presents.{Present, Holds, meaning, KeepsWords, Makes, KeepsNumbers, TakesNumber, MovesOn, Grows, NumbersHaveCells, IsUnification, KeepsMarks, Untouched};
 ghost use Rattle.iso_store.specs.Arguments.{arity, argument};
 ghost use Rattle.iso_store.specs.Shapes.{IsShape};
+ghost use Rattle.iso_store.specs.Copying.{cells_of};
+ghost use Rattle.iso_store.specs.Patterns.{IsPattern, HasPlaces, at_places};
 
+use super::patterns::Pattern;
 use super::shapes::{Shape, StoreFault};
 use iso_atoms::Atom;
 use iso_model::{NoMemory, Term};
@@ -143,6 +146,30 @@ pub trait Store {
         ensures names { KeepsTexts (names self.old) (names self.new) }
         ensures marks { KeepsMarks (stands self.old) (stands self.new) };
 
+    /// The term written out for this store, where the number of a variable is its place. The error is that memory was refused;
+    /// some names may have atoms then that had none.
+    fn pattern(&mut self, term: &Term) -> Result<Pattern, NoMemory>
+        ensures pattern { IfOk result (λ r. IsPattern (names self.new) r.parts.items (term_of term.now)) }
+        ensures names { KeepsTexts (names self.old) (names self.new) }
+        ensures present { present self.new ≡ present self.old }
+        ensures marks { KeepsMarks (stands self.old) (stands self.new) };
+
+    /// The term of a pattern of this store, well formed, with the word at its place for each variable.
+    fn instantiate(
+        &mut self,
+        pattern: &Pattern,
+        variables: &[Self::Word],
+    ) -> Result<Self::Word, StoreFault>
+        requires pattern { (t : Tree) × IsPattern (names self.old) pattern.now.parts.items t × (arities_fit t ≡ true) × HasPlaces (length variables.now) t }
+        requires variables { All (λ w. Holds (present self.old) w) variables.now }
+        ensures made { (t : Tree) → IsPattern (names self.old) pattern.now.parts.items t
+            → IfOk result (λ w. Makes (present self.old) (present self.new) w (apply (at_places (map (present self.old).term variables.now)) t)) }
+        ensures numbers { OnOk result (KeepsNumbers (present self.old) (present self.new)) }
+        ensures cells { (t : Tree) → IsPattern (names self.old) pattern.now.parts.items t → Grows (present self.old) (present self.new) (cells_of (λ n. n + 1) t) }
+        ensures full { result ≡ Err StoreFault.Full → full self.new }
+        ensures names { names self.new ≡ names self.old }
+        ensures marks { KeepsMarks (stands self.old) (stands self.new) };
+
     /// Whether the two terms unify (7.3.4; no variable may occur in its own value, own); then their unifier is bound.
     /// False leaves it open what is bound.
     fn unify(&mut self, first: Self::Word, second: Self::Word) -> Result<bool, StoreFault>
@@ -183,6 +210,13 @@ pub trait Store {
         requires { Holds (present self.now) word }
         ensures value { IfOk result (λ t. term_of t ≡ meaning (present self.now) word) }
         ensures well_formed { IfOk result (λ t. arities_fit (term_of t) ≡ true) };
+
+    /// Words for the variables of the term that the word stands for, each once, in the order of first occurrence. The error is
+    /// that memory was refused.
+    fn variables(&self, word: Self::Word) -> Result<Vec<Self::Word>, NoMemory>
+        requires { Holds (present self.now) word }
+        ensures hold { IfOk result (λ ws. All (λ w. Holds (present self.now) w) ws.items) }
+        ensures variables { IfOk result (λ ws. map (meaning (present self.now)) ws.items ≡ map Variable (variables (meaning (present self.now) word))) };
 
     // a number that no variable has, as one that is only reserved, stands for itself and is in no term that a word stands for
     ghost untouched: { (s : Self) (n : ℕ) → (present s).taken n ≡ false → Untouched (present s) n };

@@ -1,3 +1,4 @@
 pub mod ShowsLemmas
 pub mod CodeLemmas
 pub mod PieceLemmas
+pub mod KnownLemmas

@@ -1,4 +1,5 @@
 pub mod Classes
+pub mod Known
 pub mod Shows
 pub mod Cursor
 pub mod Numbers

@@ -5,6 +5,7 @@ ghost use Rattle.iso_model.specs.Syntax.TokenPlaces.{StandInOrder};
 ghost use Rattle.iso_token.specs.Shows.{shown};
 
 use crate::kinds::Token;
+use crate::known::{Known, known_behind, nothing_known};
 use crate::lexemes::first_lexeme;
 use std::marker::Model;
 
@@ -13,6 +14,8 @@ use std::marker::Model;
 pub struct Tokens<'t> {
     rest: &'t str,
     start: usize,
+    /// What is known of what is left.
+    known: Known,
 }
 
 impl<'t> Model for Tokens<'t> {
@@ -21,11 +24,11 @@ impl<'t> Model for Tokens<'t> {
 
     ghost Value = { List Shown };
 
-    ghost use Rattle.iso_token.specs.Cursor.{tokens_left, IsInRange};
+    ghost use Rattle.iso_token.specs.Cursor.{tokens_left, IsKept};
 
     ghost view = { tokens_left };
 
-    ghost invariant = { IsInRange };
+    ghost invariant = { IsKept };
 }
 
 impl<'t> Tokens<'t> {
@@ -38,6 +41,7 @@ impl<'t> Tokens<'t> {
         Tokens {
             rest: text,
             start: 0,
+            known: nothing_known(),
         }
     }
 
@@ -47,11 +51,14 @@ impl<'t> Tokens<'t> {
     {
         let mut after_layout = false;
         while !self.rest.is_empty() {
-            let lexeme = first_lexeme(self.rest.as_bytes());
+            let bytes = self.rest.as_bytes();
+            let lexeme = first_lexeme(bytes, self.known);
+            let known = known_behind(bytes, self.known, lexeme);
             let start = self.start;
             let (text, rest) = self.rest.split_at(lexeme.len);
             self.rest = rest;
             self.start += lexeme.len;
+            self.known = known;
             match lexeme.kind {
                 Some(kind) => {
                     return Some(Token {

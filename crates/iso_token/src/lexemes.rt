@@ -1,16 +1,17 @@
 //! What stands at the front of a text: the longest token, or layout (ISO/IEC 13211-1:1995, 6.4).
-ghost use Rattle.std.specs.Prelude.{◌≡◌, ◌<◌, ◌≤◌, true, length, slice_index, IfSome};
+ghost use Rattle.std.specs.Prelude.{◌≡◌, ◌<◌, ◌≤◌, ◌+◌, true, length, drop, slice_index, IfSome};
 ghost use Rattle.iso_model.specs.Syntax.Characters as characters;
 ghost use Rattle.iso_model.specs.Syntax.Characters.{is_digit, is_graphic};
 ghost use Rattle.iso_model.specs.Syntax.Numbers as numbers;
 ghost use Rattle.iso_model.specs.Syntax.Lexemes as spec;
 ghost use Rattle.iso_token.specs.Classes.{is_of};
+ghost use Rattle.iso_token.specs.Known.{IsEndless, IsOpenAt, IsKnown};
 ghost use Rattle.iso_token.specs.Shows.{kind_of, lexeme_of};
 
 use crate::classes::{Class, byte, character_len, is_in, is_layout, run};
 use crate::kinds::Kind;
+use crate::known::{Known, item_end};
 use crate::numbers::integer_at;
-use crate::quoted::item_len;
 
 /// A token's kind, or none for layout and comments, and a length in bytes.
 #[derive(Clone, Copy, Debug)]
@@ -32,13 +33,14 @@ fn bad_character(bytes: &[u8]) -> Lexeme
 }
 
 /// What begins with a quote: an item of this kind (6.4.2.1, 6.4.6), or a bad character where it isn't well closed.
-fn quoted(kind: Kind, quote: u8, bytes: &[u8]) -> Lexeme
+fn quoted(kind: Kind, quote: u8, bytes: &[u8], unclosed: Option<usize>) -> Lexeme
     requires nonempty { 0 < length bytes.now }
     requires ascii { (0 < quote) × (quote < 128) }
+    requires unclosed { IsOpenAt quote unclosed bytes.now }
     ensures value { lexeme_of result ≡ spec.quoted (kind_of kind) quote bytes.now }
     ensures within { (1 ≤ result.len) × (result.len ≤ length bytes.now) }
 {
-    match item_len(quote, &bytes[1..]) {
+    match item_end(quote, bytes, unclosed) {
         None => bad_character(bytes),
         Some(n) => Lexeme {
             kind: Some(kind),
@@ -60,13 +62,30 @@ fn comment_len(bytes: &[u8]) -> Option<usize>
     None
 }
 
+/// How far the comment that begins with these `/*` goes on behind them; none where it has no end, and where it is known that
+/// none comes.
+#[tactic(auto, using(crate::proofs::KnownLemmas::no_end_later))]
+fn comment_end(bytes: &[u8], endless: bool) -> Option<usize>
+    requires long { 2 ≤ length bytes.now }
+    requires endless { IsEndless endless bytes.now }
+    ensures value { result ≡ spec.comment_len (drop 2 bytes.now) }
+    ensures within { IfSome result (λ n. 2 + n ≤ length bytes.now) }
+{
+    if endless {
+        None
+    } else {
+        comment_len(&bytes[2..])
+    }
+}
+
 /// What begins with `/*`: a bracketed comment, or a bad character where it has no end.
-fn commented(bytes: &[u8]) -> Lexeme
-    requires { 2 ≤ length bytes.now }
+fn commented(bytes: &[u8], endless: bool) -> Lexeme
+    requires long { 2 ≤ length bytes.now }
+    requires endless { IsEndless endless bytes.now }
     ensures value { lexeme_of result ≡ spec.commented bytes.now }
     ensures within { (1 ≤ result.len) × (result.len ≤ length bytes.now) }
 {
-    match comment_len(&bytes[2..]) {
+    match comment_end(bytes, endless) {
         None => bad_character(bytes),
         Some(n) => Lexeme {
             kind: None,
@@ -132,13 +151,14 @@ fn integer(bytes: &[u8]) -> Lexeme
 }
 
 /// What begins with none of layout, `%`, letters, `_`, digits and quotes.
-fn symbol(bytes: &[u8]) -> Lexeme
-    requires { 0 < length bytes.now }
+fn symbol(bytes: &[u8], endless: bool) -> Lexeme
+    requires nonempty { 0 < length bytes.now }
+    requires endless { IsEndless endless bytes.now }
     ensures value { lexeme_of result ≡ spec.symbol bytes.now }
     ensures within { (1 ≤ result.len) × (result.len ≤ length bytes.now) }
 {
     match bytes[0] {
-        b'/' if byte(bytes, 1) == b'*' => commented(bytes),
+        b'/' if byte(bytes, 1) == b'*' => commented(bytes, endless),
         b if is_in(Class::Graphic, b) => graphic(bytes),
         b'(' | b')' | b'[' | b']' | b'{' | b'}' | b',' | b'|' => Lexeme {
             kind: Some(Kind::Punct),
@@ -152,10 +172,11 @@ fn symbol(bytes: &[u8]) -> Lexeme
     }
 }
 
-/// The lexeme at the front of a text that isn't empty.
+/// The lexeme at the front of a text that isn't empty, of which this is known.
 #[tactic(auto, unfolding(iso_model::specs::Syntax::Lexemes::lexeme))]
-pub fn first_lexeme(bytes: &[u8]) -> Lexeme
-    requires { 0 < length bytes.now }
+pub fn first_lexeme(bytes: &[u8], known: Known) -> Lexeme
+    requires nonempty { 0 < length bytes.now }
+    requires known { IsKnown known bytes.now }
     ensures value { lexeme_of result ≡ spec.lexeme bytes.now }
     ensures within { (1 ≤ result.len) × (result.len ≤ length bytes.now) }
 {
@@ -168,8 +189,8 @@ pub fn first_lexeme(bytes: &[u8]) -> Lexeme
         b'a'..=b'z' => run_of(Kind::Name, Class::Alphanumeric, bytes),
         b'A'..=b'Z' | b'_' => run_of(Kind::Variable, Class::Alphanumeric, bytes),
         b'0'..=b'9' => integer(bytes),
-        b'\'' => quoted(Kind::Quoted, b'\'', bytes),
-        b'"' => quoted(Kind::Double, b'"', bytes),
-        _ => symbol(bytes),
+        b'\'' => quoted(Kind::Quoted, b'\'', bytes, known.single),
+        b'"' => quoted(Kind::Double, b'"', bytes, known.double),
+        _ => symbol(bytes, known.endless),
     }
 }

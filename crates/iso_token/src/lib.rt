@@ -4,6 +4,7 @@
 mod classes;
 mod cursor;
 mod kinds;
+mod known;
 mod lexemes;
 mod numbers;
 mod quoted;

@@ -12,7 +12,7 @@ use std::alloc::Global;
 
 /// What may stand at a place within quotes.
 #[derive(Clone, Copy, Debug)]
-pub enum Piece {
+pub enum QuotedPiece {
     /// The quote that closes the item.
     Closes,
     /// A character of so many bytes, which stands for itself.
@@ -25,50 +25,50 @@ pub enum Piece {
     Broken,
 }
 
-impl Piece {
+impl QuotedPiece {
     /// How many bytes it has.
-    fn len(self) -> usize
+    pub fn len(self) -> usize
         ensures { result ≡ len_of self }
     {
         match self {
-            Piece::Closes | Piece::Broken => 1,
-            Piece::Plain(len) => len,
-            Piece::Escaped(escape) => escape.len,
-            Piece::Continuation => 2,
+            QuotedPiece::Closes | QuotedPiece::Broken => 1,
+            QuotedPiece::Plain(len) => len,
+            QuotedPiece::Escaped(escape) => escape.len,
+            QuotedPiece::Continuation => 2,
         }
     }
 }
 
 /// The piece that begins with a backslash.
-fn escaped(bytes: &[u8]) -> Piece
+fn escaped(bytes: &[u8]) -> QuotedPiece
     requires { 0 < length bytes.now }
     ensures value { piece_of bytes.now result ≡ spec.escaped (numbers.escape bytes.now) }
     ensures within { IsWithin (length bytes.now) result }
 {
     match escape_at(bytes) {
-        Some(escape) => Piece::Escaped(escape),
-        None => Piece::Broken,
+        Some(escape) => QuotedPiece::Escaped(escape),
+        None => QuotedPiece::Broken,
     }
 }
 
 /// The piece at the front of a text that isn't empty, between such quotes.
 #[tactic(auto, unfolding(iso_model::specs::Syntax::Quoted::piece_at))]
-fn piece_at(quote: u8, bytes: &[u8]) -> Piece
+pub fn piece_at(quote: u8, bytes: &[u8]) -> QuotedPiece
     requires nonempty { 0 < length bytes.now }
     requires ascii { (0 < quote) × (quote < 128) }
     ensures value { piece_of bytes.now result ≡ spec.piece_at quote bytes.now }
     ensures within { IsWithin (length bytes.now) result }
 {
     match bytes[0] {
-        b if b == quote && byte(bytes, 1) == quote => Piece::Escaped(Escape {
+        b if b == quote && byte(bytes, 1) == quote => QuotedPiece::Escaped(Escape {
             character: char::from(quote),
             len: 2,
         }),
-        b if b == quote => Piece::Closes,
-        b'\n' => Piece::Broken,
-        b'\\' if byte(bytes, 1) == b'\n' => Piece::Continuation,
+        b if b == quote => QuotedPiece::Closes,
+        b'\n' => QuotedPiece::Broken,
+        b'\\' if byte(bytes, 1) == b'\n' => QuotedPiece::Continuation,
         b'\\' => escaped(bytes),
-        _ => Piece::Plain(character_len(bytes)),
+        _ => QuotedPiece::Plain(character_len(bytes)),
     }
 }
 
@@ -82,8 +82,8 @@ pub fn item_len(quote: u8, bytes: &[u8]) -> Option<usize>
     while at < bytes.len() {
         let piece = piece_at(quote, &bytes[at..]);
         match piece {
-            Piece::Closes => return Some(at + 1),
-            Piece::Broken => return None,
+            QuotedPiece::Closes => return Some(at + 1),
+            QuotedPiece::Broken => return None,
             _ => at += piece.len(),
         }
     }
@@ -91,13 +91,13 @@ pub fn item_len(quote: u8, bytes: &[u8]) -> Option<usize>
 }
 
 /// Adds what a piece stands for, which has this text.
-fn add_piece(content: &mut String, piece: Piece, text: &str) -> Result<(), NoMemory>
+fn add_piece(content: &mut String, piece: QuotedPiece, text: &str) -> Result<(), NoMemory>
     ensures { OnOk result (string_bytes content.new ≡ string_bytes content.old ++ stood_for piece text.now) }
 {
     match piece {
-        Piece::Plain(_) => content.push_str(text),
-        Piece::Escaped(escape) => content.push(escape.character),
-        Piece::Closes | Piece::Continuation | Piece::Broken => Ok(()),
+        QuotedPiece::Plain(_) => content.push_str(text),
+        QuotedPiece::Escaped(escape) => content.push(escape.character),
+        QuotedPiece::Closes | QuotedPiece::Continuation | QuotedPiece::Broken => Ok(()),
     }
 }
 
@@ -111,7 +111,7 @@ pub fn item_content(alloc: Global, quote: u8, item: &str) -> Result<String, NoMe
     while !rest.is_empty() {
         let piece = piece_at(quote, rest.as_bytes());
         match piece {
-            Piece::Closes | Piece::Broken => return Ok(content),
+            QuotedPiece::Closes | QuotedPiece::Broken => return Ok(content),
             _ => {
                 let (text, behind) = rest.split_at(piece.len());
                 add_piece(&mut content, piece, text)?;

@@ -1,6 +1,5 @@
 pub mod EdgeLemmas
 pub mod FormLemmas
-pub mod RowLemmas
 pub mod TaskLemmas
 pub mod PieceLemmas
 pub mod LeadLemmas

@@ -3,4 +3,3 @@ pub mod Forms
 pub mod Edges
 pub mod Tasks
 pub mod Leads
-pub mod Rows

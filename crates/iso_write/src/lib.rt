@@ -15,19 +15,17 @@ mod names;
 mod parts;
 mod style;
 mod tasks;
-mod variables;
 mod written;
 
-use iso_model::{NoMemory, Term};
+use iso_model::{NoMemory, Numbering, Term};
 use iso_ops::OpTable;
 use std::alloc::Global;
 pub use style::Style;
-use variables::note_variables;
 use written::{Setting, append_text};
 
 /// Appends the text of a term in a place of at most this priority (7.10.5, 8.14.2; layout and brackets are own). `seen` lists
 /// the variables named so far, which the term's join by first occurrence; the k-th is written `_k`. The error is that memory
-/// was refused; both vectors are as before then.
+/// was refused; both are as before then.
 pub fn write_to(
     alloc: Global,
     out: &mut Vec<u8>,
@@ -35,11 +33,11 @@ pub fn write_to(
     style: Style,
     priority: u16,
     ops: &OpTable,
-    seen: &mut Vec<u64>,
+    seen: &mut Numbering,
 ) -> Result<(), NoMemory>
-    ensures seen { OnOk result (seen.new.items ≡ distinct_from seen.old.items (term_of term.now)) }
-    ensures text { OnOk result (out.new.items ≡ out.old.items ++ text_at (style_of style) ops.now (distinct_from seen.old.items (term_of term.now)) priority (term_of term.now)) }
-    ensures refused { OnErr result ((out.new.items ≡ out.old.items) × (seen.new.items ≡ seen.old.items)) }
+    ensures seen { OnOk result (seen.new ≡ distinct_from seen.old (term_of term.now)) }
+    ensures text { OnOk result (out.new.items ≡ out.old.items ++ text_at (style_of style) ops.now (distinct_from seen.old (term_of term.now)) priority (term_of term.now)) }
+    ensures refused { OnErr result ((out.new.items ≡ out.old.items) × (seen.new ≡ seen.old)) }
 {
     let (length, known) = (out.len(), seen.len());
     let written = append_line(alloc, out, term, style, priority, ops, seen);
@@ -58,19 +56,19 @@ fn append_line(
     style: Style,
     priority: u16,
     ops: &OpTable,
-    seen: &mut Vec<u64>,
+    seen: &mut Numbering,
 ) -> Result<(), NoMemory>
-    ensures seen { OnOk result (seen.new.items ≡ distinct_from seen.old.items (term_of term.now)) }
-    ensures text { OnOk result (out.new.items ≡ out.old.items ++ text_at (style_of style) ops.now (distinct_from seen.old.items (term_of term.now)) priority (term_of term.now)) }
+    ensures seen { OnOk result (seen.new ≡ distinct_from seen.old (term_of term.now)) }
+    ensures text { OnOk result (out.new.items ≡ out.old.items ++ text_at (style_of style) ops.now (distinct_from seen.old (term_of term.now)) priority (term_of term.now)) }
     ensures out_kept { take (length out.old.items) out.new.items ≡ out.old.items }
-    ensures seen_kept { take (length seen.old.items) seen.new.items ≡ seen.old.items }
+    ensures seen_kept { take (length seen.old) seen.new ≡ seen.old }
 {
-    note_variables(alloc, seen, term)?;
+    seen.note_all(alloc, term)?;
     let setting = Setting {
         alloc,
         style,
         ops,
-        seen: seen.as_slice(),
+        seen,
     };
     append_text(setting, out, term, priority)
 }

@@ -14,8 +14,7 @@ use super::names::{append_name, is_bare};
 use super::parts::{push_form, push_others, push_placed, push_tail};
 use super::style::Style;
 use super::tasks::{Place, Task};
-use super::variables::place_of;
-use iso_model::Term;
+use iso_model::{Numbering, Term};
 use iso_ops::OpTable;
 use itoa::Buffer;
 use std::alloc::{AllocError, Global};
@@ -45,12 +44,13 @@ fn append_variable(
     out: &mut Vec<u8>,
     edge: Edge,
     number: u64,
-    seen: &[u64],
+    seen: &Numbering,
 ) -> Result<Edge, AllocError>
     ensures text { IfOk result (λ after. (ps : List pieces.Piece) → out.new.items ++ behind after ps ≡ out.old.items ++ behind edge (pieces.piece (variable_text seen.now number) ∷ ps)) }
     ensures kept { take (length out.old.items) out.new.items ≡ out.old.items }
 {
-    let text = format!(in alloc; "_{}", place_of(seen, number) + 1)?;
+    let place = seen.place(number).unwrap_or(seen.len());
+    let text = format!(in alloc; "_{}", place + 1)?;
     append_piece(out, edge, text.as_bytes())
 }
 
@@ -70,7 +70,7 @@ pub(crate) struct Setting<'s> {
     pub(crate) style: Style,
     pub(crate) ops: &'s OpTable,
     /// The line's variables.
-    pub(crate) seen: &'s [u64],
+    pub(crate) seen: &'s Numbering,
 }
 
 /// Appends a piece, or puts the parts of a task before the other tasks.

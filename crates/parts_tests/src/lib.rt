@@ -6,11 +6,15 @@ mod area;
 #[cfg(test)]
 mod atoms;
 #[cfg(test)]
+mod numbering;
+#[cfg(test)]
 mod ops;
 #[cfg(test)]
 mod read;
 #[cfg(test)]
 mod read_texts;
+#[cfg(test)]
+mod sizes;
 #[cfg(test)]
 mod store;
 #[cfg(test)]

@@ -6,8 +6,13 @@
 //! Each test then passes or fails with the text `error: AllocError`, `error: AllocFailed { .. }` or `error: NoMemory`, and none
 //! fails in an assertion. At 41 all pass but the one of long lists: the others make 40 allocations at most. The lists of 10 000
 //! elements need the deep stack under `rt try`.
-ghost use Rattle.std.specs.Prelude.{◌≡◌, OnOk};
-ghost use Rattle.iso_store.specs.Presents.{Holds};
+ghost use Rattle.std.specs.Prelude.{◌≡◌, IfOk, OnOk, length, true};
+ghost use Rattle.std.specs.List.{All};
+ghost use Rattle.std.specs.String.{string_bytes};
+ghost use Rattle.iso_model.specs.Terms.Trees.{Apply, arities_fit};
+ghost use Rattle.iso_model.specs.Terms.TermOf.{term_of, row_of};
+ghost use Rattle.iso_store.specs.Presents.{Holds, KeepsWords};
+ghost use Rattle.iso_store.specs.Patterns.{HasPlaces};
 
 use iso_model::{Term, well_formed};
 use iso_store::{Nodes, Shape, Store, StoreFault};
@@ -271,5 +276,110 @@ fn makes_as_many_nodes_as_a_term_has_parts(rt: HostRuntime) -> Result<(), Fail> 
         let mut short = Nodes::new(alloc, parts - 1)?;
         assert!(rt; is_full(short.build(&term))?);
     }
+    Ok(())
+}
+
+/// The list of the variables from `length` - 1 down to 0.
+fn variable_list(alloc: Global, length: u64) -> Result<Term, AllocError>
+    ensures fits { IfOk result (λ t. arities_fit (term_of t) ≡ true) }
+    ensures places { IfOk result (λ t. HasPlaces length (term_of t)) }
+{
+    let mut whole = Term::Atom(String::from_str(alloc, "[]")?);
+    for number in 0..length {
+        let pair = vec![in alloc; Term::Var(number), whole]?;
+        whole = Term::Compound(String::from_str(alloc, ".")?, pair);
+    }
+    Ok(whole)
+}
+
+/// f(X, g(Y), X, 7, a), where X and Y have the places 0 and 1
+fn pattern_term(alloc: Global) -> Result<Term, AllocError>
+    ensures fits { IfOk result (λ t. arities_fit (term_of t) ≡ true) }
+    ensures places { IfOk result (λ t. HasPlaces 2 (term_of t)) }
+{
+    let inner = Term::Compound(String::from_str(alloc, "g")?, vec![in alloc; Term::Var(1)]?);
+    let atom = Term::Atom(String::from_str(alloc, "a")?);
+    let arguments = vec![in alloc; Term::Var(0), inner, Term::Var(0), Term::Int(7), atom]?;
+    Ok(Term::Compound(String::from_str(alloc, "f")?, arguments))
+}
+
+/// The term, once it is written out, with these words for its variables.
+fn instance<S: Store>(
+    store: &mut S,
+    term: &Term,
+    variables: &[S::Word],
+) -> Result<S::Word, StoreFault>
+    requires fits { arities_fit (term_of term.now) ≡ true }
+    requires places { HasPlaces (length variables.now) (term_of term.now) }
+    requires variables { All (λ w. Holds (S.present store.old) w) variables.now }
+    ensures made { IfOk result (λ w. Holds (S.present store.new) w) }
+    ensures words { OnOk result (KeepsWords (S.present store.old) (S.present store.new)) }
+{
+    let pattern = store.pattern(term)?;
+    store.instantiate(&pattern, variables)
+}
+
+/// An instance takes a node for each part that is no variable, and its variables are the words.
+#[test]
+fn makes_instances(rt: HostRuntime) -> Result<(), Fail> {
+    let alloc = rt.alloc();
+    let mut store = Nodes::new(alloc, 10)?;
+    let term = pattern_term(alloc)?;
+    let variable = store.fresh()?;
+    let five = store.int(5)?;
+    let whole = instance(&mut store, &term, &[variable, five])?;
+    expect_shown(
+        &rt,
+        alloc,
+        &store,
+        whole,
+        "Compound(\"f\", [Var(0), Compound(\"g\", [Int(5)]), Var(0), Int(7), Atom(\"a\")])",
+    )?;
+    let turned = instance(&mut store, &term, &[five, variable])?;
+    expect_shown(
+        &rt,
+        alloc,
+        &store,
+        turned,
+        "Compound(\"f\", [Int(5), Compound(\"g\", [Var(0)]), Int(5), Int(7), Atom(\"a\")])",
+    )?;
+    assert!(rt; is_full(instance(&mut store, &term, &[five, five]))?);
+    Ok(())
+}
+
+/// Each variable is listed once, in the order of first occurrence, as long as it is unbound.
+#[test]
+fn lists_variables(rt: HostRuntime) -> Result<(), Fail> {
+    let alloc = rt.alloc();
+    let mut store = Nodes::new(alloc, 100)?;
+    let both = equation(alloc)?;
+    assert!(rt; well_formed(&both));
+    let whole = store.build(&both)?;
+    let variables = store.variables(whole)?;
+    assert_eq!(rt; variables.len(), 4usize);
+    for (place, variable) in variables.iter().enumerate() {
+        assert_eq!(rt; store.shape(*variable), Shape::Var(place as u64));
+    }
+    let (first, second) = sides(&rt, &store, whole);
+    assert!(rt; store.unify(first, second)?);
+    let left = store.variables(whole)?;
+    assert_eq!(rt; left.len(), 1usize);
+    assert_eq!(rt; store.shape(left[0]), Shape::Var(1));
+    Ok(())
+}
+
+/// None of these calls recurses along the term.
+#[test]
+fn goes_through_long_lists(rt: HostRuntime) -> Result<(), Fail> {
+    let alloc = rt.alloc();
+    let length = 1_000_000;
+    let mut store = Nodes::new(alloc, 4_000_000)?;
+    let term = variable_list(alloc, length)?;
+    let whole = store.build(&term)?;
+    let variables = store.variables(whole)?;
+    assert_eq!(rt; variables.len(), 1_000_000usize);
+    assert_eq!(rt; store.shape(variables[999_999]), Shape::Var(999_999));
+    let again = instance(&mut store, &term, variables.as_slice())?;
+    assert!(rt; store.unify(whole, again)?);
     Ok(())
 }

@@ -1,5 +1,5 @@
 //! Texts of terms in the three styles.
-use iso_model::{Term, well_formed};
+use iso_model::{Numbering, Term, well_formed};
 use iso_ops::{OpFault, OpTable};
 use iso_write::{Style, write_to};
 use std::alloc::{AllocError, Global};
@@ -49,7 +49,7 @@ fn text_of(
         return Err(Fail::from("too many arguments"));
     }
     let mut out = Vec::new(alloc);
-    let mut seen = Vec::new(alloc);
+    let mut seen = Numbering::new(alloc);
     write_to(alloc, &mut out, term, style, priority, ops, &mut seen)?;
     Ok(out)
 }
@@ -244,16 +244,17 @@ fn variables_of_a_line(rt: HostRuntime) -> Result<(), Fail> {
     let alloc = rt.alloc();
     let ops = OpTable::initial(alloc)?;
     let mut out = Vec::new(alloc);
-    let mut seen = Vec::new(alloc);
+    let mut seen = Numbering::new(alloc);
     out.push(b'a')?;
-    seen.push(5)?;
+    seen.note(5)?;
     let term = two(alloc, "f", Term::Var(3), Term::Var(5))?;
     if !well_formed(&term) {
         return Err(Fail::from("too many arguments"));
     }
     write_to(alloc, &mut out, &term, Style::Write, 999, &ops, &mut seen)?;
     assert_eq!(rt; out.as_slice(), b"af(_2,_1)".as_slice());
-    assert_eq!(rt; seen.as_slice(), [5, 3].as_slice());
+    assert_eq!(rt; seen.len(), 2);
+    assert_eq!(rt; seen.place(3), Some(1));
     Ok(())
 }
 

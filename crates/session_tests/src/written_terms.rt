@@ -4,7 +4,7 @@ use super::term_texts::{
     BARE_SET, BRACES, INFIX, NAMES, NUMBERS, OWN_QUOTED, OWN_SIGNS, OWN_WORDS, PREFIX, QUOTED_SET,
     SHOWN, SIGNS_SET, Setting, UNQUOTED, WITHOUT, WORDS_SET,
 };
-use iso_model::Term;
+use iso_model::{Numbering, Term};
 use iso_ops::{Flags, OpFault, OpTable};
 use iso_read::read_clause;
 use iso_token::Tokens;
@@ -34,7 +34,7 @@ fn read(alloc: Global, text: &str, ops: &OpTable) -> Result<Option<Term>, AllocE
 /// The text of the term as a whole.
 fn written(alloc: Global, term: &Term, style: Style, ops: &OpTable) -> Result<Vec<u8>, AllocError> {
     let mut out = Vec::new(alloc);
-    let mut seen = Vec::new(alloc);
+    let mut seen = Numbering::new(alloc);
     write_to(alloc, &mut out, term, style, 1200, ops, &mut seen)?;
     Ok(out)
 }

@@ -9,7 +9,7 @@ use Rattle.iso_model.specs.Terms.Unifiers.{Unifier, NeverEqual}
 use Rattle.iso_model.specs.Terms.Unification.Applied.{apply_alone}
 use Rattle.iso_model.specs.Terms.Unification.Unique.{unifier_unique}
 use Rattle.iso_model.specs.Terms.Unification.Listed.{Covers, distinct_covers, without, length-without}
-use Rattle.iso_model.specs.Terms.Unification.Exists.{Outcome, solved_unifier, exists_or_not, binds_or_not, shrunk_covers}
+use Rattle.iso_model.specs.Terms.Unification.Exists.{Answer, solved_unifier, exists_or_not, binds_or_not, shrunk_covers}
 
 -- from two terms to two that their unification goes on with
 data Next : Tree → Tree → Tree → Tree → Type 0 where
@@ -86,7 +86,7 @@ all_end a b =
 
 -- the sum over the ways to go on
 module _ (a b c d : Tree) (h : (x y : Tree) → Next (More a c) (More b d) x y → ℕ) where
-  of_others : Outcome a b → ℕ
+  of_others : Answer a b → ℕ
   of_others (inl found) = h (apply found.0 c) (apply found.0 d) (others a b c d found.0 (solved_unifier found.1))
   of_others (inr never) = 0
 
@@ -126,7 +126,7 @@ same_height : (s t : Subst) (c d : Tree) → s ≡ t → (p : Ends (apply s c) (
 same_height s t c d e p =
     subst (λ u. (q : Ends (apply u c) (apply u d)) → height p ≡ height q) e (λ q. ap height (one_way p q))
 
-others_within : (a b c d : Tree) (s : Subst) → Unifier a b s → (h : (x y : Tree) → Next (More a c) (More b d) x y → Ends x y) (o : Outcome a b) → cost (apply s c) (apply s d) ≤ of_others a b c d (λ x y n. height (h x y n)) o
+others_within : (a b c d : Tree) (s : Subst) → Unifier a b s → (h : (x y : Tree) → Next (More a c) (More b d) x y → Ends x y) (o : Answer a b) → cost (apply s c) (apply s d) ≤ of_others a b c d (λ x y n. height (h x y n)) o
 unfolding cost of_others
 others_within a b c d s u h (inl found) =
     let k = solved_unifier found.1 in
@@ -152,7 +152,7 @@ pub cost_arguments : (f g : List ℕ) (a b : Tree) → cost (Apply f a) (Apply g
 unfolding cost
 cost_arguments f g a b = arguments_height f g a b (all_end (Apply f a) (Apply g b))
 
-others_height : (a b c d : Tree) (s : Subst) → Unifier a b s → (h : (x y : Tree) → Next (More a c) (More b d) x y → Ends x y) (o : Outcome a b) → of_others a b c d (λ x y n. height (h x y n)) o ≡ cost (apply s c) (apply s d)
+others_height : (a b c d : Tree) (s : Subst) → Unifier a b s → (h : (x y : Tree) → Next (More a c) (More b d) x y → Ends x y) (o : Answer a b) → of_others a b c d (λ x y n. height (h x y n)) o ≡ cost (apply s c) (apply s d)
 unfolding cost of_others
 others_height a b c d s u h (inl found) =
     let k = solved_unifier found.1 in
@@ -170,7 +170,7 @@ pub cost_more : (a b c d : Tree) (s : Subst) → Unifier a b s → cost (More a 
 unfolding cost
 cost_more a b c d s u = more_height a b c d s u (all_end (More a c) (More b d))
 
-nothing_height : (a b c d : Tree) → NeverEqual a b → (h : (x y : Tree) → Next (More a c) (More b d) x y → ℕ) (o : Outcome a b) → of_others a b c d h o ≡ 0
+nothing_height : (a b c d : Tree) → NeverEqual a b → (h : (x y : Tree) → Next (More a c) (More b d) x y → ℕ) (o : Answer a b) → of_others a b c d h o ≡ 0
 unfolding of_others
 nothing_height a b c d never h (inl found) = absurd (never found.0 (solved_unifier found.1).equal)
 nothing_height a b c d never h (inr n) = refl

@@ -1,12 +1,12 @@
 -- The measure of unification, on lists of terms that are to be made equal one after another.
-use Rattle.std.proofs.Common.{◌≡◌, ℕ, zero, suc, ◌+◌, ◌≤◌, ◌<◌, List, [], ◌∷◌, ◌++◌, length, map, ◌⊎◌, inl, inr, refl, sym, ap, ap₂, ◌∙◌, subst₂, arith}
+use Rattle.std.proofs.Common.{◌≡◌, ℕ, zero, suc, ◌+◌, ◌≤◌, ◌<◌, List, [], ◌∷◌, ◌++◌, length, map, ◌⊎◌, inl, inr, refl, sym, ap, ap₂, ◌∙◌, arith}
 use Rattle.std.proofs.lemmas.List.{map-append, length-map}
 use Rattle.iso_model.specs.Terms.Trees.{Tree, Variable, Apply, End, More, row}
 use Rattle.iso_model.specs.Terms.Substitutions.{Subst, apply, compose}
 use Rattle.iso_model.specs.Terms.Unifiers.{Unifier}
 use Rattle.iso_model.specs.Terms.Unification.Applied.{apply_apply, apply_none}
 use Rattle.iso_model.specs.Terms.Unification.Composed.{unifier_same, unifier_more, unifier_apply}
-use Rattle.iso_model.specs.Terms.Unification.Exists.{Outcome, solved_unifier, exists_or_not}
+use Rattle.iso_model.specs.Terms.Unification.Exists.{solved_unifier, exists_or_not}
 use Rattle.iso_model.proofs.OnTerms.Cost.{cost, cost_first, cost_arguments, cost_more, cost_never}
 
 pub apply-row : (s : Subst) (us : List Tree) → apply s (row us) ≡ row (map (apply s) us)

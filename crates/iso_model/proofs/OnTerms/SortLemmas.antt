@@ -16,7 +16,7 @@ use Rattle.iso_model.specs.Terms.Substitutions.{Subst, apply, single}
 use Rattle.iso_model.specs.Terms.Unifiers.{Unifier, NeverEqual}
 use Rattle.iso_model.specs.Terms.Unification.Applied.{single_at, single_other}
 use Rattle.iso_model.specs.Terms.Unification.Unique.{unifier_unique}
-use Rattle.iso_model.specs.Terms.Unification.Exists.{Outcome, Solved, already, bound, swapped, inside, in_turn, solved_unifier, exists_or_not}
+use Rattle.iso_model.specs.Terms.Unification.Exists.{Answer, Solved, already, bound, swapped, inside, in_turn, solved_unifier, exists_or_not}
 
 -- a list of terms keeps its length
 pub count-apply : (s : Subst) (ts : Tree) → is_row ts ≡ true → count (apply s ts) ≡ count ts
@@ -86,7 +86,7 @@ solved_gives (in_turn {a} {b} {c} {d} {s} {t} k l) (inr h) n =
     let others = solved_gives l (inr (row_applied s c left.1 (λ m o. first m), row_applied s d right.1 (λ m o. first m))) in
     term_applied t (s n) (first n) (λ m o. others m)
 
-found_gives : (a b : Tree) (s : Subst) → Unifier a b s → Outcome a b → AreAlike a b → (n : ℕ) → is_term (s n) ≡ true
+found_gives : (a b : Tree) (s : Subst) → Unifier a b s → Answer a b → AreAlike a b → (n : ℕ) → is_term (s n) ≡ true
 found_gives a b s h (inl found) alike n =
     ap (λ u. is_term (u n)) (unifier_unique a b s found.0 h (solved_unifier found.1)) ∙ solved_gives found.1 alike n
 found_gives a b s h (inr never) alike n = absurd (never s h.equal)

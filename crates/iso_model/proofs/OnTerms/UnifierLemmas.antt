@@ -11,9 +11,9 @@ use Rattle.iso_model.specs.Terms.Unification.Applied.{apply_apply, apply_none, a
 use Rattle.iso_model.specs.Terms.Unification.Composed.{variable_from, unifier_sym, unifier_apply, unifier_more, never_sym, never_apply, never_first, never_rest}
 use Rattle.iso_model.specs.Terms.Unification.Bindings.{unifier_leaves, unifier_brings, unifier_fixes}
 use Rattle.iso_model.specs.Terms.Unification.Unique.{unifier_unique}
-use Rattle.iso_model.specs.Terms.Unification.Exists.{Outcome, solved_unifier, exists_or_not, alone_or_not}
+use Rattle.iso_model.specs.Terms.Unification.Exists.{Answer, solved_unifier, exists_or_not, alone_or_not}
 
-answer_is : (a b : Tree) (found : Outcome a b) → IsUnifierOf a b (answer_of found)
+answer_is : (a b : Tree) (found : Answer a b) → IsUnifierOf a b (answer_of found)
 answer_is a b (inl found) = solved_unifier found.1
 answer_is a b (inr never) = never
 

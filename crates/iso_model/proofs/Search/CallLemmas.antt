@@ -1,5 +1,5 @@
 -- What a call comes to, by the unifier that it has with the head of the first clause.
-use Rattle.std.proofs.Common.{◌≡◌, ◌+◌, List, [], ◌∷◌, Option, Some, None, length, refl, ap}
+use Rattle.std.proofs.Common.{◌≡◌, ℕ, ◌+◌, List, [], ◌∷◌, Option, Some, None, length, refl, ap}
 use Rattle.iso_model.specs.Terms.Trees.{Tree, Variable}
 use Rattle.iso_model.specs.Terms.Substitutions.{Subst, apply, compose}
 use Rattle.iso_model.specs.Terms.Unifiers.{Unifier, NeverEqual, IsUnifierOf}
@@ -8,7 +8,7 @@ use Rattle.iso_model.specs.Terms.Unification.Unique.{unifier_unique}
 use Rattle.iso_model.specs.Terms.Copies.{renamed}
 use Rattle.iso_model.specs.Search.Bodies.{map_body}
 use Rattle.iso_model.specs.Search.Databases.{Clause}
-use Rattle.iso_model.specs.Search.Walker.{State, Member, Fail, Alternative, Goes, before, under, entered, equated, replied, clause_size, with_others, tried, fails}
+use Rattle.iso_model.specs.Search.Walker.{State, Member, Fail, Alternative, Goes, before, under, entered, equated, replied, clause_size, with_others, tried, tried_clause, fails}
 use Rattle.iso_model.specs.Search.BuiltIns.{Equates}
 use Rattle.iso_model.proofs.OnTerms.UnifierLemmas.{unifier_of_is}
 
@@ -21,12 +21,12 @@ answer_none a b (Some s) never k = absurd (never s k.equal)
 answer_none a b None never k = refl
 
 -- unifying finds the unifier
-unify_found : (r : Subst) (a b : Tree) {u : Subst} → Unifier a b u → under r (unifier_of a b) ≡ Some (compose r u)
+pub unify_found : (r : Subst) (a b : Tree) {u : Subst} → Unifier a b u → under r (unifier_of a b) ≡ Some (compose r u)
 unify_found r a b {u} h =
     let is = answer_same a b u (unifier_of a b) h (unifier_of_is a b) in
     rw is refl
 
-unify_none : (r : Subst) (a b : Tree) → NeverEqual a b → under r (unifier_of a b) ≡ None
+pub unify_none : (r : Subst) (a b : Tree) → NeverEqual a b → under r (unifier_of a b) ≡ None
 unify_none r a b never =
     let is = answer_none a b (unifier_of a b) never (unifier_of_is a b) in
     rw is refl
@@ -77,6 +77,27 @@ run_equation a b rest s u h = ap (λ o. Goes (equated o rest (record s { built =
 pub run_equation_missed : (a b : Tree) (rest : List Member) (s : State) → NeverEqual a b
     → replied (Equates a b) rest s ≡ Goes (record s { list = Fail ∷ []; built = s.built + 2 })
 run_equation_missed a b rest s never = ap (λ o. Goes (equated o rest (record s { built = s.built + 2 }))) (unify_none s.subst a b never)
+
+-- the clause is tried, whose head has this unifier with the call
+pub clause_found : (call : Tree) (c : Clause) (mark : ℕ) (rest : List Member) (s : State) (u : Subst) → Unifier call (apply s.subst (renamed s.next c.head)) u
+    → tried_clause call c mark rest s
+    ≡ record s { list = before (map_body (λ k. Variable (s.next + k)) c.body) mark rest; subst = compose s.subst u; next = s.next + c.variables; built = s.built + clause_size c }
+clause_found call c mark rest s u h =
+    ap (λ o. entered o c s.next mark rest (counted c s)) (unify_found s.subst call (apply s.subst (renamed s.next c.head)) h)
+
+-- its head is never equal to the call
+pub clause_missed : (call : Tree) (c : Clause) (mark : ℕ) (rest : List Member) (s : State) → NeverEqual call (apply s.subst (renamed s.next c.head))
+    → tried_clause call c mark rest s ≡ record s { list = Fail ∷ []; next = s.next + c.variables; built = s.built + clause_size c }
+clause_missed call c mark rest s never =
+    ap (λ o. entered o c s.next mark rest (counted c s)) (unify_none s.subst call (apply s.subst (renamed s.next c.head)) never)
+
+-- whether it is entered or not, the stack, the world and the query stay
+pub clause_keeps : (call : Tree) (c : Clause) (mark : ℕ) (rest : List Member) (s : State)
+    → ((tried_clause call c mark rest s).stack ≡ s.stack) × ((tried_clause call c mark rest s).world ≡ s.world) × ((tried_clause call c mark rest s).query ≡ s.query)
+clause_keeps call c mark rest s = by_unifier (under s.subst (unifier_of call (apply s.subst (renamed s.next c.head)))) where
+  by_unifier : (o : Option Subst) → ((entered o c s.next mark rest (counted c s)).stack ≡ s.stack) × ((entered o c s.next mark rest (counted c s)).world ≡ s.world) × ((entered o c s.next mark rest (counted c s)).query ≡ s.query)
+  by_unifier None = (refl, refl, refl)
+  by_unifier (Some u) = (refl, refl, refl)
 
 -- the state behind failure, at which the newest alternative's clauses are tried
 abbrev pub retry_from : List Alternative → State → State

@@ -9,7 +9,7 @@ use Rattle.iso_model.specs.Syntax.Characters.{is_punctuation, is_digit}
 use Rattle.iso_model.specs.Terms.Trees.{Tree, Variable}
 use Rattle.iso_model.specs.Syntax.Token.{Shown, TokenKind, NameToken, QuotedToken}
 use Rattle.iso_model.specs.Syntax.Texts.{is_bare, name_text, quoted_bytes}
-use Rattle.iso_model.specs.Syntax.Grammar.{Node, closed, is_name, is_integer, is_punct, is_mark, opens_arguments, is_direct_integer, next_is, name_begins, begins_by, begins, number_of, with_name_by, place_of, Reads, Operand, alone, variable_at}
+use Rattle.iso_model.specs.Syntax.Grammar.{Node, closed, is_name, is_integer, is_punct, is_mark, opens_arguments, is_direct_integer, next_is, name_begins, begins_by, begins, number_of, with_name_by, name_place, Reads, Operand, alone, variable_at}
 use Rattle.iso_model.specs.Syntax.Pieces.{Piece, piece, begins_open, begins_digit, pieces_text}
 use Rattle.iso_model.proofs.Syntax.ReadingSound.{left_at}
 use Rattle.iso_model.proofs.Syntax.PieceTokens.{AreTokens, IsMarkToken, IsNameToken}
@@ -195,12 +195,12 @@ module _ (table : List Operator) (flags : Flags) where
   pub read_operand : {ts rest : List Shown} {names behind : List (List ℕ)} {t : Tree} {height : ℕ} {qs : List Piece} → AreTokens qs rest → Operand table flags (left_at ts names) (closed t height) (left_at rest behind) → IsRead ts names behind t 0 false qs
   read_operand {rest = rest} {height = height} tokens reads = record { rest = rest; tokens = tokens; height = height; reads = alone reads }
 
-  pub place_part : (number : ℕ) (names : List (List ℕ)) → IsPart (piece (95 ∷ decimal number) ∷ []) 0 false false names (with_name_by (95 ∷ decimal number) names (place_of (95 ∷ decimal number) names)) (Variable (number_of (95 ∷ decimal number) names))
+  pub place_part : (number : ℕ) (names : List (List ℕ)) → IsPart (piece (95 ∷ decimal number) ∷ []) 0 false false names (with_name_by (95 ∷ decimal number) names (name_place (95 ∷ decimal number) names)) (Variable (number_of (95 ∷ decimal number) names))
   place_part number names = record {
     some = (refl, omega arith);
     reads = λ b qs ts follows ends tokens.
         let x = place_first number (b || false) qs ts tokens in
-        rw x.is (read_operand {height = 0} x.tokens (subst (λ text. Operand table flags (left_at (x.first ∷ x.others) names) (closed (Variable (number_of text names)) 0) (left_at x.others (with_name_by text names (place_of text names)))) x.holds.text
+        rw x.is (read_operand {height = 0} x.tokens (subst (λ text. Operand table flags (left_at (x.first ∷ x.others) names) (closed (Variable (number_of text names)) 0) (left_at x.others (with_name_by text names (name_place text names)))) x.holds.text
         (variable_at {s = left_at x.others names} {t = x.first} x.holds.kind)));
     begins = λ _. record {
       begins = λ b qs ts tokens. let x = place_first number (b || false) qs ts tokens in rw x.is (ap (begins_by table x.first x.others) x.holds.kind);

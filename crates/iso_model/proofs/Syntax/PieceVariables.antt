@@ -140,7 +140,7 @@ module _ (seen : List ℕ) (few : length seen < 10 ^ 64) where
       rw (named_text x a, place_read x vs a h, length_read vs) (unwrapped (length vs) (place_of x vs) (place_within x vs))
 
   pub names_read : (x : ℕ) (vs : List ℕ) → is_in x seen ≡ true → ((y : ℕ) → is_in y vs ≡ true → is_in y seen ≡ true)
-      → with_name_by (variable_text seen x) (texts vs) (grammar.place_of (variable_text seen x) (texts vs)) ≡ texts (distinct_from vs (Variable x))
+      → with_name_by (variable_text seen x) (texts vs) (grammar.name_place (variable_text seen x) (texts vs)) ≡ texts (distinct_from vs (Variable x))
   names_read x vs a h =
       elim (cases_Bool (is_in x vs)) [
         | inl old ↦ rw (named_text x a, place_read x vs a h, length_read vs, old, some_place (place_of x vs) (length vs) (place_below x vs old)) refl

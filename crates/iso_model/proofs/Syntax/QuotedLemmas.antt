@@ -4,24 +4,24 @@ use Rattle.std.proofs.lemmas.List.{length-drop, drop-drop}
 use Rattle.std.proofs.lemmas.Bool.{cond_both}
 use Rattle.std.proofs.lemmas.Bool.Decides.{nat_tests}
 use Rattle.iso_model.specs.Syntax.Numbers.{Written}
-use Rattle.iso_model.specs.Syntax.Quoted.{Piece, Closes, Stands, Broken, escaped, piece_at, len_by, len_from, content_from}
+use Rattle.iso_model.specs.Syntax.Quoted.{QuotedPiece, Closes, Stands, Broken, escaped, piece_at, len_by, len_from, content_from}
 use Rattle.iso_model.proofs.Syntax.CutLemmas.{Ends, EndsIn, byte_within, ascii-ends, character-ends, ends_later}
 use Rattle.iso_model.proofs.Syntax.NumberLemmas.{IfEnds, escape-ends}
 
 same_byte : (a b : ℕ) → (a == b) ≡ true → a ≡ b
 same_byte a b h = grind (arith, nat_tests)
 
-abbrev ends_of : List ℕ → Piece → Type 0
+abbrev ends_of : List ℕ → QuotedPiece → Type 0
 ends_of z Closes = Unit {0}
 ends_of z (Stands content len) = Ends z len
 ends_of z Broken = Unit {0}
 
 -- a piece that stands for something ends where a character does; a quote that closes is one
-pub record PieceEnds (quote : ℕ) (z : List ℕ) (p : Piece) : Type 0 where
+pub record PieceEnds (quote : ℕ) (z : List ℕ) (p : QuotedPiece) : Type 0 where
   pub ends : ends_of z p
   pub closes : p ≡ Closes → slice_index z 0 ≡ quote
 
-piece_if : (q : ℕ) (z : List ℕ) (b : Bool) (x y : Piece) → (b ≡ true → PieceEnds q z x) → (b ≡ false → PieceEnds q z y) → PieceEnds q z (if b then x else y)
+piece_if : (q : ℕ) (z : List ℕ) (b : Bool) (x y : QuotedPiece) → (b ≡ true → PieceEnds q z x) → (b ≡ false → PieceEnds q z y) → PieceEnds q z (if b then x else y)
 piece_if q z b x y h g = cond_both b x y (PieceEnds q z) h g
 
 stands : (q : ℕ) (z content : List ℕ) (len : ℕ) → Ends z len → PieceEnds q z (Stands content len)
@@ -49,7 +49,7 @@ piece-ends q z some small any =
     (λ _. piece_if q z (slice_index z 1 == 10) _ _ (λ d. stands q z _ 2 (pair-ends z 10 (omega arith) (omega arith) d)) (λ _. escaped-ends q z _ (escape-ends z)))
     (λ _. stands q z _ _ (character-ends z any))))
 
-len_by-ends : (q b : ℕ) (z : List ℕ) (p : Piece) → PieceEnds q (b ∷ z) p → ((left : ℕ) → EndsIn q z (len_from q left z)) → EndsIn q (b ∷ z) (len_by p (λ left. option_map suc (len_from q left z)))
+len_by-ends : (q b : ℕ) (z : List ℕ) (p : QuotedPiece) → PieceEnds q (b ∷ z) p → ((left : ℕ) → EndsIn q z (len_from q left z)) → EndsIn q (b ∷ z) (len_by p (λ left. option_map suc (len_from q left z)))
 len_by-ends q b z Closes h others = record { ends = (omega arith, omega arith, h.closes refl) }
 len_by-ends q b z Broken h others = record { ends = tt }
 len_by-ends q b z (Stands content len) h others = ends_later q b z _ (others (len - 1))

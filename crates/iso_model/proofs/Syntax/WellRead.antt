@@ -16,7 +16,7 @@ use Rattle.iso_model.specs.Syntax.Token.{Shown, content}
 use Rattle.iso_model.specs.Syntax.Lists.{nil, curly, list_before, quoted_term}
 use Rattle.iso_model.specs.Terms.Trees.{Tree, Variable, Integer, Name, Apply, More, row, count, arities_fit}
 use Rattle.iso_model.specs.Terms.Numbering.{next_number}
-use Rattle.iso_model.specs.Syntax.Grammar.{Clause, IsClause, numbered, Left, Node, Row, place_of, with_name_by, Reads, Operand, Named, Elements, alone, between, behind, variable_at, integer_at, double_at, name_at, nil_at, curly_at, brackets_at, braces_at, list_at, list_with_tail_at, compound_of, literal_of, atom_of, operator_alone, operator_before, last_of, more_of}
+use Rattle.iso_model.specs.Syntax.Grammar.{ReadTerm, IsReadTerm, numbered, Left, Node, Row, name_place, with_name_by, Reads, Operand, Named, Elements, alone, between, behind, variable_at, integer_at, double_at, name_at, nil_at, curly_at, brackets_at, braces_at, list_at, list_with_tail_at, compound_of, literal_of, atom_of, operator_alone, operator_before, last_of, more_of}
 
 count_row : (ts : List Tree) → count (row ts) ≡ length ts
 count_row [] = refl
@@ -113,7 +113,7 @@ module _ (table : List Operator) (flags : Flags) where
     reads_well (behind {o = o} a none at left) = one_well o.name _ _ _ (reads_well a)
 
     operand_well : {s z : Left} {n : Node} → Operand table flags s n z → IsWell n.term (length s.names) (length z.names)
-    operand_well (variable_at {s} {t} is) = record { arities = refl; numbered = variable_numbered t.text s.names (place_of t.text s.names) (place_below_by (bytes_eq t.text (codes "_")) (λ other. bytes_eq other t.text) s.names) }
+    operand_well (variable_at {s} {t} is) = record { arities = refl; numbered = variable_numbered t.text s.names (name_place t.text s.names) (place_below_by (bytes_eq t.text (codes "_")) (λ other. bytes_eq other t.text) s.names) }
     operand_well (integer_at is le) = record { arities = refl; numbered = refl }
     operand_well (double_at {s} {t} is) = quoted_well flags.double_quotes (content t) (length s.names)
     operand_well (name_at is a) = named_well a
@@ -140,7 +140,7 @@ module _ (table : List Operator) (flags : Flags) where
         let y = elements_well b in
         (omega arith, record { arities = rw (x.arities, y.1.arities) refl; numbered = rw (x.numbered, y.1.numbered) refl })
 
-  pub clause_well_read : (ts : List Shown) (c : Clause) → IsClause table flags ts c → IsWellRead c
+  pub clause_well_read : (ts : List Shown) (c : ReadTerm) → IsReadTerm table flags ts c → IsWellRead c
   clause_well_read ts c k =
       let x = reads_well k.reads in
       rw k.is (record { arities = x.arities; count = length k.names; numbered = x.numbered; named = names_below k.names 0 (length k.names) (omega arith) })

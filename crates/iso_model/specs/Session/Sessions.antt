@@ -7,6 +7,7 @@ use Rattle.iso_model.specs.Syntax.Token.{Shown}
 use Rattle.iso_model.specs.Syntax.Tokens.{tokens}
 use Rattle.iso_model.specs.Terms.Trees.{Tree, Apply, End, More}
 use Rattle.iso_model.specs.Syntax.Items.{Item, Readable, Unreadable, Taken, next_item}
+use Rattle.iso_model.specs.Syntax.Characters.{newline}
 use Rattle.iso_model.specs.Search.Databases.{Key, key_of}
 use Rattle.iso_model.specs.Search.Additions.{Addition, Adds, Refuses, consulted}
 use Rattle.iso_model.specs.Search.Walker.{World, first_world, Answered, Wrote, NoMore, Budget, Uncaught, Halted, started}
@@ -15,42 +16,42 @@ use Rattle.iso_model.specs.Search.RunLaws.{run_of}
 use Rattle.iso_model.specs.Session.Lines.{syntax_error_line, skipped_line, refused_line, answer_line, error_line, halt_line}
 
 -- what a session writes at a time: bytes that a goal wrote, or a line, which stands here without its newline
-pub data Piece : Type 0 where
-  Output : (bytes : List ℕ) → Piece
-  Line : (text : List ℕ) → Piece
+pub data Segment : Type 0 where
+  Output : (bytes : List ℕ) → Segment
+  Line : (text : List ℕ) → Segment
 
 -- how a session ends that no limit ends
 pub data SessionEnd : Type 0 where
   Done : SessionEnd
   Halts : (status : ℕ) → SessionEnd
 
--- the pieces that a session writes, in order, and then its end
+-- the segments that a session writes, in order, and then its end
 pub data Script : Type 0 where
-  Shows : (piece : Piece) → (others : Script) → Script
+  Shows : (piece : Segment) → (others : Script) → Script
   Closes : (ending : SessionEnd) → Script
 
 -- whether bytes end within a line, where those before them do or don't
 abbrev pub ends_within : Bool → List ℕ → Bool
 ends_within within [] = within
-ends_within within (b ∷ z) = ends_within (not (b == 10)) z
+ends_within within (b ∷ z) = ends_within (not (b == newline)) z
 
 -- A line begins at the start of a line: where the last byte written is no newline, one is written first.
-abbrev pub piece_bytes : Bool → Piece → List ℕ
-piece_bytes within (Output bytes) = bytes
-piece_bytes within (Line text) = (if within then 10 ∷ [] else []) ++ (text ++ 10 ∷ [])
+abbrev pub segment_bytes : Bool → Segment → List ℕ
+segment_bytes within (Output bytes) = bytes
+segment_bytes within (Line text) = (if within then newline ∷ [] else []) ++ (text ++ newline ∷ [])
 
-abbrev pub within_behind : Bool → Piece → Bool
+abbrev pub within_behind : Bool → Segment → Bool
 within_behind within (Output bytes) = ends_within within bytes
 within_behind within (Line text) = false
 
--- the bytes of pieces
-abbrev pub pieces_bytes : Bool → List Piece → List ℕ
-pieces_bytes within [] = []
-pieces_bytes within (p ∷ ps) = piece_bytes within p ++ pieces_bytes (within_behind within p) ps
+-- the bytes of segments
+abbrev pub segments_bytes : Bool → List Segment → List ℕ
+segments_bytes within [] = []
+segments_bytes within (p ∷ ps) = segment_bytes within p ++ segments_bytes (within_behind within p) ps
 
 -- the bytes of a script
 abbrev pub script_bytes : Bool → Script → List ℕ
-script_bytes within (Shows p others) = piece_bytes within p ++ script_bytes (within_behind within p) others
+script_bytes within (Shows p others) = segment_bytes within p ++ script_bytes (within_behind within p) others
 script_bytes within (Closes ending) = []
 
 abbrev pub script_end : Script → SessionEnd
@@ -118,9 +119,13 @@ unfoldable pub text_script : ℕ → ℕ → List Shown → World → (World →
 text_script zero k ts w next = next w
 text_script (suc turns) k ts w next = text_by k w (next_item w.operators w.flags ts) next (λ behind v. text_script turns (k + 1) behind v next)
 
+-- a byte order mark in UTF-8
+abbrev pub byte_order_mark : List ℕ
+byte_order_mark = 239 ∷ 187 ∷ 191 ∷ []
+
 -- A byte order mark at the text's start, and then a first line that begins with `#!`, are passed over.
 abbrev pub without_mark : List ℕ → List ℕ
-without_mark (a ∷ b ∷ c ∷ z) = if bytes_eq (a ∷ b ∷ c ∷ []) (239 ∷ 187 ∷ 191 ∷ []) then z else a ∷ b ∷ c ∷ z
+without_mark (a ∷ b ∷ c ∷ z) = if bytes_eq (a ∷ b ∷ c ∷ []) byte_order_mark then z else a ∷ b ∷ c ∷ z
 without_mark z = z
 
 abbrev pub without_first_line : List ℕ → List ℕ
@@ -149,6 +154,6 @@ abbrev pub session_end : List ℕ → List ℕ → ℕ → SessionEnd
 session_end text queries budget = script_end (session_script text queries budget)
 
 -- these pieces, and then the script
-abbrev pub prepend : List Piece → Script → Script
+abbrev pub prepend : List Segment → Script → Script
 prepend [] script = script
 prepend (p ∷ ps) script = Shows p (prepend ps script)

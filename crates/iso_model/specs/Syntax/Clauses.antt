@@ -3,7 +3,7 @@ use Rattle.std.specs.Prelude.{◌≡◌, Bool, true, false, if◌then◌else◌,
 use Rattle.iso_ops.specs.Operators.{Operator}
 use Rattle.iso_ops.specs.declared.settings.Flags.{Flags}
 use Rattle.iso_model.specs.Syntax.Token.{Shown, TokenKind, EndToken}
-use Rattle.iso_model.specs.Syntax.Grammar.{Clause, IsClause}
+use Rattle.iso_model.specs.Syntax.Grammar.{ReadTerm, IsReadTerm}
 use Rattle.iso_model.specs.Syntax.Reading.{◌>>=◌, clause_of}
 
 abbrev pub is_end : TokenKind → Bool
@@ -28,14 +28,14 @@ abbrev pub behind_clause : List Shown → List Shown
 behind_clause ts = behind_by (split_clause ts)
 
 -- The tokens up to the next end token are this clause.
-pub record IsNextClause (table : List Operator) (flags : Flags) (ts : List Shown) (c : Clause) : Type 0 where
+pub record IsNextClause (table : List Operator) (flags : Flags) (ts : List Shown) (c : ReadTerm) : Type 0 where
   pub before : List Shown
   pub others : List Shown
   pub splits : split_clause ts ≡ Some (before, others)
-  pub clause : IsClause table flags before c
+  pub clause : IsReadTerm table flags before c
 
 -- the clause that the tokens up to the next end token are, read by precedence
-abbrev pub next_clause : List Operator → Flags → List Shown → Option Clause
+abbrev pub next_clause : List Operator → Flags → List Shown → Option ReadTerm
 next_clause table flags ts = do
   x ← split_clause ts
   clause_of table flags x.0

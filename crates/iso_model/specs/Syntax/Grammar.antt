@@ -21,12 +21,12 @@ abbrev pub before : Shown → Left → Left
 before t s = record { tokens = t ∷ s.tokens; names = s.names }
 
 -- where a variable's name stands among these
-abbrev pub place_of : List ℕ → List (List ℕ) → Option ℕ
-place_of name names = if bytes_eq name (codes "_") then None else position (λ other. bytes_eq other name) names
+abbrev pub name_place : List ℕ → List (List ℕ) → Option ℕ
+name_place name names = if bytes_eq name (codes "_") then None else position (λ other. bytes_eq other name) names
 
 -- the number of a variable behind variables of these names
 abbrev pub number_of : List ℕ → List (List ℕ) → ℕ
-number_of name names = unwrap_or (place_of name names) (length names)
+number_of name names = unwrap_or (name_place name names) (length names)
 
 -- the names with a variable's, where it has no place yet
 abbrev pub with_name_by : List ℕ → List (List ℕ) → Option ℕ → List (List ℕ)
@@ -34,7 +34,7 @@ with_name_by name names None = names ++ name ∷ []
 with_name_by name names (Some place) = names
 
 abbrev pub with_name : List ℕ → Left → Left
-with_name name s = record { tokens = s.tokens; names = with_name_by name s.names (place_of name s.names) }
+with_name name s = record { tokens = s.tokens; names = with_name_by name s.names (name_place name s.names) }
 
 -- A term as it is read: its priority, how deep its deepest part stands in it, and whether an operator made it whose
 -- right operand may have the operator's priority.
@@ -186,9 +186,9 @@ module _ (table : List Operator) (flags : Flags) where
       last_of : {s z : Left} {n : Node} → Reads s n z → n.priority ≤ 999 → Elements s (with_first n no_terms) z
       more_of : {s m z : Left} {n : Node} {t : Shown} {r : Row} → Reads s n (before t m) → n.priority ≤ 999 → is_mark (codes ",") t ≡ true → Elements m r z → Elements s (with_first n r) z
 
--- A clause: its term, with its variables numbered 0, 1, .. in the order of their first occurrence, and the named
+-- A term that was read (6.2), with its variables numbered 0, 1, .. in the order of their first occurrence, and the named
 -- variables but `_` with their numbers.
-pub record Clause : Type 0 where
+pub record ReadTerm : Type 0 where
   pub term : Tree
   pub names : List (List ℕ × ℕ)
 
@@ -205,8 +205,8 @@ start_of ts = record { tokens = ts; names = [] }
 abbrev pub max_depth : ℕ
 max_depth = 4096
 
--- The tokens are this clause (6.2): a term of priority at most 1200, with nothing behind it.
-pub record IsClause (table : List Operator) (flags : Flags) (ts : List Shown) (c : Clause) : Type 0 where
+-- The tokens are this term (6.2): a term of priority at most 1200, with nothing behind it.
+pub record IsReadTerm (table : List Operator) (flags : Flags) (ts : List Shown) (c : ReadTerm) : Type 0 where
   pub node : Node
   pub names : List (List ℕ)
   pub reads : Reads table flags (start_of ts) node (record { tokens = []; names = names })

@@ -1,14 +1,14 @@
 -- What a text has: terms, each up to its end token, and syntax errors (ISO/IEC 13211-1:1995, 6.2; what stands for one syntax error is own).
 use Rattle.std.specs.Prelude.{List, [], ◌∷◌, Option, Some, None}
 use Rattle.iso_model.specs.Syntax.Token.{Shown}
-use Rattle.iso_model.specs.Syntax.Grammar.{Clause}
+use Rattle.iso_model.specs.Syntax.Grammar.{ReadTerm}
 use Rattle.iso_model.specs.Syntax.Clauses.{next_clause, behind_clause}
 use Rattle.iso_ops.specs.Operators.{Operator}
 use Rattle.iso_ops.specs.declared.settings.Flags.{Flags}
 
 -- a term that was read, with its variables' names, or a syntax error
 pub data Item : Type 0 where
-  Readable : (clause : Clause) → Item
+  Readable : (clause : ReadTerm) → Item
   Unreadable : Item
 
 -- an item, and the tokens behind it
@@ -16,7 +16,7 @@ pub record Taken : Type 0 where
   pub item : Item
   pub behind : List Shown
 
-abbrev pub item_of : Option Clause → Item
+abbrev pub item_of : Option ReadTerm → Item
 item_of None = Unreadable
 item_of (Some c) = Readable c
 

@@ -1,8 +1,7 @@
 -- Numbers and character codes as a text writes them (ISO/IEC 13211-1:1995, 6.4.4, and the escapes of 6.4.2.1).
--- Bytes stand as their codes: `"` is 34, `'` 39, `0` 48, `\` 92, a backquote 96, `b` 98, `o` 111, `x` 120.
-use Rattle.std.specs.Prelude.{ℕ, ◌+◌, ◌*◌, Bool, ◌&&◌, ◌||◌, ◌==◌, nat_lt, nat_le, if◌then◌else◌, List, length, take, drop, fold, slice_index, chars, Option, Some, None, option_map, unwrap_or}
+use Rattle.std.specs.Prelude.{ℕ, ◌+◌, ◌*◌, Bool, ◌&&◌, ◌||◌, ◌==◌, nat_lt, nat_le, if◌then◌else◌, List, length, take, drop, fold, slice_index, chars, Option, Some, None, option_map, unwrap_or, codes}
 use Rattle.std.specs.Char.{digit_value}
-use Rattle.iso_model.specs.Syntax.Characters.{is_digit_of, character_len, run}
+use Rattle.iso_model.specs.Syntax.Characters.{is_digit_of, character_len, run, byte_of, alert, backspace, tab, newline, vertical_tab, form_feed, carriage_return, backslash, quote, double_quote}
 
 -- a number as it is written: its value, and how many bytes write it
 pub record Written : Type 0 where
@@ -29,21 +28,21 @@ is_scalar code = nat_lt code 0xD800 || (nat_le 0xE000 code && nat_le code 0x10_F
 -- the quotes and the backquote themselves.
 abbrev pub sign_code : ℕ → Option ℕ
 sign_code sign =
-    if sign == 97 then Some 7
-    else (if sign == 98 then Some 8
-    else (if sign == 102 then Some 12
-    else (if sign == 110 then Some 10
-    else (if sign == 114 then Some 13
-    else (if sign == 116 then Some 9
-    else (if sign == 118 then Some 11
-    else (if sign == 92 || (sign == 39 || (sign == 34 || sign == 96)) then Some sign
+    if sign == byte_of (codes "a") then Some alert
+    else (if sign == byte_of (codes "b") then Some backspace
+    else (if sign == byte_of (codes "f") then Some form_feed
+    else (if sign == byte_of (codes "n") then Some newline
+    else (if sign == byte_of (codes "r") then Some carriage_return
+    else (if sign == byte_of (codes "t") then Some tab
+    else (if sign == byte_of (codes "v") then Some vertical_tab
+    else (if sign == backslash || (sign == quote || (sign == double_quote || sign == byte_of (codes "`"))) then Some sign
     else None)))))))
 
 -- a code in digits of a base, which begin at this place, with the backslash that closes it (6.4.2.1)
 abbrev pub code_escape : ℕ → ℕ → List ℕ → Option Written
 code_escape base from text =
     let digits = digits_at base (drop from text) in
-    if nat_lt 0 digits.len && (slice_index text (from + digits.len) == 92 && is_scalar digits.value)
+    if nat_lt 0 digits.len && (slice_index text (from + digits.len) == backslash && is_scalar digits.value)
     then Some (record { value = digits.value; len = from + digits.len + 1 })
     else None
 
@@ -51,7 +50,7 @@ code_escape base from text =
 abbrev pub escape : List ℕ → Option Written
 escape text =
     let sign = slice_index text 1 in
-    if sign == 120 then code_escape 16 2 text
+    if sign == byte_of (codes "x") then code_escape 16 2 text
     else (if is_digit_of 8 sign then code_escape 8 1 text
     else option_map (λ code. record { value = code; len = 2 }) (sign_code sign))
 
@@ -59,9 +58,9 @@ escape text =
 abbrev pub quoted_character : List ℕ → Option Written
 quoted_character text =
     let byte = slice_index text 0 in
-    if byte == 39 then (if slice_index text 1 == 39 then Some (record { value = 39; len = 2 }) else None)
-    else (if byte == 92 then escape text
-    else (if byte == 10 || length text == 0 then None
+    if byte == quote then (if slice_index text 1 == quote then Some (record { value = quote; len = 2 }) else None)
+    else (if byte == backslash then escape text
+    else (if byte == newline || length text == 0 then None
     else Some (record { value = slice_index (chars text) 0; len = character_len text })))
 
 -- a number behind two bytes
@@ -76,11 +75,11 @@ based base text = let digits = digits_at base (drop 2 text) in if nat_lt 0 digit
 abbrev pub special : List ℕ → Option Written
 special text =
     let letter = slice_index text 1 in
-    if slice_index text 0 == 48 then (
-    if letter == 39 then option_map behind_two (quoted_character (drop 2 text))
-    else (if letter == 98 then based 2 text
-    else (if letter == 111 then based 8 text
-    else (if letter == 120 then based 16 text
+    if slice_index text 0 == byte_of (codes "0") then (
+    if letter == quote then option_map behind_two (quoted_character (drop 2 text))
+    else (if letter == byte_of (codes "b") then based 2 text
+    else (if letter == byte_of (codes "o") then based 8 text
+    else (if letter == byte_of (codes "x") then based 16 text
     else None))))
     else None
 

@@ -5,7 +5,7 @@ use Rattle.std.specs.Fmt.{signed_decimal}
 use Rattle.std.specs.List.{list_all}
 use Rattle.std.specs.Str.{bytes_eq}
 use Rattle.iso_ops.specs.Operators.{Operator}
-use Rattle.iso_model.specs.Syntax.Characters.{is_digit, is_alphanumeric, is_graphic}
+use Rattle.iso_model.specs.Syntax.Characters.{is_digit, is_alphanumeric, is_graphic, space, quote, byte_of}
 use Rattle.iso_model.specs.Syntax.Operators.{prefix_named, infix_named, postfix_named, left_of, right_of, takes_equal, is_right_open}
 use Rattle.iso_model.specs.Terms.Trees.{Tree, Variable, Integer, Name, Apply, End, More}
 use Rattle.iso_model.specs.Syntax.Texts.{is_bare, name_text, variable_text}
@@ -49,10 +49,10 @@ last_byte (b ∷ c ∷ z) = last_byte (c ∷ z)
 -- Whether a space parts two neighbours: both are letters, digits or `_`, both graphic, a digit and a quote, or both quotes.
 abbrev pub run_together : ℕ → ℕ → Bool
 run_together last first =
-    (is_alphanumeric last && is_alphanumeric first) || ((is_graphic last && is_graphic first) || ((is_digit last || last == 39) && first == 39))
+    (is_alphanumeric last && is_alphanumeric first) || ((is_graphic last && is_graphic first) || ((is_digit last || last == quote) && first == quote))
 
 abbrev pub parted : List ℕ → Piece → List ℕ
-parted before p = if p.spaced || run_together (last_byte before) (slice_index p.text 0) then 32 ∷ p.text else p.text
+parted before p = if p.spaced || run_together (last_byte before) (slice_index p.text 0) then space ∷ p.text else p.text
 
 -- the bytes of pieces behind a piece with this text
 abbrev pub pieces_behind : List ℕ → List Piece → List ℕ
@@ -109,7 +109,7 @@ is_symbolic name = bytes_eq name (codes ",") || (bytes_eq name (codes ";") || (i
 
 -- whether the text of these pieces begins with a bracket, or with a digit
 abbrev pub begins_open : List Piece → Bool
-begins_open ps = slice_index (pieces_text ps) 0 == 40
+begins_open ps = slice_index (pieces_text ps) 0 == byte_of (codes "(")
 
 abbrev pub begins_digit : List Piece → Bool
 begins_digit ps = is_digit (slice_index (pieces_text ps) 0)

@@ -5,7 +5,7 @@ use Rattle.iso_ops.specs.Operators.{Operator}
 use Rattle.iso_ops.specs.declared.settings.Flags.{Flags}
 use Rattle.iso_model.specs.Syntax.Operators.{prefix_named, left_of, right_of, takes_equal}
 use Rattle.iso_model.specs.Syntax.Token.{Shown, TokenKind, NameToken, QuotedToken, DoubleToken, VariableToken, IntegerToken, PunctToken, magnitude, content}
-use Rattle.iso_model.specs.Syntax.Grammar.{Left, Node, Row, Clause, number_of, with_name, closed, joined, applied, no_terms, with_first, is_mark, opens_arguments, next_is, negates, begins, max_integer, max_depth, infix_at, postfix_at, numbered, start_of}
+use Rattle.iso_model.specs.Syntax.Grammar.{Left, Node, Row, ReadTerm, number_of, with_name, closed, joined, applied, no_terms, with_first, is_mark, opens_arguments, next_is, negates, begins, max_integer, max_depth, infix_at, postfix_at, numbered, start_of}
 use Rattle.iso_model.specs.Syntax.Lists.{nil, curly, list_before, quoted_term}
 use Rattle.iso_model.specs.Terms.Trees.{Variable, Integer, Name, Apply, row}
 
@@ -202,11 +202,11 @@ module _ (table : List Operator) (flags : Flags) where
     x ← operand (term depth) s
     if nat_le x.0.priority most then continued (term depth) depth most x.0 x.1 else None
 
-  abbrev pub clause_by : Node × Left → Option Clause
+  abbrev pub clause_by : Node × Left → Option ReadTerm
   clause_by (n, s) = if nat_lt 0 (length s.tokens) then None else Some (record { term = n.term; names = numbered 0 s.names })
 
   -- the clause that the tokens are
-  unfoldable pub clause_of : List Shown → Option Clause
+  unfoldable pub clause_of : List Shown → Option ReadTerm
   clause_of ts = do
     x ← term (max_depth + 1) 1200 (start_of ts)
     clause_by x

@@ -3,11 +3,11 @@ use Rattle.std.specs.Prelude.{ℕ, ◌+◌, List, [], ◌∷◌, ◌++◌, Bool,
 use Rattle.std.specs.Fmt.{decimal, digits}
 use Rattle.std.specs.List.{list_all}
 use Rattle.std.specs.Str.{bytes_eq}
-use Rattle.iso_model.specs.Syntax.Characters.{is_small, is_alphanumeric, is_graphic}
+use Rattle.iso_model.specs.Syntax.Characters.{is_small, is_alphanumeric, is_graphic, byte_of, alert, backspace, tab, newline, vertical_tab, form_feed, carriage_return, delete, space, backslash, quote}
 
 -- a text that begins with `/*`, as a comment does
 abbrev pub opens_comment : List ℕ → Bool
-opens_comment (a ∷ b ∷ z) = a == 47 && b == 42
+opens_comment (a ∷ b ∷ z) = a == byte_of (codes "/") && b == byte_of (codes "*")
 opens_comment _ = false
 
 -- An atom of letters, digits and `_` that begins with a small letter, or of graphic characters alone, stands bare (6.4.2).
@@ -21,19 +21,19 @@ is_bare a = bytes_eq a (codes "[]") || (bytes_eq a (codes "{}") || (bytes_eq a (
 
 -- A byte of a quoted atom (6.4.2.1): a backslash and a quote behind a backslash, control characters as escapes, any other as it is.
 abbrev pub escaped : ℕ → List ℕ
-escaped b = 92 ∷ b ∷ []
+escaped b = backslash ∷ b ∷ []
 
 abbrev pub quoted_byte : ℕ → List ℕ
 quoted_byte b =
-    if b == 92 || b == 39 then escaped b
-    else (if b == 7 then escaped 97
-    else (if b == 8 then escaped 98
-    else (if b == 9 then escaped 116
-    else (if b == 10 then escaped 110
-    else (if b == 11 then escaped 118
-    else (if b == 12 then escaped 102
-    else (if b == 13 then escaped 114
-    else (if nat_lt b 32 || b == 127 then 92 ∷ 120 ∷ (digits 16 false b ++ 92 ∷ [])
+    if b == backslash || b == quote then escaped b
+    else (if b == alert then escaped (byte_of (codes "a"))
+    else (if b == backspace then escaped (byte_of (codes "b"))
+    else (if b == tab then escaped (byte_of (codes "t"))
+    else (if b == newline then escaped (byte_of (codes "n"))
+    else (if b == vertical_tab then escaped (byte_of (codes "v"))
+    else (if b == form_feed then escaped (byte_of (codes "f"))
+    else (if b == carriage_return then escaped (byte_of (codes "r"))
+    else (if nat_lt b space || b == delete then backslash ∷ byte_of (codes "x") ∷ (digits 16 false b ++ backslash ∷ [])
     else b ∷ []))))))))
 
 abbrev pub quoted_bytes : List ℕ → List ℕ
@@ -42,8 +42,8 @@ quoted_bytes (b ∷ z) = quoted_byte b ++ quoted_bytes z
 
 -- an atom, or a compound's name
 abbrev pub name_text : List ℕ → List ℕ
-name_text a = if is_bare a then a else 39 ∷ (quoted_bytes a ++ 39 ∷ [])
+name_text a = if is_bare a then a else quote ∷ (quoted_bytes a ++ quote ∷ [])
 
 -- a variable: `_k`, where it is the k-th of these
 abbrev pub variable_text : List ℕ → ℕ → List ℕ
-variable_text seen n = 95 ∷ decimal (unwrap_or (position (λ m. m == n) seen) (length seen) + 1)
+variable_text seen n = byte_of (codes "_") ∷ decimal (unwrap_or (position (λ m. m == n) seen) (length seen) + 1)

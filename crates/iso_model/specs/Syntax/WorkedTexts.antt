@@ -7,7 +7,7 @@ use Rattle.iso_model.specs.Syntax.Token.{Shown, TokenKind, NameToken, QuotedToke
 use Rattle.iso_model.specs.Syntax.Tokens.{tokens}
 use Rattle.iso_ops.specs.InitialOperators.{initial_entries}
 use Rattle.iso_ops.specs.Settings.{initial_flags}
-use Rattle.iso_model.specs.Syntax.Grammar.{Clause}
+use Rattle.iso_model.specs.Syntax.Grammar.{ReadTerm}
 use Rattle.iso_model.specs.Syntax.Clauses.{IsNextClause}
 use Rattle.iso_model.specs.Search.WorkedRuns.{rule, number}
 
@@ -86,18 +86,18 @@ abbrev pub TokensOfAllForms : Type 0
 TokensOfAllForms = TokensOfForms × ValuesOfForms × TokensOfOpenItem
 
 -- `eq(X, X)`: both are variable 0, and its name is X.
-abbrev pub equal_clause : Clause
+abbrev pub equal_clause : ReadTerm
 equal_clause = record { term = two (codes "eq") (Variable 0) (Variable 0); names = (codes "X", 0) ∷ [] }
 
 -- `p(Y, _) :- q, r(1, Y)`: Y is variable 0, `_` is variable 1 and has no name, and the comma joins the goals of the body.
-abbrev pub rule_clause : Clause
+abbrev pub rule_clause : ReadTerm
 rule_clause = record {
   term = rule (two (codes "p") (Variable 0) (Variable 1)) (two (codes ",") (Name (codes "q")) (two (codes "r") (number 1) (Variable 0)));
   names = (codes "Y", 0) ∷ [];
 }
 
 -- `l :- l`
-abbrev pub loop_clause : Clause
+abbrev pub loop_clause : ReadTerm
 loop_clause = record { term = rule (Name (codes "l")) (Name (codes "l")); names = [] }
 
 -- Those are the three clauses by the grammar (6.2, 6.3).
@@ -108,7 +108,7 @@ ReadingOfThreeClauses =
 
 -- The tokens of this text up to its end token are no clause.
 abbrev pub IsNoClause : List ℕ → Type 0
-IsNoClause text = (c : Clause) → IsNextClause initial_entries initial_flags (tokens text) c → ⊥
+IsNoClause text = (c : ReadTerm) → IsNextClause initial_entries initial_flags (tokens text) c → ⊥
 
 -- Three texts that are no clauses: an argument has a priority of at most 999 and `:-` has 1200 (6.3.3.1), an infix
 -- operator takes an operand on its right (6.3.4.2), and a `(` behind layout opens no arguments (6.3.3).

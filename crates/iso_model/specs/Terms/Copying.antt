@@ -1,13 +1,24 @@
--- What is left to do of a copy.
+-- What is left to do of a copy, and how its variables are named.
 use Rattle.std.specs.Prelude.{List, map}
 use Rattle.iso_model.specs.declared.terms.Task.{Task}
 use Rattle.iso_model.specs.declared.terms.Task.TheVariants.{Copy, Build}
+use Rattle.iso_model.specs.declared.terms.Naming.{Naming}
+use Rattle.iso_model.specs.declared.terms.Naming.TheVariants.{Same, Places}
+use Rattle.iso_model.specs.Terms.Trees.{Variable}
 use Rattle.iso_model.specs.Terms.TermOf.{term_of}
+use Rattle.iso_model.specs.Terms.Substitutions.{Subst, apply}
+use Rattle.iso_model.specs.Terms.Copies.{place_of}
 use Rattle.iso_model.specs.Terms.Building.{Step, Give, Gather}
 
-abbrev pub step_of : Task → Step
-step_of (Copy ts) = Give (map term_of ts.now)
-step_of (Build name n) = Gather name.now n
+-- each variable as it is, or by its place
+abbrev pub named_by : Naming → Subst
+named_by Same x = Variable x
+named_by (Places vs) x = Variable (place_of x vs.now)
 
-abbrev pub steps_of : List Task → List Step
-steps_of tasks = map step_of tasks
+-- where s names the variables
+abbrev pub step_of : Subst → Task → Step
+step_of s (Copy ts) = Give (map (apply s) (map term_of ts.now))
+step_of s (Build name n) = Gather name.now n
+
+abbrev pub steps_of : Subst → List Task → List Step
+steps_of s tasks = map (step_of s) tasks

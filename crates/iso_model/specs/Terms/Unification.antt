@@ -11,10 +11,10 @@ use mathlib.Core.Logic.{inl, inr}
 use Rattle.iso_model.specs.Terms.Trees.{Tree}
 use Rattle.iso_model.specs.Terms.Substitutions.{Subst, apply, compose}
 use Rattle.iso_model.specs.Terms.Unifiers.{Unifier, NeverEqual, IsUnifierOf}
-use Exists.{Outcome, Solved, exists_or_not}
+use Exists.{Answer, Solved, exists_or_not}
 
 -- the substitution that a search for a unifier found
-abbrev pub answer_of : {a b : Tree} → Outcome a b → Option Subst
+abbrev pub answer_of : {a b : Tree} → Answer a b → Option Subst
 answer_of (inl found) = Some found.0
 answer_of (inr never) = None
 

@@ -1,16 +1,11 @@
-use Rattle.std.proofs.Common.{map, sym, ◌∙◌, arith}
+use Rattle.std.proofs.Common.{◌∙◌, Result, Ok, Err, IfOk}
 use Rattle.iso_model.specs.Terms.TermOf.{term_of}
-use Rattle.iso_model.specs.Terms.Copying.{step_of}
-use Rattle.iso_model.proofs.OnTerms.BuildingLemmas.{with_steps-more, steps_load-more}
+use Rattle.iso_model.specs.Terms.Unification.Applied.{apply_none}
 use Rattle.iso_model.proofs.terms.copied.Goals as goal
 
-pub loop-task-smaller : goal.loop-task-smaller
-loop-task-smaller c =
-    let popped = steps_load-more step_of c.pop.new.self.items c.loop-task.tasks.items c.in-Some.task c.in-Some.ensures.items in
-    let less = c.in_ok-do_task.ensures.load in
-    omega arith
+if_ok_by : {T E : Type 0} {P Q : T → Type 0} (r : Result T E) → IfOk r P → ((t : T) → P t → Q t) → IfOk r Q
+if_ok_by (Ok t) h f = f t h
+if_ok_by (Err e) h f = tt
 
-pub loop-task-preserved : goal.loop-task-preserved
-loop-task-preserved c =
-    let popped = with_steps-more step_of c.pop.new.self.items c.loop-task.tasks.items c.in-Some.task c.in-Some.ensures.items (map term_of c.loop-task.copies.items) in
-    c.in_ok-do_task.ensures.steps ∙ sym popped ∙ c.loop-task.invariant
+pub returns : goal.returns
+returns c = if_ok_by c.copied_by.result c.copied_by.ensures (λ t e. e ∙ apply_none (term_of c.args.term.now))

@@ -98,3 +98,29 @@ pub same_ends : (u s : State) (e : Ending) (w : World) (P : State → Type 0) �
 same_ends u s e w P first h stands same =
     let k = after_end (subst (λ (o : Outcome). SameOut o (step (opened s))) h (same_out u s first same)) in
     record { at = opened s; world = w; quiet = opens s; last = k; stands = stands }
+
+-- the same with no question of what comes first
+
+pub onward_same : (u v s : State) → step u ≡ Goes v → Same u s → (t : State) × Quiet s t × Same v t
+onward_same u v s h same =
+    elim (begins u.list) [
+      | inl parts ↦ (let there = taken_apart u parts.0 parts.1 parts.2 parts.3 parts.4 in
+          let both : Goes v ≡ Goes (record u { list = Goal parts.0 parts.2 ∷ Goal parts.1 parts.2 ∷ parts.3 }) = sym h ∙ there in
+          let is : v ≡ record u { list = Goal parts.0 parts.2 ∷ Goal parts.1 parts.2 ∷ parts.3 } = cc in
+          (s, here, subst (λ (x : State). Same x s) (sym is) (same_apart u s parts.0 parts.1 parts.2 parts.3 parts.4 same)))
+      | inr first ↦ same_goes u v s first h same
+    ]
+
+pub comes_same : (u v s : State) (e : Event) (P : State → Type 0) → step u ≡ Gives e v → ((t : State) → Same v t → P t) → Same u s → Comes s e P
+comes_same u v s e P h stands same =
+    elim (begins u.list) [
+      | inl parts ↦ (let both : Gives e v ≡ Goes (record u { list = Goal parts.0 parts.2 ∷ Goal parts.1 parts.2 ∷ parts.3 }) = sym h ∙ taken_apart u parts.0 parts.1 parts.2 parts.3 parts.4 in absurd (cc))
+      | inr first ↦ same_gives u v s e P first h stands same
+    ]
+
+pub finishes_same : (u s : State) (e : Ending) (w : World) (P : State → Type 0) → step u ≡ Ends e w → P (idle w) → Same u s → Finishes s e P
+finishes_same u s e w P h stands same =
+    elim (begins u.list) [
+      | inl parts ↦ (let both : Ends e w ≡ Goes (record u { list = Goal parts.0 parts.2 ∷ Goal parts.1 parts.2 ∷ parts.3 }) = sym h ∙ taken_apart u parts.0 parts.1 parts.2 parts.3 parts.4 in absurd (cc))
+      | inr first ↦ same_ends u s e w P first h stands same
+    ]

@@ -29,12 +29,12 @@ solved_unifier (inside f h) = unifier_apply f (solved_unifier h)
 solved_unifier (in_turn h k) = unifier_more (solved_unifier h) (solved_unifier k)
 
 -- how a search for a unifier ends
-abbrev pub Outcome : Tree → Tree → Type 0
-Outcome a b = ((s : Subst) × Solved a b s) ⊎ NeverEqual a b
+abbrev pub Answer : Tree → Tree → Type 0
+Answer a b = ((s : Subst) × Solved a b s) ⊎ NeverEqual a b
 
-outcome_swapped : (a b : Tree) → Outcome a b → Outcome b a
-outcome_swapped a b (inl h) = inl (h.0, swapped h.1)
-outcome_swapped a b (inr never) = inr (never_sym a b never)
+answer_swapped : (a b : Tree) → Answer a b → Answer b a
+answer_swapped a b (inl h) = inl (h.0, swapped h.1)
+answer_swapped a b (inr never) = inr (never_sym a b never)
 
 same_names : (f g : List ℕ) → (f ≡ g) ⊎ (f ≢ g)
 same_names f g =
@@ -47,7 +47,7 @@ same_integers : (y z : ℤ) → (y ≡ z) ⊎ (y ≢ z)
 same_integers y z = elim (ℤ_discrete y z) [ yes e ↦ inl e | no d ↦ inr d ]
 
 -- a variable and what is no variable
-with_term : (x : ℕ) (r : Tree) → ((m : ℕ) → r ≢ Variable m) → Outcome (Variable x) r
+with_term : (x : ℕ) (r : Tree) → ((m : ℕ) → r ≢ Variable m) → Answer (Variable x) r
 with_term x r other =
     elim (cases_Bool (occurs x r)) [
       | inl deep ↦ inr (never_occurs x r deep (other x))
@@ -55,7 +55,7 @@ with_term x r other =
     ]
 
 -- two variables: the younger is bound to the older
-with_variable : (x y : ℕ) → Outcome (Variable x) (Variable y)
+with_variable : (x y : ℕ) → Answer (Variable x) (Variable y)
 with_variable x y =
     elim (cases_order x y) [
       | inl e ↦ inl (Variable, subst (λ k. Solved (Variable x) (Variable k) Variable) e (already (Variable x)))
@@ -63,7 +63,7 @@ with_variable x y =
       | inr (inr more) ↦ inl (single x (Variable y), bound x (Variable y) (ne_eqb y x (λ e. absurd (omega arith))) (λ m e. (let k : y ≡ m = cc in omega arith)))
     ]
 
-with_any : (x : ℕ) (r : Tree) → Outcome (Variable x) r
+with_any : (x : ℕ) (r : Tree) → Answer (Variable x) r
 with_any x (Variable y) = with_variable x y
 with_any x (Integer z) = with_term x (Integer z) (λ m e. cc)
 with_any x (Name a) = with_term x (Name a) (λ m e. cc)
@@ -110,17 +110,17 @@ shrunk_covers {a} {b} {s} h vs in_a in_b x binds c in_c y o =
     ] in
     is_in-without x y vs listed differ
 
-then_rest : (a b c d : Tree) (s : Subst) → Solved a b s → Outcome (apply s c) (apply s d) → Outcome (More a c) (More b d)
+then_rest : (a b c d : Tree) (s : Subst) → Solved a b s → Answer (apply s c) (apply s d) → Answer (More a c) (More b d)
 then_rest a b c d s h (inl k) = inl (compose s k.0, in_turn h k.1)
 then_rest a b c d s h (inr never) = inr (never_rest c d (solved_unifier h) never)
 
-within : (f g : List ℕ) (a b : Tree) → f ≡ g → Outcome a b → Outcome (Apply f a) (Apply g b)
+within : (f g : List ℕ) (a b : Tree) → f ≡ g → Answer a b → Answer (Apply f a) (Apply g b)
 within f g a b e (inl h) = inl (h.0, subst (λ k. Solved (Apply f a) (Apply k b) h.0) e (inside f h.1))
 within f g a b e (inr never) = inr (never_apply a b f g never)
 
 -- the list of variables gets shorter, or the terms get smaller
-module _ (vs : List ℕ) (fewer : (ws : List ℕ) → length ws < length vs → (a b : Tree) → Covers ws a → Covers ws b → Outcome a b) where
-  in_order : (a b c d : Tree) → Covers vs (More a c) → Covers vs (More b d) → Outcome a b → Outcome c d → Outcome (More a c) (More b d)
+module _ (vs : List ℕ) (fewer : (ws : List ℕ) → length ws < length vs → (a b : Tree) → Covers ws a → Covers ws b → Answer a b) where
+  in_order : (a b c d : Tree) → Covers vs (More a c) → Covers vs (More b d) → Answer a b → Answer c d → Answer (More a c) (More b d)
   in_order a b c d left right (inr never) others = inr (never_first a b c d never)
   in_order a b c d left right (inl h) others =
       let s = h.0 in
@@ -128,9 +128,9 @@ module _ (vs : List ℕ) (fewer : (ws : List ℕ) → length ws < length vs → 
       let in_c : Covers vs c = λ x o. left x (or_right (occurs x a) (occurs x c) o) in
       let in_b : Covers vs b = λ x o. right x (or_left (occurs x b) (occurs x d) o) in
       let in_d : Covers vs d = λ x o. right x (or_right (occurs x b) (occurs x d) o) in
-      let rest : Outcome (apply s c) (apply s d) =
+      let rest : Answer (apply s c) (apply s d) =
       elim (binds_or_not s vs) [
-        | inl alone ↦ subst₂ Outcome
+        | inl alone ↦ subst₂ Answer
             (sym (apply_alone s c (λ x o. alone x (in_c x o))))
             (sym (apply_alone s d (λ x o. alone x (in_d x o))))
             others
@@ -141,9 +141,9 @@ module _ (vs : List ℕ) (fewer : (ws : List ℕ) → length ws < length vs → 
       ] in
       then_rest a b c d s h.1 rest
 
-  solve : (a b : Tree) → Covers vs a → Covers vs b → Outcome a b
+  solve : (a b : Tree) → Covers vs a → Covers vs b → Answer a b
   solve (Variable x) b left right = with_any x b
-  solve a (Variable y) left right = outcome_swapped (Variable y) a (with_any y a)
+  solve a (Variable y) left right = answer_swapped (Variable y) a (with_any y a)
   solve (Integer y) (Integer z) left right =
       elim (same_integers y z) [
         | inl e ↦ inl (Variable, subst (λ k. Solved (Integer y) (Integer k) Variable) e (already (Integer y)))
@@ -166,11 +166,11 @@ module _ (vs : List ℕ) (fewer : (ws : List ℕ) → length ws < length vs → 
       (solve c d (λ x o. left x (or_right (occurs x a) (occurs x c) o)) (λ x o. right x (or_right (occurs x b) (occurs x d) o)))
   solve _ _ left right = inr (λ t e. cc)
 
-solve_within : (k : ℕ) (vs : List ℕ) → length vs < k → (a b : Tree) → Covers vs a → Covers vs b → Outcome a b
+solve_within : (k : ℕ) (vs : List ℕ) → length vs < k → (a b : Tree) → Covers vs a → Covers vs b → Answer a b
 solve_within zero vs short = absurd (omega arith)
 solve_within (suc k) vs short = solve vs (λ ws less. solve_within k ws (omega arith))
 
-pub exists_or_not : (a b : Tree) → Outcome a b
+pub exists_or_not : (a b : Tree) → Answer a b
 exists_or_not a b =
     let vs = variables (More a b) in
     let covers = distinct_covers [] (More a b) in

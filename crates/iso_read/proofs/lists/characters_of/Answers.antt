@@ -1,6 +1,5 @@
-use Rattle.std.proofs.Common.{◌≡◌, [], ◌∷◌, map, chars, encode_utf8}
+use Rattle.std.proofs.Common.{encode_utf8}
 use Rattle.std.proofs.lemmas.Str.{IsUtf8-past_char}
-use Rattle.iso_model.specs.Terms.TermOf.{term_of}
 use Rattle.iso_model.specs.Terms.Trees.{Name}
 use Rattle.iso_read.proofs.Joins.{character_taken, no_character}
 use Rattle.iso_read.proofs.lists.characters_of.Goals as goal

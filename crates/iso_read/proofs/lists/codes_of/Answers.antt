@@ -1,6 +1,5 @@
-use Rattle.std.proofs.Common.{◌≡◌, [], ◌∷◌, map, chars, pos}
+use Rattle.std.proofs.Common.{pos}
 use Rattle.std.proofs.lemmas.Str.{IsUtf8-past_char}
-use Rattle.iso_model.specs.Terms.TermOf.{term_of}
 use Rattle.iso_model.specs.Terms.Trees.{Integer}
 use Rattle.iso_read.proofs.Joins.{character_taken, no_character}
 use Rattle.iso_read.proofs.lists.codes_of.Goals as goal

@@ -7,4 +7,4 @@ use Rattle.iso_session.proofs.composed.append_solution.Given as goal
 
 abbrev pub invariant-loop-name : goal.invariant-loop-name
 invariant-loop-name l =
-    l.line.items ++ equations l.ops l.before l.seen.items (names_of (drop l.name-index l.names)) (map term_of l.values) ≡ l.fn.line.items ++ equations l.ops (codes " ") [] (names_of l.names) (map term_of l.values)
+    l.line.items ++ equations l.ops l.before l.seen (names_of (drop l.name-index l.names)) (map term_of l.values) ≡ l.fn.line.items ++ equations l.ops (codes " ") [] (names_of l.names) (map term_of l.values)

@@ -8,5 +8,5 @@ returns c =
     let table = c.args.ops.now in
     let t = term_of c.args.term.now in
     let old = c.args.line.now.items in
-    let text = c.in_ok-append_term.ensures.text ∙ ap (λ seen. old ++ text_in table seen t) c.new-seen.ensures.items in
+    let text = c.in_ok-append_term.ensures.text ∙ ap (λ seen. old ++ text_in table seen t) c.new-seen.ensures in
     c.in_ok-push.ensures.items ∙ ap (λ z. z ++ 10 ∷ []) text ∙ append_assoc old (text_of table t) (10 ∷ [])

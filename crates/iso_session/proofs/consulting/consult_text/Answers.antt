@@ -1,9 +1,20 @@
-use Rattle.std.proofs.Common.{ℕ, ◌+◌, ◌∙◌}
+use Rattle.std.proofs.Common.{ℕ, ◌+◌, ◌∙◌, refl}
+use Rattle.iso_model.specs.Syntax.Tokens.{tokens}
+use Rattle.iso_session.specs.Consoles.{place}
 use Rattle.iso_model.specs.Session.Sessions.{Script, Closes, Done, text_script}
 use Rattle.iso_model.specs.Search.Walker.{World, idle}
 use Rattle.iso_session.proofs.ProgressLemmas.{stops_after, breaks_after, keeps_limits-both}
-use Rattle.iso_session.proofs.ConsultLemmas.{text_ends, text_found, text_goes, nothing_found}
+use Rattle.iso_session.proofs.ConsultLemmas.{text_begins, text_ends, text_found, text_goes, nothing_found}
 use Rattle.iso_session.proofs.consulting.consult_text.Goals as goal
+
+pub loop-next-init : goal.loop-next-init
+loop-next-init g c = record {
+  ready = c.requires.ready;
+  stands = c.requires.stands;
+  limits = λ l s m. m;
+  place = λ w stands budget next. rw c.new-tokens.ensures.all (text_begins (g.E.Engine.stands_for c.args.engine.now) w (tokens c.args.text.now) (place g.W.Write.contents c.args.console.now) next stands);
+  writer = refl;
+}
 
 pub returns-in_default-next-clause-does : goal.returns-in_default-next-clause-does
 returns-in_default-next-clause-does g c = λ w stands budget next.

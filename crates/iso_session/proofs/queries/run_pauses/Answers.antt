@@ -1,5 +1,5 @@
 use Rattle.std.proofs.Common.{◌≡◌, ℕ, map, refl, ◌∙◌}
-use Rattle.iso_model.specs.Syntax.Grammar.{Clause}
+use Rattle.iso_model.specs.Syntax.Grammar.{ReadTerm}
 use Rattle.iso_model.specs.Terms.TermOf.{term_of}
 use Rattle.iso_model.specs.Session.Lines.{answer_line}
 use Rattle.iso_model.specs.Session.Sessions.{Script, query_goal}
@@ -29,7 +29,7 @@ pub loop-bytes-preserved-in-Output : goal.loop-bytes-preserved-in-Output
 loop-bytes-preserved-in-Output g c =
     let written = rw c.as_slice.ensures.value at c.in_ok-write_output-in-Output.ensures.ok in
     let within = rw c.as_slice.ensures.value at c.in_ok-write_output-in-Output.ensures.within in
-    let goes = λ (query : Clause) (w : World) (budget : ℕ) (named : names_of c.args.names.now ≡ query.names) (stands : g.E.Engine.stands_for c.args.engine.now (started (query_goal query.term) budget w)) (next : World → Script).
+    let goes = λ (query : ReadTerm) (w : World) (budget : ℕ) (named : names_of c.args.names.now ≡ query.names) (stands : g.E.Engine.stands_for c.args.engine.now (started (query_goal query.term) budget w)) (next : World → Script).
     let place = c.loop-bytes.invariant.place query w budget named stands next in
     output_goes _ (output_comes place (c.in-Output.ensures.pauses place.at place.stands c.loop-bytes.invariant.awake).0) written within in
     let first = c.loop-bytes.invariant.stands in
@@ -61,7 +61,7 @@ returns-in_default-2-clause-does g c = λ query w budget named stands next.
 
 pub loop-bytes-preserved : goal.loop-bytes-preserved
 loop-bytes-preserved g c =
-    let goes = λ (query : Clause) (w : World) (budget : ℕ) (named : names_of c.args.names.now ≡ query.names) (stands : g.E.Engine.stands_for c.args.engine.now (started (query_goal query.term) budget w)) (next : World → Script).
+    let goes = λ (query : ReadTerm) (w : World) (budget : ℕ) (named : names_of c.args.names.now ≡ query.names) (stands : g.E.Engine.stands_for c.args.engine.now (started (query_goal query.term) budget w)) (next : World → Script).
     let place = c.loop-bytes.invariant.place query w budget named stands next in
     let pauses = c.in-Answer.ensures.pauses place.at place.stands c.loop-bytes.invariant.awake in
     let turn = answer_comes c.saturating_add-count.result place pauses.0 c.saturating_add-count.ensures in

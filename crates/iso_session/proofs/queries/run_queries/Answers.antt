@@ -1,10 +1,21 @@
-use Rattle.std.proofs.Common.{◌∙◌}
+use Rattle.std.proofs.Common.{◌∙◌, refl}
+use Rattle.iso_model.specs.Syntax.Tokens.{tokens}
+use Rattle.iso_session.specs.Consoles.{place}
 use Rattle.iso_model.specs.Session.Sessions.{Closes, Done, queries_script}
 use Rattle.iso_model.specs.Search.Walker.{World, idle}
 use Rattle.iso_session.proofs.ProgressLemmas.{stops_after, breaks_after, keeps_limits-both}
 use Rattle.iso_session.proofs.ConsultLemmas.{nothing_found}
-use Rattle.iso_session.proofs.QueryLemmas.{queries_end, query_found, query_goes}
+use Rattle.iso_session.proofs.QueryLemmas.{queries_begin, queries_end, query_found, query_goes}
 use Rattle.iso_session.proofs.queries.run_queries.Goals as goal
+
+pub loop-next-init : goal.loop-next-init
+loop-next-init g c = record {
+  ready = c.requires.ready;
+  stands = c.requires.stands;
+  limits = λ l s m. m;
+  place = λ w stands. rw c.new-tokens.ensures.all (queries_begin (g.E.Engine.stands_for c.args.engine.now) w c.args.budget (tokens c.args.queries.now) (place g.W.Write.contents c.args.console.now) stands);
+  writer = refl;
+}
 
 pub returns-in_default-next-clause-does : goal.returns-in_default-next-clause-does
 returns-in_default-next-clause-does g c = λ w stands.

@@ -8,24 +8,24 @@ use Rattle.iso_store.proofs.copies.build.Goals as goal
 
 pub make-requires-clause-covered : goal.make-requires-clause-covered
 make-requires-clause-covered g c =
-    let list = c.in-Ok.ensures.numbers ∙ ap (λ vs. distinct_from vs (term_of c.args.term.now)) c.new-variables.ensures.numbers in
+    let list = c.in-Ok.ensures.numbers ∙ ap (λ vs. distinct_from vs (term_of c.args.term.now)) c.new-variables.ensures in
     rw list (distinct_covers [] (term_of c.args.term.now))
 
 pub make-requires-clause-count : goal.make-requires-clause-count
 make-requires-clause-count g c =
     let count = variables-count _ _ c.in_ok-words.ensures.made in
-    ap length c.as_slice.ensures.value ∙ count ∙ c.len-2.ensures ∙ c.note_all.new.self.numbers.ok.0
+    ap length c.as_slice.ensures.value ∙ count ∙ c.len-2.ensures.len
 
 pub returns-clause-made : goal.returns-clause-made
 returns-clause-made g c =
-    let list = c.in-Ok.ensures.numbers ∙ ap (λ vs. distinct_from vs (term_of c.args.term.now)) c.new-variables.ensures.numbers in
+    let list = c.in-Ok.ensures.numbers ∙ ap (λ vs. distinct_from vs (term_of c.args.term.now)) c.new-variables.ensures in
     let made = rw c.as_slice.ensures.value at c.make.ensures.made in
-    built-made _ c.reserve-first.result c.len-2.result c.note_all.new.self.numbers.items (term_of c.args.term.now) c.reserve-first.ensures.words c.reserve-first.ensures.substitution c.reserve-first.ensures.number
-    c.in_ok-words.ensures.made list (c.len-2.ensures ∙ c.note_all.new.self.numbers.ok.0) c.make.result made
+    built-made _ c.reserve-first.result c.len-2.result c.note_all.new.self (term_of c.args.term.now) c.reserve-first.ensures.words c.reserve-first.ensures.substitution c.reserve-first.ensures.number
+    c.in_ok-words.ensures.made list (c.len-2.ensures.len) c.make.result made
 
 pub returns-clause-counted : goal.returns-clause-counted
 returns-clause-counted g c =
-    let count = c.len.ensures in
-    let again = c.len-2.ensures in
+    let count = c.len.ensures.len in
+    let again = c.len-2.ensures.len in
     let made = c.in_ok-words.ensures.each_cell in
     built-counted _ c.make.result c.reserve-first.ensures.numbers c.reserve-first.ensures.cells c.in_ok-words.ensures.numbers (omega arith) c.make.ensures.cells c.make.ensures.numbers

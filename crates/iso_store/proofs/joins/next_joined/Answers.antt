@@ -15,7 +15,7 @@ returns-clause-joined g c =
       | in-Some w ↦
           let behind = c.requires c.place-next_place.result w.in-Some.behind (sym c.at-2.ensures ∙ w.in-Some.is) in
           rw w.joined-is
-          (joined-more p at c.args.joined.now w.change.new.self c.args.place w.in-Some.behind c.requires behind.0 (behind.1 ∙ c.place-next_place.ensures ∙ next.1) w.change.ensures)
+          (joined-more p at c.args.joined.now w.change.new.self c.args.place w.in-Some.behind c.requires behind.0 (behind.1 ∙ c.place-next_place.ensures.value ∙ next.1) w.change.ensures)
       | in_default w ↦ rw w.joined-is c.requires
     ]
 
@@ -26,4 +26,4 @@ pub returns-clause-value : goal.returns-clause-value
 returns-clause-value g c = (c.requires c.args.place c.in_ok-next.next (sym c.at.ensures ∙ c.in_ok-next.was)).1
 
 pub returns-clause-place : goal.returns-clause-place
-returns-clause-place g c = c.place-next_place.ensures ∙ (c.requires c.args.place c.in_ok-next.next (sym c.at.ensures ∙ c.in_ok-next.was)).1
+returns-clause-place g c = c.place-next_place.ensures.value ∙ (c.requires c.args.place c.in_ok-next.next (sym c.at.ensures ∙ c.in_ok-next.was)).1

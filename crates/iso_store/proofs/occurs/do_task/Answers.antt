@@ -1,4 +1,4 @@
-use Rattle.std.proofs.Common.{sym, ap, ◌∙◌, ◌∷◌, [], false, refl}
+use Rattle.std.proofs.Common.{sym, ◌∷◌, [], false, refl}
 use Rattle.iso_store.specs.declared.occurs.Task.TheVariants.{Search, Leave}
 use Rattle.iso_store.proofs.SearchLemmas.{found-append, sound-parts, clear-more}
 use Rattle.iso_store.proofs.occurs.do_task.Goals as goal

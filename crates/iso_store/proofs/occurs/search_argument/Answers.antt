@@ -1,6 +1,5 @@
-use Rattle.std.proofs.Common.{sym, ap, ◌∙◌, subst}
+use Rattle.std.proofs.Common.{sym}
 use Rattle.iso_model.proofs.OnTerms.CopyingLemmas.{on_ok_by}
-use Rattle.iso_store.specs.Searching.{AreSound, found}
 use Rattle.iso_store.proofs.SearchLemmas.{occurs-last, found-argument, sound-argument, load-last, load-argument}
 use Rattle.iso_store.proofs.occurs.search_argument.Goals as goal
 

@@ -1,4 +1,3 @@
-use Rattle.std.proofs.Common.{◌∙◌}
 use Rattle.iso_store.proofs.UnifyLemmas.{join-equal, stands-joined, steps-joined}
 use Rattle.iso_store.proofs.unify.do_task.Goals as goal
 

@@ -1,4 +1,3 @@
-use Rattle.std.proofs.Common.{sym, ap, ◌∙◌}
 use Rattle.iso_store.specs.Presents.{meaning}
 use Rattle.iso_store.proofs.Bound.{turned-result}
 use Rattle.iso_store.proofs.UnifyLemmas.{stands-same, steps-same, stands-unified, steps-unified}

@@ -3,13 +3,13 @@ use Rattle.std.proofs.lemmas.Bool.Decides.{nat_tests}
 use Rattle.std.proofs.lemmas.Str.{IsUtf8-drop}
 use Rattle.iso_model.specs.Syntax.Quoted.{piece_at, content_from}
 use Rattle.iso_model.proofs.Syntax.QuotedLemmas.{piece-cut, content-nil}
-use Rattle.iso_token.specs.declared.quoted.Piece.{Piece}
+use Rattle.iso_token.specs.declared.quoted.QuotedPiece.{QuotedPiece}
 use Rattle.iso_token.specs.Quoted.{len_of, piece_of}
 use Rattle.iso_token.proofs.PieceLemmas.{piece-stands, content-ended, content-on}
 use Rattle.iso_token.proofs.quoted.item_content.Goals as goal
 
 -- the piece that the text's bytes have is that of the text
-of_text : (q : ℕ) (bytes z : List ℕ) (p : Piece) → bytes ≡ z → piece_of bytes p ≡ piece_at q bytes → piece_of z p ≡ piece_at q z
+of_text : (q : ℕ) (bytes z : List ℕ) (p : QuotedPiece) → bytes ≡ z → piece_of bytes p ≡ piece_at q bytes → piece_of z p ≡ piece_at q z
 of_text q bytes z p same value = let P : List ℕ → Type 0 = λ y. piece_of y p ≡ piece_at q y in subst P same value
 
 -- nothing more stands for the rest

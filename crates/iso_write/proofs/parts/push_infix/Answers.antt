@@ -3,7 +3,7 @@ use Rattle.iso_model.specs.Terms.TermOf.{term_of}
 use Rattle.iso_write.specs.declared.tasks.Place.TheVariants.{Right}
 use Rattle.iso_write.specs.Forms.{operator_of, written}
 use Rattle.iso_write.specs.Tasks.{pieces_of}
-use Rattle.iso_write.proofs.RowLemmas.{on_ok_by}
+use Rattle.iso_model.proofs.OnTerms.CopyingLemmas.{on_ok_by}
 use Rattle.iso_write.proofs.PieceLemmas.{placed_has, infix_word}
 use Rattle.iso_write.proofs.parts.push_infix.Goals as goal
 

@@ -3,7 +3,7 @@ use Rattle.iso_model.specs.Terms.TermOf.{term_of}
 use Rattle.iso_write.specs.Styles.{style_of}
 use Rattle.iso_write.specs.Forms.{written}
 use Rattle.iso_write.specs.Tasks.{needs_brackets, pieces_of}
-use Rattle.iso_write.proofs.RowLemmas.{on_ok_by}
+use Rattle.iso_model.proofs.OnTerms.CopyingLemmas.{on_ok_by}
 use Rattle.iso_write.proofs.TaskLemmas.{placed_bracketed, placed_bare}
 use Rattle.iso_write.proofs.parts.push_placed.Goals as goal
 

@@ -4,7 +4,7 @@ use Rattle.iso_write.specs.declared.tasks.Place.TheVariants.{Right}
 use Rattle.iso_write.specs.Styles.{style_of}
 use Rattle.iso_write.specs.Forms.{operator_of, written}
 use Rattle.iso_write.specs.Tasks.{pieces_of}
-use Rattle.iso_write.proofs.RowLemmas.{on_ok_by}
+use Rattle.iso_model.proofs.OnTerms.CopyingLemmas.{on_ok_by}
 use Rattle.iso_write.proofs.PieceLemmas.{placed_has, prefix_by}
 use Rattle.iso_write.proofs.parts.push_prefix.Goals as goal
 

@@ -7,7 +7,7 @@ use Rattle.iso_write.specs.declared.tasks.Task.TheVariants.{Placed}
 use Rattle.iso_write.specs.Styles.{style_of}
 use Rattle.iso_write.specs.Edges.{behind}
 use Rattle.iso_write.specs.Tasks.{pieces_of, tasks_load}
-use Rattle.iso_write.proofs.RowLemmas.{kept_on}
+use Rattle.iso_model.proofs.OnTerms.SeenRows.{kept_on}
 use Rattle.iso_write.proofs.EdgeLemmas.{behind_piece}
 use Rattle.iso_write.proofs.TaskLemmas.{with_tasks-append, tasks_load-append}
 use Rattle.iso_write.proofs.written.append_text.Goals as goal

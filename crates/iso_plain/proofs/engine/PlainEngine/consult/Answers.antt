@@ -1,15 +1,15 @@
-use Rattle.std.proofs.Common.{sym, subst}
+use Rattle.std.proofs.Common.{subst}
 use Rattle.iso_model.specs.Terms.TermOf.{term_of}
 use Rattle.iso_model.specs.Search.Walker.{World}
 use Rattle.iso_model.specs.Search.Additions.{consulted}
 use Rattle.iso_plain.specs.Starts.{Comes}
-use Rattle.iso_plain.proofs.LinkedMoves.{world_is}
+use Rattle.iso_model.specs.Search.RunLaws.SameRuns.{same_world}
 use Rattle.iso_plain.proofs.EngineMoves.{ready_stands, consults_stand}
 use Rattle.iso_plain.proofs.engine.PlainEngine.consult.Goals as goal
 
 pub returns-clause-consults : goal.returns-clause-consults
 returns-clause-consults g c = λ s r.
     let before = ready_stands g.S.Store.present g.S.Store.stands g.S.Store.older c.args.self.now.now c.args.self.now s c.requires.ready r in
-    let comes = c.add.ensures.comes before.search.world (c.clear.ensures.idle before.search.world before.engine.world) in
+    let comes = c.add.ensures.comes before.own.world (c.clear.ensures.idle before.own.world before.engine.world) in
     consults_stand g.S.Store.present g.S.Store.stands g.S.Store.older (consulted (term_of c.args.clause.now) s.world.database) s c.add.result c.add.new.self
-    (subst (λ (w : World). Comes g.S.Store.present g.S.Store.stands g.S.Store.older (consulted (term_of c.args.clause.now) w.database) w c.add.result c.add.new.self) (sym (world_is before.search s before.state)) comes)
+    (subst (λ (w : World). Comes g.S.Store.present g.S.Store.stands g.S.Store.older (consulted (term_of c.args.clause.now) w.database) w c.add.result c.add.new.self) (same_world before.same) comes)

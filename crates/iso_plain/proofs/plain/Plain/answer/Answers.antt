@@ -1,4 +1,5 @@
-use Rattle.iso_plain.proofs.StoppedLemmas.{behind_error, keeps_all, stopped_here}
+use Rattle.iso_plain.proofs.StoppedLemmas.{behind_error, keeps_all}
+use Rattle.iso_plain.proofs.SearchMoves.{stops_here}
 use Rattle.iso_plain.proofs.EndLemmas.{answers_engine}
 use Rattle.iso_plain.proofs.plain.Plain.answer.Goals as goal
 
@@ -8,4 +9,4 @@ returns-clause-moves g c = λ s r.
 
 pub returns-in_err-values-clause-stopped : goal.returns-in_err-values-clause-stopped
 returns-in_err-values-clause-stopped g c = λ s r.
-    behind_error c.from_residual.result (stopped_here g.S.Store.present g.S.Store.stands g.S.Store.older c.args.self.now r.search s r.state (keeps_all g.S.Store.present g.S.Store.stands g.S.Store.older c.args.self.now r.search r.engine))
+    behind_error c.from_residual.result (stops_here g.S.Store.present g.S.Store.stands g.S.Store.older c.args.self.now r.own s r.same (keeps_all g.S.Store.present g.S.Store.stands g.S.Store.older c.args.self.now r.own r.engine))

@@ -1,13 +1,14 @@
 use Rattle.std.proofs.Common.{ap, Ok}
 use Rattle.iso_plain.proofs.StoppedLemmas.{behind_error}
+use Rattle.iso_plain.proofs.WeightLemmas.{rank_small, falls_call}
 use Rattle.iso_plain.proofs.plain.Plain.call_first.Goals as goal
 
 pub returns-then-branch-clause-called : goal.returns-then-branch-clause-called
-returns-then-branch-clause-called g c = λ l call k ks gs t.
-    (c.in_ok-call.ensures.tried l call k ks gs t (ap Ok c.if-branch.true), c.in_ok-call.ensures.awake (ap Ok c.if-branch.true))
+returns-then-branch-clause-called g c = λ s call k ks gs t.
+    (c.in_ok-call.ensures.tried s call k ks gs t (ap Ok c.if-branch.true), c.in_ok-call.ensures.awake (ap Ok c.if-branch.true))
 
 pub returns-clause-frames : goal.returns-clause-frames
-returns-clause-frames g c = λ l call k ks gs t. c.in_ok-call.ensures.frames l call k ks gs t (ap Ok c.if-branch.false)
+returns-clause-frames g c = λ s call k ks gs t. c.in_ok-call.ensures.frames s call k ks gs t (ap Ok c.if-branch.false)
 
 pub returns-clause-met : goal.returns-clause-met
 returns-clause-met g c =
@@ -15,4 +16,9 @@ returns-clause-met g c =
     rw (c.in_ok-call.ensures.refused (ap Ok c.if-branch.false)) full.0
 
 pub returns-in_err-call-clause-kept : goal.returns-in_err-call-clause-kept
-returns-in_err-call-clause-kept g c = λ l call k ks gs t. behind_error c.from_residual.result (c.in_err-call.ensures.kept l call k ks gs t)
+returns-in_err-call-clause-kept g c = λ s call k ks gs t. behind_error c.from_residual.result (c.in_err-call.ensures.kept s call k ks gs t)
+
+pub returns-then-branch-clause-falls : goal.returns-then-branch-clause-falls
+returns-then-branch-clause-falls g c =
+    let engine = c.in_ok-call.ensures.tried c.requires.0 c.requires.1 c.requires.2 c.requires.3 c.requires.4 c.requires.5 (ap Ok c.if-branch.true) in
+    falls_call c.args.self.now c.call.new.self c.call.ensures.steps c.call.ensures.stays.procedures c.call.ensures.fewer (rank_small c.call.new.self _ engine)

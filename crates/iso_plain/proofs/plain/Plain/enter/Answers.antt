@@ -1,8 +1,11 @@
 use Rattle.std.proofs.Common.{arith}
 use Rattle.iso_model.specs.Terms.Variables.{variables}
-use Rattle.iso_plain.proofs.StoppedLemmas.{behind_error}
-use Rattle.iso_plain.proofs.KeptLemmas.{kept_at, can_be_entered}
-use Rattle.iso_plain.proofs.EngineLemmas.{base_kept, choices_on, tried_engine}
+use Rattle.iso_plain.proofs.StoppedLemmas.{behind_error, base_kept, choices_on}
+use Rattle.iso_plain.proofs.KeptLemmas.{kept_at}
+use Rattle.iso_plain.proofs.NodeLemmas.{template_fits, layout_of_fits}
+use Rattle.iso_plain.proofs.EnteringLemmas.{adds_none}
+use Rattle.iso_plain.proofs.StandingLemmas.{chain_place}
+use Rattle.iso_plain.proofs.EngineLemmas.{Tried, tried_engine}
 use Rattle.iso_plain.proofs.FailLemmas.{awake_entered}
 use Rattle.iso_plain.proofs.plain.Plain.enter.Goals as goal
 
@@ -19,42 +22,39 @@ enter-requires-clause-room g c =
     let few = is.few in
     let many = is.variables in
     let space = t.space in
-    let next = t.next in
+    let next = t.at.next_is in
     omega (arith, few, many, space, next)
 
 pub enter-requires-clause-head_fits : goal.enter-requires-clause-head_fits
 enter-requires-clause-head_fits g c =
     let t = c.requires.5 in
-    (can_be_entered _ c.requires.2 (c.clause_at-clause.ensures c.requires.0.world.database.procedures c.requires.2 c.requires.3 (rw c.as_slice.ensures.value t.world.procedures_are) t.clauses)).head_fits
+    let is = c.clause_at-clause.ensures c.requires.0.world.database.procedures c.requires.2 c.requires.3 (rw c.as_slice.ensures.value t.world.procedures_are) t.clauses in
+    rw (is.variables, is.head) (template_fits _ _ is.head_template)
 
-pub enter-requires-clause-goals_fit : goal.enter-requires-clause-goals_fit
-enter-requires-clause-goals_fit g c =
+pub enter-requires-clause-parts_fit : goal.enter-requires-clause-parts_fit
+enter-requires-clause-parts_fit g c =
     let t = c.requires.5 in
-    (can_be_entered _ c.requires.2 (c.clause_at-clause.ensures c.requires.0.world.database.procedures c.requires.2 c.requires.3 (rw c.as_slice.ensures.value t.world.procedures_are) t.clauses)).goals_fit
+    let is = c.clause_at-clause.ensures c.requires.0.world.database.procedures c.requires.2 c.requires.3 (rw c.as_slice.ensures.value t.world.procedures_are) t.clauses in
+    rw (is.variables, is.parts) (layout_of_fits _ _ is.goal_templates)
 
-pub enter-requires-clause-head_below : goal.enter-requires-clause-head_below
-enter-requires-clause-head_below g c =
-    let t = c.requires.5 in
-    (can_be_entered _ c.requires.2 (c.clause_at-clause.ensures c.requires.0.world.database.procedures c.requires.2 c.requires.3 (rw c.as_slice.ensures.value t.world.procedures_are) t.clauses)).head_below
-
-pub enter-requires-clause-goals_below : goal.enter-requires-clause-goals_below
-enter-requires-clause-goals_below g c =
-    let t = c.requires.5 in
-    (can_be_entered _ c.requires.2 (c.clause_at-clause.ensures c.requires.0.world.database.procedures c.requires.2 c.requires.3 (rw c.as_slice.ensures.value t.world.procedures_are) t.clauses)).goals_below
+pub behind-self-requires : goal.behind-self-requires
+behind-self-requires g c = rw c.as_slice-2.ensures.value (chain_place c.args.attempt.rest c.requires.5.at.chain)
 
 pub returns-clause-tried : goal.returns-clause-tried
-returns-clause-tried g c = λ l call k ks gs t.
-    (let is = c.clause_at-clause.ensures l.world.database.procedures k ks (rw c.as_slice.ensures.value t.world.procedures_are) t.clauses in
-    rw c.behind-self.ensures (tried_engine g.S.Store.present g.S.Store.stands g.S.Store.older c.args.self.now c.args.attempt l call k ks gs c.enter.new.store c.enter.new.frames
-    c.in_ok-entered.entered c.clause_at-clause.result.now t c.in_ok-entered.ensures.marks c.in_ok-entered.ensures.frames is c.in_ok-entered.ensures.enters))
+returns-clause-tried g c = λ s call k ks gs t.
+    (let is = c.clause_at-clause.ensures s.world.database.procedures k ks (rw c.as_slice.ensures.value t.world.procedures_are) t.clauses in
+    let tried : Tried g.S.Store.present g.S.Store.stands g.S.Store.older c.args.self.now c.args.attempt s call k ks gs c.enter.new.store c.enter.new.nodes c.clause_at-clause.result.now =
+    record { calls = t; keeps = c.in_ok-entered.ensures.marks; adds = c.in_ok-entered.ensures.nodes; is = is } in
+    rw (c.behind-self.ensures, c.as_slice-2.ensures.value)
+    (tried_engine g.S.Store.present g.S.Store.stands g.S.Store.older c.args.self.now c.args.attempt s call k ks gs c.enter.new.store c.enter.new.nodes c.clause_at-clause.result.now c.args.mark tried c.in_ok-entered.entered c.in_ok-entered.ensures.enters))
 
 pub returns-clause-awake : goal.returns-clause-awake
-returns-clause-awake g c = rw c.behind-self.ensures (awake_entered c.in_ok-entered.entered)
+returns-clause-awake g c = rw c.behind-self.ensures (awake_entered _ c.in_ok-entered.entered c.args.mark c.args.attempt.rest)
 
 pub returns-in_err-entered-clause-kept : goal.returns-in_err-entered-clause-kept
-returns-in_err-entered-clause-kept g c = λ l call k ks gs t.
+returns-in_err-entered-clause-kept g c = λ s call k ks gs t.
     behind_error c.from_residual.result (
       t.world,
-      base_kept g.S.Store.present g.S.Store.stands g.S.Store.older (g.S.Store.stands c.args.self.now.store) (g.S.Store.stands c.enter.new.store) c.args.self.now.base c.in_err-entered.ensures.marks t.base,
-      (variables l.query, choices_on g.S.Store.present g.S.Store.stands g.S.Store.older c.args.self.now c.args.attempt l call k ks gs c.enter.new.store c.enter.new.frames t c.in_err-entered.ensures.marks c.in_err-entered.ensures.frames),
+      base_kept (g.S.Store.stands c.args.self.now.store) (g.S.Store.stands c.enter.new.store) c.args.self.now.base c.in_err-entered.ensures.marks t.base,
+      (variables s.query, choices_on g.S.Store.present g.S.Store.stands g.S.Store.older c.args.self.now c.enter.new.store c.enter.new.nodes c.args.self.now.frames s.world (variables s.query) s.stack c.in_err-entered.ensures.marks c.in_err-entered.ensures.nodes (adds_none _) t.choices),
     )

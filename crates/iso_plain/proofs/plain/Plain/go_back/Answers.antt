@@ -4,11 +4,11 @@ use Rattle.iso_plain.proofs.BackLemmas.{get_at, goes_back}
 use Rattle.iso_plain.proofs.plain.Plain.go_back.Goals as goal
 
 pub returns-clause-back : goal.returns-clause-back
-returns-clause-back g c = λ l is.
+returns-clause-back g c = λ s is.
     (let choices = c.args.self.now.choices.items in
     let within : length choices - 1 < length choices = omega (arith, c.requires.some) in
     let many : c.len.result ≡ length choices = cc (c.len.ensures, c.args.self.now.choices.ok.0) in
     let last : slice_get choices (length choices - 1) ≡ Some c.index-choice.result.now = get_at choices (length choices - 1) c.index-choice.result.now within (rw many at c.index-choice.ensures) in
-    let b = goes_back g.S.Store.present g.S.Store.stands g.S.Store.older c.args.self.now c.undo.new.self c.truncate.new.self c.index-choice.result.now l is last c.undo.ensures.back c.undo.ensures.stands
-    c.undo.ensures.marks c.truncate.ensures.items in
-    (b.choice, b.below, b.is, b.went))
+    let b = goes_back g.S.Store.present g.S.Store.stands g.S.Store.older c.args.self.now c.undo.new.self c.truncate.new.self c.truncate-2.new.self c.index-choice.result.now s is last c.undo.ensures.back c.undo.ensures.stands
+    c.undo.ensures.marks c.truncate.ensures.items c.truncate-2.ensures.items in
+    (b.alternative, b.below, b.is, b.went))

@@ -1,20 +1,19 @@
 use Rattle.std.proofs.Common.{refl}
-use Rattle.iso_model.specs.Search.Walker.{first_world}
-use Rattle.iso_plain.specs.Linked.{idle_linked}
+use Rattle.iso_model.specs.Search.Walker.{first_world, idle}
+use Rattle.iso_model.specs.Search.RunLaws.SameSteps.{same_itself}
 use Rattle.iso_plain.specs.Standing.{none_kept}
 use Rattle.iso_plain.specs.Programs.{no_procedures}
-use Rattle.iso_plain.proofs.LinkedMoves.{is_idle}
 use Rattle.iso_plain.proofs.plain.Plain.new.Goals as goal
 
 pub returns-clause-stands : goal.returns-clause-stands
 returns-clause-stands g c = record {
-  search = idle_linked first_world;
-  state = is_idle first_world first_world refl;
+  own = idle first_world;
+  same = same_itself (idle first_world);
   engine = record {
     world = record { procedures_are = rw c.new.ensures.items no_procedures; operators_are = c.in_ok-ops.ensures.entries; flags_are = c.initial-2.ensures };
     steps = refl;
     base = record { present = g.S.Store.present c.args.store; stands_for = c.mark-base.ensures.stands; substitution = c.requires.substitution; next = c.requires.next };
-    choices = rw c.new-3.ensures.items none_kept;
+    choices = rw c.new-4.ensures.items none_kept;
     room = tt;
     next = refl;
   };

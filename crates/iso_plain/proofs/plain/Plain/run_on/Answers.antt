@@ -1,8 +1,8 @@
-use Rattle.std.proofs.Common.{ℕ, arith, refl, subst, ◌∙◌}
+use Rattle.std.proofs.Common.{ℕ, arith, subst, ◌∙◌}
 use Rattle.iso_model.specs.Search.Runs.{here, ComesOver}
 use Rattle.iso_model.specs.Search.RunLaws.{quiet_trans, reaches_behind}
 use Rattle.iso_plain.proofs.EngineMoves.{represents_stands, stands_settings, pauses_behind}
-use Rattle.iso_plain.proofs.LimitLemmas.{where_full}
+use Rattle.iso_plain.proofs.LimitLemmas.{where_full, stays_same, stays_on}
 use Rattle.iso_plain.proofs.plain.Plain.run_on.Goals as goal
 
 pub loop-pause-init : goal.loop-pause-init
@@ -11,9 +11,7 @@ loop-pause-init g c = record {
   stands = c.requires.stands;
   quiet = λ s r. (s, here, r);
   less = omega arith;
-  limit = refl;
-  settings = refl;
-  within = λ h. h;
+  stays = stays_same c.args.self.now;
 }
 
 pub loop-pause-preserved : goal.loop-pause-preserved
@@ -27,26 +25,21 @@ loop-pause-preserved g c =
       stands = (first.0, stands first.0 first.2);
       quiet = λ s r. (let q = before.quiet s r in let n = moves q.0 q.2 in (n.0, quiet_trans q.1 n.1, stands n.0 n.2));
       less = (let a = before.less in let b = c.in-Goes.ensures.falls in omega (arith, a, b));
-      limit = c.advance.ensures.limit ∙ before.limit;
-      settings = c.advance.ensures.settings ∙ before.settings;
-      within = λ h. c.advance.ensures.within (before.within h);
+      stays = stays_on before.stays c.advance.ensures.stays;
     }
 
 pub returns-in-Pauses-clause-pauses : goal.returns-in-Pauses-clause-pauses
 returns-in-Pauses-clause-pauses g c = λ s r.
     let q = c.loop-pause.invariant.quiet s r in
     let start = c.args.self.now in
-    let same = c.advance.ensures.settings ∙ (c.loop-pause.invariant.settings ∙ stands_settings g.S.Store.present g.S.Store.stands g.S.Store.older start.now start s r) in
+    let same = c.advance.ensures.stays.settings ∙ (c.loop-pause.invariant.stays.settings ∙ stands_settings g.S.Store.present g.S.Store.stands g.S.Store.older start.now start s r) in
     pauses_behind g.S.Store.present g.S.Store.stands g.S.Store.older c.advance.new.self s q.0 c.in-Pauses.pause same q.1 (c.in-Pauses.ensures.moves q.0 q.2)
 
-pub returns-in-Pauses-clause-limit : goal.returns-in-Pauses-clause-limit
-returns-in-Pauses-clause-limit g c = c.advance.ensures.limit ∙ c.loop-pause.invariant.limit
-
-pub returns-in-Pauses-clause-within : goal.returns-in-Pauses-clause-within
-returns-in-Pauses-clause-within g c = λ h. c.advance.ensures.within (c.loop-pause.invariant.within h)
+pub returns-in-Pauses-clause-stays : goal.returns-in-Pauses-clause-stays
+returns-in-Pauses-clause-stays g c = stays_on c.loop-pause.invariant.stays c.advance.ensures.stays
 
 pub returns-in-Pauses-clause-frames : goal.returns-in-Pauses-clause-frames
 returns-in-Pauses-clause-frames g c = λ s r.
     let q = c.loop-pause.invariant.quiet s r in
-    let same = c.loop-pause.invariant.limit in
+    let same = c.loop-pause.invariant.stays.limit in
     where_full c.in-Pauses.pause (λ h. reaches_behind q.1 (subst (λ (n : ℕ). ComesOver n q.0) same h)) (c.in-Pauses.ensures.frames q.0 q.2)

@@ -1,9 +1,9 @@
 -- Steps without an event led to a state that the engine stands for.
-use Rattle.std.proofs.Common.{◌≡◌, ◌≤◌}
+use Rattle.std.proofs.Common.{◌≤◌}
 use Rattle.iso_model.specs.Search.Walker.{State}
 use Rattle.iso_model.specs.Search.Runs.{Quiet}
-use Rattle.iso_plain.specs.Limits.{IsWithin}
-use Rattle.iso_plain.specs.EngineStates.{StandsFor, weight, phase_of, settings_of}
+use Rattle.iso_plain.specs.Stays.{Stays}
+use Rattle.iso_plain.specs.EngineStates.{StandsFor, weight, phase_of}
 use Rattle.iso_model.specs.Search.Engines.{IsAwake}
 use Rattle.iso_plain.proofs.plain.Plain.run_on.Given as goal
 
@@ -14,9 +14,7 @@ invariant-loop-pause g l = record {
   quiet : (s : State) → StandsFor g.S.Store.present g.S.Store.stands g.S.Store.older l.fn.self s
       → (t : State) × Quiet s t × StandsFor g.S.Store.present g.S.Store.stands g.S.Store.older l.self t;
   less : weight l.self ≤ weight l.fn.self;
-  limit : l.self.limit ≡ l.fn.self.limit;
-  settings : settings_of l.self ≡ settings_of l.fn.self;
-  within : IsWithin l.fn.self → IsWithin l.self;
+  stays : Stays l.fn.self l.self;
 }
 
 abbrev pub decreases-loop-pause : goal.decreases-loop-pause

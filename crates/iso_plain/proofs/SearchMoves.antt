@@ -1,0 +1,90 @@
+-- A move of the engine's own state is some steps of each state that is the same.
+use Rattle.std.proofs.Common.{◌≡◌, List, ap, ap₂, sym, ◌∙◌, subst, inl}
+use Rattle.iso_model.specs.Terms.Variables.{variables}
+use Rattle.iso_ops.specs.Operators.{Operator}
+use Rattle.iso_ops.specs.declared.settings.Flags.{Flags}
+use Rattle.iso_model.specs.Search.Walker.{State, World, Alternative, Event, Ending, Goes, Gives, Ends, idle, step}
+use Rattle.iso_model.specs.Search.Runs.{Quiet, here, Comes, Finishes}
+use Rattle.iso_model.specs.Search.Engines.{IsAwake}
+use Rattle.iso_model.specs.Search.RunLaws.{quiet_trans}
+use Rattle.iso_model.specs.Search.RunLaws.Sameness.{Same, SameStack}
+use Rattle.iso_model.specs.Search.RunLaws.SameSteps.{same_itself}
+use Rattle.iso_model.specs.Search.RunLaws.SameRuns.{onward_same, comes_same, finishes_same, same_world}
+use Rattle.iso_model.specs.Search.RunLaws.SameLaws.{same_beside}
+use Rattle.iso_store.specs.Presents.{Present}
+use Rattle.iso_plain.specs.Programs.{IsWorld}
+use Rattle.iso_plain.specs.declared.parts.Now.{Now}
+use Rattle.iso_plain.specs.declared.parts.Now.TheVariants as now
+use Rattle.iso_plain.specs.declared.plain.Move.TheVariants as move
+use Rattle.iso_plain.specs.declared.plain.Plain.{Plain}
+use Rattle.iso_plain.specs.EngineStates.{IsEngine, Represents, Keeps, Stopped, StandsBy, StandsFor, Moves, phase_of, settings_of, settings_in}
+
+module _ {S W M : Type 0} (present : S → Present W) (stands : S → M → Present W → Type 0) (older : M → M → Type 0) where
+  -- an engine keeps the operators and the flags of its world
+  pub world_settings : (e : Plain S W M) (w : World) → IsWorld e w → settings_of e ≡ settings_in w
+  world_settings e w is = ap₂ (λ (ops : List Operator) (flags : Flags). (ops, flags)) is.operators_are is.flags_are
+
+  -- a move goes on
+  pub goes : (e new : Plain S W M) (s : State) (r : Represents present stands older e s) (v : State) → step r.own ≡ Goes v → IsEngine present stands older new v → IsAwake (phase_of new.now)
+      → Moves present stands older move.Goes s new
+  goes e new s r v h is awake =
+      let k = onward_same r.own v s h r.same in
+      (k.0, k.1, record { own = v; engine = is; same = k.2 }, awake)
+
+  stands_by : (n m : Now) (e : Plain S W M) (s : State) → n ≡ m → StandsBy present stands older m e s → StandsBy present stands older n e s
+  stands_by n m e s is r = subst (λ (x : Now). StandsBy present stands older x e s) (sym is) r
+
+  -- an engine that is idle
+  pub idle_stands : (e : Plain S W M) (w : World) → e.now ≡ now.Idle → IsEngine present stands older e (idle w) → StandsFor present stands older e (idle w)
+  idle_stands e w rests is = stands_by e.now now.Idle e (idle w) rests (record { own = idle w; engine = is; same = same_itself (idle w) })
+
+  -- the run ends, and the engine is idle
+  pub ends : (new : Plain S W M) (o s : State) (ending : Ending) → Same o s → step o ≡ Ends ending o.world → new.now ≡ now.Idle → IsEngine present stands older new (idle o.world)
+      → Finishes s ending (StandsFor present stands older new)
+  ends new o s ending same h rests is = finishes_same o s ending o.world (StandsFor present stands older new) h (idle_stands new o.world rests is) same
+
+  -- an event, behind which the engine fails
+  pub gives : (new : Plain S W M) (o v s : State) (event : Event) → Same o s → step o ≡ Gives event v → new.now ≡ now.Failing → IsEngine present stands older new v
+      → Comes s event (StandsFor present stands older new)
+  gives new o v s event same h failing is =
+      comes_same o v s event (StandsFor present stands older new) h (λ t k. stands_by new.now now.Failing new t failing (record { own = v; engine = is; same = k })) same
+
+  -- ---- the engine stopped
+
+  -- it stopped where it was
+  pub stops_here : (new : Plain S W M) (o s : State) → Same o s → Keeps present stands older new o.world o.stack → Stopped present stands older new s
+  stops_here new o s same keeps =
+      let beside = same_beside o s same in
+      record {
+        at = s;
+        quiet = here;
+        stack = o.stack;
+        keeps = subst (λ (w : World). Keeps present stands older new w o.stack) beside.world keeps;
+        alternatives = inl (variables o.query, beside.stack);
+        settings = world_settings new o.world keeps.0 ∙ ap settings_in beside.world;
+      }
+
+  -- it stopped within a move, with the alternatives that the move goes to
+  pub stops : (new : Plain S W M) (o v s : State) (stack : List Alternative) → Same o s → step o ≡ Goes v → v.stack ≡ stack → v.world ≡ o.world → Keeps present stands older new o.world stack → Stopped present stands older new s
+  stops new o v s stack same h stacked world keeps =
+      let k = onward_same o v s h same in
+      let beside = same_beside v k.0 k.2 in
+      record {
+        at = k.0;
+        quiet = k.1;
+        stack = stack;
+        keeps = subst (λ (w : World). Keeps present stands older new w stack) (sym world ∙ beside.world) keeps;
+        alternatives = inl (variables v.query, subst (λ (xs : List Alternative). SameStack (variables v.query) (variables (k.0).query) xs (k.0).stack) stacked beside.stack);
+        settings = world_settings new o.world keeps.0 ∙ ap settings_in (same_world same);
+      }
+
+  -- behind steps without an event
+  pub stopped_behind : (e : Plain S W M) (s t : State) → settings_of e ≡ settings_in s.world → Quiet s t → Stopped present stands older e t → Stopped present stands older e s
+  stopped_behind e s t same q h = record {
+    at = h.at;
+    quiet = quiet_trans q h.quiet;
+    stack = h.stack;
+    keeps = h.keeps;
+    alternatives = h.alternatives;
+    settings = same;
+  }

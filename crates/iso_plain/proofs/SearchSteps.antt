@@ -1,0 +1,102 @@
+-- What steps of the search come to, by what comes first.
+use Rattle.std.proofs.Common.{◌≡◌, ◌<◌, ◌+◌, ℕ, suc, List, [], ◌∷◌, length, Option, Some, None, refl, ap, ◌∙◌, arith}
+use Rattle.iso_ops.specs.declared.settings.Unknown.{Unknown}
+use Rattle.iso_model.specs.Terms.Trees.{Tree}
+use Rattle.iso_model.specs.Terms.Substitutions.{Subst, apply}
+use Rattle.iso_model.specs.Terms.Unification.{unifier_of}
+use Rattle.iso_model.specs.Terms.Copies.{renamed}
+use Rattle.iso_model.specs.Search.Bodies.{Body, Run, And}
+use Rattle.iso_model.specs.Search.Databases.{Clause, Key, clauses_at}
+use Rattle.iso_model.specs.Search.BuiltIns.{Reply, reply}
+use Rattle.iso_model.specs.declared.built_ins.BuiltIn.{BuiltIn}
+use Rattle.iso_model.specs.Search.Walker.{State, Member, Goal, Fail, Raise, Alternative, Left, Clauses, Outcome, Goes, Gives, Ends, Answered, NoMore, Budget, Uncaught, charged, paid, fails, values, under, entered, with_others, tried, retried, backtracked, unknown_called, called, replied, selected, run_goal, run_value, thrown, clause_size, step_list, step}
+use Rattle.iso_plain.specs.Called.{IsBuiltIn, IsUser}
+
+-- by the list
+pub step_is : (s : State) (ms : List Member) → s.list ≡ ms → step s ≡ step_list ms s
+unfolding step
+step_is s ms is = ap (λ (xs : List Member). step_list xs s) is
+
+-- ---- failure
+
+-- the state behind failure, at which this alternative is tried
+abbrev pub back : Alternative → List Alternative → State → State
+back a below s = record s { list = a.list; subst = a.subst; next = a.next; built = a.built; stack = below }
+
+pub retry_step : (s : State) (a : Alternative) (below : List Alternative) (call : Tree) (cs : List Clause) → s.list ≡ Fail ∷ [] → s.stack ≡ a ∷ below → a.left ≡ Clauses call cs
+    → step s ≡ Goes (tried call cs a.list (back a below s))
+retry_step s a below call cs list stack left =
+    step_is s (Fail ∷ []) list ∙ (ap (λ (xs : List Alternative). backtracked xs s) stack ∙ ap (λ (l : Left). retried l (back a below s)) left)
+
+-- no alternative is left
+pub last_step : (s : State) → s.list ≡ Fail ∷ [] → s.stack ≡ [] → step s ≡ Ends NoMore s.world
+last_step s list stack = step_is s (Fail ∷ []) list ∙ ap (λ (xs : List Alternative). backtracked xs s) stack
+
+-- ---- an answer, and a ball
+
+pub answer_step : (s : State) → s.list ≡ [] → step s ≡ Gives (Answered (values s)) (fails s)
+answer_step s list = step_is s [] list
+
+thrown_is : (ball : Tree) (ms : List Member) (s : State) → thrown ball ms s ≡ Ends (Uncaught ball) s.world
+thrown_is ball [] s = refl
+thrown_is ball (m ∷ ms) s = thrown_is ball ms s
+
+pub raise_step : (s : State) (ball : Tree) (rest : List Member) → s.list ≡ Raise ball ∷ rest → step s ≡ Ends (Uncaught ball) s.world
+raise_step s ball rest list = step_is s (Raise ball ∷ rest) list ∙ thrown_is ball rest s
+
+-- ---- a body
+
+pub parts_step : (s : State) (a b : Body) (mark : ℕ) (rest : List Member) → s.list ≡ Goal (And a b) mark ∷ rest → step s ≡ Goes (record s { list = Goal a mark ∷ Goal b mark ∷ rest })
+parts_step s a b mark rest list = step_is s (Goal (And a b) mark ∷ rest) list
+
+-- a step is needed and none is left
+pub budget_step : (s : State) (t : Tree) (mark : ℕ) (rest : List Member) → s.list ≡ Goal (Run t) mark ∷ rest → s.steps ≡ 0 → step s ≡ Ends Budget s.world
+budget_step s t mark rest list none = step_is s (Goal (Run t) mark ∷ rest) list ∙ ap (λ (n : ℕ). paid n s (run_value (apply s.subst t) rest s)) none
+
+-- what a goal that takes a step goes to
+pub goal_step : (s : State) (t : Tree) (mark : ℕ) (rest : List Member) (n : ℕ) (v : State) → s.list ≡ Goal (Run t) mark ∷ rest → s.steps ≡ suc n → run_value (apply s.subst t) rest s ≡ Goes v
+    → step s ≡ Goes (record v { steps = n })
+goal_step s t mark rest n v list left goes =
+    step_is s (Goal (Run t) mark ∷ rest) list ∙ (ap (λ (k : ℕ). paid k s (run_value (apply s.subst t) rest s)) left ∙ ap (λ (o : Outcome). charged n o) goes)
+
+-- ---- what a goal runs
+
+pub own_goal : (t : Tree) (rest : List Member) (s : State) (b : BuiltIn) (r : Reply) → IsBuiltIn t b → reply b t ≡ r → run_value t rest s ≡ replied r rest s
+own_goal t rest s b r own is =
+    ap (λ (k : Option Key). run_goal k t rest s) own.named ∙ (ap (λ (x : Option BuiltIn). selected x own.key t rest s) own.found ∙ ap (λ (x : Reply). replied x rest s) is)
+
+user_goal : (t : Tree) (rest : List Member) (s : State) (k : Key) (found : Option (List Clause)) → IsUser t k → clauses_at s.world.database.procedures k ≡ found → run_value t rest s ≡ Goes (called found k t rest s)
+user_goal t rest s k found user is =
+    ap (λ (x : Option Key). run_goal x t rest s) user.named ∙ (ap (λ (x : Option BuiltIn). selected x k t rest s) user.none ∙ ap (λ (x : Option (List Clause)). Goes (called x k t rest s)) is)
+
+pub procedure_goal : (t : Tree) (rest : List Member) (s : State) (k : Key) (cs : List Clause) → IsUser t k → clauses_at s.world.database.procedures k ≡ Some cs → run_value t rest s ≡ Goes (tried t cs rest s)
+procedure_goal t rest s k cs user is = user_goal t rest s k (Some cs) user is
+
+pub unknown_goal : (t : Tree) (rest : List Member) (s : State) (k : Key) (u : Unknown) → IsUser t k → clauses_at s.world.database.procedures k ≡ None → s.world.flags.unknown ≡ u
+    → run_value t rest s ≡ Goes (unknown_called u k rest s)
+unknown_goal t rest s k u user none flag = user_goal t rest s k None user none ∙ ap (λ (x : Unknown). Goes (unknown_called x k rest s)) flag
+
+-- ---- clauses that are tried
+
+entered_steps : (o : Option Subst) (c : Clause) (n mark : ℕ) (rest : List Member) (s : State) (k : ℕ) → entered o c n mark rest (record s { steps = k }) ≡ record (entered o c n mark rest s) { steps = k }
+entered_steps None c n mark rest s k = refl
+entered_steps (Some u) c n mark rest s k = refl
+
+-- with other steps
+pub tried_steps : (call : Tree) (c : Clause) (cs : List Clause) (rest : List Member) (s : State) (k : ℕ) → tried call (c ∷ cs) rest (record s { steps = k }) ≡ record (tried call (c ∷ cs) rest s) { steps = k }
+tried_steps call c [] rest s k =
+    entered_steps (under s.subst (unifier_of call (apply s.subst (renamed s.next c.head)))) c s.next (length s.stack) rest (record s { next = s.next + c.variables; built = s.built + clause_size c }) k
+tried_steps call c (d ∷ ds) rest s k =
+    let p = with_others call (d ∷ ds) rest s in
+    entered_steps (under p.subst (unifier_of call (apply p.subst (renamed p.next c.head)))) c p.next (length s.stack) rest (record p { next = p.next + c.variables; built = p.built + clause_size c }) k
+
+-- a choice leaves the world, the substitution, the next number, the query and the steps
+pub others_keep : (call : Tree) (cs : List Clause) (rest : List Member) (s : State)
+    → ((with_others call cs rest s).world ≡ s.world) × ((with_others call cs rest s).query ≡ s.query) × ((with_others call cs rest s).subst ≡ s.subst) × ((with_others call cs rest s).next ≡ s.next)
+    × ((with_others call cs rest s).steps ≡ s.steps)
+others_keep call [] rest s = (refl, refl, refl, refl, refl)
+others_keep call (c ∷ cs) rest s = (refl, refl, refl, refl, refl)
+
+pub one_more : (call : Tree) (cs : List Clause) (rest : List Member) (s : State) → 0 < length cs → length (with_others call cs rest s).stack ≡ suc (length s.stack)
+one_more call [] rest s some = absurd (omega (arith, some))
+one_more call (c ∷ cs) rest s some = refl

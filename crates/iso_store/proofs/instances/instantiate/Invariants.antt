@@ -1,0 +1,18 @@
+-- The words so far came for the terms of the first parts, with the variables replaced.
+use Rattle.std.proofs.Common.{◌≡◌, map, take, []}
+use Rattle.iso_model.specs.Terms.Trees.{row}
+use Rattle.iso_model.specs.Terms.Substitutions.{apply}
+use Rattle.iso_store.specs.Presents.{Gathers, KeepsNumbers, Grows, KeepsMarks}
+use Rattle.iso_store.specs.Copying.{cells_of}
+use Rattle.iso_store.specs.Patterns.{after_parts, at_places}
+use Rattle.iso_store.proofs.instances.instantiate.Given as goal
+
+abbrev pub invariant-loop-part : goal.invariant-loop-part
+invariant-loop-part g l = record {
+  gathers : Gathers (g.C.Cells.present l.fn.store) (g.C.Cells.present l.store) l.words.items
+      (map (apply (at_places (map (g.C.Cells.present l.fn.store).term l.variables))) (after_parts (g.C.Cells.names l.fn.store) (take l.part-index l.part-items) []));
+  numbers : KeepsNumbers (g.C.Cells.present l.fn.store) (g.C.Cells.present l.store);
+  cells : Grows (g.C.Cells.present l.fn.store) (g.C.Cells.present l.store) (cells_of g.C.Cells.width (row (after_parts (g.C.Cells.names l.fn.store) (take l.part-index l.part-items) [])));
+  names : g.C.Cells.names l.store ≡ g.C.Cells.names l.fn.store;
+  marks : KeepsMarks (g.C.Cells.stands l.fn.store) (g.C.Cells.stands l.store);
+}

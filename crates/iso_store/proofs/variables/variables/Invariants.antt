@@ -1,0 +1,15 @@
+-- What was found, and what is left, make all variables of the term.
+use Rattle.std.proofs.Common.{◌≡◌}
+use Rattle.iso_model.specs.Terms.Variables.{variables}
+use Rattle.iso_store.specs.Presents.{meaning}
+use Rattle.iso_store.specs.Listing.{IsListing, seen, seen_after, listing_load}
+use Rattle.iso_store.proofs.variables.variables.Given as goal
+
+abbrev pub invariant-loop-task : goal.invariant-loop-task
+invariant-loop-task g l = record {
+  listing : IsListing (g.C.Cells.present l.store) (g.C.Cells.at_place l.store) (g.C.Cells.variable_place l.store) (seen (g.C.Cells.present l.store) l.listing) l.listing;
+  seen : seen_after (g.C.Cells.present l.store) (seen (g.C.Cells.present l.store) l.listing) l.listing.tasks.items ≡ variables (meaning (g.C.Cells.present l.store) l.fn.word);
+}
+
+abbrev pub decreases-loop-task : goal.decreases-loop-task
+decreases-loop-task g l = listing_load (g.C.Cells.present l.store) l.listing

@@ -1,0 +1,107 @@
+//! Terms made in a store of patterns, with words for the variables.
+ghost use Rattle.std.specs.Prelude.{◌≡◌, ℕ, ◌<◌, IfOk, OnOk, length, map, true};
+ghost use Rattle.std.specs.List.{All};
+ghost use Rattle.iso_atoms.specs.Texts.{text_at};
+ghost use Rattle.iso_model.specs.Terms.Trees.{Tree, arities_fit};
+ghost use Rattle.iso_model.specs.Terms.Building.{Gather, with_step};
+ghost use Rattle.iso_model.specs.Terms.Substitutions.{apply};
+ghost use Rattle.iso_store.specs.Presents.{Holds, Gathers, Makes, KeepsNumbers, Grows, KeepsMarks};
+ghost use Rattle.iso_store.specs.Copying.{cells_of};
+ghost use Rattle.iso_store.specs.Patterns.{IsNamed, IsPattern, HasPlaces, IsReady, part_step, part_cells, at_places, taken};
+
+use super::cells::Cells;
+use super::patterns::{Part, Pattern};
+use super::shapes::StoreFault;
+use iso_atoms::Atom;
+use std::alloc::Global;
+
+/// Makes a compound of the last words, so many, which it takes the place of.
+fn gather<C: Cells>(
+    store: &mut C,
+    name: Atom,
+    count: usize,
+    words: &mut Vec<C::Word>,
+) -> Result<(), StoreFault>
+    requires name { name < length (C.names store.old) }
+    requires words { All (λ w. Holds (C.present store.old) w) words.old.items }
+    requires some { 0 < taken (length words.old.items) count }
+    requires few { taken (length words.old.items) count < 256 }
+    ensures gathers { OnOk result (Gathers (C.present store.old) (C.present store.new) words.new.items
+        (with_step (Gather (text_at (C.names store.old) name) count) (map (C.present store.old).term words.old.items))) }
+    ensures numbers { OnOk result (KeepsNumbers (C.present store.old) (C.present store.new)) }
+    ensures cells { Grows (C.present store.old) (C.present store.new) (C.width (taken (length words.old.items) count)) }
+    ensures full { result ≡ Err StoreFault.Full → C.full store.new }
+    ensures names { C.names store.new ≡ C.names store.old }
+    ensures marks { KeepsMarks (C.stands store.old) (C.stands store.new) }
+{
+    let first = words.len().saturating_sub(count);
+    let word = store.compound(name, &words[first..])?;
+    words.truncate(first);
+    words.push(word)?;
+    Ok(())
+}
+
+/// Does what the part says with the words that came before it.
+fn make_part<C: Cells>(
+    store: &mut C,
+    part: Part,
+    variables: &[C::Word],
+    words: &mut Vec<C::Word>,
+) -> Result<(), StoreFault>
+    requires named { IsNamed (C.names store.old) part }
+    requires ready { IsReady (length variables.now) (length words.old.items) part }
+    requires variables { All (λ w. Holds (C.present store.old) w) variables.now }
+    requires words { All (λ w. Holds (C.present store.old) w) words.old.items }
+    ensures gathers { OnOk result (Gathers (C.present store.old) (C.present store.new) words.new.items
+        (with_step (part_step (C.names store.old) (at_places (map (C.present store.old).term variables.now)) part) (map (C.present store.old).term words.old.items))) }
+    ensures numbers { OnOk result (KeepsNumbers (C.present store.old) (C.present store.new)) }
+    ensures cells { Grows (C.present store.old) (C.present store.new) (part_cells C.width (length words.old.items) part) }
+    ensures full { result ≡ Err StoreFault.Full → C.full store.new }
+    ensures names { C.names store.new ≡ C.names store.old }
+    ensures marks { KeepsMarks (C.stands store.old) (C.stands store.new) }
+{
+    match part {
+        Part::Variable(place) => {
+            words.push(variables[place])?;
+            Ok(())
+        }
+        Part::Integer(value) => {
+            let word = store.int(value)?;
+            words.push(word)?;
+            Ok(())
+        }
+        Part::Atom(name) => {
+            let word = store.atom(name)?;
+            words.push(word)?;
+            Ok(())
+        }
+        Part::Compound(name, count) => gather(store, name, count, words),
+    }
+}
+
+/// The term of the pattern, with the word at its place for each variable.
+pub(crate) fn instantiate<C: Cells>(
+    alloc: Global,
+    store: &mut C,
+    pattern: &Pattern,
+    variables: &[C::Word],
+) -> Result<C::Word, StoreFault>
+    requires pattern { (t : Tree) × IsPattern (C.names store.old) pattern.now.parts.items t × (arities_fit t ≡ true) × HasPlaces (length variables.now) t }
+    requires variables { All (λ w. Holds (C.present store.old) w) variables.now }
+    ensures made { (t : Tree) → IsPattern (C.names store.old) pattern.now.parts.items t
+        → IfOk result (λ w. Makes (C.present store.old) (C.present store.new) w (apply (at_places (map (C.present store.old).term variables.now)) t)) }
+    ensures numbers { OnOk result (KeepsNumbers (C.present store.old) (C.present store.new)) }
+    ensures cells { (t : Tree) → IsPattern (C.names store.old) pattern.now.parts.items t → Grows (C.present store.old) (C.present store.new) (cells_of C.width t) }
+    ensures full { result ≡ Err StoreFault.Full → C.full store.new }
+    ensures names { C.names store.new ≡ C.names store.old }
+    ensures marks { KeepsMarks (C.stands store.old) (C.stands store.new) }
+{
+    let mut words = Vec::new(alloc);
+    for part in &pattern.parts {
+        make_part(store, *part, variables, &mut words)?;
+    }
+    let Some(word) = words.pop() else {
+        unreachable!()
+    };
+    Ok(word)
+}

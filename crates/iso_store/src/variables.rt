@@ -1,0 +1,133 @@
+//! The variables of a term, each once, in the order of first occurrence; each compound is searched once.
+ghost use Rattle.std.specs.Prelude.{◌≡◌, ℕ, ◌<◌, ◌+◌, ◌*◌, ◌∷◌, [], IfOk, OnOk, map};
+ghost use Rattle.std.specs.List.{All};
+ghost use Rattle.iso_model.specs.Terms.Trees.{Variable, row};
+ghost use Rattle.iso_model.specs.Terms.Sizes.{size};
+ghost use Rattle.iso_model.specs.Terms.Variables.{variables, distinct_from};
+ghost use Rattle.iso_store.specs.Presents.{Holds, meaning};
+ghost use Rattle.iso_store.specs.Arguments.{arguments_from};
+ghost use Rattle.iso_store.specs.Searching.{IsThere, load};
+ghost use Rattle.iso_store.specs.Listing.{IsListing, AreSeen, seen, seen_after, listing_load};
+
+use super::cells::Cells;
+use super::notes::Notes;
+use super::occurs::Task;
+use super::shapes::Shape;
+use iso_model::NoMemory;
+use std::alloc::Global;
+
+/// A search for the variables of a term.
+#[derive(Drop)]
+struct Listing<W: Copy> {
+    /// A word for each variable that was found.
+    found: Vec<W>,
+    /// The places of these, and of the compounds that the search is through with.
+    searched: Notes<()>,
+    /// What is left to do.
+    tasks: Vec<Task<W>>,
+}
+
+/// Adds the variable that the word stands for if it wasn't found; a compound that was not searched is left to be.
+fn list_next<C: Cells>(
+    store: &C,
+    listing: &mut Listing<C::Word>,
+    word: C::Word,
+) -> Result<(), NoMemory>
+    requires word { Holds (C.present store.now) word }
+    requires listing { IsListing (C.present store.now) (C.at_place store.now) (C.variable_place store.now)
+        (distinct_from (seen (C.present store.now) listing.old) (meaning (C.present store.now) word)) listing.old }
+    ensures listing { OnOk result (IsListing (C.present store.now) (C.at_place store.now) (C.variable_place store.now) (seen (C.present store.now) listing.new) listing.new) }
+    ensures seen { OnOk result (seen_after (C.present store.now) (seen (C.present store.now) listing.new) listing.new.tasks.items
+        ≡ seen_after (C.present store.now) (distinct_from (seen (C.present store.now) listing.old) (meaning (C.present store.now) word)) listing.old.tasks.items) }
+    ensures load { OnOk result (listing_load (C.present store.now) listing.new < 2 * size (meaning (C.present store.now) word) + listing_load (C.present store.now) listing.old) }
+{
+    let shape = store.shape(word);
+    let place = store.place(word);
+    if listing.searched.at(place).is_some() {
+        return Ok(());
+    }
+    match shape {
+        Shape::Var(_) => {
+            listing.searched.note(place, ())?;
+            listing.found.push(word)?;
+            Ok(())
+        }
+        Shape::Int(_) | Shape::Atom(_) => Ok(()),
+        Shape::Compound(_, count) => {
+            listing.tasks.push(Task::Leave(place))?;
+            listing.tasks.push(Task::Search(word, 0, count))?;
+            Ok(())
+        }
+    }
+}
+
+/// Goes through the argument at this place, and leaves those behind it; in all the compound has so many.
+fn list_argument<C: Cells>(
+    store: &C,
+    listing: &mut Listing<C::Word>,
+    word: C::Word,
+    index: usize,
+    count: usize,
+) -> Result<(), NoMemory>
+    requires task { IsThere (C.present store.now) (Task.Search word index count) }
+    requires listing { IsListing (C.present store.now) (C.at_place store.now) (C.variable_place store.now)
+        (distinct_from (seen (C.present store.now) listing.old) (row (arguments_from index (meaning (C.present store.now) word)))) listing.old }
+    ensures listing { OnOk result (IsListing (C.present store.now) (C.at_place store.now) (C.variable_place store.now) (seen (C.present store.now) listing.new) listing.new) }
+    ensures seen { OnOk result (seen_after (C.present store.now) (seen (C.present store.now) listing.new) listing.new.tasks.items
+        ≡ seen_after (C.present store.now) (distinct_from (seen (C.present store.now) listing.old) (row (arguments_from index (meaning (C.present store.now) word)))) listing.old.tasks.items) }
+    ensures load { OnOk result (listing_load (C.present store.now) listing.new < load (C.present store.now) (Task.Search word index count) + listing_load (C.present store.now) listing.old) }
+{
+    let argument = store.arg(word, index);
+    if index + 1 == count {
+        return list_next(store, listing, argument);
+    }
+    listing.tasks.push(Task::Search(word, index + 1, count))?;
+    list_next(store, listing, argument)
+}
+
+/// Does what the task says.
+fn do_task<C: Cells>(
+    store: &C,
+    listing: &mut Listing<C::Word>,
+    task: Task<C::Word>,
+) -> Result<(), NoMemory>
+    requires task { IsThere (C.present store.now) task }
+    requires done { AreSeen (C.present store.now) (C.at_place store.now) (seen (C.present store.now) listing.old) (task ∷ []) }
+    requires listing { IsListing (C.present store.now) (C.at_place store.now) (C.variable_place store.now)
+        (seen_after (C.present store.now) (seen (C.present store.now) listing.old) (task ∷ [])) listing.old }
+    ensures listing { OnOk result (IsListing (C.present store.now) (C.at_place store.now) (C.variable_place store.now) (seen (C.present store.now) listing.new) listing.new) }
+    ensures seen { OnOk result (seen_after (C.present store.now) (seen (C.present store.now) listing.new) listing.new.tasks.items
+        ≡ seen_after (C.present store.now) (seen_after (C.present store.now) (seen (C.present store.now) listing.old) (task ∷ [])) listing.old.tasks.items) }
+    ensures load { OnOk result (listing_load (C.present store.now) listing.new < load (C.present store.now) task + listing_load (C.present store.now) listing.old) }
+{
+    match task {
+        Task::Search(word, index, count) => list_argument(store, listing, word, index, count),
+        Task::Leave(place) => {
+            listing.searched.note(place, ())?;
+            Ok(())
+        }
+    }
+}
+
+/// Words for the variables of the term that the word stands for, each once, in the order of first occurrence. The error is that
+/// memory was refused.
+pub(crate) fn variables<C: Cells>(
+    alloc: Global,
+    store: &C,
+    word: C::Word,
+) -> Result<Vec<C::Word>, NoMemory>
+    requires { Holds (C.present store.now) word }
+    ensures hold { IfOk result (λ ws. All (λ w. Holds (C.present store.now) w) ws.items) }
+    ensures variables { IfOk result (λ ws. map (meaning (C.present store.now)) ws.items ≡ map Variable (variables (meaning (C.present store.now) word))) }
+{
+    let mut listing = Listing {
+        found: Vec::new(alloc),
+        searched: Notes::new(alloc),
+        tasks: Vec::new(alloc),
+    };
+    list_next(store, &mut listing, word)?;
+    while let Some(task) = listing.tasks.pop() {
+        do_task(store, &mut listing, task)?;
+    }
+    Ok(listing.found)
+}
