@@ -7,7 +7,7 @@ use Rattle.iso_model.specs.Terms.Trees.{Tree, Variable, count}
 use Rattle.iso_model.specs.Terms.Substitutions.{Subst, apply, compose}
 use Rattle.iso_model.specs.Terms.Unifiers.{Unifier, NeverEqual}
 use Rattle.iso_model.specs.Terms.Copies.{numbers_from, renamed}
-use Rattle.iso_store.specs.Presents.{Present, meaning, IsUnification, Binds, KeepsWords, Makes, MovesOn, KeepsNumbers}
+use Rattle.iso_store_core.specs.Presents.{Present, meaning, IsUnification, Binds, KeepsWords, Makes, MovesOn, KeepsNumbers}
 use Rattle.iso_plain.specs.Standing.{AreVariables, no_word, one_word}
 use Rattle.iso_plain.specs.Entering.{Extends, Adds, Copies, CopiesPart, Meets, no_nodes, renamed_nodes}
 use Rattle.iso_plain.specs.Nodes.{map_node, trees_of}

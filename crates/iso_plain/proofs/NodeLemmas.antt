@@ -7,7 +7,7 @@ use Rattle.iso_model.specs.Terms.Unification.Applied.{apply_alone}
 use Rattle.iso_model.specs.Terms.Copies.{renamed}
 use Rattle.iso_model.specs.Search.Bodies.{Body, Run, And, map_body, is_true}
 use Rattle.iso_model.proofs.OnTerms.SortLemmas.{term_fits}
-use Rattle.iso_store.specs.Presents.{Present, KeepsWords}
+use Rattle.iso_store_core.specs.Presents.{Present, KeepsWords}
 use Rattle.iso_plain.specs.declared.bodies.Node.{Node}
 use Rattle.iso_plain.specs.declared.bodies.Node.TheVariants as node
 use Rattle.iso_plain.specs.Nodes.{layout, layout_of, map_node}

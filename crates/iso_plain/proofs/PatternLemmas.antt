@@ -8,8 +8,8 @@ use Rattle.iso_model.specs.Terms.Variables.{occurs}
 use Rattle.iso_model.specs.Terms.Substitutions.{apply}
 use Rattle.iso_model.specs.Terms.Copies.{renamed, numbers_from}
 use Rattle.iso_model.specs.Terms.Unification.Applied.{apply_same}
-use Rattle.iso_store.specs.Presents.{Present, Holds}
-use Rattle.iso_store.specs.Patterns.{HasPlaces, at_places}
+use Rattle.iso_store_core.specs.Presents.{Present, Holds}
+use Rattle.iso_store_core.specs.Patterns.{HasPlaces, at_places}
 use Rattle.iso_plain.specs.Standing.{AreVariables, no_word, one_word}
 use Rattle.iso_plain.specs.Entering.{is_below}
 use Rattle.iso_plain.proofs.EnteringLemmas.{both_true}

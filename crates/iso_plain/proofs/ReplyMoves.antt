@@ -9,7 +9,7 @@ use Rattle.iso_model.specs.Search.BuiltIns.{Reply, Fails, Succeeds, Equates, rep
 use Rattle.iso_model.specs.declared.built_ins.BuiltIn.{BuiltIn}
 use Rattle.iso_model.specs.Search.Walker.{State, Fail, Goes, fails, step}
 use Rattle.iso_model.proofs.Search.CallLemmas.{run_equation, run_equation_missed}
-use Rattle.iso_store.specs.Presents.{Present, KeepsMarks, KeepsWords, meaning}
+use Rattle.iso_store_core.specs.Presents.{Present, KeepsMarks, KeepsWords, meaning}
 use Rattle.iso_plain.specs.declared.bodies.Node.TheVariants as node
 use Rattle.iso_plain.specs.declared.parts.Frame.{Frame}
 use Rattle.iso_plain.specs.declared.parts.Now.{Now}

@@ -6,7 +6,7 @@ use Rattle.iso_model.specs.Terms.Substitutions.{Subst, apply}
 use Rattle.iso_model.specs.Search.Bodies.{Body, Run, And}
 use Rattle.iso_model.specs.Search.Databases as databases
 use Rattle.iso_model.specs.Search.Walker.{State, Member, Goal, Alternative}
-use Rattle.iso_store.specs.Presents.{Present, meaning}
+use Rattle.iso_store_core.specs.Presents.{Present, meaning}
 use Rattle.iso_plain.specs.Callable.{IsGoal}
 use Rattle.iso_plain.specs.declared.bodies.Node.{Node}
 use Rattle.iso_plain.specs.declared.bodies.Node.TheVariants as node

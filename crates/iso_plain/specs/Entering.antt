@@ -5,7 +5,7 @@ use Rattle.iso_model.specs.Terms.TermOf.{term_of}
 use Rattle.iso_model.specs.Terms.Substitutions.{Subst, apply, compose}
 use Rattle.iso_model.specs.Terms.Unifiers.{Unifier, NeverEqual}
 use Rattle.iso_model.specs.Terms.Copies.{renamed}
-use Rattle.iso_store.specs.Presents.{Present, KeepsWords}
+use Rattle.iso_store_core.specs.Presents.{Present, KeepsWords}
 use Rattle.iso_plain.specs.Nodes.{map_node, trees_of}
 use Rattle.iso_plain.specs.declared.bodies.Node.{Node}
 use Rattle.iso_plain.specs.declared.bodies.Node.TheVariants as node

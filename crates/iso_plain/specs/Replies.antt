@@ -1,7 +1,7 @@
 -- What running a goal of a built-in makes of a store, and whether the search goes on behind it.
 use Rattle.std.specs.Prelude.{◌≡◌, Bool, true, false}
 use Rattle.iso_model.specs.Search.BuiltIns.{Reply, Fails, Succeeds, Equates}
-use Rattle.iso_store.specs.Presents.{Present, IsUnification}
+use Rattle.iso_store_core.specs.Presents.{Present, IsUnification}
 
 -- The answer is the one that the reply asks for: where it fails nothing is said of the store; where it succeeds the store is as before; two terms are
 -- unified, and their unifier is bound.

@@ -4,7 +4,7 @@ ghost use Rattle.std.specs.Prelude.{◌≡◌, ℕ, ◌+◌, ◌<◌, ◌≤◌,
 ghost use Rattle.iso_model.specs.Terms.Trees.{arities_fit};
 ghost use Rattle.iso_model.specs.Terms.TermOf.{term_of};
 ghost use Rattle.iso_model.specs.Terms.Copies.{renamed, numbers_from};
-ghost use Rattle.iso_store.specs.Presents.{KeepsMarks, KeepsNumbers, Makes, Holds};
+ghost use Rattle.iso_store_core.specs.Presents.{KeepsMarks, KeepsNumbers, Makes, Holds};
 ghost use Rattle.iso_plain.specs.Standing.{AreVariables};
 ghost use Rattle.iso_plain.specs.Nodes.{map_node, trees_of};
 ghost use Rattle.iso_plain.specs.Entering.{Enters, Extends, is_below, Fits, PartFits, PartsFit, CopiesPart, Copies, Adds, renamed_nodes};
@@ -12,7 +12,7 @@ ghost use Rattle.iso_plain.specs.Entering.{Enters, Extends, is_below, Fits, Part
 use super::bodies::Node;
 use super::clauses::Clause;
 use iso_model::Term;
-use iso_store::{Store, StoreFault};
+use iso_store_core::{Store, StoreFault};
 use std::alloc::Global;
 
 /// So many new variables, numbered from the next number on. The errors: the store is full, or memory was refused.

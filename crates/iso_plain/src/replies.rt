@@ -2,12 +2,12 @@
 ghost use Rattle.std.specs.Prelude.{◌≡◌, IfOk, Err};
 ghost use Rattle.iso_model.specs.Terms.Unification.{unifier_of};
 ghost use Rattle.iso_model.specs.Search.BuiltIns as table;
-ghost use Rattle.iso_store.specs.Presents.{Holds, meaning, KeepsMarks};
+ghost use Rattle.iso_store_core.specs.Presents.{Holds, meaning, KeepsMarks};
 ghost use Rattle.iso_plain.specs.Called.{IsBuiltIn};
 ghost use Rattle.iso_plain.specs.Replies.{IsReply};
 
 use iso_model::BuiltIn;
-use iso_store::{Store, StoreFault};
+use iso_store_core::{Store, StoreFault};
 
 /// Runs the goal of this built-in: whether the search goes on behind it, with what it bound. The errors: the store is full, or memory was refused.
 pub fn reply<S: Store>(store: &mut S, built_in: BuiltIn, goal: S::Word) -> Result<bool, StoreFault>

@@ -13,7 +13,7 @@ use super::parts::{Attempt, Frame, Now, replied};
 use super::plain::{Move, Plain};
 use super::replies;
 use iso_model::{Limit, Pause};
-use iso_store::{Store, StoreFault};
+use iso_store_core::{Store, StoreFault};
 
 impl<S: Store + Drop> Plain<S> {
     ghost use Rattle.iso_plain.specs.EngineStates.{Represents, Stopped, WasRefused, Moves, Falls, Calls, WasCalled, weight, body_weight, most_clauses};

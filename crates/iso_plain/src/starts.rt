@@ -15,7 +15,7 @@ use super::plain::Plain;
 use super::{balls, clauses, entries, procedures};
 use iso_model::{AddFault, Numbering, Term, copied};
 use iso_ops::{Flags, OpTable};
-use iso_store::{Store, StoreFault};
+use iso_store_core::{Store, StoreFault};
 use std::alloc::{AllocError, Global};
 
 /// The places of the term's distinct variables: 0, 1, ..

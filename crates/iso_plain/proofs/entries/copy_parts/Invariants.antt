@@ -1,7 +1,7 @@
 -- The parts before the next one are copied.
 use Rattle.std.proofs.Common.{ℕ, length, take, drop}
 use Rattle.iso_model.specs.Terms.Copies.{numbers_from}
-use Rattle.iso_store.specs.Presents.{KeepsMarks}
+use Rattle.iso_store_core.specs.Presents.{KeepsMarks}
 use Rattle.iso_plain.specs.Standing.{AreVariables}
 use Rattle.iso_plain.specs.Nodes.{trees_of}
 use Rattle.iso_plain.specs.Entering.{Extends, PartsFit, Copies, Adds, renamed_nodes}

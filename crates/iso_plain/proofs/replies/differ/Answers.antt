@@ -3,7 +3,7 @@ use Rattle.iso_model.specs.Terms.Trees.{Tree}
 use Rattle.iso_model.specs.Terms.Unification.{unifier_of}
 use Rattle.iso_model.specs.Search.BuiltIns.{differ}
 use Rattle.iso_model.proofs.OnTerms.UnifierLemmas.{unifier_of_some, unifier_of_none}
-use Rattle.iso_store.specs.Presents.{Present, IsUnification, meaning}
+use Rattle.iso_store_core.specs.Presents.{Present, IsUnification, meaning}
 use Rattle.iso_plain.specs.Replies.{IsReply}
 use Rattle.iso_plain.proofs.replies.differ.Goals as goal
 

@@ -1,6 +1,6 @@
 use Rattle.std.proofs.Common.{◌≡◌, ap, ◌∙◌, arith}
 use Rattle.iso_model.specs.Terms.Arguments.{arity}
-use Rattle.iso_store.specs.Presents.{meaning}
+use Rattle.iso_store_core.specs.Presents.{meaning}
 use Rattle.iso_plain.proofs.CalledLemmas.{arity_of, built_in_arguments}
 use Rattle.iso_plain.proofs.replies.reply.Goals as goal
 
