@@ -1,6 +1,7 @@
 pub mod SearchSteps
 pub mod SearchMoves
 pub mod StandingLemmas
+pub mod CostLemmas
 pub mod WeightLemmas
 pub mod NodeLemmas
 pub mod PatternLemmas

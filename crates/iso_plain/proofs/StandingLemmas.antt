@@ -1,7 +1,8 @@
 -- Bodies, frames and choices, as the store, the nodes and the frames change.
-use Rattle.std.proofs.Common.{◌≡◌, ℕ, zero, suc, ◌+◌, ◌-◌, ◌<◌, List, [], ◌∷◌, ◌++◌, length, take, Option, Some, None, refl, ap, ap₂, sym, ◌∙◌, subst, arith, inl, inr, length-append}
+use Rattle.std.proofs.Common.{◌≡◌, ℕ, zero, suc, ◌+◌, ◌-◌, ◌<◌, ◌≤◌, List, [], ◌∷◌, ◌++◌, length, take, drop, Option, Some, None, true, refl, ap, ap₂, sym, ◌∙◌, subst, arith, ◌⊎◌, inl, inr, length-append}
 use Rattle.std.specs.List.{slice_get}
-use Rattle.std.proofs.lemmas.List.{take-append-le}
+use Rattle.std.proofs.Math.Nat.{eq-or-lt_of_le}
+use Rattle.std.proofs.lemmas.List.{take-append-le, take-append-drop}
 use Rattle.std.proofs.lemmas.Option.{slice_get_within}
 use Rattle.iso_model.specs.Terms.Trees.{Tree}
 use Rattle.iso_model.specs.Search.Bodies.{Body}
@@ -12,7 +13,7 @@ use Rattle.iso_plain.specs.Next.{IsPlace, now_at, now_behind}
 use Rattle.iso_plain.specs.declared.bodies.Node.{Node}
 use Rattle.iso_plain.specs.declared.parts.Frame.{Frame}
 use Rattle.iso_plain.specs.declared.parts.Choice as kept
-use Rattle.iso_plain.specs.Standing.{At, Among, Links, IsBody, runs, cuts, joins, Chain, ends, leads, First, StandsOn, StandsForChoice, StandsForChoices, none_kept, one_kept, links_at, Newest, AreVariables, no_word, one_word, GoesOn, DoesNext}
+use Rattle.iso_plain.specs.Standing.{At, Among, Links, IsBody, runs, joins, IsMember, a_body, a_cut, Chain, ends, leads, First, AtGoal, StandsOn, StandsForChoice, StandsForChoices, none_kept, one_kept, links_at, Newest, AreVariables, no_word, one_word, GoesOn, DoesNext}
 use Rattle.iso_plain.specs.Entering.{Adds}
 
 -- ---- places
@@ -46,6 +47,14 @@ body_within {nodes = nodes} (runs {i = i} at holds is goal) = slice_get_within n
 body_within {nodes = nodes} (cuts {i = i} at) = slice_get_within nodes i _ at.is
 body_within {nodes = nodes} (joins {k = k} at first second some pair a b) = slice_get_within nodes k _ at.is
 
+pub member_more : {W : Type 0} {p q : Present W} {nodes : List (Node W)} {f : Frame} {m : Member} (more : List (Node W)) → KeepsWords p q → IsMember p nodes f m → IsMember q (nodes ++ more) f m
+member_more more keeps (a_body is body) = a_body is (body_more more keeps body)
+member_more more keeps (a_cut is) = a_cut is
+
+pub member_keep : {W : Type 0} {p q : Present W} {nodes : List (Node W)} {f : Frame} {m : Member} → KeepsWords p q → IsMember p nodes f m → IsMember q nodes f m
+member_keep keeps (a_body is body) = a_body is (body_keep keeps body)
+member_keep keeps (a_cut is) = a_cut is
+
 -- nodes and frames that were added at the end
 pub record AddsLinks {W : Type 0} (old new : Links W) : Type 0 where
   pub nodes : Adds old.nodes new.nodes
@@ -53,18 +62,18 @@ pub record AddsLinks {W : Type 0} (old new : Links W) : Type 0 where
 
 pub chain_more : {W : Type 0} {p q : Present W} {old : Links W} {place : Option ℕ} {ms : List Member} (new : Links W) → AddsLinks old new → KeepsWords p q → Chain p old place ms → Chain q new place ms
 chain_more new adds keeps ends = ends
-chain_more {q = q} {old = old} new adds keeps (leads {i = i} {f = f} {b = b} at body others) =
+chain_more {q = q} {old = old} new adds keeps (leads {i = i} {f = f} {m = m} at member others) =
     leads (subst (λ (fs : List Frame). At fs i f) (sym adds.frames.1) (at_more old.frames adds.frames.0 i f at))
-    (subst (λ (ns : List (Node _)). IsBody q ns f.body b) (sym adds.nodes.1) (body_more adds.nodes.0 keeps body)) (chain_more new adds keeps others)
+    (subst (λ (ns : List (Node _)). IsMember q ns f m) (sym adds.nodes.1) (member_more adds.nodes.0 keeps member)) (chain_more new adds keeps others)
 
 pub chain_keep : {W : Type 0} {p q : Present W} {links : Links W} {place : Option ℕ} {ms : List Member} → KeepsWords p q → Chain p links place ms → Chain q links place ms
 chain_keep keeps ends = ends
-chain_keep keeps (leads at body others) = leads at (body_keep keeps body) (chain_keep keeps others)
+chain_keep keeps (leads at member others) = leads at (member_keep keeps member) (chain_keep keeps others)
 
 -- the place that a chain begins at
 pub chain_place : {W : Type 0} {p : Present W} {links : Links W} (place : Option ℕ) {ms : List Member} → Chain p links place ms → IsPlace links.frames place
 chain_place None ends = tt
-chain_place {links = links} (Some i) (leads at body others) = slice_get_within links.frames i _ at.is
+chain_place {links = links} (Some i) (leads at member others) = slice_get_within links.frames i _ at.is
 
 -- ---- lists that end in an item
 
@@ -87,6 +96,17 @@ among_front x (z ∷ xs) y (inr h) = inr (among_front x xs y h)
 pub among_last : {X : Type 0} (xs : List X) (y : X) → Among y (xs ++ y ∷ [])
 among_last [] y = inl refl
 among_last (z ∷ xs) y = inr (among_last xs y)
+
+-- an item before the last
+at_front : {X : Type 0} (xs : List X) (y : X) (i : ℕ) → i < length xs → slice_get (xs ++ y ∷ []) i ≡ slice_get xs i
+at_front [] y i less = absurd (omega arith)
+at_front (x ∷ xs) y zero less = refl
+at_front (x ∷ xs) y (suc i) less = at_front xs y i (omega arith)
+
+take_take : {X : Type 0} (n : ℕ) (xs : List X) → take n (take n xs) ≡ take n xs
+take_take zero xs = refl
+take_take (suc n) [] = refl
+take_take (suc n) (x ∷ xs) = ap (λ (ys : List _). x ∷ ys) (take_take n xs)
 
 take_whole : {X : Type 0} (xs : List X) → take (length xs) xs ≡ xs
 take_whole [] = refl
@@ -131,10 +151,7 @@ module _ {W M : Type 0} {older : M → M → Type 0} {base : M} {left_at : ℕ �
         present = here.present;
         mark = keeps c here.present (subst (λ (ds : List (kept.Choice W M)). Among c ds) (sym is) (among_last before c)) here.mark;
         newer = here.newer;
-        call = here.call;
-        at = here.at;
-        left = here.left;
-        some = here.some;
+        has = here.has;
       })
       newer
       (choices_keep (λ d p among stood. keeps d p (subst (λ (ds : List (kept.Choice W M)). Among d ds) (sym is) (among_front d before c among)) stood) below)
@@ -182,6 +199,63 @@ module _ {W M : Type 0} {older : M → M → Type 0} {base : M} {left_at : ℕ �
       (subst (λ (ls : Links W). StandsForChoice stands older base left_at query named ls c a) (sym whole) here) newer
       (subst (λ (ls : Links W). StandsForChoices stands older base left_at query named ls cs ks) (sym whole) below)
 
+  -- ---- choices up to a height
+
+  -- the older choices stand over all nodes and frames
+  wider : {stands : M → Present W → Type 0} {links : Links W} {cs : List (kept.Choice W M)} {ks : List Alternative} (c : kept.Choice W M)
+      → StandsForChoices stands older base left_at query named (links_at c links) cs ks → StandsForChoices stands older base left_at query named links cs ks
+  wider {links = links} c h = choices_more links (record { nodes = (drop c.nodes links.nodes, sym (take-append-drop c.nodes links.nodes)); frames = (drop c.frames links.frames, sym (take-append-drop c.frames links.frames)) }) h
+
+  -- What is left of choices where those above a height are taken away.
+  pub record Lower (stands : M → Present W → Type 0) (links : Links W) (cs : List (kept.Choice W M)) (ks : List Alternative) (height : ℕ) (c : kept.Choice W M) : Type 0 where
+    pub stand : StandsForChoices stands older base left_at query named links (take height cs) (drop (length ks - height) ks)
+    pub newer : (d : kept.Choice W M) → Among d (take height cs) → older d.mark c.mark
+    pub newer_base : older base c.mark
+    pub present : Present W
+    pub mark : stands c.mark present
+
+  lower_by : {stands : M → Present W → Type 0} {links : Links W} {before : List (kept.Choice W M)} {ks : List Alternative} (height : ℕ) (c d : kept.Choice W M) (a : Alternative)
+      → StandsOn d links → StandsForChoice stands older base left_at query named (links_at d links) d a → ((x : kept.Choice W M) → Among x before → older x.mark d.mark)
+      → StandsForChoices stands older base left_at query named (links_at d links) before ks → slice_get (before ++ d ∷ []) height ≡ Some c
+      → (height < length before → Lower stands (links_at d links) before ks height c) → (height ≡ length before) ⊎ (height < length before) → Lower stands links (before ++ d ∷ []) (a ∷ ks) height c
+  lower_by {stands = stands} {links = links} {before = before} {ks = ks} height c d a on here newer below there inner (inr less) =
+      let l = inner less in
+      let many = choices_length below in
+      let front : take height before ≡ take height (before ++ d ∷ []) = sym (take-append-le height before (d ∷ []) (omega (arith, less))) in
+      let back : suc (length ks - height) ≡ suc (length ks) - height = omega (arith, less, many) in
+      record {
+        stand = subst (λ (xs : List (kept.Choice W M)). StandsForChoices stands older base left_at query named links xs (drop (suc (length ks) - height) (a ∷ ks))) front
+            (subst (λ (n : ℕ). StandsForChoices stands older base left_at query named links (take height before) (drop n (a ∷ ks))) back (wider d l.stand));
+        newer = λ x among. l.newer x (subst (λ (xs : List (kept.Choice W M)). Among x xs) (sym front) among);
+        newer_base = l.newer_base;
+        present = l.present;
+        mark = l.mark;
+      }
+  lower_by {stands = stands} {links = links} {before = before} {ks = ks} height c d a on here newer below there inner (inl same) =
+      let many = choices_length below in
+      let front : before ≡ take height (before ++ d ∷ []) = sym (ap (λ (n : ℕ). take n (before ++ d ∷ [])) same ∙ front_is before d) in
+      let back : suc 0 ≡ suc (length ks) - height = omega (arith, same, many) in
+      let is : d ≡ c = some_same (sym (last_is before d) ∙ (ap (slice_get (before ++ d ∷ [])) (sym same) ∙ there)) in
+      record {
+        stand = subst (λ (xs : List (kept.Choice W M)). StandsForChoices stands older base left_at query named links xs (drop (suc (length ks) - height) (a ∷ ks))) front
+            (subst (λ (n : ℕ). StandsForChoices stands older base left_at query named links before (drop n (a ∷ ks))) back (wider d below));
+        newer = λ x among. subst (λ (y : kept.Choice W M). older x.mark y.mark) is (newer x (subst (λ (xs : List (kept.Choice W M)). Among x xs) (sym front) among));
+        newer_base = subst (λ (y : kept.Choice W M). older base y.mark) is here.newer;
+        present = here.present;
+        mark = subst (λ (y : kept.Choice W M). stands y.mark here.present) is here.mark;
+      }
+
+  pub lower : {stands : M → Present W → Type 0} {links : Links W} {cs : List (kept.Choice W M)} {ks : List Alternative} (height : ℕ) (c : kept.Choice W M) → slice_get cs height ≡ Some c
+      → StandsForChoices stands older base left_at query named links cs ks → Lower stands links cs ks height c
+  lower height c at none_kept = absurd (cc)
+  lower {stands = stands} {links = links} {cs = cs} height c at (one_kept {before = before} {c = d} {a = a} {ks = ks} is on here newer below) =
+      let there : slice_get (before ++ d ∷ []) height ≡ Some c = subst (λ (ds : List (kept.Choice W M)). slice_get ds height ≡ Some c) is at in
+      let within = slice_get_within (before ++ d ∷ []) height c there in
+      let long = length_last before d in
+      let shorter : (height < length before) → slice_get before height ≡ Some c = λ less. sym (at_front before d height less) ∙ there in
+      subst (λ (ds : List (kept.Choice W M)). Lower stands links ds (a ∷ ks) height c) (sym is)
+      (lower_by height c d a on here newer below there (λ less. lower height c (shorter less) below) (eq-or-lt_of_le (omega (arith, within, long))))
+
   -- no choice
   pub no_choices : {stands : M → Present W → Type 0} {links : Links W} {cs : List (kept.Choice W M)} {ks : List Alternative} → cs ≡ []
       → StandsForChoices stands older base left_at query named links cs ks → ks ≡ []
@@ -203,14 +277,14 @@ pub record Leads {W : Type 0} (p : Present W) (links : Links W) (place : ℕ) (m
   pub first : First p links frame ms
 
 pub leads_to : {W : Type 0} {p : Present W} {links : Links W} {place : ℕ} {ms : List Member} → Chain p links (Some place) ms → Leads p links place ms
-leads_to (leads {f = f} {b = b} {ms = ms} at body others) = record { frame = f; at = at.is; first = record { body = b; behind = ms; is = refl; node = body; chain = others } }
+leads_to (leads {f = f} {m = m} {ms = ms} at member others) = record { frame = f; at = at.is; first = record { member = m; behind = ms; is = refl; stands = member; chain = others } }
 
 -- no members are behind the last
 pub none_linked : {W : Type 0} {p : Present W} {links : Links W} {ms : List Member} → Chain p links None ms → ms ≡ []
 none_linked ends = refl
 
 first_as : {W : Type 0} {p : Present W} {links : Links W} {f : Frame} {ms ns : List Member} → First p links f ms → ns ≡ ms → First p links f ns
-first_as h same = record { body = h.body; behind = h.behind; is = same ∙ h.is; node = h.node; chain = h.chain }
+first_as h same = record { member = h.member; behind = h.behind; is = same ∙ h.is; stands = h.stands; chain = h.chain }
 
 -- the members from the place on come next; where there are none, an answer
 pub next_behind : {W : Type 0} (q : Present W) (links : Links W) (query : List W) (raised : Option Tree) (s : State) (place : Option ℕ) (ms : List Member) → s.list ≡ ms → Chain q links place ms → GoesOn q query s

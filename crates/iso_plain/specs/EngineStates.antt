@@ -15,10 +15,13 @@ use Rattle.iso_model.specs.Search.Engines.{Phase, Ready, Midway, IsAwake}
 use Rattle.iso_model.specs.declared.pauses.Pause.TheVariants as pause
 use Rattle.iso_model.specs.declared.limit.Limit.TheVariants as limit
 use Rattle.iso_store.specs.Presents.{Present}
-use Rattle.iso_plain.specs.Standing.{Among, Links, AtGoal, StandsForChoices, HaveRoom, DoesNext, most_numbers, numbers_a_step}
+use Rattle.iso_plain.specs.Standing.{Among, Links, AtGoal, HasLeft, StandsForChoices, HaveRoom, DoesNext, most_numbers, numbers_a_step}
+use Rattle.iso_plain.specs.Costs.{left_cost, whole_cost, rest_cost, frame_cost, frame_costs}
 use Rattle.iso_plain.specs.Programs.{IsWorld}
 use Rattle.iso_plain.specs.declared.procedures.Procedure.{Procedure}
 use Rattle.iso_plain.specs.declared.parts.Attempt.{Attempt}
+use Rattle.iso_plain.specs.declared.parts.Left.{Left}
+use Rattle.iso_plain.specs.declared.parts.Left.TheVariants as left
 use Rattle.iso_plain.specs.declared.parts.Choice as kept
 use Rattle.iso_plain.specs.declared.parts.Now.{Now}
 use Rattle.iso_plain.specs.declared.parts.Now.TheVariants as now
@@ -125,10 +128,7 @@ module _ {S W M : Type 0} (present : S → Present W) (stands : S → M → Pres
     pub newest : slice_get e.choices.items (length e.choices.items - 1) ≡ Some c
     pub nodes : c.nodes ≡ length e.nodes.items
     pub frames : c.frames ≡ length e.frames.items
-    pub call : Tree
-    pub at : AtGoal (present e.store) (links_of e) e.query.items (variables s.query) c.attempt.goal c.attempt.rest call a.list a.subst a.next
-    pub left : a.left ≡ Clauses call (left_at s.world.database.procedures c.attempt.procedure c.attempt.clause)
-    pub some : 0 < length (left_at s.world.database.procedures c.attempt.procedure c.attempt.clause)
+    pub has : HasLeft (left_at s.world.database.procedures) e.query.items (variables s.query) (present e.store) (links_of e) c.left a
     pub newer_base : older e.base c.mark
     pub newer : (d : kept.Choice W M) → Among d (take (length e.choices.items - 1) e.choices.items) → older d.mark c.mark
     pub stands_below : StandsForChoices (stands e.store) older e.base (left_at s.world.database.procedures) e.query.items (variables s.query) (links_of e) (take (length e.choices.items - 1) e.choices.items) below
@@ -158,38 +158,38 @@ module _ {S W M : Type 0} (present : S → Present W) (stands : S → M → Pres
 
 -- ---- what falls
 
--- how many clauses the procedures have
-abbrev pub most_clauses : List Procedure → ℕ
-most_clauses [] = 0
-most_clauses (p ∷ ps) = length p.clauses.items + most_clauses ps
-
 -- how many clauses the procedure at this place has
 abbrev pub clauses_at_place : List Procedure → ℕ → ℕ
 clauses_at_place [] i = 0
 clauses_at_place (p ∷ ps) zero = length p.clauses.items
 clauses_at_place (p ∷ ps) (suc i) = clauses_at_place ps i
 
--- how many clauses are left at the choices
-abbrev pub clauses_left : {W M : Type 0} → List Procedure → List (kept.Choice W M) → ℕ
-clauses_left ps [] = 0
-clauses_left ps (c ∷ cs) = (clauses_at_place ps c.attempt.procedure - c.attempt.clause) + clauses_left ps cs
+-- what is to be done at most at what is left to be tried, over frames with these costs
+abbrev pub choice_cost : {W : Type 0} → List Procedure → List ℕ → Left W → ℕ
+choice_cost ps costs (left.AsIs place) = suc (rest_cost costs place)
+choice_cost ps costs (left.Again place) = suc (rest_cost costs place)
+choice_cost ps costs (left.Clauses attempt) = left_cost (clauses_at_place ps attempt.procedure - attempt.clause) (rest_cost costs attempt.rest)
 
--- how far what comes next is from being run: a body's parts have lower places
-abbrev pub rank : Now → ℕ
-rank now.Idle = 0
-rank now.Failing = 0
-rank now.Answering = 1
-rank (now.Running frame) = frame.body + 1
-rank now.Raising = 1
-rank (now.Spent limit) = 0
+abbrev pub choices_cost : {W M : Type 0} → List Procedure → List ℕ → List (kept.Choice W M) → ℕ
+choices_cost ps costs [] = 0
+choices_cost ps costs (c ∷ cs) = choice_cost ps costs c.left + choices_cost ps costs cs
 
--- a step or a clause that is left weighs more than any body
-abbrev pub body_weight : ℕ
-body_weight = 2 ^ 64
+-- what is to be done at most at what comes next
+abbrev pub now_cost : List ℕ → Now → ℕ
+now_cost costs now.Idle = 0
+now_cost costs now.Failing = 0
+now_cost costs now.Answering = 1
+now_cost costs (now.Running frame) = frame_cost costs frame
+now_cost costs now.Raising = 1
+now_cost costs (now.Spent limit) = 0
 
--- A number that falls at each move: a step that is left weighs more than all clauses of a procedure.
+-- before the next step
+abbrev pub cost : {S W M : Type 0} → Plain S W M → ℕ
+cost e = choices_cost e.procedures.items (frame_costs e.frames.items) e.choices.items + now_cost (frame_costs e.frames.items) e.now
+
+-- A number that falls at each move.
 abbrev pub weight : {S W M : Type 0} → Plain S W M → ℕ
-weight e = body_weight * (e.steps * (most_clauses e.procedures.items + 1) + clauses_left e.procedures.items e.choices.items) + rank e.now
+weight e = whole_cost e.steps (cost e)
 
 -- a move that goes on, and one that gives an event, make it fall
 abbrev pub Falls : Move → ℕ → ℕ → Type 0

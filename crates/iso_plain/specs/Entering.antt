@@ -29,8 +29,7 @@ pub record Fits (n : ℕ) (t : Tree) : Type 0 where
 
 abbrev pub PartFits : ℕ → Node Tree → Type 0
 PartFits n (node.Run t) = Fits n t
-PartFits n node.Cut = Unit {0}
-PartFits n (node.Pair k distance) = Unit {0}
+PartFits n part = Unit {0}
 
 abbrev pub PartsFit : ℕ → List (Node Tree) → Type 0
 PartsFit n [] = Unit {0}
@@ -50,7 +49,10 @@ renamed_nodes n ts = map (map_node (renamed n)) ts
 abbrev pub IsNode : {W : Type 0} → Present W → Node W → Node Tree → Type 0
 IsNode p (node.Run w) (node.Run t) = (p.holds w ≡ true) × (p.term w ≡ t)
 IsNode p node.Cut node.Cut = Unit {0}
-IsNode p (node.Pair k d) (node.Pair l e) = (k ≡ l) × (d ≡ e)
+IsNode p (node.And d) (node.And e) = d ≡ e
+IsNode p (node.Or d) (node.Or e) = d ≡ e
+IsNode p (node.If d) (node.If e) = d ≡ e
+IsNode p (node.Choose c d) (node.Choose b e) = (c ≡ b) × (d ≡ e)
 IsNode p n t = ⊥
 
 -- These nodes stand for the parts, in their order.

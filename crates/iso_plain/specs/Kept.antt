@@ -21,7 +21,7 @@ use Rattle.iso_plain.specs.declared.clauses.Clause.{Clause}
 use Rattle.iso_plain.specs.declared.bodies.Node.{Node}
 use Rattle.iso_plain.specs.declared.bodies.BodyFault.{BodyFault}
 use Rattle.iso_plain.specs.declared.bodies.BodyFault.TheVariants as fault
-use Rattle.iso_plain.specs.Nodes.{trees_of, layout_of}
+use Rattle.iso_plain.specs.Nodes.{ArePartsOf}
 
 -- each variable by its place in the list
 abbrev pub numbers : List ℕ → Subst
@@ -38,23 +38,17 @@ pub record IsTemplate (n : ℕ) (t : Tree) : Type 0 where
   pub key : (k : Key) × (key_of t ≡ Some k)
   pub below : (x : ℕ) → occurs x t ≡ true → x < n
 
--- each goal of the body is one
-abbrev pub AreTemplates : ℕ → Body → Type 0
-AreTemplates n Cut = Unit {0}
-AreTemplates n (Run t) = IsTemplate n t
-AreTemplates n (And a b) = AreTemplates n a × AreTemplates n b
-AreTemplates n (Or a b) = AreTemplates n a × AreTemplates n b
-AreTemplates n (If a b) = AreTemplates n a × AreTemplates n b
-AreTemplates n (Choose a b c) = (AreTemplates n a × AreTemplates n b) × AreTemplates n c
+-- The term of a goal, whose variables are below n.
+abbrev pub IsKeptGoal : ℕ → Term → Tree → Type 0
+IsKeptGoal n kept t = (t ≡ term_of kept) × IsTemplate n t
 
 -- The engine keeps the clause of the database so.
 pub record IsClause (kept : Clause) (c : databases.Clause) : Type 0 where
   pub head : term_of kept.head ≡ c.head
-  pub parts : trees_of kept.parts.items ≡ layout_of c.body
+  pub parts : ArePartsOf (IsKeptGoal c.variables) kept.parts.items c.body
   pub variables : kept.variables ≡ c.variables
   pub few : c.variables ≤ most_variables
   pub head_template : IsTemplate c.variables c.head
-  pub goal_templates : AreTemplates c.variables c.body
 
 -- The parts of a body come, or the body can't be converted.
 abbrev pub PartsOf : Tree → Result (Vec (Node Term) Global) BodyFault → Type 0

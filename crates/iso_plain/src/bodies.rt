@@ -10,28 +10,22 @@ ghost use Rattle.iso_plain.specs.Nodes.{named_construct, ends_if, behind, trees_
 use iso_model::{Term, copied};
 use std::alloc::{AllocError, AllocFailed, Global};
 
-/// How two bodies are put together (7.8.5 to 7.8.8).
-#[derive(Clone, Copy, Debug, PartialEq, Eq)]
-pub enum Construct {
-    /// `A, B`.
-    And,
-    /// `A ; B`, where A is no if-then.
-    Or,
-    /// `C -> T`.
-    If,
-    /// `C -> T ; E`, of `C -> T` and `E`.
-    Choose,
-}
-
-/// A part of a converted body, over goals of this type. Its own parts come before it, the last one right before it.
+/// A part of a converted body, over goals of this type. The last part of a construct stands right before it; the numbers say how
+/// far back its other parts end.
 #[derive(Clone, Copy, Drop)]
 pub enum Node<G> {
     /// A goal.
     Run(G),
     /// `!` (7.8.4).
     Cut,
-    /// Two bodies put together: the second one ends right before it, the first one so many places before it.
-    Pair(Construct, usize),
+    /// `A, B`; A ends so far back (7.8.5).
+    And(usize),
+    /// `A ; B`, where A is no if-then; A ends so far back (7.8.6).
+    Or(usize),
+    /// `C -> T` alone; C ends so far back (7.8.7).
+    If(usize),
+    /// `C -> T ; E`; C and T end so far back (7.8.8).
+    Choose(usize, usize),
 }
 
 /// Why a body was not converted.

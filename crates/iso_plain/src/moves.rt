@@ -10,7 +10,7 @@ ghost use Rattle.iso_model.specs.Search.Walker.{State, Member, Alternative, trie
 
 use super::clauses::Clause;
 use super::entries;
-use super::parts::{Attempt, Choice, behind};
+use super::parts::{Attempt, Choice, Left, Now, behind};
 use super::plain::{Move, Plain};
 use super::procedures::Procedure;
 use iso_model::Pause;
@@ -42,6 +42,7 @@ impl<S: Store + Drop> Plain<S> {
     ghost use Rattle.iso_model.specs.Search.Engines.{IsAwake};
     ghost use Rattle.iso_plain.specs.Limits.{ResultMet, ResultFull};
     ghost use Rattle.iso_plain.specs.declared.parts.Now.TheVariants as now;
+    ghost use Rattle.iso_plain.specs.declared.parts.Left.TheVariants as left;
 
     /// Enters the clause, with this cut mark; where its head doesn't unify with the goal the engine fails next (7.7.10).
     pub(crate) fn enter(&mut self, attempt: Attempt<S::Word>, mark: usize) -> Result<(), StoreFault>
@@ -118,26 +119,31 @@ impl<S: Store + Drop> Plain<S> {
             mark,
             nodes,
             frames,
-            attempt: Attempt { clause, ..attempt },
+            left: Left::Clauses(Attempt { clause, ..attempt }),
         })?;
         Ok(())
     }
 
     /// Leaves the newest choice at its next clause, or takes it away where this is its last one; how many stand below it.
-    pub(crate) fn leave_choice(&mut self, choice: Choice<S::Word, S::Mark>) -> usize
+    fn leave_choice(
+        &mut self,
+        choice: Choice<S::Word, S::Mark>,
+        attempt: Attempt<S::Word>,
+    ) -> usize
         requires some { 0 < length self.old.choices.items }
+        requires left { choice.left ≡ left.Clauses attempt }
         requires back { (s : State) × (a : Alternative) × (below : List Alternative) × WentBack S.present S.stands S.older self.old choice s a below }
         ensures calls { (s : State) (a : Alternative) (below : List Alternative) → WentBack S.present S.stands S.older self.old choice s a below
-            → Retries S.present S.stands S.older self.new choice.attempt s a below }
+            → Retries S.present S.stands S.older self.new attempt s a below }
         ensures below { result + 1 ≡ length self.old.choices.items }
         ensures steps { self.new.steps ≡ self.old.steps }
         ensures stays { Stays self.old self.new }
         ensures fewer { clauses_left self.old.procedures.items self.new.choices.items + 1 ≤ clauses_left self.old.procedures.items self.old.choices.items }
     {
         let newest = self.choices.len() - 1;
-        let next = choice.attempt.clause + 1;
-        if next < clause_count(self.procedures.as_slice(), choice.attempt.procedure) {
-            self.choices[newest].attempt.clause = next;
+        let clause = attempt.clause + 1;
+        if clause < clause_count(self.procedures.as_slice(), attempt.procedure) {
+            self.choices[newest].left = Left::Clauses(Attempt { clause, ..attempt });
         } else {
             self.choices.truncate(newest);
             self.store.forget(choice.mark);
@@ -145,7 +151,24 @@ impl<S: Store + Drop> Plain<S> {
         newest
     }
 
-    /// Goes on with the newest choice's next clause; where there is no choice the run ends (7.7.8).
+    /// Goes on with the member that the newest choice kept, and takes the choice away (7.8.6).
+    fn go_on(&mut self, choice: Choice<S::Word, S::Mark>, place: usize)
+        requires some { 0 < length self.old.choices.items }
+        requires left { choice.left ≡ left.AsIs place }
+        requires back { (s : State) × (a : Alternative) × (below : List Alternative) × WentBack S.present S.stands S.older self.old choice s a below }
+        ensures goes { (s : State) (a : Alternative) (below : List Alternative) → WentBack S.present S.stands S.older self.old choice s a below
+            → (a.left ≡ AsIs) × IsEngine S.present S.stands S.older self.new (record s { list = a.list; subst = a.subst; next = a.next; built = a.built; stack = below }) }
+        ensures awake { IsAwake (phase_of self.new.now) }
+        ensures steps { self.new.steps ≡ self.old.steps }
+        ensures stays { Stays self.old self.new }
+        ensures falls { cost self.new < choices_cost self.old.procedures.items (frame_costs self.old.frames.items) self.old.choices.items }
+    {
+        self.choices.truncate(self.choices.len() - 1);
+        self.store.forget(choice.mark);
+        self.now = Now::Running(self.frames[place]);
+    }
+
+    /// Goes on with what is left at the newest choice; where there is no choice the run ends (7.7.8).
     pub(crate) fn fail(&mut self) -> Result<Move, StoreFault>
         requires represents { (s : State) × Represents S.present S.stands S.older self.old s }
         requires failing { self.old.now ≡ now.Failing }
@@ -161,8 +184,13 @@ impl<S: Store + Drop> Plain<S> {
             return Ok(Move::Pauses(Pause::NoMore));
         }
         let choice = self.go_back();
-        let below = self.leave_choice(choice);
-        self.enter(choice.attempt, below)?;
+        match choice.left {
+            Left::AsIs(place) => self.go_on(choice, place),
+            Left::Clauses(attempt) => {
+                let below = self.leave_choice(choice, attempt);
+                self.enter(attempt, below)?;
+            }
+        }
         Ok(Move::Goes)
     }
 

@@ -5,11 +5,22 @@ ghost use Rattle.iso_plain.specs.Next.{IsPlace, now_behind, now_entered, now_rep
 use super::entries::Entered;
 use iso_model::Limit;
 
-/// A body that is still to be run: the place of its node, its cut mark (how many choices stood when it came), and the
-/// place of the member behind it.
+/// What a member of the list of goals asks for.
+#[derive(Clone, Copy)]
+pub enum Todo {
+    /// To run the body at this place of the nodes.
+    Body(usize),
+    /// To take the choices away that were made since so many stood as the mark says.
+    CutBack,
+    /// To go back to the newest choice.
+    Fail,
+}
+
+/// A member of the list of goals, with its cut mark (how many choices stood when it came), and the place of the member
+/// behind it.
 #[derive(Clone, Copy)]
 pub struct Frame {
-    pub body: usize,
+    pub todo: Todo,
     pub mark: usize,
     pub next: Option<usize>,
 }
@@ -23,7 +34,18 @@ pub struct Attempt<W> {
     pub rest: Option<usize>,
 }
 
-/// Clauses that are left to be tried for a goal, and what to go back to first.
+/// What is left to be tried at a choice.
+#[derive(Clone, Copy)]
+pub enum Left<W> {
+    /// The members from this place on, as they are.
+    AsIs(Option<usize>),
+    /// The members from this place on, again and again (8.15.3).
+    Again(Option<usize>),
+    /// The clauses from this one on.
+    Clauses(Attempt<W>),
+}
+
+/// What is left to be tried, and what to go back to first.
 #[derive(Clone, Copy)]
 pub struct Choice<W, M> {
     pub mark: M,
@@ -31,8 +53,7 @@ pub struct Choice<W, M> {
     pub nodes: usize,
     /// How many frames stood when it was made.
     pub frames: usize,
-    /// The next clause to be entered.
-    pub attempt: Attempt<W>,
+    pub left: Left<W>,
 }
 
 /// What the engine does next.
@@ -44,7 +65,7 @@ pub enum Now {
     Failing,
     /// No member is left: give an answer.
     Answering,
-    /// Run this body.
+    /// Do what this member asks for.
     Running(Frame),
     /// Raise the ball that was kept.
     Raising,
@@ -72,7 +93,7 @@ pub(crate) fn behind(frames: &[Frame], entered: Entered, mark: usize, rest: Opti
         Entered::Missed => Now::Failing,
         Entered::Fact => at(frames, rest),
         Entered::Body(body) => Now::Running(Frame {
-            body,
+            todo: Todo::Body(body),
             mark,
             next: rest,
         }),

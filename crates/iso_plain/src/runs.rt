@@ -1,4 +1,4 @@
-//! The engine's move at a body: a conjunction is taken apart, a goal takes a step of the budget (7.7.4 to 7.7.7).
+//! The engine's move at a member of the list of goals: a goal takes a step of the budget (7.7.4 to 7.7.7), a control construct none.
 ghost use Rattle.std.specs.Prelude.{◌≡◌, ◌+◌, ◌*◌, ◌<◌, ◌≤◌, IfOk, OnErr, List, ◌∷◌, length, Some};
 ghost use Rattle.std.specs.List.{slice_get};
 ghost use Rattle.iso_model.specs.Terms.Trees.{Tree};
@@ -34,46 +34,46 @@ impl<S: Store + Drop> Plain<S> {
         ensures met { ResultMet S.full result self.new }
         ensures stays { Stays self.old self.new }
     {
-        match self.nodes[frame.body] {
-            Node::Run(goal) => self.run_goal(frame, goal),
-            Node::Pair(Construct::And, distance) => self.take_apart(frame, distance),
-            Node::Pair(Construct::Or | Construct::If | Construct::Choose, _) => unreachable!(),
-            Node::Cut => unreachable!(),
+        match frame.todo {
+            Todo::CutBack => Ok(self.cut(frame)),
+            Todo::Body(place) => self.run_body(frame, place),
         }
     }
 
-    /// Takes the conjunction apart: its second body comes before what is behind it, its first one is run next (7.8.5). The error
-    /// is that memory was refused.
-    fn take_apart(&mut self, frame: Frame, distance: usize) -> Result<Move, StoreFault>
+    /// Runs the body at this place of the nodes, which the frame asks for. The errors are those of `run`.
+    fn run_body(&mut self, frame: Frame, place: usize) -> Result<Move, StoreFault>
         requires now { self.old.now ≡ now.Running frame }
+        requires body { frame.todo ≡ todo.Body place }
         requires stands { (s : State) × Represents S.present S.stands S.older self.old s }
-        requires node { slice_get self.old.nodes.items frame.body ≡ Some (node.Pair construct.And distance) }
         ensures moves { (s : State) → Represents S.present S.stands S.older self.old s
             → IfOk result (λ m. Moves S.present S.stands S.older m s self.new) }
         ensures stopped { (s : State) → Represents S.present S.stands S.older self.old s → OnErr result (Stopped S.present S.stands S.older self.new s) }
         ensures falls { IfOk result (λ m. Falls m (weight self.old) (weight self.new)) }
-        ensures frames { ResultFull ⊥ result }
+        ensures frames { (s : State) → Represents S.present S.stands S.older self.old s → ResultFull (ComesOver self.old.limit s) result }
         ensures met { ResultMet S.full result self.new }
         ensures stays { Stays self.old self.new }
     {
-        let second = self.frames.len();
-        self.frames.push(Frame {
-            body: frame.body - 1,
-            ..frame
-        })?;
-        self.now = Now::Running(Frame {
-            body: frame.body - distance,
-            mark: frame.mark,
-            next: Some(second),
-        });
-        Ok(Move::Goes)
+        match self.nodes[place] {
+            Node::Run(goal) => self.run_goal(frame, place, goal),
+            Node::Cut => Ok(self.cut(frame)),
+            Node::Pair(Construct::And, distance) => self.take_apart(frame, place, distance),
+            Node::Pair(Construct::Or, distance) => self.take_either(frame, place, distance),
+            Node::Pair(Construct::If, distance) => self.take_condition(frame, place, distance),
+            Node::Pair(Construct::Choose, distance) => self.choose(frame, place, distance),
+        }
     }
 
     /// Runs the goal of the frame's body. The errors: the store is full, or memory was refused.
-    fn run_goal(&mut self, frame: Frame, goal: S::Word) -> Result<Move, StoreFault>
+    fn run_goal(
+        &mut self,
+        frame: Frame,
+        place: usize,
+        goal: S::Word,
+    ) -> Result<Move, StoreFault>
         requires now { self.old.now ≡ now.Running frame }
+        requires body { frame.todo ≡ todo.Body place }
         requires stands { (s : State) × Represents S.present S.stands S.older self.old s }
-        requires node { slice_get self.old.nodes.items frame.body ≡ Some (node.Run goal) }
+        requires node { slice_get self.old.nodes.items place ≡ Some (node.Run goal) }
         ensures moves { (s : State) → Represents S.present S.stands S.older self.old s
             → IfOk result (λ m. Moves S.present S.stands S.older m s self.new) }
         ensures stopped { (s : State) → Represents S.present S.stands S.older self.old s → OnErr result (Stopped S.present S.stands S.older self.new s) }
