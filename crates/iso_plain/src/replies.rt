@@ -6,8 +6,27 @@ ghost use Rattle.iso_store.specs.Presents.{Holds, meaning, KeepsMarks};
 ghost use Rattle.iso_plain.specs.Called.{IsBuiltIn};
 ghost use Rattle.iso_plain.specs.Replies.{IsReply};
 
-use iso_model::BuiltIn;
+use iso_model::{Ball, BuiltIn};
 use iso_store::{Store, StoreFault};
+
+/// What a goal of a built-in comes to.
+#[derive(Drop)]
+pub enum Replied {
+    /// The search goes on behind it.
+    GoesOn,
+    /// It fails.
+    Fails,
+    /// This error is raised.
+    Raises(Ball),
+    /// The body at this place of the nodes is run, and a cut in it is local to it (7.8.3).
+    Calls(usize),
+    /// The same, for its first solution (8.15.2).
+    CallsOnce(usize),
+    /// The same, and it succeeds where the body has no solution (8.15.1).
+    Refutes(usize),
+    /// It succeeds each time that it is tried (8.15.3).
+    Repeats,
+}
 
 /// Runs the goal of this built-in: whether the search goes on behind it, with what it bound. The errors: the store is full, or memory was refused.
 pub fn reply<S: Store>(store: &mut S, built_in: BuiltIn, goal: S::Word) -> Result<bool, StoreFault>
