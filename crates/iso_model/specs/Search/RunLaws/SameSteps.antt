@@ -140,7 +140,7 @@ is_run q v (If a b) e = absurd (cc)
 is_run q v (Choose a b c) e = absurd (cc)
 
 -- bodies that are equal, before lists that are the same
-put_alike : (r q : Subst) (ms ns : List Member) (b c : Body) (mark : ℕ) → map_body r b ≡ map_body q c → SameList r q ms ns → SameList r q (put b mark ms) (put c mark ns)
+pub put_alike : (r q : Subst) (ms ns : List Member) (b c : Body) (mark : ℕ) → map_body r b ≡ map_body q c → SameList r q ms ns → SameList r q (put b mark ms) (put c mark ns)
 put_alike r q ms ns (And x y) c mark same others =
     let p = parts_of_and q (map_body r x) (map_body r y) c same in
     subst (λ (d : Body). SameList r q (put x mark (put y mark ms)) (put d mark ns)) (sym p.2)
