@@ -52,19 +52,19 @@ pub record IsClause (kept : Clause) (c : databases.Clause) : Type 0 where
 
 -- The parts of a body come, or the body can't be converted.
 abbrev pub PartsOf : Tree → Result (Vec (Node Term) Global) BodyFault → Type 0
-PartsOf body (Ok parts) = (b : Body) × (converted body ≡ Some b) × (trees_of parts.items ≡ layout_of b)
+PartsOf body (Ok parts) = (b : Body) × (converted body ≡ Some b) × ArePartsOf (λ (g : Term) (t : Tree). t ≡ term_of g) parts.items b
 PartsOf body (Err fault.NotCallable) = converted body ≡ None
 PartsOf body (Err fault.NoMemory) = Unit {0}
 
 -- The parts of the body with its variables numbered by this list come, or the body can't be converted.
 abbrev pub NumbersBody : Tree → List ℕ → Result (Vec (Node Term) Global) AddFault → Type 0
-NumbersBody body vs (Ok parts) = (b : Body) × (converted (apply (numbers vs) body) ≡ Some b) × (trees_of parts.items ≡ layout_of b)
+NumbersBody body vs (Ok parts) = (b : Body) × (converted (apply (numbers vs) body) ≡ Some b) × ArePartsOf (λ (g : Term) (t : Tree). t ≡ term_of g) parts.items b
 NumbersBody body vs (Err (add.Refused ball)) = (converted body ≡ None) × (term_of ball.term ≡ type_error_callable body consult_key)
 NumbersBody body vs (Err add.NoMemory) = Unit {0}
 
 -- The clause comes with its variables numbered, or its body can't be converted.
 abbrev pub Numbers : Tree → Result Clause AddFault → Type 0
-Numbers t (Ok kept) = (b : Body) × (converted (body_of (copy_from t 0)) ≡ Some b) × (term_of kept.head ≡ head_of (copy_from t 0)) × (trees_of kept.parts.items ≡ layout_of b) × (kept.variables ≡ variable_count t)
+Numbers t (Ok kept) = (b : Body) × (converted (body_of (copy_from t 0)) ≡ Some b) × (term_of kept.head ≡ head_of (copy_from t 0)) × ArePartsOf (λ (g : Term) (t : Tree). t ≡ term_of g) kept.parts.items b × (kept.variables ≡ variable_count t)
 Numbers t (Err (add.Refused ball)) = (converted (body_of t) ≡ None) × (term_of ball.term ≡ type_error_callable (body_of t) consult_key)
 Numbers t (Err add.NoMemory) = Unit {0}
 

@@ -71,7 +71,10 @@ fn copied_part<S: Store>(
     match part {
         Node::Run(goal) => Ok(Node::Run(instantiate(store, goal, variables)?)),
         Node::Cut => Ok(Node::Cut),
-        Node::Pair(construct, distance) => Ok(Node::Pair(*construct, *distance)),
+        Node::And(distance) => Ok(Node::And(*distance)),
+        Node::Or(distance) => Ok(Node::Or(*distance)),
+        Node::If(distance) => Ok(Node::If(*distance)),
+        Node::Choose(condition, next) => Ok(Node::Choose(*condition, *next)),
     }
 }
 

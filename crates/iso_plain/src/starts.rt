@@ -7,10 +7,10 @@ ghost use Rattle.iso_model.specs.Terms.Copies.{IsNumbered};
 ghost use Rattle.iso_model.specs.Search.Bodies.{Body, converted};
 ghost use Rattle.iso_model.specs.Search.Additions.{consulted};
 ghost use Rattle.iso_model.specs.Search.Walker.{World, first_world, idle, started};
-ghost use Rattle.iso_plain.specs.Nodes.{layout, trees_of};
+ghost use Rattle.iso_plain.specs.Nodes.{EndsWith};
 
 use super::bodies::{self, BodyFault, Node};
-use super::parts::{Frame, Now};
+use super::parts::{Frame, Now, Todo};
 use super::plain::Plain;
 use super::{balls, clauses, entries, procedures};
 use iso_model::{AddFault, Numbering, Term, copied};
@@ -100,7 +100,7 @@ impl<S: Store + Drop> Plain<S> {
     fn place_query(&mut self, query: &Term, parts: &[Node<Term>]) -> Result<(), StoreFault>
         requires fits { arities_fit (term_of query.now) ≡ true }
         requires numbered { IsNumbered (term_of query.now) }
-        requires parts { (b : Body) × (converted (term_of query.now) ≡ Some b) × (trees_of parts.now ≡ layout b) }
+        requires parts { (b : Body) × (converted (term_of query.now) ≡ Some b) × EndsWith (λ (g : _) (t : _). t ≡ term_of g) parts.now b }
         requires next { (S.present self.old.store).next ≡ 0 }
         requires steps { self.old.steps < 2 ^ 32 }
         ensures started { OnOk result ((w : World) → IsFresh S.present S.stands S.older self.old w
@@ -120,7 +120,7 @@ impl<S: Store + Drop> Plain<S> {
         )?;
         self.query = variables;
         self.now = Now::Running(Frame {
-            body: self.nodes.len() - 1,
+            todo: Todo::Body(self.nodes.len() - 1),
             mark: 0,
             next: None,
         });
