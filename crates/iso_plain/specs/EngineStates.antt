@@ -1,12 +1,13 @@
 -- Which states of the search the engine stands for, what its moves come to, and by what they fall.
-use Rattle.std.specs.Prelude.{◌≡◌, ℕ, zero, suc, ◌+◌, ◌*◌, ◌-◌, ◌^◌, ◌<◌, ◌≤◌, List, [], ◌∷◌, length, take, drop, Some, option_map, ◌⊎◌}
+use Rattle.std.specs.Prelude.{◌≡◌, ℕ, zero, suc, ◌+◌, ◌*◌, ◌-◌, ◌^◌, ◌<◌, ◌≤◌, List, [], ◌∷◌, length, take, drop, Option, Some, option_map, ◌⊎◌}
 use Rattle.std.specs.List.{slice_get}
 use Rattle.iso_model.specs.Terms.Trees.{Tree, Variable}
 use Rattle.iso_model.specs.Terms.Variables.{variables}
 use Rattle.iso_model.specs.Search.RunLaws.Sameness.{Same, SameStack}
 use Rattle.iso_model.specs.Terms.TermOf.{term_of}
 use Rattle.iso_model.specs.Search.Databases.{Clause, Procedures}
-use Rattle.iso_model.specs.Search.Walker.{State, World, Alternative, Member, Clauses, with_others}
+use Rattle.iso_model.specs.Search.Walker.{State, World, Alternative, Member, Goal, CutTo, Fail, AsIs, Clauses, pushed, with_others}
+use Rattle.iso_model.specs.Search.Bodies.{Body}
 use Rattle.iso_ops.specs.Operators.{Operator}
 use Rattle.iso_ops.specs.declared.settings.Flags.{Flags}
 use Rattle.iso_model.specs.Search.Runs.{Quiet}
@@ -15,7 +16,7 @@ use Rattle.iso_model.specs.Search.Engines.{Phase, Ready, Midway, IsAwake}
 use Rattle.iso_model.specs.declared.pauses.Pause.TheVariants as pause
 use Rattle.iso_model.specs.declared.limit.Limit.TheVariants as limit
 use Rattle.iso_store.specs.Presents.{Present}
-use Rattle.iso_plain.specs.Standing.{Among, Links, AtGoal, HasLeft, StandsForChoices, HaveRoom, DoesNext, most_numbers, numbers_a_step}
+use Rattle.iso_plain.specs.Standing.{Among, Links, Chain, AtGoal, HasLeft, StandsForChoices, HaveRoom, GoesOn, DoesNext, most_numbers, numbers_a_step}
 use Rattle.iso_plain.specs.Costs.{left_cost, whole_cost, rest_cost, frame_cost, frame_costs}
 use Rattle.iso_plain.specs.Programs.{IsWorld}
 use Rattle.iso_plain.specs.declared.procedures.Procedure.{Procedure}
@@ -41,6 +42,17 @@ pub record IsBase {W M : Type 0} (stands : M → Present W → Type 0) (base : M
   pub stands_for : stands base present
   pub substitution : present.substitution ≡ Variable
   pub next : present.next ≡ 0
+
+-- the state behind failure, at which this alternative is tried
+abbrev pub went_back : Alternative → List Alternative → State → State
+went_back a below s = record s { list = a.list; subst = a.subst; next = a.next; built = a.built; stack = below }
+
+-- this body is run before the list, for its first solution; or so that the list is gone on with where it has none
+abbrev pub calling_once : Body → State → State
+calling_once b s = record s { list = Goal b (length s.stack) ∷ CutTo (length s.stack) ∷ s.list }
+
+abbrev pub refuting : Body → State → State
+refuting b s = record (pushed s.list AsIs s) { list = Goal b (suc (length s.stack)) ∷ CutTo (length s.stack) ∷ Fail ∷ s.list }
 
 -- the phase of an engine
 abbrev pub phase_of : Now → Phase
@@ -119,6 +131,16 @@ module _ {S W M : Type 0} (present : S → Present W) (stands : S → M → Pres
     pub at : AtGoal (present e.store) (links_of e) e.query.items (variables s.query) attempt.goal attempt.rest call behind s.subst s.next
     pub clauses : left_at s.world.database.procedures attempt.procedure attempt.clause ≡ c ∷ cs
 
+  -- The engine, in this state, has its members from this place of the frames on.
+  pub record IsAhead (e : Plain S W M) (s : State) (place : Option ℕ) : Type 0 where
+    pub world : IsWorld e s.world
+    pub steps : s.steps ≡ e.steps
+    pub base : IsBase (stands e.store) e.base
+    pub choices : HasChoices e s.world (variables s.query) s.stack
+    pub room : HaveRoom e.steps s.stack
+    pub goes : GoesOn (present e.store) e.query.items s
+    pub chain : Chain (present e.store) (links_of e) place s.list
+
   -- The engine, in this state, went back to its newest choice, which is still there, and stands for this alternative.
   pub record WentBack (e : Plain S W M) (c : kept.Choice W M) (s : State) (a : Alternative) (below : List Alternative) : Type 0 where
     pub world : IsWorld e s.world
@@ -140,7 +162,7 @@ module _ {S W M : Type 0} (present : S → Present W) (stands : S → M → Pres
     pub clause : Clause
     pub others : List Clause
     pub left : a.left ≡ Clauses call (clause ∷ others)
-    pub calls : Calls e attempt (with_others call others a.list (record s { list = a.list; subst = a.subst; next = a.next; built = a.built; stack = below })) call clause others a.list
+    pub calls : Calls e attempt (with_others call others a.list (went_back a below s)) call clause others a.list
 
   -- A call was refused: before its later clauses became a choice, or behind that.
   abbrev pub WasRefused : Plain S W M → State → State → Type 0

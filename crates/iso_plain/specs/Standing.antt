@@ -12,6 +12,7 @@ use Rattle.iso_store.specs.Presents.{Present, meaning}
 use Rattle.iso_plain.specs.Callable.{IsGoal}
 use Rattle.iso_plain.specs.Nodes.{At, IsTree}
 use Rattle.iso_plain.specs.declared.bodies.Node.{Node}
+use Rattle.iso_plain.specs.declared.bodies.Node.TheVariants as node
 use Rattle.iso_plain.specs.declared.parts.Todo.TheVariants as todo
 use Rattle.iso_plain.specs.declared.parts.Frame.{Frame}
 use Rattle.iso_plain.specs.declared.parts.Left.{Left}
@@ -20,6 +21,15 @@ use Rattle.iso_plain.specs.declared.parts.Attempt.{Attempt}
 use Rattle.iso_plain.specs.declared.parts.Choice as kept
 use Rattle.iso_plain.specs.declared.parts.Now.{Now}
 use Rattle.iso_plain.specs.declared.parts.Now.TheVariants as now
+
+-- The frame asks for the body at this place of the nodes, whose own part is this.
+pub record IsAt {W : Type 0} (nodes : List (Node W)) (f : Frame) (place : ℕ) (part : Node W) : Type 0 where
+  pub asks : f.todo ≡ todo.Body place
+  pub there : slice_get nodes place ≡ Some part
+
+-- The frame asks for a cut: it is one, or its body is.
+abbrev pub IsCut : {W : Type 0} → List (Node W) → Frame → Type 0
+IsCut nodes f = (f.todo ≡ todo.CutBack) ⊎ ((i : ℕ) × IsAt nodes f i node.Cut)
 
 -- The item is one of the list.
 abbrev pub Among : {X : Type 0} → X → List X → Type 0
@@ -45,10 +55,15 @@ pub data IsMember {W : Type 0} (p : Present W) (nodes : List (Node W)) (f : Fram
   a_cut : f.todo ≡ todo.CutBack → IsMember p nodes f (CutTo f.mark)
   a_failure : f.todo ≡ todo.Fail → IsMember p nodes f Fail
 
--- The frames from this place on are these members.
+-- The place is before the i-th, or none.
+abbrev pub IsBefore : Option ℕ → ℕ → Type 0
+IsBefore None i = Unit {0}
+IsBefore (Some j) i = j < i
+
+-- The frames from this place on are these members, each after those behind it.
 pub data Chain {W : Type 0} (p : Present W) (links : Links W) : Option ℕ → List Member → Type 0 where
   ends : Chain p links None []
-  leads : {i : ℕ} {f : Frame} {m : Member} {ms : List Member} → At links.frames i f → IsMember p links.nodes f m → Chain p links f.next ms → Chain p links (Some i) (m ∷ ms)
+  leads : {i : ℕ} {f : Frame} {m : Member} {ms : List Member} → At links.frames i f → IsBefore f.next i → IsMember p links.nodes f m → Chain p links f.next ms → Chain p links (Some i) (m ∷ ms)
 
 -- The frame comes first, and then the members behind it.
 pub record First {W : Type 0} (p : Present W) (links : Links W) (f : Frame) (list : List Member) : Type 0 where
@@ -131,6 +146,13 @@ module _ {W M : Type 0} (stands : M → Present W → Type 0) (older : M → M �
     pub here : StandsForChoice (links_at c links) c alternative
     pub newer : (d : kept.Choice W M) → Among d (take (length cs - 1) cs) → older d.mark c.mark
     pub stands_below : StandsForChoices (links_at c links) (take (length cs - 1) cs) below
+
+-- A choice came behind the others: so many nodes and frames stand, this is left, and its mark brings back the store as it is, and is newer than all others.
+pub record GainsChoice {W M : Type 0} (old new : M → Present W → Type 0) (older : M → M → Type 0) (present : Present W) (nodes frames : ℕ) (left : Left W) (before after : List (kept.Choice W M)) : Type 0 where
+  pub mark : M
+  pub stands : new mark present
+  pub newer : (m : M) (p : Present W) → old m p → older m mark
+  pub are : after ≡ before ++ record { mark = mark; nodes = nodes; frames = frames; left = left } ∷ []
 
 -- the most variable numbers that a run uses
 abbrev pub most_numbers : ℕ

@@ -1,25 +1,20 @@
 //! The engine's moves at control constructs: none takes a step of the budget (7.8.4 to 7.8.8).
-ghost use Rattle.std.specs.Prelude.{◌≡◌, ◌⊎◌, ℕ, IfOk, OnErr, Some};
-ghost use Rattle.std.specs.List.{slice_get};
+ghost use Rattle.std.specs.Prelude.{◌≡◌, ◌⊎◌, IfOk, OnErr};
 ghost use Rattle.iso_model.specs.Search.Walker.{State};
 ghost use Rattle.iso_model.specs.Search.Runs.{ComesOver};
 ghost use Rattle.iso_plain.specs.declared.bodies.Node.TheVariants as node;
-ghost use Rattle.iso_plain.specs.declared.bodies.Construct.TheVariants.{And, Or, If, Choose};
 
-use super::bodies::{Construct, Node};
-use super::parts::{Choice, Frame, Left, Now, Todo, at};
+use super::parts::{Frame, Left, Now, Todo, at, keep_choice, push_frame};
 use super::plain::{Move, Plain};
 use iso_model::{Limit, Pause};
 use iso_store::{Store, StoreFault};
-use std::alloc::AllocError;
 
 impl<S: Store + Drop> Plain<S> {
     ghost use Rattle.iso_plain.specs.EngineStates.{Represents, Stopped, Moves, Falls, weight};
     ghost use Rattle.iso_plain.specs.Stays.{Stays};
     ghost use Rattle.iso_plain.specs.Limits.{ResultMet, ResultFull, MoveMet, MoveFull};
-    ghost use Rattle.iso_plain.specs.Standing.{IsCut};
+    ghost use Rattle.iso_plain.specs.Standing.{IsCut, IsAt};
     ghost use Rattle.iso_plain.specs.declared.parts.Now.TheVariants as now;
-    ghost use Rattle.iso_plain.specs.declared.parts.Todo.TheVariants as todo;
 
     /// Takes the choices away that were made since so many stood as the frame's mark says, and goes on behind it (7.8.4).
     pub(crate) fn cut(&mut self, frame: Frame) -> Move
@@ -41,10 +36,166 @@ impl<S: Store + Drop> Plain<S> {
         Move::Goes
     }
 
-    /// Appends a frame for the body at this place, with the mark of this frame and before what is behind it; the answer is its place.
-    fn push_frame(&mut self, frame: Frame) -> Result<usize, AllocError> {
-        let place = self.frames.len();
-        self.frames.push(frame)?;
-        Ok(place)
+    /// Runs the first body of the conjunction at this place, which ends so far back, before its second one (7.8.5). The error is
+    /// that memory was refused.
+    pub(crate) fn take_apart(
+        &mut self,
+        frame: Frame,
+        place: usize,
+        distance: usize,
+    ) -> Result<Move, StoreFault>
+        requires now { self.old.now ≡ now.Running frame }
+        requires there { IsAt self.old.nodes.items frame place (node.And distance) }
+        requires stands { (s : State) × Represents S.present S.stands S.older self.old s }
+        ensures moves { (s : State) → Represents S.present S.stands S.older self.old s
+            → IfOk result (λ m. Moves S.present S.stands S.older m s self.new) }
+        ensures stopped { (s : State) → Represents S.present S.stands S.older self.old s → OnErr result (Stopped S.present S.stands S.older self.new s) }
+        ensures falls { IfOk result (λ m. Falls m (weight self.old) (weight self.new)) }
+        ensures frames { ResultFull ⊥ result }
+        ensures met { ResultMet S.full result self.new }
+        ensures stays { Stays self.old self.new }
+    {
+        let second = push_frame(&mut self.frames, Frame {
+            todo: Todo::Body(place - 1),
+            ..frame
+        })?;
+        self.now = Now::Running(Frame {
+            todo: Todo::Body(place - distance),
+            mark: frame.mark,
+            next: Some(second),
+        });
+        Ok(Move::Goes)
+    }
+
+    /// Runs the condition of the if-then at this place, which ends so far back; its first solution is its only one (7.8.7). The
+    /// error is that memory was refused.
+    pub(crate) fn take_condition(
+        &mut self,
+        frame: Frame,
+        place: usize,
+        distance: usize,
+    ) -> Result<Move, StoreFault>
+        requires now { self.old.now ≡ now.Running frame }
+        requires there { IsAt self.old.nodes.items frame place (node.If distance) }
+        requires stands { (s : State) × Represents S.present S.stands S.older self.old s }
+        ensures moves { (s : State) → Represents S.present S.stands S.older self.old s
+            → IfOk result (λ m. Moves S.present S.stands S.older m s self.new) }
+        ensures stopped { (s : State) → Represents S.present S.stands S.older self.old s → OnErr result (Stopped S.present S.stands S.older self.new s) }
+        ensures falls { IfOk result (λ m. Falls m (weight self.old) (weight self.new)) }
+        ensures frames { ResultFull ⊥ result }
+        ensures met { ResultMet S.full result self.new }
+        ensures stays { Stays self.old self.new }
+    {
+        let height = self.choices.len();
+        let then = push_frame(&mut self.frames, Frame {
+            todo: Todo::Body(place - 1),
+            ..frame
+        })?;
+        let once = push_frame(&mut self.frames, Frame {
+            todo: Todo::CutBack,
+            mark: height,
+            next: Some(then),
+        })?;
+        self.now = Now::Running(Frame {
+            todo: Todo::Body(place - distance),
+            mark: height,
+            next: Some(once),
+        });
+        Ok(Move::Goes)
+    }
+
+    /// Runs the first body of the disjunction at this place, which ends so far back; its second one is left as a choice (7.8.6).
+    /// The error is that memory was refused; where no choice may be made any more the engine is spent.
+    pub(crate) fn take_either(
+        &mut self,
+        frame: Frame,
+        place: usize,
+        distance: usize,
+    ) -> Result<Move, StoreFault>
+        requires now { self.old.now ≡ now.Running frame }
+        requires there { IsAt self.old.nodes.items frame place (node.Or distance) }
+        requires stands { (s : State) × Represents S.present S.stands S.older self.old s }
+        ensures moves { (s : State) → Represents S.present S.stands S.older self.old s
+            → IfOk result (λ m. Moves S.present S.stands S.older m s self.new) }
+        ensures stopped { (s : State) → Represents S.present S.stands S.older self.old s → OnErr result (Stopped S.present S.stands S.older self.new s) }
+        ensures falls { IfOk result (λ m. Falls m (weight self.old) (weight self.new)) }
+        ensures frames { (s : State) → Represents S.present S.stands S.older self.old s → ResultFull (ComesOver self.old.limit s) result }
+        ensures met { ResultMet S.full result self.new }
+        ensures stays { Stays self.old self.new }
+    {
+        if self.choices.len() >= self.limit as usize {
+            self.now = Now::Spent(Limit::Frames);
+            return Ok(Move::Pauses(Pause::FramesFull));
+        }
+        let second = push_frame(&mut self.frames, Frame {
+            todo: Todo::Body(place - 1),
+            ..frame
+        })?;
+        keep_choice(
+            &mut self.store,
+            &mut self.choices,
+            Left::AsIs(Some(second)),
+            self.nodes.len(),
+            self.frames.len(),
+        )?;
+        self.now = Now::Running(Frame {
+            todo: Todo::Body(place - distance),
+            ..frame
+        });
+        Ok(Move::Goes)
+    }
+
+    /// Runs the condition of the if-then-else at this place; the condition and the body behind it end so far back, and the body
+    /// for where it fails is left as a choice (7.8.8). The error is that memory was refused; where no choice may be made any
+    /// more the engine is spent.
+    pub(crate) fn choose(
+        &mut self,
+        frame: Frame,
+        place: usize,
+        condition: usize,
+        next: usize,
+    ) -> Result<Move, StoreFault>
+        requires now { self.old.now ≡ now.Running frame }
+        requires there { IsAt self.old.nodes.items frame place (node.Choose condition next) }
+        requires stands { (s : State) × Represents S.present S.stands S.older self.old s }
+        ensures moves { (s : State) → Represents S.present S.stands S.older self.old s
+            → IfOk result (λ m. Moves S.present S.stands S.older m s self.new) }
+        ensures stopped { (s : State) → Represents S.present S.stands S.older self.old s → OnErr result (Stopped S.present S.stands S.older self.new s) }
+        ensures falls { IfOk result (λ m. Falls m (weight self.old) (weight self.new)) }
+        ensures frames { (s : State) → Represents S.present S.stands S.older self.old s → ResultFull (ComesOver self.old.limit s) result }
+        ensures met { ResultMet S.full result self.new }
+        ensures stays { Stays self.old self.new }
+    {
+        let height = self.choices.len();
+        if height >= self.limit as usize {
+            self.now = Now::Spent(Limit::Frames);
+            return Ok(Move::Pauses(Pause::FramesFull));
+        }
+        let other = push_frame(&mut self.frames, Frame {
+            todo: Todo::Body(place - 1),
+            ..frame
+        })?;
+        keep_choice(
+            &mut self.store,
+            &mut self.choices,
+            Left::AsIs(Some(other)),
+            self.nodes.len(),
+            self.frames.len(),
+        )?;
+        let then = push_frame(&mut self.frames, Frame {
+            todo: Todo::Body(place - next),
+            ..frame
+        })?;
+        let once = push_frame(&mut self.frames, Frame {
+            todo: Todo::CutBack,
+            mark: height,
+            next: Some(then),
+        })?;
+        self.now = Now::Running(Frame {
+            todo: Todo::Body(place - condition),
+            mark: height + 1,
+            next: Some(once),
+        });
+        Ok(Move::Goes)
     }
 }

@@ -1,9 +1,13 @@
 //! The engine's parts: the members of the list of goals, and choices.
-ghost use Rattle.std.specs.Prelude.{◌≡◌, ◌<◌, length};
-ghost use Rattle.iso_plain.specs.Next.{IsPlace, now_behind, now_entered, now_replied};
+ghost use Rattle.std.specs.Prelude.{◌≡◌, ◌+◌, ◌≤◌, ◌++◌, ◌∷◌, [], IfOk, OnOk, OnErr, length};
+ghost use Rattle.iso_store.specs.Presents.{KeepsMarks};
+ghost use Rattle.iso_plain.specs.Next.{IsPlace, now_behind, now_entered};
+ghost use Rattle.iso_plain.specs.Standing.{GainsChoice};
 
 use super::entries::Entered;
 use iso_model::Limit;
+use iso_store::Store;
+use std::alloc::AllocError;
 
 /// What a member of the list of goals asks for.
 #[derive(Clone, Copy)]
@@ -100,14 +104,39 @@ pub(crate) fn behind(frames: &[Frame], entered: Entered, mark: usize, rest: Opti
     }
 }
 
-/// What to do behind a goal that went on, or failed, with the place of the member behind it.
-pub(crate) fn replied(frames: &[Frame], goes_on: bool, next: Option<usize>) -> Now
-    requires { IsPlace frames.now next }
-    ensures { result ≡ now_replied frames.now goes_on next }
+/// Appends the frame; the answer is its place. The error is that memory was refused.
+pub(crate) fn push_frame(frames: &mut Vec<Frame>, frame: Frame) -> Result<usize, AllocError>
+    ensures place { IfOk result (λ place. place ≡ length frames.old.items) }
+    ensures pushed { OnOk result (frames.new.items ≡ frames.old.items ++ frame ∷ []) }
+    ensures kept { OnErr result (frames.new.items ≡ frames.old.items) }
 {
-    if goes_on {
-        at(frames, next)
-    } else {
-        Now::Failing
-    }
+    let place = frames.len();
+    frames.push(frame)?;
+    Ok(place)
+}
+
+/// Appends a choice at which this is left to be tried, with a mark of the store as it is; so many nodes and frames stand. The
+/// error is that memory was refused.
+pub(crate) fn keep_choice<S: Store>(
+    store: &mut S,
+    choices: &mut Vec<Choice<S::Word, S::Mark>>,
+    left: Left<S::Word>,
+    nodes: usize,
+    frames: usize,
+) -> Result<(), AllocError>
+    ensures present { S.present store.new ≡ S.present store.old }
+    ensures marks { KeepsMarks (S.stands store.old) (S.stands store.new) }
+    ensures gains { OnOk result (GainsChoice (S.stands store.old) (S.stands store.new) S.older (S.present store.old) nodes frames left
+        choices.old.items choices.new.items) }
+    ensures kept { OnErr result (choices.new.items ≡ choices.old.items) }
+    ensures count { length choices.new.items ≤ length choices.old.items + 1 }
+{
+    let mark = store.mark();
+    choices.push(Choice {
+        mark,
+        nodes,
+        frames,
+        left,
+    })?;
+    Ok(())
 }
