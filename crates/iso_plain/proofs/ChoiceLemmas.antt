@@ -112,7 +112,7 @@ module _ {S W M : Type 0} (present : S → Present W) (stands : S → M → Pres
     next_calls : (xs : List databases.Clause) (choices : Vec (kept.Choice W M) Global) → left_at s.world.database.procedures c.attempt.procedure c.attempt.clause ≡ left.clause ∷ xs
         → left_at s.world.database.procedures c.attempt.procedure (c.attempt.clause + 1) ≡ xs → 0 < length xs
         → choices.items ≡ take (length e.choices.items - 1) e.choices.items ++ next_of c ∷ []
-        → Calls present stands older (record e { choices = choices }) c.attempt (with_others w.call xs a.list (back a below s)) w.call left.clause xs a.list
+        → Calls present stands older (record e { choices = choices }) c.attempt (with_others w.call xs a.list (went_back a below s)) w.call left.clause xs a.list
     next_calls [] choices is next some made = absurd (omega (arith, some))
     next_calls (y ∷ ys) choices is next some made =
         let b : Alternative = record { list = a.list; subst = a.subst; next = a.next; built = a.built; left = Clauses w.call (y ∷ ys) } in
@@ -151,7 +151,7 @@ module _ {S W M : Type 0} (present : S → Present W) (stands : S → M → Pres
     last_calls : (xs : List databases.Clause) (store : S) (choices : Vec (kept.Choice W M) Global) → left_at s.world.database.procedures c.attempt.procedure c.attempt.clause ≡ left.clause ∷ xs → length xs ≡ 0
         → present store ≡ present e.store → ((m : M) (p : Present W) → older m c.mark → stands e.store m p → stands store m p)
         → choices.items ≡ take (length e.choices.items - 1) e.choices.items
-        → Calls present stands older (record e { store = store; choices = choices }) c.attempt (with_others w.call xs a.list (back a below s)) w.call left.clause xs a.list
+        → Calls present stands older (record e { store = store; choices = choices }) c.attempt (with_others w.call xs a.list (went_back a below s)) w.call left.clause xs a.list
     last_calls (y ∷ ys) store choices is none same marks made = absurd (omega (arith, none))
     last_calls [] store choices is none same marks made =
         let b = w.base in

@@ -56,18 +56,18 @@ module _ {S W M : Type 0} (present : S → Present W) (stands : S → M → Pres
   module _ (e new : Plain S W M) (attempt : Attempt W) (s : State) (r : Represents present stands older e s) (a : Alternative) (below : List Alternative) (left : Plain S W M) (mark : ℕ)
       (is : e.now ≡ now.Failing) (stack : r.own.stack ≡ a ∷ below) (t : Retries present stands older left attempt r.own a below) (height : mark ≡ length below) where
     abbrev there : State
-    there = with_others t.call t.others a.list (back a below r.own)
+    there = with_others t.call t.others a.list (went_back a below r.own)
 
     -- the clause at the newest choice was tried
     pub tries_on : IsEngine present stands older new (tried_clause t.call t.clause mark a.list there) → IsAwake (phase_of new.now) → Moves present stands older move.Goes s new
     tries_on engine awake =
-        goes present stands older e new s r (tried t.call (t.clause ∷ t.others) a.list (back a below r.own)) (retry_step r.own a below t.call (t.clause ∷ t.others) (failing e r.own is r.engine) stack t.left)
+        goes present stands older e new s r (tried t.call (t.clause ∷ t.others) a.list (went_back a below r.own)) (retry_step r.own a below t.call (t.clause ∷ t.others) (failing e r.own is r.engine) stack t.left)
         (subst (λ (n : ℕ). IsEngine present stands older new (tried_clause t.call t.clause n a.list there)) height engine) awake
 
     -- it was refused
     pub stops_on : Keeps present stands older new there.world there.stack → Stopped present stands older new s
     stops_on keeps =
         let k = clause_keeps t.call t.clause (length below) a.list there in
-        let o = others_keep t.call t.others a.list (back a below r.own) in
-        stops present stands older new r.own (tried t.call (t.clause ∷ t.others) a.list (back a below r.own)) s there.stack r.same
+        let o = others_keep t.call t.others a.list (went_back a below r.own) in
+        stops present stands older new r.own (tried t.call (t.clause ∷ t.others) a.list (went_back a below r.own)) s there.stack r.same
         (retry_step r.own a below t.call (t.clause ∷ t.others) (failing e r.own is r.engine) stack t.left) k.0 (k.1 ∙ o.0) (subst (λ (w : World). Keeps present stands older new w there.stack) o.0 keeps)

@@ -1,92 +1,111 @@
--- Which body stands at a node, and which node a body has.
-use Rattle.std.proofs.Common.{◌≡◌, ◌<◌, ◌≤◌, ◌-◌, ℕ, List, Some, true, refl, ap, sym, ◌∙◌, subst, arith}
+-- Which body stands at a node.
+use Rattle.std.proofs.Common.{◌≡◌, ◌+◌, ◌<◌, ◌≤◌, ◌-◌, ℕ, List, Some, true, refl, ap, sym, ◌∙◌, subst, arith}
 use Rattle.std.specs.List.{slice_get}
 use Rattle.iso_model.specs.Terms.Trees.{Tree}
 use Rattle.iso_model.specs.Search.Bodies.{Body, Cut, Run, And, Or, If, Choose}
 use Rattle.iso_store.specs.Presents.{Present}
-use Rattle.iso_plain.specs.declared.bodies.Construct.{Construct}
-use Rattle.iso_plain.specs.declared.bodies.Construct.TheVariants as construct
 use Rattle.iso_plain.specs.declared.bodies.Node.{Node}
 use Rattle.iso_plain.specs.declared.bodies.Node.TheVariants as node
-use Rattle.iso_plain.specs.Nodes.{IsPair, conjunction, disjunction, if_then, if_then_else}
-use Rattle.iso_plain.specs.Callable.{IsGoal}
-use Rattle.iso_plain.specs.Standing.{IsBody, runs, cuts, joins}
+use Rattle.iso_plain.specs.Nodes.{At, IsTree, runs, cuts, joins, branches, commits, chooses}
+use Rattle.iso_plain.specs.Standing.{IsBody, IsGoalWord}
 
 some_same : {X : Type 0} {x y : X} → Some x ≡ Some y → x ≡ y
 some_same h = cc
 
--- ---- the body at a node
-
--- a goal's
-pub record GoalAt {W : Type 0} (p : Present W) (w : W) (b : Body) : Type 0 where
-  pub term : Tree
-  pub is : b ≡ Run term
-  pub holds : p.holds w ≡ true
-  pub same : term ≡ p.term w
-  pub goal : IsGoal term
-
-pub goal_at : {W : Type 0} {p : Present W} {nodes : List (Node W)} {i : ℕ} {b : Body} (w : W) → slice_get nodes i ≡ Some (node.Run w) → IsBody p nodes i b → GoalAt p w b
-goal_at {p = p} w there (runs {w = v} {t = t} at holds is goal) =
-    let both : node.Run v ≡ node.Run w = some_same (sym at.is ∙ there) in
-    let same : v ≡ w = cc in
-    record { term = t; is = refl; holds = subst (λ (x : _). p.holds x ≡ true) same holds; same = is ∙ ap p.term same; goal = goal }
-goal_at w there (cuts at) = absurd (let both : node.Cut ≡ node.Run w = some_same (sym at.is ∙ there) in cc)
-goal_at w there (joins {distance = d} {construct = k} at first second some pair x y) = absurd (let both : node.Pair k d ≡ node.Run w = some_same (sym at.is ∙ there) in cc)
-
--- a cut's
-pub cut_at : {W : Type 0} {p : Present W} {nodes : List (Node W)} {i : ℕ} {b : Body} → slice_get nodes i ≡ Some node.Cut → IsBody p nodes i b → b ≡ Cut
-cut_at there (runs {w = v} at holds is goal) = absurd (let both : node.Run v ≡ node.Cut = some_same (sym at.is ∙ there) in cc)
-cut_at there (cuts at) = refl
-cut_at there (joins {distance = d} {construct = k} at first second some pair x y) = absurd (let both : node.Pair k d ≡ node.Cut = some_same (sym at.is ∙ there) in cc)
-
--- a pair's, with the places of its bodies
-pub record PairAt {W : Type 0} (p : Present W) (nodes : List (Node W)) (place distance : ℕ) (k : Construct) (b : Body) : Type 0 where
+-- two bodies at these places
+pub record Pair {G : Type 0} (Stands : G → Tree → Type 0) (parts : List (Node G)) (join : Body → Body → Body) (i j : ℕ) (b : Body) : Type 0 where
   pub first : Body
   pub second : Body
-  pub is : IsPair k first second b
-  pub within : distance ≤ place
-  pub more : 0 < distance
-  pub some : 0 < place
-  pub first_body : IsBody p nodes (place - distance) first
-  pub second_body : IsBody p nodes (place - 1) second
+  pub is : b ≡ join first second
+  pub first_body : IsTree Stands parts i first
+  pub second_body : IsTree Stands parts j second
 
-pub pair_at : {W : Type 0} {p : Present W} {nodes : List (Node W)} {i : ℕ} {b : Body} (k : Construct) (d : ℕ) → slice_get nodes i ≡ Some (node.Pair k d) → IsBody p nodes i b → PairAt p nodes i d k b
-pair_at k d there (runs {w = v} at holds is goal) = absurd (let both : node.Run v ≡ node.Pair k d = some_same (sym at.is ∙ there) in cc)
-pair_at k d there (cuts at) = absurd (let both : node.Cut ≡ node.Pair k d = some_same (sym at.is ∙ there) in cc)
-pair_at {p = p} {nodes = nodes} k d there (joins {i = i} {j = j} {k = n} {distance = e} {construct = l} {a = a} {b = b} {c = c} at first second some pair x y) =
-    let both : node.Pair l e ≡ node.Pair k d = some_same (sym at.is ∙ there) in
-    let same : e ≡ d = cc in
-    let own : l ≡ k = cc in
-    let front : i ≡ n - d = omega (arith, first, same) in
-    let back : j ≡ n - 1 = omega (arith, second) in
-    record {
-      first = a;
-      second = b;
-      is = subst (λ (m : Construct). IsPair m a b c) own pair;
-      within = omega (arith, first, same);
-      more = omega (arith, some, same);
-      some = omega (arith, second);
-      first_body = subst (λ (m : ℕ). IsBody p nodes m a) front x;
-      second_body = subst (λ (m : ℕ). IsBody p nodes m b) back y;
-    }
+-- three bodies at these places
+pub record Triple {G : Type 0} (Stands : G → Tree → Type 0) (parts : List (Node G)) (h i j : ℕ) (b : Body) : Type 0 where
+  pub first : Body
+  pub second : Body
+  pub third : Body
+  pub is : b ≡ Choose first second third
+  pub first_body : IsTree Stands parts h first
+  pub second_body : IsTree Stands parts i second
+  pub third_body : IsTree Stands parts j third
 
--- ---- what a pair is
+-- what this part is at a place, where it is a body's own
+abbrev PartIs : {G : Type 0} → (G → Tree → Type 0) → List (Node G) → ℕ → Node G → Body → Type 0
+PartIs Stands parts k (node.Run g) b = (t : Tree) × (b ≡ Run t) × Stands g t
+PartIs Stands parts k node.Cut b = b ≡ Cut
+PartIs Stands parts k (node.And d) b = (d ≤ k) × (0 < d) × (0 < k) × Pair Stands parts And (k - d) (k - 1) b
+PartIs Stands parts k (node.Or d) b = (d ≤ k) × (0 < d) × (0 < k) × Pair Stands parts Or (k - d) (k - 1) b
+PartIs Stands parts k (node.If d) b = (d ≤ k) × (0 < d) × (0 < k) × Pair Stands parts If (k - d) (k - 1) b
+PartIs Stands parts k (node.Choose c d) b = (c ≤ k) × (d ≤ k) × (0 < c) × (0 < d) × (0 < k) × Triple Stands parts (k - c) (k - d) (k - 1) b
 
-pub pair_and : {a b c : Body} → IsPair construct.And a b c → c ≡ And a b
-pair_and conjunction = refl
+two_places : {G : Type 0} {Stands : G → Tree → Type 0} {parts : List (Node G)} {i j k d : ℕ} {a b : Body} (join : Body → Body → Body) → k ≡ i + d → k ≡ j + 1 → 0 < d → IsTree Stands parts i a → IsTree Stands parts j b
+    → (d ≤ k) × (0 < d) × (0 < k) × Pair Stands parts join (k - d) (k - 1) (join a b)
+two_places {Stands = Stands} {parts = parts} {i} {j} {k} {d} {a} {b} join first second some x y =
+    let front : i ≡ k - d = omega (arith, first) in
+    let back : j ≡ k - 1 = omega (arith, second) in (
+      omega (arith, first),
+      some,
+      omega (arith, second),
+      record {
+        first = a;
+        second = b;
+        is = refl;
+        first_body = subst (λ (m : ℕ). IsTree Stands parts m a) front x;
+        second_body = subst (λ (m : ℕ). IsTree Stands parts m b) back y;
+      },
+    )
 
-pub pair_or : {a b c : Body} → IsPair construct.Or a b c → c ≡ Or a b
-pair_or disjunction = refl
+part_is : {G : Type 0} {Stands : G → Tree → Type 0} {parts : List (Node G)} {k : ℕ} {b : Body} (part : Node G) → slice_get parts k ≡ Some part → IsTree Stands parts k b → PartIs Stands parts k part b
+part_is {Stands = Stands} {parts = parts} {k} part there (runs {g = g} {t = t} at stands) = subst (λ (n : Node _). PartIs Stands parts k n (Run t)) (some_same (sym at.is ∙ there)) (t, refl, stands)
+part_is {Stands = Stands} {parts = parts} {k} part there (cuts at) = subst (λ (n : Node _). PartIs Stands parts k n Cut) (some_same (sym at.is ∙ there)) refl
+part_is {Stands = Stands} {parts = parts} {k} part there (joins {a = a} {b = b} at first second some x y) =
+    subst (λ (n : Node _). PartIs Stands parts k n (And a b)) (some_same (sym at.is ∙ there)) (two_places And first second some x y)
+part_is {Stands = Stands} {parts = parts} {k} part there (branches {a = a} {b = b} at first second some x y) =
+    subst (λ (n : Node _). PartIs Stands parts k n (Or a b)) (some_same (sym at.is ∙ there)) (two_places Or first second some x y)
+part_is {Stands = Stands} {parts = parts} {k} part there (commits {a = a} {b = b} at first second some x y) =
+    subst (λ (n : Node _). PartIs Stands parts k n (If a b)) (some_same (sym at.is ∙ there)) (two_places If first second some x y)
+part_is {Stands = Stands} {parts = parts} {k} part there (chooses {h = h} {i = i} {j = j} {condition = c} {next = d} {a = x} {b = y} {c = z} at first second third some also ix iy iz) =
+    let front : h ≡ k - c = omega (arith, first) in
+    let middle : i ≡ k - d = omega (arith, second) in
+    let back : j ≡ k - 1 = omega (arith, third) in
+    subst (λ (n : Node _). PartIs Stands parts k n (Choose x y z)) (some_same (sym at.is ∙ there)) (
+      omega (arith, first),
+      omega (arith, second),
+      some,
+      also,
+      omega (arith, third),
+      record {
+        first = x;
+        second = y;
+        third = z;
+        is = refl;
+        first_body = subst (λ (m : ℕ). IsTree Stands parts m x) front ix;
+        second_body = subst (λ (m : ℕ). IsTree Stands parts m y) middle iy;
+        third_body = subst (λ (m : ℕ). IsTree Stands parts m z) back iz;
+      },
+    )
 
-pub pair_if : {a b c : Body} → IsPair construct.If a b c → c ≡ If a b
-pair_if if_then = refl
+-- ---- the body at a node
 
--- an if-then-else's first body is an if-then
-pub pair_choose : {a b c : Body} → IsPair construct.Choose a b c → (x : Body) × (y : Body) × (a ≡ If x y) × (c ≡ Choose x y b)
-pair_choose (if_then_else {a = x} {b = y}) = (x, y, refl, refl)
+pub goal_at : {W : Type 0} (p : Present W) {nodes : List (Node W)} {i : ℕ} {b : Body} (w : W) → slice_get nodes i ≡ Some (node.Run w) → IsBody p nodes i b → (t : Tree) × (b ≡ Run t) × IsGoalWord p w t
+goal_at p w there body = part_is (node.Run w) there body
 
--- ---- the node of a body
+pub cut_at : {W : Type 0} (p : Present W) {nodes : List (Node W)} {i : ℕ} {b : Body} → slice_get nodes i ≡ Some node.Cut → IsBody p nodes i b → b ≡ Cut
+cut_at p there body = part_is node.Cut there body
 
--- an if-then's
-pub if_node : {W : Type 0} {p : Present W} {nodes : List (Node W)} {i : ℕ} {a b : Body} → IsBody p nodes i (If a b) → (d : ℕ) × (slice_get nodes i ≡ Some (node.Pair construct.If d))
-if_node (joins {distance = d} at first second some if_then x y) = (d, at.is)
+pub and_at : {W : Type 0} (p : Present W) {nodes : List (Node W)} {k : ℕ} {b : Body} (d : ℕ) → slice_get nodes k ≡ Some (node.And d) → IsBody p nodes k b
+    → (d ≤ k) × (0 < d) × (0 < k) × Pair (IsGoalWord p) nodes And (k - d) (k - 1) b
+and_at p d there body = part_is (node.And d) there body
+
+pub or_at : {W : Type 0} (p : Present W) {nodes : List (Node W)} {k : ℕ} {b : Body} (d : ℕ) → slice_get nodes k ≡ Some (node.Or d) → IsBody p nodes k b
+    → (d ≤ k) × (0 < d) × (0 < k) × Pair (IsGoalWord p) nodes Or (k - d) (k - 1) b
+or_at p d there body = part_is (node.Or d) there body
+
+pub if_at : {W : Type 0} (p : Present W) {nodes : List (Node W)} {k : ℕ} {b : Body} (d : ℕ) → slice_get nodes k ≡ Some (node.If d) → IsBody p nodes k b
+    → (d ≤ k) × (0 < d) × (0 < k) × Pair (IsGoalWord p) nodes If (k - d) (k - 1) b
+if_at p d there body = part_is (node.If d) there body
+
+pub choose_at : {W : Type 0} (p : Present W) {nodes : List (Node W)} {k : ℕ} {b : Body} (c d : ℕ) → slice_get nodes k ≡ Some (node.Choose c d) → IsBody p nodes k b
+    → (c ≤ k) × (d ≤ k) × (0 < c) × (0 < d) × (0 < k) × Triple (IsGoalWord p) nodes (k - c) (k - d) (k - 1) b
+choose_at p c d there body = part_is (node.Choose c d) there body

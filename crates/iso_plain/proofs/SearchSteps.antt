@@ -11,6 +11,7 @@ use Rattle.iso_model.specs.Search.BuiltIns.{Reply, reply}
 use Rattle.iso_model.specs.declared.built_ins.BuiltIn.{BuiltIn}
 use Rattle.iso_model.specs.Search.Walker.{State, Member, Goal, Fail, Raise, Alternative, Left, Clauses, Outcome, Goes, Gives, Ends, Answered, NoMore, Budget, Uncaught, charged, paid, fails, values, under, entered, with_others, tried, retried, backtracked, unknown_called, called, replied, selected, run_goal, run_value, thrown, clause_size, step_list, step}
 use Rattle.iso_plain.specs.Called.{IsBuiltIn, IsUser}
+use Rattle.iso_plain.specs.EngineStates.{went_back}
 
 -- by the list
 pub step_is : (s : State) (ms : List Member) → s.list ≡ ms → step s ≡ step_list ms s
@@ -19,14 +20,10 @@ step_is s ms is = ap (λ (xs : List Member). step_list xs s) is
 
 -- ---- failure
 
--- the state behind failure, at which this alternative is tried
-abbrev pub back : Alternative → List Alternative → State → State
-back a below s = record s { list = a.list; subst = a.subst; next = a.next; built = a.built; stack = below }
-
 pub retry_step : (s : State) (a : Alternative) (below : List Alternative) (call : Tree) (cs : List Clause) → s.list ≡ Fail ∷ [] → s.stack ≡ a ∷ below → a.left ≡ Clauses call cs
-    → step s ≡ Goes (tried call cs a.list (back a below s))
+    → step s ≡ Goes (tried call cs a.list (went_back a below s))
 retry_step s a below call cs list stack left =
-    step_is s (Fail ∷ []) list ∙ (ap (λ (xs : List Alternative). backtracked xs s) stack ∙ ap (λ (l : Left). retried l (back a below s)) left)
+    step_is s (Fail ∷ []) list ∙ (ap (λ (xs : List Alternative). backtracked xs s) stack ∙ ap (λ (l : Left). retried l (went_back a below s)) left)
 
 -- no alternative is left
 pub last_step : (s : State) → s.list ≡ Fail ∷ [] → s.stack ≡ [] → step s ≡ Ends NoMore s.world

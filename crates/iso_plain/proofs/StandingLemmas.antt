@@ -13,7 +13,8 @@ use Rattle.iso_plain.specs.Next.{IsPlace, now_at, now_behind}
 use Rattle.iso_plain.specs.declared.bodies.Node.{Node}
 use Rattle.iso_plain.specs.declared.parts.Frame.{Frame}
 use Rattle.iso_plain.specs.declared.parts.Choice as kept
-use Rattle.iso_plain.specs.Standing.{At, Among, Links, IsBody, runs, joins, IsMember, a_body, a_cut, Chain, ends, leads, First, AtGoal, StandsOn, StandsForChoice, StandsForChoices, none_kept, one_kept, links_at, Newest, AreVariables, no_word, one_word, GoesOn, DoesNext}
+use Rattle.iso_plain.specs.Nodes.{At, IsTree, runs, cuts, joins, branches, commits, chooses}
+use Rattle.iso_plain.specs.Standing.{Among, Links, IsBody, IsMember, a_body, a_cut, a_failure, Chain, ends, leads, First, AtGoal, StandsOn, StandsForChoice, StandsForChoices, none_kept, one_kept, links_at, Newest, AreVariables, no_word, one_word, GoesOn, DoesNext}
 use Rattle.iso_plain.specs.Entering.{Adds}
 
 -- ---- places
@@ -29,31 +30,53 @@ at_last (y ∷ xs) x = record { is = (at_last xs x).is }
 
 -- ---- bodies and frames
 
--- more nodes, and a store that keeps its words
-pub body_more : {W : Type 0} {p q : Present W} {nodes : List (Node W)} {i : ℕ} {b : Body} (more : List (Node W)) → KeepsWords p q → IsBody p nodes i b → IsBody q (nodes ++ more) i b
-body_more {nodes = nodes} more keeps (runs {i = i} {w = w} at holds is goal) = runs (at_more nodes more i _ at) (keeps.stand w holds) (is ∙ sym (keeps.terms w holds)) goal
-body_more {nodes = nodes} more keeps (cuts {i = i} at) = cuts (at_more nodes more i _ at)
-body_more {nodes = nodes} more keeps (joins {k = k} at first second some pair a b) = joins (at_more nodes more k _ at) first second some pair (body_more more keeps a) (body_more more keeps b)
+-- more nodes
+tree_more : {G : Type 0} {Stands : G → Tree → Type 0} {parts : List (Node G)} {i : ℕ} {b : Body} (more : List (Node G)) → IsTree Stands parts i b → IsTree Stands (parts ++ more) i b
+tree_more {parts = parts} more (runs {k = k} at stands) = runs (at_more parts more k _ at) stands
+tree_more {parts = parts} more (cuts {k = k} at) = cuts (at_more parts more k _ at)
+tree_more {parts = parts} more (joins {k = k} at first second some a b) = joins (at_more parts more k _ at) first second some (tree_more more a) (tree_more more b)
+tree_more {parts = parts} more (branches {k = k} at first second some a b) = branches (at_more parts more k _ at) first second some (tree_more more a) (tree_more more b)
+tree_more {parts = parts} more (commits {k = k} at first second some a b) = commits (at_more parts more k _ at) first second some (tree_more more a) (tree_more more b)
+tree_more {parts = parts} more (chooses {k = k} at first second third some also a b c) = chooses (at_more parts more k _ at) first second third some also (tree_more more a) (tree_more more b) (tree_more more c)
+
+-- goals that stand on
+tree_keep : {G : Type 0} {Old New : G → Tree → Type 0} {parts : List (Node G)} {i : ℕ} {b : Body} → ((g : G) (t : Tree) → Old g t → New g t) → IsTree Old parts i b → IsTree New parts i b
+tree_keep keeps (runs {g = g} {t = t} at stands) = runs at (keeps g t stands)
+tree_keep keeps (cuts at) = cuts at
+tree_keep keeps (joins at first second some a b) = joins at first second some (tree_keep keeps a) (tree_keep keeps b)
+tree_keep keeps (branches at first second some a b) = branches at first second some (tree_keep keeps a) (tree_keep keeps b)
+tree_keep keeps (commits at first second some a b) = commits at first second some (tree_keep keeps a) (tree_keep keeps b)
+tree_keep keeps (chooses at first second third some also a b c) = chooses at first second third some also (tree_keep keeps a) (tree_keep keeps b) (tree_keep keeps c)
+
+-- the place of a body is one of a node
+tree_within : {G : Type 0} {Stands : G → Tree → Type 0} {parts : List (Node G)} {i : ℕ} {b : Body} → IsTree Stands parts i b → i < length parts
+tree_within {parts = parts} (runs {k = k} at stands) = slice_get_within parts k _ at.is
+tree_within {parts = parts} (cuts {k = k} at) = slice_get_within parts k _ at.is
+tree_within {parts = parts} (joins {k = k} at first second some a b) = slice_get_within parts k _ at.is
+tree_within {parts = parts} (branches {k = k} at first second some a b) = slice_get_within parts k _ at.is
+tree_within {parts = parts} (commits {k = k} at first second some a b) = slice_get_within parts k _ at.is
+tree_within {parts = parts} (chooses {k = k} at first second third some also a b c) = slice_get_within parts k _ at.is
 
 -- a store that keeps its words
 pub body_keep : {W : Type 0} {p q : Present W} {nodes : List (Node W)} {i : ℕ} {b : Body} → KeepsWords p q → IsBody p nodes i b → IsBody q nodes i b
-body_keep keeps (runs {w = w} at holds is goal) = runs at (keeps.stand w holds) (is ∙ sym (keeps.terms w holds)) goal
-body_keep keeps (cuts at) = cuts at
-body_keep keeps (joins at first second some pair a b) = joins at first second some pair (body_keep keeps a) (body_keep keeps b)
+body_keep keeps body = tree_keep (λ w t h. (keeps.stand w h.0, h.1 ∙ sym (keeps.terms w h.0), h.2)) body
 
--- the place of a body is one of a node
-pub body_within : {W : Type 0} {p : Present W} {nodes : List (Node W)} {i : ℕ} {b : Body} → IsBody p nodes i b → i < length nodes
-body_within {nodes = nodes} (runs {i = i} at holds is goal) = slice_get_within nodes i _ at.is
-body_within {nodes = nodes} (cuts {i = i} at) = slice_get_within nodes i _ at.is
-body_within {nodes = nodes} (joins {k = k} at first second some pair a b) = slice_get_within nodes k _ at.is
+-- more nodes, and a store that keeps its words
+pub body_more : {W : Type 0} {p q : Present W} {nodes : List (Node W)} {i : ℕ} {b : Body} (more : List (Node W)) → KeepsWords p q → IsBody p nodes i b → IsBody q (nodes ++ more) i b
+body_more more keeps body = tree_more more (body_keep keeps body)
+
+pub body_within : {W : Type 0} (p : Present W) {nodes : List (Node W)} {i : ℕ} {b : Body} → IsBody p nodes i b → i < length nodes
+body_within p body = tree_within body
 
 pub member_more : {W : Type 0} {p q : Present W} {nodes : List (Node W)} {f : Frame} {m : Member} (more : List (Node W)) → KeepsWords p q → IsMember p nodes f m → IsMember q (nodes ++ more) f m
 member_more more keeps (a_body is body) = a_body is (body_more more keeps body)
 member_more more keeps (a_cut is) = a_cut is
+member_more more keeps (a_failure is) = a_failure is
 
 pub member_keep : {W : Type 0} {p q : Present W} {nodes : List (Node W)} {f : Frame} {m : Member} → KeepsWords p q → IsMember p nodes f m → IsMember q nodes f m
 member_keep keeps (a_body is body) = a_body is (body_keep keeps body)
 member_keep keeps (a_cut is) = a_cut is
+member_keep keeps (a_failure is) = a_failure is
 
 -- nodes and frames that were added at the end
 pub record AddsLinks {W : Type 0} (old new : Links W) : Type 0 where
@@ -62,18 +85,18 @@ pub record AddsLinks {W : Type 0} (old new : Links W) : Type 0 where
 
 pub chain_more : {W : Type 0} {p q : Present W} {old : Links W} {place : Option ℕ} {ms : List Member} (new : Links W) → AddsLinks old new → KeepsWords p q → Chain p old place ms → Chain q new place ms
 chain_more new adds keeps ends = ends
-chain_more {q = q} {old = old} new adds keeps (leads {i = i} {f = f} {m = m} at member others) =
-    leads (subst (λ (fs : List Frame). At fs i f) (sym adds.frames.1) (at_more old.frames adds.frames.0 i f at))
+chain_more {q = q} {old = old} new adds keeps (leads {i = i} {f = f} {m = m} at below member others) =
+    leads (subst (λ (fs : List Frame). At fs i f) (sym adds.frames.1) (at_more old.frames adds.frames.0 i f at)) below
     (subst (λ (ns : List (Node _)). IsMember q ns f m) (sym adds.nodes.1) (member_more adds.nodes.0 keeps member)) (chain_more new adds keeps others)
 
 pub chain_keep : {W : Type 0} {p q : Present W} {links : Links W} {place : Option ℕ} {ms : List Member} → KeepsWords p q → Chain p links place ms → Chain q links place ms
 chain_keep keeps ends = ends
-chain_keep keeps (leads at member others) = leads at (member_keep keeps member) (chain_keep keeps others)
+chain_keep keeps (leads at below member others) = leads at below (member_keep keeps member) (chain_keep keeps others)
 
 -- the place that a chain begins at
 pub chain_place : {W : Type 0} {p : Present W} {links : Links W} (place : Option ℕ) {ms : List Member} → Chain p links place ms → IsPlace links.frames place
 chain_place None ends = tt
-chain_place {links = links} (Some i) (leads at member others) = slice_get_within links.frames i _ at.is
+chain_place {links = links} (Some i) (leads at below member others) = slice_get_within links.frames i _ at.is
 
 -- ---- lists that end in an item
 
@@ -128,6 +151,15 @@ stands_more c old new on adds = record {
   nodes = (let a = on.nodes in let b = ap length adds.nodes.1 in let d = length-append old.nodes adds.nodes.0 in omega (arith, a, b, d));
   frames = (let a = on.frames in let b = ap length adds.frames.1 in let d = length-append old.frames adds.frames.0 in omega (arith, a, b, d));
 }
+
+-- What is left of choices where those above a height are taken away.
+pub record Lower {W M : Type 0} (stands : M → Present W → Type 0) (older : M → M → Type 0) (base : M) (left_at : ℕ → ℕ → List Clause) (query : List W) (named : List ℕ) (links : Links W) (cs : List (kept.Choice W M)) (ks : List Alternative) (height : ℕ)
+    (c : kept.Choice W M) : Type 0 where
+  pub stand : StandsForChoices stands older base left_at query named links (take height cs) (drop (length ks - height) ks)
+  pub newer : (d : kept.Choice W M) → Among d (take height cs) → older d.mark c.mark
+  pub newer_base : older base c.mark
+  pub present : Present W
+  pub mark : stands c.mark present
 
 module _ {W M : Type 0} {older : M → M → Type 0} {base : M} {left_at : ℕ → ℕ → List Clause} {query : List W} {named : List ℕ} where
   -- more nodes and frames
@@ -206,18 +238,10 @@ module _ {W M : Type 0} {older : M → M → Type 0} {base : M} {left_at : ℕ �
       → StandsForChoices stands older base left_at query named (links_at c links) cs ks → StandsForChoices stands older base left_at query named links cs ks
   wider {links = links} c h = choices_more links (record { nodes = (drop c.nodes links.nodes, sym (take-append-drop c.nodes links.nodes)); frames = (drop c.frames links.frames, sym (take-append-drop c.frames links.frames)) }) h
 
-  -- What is left of choices where those above a height are taken away.
-  pub record Lower (stands : M → Present W → Type 0) (links : Links W) (cs : List (kept.Choice W M)) (ks : List Alternative) (height : ℕ) (c : kept.Choice W M) : Type 0 where
-    pub stand : StandsForChoices stands older base left_at query named links (take height cs) (drop (length ks - height) ks)
-    pub newer : (d : kept.Choice W M) → Among d (take height cs) → older d.mark c.mark
-    pub newer_base : older base c.mark
-    pub present : Present W
-    pub mark : stands c.mark present
-
   lower_by : {stands : M → Present W → Type 0} {links : Links W} {before : List (kept.Choice W M)} {ks : List Alternative} (height : ℕ) (c d : kept.Choice W M) (a : Alternative)
       → StandsOn d links → StandsForChoice stands older base left_at query named (links_at d links) d a → ((x : kept.Choice W M) → Among x before → older x.mark d.mark)
       → StandsForChoices stands older base left_at query named (links_at d links) before ks → slice_get (before ++ d ∷ []) height ≡ Some c
-      → (height < length before → Lower stands (links_at d links) before ks height c) → (height ≡ length before) ⊎ (height < length before) → Lower stands links (before ++ d ∷ []) (a ∷ ks) height c
+      → (height < length before → Lower stands older base left_at query named (links_at d links) before ks height c) → (height ≡ length before) ⊎ (height < length before) → Lower stands older base left_at query named links (before ++ d ∷ []) (a ∷ ks) height c
   lower_by {stands = stands} {links = links} {before = before} {ks = ks} height c d a on here newer below there inner (inr less) =
       let l = inner less in
       let many = choices_length below in
@@ -246,14 +270,14 @@ module _ {W M : Type 0} {older : M → M → Type 0} {base : M} {left_at : ℕ �
       }
 
   pub lower : {stands : M → Present W → Type 0} {links : Links W} {cs : List (kept.Choice W M)} {ks : List Alternative} (height : ℕ) (c : kept.Choice W M) → slice_get cs height ≡ Some c
-      → StandsForChoices stands older base left_at query named links cs ks → Lower stands links cs ks height c
+      → StandsForChoices stands older base left_at query named links cs ks → Lower stands older base left_at query named links cs ks height c
   lower height c at none_kept = absurd (cc)
   lower {stands = stands} {links = links} {cs = cs} height c at (one_kept {before = before} {c = d} {a = a} {ks = ks} is on here newer below) =
       let there : slice_get (before ++ d ∷ []) height ≡ Some c = subst (λ (ds : List (kept.Choice W M)). slice_get ds height ≡ Some c) is at in
       let within = slice_get_within (before ++ d ∷ []) height c there in
       let long = length_last before d in
       let shorter : (height < length before) → slice_get before height ≡ Some c = λ less. sym (at_front before d height less) ∙ there in
-      subst (λ (ds : List (kept.Choice W M)). Lower stands links ds (a ∷ ks) height c) (sym is)
+      subst (λ (ds : List (kept.Choice W M)). Lower stands older base left_at query named links ds (a ∷ ks) height c) (sym is)
       (lower_by height c d a on here newer below there (λ less. lower height c (shorter less) below) (eq-or-lt_of_le (omega (arith, within, long))))
 
   -- no choice
@@ -277,7 +301,7 @@ pub record Leads {W : Type 0} (p : Present W) (links : Links W) (place : ℕ) (m
   pub first : First p links frame ms
 
 pub leads_to : {W : Type 0} {p : Present W} {links : Links W} {place : ℕ} {ms : List Member} → Chain p links (Some place) ms → Leads p links place ms
-leads_to (leads {f = f} {m = m} {ms = ms} at member others) = record { frame = f; at = at.is; first = record { member = m; behind = ms; is = refl; stands = member; chain = others } }
+leads_to (leads {f = f} {m = m} {ms = ms} at below member others) = record { frame = f; at = at.is; first = record { member = m; behind = ms; is = refl; stands = member; chain = others } }
 
 -- no members are behind the last
 pub none_linked : {W : Type 0} {p : Present W} {links : Links W} {ms : List Member} → Chain p links None ms → ms ≡ []

@@ -208,7 +208,8 @@ impl<S: Store + Drop> Plain<S> {
             return Ok(Move::Pauses(Pause::NoMore));
         }
         let choice = self.go_back();
-        match choice.left {
+        let left = choice.left;
+        match left {
             Left::AsIs(place) => self.go_on(choice, place),
             Left::Again(_) if self.steps == 0 => {
                 self.clear();

@@ -17,7 +17,7 @@ enter-requires g c =
     let r = c.requires.represents.1 in
     let b = c.go_back-choice.ensures.back r.own r.engine in
     let t = c.leave_choice-below.ensures.calls r.own b.0 b.1 b.3 in
-    (with_others t.call t.others (b.0).list (back b.0 b.1 r.own), t.call, t.clause, t.others, (b.0).list, t.calls)
+    (with_others t.call t.others (b.0).list (went_back b.0 b.1 r.own), t.call, t.clause, t.others, (b.0).list, t.calls)
 
 pub returns-clause-moves : goal.returns-clause-moves
 returns-clause-moves g c = λ s r.
@@ -25,7 +25,7 @@ returns-clause-moves g c = λ s r.
     let t = c.leave_choice-below.ensures.calls r.own b.0 b.1 b.3 in
     let height : c.leave_choice-below.result ≡ length b.1 = (let n = c.leave_choice-below.ensures.below in let same = ap (λ v. length v.items) c.go_back-choice.ensures.choices in let many = choices_length r.engine.choices in let all = ap length b.2 in omega (arith, n, same, many, all)) in
     tries_on g.S.Store.present g.S.Store.stands g.S.Store.older c.args.self.now c.enter.new.self c.go_back-choice.result.attempt s r b.0 b.1 c.leave_choice-below.new.self c.leave_choice-below.result c.requires.failing b.2 t height
-    (c.in_ok-enter.ensures.tried (with_others t.call t.others (b.0).list (back b.0 b.1 r.own)) t.call t.clause t.others (b.0).list t.calls) c.in_ok-enter.ensures.awake)
+    (c.in_ok-enter.ensures.tried (with_others t.call t.others (b.0).list (went_back b.0 b.1 r.own)) t.call t.clause t.others (b.0).list t.calls) c.in_ok-enter.ensures.awake)
 
 pub returns-in_err-enter-clause-stopped : goal.returns-in_err-enter-clause-stopped
 returns-in_err-enter-clause-stopped g c = λ s r.
@@ -33,14 +33,14 @@ returns-in_err-enter-clause-stopped g c = λ s r.
     let t = c.leave_choice-below.ensures.calls r.own b.0 b.1 b.3 in
     let height : c.leave_choice-below.result ≡ length b.1 = (let n = c.leave_choice-below.ensures.below in let same = ap (λ v. length v.items) c.go_back-choice.ensures.choices in let many = choices_length r.engine.choices in let all = ap length b.2 in omega (arith, n, same, many, all)) in
     behind_error c.from_residual.result (stops_on g.S.Store.present g.S.Store.stands g.S.Store.older c.args.self.now c.enter.new.self c.go_back-choice.result.attempt s r b.0 b.1 c.leave_choice-below.new.self c.leave_choice-below.result c.requires.failing b.2 t height
-    (c.in_err-enter.ensures.kept (with_others t.call t.others (b.0).list (back b.0 b.1 r.own)) t.call t.clause t.others (b.0).list t.calls)))
+    (c.in_err-enter.ensures.kept (with_others t.call t.others (b.0).list (went_back b.0 b.1 r.own)) t.call t.clause t.others (b.0).list t.calls)))
 
 pub returns-clause-falls : goal.returns-clause-falls
 returns-clause-falls g c =
     let r = c.requires.represents.1 in
     let b = c.go_back-choice.ensures.back r.own r.engine in
     let t = c.leave_choice-below.ensures.calls r.own b.0 b.1 b.3 in
-    let engine = c.in_ok-enter.ensures.tried (with_others t.call t.others (b.0).list (back b.0 b.1 r.own)) t.call t.clause t.others (b.0).list t.calls in
+    let engine = c.in_ok-enter.ensures.tried (with_others t.call t.others (b.0).list (went_back b.0 b.1 r.own)) t.call t.clause t.others (b.0).list t.calls in
     falls_clause c.args.self.now c.enter.new.self (c.enter.ensures.steps ∙ (c.leave_choice-below.ensures.steps ∙ c.go_back-choice.ensures.steps))
     (c.enter.ensures.stays.procedures ∙ (c.leave_choice-below.ensures.stays.procedures ∙ c.go_back-choice.ensures.stays.procedures))
     (rw (c.enter.ensures.choices, ← c.go_back-choice.ensures.choices, ← c.go_back-choice.ensures.stays.procedures) c.leave_choice-below.ensures.fewer)

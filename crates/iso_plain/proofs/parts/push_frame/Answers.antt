@@ -1,0 +1,9 @@
+use Rattle.std.proofs.Common.{◌≡◌, length}
+use Rattle.iso_plain.proofs.StandingLemmas.{at_last}
+use Rattle.iso_plain.proofs.PlaceLemmas.{goal_at}
+use Rattle.iso_plain.proofs.CostLemmas.{cost_above}
+use Rattle.iso_plain.proofs.SearchSteps.{step_is}
+use Rattle.iso_plain.proofs.parts.push_frame.Goals as goal
+
+pub returns-clause-place : goal.returns-clause-place
+returns-clause-place c = cc (c.len-place.ensures, c.args.frames.now.ok.0)
