@@ -13,7 +13,6 @@ use Rattle.iso_plain.specs.Entering.{Extends, Adds, Copies, CopiesPart, Meets, n
 use Rattle.iso_plain.specs.Nodes.{map_node, trees_of}
 use Rattle.std.proofs.lemmas.List.{map-append}
 use Rattle.iso_plain.specs.declared.bodies.Node.{Node}
-use Rattle.iso_plain.proofs.NodeLemmas.{nodes_push, nodes_length}
 use Rattle.std.proofs.lemmas.Bool.{eqb-true, eq-eqb, true≢false}
 
 pub words_same : {W : Type 0} (p : Present W) → KeepsWords p p
@@ -112,14 +111,6 @@ meets {p = p} {q = q} {r = r} {s = s} {v = v} head t {count = count} e m k held 
       words = words_on (words_on e.words (words_on m.words b.words)) x.words;
     }
 
--- a copied part more
-pub copies_push : {W : Type 0} {p q : Present W} {old new : List (Node W)} {ts : List (Node Tree)} (n : Node W) (t : Node Tree) → Copies p old new ts → CopiesPart p q n t → Copies q old (new ++ n ∷ []) (ts ++ t ∷ [])
-copies_push {old = old} {new = new} {ts = ts} n t h made = record {
-  more = h.more ++ n ∷ [];
-  are = ap (λ (xs : List (Node _)). xs ++ n ∷ []) h.are ∙ append_assoc old h.more (n ∷ []);
-  nodes = nodes_push h.more ts n t h.nodes made.extends.words made.is;
-}
-
 pub copies_none : {W : Type 0} (p : Present W) (old : List (Node W)) → Copies p old old []
 copies_none p old = record { more = []; are = sym (append-nil old); nodes = no_nodes }
 
@@ -143,7 +134,3 @@ no_trees (x ∷ xs) b is e = absurd (let none = eqb-true (length (x ∷ xs)) 0 (
 pub some_trees : (xs : List (Node Term)) (b : Bool) → b ≡ length xs == 0 → b ≡ false → 0 < length (trees_of xs)
 some_trees [] b is e = absurd (true≢false (sym (eq-eqb 0 0 refl) ∙ (sym is ∙ e)))
 some_trees (x ∷ xs) b is e = omega arith
-
--- where some parts were copied there are some nodes
-pub copies_some : {W : Type 0} {p : Present W} {old new : List (Node W)} {ts : List (Node Tree)} → Copies p old new ts → 0 < length ts → 0 < length new
-copies_some {old = old} h some = (let all = ap length h.are in let more = length-append old h.more in let same = nodes_length h.nodes in omega (arith, all, more, same, some))
