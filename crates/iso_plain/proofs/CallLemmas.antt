@@ -37,26 +37,6 @@ left_same ps db cs i j d others is h =
 
 -- ---- the choice of a call
 
-among_end : {X : Type 0} (x : X) (xs : List X) (y : X) → Among x (xs ++ y ∷ []) → Among x xs ⊎ (x ≡ y)
-among_end x [] y (inl e) = inr e
-among_end x [] y (inr h) = absurd h
-among_end x (z ∷ xs) y (inl e) = inl (inl e)
-among_end x (z ∷ xs) y (inr h) = on_end (among_end x xs y h) where
-  on_end : Among x xs ⊎ (x ≡ y) → Among x (z ∷ xs) ⊎ (x ≡ y)
-  on_end (inl a) = inl (inr a)
-  on_end (inr e) = inr e
-
-module _ {W M : Type 0} {stands : M → Present W → Type 0} {older : M → M → Type 0} {base : M} {left : ℕ → ℕ → List databases.Clause} {query : List W} {named : List ℕ} where
-  -- The mark of each choice stands for something.
-  pub marks_stand : {links : Links W} {cs : List (kept.Choice W M)} {ks : List Alternative} (d : kept.Choice W M) → StandsForChoices stands older base left query named links cs ks
-      → Among d cs → (p : Present W) × stands d.mark p
-  marks_stand d none_kept among = absurd among
-  marks_stand d (one_kept {before = before} {c = c} is on here newer below) among =
-      on_end (marks_stand d below) (among_end d before c (subst (λ (ds : List (kept.Choice W M)). Among d ds) is among)) where
-        on_end : (Among d before → (p : Present W) × stands d.mark p) → Among d before ⊎ (d ≡ c) → (p : Present W) × stands d.mark p
-        on_end before_stand (inl a) = before_stand a
-        on_end before_stand (inr e) = (here.present, subst (λ (x : kept.Choice W M). stands x.mark here.present) (sym e) here.mark)
-
 module _ {S W M : Type 0} (present : S → Present W) (stands : S → M → Present W → Type 0) (older : M → M → Type 0) where
   -- no clause behind the attempt's
   pub calls_last : (e : Plain S W M) (attempt : Attempt W) (s : State) (call : Tree) (c : databases.Clause) (cs : List databases.Clause) (behind : List Member)

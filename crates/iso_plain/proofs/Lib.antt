@@ -19,6 +19,7 @@ pub mod CountLemmas
 pub mod EngineLemmas
 pub mod BackLemmas
 pub mod StartLemmas
+pub mod AheadLemmas
 pub mod EndLemmas
 pub mod CalledLemmas
 pub mod RunLemmas

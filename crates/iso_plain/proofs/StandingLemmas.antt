@@ -287,6 +287,28 @@ module _ {W M : Type 0} {older : M → M → Type 0} {base : M} {left_at : ℕ �
   no_choices {cs = cs} e (one_kept {before = before} {c = c} is on here newer below) =
       absurd (let l : length cs ≡ length before + 1 = ap length is ∙ length_last before c in let z : length cs ≡ 0 = ap length e in omega arith)
 
+-- ---- the marks of choices
+
+among_end : {X : Type 0} (x : X) (xs : List X) (y : X) → Among x (xs ++ y ∷ []) → Among x xs ⊎ (x ≡ y)
+among_end x [] y (inl e) = inr e
+among_end x [] y (inr h) = absurd h
+among_end x (z ∷ xs) y (inl e) = inl (inl e)
+among_end x (z ∷ xs) y (inr h) = on_end (among_end x xs y h) where
+  on_end : Among x xs ⊎ (x ≡ y) → Among x (z ∷ xs) ⊎ (x ≡ y)
+  on_end (inl a) = inl (inr a)
+  on_end (inr e) = inr e
+
+module _ {W M : Type 0} {stands : M → Present W → Type 0} {older : M → M → Type 0} {base : M} {left_at : ℕ → ℕ → List Clause} {query : List W} {named : List ℕ} where
+  -- The mark of each choice stands for something.
+  pub marks_stand : {links : Links W} {cs : List (kept.Choice W M)} {ks : List Alternative} (d : kept.Choice W M) → StandsForChoices stands older base left_at query named links cs ks
+      → Among d cs → (p : Present W) × stands d.mark p
+  marks_stand d none_kept among = absurd among
+  marks_stand d (one_kept {before = before} {c = c} is on here newer below) among =
+      on_end (marks_stand d below) (among_end d before c (subst (λ (ds : List (kept.Choice W M)). Among d ds) is among)) where
+        on_end : (Among d before → (p : Present W) × stands d.mark p) → Among d before ⊎ (d ≡ c) → (p : Present W) × stands d.mark p
+        on_end before_stand (inl a) = before_stand a
+        on_end before_stand (inr e) = (here.present, subst (λ (x : kept.Choice W M). stands x.mark here.present) (sym e) here.mark)
+
 -- the words of variables, in a store that keeps its words
 pub variables_more : {W : Type 0} {p q : Present W} {ws : List W} {ns : List ℕ} → KeepsWords p q → AreVariables p ws ns → AreVariables q ws ns
 variables_more keeps no_word = no_word
