@@ -18,7 +18,7 @@ use Rattle.iso_plain.specs.declared.parts.Now.{Now}
 use Rattle.iso_plain.specs.declared.parts.Now.TheVariants as now
 use Rattle.iso_plain.specs.declared.plain.Plain.{Plain}
 use Rattle.iso_plain.specs.Next.{IsPlace, now_behind}
-use Rattle.iso_plain.specs.Standing.{Among, Links, IsBefore, IsBody, IsMember, a_body, a_cut, a_failure, Chain, leads, First, HasLeft, StandsForChoice, StandsForChoices, GainsChoice, HaveRoom, GoesOn, DoesNext, entered_at}
+use Rattle.iso_plain.specs.Standing.{Among, Links, IsBefore, IsBody, IsMember, a_body, a_cut, a_failure, Chain, leads, First, HasMembers, HasLeft, StandsForChoice, StandsForChoices, GainsChoice, HaveRoom, GoesOn, DoesNext, entered_at}
 use Rattle.iso_plain.specs.EngineStates.{IsEngine, IsAhead, Keeps, left_at, links_of}
 use Rattle.iso_plain.proofs.EnteringLemmas.{words_same, adds_none}
 use Rattle.iso_plain.proofs.StandingLemmas.{AddsLinks, at_last, chain_more, chain_place, choices_more, choices_keep, choices_length, choices_push, Lower, lower, marks_stand, next_behind}
@@ -168,6 +168,11 @@ module _ {S W M : Type 0} (present : S → Present W) (stands : S → M → Pres
         goes = goes_with (m ∷ s.list) s.stack h.goes;
         chain = leads (rw pushed (at_last e.frames.items f)) (place_before e.frames.items f.next (chain_place f.next h.chain)) is (chain_pushed e frames f f.next s.list pushed h.chain);
       }
+
+  -- the members ahead, as what is left at a choice
+  pub members_left : (e : Plain S W M) (s : State) (place : Option ℕ) (l : walker.Left) → IsAhead present stands older e s place
+      → HasMembers (left_at s.world.database.procedures) e.query.items (variables s.query) (present e.store) (links_of e) place l (record { list = s.list; subst = s.subst; next = s.next; built = s.built; left = l })
+  members_left e s place l h = record { on = record { subst_is = h.goes.subst; next_is = h.goes.next; chain = h.chain; words = h.goes.words }; is = refl }
 
   -- a choice with this left to be tried of the members ahead
   pub ahead_choice : (e : Plain S W M) (s : State) (place : Option ℕ) (store : S) (choices : Vec (kept.Choice W M) Global) (left : Left W) (l : walker.Left) → IsAhead present stands older e s place

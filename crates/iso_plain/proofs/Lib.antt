@@ -20,6 +20,7 @@ pub mod EngineLemmas
 pub mod BackLemmas
 pub mod StartLemmas
 pub mod AheadLemmas
+pub mod ControlMoves
 pub mod EndLemmas
 pub mod CalledLemmas
 pub mod RunLemmas

@@ -87,14 +87,14 @@ impl<S: Store + Drop> Plain<S> {
         ensures stays { Stays self.old self.new }
     {
         let height = self.choices.len();
-        let then = push_frame(&mut self.frames, Frame {
+        let behind = push_frame(&mut self.frames, Frame {
             todo: Todo::Body(place - 1),
             ..frame
         })?;
         let once = push_frame(&mut self.frames, Frame {
             todo: Todo::CutBack,
             mark: height,
-            next: Some(then),
+            next: Some(behind),
         })?;
         self.now = Now::Running(Frame {
             todo: Todo::Body(place - distance),
@@ -182,14 +182,14 @@ impl<S: Store + Drop> Plain<S> {
             self.nodes.len(),
             self.frames.len(),
         )?;
-        let then = push_frame(&mut self.frames, Frame {
+        let behind = push_frame(&mut self.frames, Frame {
             todo: Todo::Body(place - next),
             ..frame
         })?;
         let once = push_frame(&mut self.frames, Frame {
             todo: Todo::CutBack,
             mark: height,
-            next: Some(then),
+            next: Some(behind),
         })?;
         self.now = Now::Running(Frame {
             todo: Todo::Body(place - condition),
