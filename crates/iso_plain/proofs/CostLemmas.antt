@@ -92,7 +92,7 @@ pub whole_paid : (n w v : ℕ) → v ≤ w + left_cost (suc most) w → whole_co
 unfolding whole_cost
 whole_paid n w v less = let h = whole_at_most n v (w + left_cost (suc most) w) (eq-or-lt_of_le less) in omega (arith, h)
 
-left_step : (n r : ℕ) → left_cost (suc n) r ≡ suc (body_cost most r) + left_cost n r
+pub left_step : (n r : ℕ) → left_cost (suc n) r ≡ suc (body_cost most r) + left_cost n r
 unfolding left_cost
 left_step n r = refl
 

@@ -21,6 +21,7 @@ pub mod BackLemmas
 pub mod StartLemmas
 pub mod AheadLemmas
 pub mod ControlMoves
+pub mod ControlCosts
 pub mod EndLemmas
 pub mod CalledLemmas
 pub mod RunLemmas

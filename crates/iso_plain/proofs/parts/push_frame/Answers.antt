@@ -4,6 +4,7 @@ use Rattle.iso_plain.proofs.PlaceLemmas.{goal_at}
 use Rattle.iso_plain.proofs.CostLemmas.{cost_above}
 use Rattle.iso_plain.proofs.WeightLemmas.{falls_less}
 use Rattle.iso_plain.proofs.SearchMoves.{goes}
+use Rattle.iso_plain.proofs.ControlCosts.{cost_at}
 use Rattle.iso_plain.proofs.ControlMoves.{takes_apart}
 use Rattle.iso_plain.proofs.AheadLemmas.{at_frame}
 use Rattle.iso_plain.proofs.SearchSteps.{step_is}
