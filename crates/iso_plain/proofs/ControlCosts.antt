@@ -97,20 +97,20 @@ module _ {S W M : Type 0} (present : S → Present W) (stands : S → M → Pres
         let here = ap (body_cost (k - d)) next in
         falls_less e (record e { frames = frames; now = now.Running (record { todo = todo.Body (k - d); mark = f.mark; next = Some (length e.frames.items) }) }) refl (omega (arith, old, all, less, here))
 
-    pub condition_falls : (d : ℕ) (frames more : Vec Frame Global) → IsAt e.nodes.items f k (node.If d) → frames.items ≡ e.frames.items ++ body_frame f (k - 1) ∷ []
-        → more.items ≡ frames.items ++ record { todo = todo.CutBack; mark = length e.choices.items; next = Some (length e.frames.items) } ∷ []
-        → weight (record e { frames = more; now = now.Running (record { todo = todo.Body (k - d); mark = length e.choices.items; next = Some (length frames.items) }) }) < weight e
-    condition_falls d frames more h come come_more =
+    pub condition_falls : (d mark : ℕ) (frames more : Vec Frame Global) → IsAt e.nodes.items f k (node.If d) → frames.items ≡ e.frames.items ++ body_frame f (k - 1) ∷ []
+        → more.items ≡ frames.items ++ record { todo = todo.CutBack; mark = mark; next = Some (length e.frames.items) } ∷ []
+        → weight (record e { frames = more; now = now.Running (record { todo = todo.Body (k - d); mark = mark; next = Some (length frames.items) }) }) < weight e
+    condition_falls d mark frames more h come come_more =
         let p = if_parts present stands older e s f k doing r d h in
         let rest = place_cost e.frames.items f.next in
-        let once : Frame = record { todo = todo.CutBack; mark = length e.choices.items; next = Some (length e.frames.items) } in
+        let once : Frame = record { todo = todo.CutBack; mark = mark; next = Some (length e.frames.items) } in
         let old = cost_at h.asks in
         let both = grown e.frames.items frames.items more.items (body_frame f (k - 1) ∷ []) (once ∷ []) come come_more in
         let all = choices_same more.items (body_frame f (k - 1) ∷ once ∷ []) both in
         let next = new_place frames.items more.items once come_more ∙ ap suc (new_place e.frames.items frames.items (body_frame f (k - 1)) come) in
         let less = cut_before k (k - d) (k - 1) rest (let some = p.2 in let more = p.1 in omega (arith, some, more)) (let some = p.2 in omega (arith, some)) in
         let here = ap (body_cost (k - d)) next in
-        falls_less e (record e { frames = more; now = now.Running (record { todo = todo.Body (k - d); mark = length e.choices.items; next = Some (length frames.items) }) }) refl (omega (arith, old, all, less, here))
+        falls_less e (record e { frames = more; now = now.Running (record { todo = todo.Body (k - d); mark = mark; next = Some (length frames.items) }) }) refl (omega (arith, old, all, less, here))
 
     pub either_falls : {old new : M → Present W → Type 0} {p : Present W} {nodes stood : ℕ} (d : ℕ) (frames : Vec Frame Global) (store : S) (choices : Vec (kept.Choice W M) Global) → IsAt e.nodes.items f k (node.Or d) → frames.items ≡ e.frames.items ++ body_frame f (k - 1) ∷ []
         → GainsChoice old new older p nodes stood (left.AsIs (Some (length e.frames.items))) e.choices.items choices.items
@@ -127,14 +127,14 @@ module _ {S W M : Type 0} (present : S → Present W) (stands : S → M → Pres
         let less = two_left k (k - d) (k - 1) rest (let some = p.2 in let more = p.1 in omega (arith, some, more)) (let some = p.2 in omega (arith, some)) in
         falls_less e (record e { frames = frames; store = store; choices = choices; now = now.Running (body_frame f (k - d)) }) refl (omega (arith, old, all, next, gained, here, less))
 
-    pub choose_falls : {old new : M → Present W → Type 0} {p : Present W} {nodes stood : ℕ} (c d : ℕ) (frames more most : Vec Frame Global) (store : S) (choices : Vec (kept.Choice W M) Global) → IsAt e.nodes.items f k (node.Choose c d) → frames.items ≡ e.frames.items ++ body_frame f (k - 1) ∷ []
+    pub choose_falls : {old new : M → Present W → Type 0} {p : Present W} {nodes stood : ℕ} (c d mark : ℕ) (frames more most : Vec Frame Global) (store : S) (choices : Vec (kept.Choice W M) Global) → IsAt e.nodes.items f k (node.Choose c d) → frames.items ≡ e.frames.items ++ body_frame f (k - 1) ∷ []
         → GainsChoice old new older p nodes stood (left.AsIs (Some (length e.frames.items))) e.choices.items choices.items
-        → more.items ≡ frames.items ++ body_frame f (k - d) ∷ [] → most.items ≡ more.items ++ record { todo = todo.CutBack; mark = length e.choices.items; next = Some (length frames.items) } ∷ []
-        → weight (record e { frames = most; store = store; choices = choices; now = now.Running (record { todo = todo.Body (k - c); mark = length e.choices.items + 1; next = Some (length more.items) }) }) < weight e
-    choose_falls c d frames more most store choices h come gains come_more come_most =
+        → more.items ≡ frames.items ++ body_frame f (k - d) ∷ [] → most.items ≡ more.items ++ record { todo = todo.CutBack; mark = mark; next = Some (length frames.items) } ∷ []
+        → weight (record e { frames = most; store = store; choices = choices; now = now.Running (record { todo = todo.Body (k - c); mark = mark + 1; next = Some (length more.items) }) }) < weight e
+    choose_falls c d mark frames more most store choices h come gains come_more come_most =
         let p = choose_parts present stands older e s f k doing r c d h in
         let rest = place_cost e.frames.items f.next in
-        let once : Frame = record { todo = todo.CutBack; mark = length e.choices.items; next = Some (length frames.items) } in
+        let once : Frame = record { todo = todo.CutBack; mark = mark; next = Some (length frames.items) } in
         let old = cost_at h.asks in
         let two = grown e.frames.items frames.items more.items (body_frame f (k - 1) ∷ []) (body_frame f (k - d) ∷ []) come come_more in
         let three = grown e.frames.items more.items most.items (body_frame f (k - 1) ∷ body_frame f (k - d) ∷ []) (once ∷ []) two come_most in
@@ -147,5 +147,5 @@ module _ {S W M : Type 0} (present : S → Present W) (stands : S → M → Pres
         let next = new_place more.items most.items once come_most ∙ ap suc (new_place frames.items more.items (body_frame f (k - d)) come_more ∙ ap (body_cost (k - d)) same) in
         let here = ap (body_cost (k - c)) next in
         let less = three_left k (k - c) (k - d) (k - 1) rest (let some = p.4 in let more = p.2 in omega (arith, some, more)) (let some = p.4 in let more = p.3 in omega (arith, some, more)) (let some = p.4 in omega (arith, some)) in
-        falls_less e (record e { frames = most; store = store; choices = choices; now = now.Running (record { todo = todo.Body (k - c); mark = length e.choices.items + 1; next = Some (length more.items) }) }) refl
+        falls_less e (record e { frames = most; store = store; choices = choices; now = now.Running (record { todo = todo.Body (k - c); mark = mark + 1; next = Some (length more.items) }) }) refl
         (omega (arith, old, all, other, gained, here, less))
