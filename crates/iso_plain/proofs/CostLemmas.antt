@@ -189,7 +189,7 @@ choices_fewer zero ps costs cs = omega arith
 choices_fewer (suc n) ps costs [] = omega arith
 choices_fewer (suc n) ps costs (c ∷ cs) = let more = choices_fewer n ps costs cs in omega (arith, more)
 
-left_place : {W : Type 0} (left_at : ℕ → ℕ → List Clause) (query : List W) (named : List ℕ) (p : Present W) (links : Links W) (a : Alternative) (ps : List Procedure) (more : List Frame) (left : Left W) → HasLeft left_at query named p links left a
+pub left_place : {W : Type 0} (left_at : ℕ → ℕ → List Clause) (query : List W) (named : List ℕ) (p : Present W) (links : Links W) (a : Alternative) (ps : List Procedure) (more : List Frame) (left : Left W) → HasLeft left_at query named p links left a
     → choice_cost ps (frame_costs (links.frames ++ more)) left ≡ choice_cost ps (frame_costs links.frames) left
 left_place left_at query named p links a ps more (left.AsIs place) h = ap suc (more_cost links.frames more place (chain_place place h.on.chain))
 left_place left_at query named p links a ps more (left.Again place) h = ap suc (more_cost links.frames more place (chain_place place h.on.chain))

@@ -22,6 +22,7 @@ pub mod StartLemmas
 pub mod AheadLemmas
 pub mod ControlMoves
 pub mod ControlCosts
+pub mod CutMoves
 pub mod EndLemmas
 pub mod CalledLemmas
 pub mod RunLemmas

@@ -1,5 +1,5 @@
 -- Bodies, frames and choices, as the store, the nodes and the frames change.
-use Rattle.std.proofs.Common.{◌≡◌, ℕ, zero, suc, ◌+◌, ◌-◌, ◌<◌, ◌≤◌, List, [], ◌∷◌, ◌++◌, length, take, drop, Option, Some, None, true, refl, ap, ap₂, sym, ◌∙◌, subst, arith, ◌⊎◌, inl, inr, length-append}
+use Rattle.std.proofs.Common.{◌≡◌, ℕ, zero, suc, ◌+◌, ◌-◌, ◌<◌, ◌≤◌, List, [], ◌∷◌, ◌++◌, length, take, drop, get_or, Option, Some, None, true, refl, ap, ap₂, sym, ◌∙◌, subst, arith, ◌⊎◌, inl, inr, length-append}
 use Rattle.std.specs.List.{slice_get}
 use Rattle.std.proofs.Math.Nat.{eq-or-lt_of_le}
 use Rattle.std.proofs.lemmas.List.{take-append-le, take-append-drop}
@@ -119,6 +119,17 @@ among_front x (z ∷ xs) y (inr h) = inr (among_front x xs y h)
 pub among_last : {X : Type 0} (xs : List X) (y : X) → Among y (xs ++ y ∷ [])
 among_last [] y = inl refl
 among_last (z ∷ xs) y = inr (among_last xs y)
+
+pub item_is : {X : Type 0} (xs : List X) (i : ℕ) (c x : X) → slice_get xs i ≡ Some c → x ≡ get_or xs i x → x ≡ c
+item_is [] i c x at is = absurd (cc)
+item_is (y ∷ ys) zero c x at is = cc
+item_is (y ∷ ys) (suc i) c x at is = item_is ys i c x at is
+
+pub last_split : {X : Type 0} (xs : List X) (i : ℕ) (c : X) → slice_get xs i ≡ Some c → i + 1 ≡ length xs → xs ≡ take i xs ++ c ∷ []
+last_split [] i c at all = absurd (cc)
+last_split (x ∷ []) zero c at all = (let same : x ≡ c = cc in ap (λ (y : _). y ∷ []) same)
+last_split (x ∷ y ∷ ys) zero c at all = absurd (omega arith)
+last_split (x ∷ xs) (suc i) c at all = ap (λ (ys : List _). x ∷ ys) (last_split xs i c at (omega arith))
 
 -- an item before the last
 at_front : {X : Type 0} (xs : List X) (y : X) (i : ℕ) → i < length xs → slice_get (xs ++ y ∷ []) i ≡ slice_get xs i

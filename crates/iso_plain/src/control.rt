@@ -1,6 +1,6 @@
 //! The engine's moves at control constructs: none takes a step of the budget (7.8.4 to 7.8.8).
-ghost use Rattle.std.specs.Prelude.{◌≡◌, ◌⊎◌, IfOk, OnErr};
-ghost use Rattle.iso_model.specs.Search.Walker.{State};
+ghost use Rattle.std.specs.Prelude.{◌≡◌, ℕ, ◌≤◌, IfOk, OnErr};
+ghost use Rattle.iso_model.specs.Search.Walker.{State, cut_back};
 ghost use Rattle.iso_model.specs.Search.Runs.{ComesOver};
 ghost use Rattle.iso_plain.specs.declared.bodies.Node.TheVariants as node;
 
@@ -10,11 +10,30 @@ use iso_model::{Limit, Pause};
 use iso_store::{Store, StoreFault};
 
 impl<S: Store + Drop> Plain<S> {
-    ghost use Rattle.iso_plain.specs.EngineStates.{Represents, Stopped, Moves, Falls, weight};
+    ghost use Rattle.iso_plain.specs.EngineStates.{IsAhead, Represents, Stopped, Moves, Falls, choices_cost, weight};
+    ghost use Rattle.iso_plain.specs.Costs.{frame_costs};
     ghost use Rattle.iso_plain.specs.Stays.{Stays};
     ghost use Rattle.iso_plain.specs.Limits.{ResultMet, ResultFull, MoveMet, MoveFull};
     ghost use Rattle.iso_plain.specs.Standing.{IsCut, IsAt};
     ghost use Rattle.iso_plain.specs.declared.parts.Now.TheVariants as now;
+
+    /// Takes the choices away that were made since so many stood.
+    fn cut_to(&mut self, height: usize)
+        requires { (s : State) × (place : Option ℕ) × IsAhead S.present S.stands S.older self.old s place }
+        ensures cut { (s : State) (place : Option ℕ) → IsAhead S.present S.stands S.older self.old s place
+            → IsAhead S.present S.stands S.older self.new (cut_back height s.list s) place }
+        ensures steps { self.new.steps ≡ self.old.steps }
+        ensures frames { self.new.frames ≡ self.old.frames }
+        ensures costs { choices_cost self.old.procedures.items (frame_costs self.old.frames.items) self.new.choices.items
+            ≤ choices_cost self.old.procedures.items (frame_costs self.old.frames.items) self.old.choices.items }
+        ensures stays { Stays self.old self.new }
+    {
+        if height < self.choices.len() {
+            let mark = self.choices[height].mark;
+            self.choices.truncate(height);
+            self.store.forget(mark);
+        }
+    }
 
     /// Takes the choices away that were made since so many stood as the frame's mark says, and goes on behind it (7.8.4).
     pub(crate) fn cut(&mut self, frame: Frame) -> Move
@@ -27,11 +46,7 @@ impl<S: Store + Drop> Plain<S> {
         ensures met { MoveMet S.full result self.new }
         ensures stays { Stays self.old self.new }
     {
-        if frame.mark < self.choices.len() {
-            let mark = self.choices[frame.mark].mark;
-            self.choices.truncate(frame.mark);
-            self.store.forget(mark);
-        }
+        self.cut_to(frame.mark);
         self.now = at(self.frames.as_slice(), frame.next);
         Move::Goes
     }

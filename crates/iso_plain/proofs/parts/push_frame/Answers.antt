@@ -4,6 +4,12 @@ use Rattle.iso_plain.proofs.PlaceLemmas.{goal_at}
 use Rattle.iso_plain.proofs.CostLemmas.{cost_above}
 use Rattle.iso_plain.proofs.WeightLemmas.{falls_less}
 use Rattle.iso_plain.proofs.SearchMoves.{goes}
+use Rattle.iso_plain.proofs.CallLemmas.{calls_later}
+use Rattle.iso_plain.proofs.ChoiceLemmas.{set_left}
+use Rattle.iso_plain.proofs.BackLemmas.{goes_back}
+use Rattle.iso_plain.proofs.FailLemmas.{failing}
+use Rattle.iso_plain.proofs.EndLemmas.{next_is}
+use Rattle.iso_plain.proofs.CutMoves.{cuts}
 use Rattle.iso_plain.proofs.ControlCosts.{cost_at}
 use Rattle.iso_plain.proofs.ControlMoves.{takes_apart}
 use Rattle.iso_plain.proofs.AheadLemmas.{at_frame}
