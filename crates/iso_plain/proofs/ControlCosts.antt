@@ -26,13 +26,13 @@ use Rattle.iso_plain.proofs.WeightLemmas.{falls_less}
 
 -- ---- frames and choices that come
 
-grown : {X : Type 0} (xs ys zs : List X) (a b : List X) → ys ≡ xs ++ a → zs ≡ ys ++ b → zs ≡ xs ++ (a ++ b)
+pub grown : {X : Type 0} (xs ys zs : List X) (a b : List X) → ys ≡ xs ++ a → zs ≡ ys ++ b → zs ≡ xs ++ (a ++ b)
 grown xs ys zs a b first second = second ∙ (ap (λ (us : List _). us ++ b) first ∙ append_assoc xs a b)
 
-new_place : (fs gs : List Frame) (f : Frame) → gs ≡ fs ++ f ∷ [] → place_cost gs (Some (length fs)) ≡ frame_cost (frame_costs fs) f
+pub new_place : (fs gs : List Frame) (f : Frame) → gs ≡ fs ++ f ∷ [] → place_cost gs (Some (length fs)) ≡ frame_cost (frame_costs fs) f
 new_place fs gs f come = ap (λ (hs : List Frame). place_cost hs (Some (length fs))) come ∙ newest_cost fs f
 
-old_place : (fs gs more : List Frame) (place : Option ℕ) → gs ≡ fs ++ more → IsPlace fs place → place_cost gs place ≡ place_cost fs place
+pub old_place : (fs gs more : List Frame) (place : Option ℕ) → gs ≡ fs ++ more → IsPlace fs place → place_cost gs place ≡ place_cost fs place
 old_place fs gs more place come within = ap (λ (hs : List Frame). place_cost hs place) come ∙ more_cost fs more place within
 
 pub gained_cost : {W M : Type 0} {old new : M → Present W → Type 0} {older : M → M → Type 0} {present : Present W} {nodes frames : ℕ} {l : Left W} {before after : List (kept.Choice W M)} (ps : List Procedure) (costs : List ℕ)

@@ -61,6 +61,19 @@ pub below_most : (n : ℕ) → n < 18446744073709551616 → n ≤ most
 unfolding most
 below_most n less = omega (arith, less)
 
+-- a place of nodes
+pub below_words : (n : ℕ) → n < 18446744073709551616 → n < most
+unfolding most
+below_words n less = less
+
+pub some_most : 0 < most
+unfolding most
+some_most = omega arith
+
+pub zero_cost : (r : ℕ) → body_cost 0 r ≡ suc r
+unfolding body_cost
+zero_cost r = refl
+
 pub left_more : (n r q : ℕ) → r ≤ q → left_cost n r ≤ left_cost n q
 unfolding left_cost
 left_more zero r q less = omega arith

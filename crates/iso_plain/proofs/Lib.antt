@@ -23,6 +23,7 @@ pub mod AheadLemmas
 pub mod ControlMoves
 pub mod ControlCosts
 pub mod CutMoves
+pub mod LocalMoves
 pub mod EndLemmas
 pub mod CalledLemmas
 pub mod RunLemmas

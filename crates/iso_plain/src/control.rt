@@ -1,5 +1,5 @@
 //! The engine's moves at control constructs: none takes a step of the budget (7.8.4 to 7.8.8).
-ghost use Rattle.std.specs.Prelude.{◌≡◌, ℕ, ◌≤◌, IfOk, OnErr};
+ghost use Rattle.std.specs.Prelude.{◌≡◌, ℕ, ◌≤◌, Option, IfOk, OnErr};
 ghost use Rattle.iso_model.specs.Search.Walker.{State, cut_back};
 ghost use Rattle.iso_model.specs.Search.Runs.{ComesOver};
 ghost use Rattle.iso_plain.specs.declared.bodies.Node.TheVariants as node;
