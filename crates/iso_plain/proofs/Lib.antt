@@ -24,6 +24,7 @@ pub mod ControlMoves
 pub mod ControlCosts
 pub mod CutMoves
 pub mod LocalMoves
+pub mod SameBodies
 pub mod EndLemmas
 pub mod CalledLemmas
 pub mod RunLemmas
