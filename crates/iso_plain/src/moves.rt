@@ -125,7 +125,8 @@ impl<S: Store + Drop> Plain<S> {
             Left::Clauses(Attempt { clause, ..attempt }),
             self.nodes.len(),
             self.frames.len(),
-        )
+        )?;
+        Ok(())
     }
 
     /// Leaves the newest choice at its next clause, or takes it away where this is its last one; how many stand below it.
