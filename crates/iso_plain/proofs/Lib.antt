@@ -25,6 +25,7 @@ pub mod ControlCosts
 pub mod CutMoves
 pub mod LocalMoves
 pub mod SameBodies
+pub mod ResumeLemmas
 pub mod EndLemmas
 pub mod CalledLemmas
 pub mod RunLemmas

@@ -1,9 +1,9 @@
 -- By what moves fall.
-use Rattle.std.proofs.Common.{◌≡◌, ◌<◌, ◌≤◌, ◌+◌, ℕ, suc, arith}
+use Rattle.std.proofs.Common.{◌≡◌, ◌<◌, ◌≤◌, ◌+◌, ℕ, suc, Option, ap, ◌∙◌, arith}
 use Rattle.iso_plain.specs.declared.plain.Plain.{Plain}
-use Rattle.iso_plain.specs.Costs.{body_cost, most, left_cost, whole_cost}
-use Rattle.iso_plain.specs.EngineStates.{cost, weight}
-use Rattle.iso_plain.proofs.CostLemmas.{whole_more, whole_paid, called_cost}
+use Rattle.iso_plain.specs.Costs.{body_cost, most, left_cost, whole_cost, rest_cost, frame_costs}
+use Rattle.iso_plain.specs.EngineStates.{choices_cost, now_cost, cost, weight}
+use Rattle.iso_plain.proofs.CostLemmas.{whole_more, whole_paid, called_cost, left_step, cost_above}
 
 -- as many steps, and less to be done before the next
 pub falls_less : {S W M : Type 0} (e new : Plain S W M) → new.steps ≡ e.steps → cost new < cost e → weight new < weight e
@@ -14,3 +14,47 @@ pub falls_called : (steps s r w v : ℕ) → s + r ≤ w → v ≤ s + left_cost
 falls_called steps s r w v less within =
     let h = called_cost most most s r w (omega arith) (omega arith) less in
     whole_paid steps w v (omega (arith, h, within))
+
+-- what a call leaves to be done: its other clauses, and what comes next
+pub call_costs : {S W M : Type 0} (e mid new : Plain S W M) (rest : Option ℕ) → mid.frames ≡ e.frames → new.frames ≡ mid.frames → new.choices ≡ mid.choices → new.procedures ≡ e.procedures
+    → choices_cost e.procedures.items (frame_costs e.frames.items) mid.choices.items ≤ choices_cost e.procedures.items (frame_costs e.frames.items) e.choices.items + left_cost most (rest_cost (frame_costs e.frames.items) rest)
+    → now_cost (frame_costs mid.frames.items) new.now ≤ body_cost most (rest_cost (frame_costs mid.frames.items) rest)
+    → cost new ≤ choices_cost e.procedures.items (frame_costs e.frames.items) e.choices.items + left_cost most (rest_cost (frame_costs e.frames.items) rest) + body_cost most (rest_cost (frame_costs e.frames.items) rest)
+call_costs e mid new rest frames same choices procedures kept next =
+    let all : choices_cost new.procedures.items (frame_costs new.frames.items) new.choices.items ≡ choices_cost e.procedures.items (frame_costs e.frames.items) mid.choices.items =
+    ap (λ ps. choices_cost ps.items (frame_costs new.frames.items) new.choices.items) procedures
+    ∙ (ap (λ fs. choices_cost e.procedures.items (frame_costs fs.items) new.choices.items) (same ∙ frames) ∙ ap (λ cs. choices_cost e.procedures.items (frame_costs e.frames.items) cs.items) choices) in
+    let here : now_cost (frame_costs new.frames.items) new.now ≡ now_cost (frame_costs mid.frames.items) new.now = ap (λ fs. now_cost (frame_costs fs.items) new.now) same in
+    let there : body_cost most (rest_cost (frame_costs mid.frames.items) rest) ≡ body_cost most (rest_cost (frame_costs e.frames.items) rest) = ap (λ fs. body_cost most (rest_cost (frame_costs fs.items) rest)) frames in
+    omega (arith, all, here, there, kept, next)
+
+-- behind failure: the newest choice was taken away, or left at less
+pub back_cost : {S W M : Type 0} (e back : Plain S W M) → back.choices ≡ e.choices → back.procedures ≡ e.procedures
+    → choices_cost e.procedures.items (frame_costs back.frames.items) e.choices.items ≡ choices_cost e.procedures.items (frame_costs e.frames.items) e.choices.items
+    → choices_cost back.procedures.items (frame_costs back.frames.items) back.choices.items ≤ cost e
+back_cost e back choices procedures same =
+    let all : choices_cost back.procedures.items (frame_costs back.frames.items) back.choices.items ≡ choices_cost e.procedures.items (frame_costs back.frames.items) e.choices.items =
+    ap (λ ps. choices_cost ps.items (frame_costs back.frames.items) back.choices.items) procedures ∙ ap (λ cs. choices_cost e.procedures.items (frame_costs back.frames.items) cs.items) choices in
+    omega (arith, all, same)
+
+-- a clause of a choice was entered
+pub entered_cost : {S W M : Type 0} (back mid new : Plain S W M) (rest : Option ℕ) → mid.frames ≡ back.frames → new.frames ≡ mid.frames → new.choices ≡ mid.choices → new.procedures ≡ back.procedures
+    → choices_cost back.procedures.items (frame_costs back.frames.items) mid.choices.items + (body_cost most (rest_cost (frame_costs back.frames.items) rest) + 1) ≤ choices_cost back.procedures.items (frame_costs back.frames.items) back.choices.items
+    → now_cost (frame_costs mid.frames.items) new.now ≤ body_cost most (rest_cost (frame_costs mid.frames.items) rest)
+    → cost new < choices_cost back.procedures.items (frame_costs back.frames.items) back.choices.items
+entered_cost back mid new rest frames same choices procedures fewer next =
+    let all : choices_cost new.procedures.items (frame_costs new.frames.items) new.choices.items ≡ choices_cost back.procedures.items (frame_costs back.frames.items) mid.choices.items =
+    ap (λ ps. choices_cost ps.items (frame_costs new.frames.items) new.choices.items) procedures
+    ∙ (ap (λ fs. choices_cost back.procedures.items (frame_costs fs.items) new.choices.items) (same ∙ frames) ∙ ap (λ cs. choices_cost back.procedures.items (frame_costs back.frames.items) cs.items) choices) in
+    let here : now_cost (frame_costs new.frames.items) new.now ≡ now_cost (frame_costs mid.frames.items) new.now = ap (λ fs. now_cost (frame_costs fs.items) new.now) same in
+    let there : body_cost most (rest_cost (frame_costs mid.frames.items) rest) ≡ body_cost most (rest_cost (frame_costs back.frames.items) rest) = ap (λ fs. body_cost most (rest_cost (frame_costs fs.items) rest)) frames in
+    omega (arith, all, here, there, fewer, next)
+
+-- a step was taken for a choice that stays
+pub falls_again : {S W M : Type 0} (e new : Plain S W M) (w : ℕ) → new.steps + 1 ≡ e.steps → cost new ≤ w + w → w ≤ cost e → weight new < weight e
+falls_again e new w steps within less =
+    let all : e.steps ≡ suc new.steps = omega (arith, steps) in
+    let a = left_step most (cost e) in
+    let b = cost_above most (cost e) in
+    let paid = whole_paid new.steps (cost e) (cost new) (omega (arith, a, b, within, less)) in
+    rw all paid

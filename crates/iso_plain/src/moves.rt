@@ -187,7 +187,7 @@ impl<S: Store + Drop> Plain<S> {
         ensures step { self.new.steps + 1 ≡ self.old.steps }
         ensures stays { Stays self.old self.new }
         ensures costs { cost self.new ≤ choices_cost self.old.procedures.items (frame_costs self.old.frames.items) self.old.choices.items
-            + rest_cost (frame_costs self.old.frames.items) place }
+            + choices_cost self.old.procedures.items (frame_costs self.old.frames.items) self.old.choices.items }
     {
         self.steps -= 1;
         self.now = at(self.frames.as_slice(), place);
