@@ -41,8 +41,8 @@ module _ {S W M : Type 0} (present : S → Present W) (stands : S → M → Pres
     pub resumed : (place : Option ℕ) (store : S) (choices : Vec (kept.Choice W M) Global) → c.left ≡ left.AsIs place → present store ≡ present e.store → ((m : M) (p : Present W) → older m c.mark → stands e.store m p → stands store m p)
         → choices.items ≡ take (length e.choices.items - 1) e.choices.items
         → (a.left ≡ AsIs) × IsEngine present stands older (record e { store = store; choices = choices; now = now_behind e.frames.items place }) (went_back a below s)
-    resumed place store choices left same marks made =
-        let h : HasMembers (left_at s.world.database.procedures) e.query.items (variables s.query) (present e.store) (links_of e) place AsIs a = has_members (left.AsIs place) left in
+    resumed place store choices tries same marks made =
+        let h : HasMembers (left_at s.world.database.procedures) e.query.items (variables s.query) (present e.store) (links_of e) place AsIs a = has_members (left.AsIs place) tries in
         let b = w.base in
         let on = goes AsIs place s.steps (let all = w.steps in omega (arith, all)) h in
         let ahead : IsAhead present stands older (record e { store = store; choices = choices }) (went_back a below s) place = record {
@@ -59,12 +59,12 @@ module _ {S W M : Type 0} (present : S → Present W) (stands : S → M → Pres
 
     pub resumed_cost : (place : Option ℕ) (store : S) (choices : Vec (kept.Choice W M) Global) → 0 < length e.choices.items → c.left ≡ left.AsIs place → choices.items ≡ take (length e.choices.items - 1) e.choices.items
         → cost (record e { store = store; choices = choices; now = now_behind e.frames.items place }) < choices_cost e.procedures.items (frame_costs e.frames.items) e.choices.items
-    resumed_cost place store choices some left made =
-        let h : HasMembers (left_at s.world.database.procedures) e.query.items (variables s.query) (present e.store) (links_of e) place AsIs a = has_members (left.AsIs place) left in
+    resumed_cost place store choices some tries made =
+        let h : HasMembers (left_at s.world.database.procedures) e.query.items (variables s.query) (present e.store) (links_of e) place AsIs a = has_members (left.AsIs place) tries in
         let costs = frame_costs e.frames.items in
         let before = take (length e.choices.items - 1) e.choices.items in
         let old = ap (choices_cost e.procedures.items costs) (choices_are some) ∙ choices_last e.procedures.items costs before c in
-        let here = ap (choice_cost e.procedures.items costs) left in
+        let here = ap (choice_cost e.procedures.items costs) tries in
         let new = ap (choices_cost e.procedures.items costs) made in
         let next = behind_cost place h.on.chain in
         omega (arith, old, here, new, next)
@@ -72,15 +72,15 @@ module _ {S W M : Type 0} (present : S → Present W) (stands : S → M → Pres
     -- the choice stays, and a step was taken
     pub repeated : (place : Option ℕ) (n : ℕ) → 0 < length e.choices.items → c.left ≡ left.Again place → n + 1 ≡ e.steps
         → (a.left ≡ Again) × IsEngine present stands older (record e { steps = n; now = now_behind e.frames.items place }) (record (pushed a.list Again (went_back a below s)) { steps = n })
-    repeated place n some left more =
-        let h : HasMembers (left_at s.world.database.procedures) e.query.items (variables s.query) (present e.store) (links_of e) place Again a = has_members (left.Again place) left in
+    repeated place n some tries more =
+        let h : HasMembers (left_at s.world.database.procedures) e.query.items (variables s.query) (present e.store) (links_of e) place Again a = has_members (left.Again place) tries in
         let again : Alternative = record { list = a.list; subst = a.subst; next = a.next; built = a.built; left = Again } in
         let all : e.steps ≡ suc n = omega (arith, more) in
         let on = goes Again place n (omega (arith, more)) h in
         let members : HasMembers (left_at s.world.database.procedures) e.query.items (variables s.query) (present e.store) (links_of e) place Again again =
         record { on = record { subst_is = h.on.subst_is; next_is = h.on.next_is; chain = h.on.chain; words = h.on.words }; is = refl } in
         let has : HasLeft (left_at s.world.database.procedures) e.query.items (variables s.query) (present e.store) (links_of e) c.left again =
-        subst (λ (l : Left W). HasLeft (left_at s.world.database.procedures) e.query.items (variables s.query) (present e.store) (links_of e) l again) (sym left) members in
+        subst (λ (l : Left W). HasLeft (left_at s.world.database.procedures) e.query.items (variables s.query) (present e.store) (links_of e) l again) (sym tries) members in
         let stood : StandsForChoices (stands e.store) older e.base (left_at s.world.database.procedures) e.query.items (variables s.query) (links_of e) (take (length e.choices.items - 1) e.choices.items ++ c ∷ []) (again ∷ below) =
         choices_push c again w.nodes w.frames (record { present = present e.store; mark = w.mark; newer = w.newer_base; has = has }) w.newer w.stands_below in
         let room = w.room.0 in
@@ -97,11 +97,11 @@ module _ {S W M : Type 0} (present : S → Present W) (stands : S → M → Pres
 
     pub repeated_cost : (place : Option ℕ) (n : ℕ) → 0 < length e.choices.items → c.left ≡ left.Again place
         → cost (record e { steps = n; now = now_behind e.frames.items place }) ≤ choices_cost e.procedures.items (frame_costs e.frames.items) e.choices.items + choices_cost e.procedures.items (frame_costs e.frames.items) e.choices.items
-    repeated_cost place n some left =
-        let h : HasMembers (left_at s.world.database.procedures) e.query.items (variables s.query) (present e.store) (links_of e) place Again a = has_members (left.Again place) left in
+    repeated_cost place n some tries =
+        let h : HasMembers (left_at s.world.database.procedures) e.query.items (variables s.query) (present e.store) (links_of e) place Again a = has_members (left.Again place) tries in
         let costs = frame_costs e.frames.items in
         let before = take (length e.choices.items - 1) e.choices.items in
         let old = ap (choices_cost e.procedures.items costs) (choices_are some) ∙ choices_last e.procedures.items costs before c in
-        let here = ap (choice_cost e.procedures.items costs) left in
+        let here = ap (choice_cost e.procedures.items costs) tries in
         let next = behind_cost place h.on.chain in
         omega (arith, old, here, next)
