@@ -58,9 +58,9 @@ IsRefused (Faulty fault) error = fault_error consult_key fault ≡ error
 
 -- What refuses a clause that wasn't made ready for this reason.
 abbrev pub Refuses : Fault → AddFault → Type 0
-Refuses fault.Instantiation (add.Refused ball) = fault_error consult_key UnboundHead ≡ term_of ball.term
-Refuses (fault.Callable culprit) (add.Refused ball) = fault_error consult_key (NotCallable (term_of culprit)) ≡ term_of ball.term
-Refuses fault.TooManyVariables (add.Refused ball) = fault_error consult_key TooManyVariables ≡ term_of ball.term
+Refuses fault.Instantiation (add.Refused ball) = term_of ball.term ≡ fault_error consult_key UnboundHead
+Refuses (fault.Callable culprit) (add.Refused ball) = term_of ball.term ≡ fault_error consult_key (NotCallable (term_of culprit))
+Refuses fault.TooManyVariables (add.Refused ball) = term_of ball.term ≡ fault_error consult_key TooManyVariables
 Refuses fault.NoMemory (add.Refused ball) = ⊥
 Refuses fault add.NoMemory = Unit {0}
 
