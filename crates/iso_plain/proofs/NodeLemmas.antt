@@ -109,6 +109,41 @@ module _ {G H : Type 0} (R : G → H → Type 0) where
   choose_like c d (node.If e) is = absurd is
   choose_like c d (node.Choose b e) is = ap₂ node.Choose (sym is.0) (sym is.1)
 
+-- where each goal of the first parts is such, parts that are alike are also alike in this way
+module _ {G H : Type 0} {P : G → Type 0} {R Q : G → H → Type 0} (gives : (g : G) (h : H) → P g → R g h → Q g h) where
+  part_alike : (x : Node G) (y : Node H) → IfGoal P x → IsAlike R x y → IsAlike Q x y
+  part_alike (node.Run g) (node.Run h) p r = gives g h p r
+  part_alike node.Cut node.Cut p r = r
+  part_alike (node.And d) (node.And e) p r = r
+  part_alike (node.Or d) (node.Or e) p r = r
+  part_alike (node.If d) (node.If e) p r = r
+  part_alike (node.Choose c d) (node.Choose b e) p r = r
+  part_alike x y p r = absurd r
+
+  pub alike_so : (xs : List (Node G)) (ys : List (Node H)) → EachGoal P xs → AreAlike R xs ys → AreAlike Q xs ys
+  alike_so [] [] p r = tt
+  alike_so [] (y ∷ ys) p r = absurd r
+  alike_so (x ∷ xs) [] p r = absurd r
+  alike_so (x ∷ xs) (y ∷ ys) p r = (part_alike x y p.0 r.0, alike_so xs ys p.1 r.1)
+
+pub each_goal : {G : Type 0} {P Q : G → Type 0} → ((g : G) → P g → Q g) → (xs : List (Node G)) → EachGoal P xs → EachGoal Q xs
+each_goal gives [] h = tt
+each_goal gives (node.Run g ∷ xs) h = (gives g h.0, each_goal gives xs h.1)
+each_goal gives (node.Cut ∷ xs) h = (tt, each_goal gives xs h.1)
+each_goal gives (node.And d ∷ xs) h = (tt, each_goal gives xs h.1)
+each_goal gives (node.Or d ∷ xs) h = (tt, each_goal gives xs h.1)
+each_goal gives (node.If d ∷ xs) h = (tt, each_goal gives xs h.1)
+each_goal gives (node.Choose c d ∷ xs) h = (tt, each_goal gives xs h.1)
+
+pub any_goal : {G : Type 0} (xs : List (Node G)) → EachGoal (λ g. Unit {0}) xs
+any_goal [] = tt
+any_goal (node.Run g ∷ xs) = (tt, any_goal xs)
+any_goal (node.Cut ∷ xs) = (tt, any_goal xs)
+any_goal (node.And d ∷ xs) = (tt, any_goal xs)
+any_goal (node.Or d ∷ xs) = (tt, any_goal xs)
+any_goal (node.If d ∷ xs) = (tt, any_goal xs)
+any_goal (node.Choose c d ∷ xs) = (tt, any_goal xs)
+
 -- a construct's parts are as far apart behind others
 behind_others : (n i k d : ℕ) → k ≡ i + d → n + k ≡ n + i + d
 behind_others n i k d e = omega arith
