@@ -1,5 +1,5 @@
 //! Clauses and goals made ready (7.4, 7.6).
-ghost use Rattle.std.specs.Prelude.{◌≡◌, ◌<◌, true, length, Some, None, option_map, IfOk, MatchOption};
+ghost use Rattle.std.specs.Prelude.{◌≡◌, ◌<◌, ◌^◌, true, length, Some, None, option_map, IfOk, MatchOption};
 ghost use Rattle.iso_model.specs.Terms.TermOf.{term_of};
 ghost use Rattle.iso_model.specs.Terms.Substitutions.{apply};
 ghost use Rattle.iso_model.specs.Terms.Variables.{variables};
@@ -69,9 +69,10 @@ impl Prepared {
 
     /// How many variables there are.
     pub fn variables(&self) -> usize
-        ensures { result ≡ self.now.variables }
+        ensures count { result ≡ self.now.variables }
+        ensures few { result < 2 ^ 60 }
     {
-        self.uses.len()
+        self.uses.as_slice().len()
     }
 
     /// The class of a variable. All those of a goal that is no clause are permanent, since their values are asked for behind it.

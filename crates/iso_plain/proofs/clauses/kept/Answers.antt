@@ -42,4 +42,4 @@ returns c = λ t r.
     let k = key c.in-Some-indicator_of.name.now c.in-Some-indicator_of.arity in
     let same = key_read t p r (term_of c.in-Some.head.now) k is c.in-Some-indicator_of.ensures in
     addition t p r (record { head = c.in_ok-head.head; parts = c.in_ok-parts.parts; variables = c.variables.result }) (c.in_ok-head.ensures ∙ is) c.in_ok-parts.ensures.parts
-    (c.in_ok-parts.ensures.goals (variable_count t) (ready_goals t p r)) c.variables.ensures (ap is_built_in (sym same) ∙ c.in_ok-check_user.ensures))
+    (c.in_ok-parts.ensures.goals (variable_count t) (ready_goals t p r)) c.variables.ensures.count (ap is_built_in (sym same) ∙ c.in_ok-check_user.ensures))
