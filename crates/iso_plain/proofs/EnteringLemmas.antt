@@ -1,17 +1,21 @@
 -- What makers add to a store, call by call.
-use Rattle.std.proofs.Common.{◌≡◌, ℕ, zero, suc, ◌+◌, List, [], ◌∷◌, ◌++◌, Bool, true, false, ◌<◌, length, take, drop, get_or, add-one, append_assoc, append-nil, length-append, ◌==◌, refl, ap, sym, ◌∙◌, subst, arith}
+use Rattle.std.proofs.Common.{◌≡◌, ℕ, zero, suc, ◌+◌, ◌-◌, List, [], ◌∷◌, ◌++◌, Bool, true, false, ◌<◌, length, take, drop, get_or, add-one, append_assoc, append-nil, length-append, ◌==◌, refl, ap, sym, ◌∙◌, subst, arith}
 use Rattle.std.proofs.Math.Seq.{drop-cons, take-suc}
 use Rattle.iso_model.specs.declared.terms.Term.{Term}
-use Rattle.iso_model.specs.Terms.Trees.{Tree, Variable}
+use Rattle.iso_model.specs.Terms.Trees.{Tree, Variable, Integer, Name, Apply, End, More, count}
+use Rattle.iso_model.specs.Search.Bodies.{Body, map_body}
+use Rattle.iso_model.specs.Search.Databases.{key_of}
 use Rattle.iso_model.specs.Terms.Substitutions.{Subst, apply, compose}
 use Rattle.iso_model.specs.Terms.Unifiers.{Unifier, NeverEqual}
 use Rattle.iso_model.specs.Terms.Copies.{numbers_from, renamed}
 use Rattle.iso_store.specs.Presents.{Present, meaning, IsUnification, Binds, KeepsWords, Makes, MovesOn, KeepsNumbers}
-use Rattle.iso_plain.specs.Standing.{AreVariables, no_word, one_word}
+use Rattle.iso_plain.specs.Standing.{AreVariables, no_word, one_word, IsGoalWord, IsBody}
 use Rattle.iso_plain.specs.Entering.{Extends, Adds, IsMade, Copies, CopiesPart, Meets, GoalFits, PartsFit}
-use Rattle.iso_plain.specs.Nodes.{IfGoal, IsAlike, AreAlike, EachGoal}
+use Rattle.iso_plain.specs.Nodes.{EndsWith, IfGoal, IsAlike, AreAlike, EachGoal, IsTermOf}
+use Rattle.iso_plain.specs.Kept.{IsKeptGoal}
+use Rattle.iso_plain.specs.Callable.{IsGoal}
 use Rattle.iso_plain.specs.declared.bodies.Node.{Node}
-use Rattle.iso_plain.proofs.NodeLemmas.{alike_so, alike_push, alike_length, any_goal}
+use Rattle.iso_plain.proofs.NodeLemmas.{alike_so, alike_push, alike_length, any_goal, tree_alike}
 use Rattle.std.proofs.lemmas.Bool.{eqb-true, eq-eqb, true≢false}
 
 pub words_same : {W : Type 0} (p : Present W) → KeepsWords p p
@@ -136,3 +140,35 @@ some_parts (x ∷ xs) b is e = omega arith
 pub copies_some : {W : Type 0} {p : Present W} {s : Subst} {old new : List (Node W)} {parts : List (Node Term)} → Copies p s old new parts → 0 < length parts → 0 < length new
 copies_some {p = p} {s = s} {old = old} {new = new} {parts = parts} h some =
     (let all = ap length h.are in let more = length-append old h.more in let same = alike_length (IsMade p s) parts h.more h.nodes in omega (arith, all, more, same, some))
+
+-- ---- the copied parts of a body are the body, under the substitution
+
+goal_applied : (s : Subst) (t : Tree) → IsGoal t → IsGoal (apply s t)
+goal_applied s (Variable n) h = absurd (let e = h.key.1 in cc e)
+goal_applied s (Integer z) h = absurd (let e = h.key.1 in cc e)
+goal_applied s (Name a) h = record { key = h.key }
+goal_applied s (Apply f ts) h = record { key = (record { name = f; arity = count (apply s ts) }, refl) }
+goal_applied s End h = absurd (let e = h.key.1 in cc e)
+goal_applied s (More t ts) h = absurd (let e = h.key.1 in cc e)
+
+module _ {W : Type 0} (q : Present W) (s : Subst) (n : ℕ) where
+  -- a goal that can be kept was made
+  abbrev IsKeptMade : Term → W → Type 0
+  IsKeptMade g w = IsKeptGoal n g × IsMade q s g w
+
+  kept_means : (g : Term) (w : W) (t : Tree) → IsKeptMade g w → IsTermOf g t → IsGoalWord q w (apply s t)
+  kept_means g w t h is =
+      let goal : IsGoal t = record { key = (h.0.key.0, ap key_of is ∙ h.0.key.1) } in
+      (h.1.0, ap (apply s) is ∙ sym h.1.1, goal_applied s t goal)
+
+  pub placed_body : (old new : List (Node W)) (parts : List (Node Term)) (b : Body) (place : ℕ) → EndsWith IsTermOf parts b → EachGoal (IsKeptGoal n) parts → Copies q s old new parts → place + 1 ≡ length new
+      → IsBody q new place (map_body s b)
+  placed_body old new parts b place ends goals copies last =
+      let gives : (g : Term) (w : W) → IsKeptGoal n g → IsMade q s g w → IsKeptMade g w = λ g w kept made. (kept, made) in
+      let alike : AreAlike IsKeptMade parts copies.more = alike_so gives parts copies.more goals copies.nodes in
+      let tree : IsBody q (old ++ copies.more) (length old + (length parts - 1)) (map_body s b) = tree_alike IsKeptMade s kept_means old copies.more alike ends.last in
+      let many = alike_length IsKeptMade parts copies.more alike in
+      let all = ap length copies.are in
+      let sum = length-append old copies.more in
+      let here : length old + (length parts - 1) ≡ place = omega (arith, many, all, sum, last, ends.some) in
+      subst (λ k. IsBody q new k (map_body s b)) here (subst (λ xs. IsBody q xs (length old + (length parts - 1)) (map_body s b)) (sym copies.are) tree)
