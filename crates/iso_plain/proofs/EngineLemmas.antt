@@ -114,9 +114,9 @@ module _ {S W M : Type 0} (present : S → Present W) (stands : S → M → Pres
     missed_engine never =
         let at = (t.calls).at in
         let P : Tree → Subst → ℕ → Tree → Type 0 = λ a r n h. NeverEqual a (apply r (renamed n h)) in
-        let none : P call s.subst s.next c.head = rw (at.value, ← at.subst_is, ← at.next_is, ← t.is.head) never in
+        let none : P call s.subst s.next c.head = rw (at.value, ← at.on.subst_is, ← at.on.next_is, ← t.is.head) never in
         let is = clause_missed call c mark behind s none in
-        subst (λ (v : State). IsEngine present stands older (onward e store nodes now.Failing) v) (sym is) (with_next now.Failing _ refl refl refl refl refl)
+        subst (λ (v : State). IsEngine present stands older (onward e store nodes now.Failing) v) (sym is) (with_next now.Failing _ refl refl refl refl ([], refl))
 
     -- where members are still to be run
     goes_on : (m : Meets p q (p.term attempt.goal) (term_of k.head) k.variables) (list : List Member)
@@ -124,17 +124,17 @@ module _ {S W M : Type 0} (present : S → Present W) (stands : S → M → Pres
     goes_on m list =
         let at = (t.calls).at in
         record {
-          subst = m.substitution ∙ ap (λ (r : Subst). compose r m.unifier) at.subst_is;
-          next = (let a = at.next_is in let b = t.is.variables in let d = m.next in omega (arith, a, b, d));
+          subst = m.substitution ∙ ap (λ (r : Subst). compose r m.unifier) at.on.subst_is;
+          next = (let a = at.on.next_is in let b = t.is.variables in let d = m.next in omega (arith, a, b, d));
           room = (let few = t.is.few in let space = (t.calls).space in let steps = (t.calls).steps in omega (arith, few, space, steps));
-          words = variables_more m.words at.words;
+          words = variables_more m.words at.on.words;
         }
 
     unifies : (m : Meets p q (p.term attempt.goal) (term_of k.head) k.variables) → Unifier call (apply s.subst (renamed s.next c.head)) m.unifier
     unifies m =
         let at = (t.calls).at in
         let P : Tree → Subst → ℕ → Tree → Type 0 = λ a r n h. Unifier a (apply r (renamed n h)) m.unifier in
-        let here : P call s.subst s.next c.head = rw (at.value, ← at.subst_is, ← at.next_is, ← t.is.head) m.is in
+        let here : P call s.subst s.next c.head = rw (at.value, ← at.on.subst_is, ← at.on.next_is, ← t.is.head) m.is in
         here
 
     links_add : AddsLinks (links_of e) links
@@ -146,7 +146,7 @@ module _ {S W M : Type 0} (present : S → Present W) (stands : S → M → Pres
         let fact = before_fact (map_body (renaming_from s.next) c.body) mark behind (fact_true s.next k.parts.items c.body t.is.parts none) in
         let v : State = record s { list = before (map_body (renaming_from s.next) c.body) mark behind; subst = compose s.subst m.unifier; next = s.next + c.variables; built = s.built + clause_size c } in
         let next : DoesNext q links e.query.items (now_behind e.frames.items attempt.rest) (option_map (λ b. term_of b.term) e.raised) v =
-        next_behind q links e.query.items (option_map (λ b. term_of b.term) e.raised) v attempt.rest behind fact (chain_more links links_add m.words (t.calls).at.chain) (goes_on m v.list) in
+        next_behind q links e.query.items (option_map (λ b. term_of b.term) e.raised) v attempt.rest behind fact (chain_more links links_add m.words (t.calls).at.on.chain) (goes_on m v.list) in
         subst (λ (x : State). IsEngine present stands older (onward e store nodes (now_behind e.frames.items attempt.rest)) x) (sym (clause_found call c mark behind s m.unifier (unifies m)))
         (with_next (now_behind e.frames.items attempt.rest) v refl refl refl refl next)
 
@@ -158,9 +158,9 @@ module _ {S W M : Type 0} (present : S → Present W) (stands : S → M → Pres
         let body = body_untrue s.next k.parts.items c.body t.is.parts some in
         let v : State = record s { list = before b mark behind; subst = compose s.subst m.unifier; next = s.next + c.variables; built = s.built + clause_size c } in
         let at : IsBody q nodes.items place (map_body (renaming_from p.next) c.body) = placed_body q (renaming_from p.next) c.variables e.nodes.items nodes.items k.parts.items c.body place body.1 t.is.goal_templates copies end in
-        let here : IsBody q nodes.items place b = subst (λ (n : ℕ). IsBody q nodes.items place (map_body (renaming_from n) c.body)) (t.calls).at.next_is at in
+        let here : IsBody q nodes.items place b = subst (λ (n : ℕ). IsBody q nodes.items place (map_body (renaming_from n) c.body)) (t.calls).at.on.next_is at in
         let next : DoesNext q links e.query.items (now.Running f) (option_map (λ b. term_of b.term) e.raised) v =
-        (record { member = Goal b mark; behind = behind; is = before_body b mark behind body.0; stands = a_body refl here; chain = chain_more links links_add m.words (t.calls).at.chain }, goes_on m v.list) in
+        (record { member = Goal b mark; behind = behind; is = before_body b mark behind body.0; stands = a_body refl here; chain = chain_more links links_add m.words (t.calls).at.on.chain }, goes_on m v.list) in
         subst (λ (x : State). IsEngine present stands older (onward e store nodes (now.Running f)) x) (sym (clause_found call c mark behind s m.unifier (unifies m))) (with_next (now.Running f) v refl refl refl refl next)
 
     -- what an entry comes to
