@@ -7,8 +7,6 @@ pub mod NodeLemmas
 pub mod PatternLemmas
 pub mod PlaceLemmas
 pub mod EnteringLemmas
-pub mod ConstructLemmas
-pub mod BodyLemmas
 pub mod NumberLemmas
 pub mod ClauseLemmas
 pub mod RenamingLemmas

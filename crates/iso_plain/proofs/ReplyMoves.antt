@@ -12,6 +12,7 @@ use Rattle.iso_model.specs.declared.limit.Limit.TheVariants as limit
 use Rattle.iso_model.specs.Search.Walker.{State, Member, Goal, CutTo, Fail, World, Goes, AsIs, Again, Uncaught, idle, fails, with_goal, pushed, step}
 use Rattle.iso_model.specs.Search.Runs.{Finishes, ComesOver}
 use Rattle.iso_model.specs.Search.RunLaws.Sameness.{Around, Same}
+use Rattle.iso_model.specs.Search.RunLaws.Values.{IsValue, IsOwnBody, IsOwnReply, value_is, reply_own}
 use Rattle.iso_model.proofs.Search.CallLemmas.{run_equation, run_equation_missed}
 use Rattle.iso_store.specs.Presents.{Present, KeepsMarks, KeepsWords, Binds, meaning}
 use Rattle.iso_plain.specs.declared.bodies.Node.{Node}
@@ -207,13 +208,20 @@ module _ {S W M : Type 0} (present : S → Present W) (stands : S → M → Pres
     around : Around o o
     around = around_own o s (Run a.term) f.mark a.behind a.list r.same
 
+    -- what a reply is made of are values
+    own_reply : (x : Reply) → reply b t ≡ x → IsOwnReply o.subst x
+    own_reply x is =
+        let value : IsValue o.subst t = subst (λ (v : Tree). IsValue o.subst v) a.value (value_is o.subst a.term around.agree.twice) in
+        subst (λ (y : Reply). IsOwnReply o.subst y) is (reply_own o.subst b t value)
+
     module _ (c : Body) (place : ℕ) (h : Places (present e.store) (present store) e.nodes.items nodes.items c place) where
       -- the state that the walker comes to, but for its list
       abbrev pub called : State
       called = behind (with_goal c o).built
 
-      same_values : map_body o.subst h.body ≡ map_body o.subst c
-      same_values = subst (λ (v : Subst). map_body v h.body ≡ map_body v c) a.ahead.goes.subst h.same
+      -- the body that stands has the values that the goal's body has, which are values
+      same_values : IsOwnBody o.subst c → map_body o.subst h.body ≡ map_body o.subst c
+      same_values own = subst (λ (v : Subst). map_body v h.body ≡ c) a.ahead.goes.subst h.values ∙ sym own
 
       pub called_ahead : IsAhead present stands older mid called f.next
       called_ahead = behind_ahead (with_goal c o).built h.words h.substitution h.next
@@ -227,7 +235,7 @@ module _ {S W M : Type 0} (present : S → Present W) (stands : S → M → Pres
           let engine = engine_frame present stands older mid called first (Goal h.body (length e.choices.items)) called_ahead (a_body refl h.stands) in
           goes_as present stands older e (record mid { now = now.Running first }) s r v u
           (runs_to present stands older e s f k w doing there r (record (with_goal c o) { list = Goal c (length o.stack) ∷ a.behind }) more (own_goal t a.behind o b (Calls c) is_own is))
-          (same_first called h.body c (length o.stack) a.behind same_values (around_steps o a.behind (with_goal c o).built n around))
+          (same_first called h.body c (length o.stack) a.behind (same_values (own_reply (Calls c) is)) (around_steps o a.behind (with_goal c o).built n around))
           (subst (λ (m : ℕ). IsEngine present stands older (record mid { now = now.Running first }) (record called { list = Goal h.body m ∷ a.behind })) height engine) tt
 
       -- ---- for its first solution
@@ -237,7 +245,7 @@ module _ {S W M : Type 0} (present : S → Present W) (stands : S → M → Pres
           let height = length o.stack in
           goes_as present stands older e new s r (record called { list = Goal c height ∷ CutTo height ∷ a.behind }) (calling_once h.body called)
           (runs_to present stands older e s f k w doing there r (record (with_goal c o) { list = Goal c height ∷ CutTo height ∷ a.behind }) more (own_goal t a.behind o b (CallsOnce c) is_own is))
-          (same_first called h.body c height (CutTo height ∷ a.behind) same_values (around_steps o a.behind (with_goal c o).built n around)) was.0 was.1
+          (same_first called h.body c height (CutTo height ∷ a.behind) (same_values (own_reply (CallsOnce c) is)) (around_steps o a.behind (with_goal c o).built n around)) was.0 was.1
       once_now is new (move.Pauses p) was =
           rw was.0 (spent_stands present stands older limit.Frames new.now new s (ap phase_of was.1) (stops_here present stands older new o s r.same was.2), ap phase_of was.1)
 
@@ -258,7 +266,7 @@ module _ {S W M : Type 0} (present : S → Present W) (stands : S → M → Pres
       refutes_now is new move.Goes was =
           let height = length o.stack in
           goes_as present stands older e new s r refuted (refuting h.body called) (refuted_step is)
-          (same_first (pushed a.behind AsIs called) h.body c (suc height) (CutTo height ∷ Fail ∷ a.behind) same_values (around_pushed called a.behind (around_steps o a.behind (with_goal c o).built n around))) was.0 was.1
+          (same_first (pushed a.behind AsIs called) h.body c (suc height) (CutTo height ∷ Fail ∷ a.behind) (same_values (own_reply (Refutes c) is)) (around_pushed called a.behind (around_steps o a.behind (with_goal c o).built n around))) was.0 was.1
       refutes_now is new (move.Pauses p) was =
           rw was.0 (spent_stands present stands older limit.Frames new.now new s (ap phase_of was.1) (stops_here present stands older new o s r.same was.2), ap phase_of was.1)
 

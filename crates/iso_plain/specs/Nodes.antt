@@ -1,10 +1,13 @@
 -- Converted bodies as lists of parts, each part before what it is a part of.
-use Rattle.std.specs.Prelude.{◌≡◌, ℕ, ◌+◌, ◌-◌, ◌<◌, List, [], map, length, Some, MatchBool}
+use Rattle.std.specs.Prelude.{◌≡◌, ℕ, ◌+◌, ◌-◌, ◌<◌, List, [], ◌∷◌, length, Some, MatchBool}
+use Rattle.std.specs.Borrow.{Bor}
 use Rattle.std.specs.List.{slice_get}
 use Rattle.iso_model.specs.Terms.Trees.{Tree}
 use Rattle.iso_model.specs.Terms.TermOf.{term_of}
 use Rattle.iso_model.specs.Search.Bodies.{Body, Cut, Run, And, Or, If, Choose, is_true}
 use Rattle.iso_model.specs.declared.terms.Term.{Term}
+use Rattle.iso_prep.specs.declared.constructs.Construct.{Construct}
+use Rattle.iso_prep.specs.declared.constructs.Construct.TheVariants as construct
 use Rattle.iso_plain.specs.declared.bodies.Node.{Node}
 use Rattle.iso_plain.specs.declared.bodies.Node.TheVariants as node
 
@@ -35,15 +38,51 @@ pub record EndsWith {G : Type 0} (Stands : G → Tree → Type 0) (parts : List 
 abbrev pub ArePartsOf : {G : Type 0} → (G → Tree → Type 0) → List (Node G) → Body → Type 0
 ArePartsOf Stands parts b = MatchBool (is_true b) (parts ≡ []) (EndsWith Stands parts b)
 
--- another goal for each
-abbrev pub map_node : {X Y : Type 0} → (X → Y) → Node X → Node Y
-map_node f (node.Run x) = node.Run (f x)
-map_node f node.Cut = node.Cut
-map_node f (node.And distance) = node.And distance
-map_node f (node.Or distance) = node.Or distance
-map_node f (node.If distance) = node.If distance
-map_node f (node.Choose condition next) = node.Choose condition next
+-- The parts are alike: of one kind, with goals that are so related.
+abbrev pub IsAlike : {G H : Type 0} → (G → H → Type 0) → Node G → Node H → Type 0
+IsAlike R (node.Run g) (node.Run h) = R g h
+IsAlike R node.Cut node.Cut = Unit {0}
+IsAlike R (node.And d) (node.And e) = d ≡ e
+IsAlike R (node.Or d) (node.Or e) = d ≡ e
+IsAlike R (node.If d) (node.If e) = d ≡ e
+IsAlike R (node.Choose c d) (node.Choose b e) = (c ≡ b) × (d ≡ e)
+IsAlike R part other = ⊥
 
--- the parts over the terms that Rust terms are
-abbrev pub trees_of : List (Node Term) → List (Node Tree)
-trees_of ts = map (map_node term_of) ts
+-- part by part
+abbrev pub AreAlike : {G H : Type 0} → (G → H → Type 0) → List (Node G) → List (Node H) → Type 0
+AreAlike R [] [] = Unit {0}
+AreAlike R (part ∷ parts) (other ∷ others) = IsAlike R part other × AreAlike R parts others
+AreAlike R parts others = ⊥
+
+-- what holds of the part where it is a goal
+abbrev pub IfGoal : {G : Type 0} → (G → Type 0) → Node G → Type 0
+IfGoal P (node.Run g) = P g
+IfGoal P part = Unit {0}
+
+-- it holds of each goal among the parts
+abbrev pub EachGoal : {G : Type 0} → (G → Type 0) → List (Node G) → Type 0
+EachGoal P [] = Unit {0}
+EachGoal P (part ∷ parts) = IfGoal P part × EachGoal P parts
+
+-- the Rust term is this term
+abbrev pub IsTermOf : Term → Tree → Type 0
+IsTermOf g t = t ≡ term_of g
+
+-- the part of a body that was made ready, as a node
+abbrev pub shown : Construct → Node (Bor Term)
+shown (construct.Goal g) = node.Run g
+shown construct.Cut = node.Cut
+shown (construct.And d) = node.And d
+shown (construct.Or d) = node.Or d
+shown (construct.If d) = node.If d
+shown (construct.Choose c d) = node.Choose c d
+
+-- the goal was copied
+abbrev pub IsGoalCopy : Bor Term → Term → Type 0
+IsGoalCopy g h = term_of h ≡ term_of g.now
+
+-- the goals among the parts, in their order
+abbrev pub goals_in : List (Node Term) → List Tree
+goals_in [] = []
+goals_in (node.Run g ∷ parts) = term_of g ∷ goals_in parts
+goals_in (part ∷ parts) = goals_in parts

@@ -1,18 +1,26 @@
 -- What running a goal of a built-in makes of a store and of the nodes, and what comes next.
-use Rattle.std.specs.Prelude.{◌≡◌, ◌+◌, ℕ, List, length}
+use Rattle.std.specs.Prelude.{◌≡◌, ◌+◌, ℕ, List, length, Some, true, nat_lt, if◌then◌else◌}
+use Rattle.iso_model.specs.Terms.Trees.{Tree}
 use Rattle.iso_model.specs.Terms.TermOf.{term_of}
+use Rattle.iso_model.specs.Terms.Sorts.{is_term}
+use Rattle.iso_model.specs.Terms.Copies.{copy_from}
+use Rattle.iso_model.specs.Terms.Arguments.{argument, arguments, arity, others, with_arguments}
 use Rattle.iso_model.specs.Terms.Substitutions.{Subst}
 use Rattle.iso_model.specs.Terms.Unifiers.{Unifier, NeverEqual}
-use Rattle.iso_model.specs.Search.Bodies.{Body, map_body}
-use Rattle.iso_model.specs.Search.BuiltIns.{Reply, Fails, Succeeds, Equates, Raises, Calls, CallsOnce, Refutes, Repeats}
+use Rattle.iso_model.specs.Search.Bodies.{Body, converted, map_body}
+use Rattle.iso_model.specs.Search.BuiltIns.{Reply, Fails, Succeeds, Equates, Raises, Calls, CallsOnce, Refutes, Repeats, goal_reply}
+use Rattle.iso_model.specs.Search.Errors.{Key, max_arity_error}
 use Rattle.iso_store.specs.Presents.{Present, Binds, KeepsWords}
+use Rattle.iso_prep.specs.Preparations.{Preparation}
 use Rattle.iso_plain.specs.declared.bodies.Node.{Node}
+use Rattle.iso_plain.specs.declared.goals.Placed.{Placed}
+use Rattle.iso_plain.specs.declared.goals.Placed.TheVariants as placed
 use Rattle.iso_plain.specs.declared.replies.Replied.{Replied}
 use Rattle.iso_plain.specs.declared.replies.Replied.TheVariants as replied
 use Rattle.iso_plain.specs.Entering.{Adds}
 use Rattle.iso_plain.specs.Standing.{IsBody}
 
--- The goal's body came, at this place of the nodes: its goals have the same values as those of b.
+-- The goal's body came, at this place of the nodes: its goals have the values that those of b are.
 pub record Places {W : Type 0} (p q : Present W) (old new : List (Node W)) (b : Body) (place : ℕ) : Type 0 where
   pub adds : Adds old new
   pub words : KeepsWords p q
@@ -21,7 +29,25 @@ pub record Places {W : Type 0} (p q : Present W) (old new : List (Node W)) (b : 
   pub last : place + 1 ≡ length new
   pub body : Body
   pub stands : IsBody q new place body
-  pub same : map_body p.substitution body ≡ map_body p.substitution b
+  pub values : map_body p.substitution body ≡ b
+
+-- What was made ready is this goal.
+pub record IsGoalReady (p : Preparation) (t : Tree) : Type 0 where
+  pub copied : converted (copy_from t 0) ≡ Some p.body
+  pub term : is_term t ≡ true
+
+-- the goal that a goal of `call/N`, `once/1` or `\+ /1` is for
+abbrev pub called_of : Tree → Tree
+called_of t = with_arguments (argument 0 t) (others (arguments t))
+
+-- run in this way, where the goal has no more arguments than terms have
+abbrev pub limited : Tree → Key → (Body → Reply) → Body → Reply
+limited goal k runs b = if nat_lt 255 (arity goal) then Raises (max_arity_error k) else runs b
+
+-- what running a goal comes to, for which this procedure was called, in whatever way it is run
+abbrev pub IsPlaced : {W : Type 0} → Present W → Present W → List (Node W) → List (Node W) → Tree → Key → Placed → Type 0
+IsPlaced p q old new goal k (placed.Body place) = (b : Body) × ((runs : Body → Reply) → goal_reply (limited goal k runs) goal k ≡ runs b) × Places p q old new b place
+IsPlaced p q old new goal k (placed.Raises ball) = (runs : Body → Reply) → goal_reply (limited goal k runs) goal k ≡ Raises (term_of ball.term)
 
 -- The answer is the one that the reply asks for. Where it fails nothing is said of the store; where a goal goes on the store is as before, or the unifier is bound.
 abbrev pub IsReply : {W : Type 0} → Present W → Present W → List (Node W) → List (Node W) → Reply → Replied → Type 0

@@ -1,10 +1,11 @@
-//! Bodies of clauses and goals of queries, converted (7.6.2).
+//! Converted bodies as the engine keeps them (7.6.2).
+ghost use Rattle.std.specs.Prelude.{◌≡◌, IfOk, map};
+ghost use Rattle.iso_prep.specs.Classes.{goals_of};
+ghost use Rattle.iso_plain.specs.Nodes.{IsAlike, AreAlike, IsGoalCopy, shown, EndsWith, IsTermOf, goals_in};
 
-ghost use Rattle.std.specs.Prelude.{◌≡◌};
-ghost use Rattle.iso_plain.specs.declared.bodies.BodyFault.TheVariants.{NoMemory};
-
-use iso_model::Term;
-use std::alloc::{AllocError, AllocFailed, Global};
+use iso_model::{Term, copied};
+use iso_prep::{Construct, Prepared};
+use std::alloc::{AllocError, Global};
 
 /// A part of a converted body, over goals of this type. The last part of a construct stands right before it; the numbers say how
 /// far back its other parts end.
@@ -24,33 +25,38 @@ pub enum Node<G> {
     Choose(usize, usize),
 }
 
-/// Why a body was not converted.
-#[derive(Clone, Copy, Debug, PartialEq, Eq)]
-pub enum BodyFault {
-    /// A part of it is a number.
-    NotCallable,
-    /// Memory was refused.
-    NoMemory,
-}
-
-impl From<AllocError> for BodyFault {
-    ghost from_gives = { λ _ e. e ≡ NoMemory };
-
-    fn from(_refused: AllocError) -> BodyFault {
-        BodyFault::NoMemory
+/// The part with its goal copied. The error is that memory was refused.
+fn copied_part(alloc: Global, part: &Construct<'_>) -> Result<Node<Term>, AllocError>
+    ensures { IfOk result (λ copy. IsAlike IsGoalCopy (shown part.now) copy) }
+{
+    match part {
+        Construct::Goal(goal) => Ok(Node::Run(copied(alloc, goal)?)),
+        Construct::Cut => Ok(Node::Cut),
+        Construct::And(first) => Ok(Node::And(*first)),
+        Construct::Or(first) => Ok(Node::Or(*first)),
+        Construct::If(condition) => Ok(Node::If(*condition)),
+        Construct::Choose(condition, next) => Ok(Node::Choose(*condition, *next)),
     }
 }
 
-impl<T: Drop> From<AllocFailed<T>> for BodyFault {
-    ghost from_gives = { λ _ e. e ≡ NoMemory };
-
-    fn from(_refused: AllocFailed<T>) -> BodyFault {
-        BodyFault::NoMemory
+/// The parts with their goals copied. The error is that memory was refused.
+fn copied_parts(alloc: Global, parts: &[Construct<'_>]) -> Result<Vec<Node<Term>>, AllocError>
+    ensures { IfOk result (λ copies. AreAlike IsGoalCopy (map shown parts.now) copies.items) }
+{
+    let mut copies = Vec::with_capacity(alloc, parts.len())?;
+    for part in parts {
+        let copy = copied_part(alloc, part)?;
+        copies.push(copy)?;
     }
+    Ok(copies)
 }
 
-/// Appends the parts of the converted body, its own last; a variable `X` becomes `call(X)`. The errors: a part is a number, or
-/// memory was refused; some of the parts may have been appended then.
-pub fn append_body(alloc: Global, body: &Term, parts: &mut Vec<Node<Term>>) -> Result<(), BodyFault> {
-    Err(BodyFault::NoMemory)
+/// The parts of the converted body, each before what it is a part of, and the whole last; their goals are the body's. The error is
+/// that memory was refused.
+pub fn parts_of(alloc: Global, prepared: &Prepared) -> Result<Vec<Node<Term>>, AllocError>
+    ensures ends { IfOk result (λ parts. EndsWith IsTermOf parts.items prepared.now.body) }
+    ensures goals { IfOk result (λ parts. goals_in parts.items ≡ goals_of prepared.now.body) }
+{
+    let constructs = prepared.constructs(alloc)?;
+    copied_parts(alloc, constructs.as_slice())
 }

@@ -12,6 +12,7 @@ pub mod calls;
 pub mod control;
 pub mod ends;
 pub mod entries;
+pub mod goals;
 pub mod locals;
 pub mod moves;
 pub mod parts;

@@ -1,5 +1,7 @@
 //! What goals of the language's own procedures come to (7.8, 8).
-ghost use Rattle.std.specs.Prelude.{◌≡◌, IfOk, Err};
+ghost use Rattle.std.specs.Prelude.{◌≡◌, IfOk, OnOk, Err, MatchBool, if◌then◌else◌};
+ghost use Rattle.iso_model.specs.Terms.Substitutions.{Subst};
+ghost use Rattle.iso_model.specs.Terms.Unifiers.{Unifier, NeverEqual};
 ghost use Rattle.iso_model.specs.Search.BuiltIns as table;
 ghost use Rattle.iso_store.specs.Presents.{Holds, meaning, KeepsMarks};
 ghost use Rattle.iso_plain.specs.Called.{IsBuiltIn};
@@ -7,6 +9,7 @@ ghost use Rattle.iso_plain.specs.Replies.{IsReply};
 ghost use Rattle.iso_plain.specs.Entering.{Adds};
 
 use super::bodies::Node;
+use super::goals::{Placed, place_called};
 use iso_model::{Ball, BuiltIn};
 use iso_store::{Store, StoreFault};
 use std::alloc::Global;
@@ -46,5 +49,57 @@ pub fn reply<S: Store>(
     ensures full { result ≡ Err StoreFault.Full → S.full store.new }
     ensures marks { KeepsMarks (S.stands store.old) (S.stands store.new) }
 {
-    Err(StoreFault::NoMemory)
+    match built_in {
+        BuiltIn::True => Ok(Replied::GoesOn),
+        BuiltIn::Fail => Ok(Replied::Fails),
+        BuiltIn::Repeat => Ok(Replied::Repeats),
+        BuiltIn::Unify => {
+            let (left, right) = (store.arg(goal, 0), store.arg(goal, 1));
+            Ok(tested(store.unify(left, right)?))
+        }
+        BuiltIn::Differ => {
+            let (left, right) = (store.arg(goal, 0), store.arg(goal, 1));
+            Ok(tested(differ(store, left, right)?))
+        }
+        BuiltIn::Call => match place_called(alloc, store, nodes, goal, "call")? {
+            Placed::Body(place) => Ok(Replied::Calls(place)),
+            Placed::Raises(ball) => Ok(Replied::Raises(ball)),
+        },
+        BuiltIn::Once => match place_called(alloc, store, nodes, goal, "once")? {
+            Placed::Body(place) => Ok(Replied::CallsOnce(place)),
+            Placed::Raises(ball) => Ok(Replied::Raises(ball)),
+        },
+        BuiltIn::Not => match place_called(alloc, store, nodes, goal, "\\+")? {
+            Placed::Body(place) => Ok(Replied::Refutes(place)),
+            Placed::Raises(ball) => Ok(Replied::Raises(ball)),
+        },
+    }
+}
+
+/// What a test comes to.
+fn tested(holds: bool) -> Replied
+    ensures { result ≡ (if holds then Replied.GoesOn else Replied.Fails) }
+{
+    if holds {
+        Replied::GoesOn
+    } else {
+        Replied::Fails
+    }
+}
+
+/// Whether the two terms don't unify (8.2.3); nothing is bound. The errors are those of `reply`.
+fn differ<S: Store>(store: &mut S, left: S::Word, right: S::Word) -> Result<bool, StoreFault>
+    requires left { Holds (S.present store.old) left }
+    requires right { Holds (S.present store.old) right }
+    ensures differs { IfOk result (λ answer. MatchBool answer (NeverEqual (meaning (S.present store.old) left) (meaning (S.present store.old) right))
+        ((s : Subst) × Unifier (meaning (S.present store.old) left) (meaning (S.present store.old) right) s)) }
+    ensures present { OnOk result (S.present store.new ≡ S.present store.old) }
+    ensures full { result ≡ Err StoreFault.Full → S.full store.new }
+    ensures marks { KeepsMarks (S.stands store.old) (S.stands store.new) }
+{
+    let mark = store.mark();
+    let equal = store.unify(left, right)?;
+    store.undo(mark);
+    store.forget(mark);
+    Ok(!equal)
 }

@@ -22,7 +22,7 @@ goals_either (bodies.Or x y) b = refl
 goals_either (bodies.If x y) b = sym (append_assoc (goals_of x) (goals_of y) (goals_of b))
 goals_either (bodies.Choose x y z) b = refl
 
-goals_joined : (k : Connective) (a b : Body) → goals_of (join_of k a b) ≡ goals_of a ++ goals_of b
+pub goals_joined : (k : Connective) (a b : Body) → goals_of (join_of k a b) ≡ goals_of a ++ goals_of b
 goals_joined connective.And a b = refl
 goals_joined connective.Or a b = goals_either a b
 goals_joined connective.If a b = refl
@@ -42,7 +42,7 @@ goal_terms-push (u ∷ ts) t = ap (λ gs. term_of u.now ∷ gs) (goal_terms-push
 
 -- a control construct's parts are left
 module _ (k : Connective) (t : Term) (xs ys zs : List (Bor Term)) (first second : Bor Term) (is : term_of t ≡ two (text_of k) (term_of first.now) (term_of second.now)) (one : ys ≡ xs ++ second ∷ []) (other : zs ≡ ys ++ first ∷ []) where
-  goals_whole : goals_of (read (term_of t)) ≡ goals_of (read (term_of first.now)) ++ goals_of (read (term_of second.now))
+  pub goals_whole : goals_of (read (term_of t)) ≡ goals_of (read (term_of first.now)) ++ goals_of (read (term_of second.now))
   goals_whole = ap (λ u. goals_of (read u)) is ∙ ap goals_of (read_joint k (term_of first.now) (term_of second.now)) ∙ goals_joined k (read (term_of first.now)) (read (term_of second.now))
 
   pub goals_parts : goals_left zs ≡ goals_of (read (term_of t)) ++ goals_left xs

@@ -6,6 +6,7 @@ pub mod CopyLemmas
 pub mod PrepareLemmas
 pub mod TreeLemmas
 pub mod ReadingLemmas
+pub mod PartGoals
 pub mod GoalLemmas
 pub mod UseLemmas
 pub mod VariableUses

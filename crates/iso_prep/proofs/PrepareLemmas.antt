@@ -1,8 +1,8 @@
 -- A clause that was taken apart, checked and put together again is the one that the definitions prepare.
-use Rattle.std.proofs.Common.{◌≡◌, ℕ, ◌<◌, ◌≤◌, List, [], ◌∷◌, length, map, refl, sym, ap, ap₂, ◌∙◌, arith, true, false, inl, inr, Option, Some, None, is_some, option_map, codes, String, Vec, Global, Result, Ok, Err, IsErrAnd, nat_lt}
+use Rattle.std.proofs.Common.{◌≡◌, ℕ, ◌<◌, ◌≤◌, List, [], ◌∷◌, length, map, refl, sym, ap, ap₂, ◌∙◌, true, false, inl, inr, Option, Some, None, is_some, option_map, codes, String, Vec, Global, Result, Ok, Err, IsErrAnd}
 use Rattle.std.specs.String.{string_bytes}
 use Rattle.std.specs.Str.{bytes_eq}
-use Rattle.std.proofs.lemmas.Bool.{cases_Bool, false≢true, true≢false, lt-ltb, ltb-true}
+use Rattle.std.proofs.lemmas.Bool.{cases_Bool, false≢true, true≢false, lt-ltb}
 use Rattle.std.proofs.lemmas.List.{length-map}
 use Rattle.iso_model.specs.declared.terms.Term.{Term}
 use Rattle.iso_model.specs.declared.terms.Term.TheVariants.{Compound}

@@ -1,5 +1,5 @@
 -- A converted body is read from its term, part by part.
-use Rattle.std.specs.Prelude.{◌≡◌, ℕ, ◌+◌, ◌*◌, List, [], ◌∷◌, Bool, true, false, Option, Some, None}
+use Rattle.std.specs.Prelude.{◌≡◌, ℕ, ◌+◌, ◌*◌, List, [], ◌∷◌, ◌++◌, Bool, true, false, Option, Some, None}
 use Rattle.std.specs.Borrow.{Bor}
 use Rattle.iso_model.specs.declared.terms.Term.{Term}
 use Rattle.iso_model.specs.Terms.Trees.{Tree, Name, Apply, End, More}
@@ -14,7 +14,8 @@ use Rattle.iso_prep.specs.declared.constructs.Construct.{Construct}
 use Rattle.iso_prep.specs.declared.constructs.Construct.TheVariants as construct
 use Rattle.iso_prep.specs.declared.constructs.Task.{Task}
 use Rattle.iso_prep.specs.declared.constructs.Task.TheVariants.{Second, Join, Next, Other, Choose}
-use Rattle.iso_prep.specs.Trees.{IsTree, EndsWith}
+use Rattle.iso_prep.specs.Trees.{IsTree, EndsWith, goals_in}
+use Rattle.iso_prep.specs.Classes.{goals_of}
 
 -- two parts joined by a connective, and else the whole as a goal
 abbrev pub read_joined : Option Connective → Body → Body → Tree → Body
@@ -87,3 +88,24 @@ tasks_load (x ∷ xs) = task_load x + tasks_load xs
 abbrev pub next_load : Option (Bor Term) → ℕ
 next_load (Some t) = 1 + 4 * size (term_of t.now)
 next_load None = 0
+
+-- the goals of what is still to be read for the task
+abbrev pub task_goals : Task → List Tree
+task_goals (Second k t) = goals_of (read (term_of t.now))
+task_goals (Join k i) = []
+task_goals (Next t e) = goals_of (read (term_of t.now)) ++ goals_of (read (term_of e.now))
+task_goals (Other i e) = goals_of (read (term_of e.now))
+task_goals (Choose i j) = []
+
+-- the last task is done first
+abbrev pub tasks_goals : List Task → List Tree
+tasks_goals [] = []
+tasks_goals (x ∷ xs) = tasks_goals xs ++ task_goals x
+
+abbrev pub next_goals : Option (Bor Term) → List Tree
+next_goals (Some t) = goals_of (read (term_of t.now))
+next_goals None = []
+
+-- the goals that were read, and then those that are still to be read
+abbrev pub all_goals : List Construct → List Task → Option (Bor Term) → List Tree
+all_goals parts tasks next = goals_in parts ++ (next_goals next ++ tasks_goals tasks)

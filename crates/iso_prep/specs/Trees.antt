@@ -1,8 +1,9 @@
 -- A body as a list of its parts, each part before what it is a part of.
-use Rattle.std.specs.Prelude.{◌≡◌, ℕ, ◌+◌, ◌-◌, ◌≤◌, ◌<◌, List, length, Some}
+use Rattle.std.specs.Prelude.{◌≡◌, ℕ, ◌+◌, ◌-◌, ◌≤◌, ◌<◌, List, [], ◌∷◌, length, Some}
 use Rattle.std.specs.List.{slice_get}
 use Rattle.std.specs.Borrow.{Bor}
 use Rattle.iso_model.specs.declared.terms.Term.{Term}
+use Rattle.iso_model.specs.Terms.Trees.{Tree}
 use Rattle.iso_model.specs.Terms.TermOf.{term_of}
 use Rattle.iso_model.specs.Search.Bodies as bodies
 use Rattle.iso_model.specs.Search.Bodies.{Body}
@@ -27,3 +28,9 @@ pub data IsTree (parts : List Construct) : ℕ → Body → Type 0 where
 pub record EndsWith (parts : List Construct) (b : Body) : Type 0 where
   pub some : 1 ≤ length parts
   pub last : IsTree parts (length parts - 1) b
+
+-- the goals among the parts, in their order
+abbrev pub goals_in : List Construct → List Tree
+goals_in [] = []
+goals_in (Goal g ∷ parts) = term_of g.now ∷ goals_in parts
+goals_in (part ∷ parts) = goals_in parts

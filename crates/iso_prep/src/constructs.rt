@@ -1,12 +1,13 @@
 //! The control constructs of a converted body as a list of parts, each part before what it is a part of.
-ghost use Rattle.std.specs.Prelude.{◌≡◌, ◌+◌, ◌*◌, ◌<◌, None, Some, IfOk, MatchOption};
+ghost use Rattle.std.specs.Prelude.{◌≡◌, ◌+◌, ◌*◌, ◌<◌, ◌++◌, None, Some, IfOk, MatchOption};
 ghost use Rattle.iso_model.specs.Terms.TermOf.{term_of};
 ghost use Rattle.iso_model.specs.Terms.Sizes.{size};
 ghost use Rattle.iso_model.specs.Search.Bodies.{Body, two, converted, body_term};
 ghost use Rattle.iso_prep.specs.declared.connectives.Connective.TheVariants as connective;
 ghost use Rattle.iso_prep.specs.Connectives.{text_of, control_of};
-ghost use Rattle.iso_prep.specs.Trees.{EndsWith};
-ghost use Rattle.iso_prep.specs.Readings.{read, joint, NoChoice, IsLeaf, Does, Leads, Works, task_load, tasks_load, next_load};
+ghost use Rattle.iso_prep.specs.Trees.{EndsWith, goals_in};
+ghost use Rattle.iso_prep.specs.Classes.{goals_of};
+ghost use Rattle.iso_prep.specs.Readings.{read, joint, NoChoice, IsLeaf, Does, Leads, Works, task_load, tasks_load, next_load, task_goals, tasks_goals, all_goals};
 
 use super::connectives::{Connective, control};
 use iso_model::Term;
@@ -76,6 +77,7 @@ fn read_part<'t>(
     parts: &mut Vec<Construct<'t>>,
 ) -> Result<Option<&'t Term>, AllocError>
     ensures works { IfOk result (λ next. (whole : Body) → Leads parts.old.items tasks.old.items (read (term_of term.now)) whole → Works parts.new.items tasks.new.items next whole) }
+    ensures goals { IfOk result (λ next. all_goals parts.new.items tasks.new.items next ≡ goals_in parts.old.items ++ (goals_of (read (term_of term.now)) ++ tasks_goals tasks.old.items)) }
     ensures load { IfOk result (λ next. next_load next + tasks_load tasks.new.items < 1 + 4 * size (term_of term.now) + tasks_load tasks.old.items) }
 {
     let Some((connective, first, second)) = control(term) else {
@@ -109,6 +111,7 @@ fn go_on<'t>(
 ) -> Result<Option<&'t Term>, AllocError>
     ensures works { IfOk result (λ next. (b m whole : Body) → EndsWith parts.old.items b → Does parts.old.items task.entry b m → Leads parts.old.items tasks.old.items m whole
         → Works parts.new.items tasks.new.items next whole) }
+    ensures goals { IfOk result (λ next. all_goals parts.new.items tasks.new.items next ≡ goals_in parts.old.items ++ (task_goals task.entry ++ tasks_goals tasks.old.items)) }
     ensures load { IfOk result (λ next. next_load next + tasks_load tasks.new.items < task_load task.entry + tasks_load tasks.old.items) }
 {
     let count = parts.len();
@@ -140,7 +143,8 @@ fn go_on<'t>(
 
 /// The parts of what the term is, where no part of it needs to be converted.
 pub(crate) fn parts_of(alloc: Global, body: &Term) -> Result<Vec<Construct<'_>>, AllocError>
-    ensures { IfOk result (λ parts. EndsWith parts.items (read (term_of body.now))) }
+    ensures ends { IfOk result (λ parts. EndsWith parts.items (read (term_of body.now))) }
+    ensures goals { IfOk result (λ parts. goals_in parts.items ≡ goals_of (read (term_of body.now))) }
 {
     let mut tasks = Vec::new(alloc);
     let mut parts = Vec::new(alloc);
@@ -156,10 +160,11 @@ pub(crate) fn parts_of(alloc: Global, body: &Term) -> Result<Vec<Construct<'_>>,
     }
 }
 
-/// The parts of a converted body, each part before what it is a part of, and the whole last. The error is that memory was
-/// refused.
+/// The parts of a converted body, each part before what it is a part of, and the whole last; their goals are the body's. The error is
+/// that memory was refused.
 pub fn constructs(alloc: Global, body: &Term) -> Result<Vec<Construct<'_>>, AllocError>
-    ensures { IfOk result (λ parts. (b : Body) → converted (term_of body.now) ≡ Some b → body_term b ≡ term_of body.now → EndsWith parts.items b) }
+    ensures ends { IfOk result (λ parts. (b : Body) → converted (term_of body.now) ≡ Some b → body_term b ≡ term_of body.now → EndsWith parts.items b) }
+    ensures goals { IfOk result (λ parts. (b : Body) → converted (term_of body.now) ≡ Some b → body_term b ≡ term_of body.now → goals_in parts.items ≡ goals_of b) }
 {
     parts_of(alloc, body)
 }

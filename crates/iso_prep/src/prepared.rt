@@ -1,5 +1,5 @@
 //! Clauses and goals made ready (7.4, 7.6).
-ghost use Rattle.std.specs.Prelude.{◌≡◌, ◌<◌, true, length, Some, None, option_map, IfOk, MatchOption};
+ghost use Rattle.std.specs.Prelude.{◌≡◌, ◌<◌, ◌^◌, true, length, Some, None, option_map, IfOk, MatchOption};
 ghost use Rattle.iso_model.specs.Terms.TermOf.{term_of};
 ghost use Rattle.iso_model.specs.Terms.Substitutions.{apply};
 ghost use Rattle.iso_model.specs.Terms.Variables.{variables};
@@ -11,7 +11,7 @@ ghost use Rattle.iso_prep.specs.Assembling.{given, assembly, ChecksHead, ChecksB
 ghost use Rattle.iso_prep.specs.Preparations.{PreparesClause, PreparesGoal};
 ghost use Rattle.iso_prep.specs.Classes.{class_of, goals_of, last_goal};
 ghost use Rattle.iso_prep.specs.Readings.{read};
-ghost use Rattle.iso_prep.specs.Trees.{EndsWith};
+ghost use Rattle.iso_prep.specs.Trees.{EndsWith, goals_in};
 ghost use Rattle.iso_prep.specs.Uses.{AreUses, head_or_end};
 
 use super::callable::can_be_called;
@@ -69,9 +69,10 @@ impl Prepared {
 
     /// How many variables there are.
     pub fn variables(&self) -> usize
-        ensures { result ≡ self.now.variables }
+        ensures count { result ≡ self.now.variables }
+        ensures few { result < 2 ^ 60 }
     {
-        self.uses.len()
+        self.uses.as_slice().len()
     }
 
     /// The class of a variable. All those of a goal that is no clause are permanent, since their values are asked for behind it.
@@ -93,10 +94,11 @@ impl Prepared {
         self.uses[variable].last
     }
 
-    /// The body as a list of its parts, each part before what it is a part of, and the whole last. The error is that memory was
-    /// refused.
+    /// The body as a list of its parts, each part before what it is a part of, and the whole last; their goals are the body's. The
+    /// error is that memory was refused.
     pub fn constructs(&self, alloc: Global) -> Result<Vec<Construct<'_>>, AllocError>
-        ensures { IfOk result (λ parts. EndsWith parts.items self.now.body) }
+        ensures ends { IfOk result (λ parts. EndsWith parts.items self.now.body) }
+        ensures goals { IfOk result (λ parts. goals_in parts.items ≡ goals_of self.now.body) }
     {
         parts_of(alloc, &self.body)
     }

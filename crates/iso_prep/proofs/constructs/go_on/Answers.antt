@@ -1,5 +1,11 @@
 use Rattle.std.proofs.Common.{◌≡◌, ◌-◌, ap, arith, length}
-use Rattle.iso_prep.specs.Readings.{task_load}
+use Rattle.std.proofs.Common.{sym, ◌∙◌, append-nil, refl}
+use Rattle.iso_model.specs.Terms.TermOf.{term_of}
+use Rattle.iso_prep.specs.declared.constructs.Task.TheVariants.{Join, Other, Choose}
+use Rattle.iso_prep.specs.declared.constructs.Construct.TheVariants as construct
+use Rattle.iso_prep.specs.Classes.{goals_of}
+use Rattle.iso_prep.specs.Readings.{read, joint, task_load, task_goals}
+use Rattle.iso_prep.proofs.PartGoals.{goals_of_next, goals_of_join, joint_goals}
 use Rattle.iso_prep.proofs.ReadingLemmas.{after_first, after_condition, after_next, after_second, after_other, tasks_load-more}
 use Rattle.iso_prep.proofs.constructs.go_on.Goals as goal
 
@@ -52,3 +58,30 @@ returns-in_ok-push-in-Choose-clause-works c = λ b m whole ends does leads.
     let back : c.saturating_sub-condition.result ≡ length c.args.parts.now.items - c.in-Choose.condition = omega arith in
     let behind : c.saturating_sub-next.result ≡ length c.args.parts.now.items - c.in-Choose.next = omega arith in
     after_other c.args.parts.now.items c.args.tasks.now.items c.args.tasks.now.items c.args.task b m whole ends does leads c.in-Choose.condition c.in-Choose.next c.saturating_sub-condition.result c.saturating_sub-next.result _ c.in-Choose.is back behind c.in_ok-push-in-Choose.ensures.items
+
+pub returns-in_ok-push-in-Second-clause-goals : goal.returns-in_ok-push-in-Second-clause-goals
+returns-in_ok-push-in-Second-clause-goals c =
+    let left = Join c.in-Second.connective c.saturating_sub-last.result in
+    let goals = goals_of (read (term_of c.in-Second.second.now)) in
+    goals_of_next c.args.parts.now.items c.args.parts.now.items c.args.tasks.now.items c.push.new.self.items c.args.task c.in-Second.second left (ap task_goals c.in-Second.is ∙ sym (append-nil goals)) c.in_ok-push-in-Second.ensures.items
+
+pub returns-in_ok-push-in-Next-clause-goals : goal.returns-in_ok-push-in-Next-clause-goals
+returns-in_ok-push-in-Next-clause-goals c =
+    let left = Other c.saturating_sub-last.result c.in-Next.other in
+    goals_of_next c.args.parts.now.items c.args.parts.now.items c.args.tasks.now.items c.push-in-Next.new.self.items c.args.task c.in-Next.next left (ap task_goals c.in-Next.is) c.in_ok-push-in-Next.ensures.items
+
+pub returns-in_ok-push-in-Other-clause-goals : goal.returns-in_ok-push-in-Other-clause-goals
+returns-in_ok-push-in-Other-clause-goals c =
+    let left = Choose c.in-Other.condition c.saturating_sub-last.result in
+    let goals = goals_of (read (term_of c.in-Other.other.now)) in
+    goals_of_next c.args.parts.now.items c.args.parts.now.items c.args.tasks.now.items c.push-in-Other.new.self.items c.args.task c.in-Other.other left (ap task_goals c.in-Other.is ∙ sym (append-nil goals)) c.in_ok-push-in-Other.ensures.items
+
+pub returns-in_ok-push-in-Join-clause-goals : goal.returns-in_ok-push-in-Join-clause-goals
+returns-in_ok-push-in-Join-clause-goals c =
+    let part = joint c.in-Join.connective c.saturating_sub.result in
+    goals_of_join c.args.parts.now.items _ c.args.tasks.now.items c.args.tasks.now.items c.args.task part (ap task_goals c.in-Join.is) (joint_goals c.in-Join.connective c.saturating_sub.result) (rw c.joined.ensures at c.in_ok-push-in-Join.ensures.items)
+
+pub returns-in_ok-push-in-Choose-clause-goals : goal.returns-in_ok-push-in-Choose-clause-goals
+returns-in_ok-push-in-Choose-clause-goals c =
+    let part = construct.Choose c.saturating_sub-condition.result c.saturating_sub-next.result in
+    goals_of_join c.args.parts.now.items _ c.args.tasks.now.items c.args.tasks.now.items c.args.task part (ap task_goals c.in-Choose.is) refl c.in_ok-push-in-Choose.ensures.items

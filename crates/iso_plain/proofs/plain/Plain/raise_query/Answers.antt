@@ -1,4 +1,4 @@
-use Rattle.std.proofs.Common.{◌≡◌, refl, ap, ◌∙◌, Some}
+use Rattle.std.proofs.Common.{◌≡◌, refl, ap, Some}
 use Rattle.std.specs.Prelude.{codes}
 use Rattle.iso_model.specs.Terms.TermOf.{term_of}
 use Rattle.iso_model.specs.Search.Errors.{key, type_error_callable}
@@ -10,9 +10,8 @@ use Rattle.iso_plain.proofs.plain.Plain.raise_query.Goals as goal
 
 pub returns-clause-started : goal.returns-clause-started
 returns-clause-started g c = λ w fresh.
-    (let goal = term_of c.args.query.now in
+    (let goal = term_of c.args.culprit in
     let error = type_error_callable goal (key (codes "call") 1) in
-    let ball : term_of c.in_ok-ball.ball.term ≡ error = c.in_ok-ball.ensures ∙ ap (λ t. type_error_callable t (key (codes "call") 1)) c.in_ok-culprit.ensures in
     let s = started goal c.args.self.now.steps w in
     record {
       own = s;
@@ -23,12 +22,9 @@ returns-clause-started g c = λ w fresh.
         base = fresh.base;
         choices = rw fresh.choices none_kept;
         room = tt;
-        next = (error, opening_error goal c.requires, ap Some ball);
+        next = (error, opening_error goal c.requires, ap Some c.in_ok-ball.ensures);
       };
     })
 
-pub returns-in_err-culprit-clause-kept : goal.returns-in_err-culprit-clause-kept
-returns-in_err-culprit-clause-kept g c = λ w fresh. behind_error c.from_residual.result (keeps_none g.S.Store.present g.S.Store.stands g.S.Store.older c.args.self.now w fresh)
-
 pub returns-in_err-ball-clause-kept : goal.returns-in_err-ball-clause-kept
-returns-in_err-ball-clause-kept g c = λ w fresh. behind_error c.from_residual-in_err-ball.result (keeps_none g.S.Store.present g.S.Store.stands g.S.Store.older c.args.self.now w fresh)
+returns-in_err-ball-clause-kept g c = λ w fresh. behind_error c.from_residual.result (keeps_none g.S.Store.present g.S.Store.stands g.S.Store.older c.args.self.now w fresh)
