@@ -1,5 +1,5 @@
 -- The engine calls a procedure: the clauses behind the first are kept as a choice.
-use Rattle.std.proofs.Common.{◌≡◌, ℕ, ◌+◌, ◌<◌, ◌≤◌, List, [], ◌∷◌, ◌++◌, ◌-◌, ◌^◌, length, refl, ap, sym, subst, arith, inl, inr, ◌⊎◌, Vec, Global}
+use Rattle.std.proofs.Common.{◌≡◌, ℕ, ◌+◌, ◌<◌, ◌≤◌, List, [], ◌∷◌, ◌++◌, ◌-◌, ◌^◌, length, Option, refl, ap, sym, subst, arith, inl, inr, ◌⊎◌, Vec, Global}
 use Rattle.iso_model.specs.Terms.Variables.{variables}
 use Rattle.iso_model.specs.Terms.Trees.{Tree}
 use Rattle.iso_model.specs.Search.Databases as databases
@@ -11,12 +11,19 @@ use Rattle.iso_plain.specs.declared.parts.Choice as kept
 use Rattle.iso_plain.specs.declared.procedures.Procedure.{Procedure}
 use Rattle.iso_plain.specs.declared.plain.Plain.{Plain}
 use Rattle.iso_plain.specs.Programs.{IsDatabase}
-use Rattle.iso_plain.specs.Costs.{left_cost, most}
+use Rattle.iso_plain.specs.Costs.{body_cost, left_cost, most, frame_costs, place_cost}
+use Rattle.iso_plain.specs.declared.bodies.Node.{Node}
+use Rattle.iso_plain.specs.declared.clauses.Clause.{Clause}
+use Rattle.iso_plain.specs.declared.entries.Entered.{Entered}
+use Rattle.iso_plain.specs.declared.entries.Entered.TheVariants as entered
+use Rattle.iso_plain.specs.declared.parts.Frame.{Frame}
+use Rattle.iso_plain.specs.Entering.{Enters}
+use Rattle.iso_plain.specs.Next.{now_behind, now_entered}
 use Rattle.iso_plain.specs.declared.parts.Left.TheVariants as left
 use Rattle.iso_plain.specs.Standing.{Among, AtGoal, GainsChoice, StandsForChoice, StandsForChoices}
-use Rattle.iso_plain.specs.EngineStates.{Calls, left_at, links_of}
+use Rattle.iso_plain.specs.EngineStates.{Calls, now_cost, left_at, links_of}
 use Rattle.iso_plain.proofs.CountLemmas.{left_next}
-use Rattle.iso_plain.proofs.CostLemmas.{left_higher, below_most}
+use Rattle.iso_plain.proofs.CostLemmas.{cost_above, cost_higher, left_higher, below_most}
 use Rattle.iso_plain.proofs.StandingLemmas.{choices_keep, choices_push, marks_stand}
 
 -- ---- what is left to be done
@@ -24,6 +31,19 @@ use Rattle.iso_plain.proofs.StandingLemmas.{choices_keep, choices_push, marks_st
 -- The choice of a call has no more clauses than a procedure may have.
 pub later_cost : (n j r : ℕ) → n < 2 ^ 63 → left_cost (n - j) r ≤ left_cost most r
 later_cost n j r few = left_higher most (n - j) r (below_most (n - j) (omega (arith, few)))
+
+-- what comes next behind a clause that was tried
+pub entered_least : {W : Type 0} (p q : Present W) (old : List (Node W)) (nodes : Vec (Node W) Global) (call : Tree) (clause : Clause) (frames : List Frame) (mark : ℕ) (rest : Option ℕ)
+    → now_cost (frame_costs frames) (now_behind frames rest) ≡ place_cost frames rest → (entered : Entered) → Enters p q old nodes.items call clause entered
+    → now_cost (frame_costs frames) (now_entered frames entered mark rest) ≤ body_cost most (place_cost frames rest)
+entered_least p q old nodes call clause frames mark rest behind entered.Missed h = omega arith
+entered_least p q old nodes call clause frames mark rest behind entered.Fact h = (let up = cost_above most (place_cost frames rest) in omega (arith, behind, up))
+entered_least p q old nodes call clause frames mark rest behind (entered.Body place) h =
+    let end = h.2 in
+    let many = nodes.ok.0 in
+    let within = nodes.ok.1 in
+    let small = nodes.small in
+    cost_higher most place (place_cost frames rest) (below_most place (omega (arith, end, many, within, small)))
 
 -- ---- the choice of a call
 
