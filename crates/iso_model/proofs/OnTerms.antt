@@ -14,3 +14,4 @@ pub mod VariableLemmas
 pub mod Hanging
 pub mod BuildingLemmas
 pub mod CopyingLemmas
+pub mod LeafLemmas

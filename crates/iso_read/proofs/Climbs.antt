@@ -1,5 +1,5 @@
 -- What a turn of the loop over operators does.
-use Rattle.std.proofs.Common.{◌≡◌, ℕ, true, List, zero, suc, ◌-◌, ◌<◌, ◌≤◌, Some, None, Err, refl, ap, ◌∙◌, sym, length, length-drop, arith}
+use Rattle.std.proofs.Common.{◌≡◌, ℕ, true, List, zero, suc, ◌-◌, ◌<◌, ◌≤◌, Some, None, Result, Ok, Err, IfOk, IfErr, refl, ap, ◌∙◌, sym, length, length-drop, arith}
 use Rattle.std.proofs.lemmas.Bool.{le-leb}
 use Rattle.iso_ops.specs.Operators.{Operator}
 use Rattle.iso_ops.specs.declared.settings.Flags.{Flags}
@@ -15,6 +15,12 @@ use Rattle.iso_read.specs.Gives.{Gives}
 pub fails_with : {A B C D : Type 0} (view : A → B) (other : C → D) (o : Outcome B) (k : B × Left → Outcome D) (p : Outcome D) (e : ReadFault) (s z : Left) → p ≡ (o >>= k) → Gives view o (Err e) s → Gives other p (Err e) z
 fails_with view other o k p fault.Syntax s z is g = is ∙ ap (λ x. x >>= k) g
 fails_with view other o k p fault.NoMemory s z is g = tt
+
+-- what is made without reading on
+pub gives_made : {A B : Type 0} (view : A → B) (o : Outcome B) (r : Result A ReadFault) (x : B) (s : Left) → o ≡ Some (x, s) → IfOk r (λ n. view n ≡ x) → IfErr r (λ e. e ≡ fault.NoMemory) → Gives view o r s
+gives_made view o (Ok n) x s is made refused = is ∙ ap (λ y. Some (y, s)) (sym made)
+gives_made view o (Err fault.Syntax) x s is made refused = absurd (cc)
+gives_made view o (Err fault.NoMemory) x s is made refused = tt
 
 pub rest_shorter : (s m : Left) → m ≡ rest s → length m.tokens ≤ length s.tokens
 rest_shorter s m after = omega (arith, ap (λ (z : Left). length z.tokens) after, length-drop 1 s.tokens)

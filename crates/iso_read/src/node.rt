@@ -1,5 +1,5 @@
 //! Terms as they are read, and which of them an operator takes as its operands.
-ghost use Rattle.std.specs.Prelude.{◌≡◌, ◌<◌, ◌+◌, ◌^◌, [], ◌∷◌, IfOk, max};
+ghost use Rattle.std.specs.Prelude.{◌≡◌, ◌<◌, ◌+◌, ◌^◌, [], ◌∷◌, IfOk, IfErr, max};
 ghost use Rattle.iso_model.specs.Syntax.Grammar as model;
 ghost use Rattle.iso_model.specs.Syntax.Lists.{curly};
 ghost use Rattle.iso_model.specs.Syntax.Operators as operators;
@@ -7,11 +7,13 @@ ghost use Rattle.iso_model.specs.Syntax.Reading as reading;
 ghost use Rattle.iso_model.specs.Terms.TermOf.{term_of};
 ghost use Rattle.iso_model.specs.Terms.Trees.{Apply, row};
 ghost use Rattle.iso_read.specs.Views.{node_of, operator_of};
+ghost use Rattle.iso_read.specs.declared.clause.ReadFault.TheVariants.{NoMemory};
 
+use crate::clause::ReadFault;
 use crate::operators::Operator;
 use iso_model::Term;
 use iso_ops::Spec;
-use std::alloc::{AllocError, Global};
+use std::alloc::Global;
 
 /// A term that was read, with what decides where it may stand.
 #[derive(Drop)]
@@ -98,14 +100,11 @@ pub fn fits(most: u16, left: &Node, operator: &Operator) -> bool
 }
 
 /// The term that an infix operator makes of its operands (6.3.4.2).
-pub fn joined(
-    alloc: Global,
-    left: Node,
-    operator: Operator,
-    right: Node,
-) -> Result<Node, AllocError>
+#[inline(never)]
+pub fn joined(alloc: Global, left: Node, operator: Operator, right: Node) -> Result<Node, ReadFault>
     requires { max left.height right.height + 1 < 2 ^ 64 }
-    ensures { IfOk result (λ node. node_of node ≡ model.joined (node_of left) (operator_of operator) (node_of right)) }
+    ensures node { IfOk result (λ node. node_of node ≡ model.joined (node_of left) (operator_of operator) (node_of right)) }
+    ensures refused { IfErr result (λ fault. fault ≡ NoMemory) }
 {
     let is_open = is_right_open(operator.spec);
     let height = left.height.max(right.height);
@@ -121,9 +120,11 @@ pub fn joined(
 }
 
 /// The term that a prefix or postfix operator makes of its operand (6.3.4.2).
-pub fn applied(alloc: Global, operator: Operator, operand: Node) -> Result<Node, AllocError>
+#[inline(never)]
+pub fn applied(alloc: Global, operator: Operator, operand: Node) -> Result<Node, ReadFault>
     requires { operand.height + 1 < 2 ^ 64 }
-    ensures { IfOk result (λ node. node_of node ≡ model.applied (operator_of operator) (node_of operand)) }
+    ensures node { IfOk result (λ node. node_of node ≡ model.applied (operator_of operator) (node_of operand)) }
+    ensures refused { IfErr result (λ fault. fault ≡ NoMemory) }
 {
     let is_open = is_right_open(operator.spec);
     let mut operands = Vec::new(alloc);
@@ -137,9 +138,11 @@ pub fn applied(alloc: Global, operator: Operator, operand: Node) -> Result<Node,
 }
 
 /// The term that braces make of the term in them (6.3.6).
-pub fn in_braces(alloc: Global, inner: Node) -> Result<Node, AllocError>
+#[inline(never)]
+pub fn in_braces(alloc: Global, inner: Node) -> Result<Node, ReadFault>
     requires { inner.height + 1 < 2 ^ 64 }
-    ensures { IfOk result (λ node. node_of node ≡ model.closed (Apply curly (row (term_of inner.term ∷ []))) (inner.height + 1)) }
+    ensures node { IfOk result (λ node. node_of node ≡ model.closed (Apply curly (row (term_of inner.term ∷ []))) (inner.height + 1)) }
+    ensures refused { IfErr result (λ fault. fault ≡ NoMemory) }
 {
     let name = String::from_str(alloc, "{}")?;
     let mut operands = Vec::new(alloc);

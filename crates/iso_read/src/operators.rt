@@ -87,6 +87,7 @@ fn following_named(language: Language<'_>, name: &str) -> Result<Option<Followin
 }
 
 /// The infix or postfix operator that the token is, which stands for this text.
+#[inline(never)]
 pub fn operator_at(
     language: Language<'_>,
     token: &Token<'_>,
@@ -128,6 +129,7 @@ fn name_begins(
 }
 
 /// Whether these tokens can begin the operand of a prefix operator.
+#[inline(never)]
 pub fn begins(language: Language<'_>, tokens: &[Token<'_>]) -> Result<bool, AllocError>
     ensures { IfOk result (λ begins. begins ≡ grammar.begins language.entry.ops.now (map shown tokens.now)) }
 {

@@ -1,4 +1,7 @@
 //! Terms from tokens: an operand, and then the operators that go on from it, by precedence (6.3).
+//!
+//! These functions call one another as deep as the parts of a term stand. What they call besides is marked
+//! `inline(never)`: so it stands in no frame of theirs, and a term of the greatest depth is read on a stack of 8 MB.
 ghost use Rattle.std.specs.Prelude.{◌≡◌, ◌<◌, ◌≤◌, ◌+◌, ◌^◌, codes, length, map, max, option_map, IfOk, OnOk};
 ghost use Rattle.std.specs.String.{string_bytes};
 ghost use Rattle.iso_model.specs.Syntax.Grammar as grammar;
@@ -51,6 +54,7 @@ pub fn read_term(
 }
 
 /// What stands where an operand may begin; its parts stand less deep than `depth`.
+#[inline(never)]
 #[cycle(reader)]
 #[tactic(auto, unfolding(iso_model::specs::Syntax::Reading::operand))]
 fn operand(language: Language<'_>, depth: usize, input: &mut Input<'_>) -> Result<Node, ReadFault>
@@ -62,16 +66,12 @@ fn operand(language: Language<'_>, depth: usize, input: &mut Input<'_>) -> Resul
         return Err(ReadFault::Syntax);
     };
     match token.kind {
-        Kind::Variable => Ok(variable(&token, input)?),
+        Kind::Variable => variable(&token, input),
         Kind::Integer => integer(&token).ok_or(ReadFault::Syntax),
-        Kind::Double => Ok(quoted(language, &token)?),
-        Kind::Name => {
+        Kind::Double => quoted(language, &token),
+        Kind::Name | Kind::Quoted => {
             let name = token.content(language.alloc)?;
-            named(language, depth, true, name, input)
-        }
-        Kind::Quoted => {
-            let name = token.content(language.alloc)?;
-            named(language, depth, false, name, input)
+            named(language, depth, token.kind == Kind::Name, name, input)
         }
         Kind::Punct => punctuated(language, depth, &token, input),
         Kind::End | Kind::Bad => Err(ReadFault::Syntax),
@@ -80,6 +80,7 @@ fn operand(language: Language<'_>, depth: usize, input: &mut Input<'_>) -> Resul
 
 /// What a name, unquoted or not, stands for: the functor of the arguments that follow directly (6.3.3), the sign of the
 /// digits that follow directly (6.3.1.2), a prefix operator (6.3.4.2) or an atom (6.3.1.3).
+#[inline(never)]
 #[cycle(reader)]
 #[tactic(auto, unfolding(iso_model::specs::Syntax::Reading::named))]
 fn named(
@@ -105,6 +106,7 @@ fn named(
 
 /// What a name that is no functor and no sign stands for: the prefix operator of that name with its operand, where the
 /// next tokens can begin one (own), else an atom.
+#[inline(never)]
 #[cycle(reader)]
 fn prefixed(
     language: Language<'_>,
@@ -128,7 +130,7 @@ fn prefixed(
         spec,
     };
     let operand = read_term(language, depth, right_of(&operator), input)?;
-    Ok(applied(language.alloc, operator, operand)?)
+    applied(language.alloc, operator, operand)
 }
 
 /// The compound of this name whose arguments are next (6.3.3).
@@ -152,6 +154,7 @@ fn compound(
 }
 
 /// One or more terms with commas between them.
+#[inline(never)]
 #[cycle(reader)]
 #[tactic(auto, unfolding(iso_model::specs::Syntax::Reading::elements))]
 fn elements(language: Language<'_>, depth: usize, input: &mut Input<'_>) -> Result<Row, ReadFault>
@@ -173,6 +176,7 @@ fn elements(language: Language<'_>, depth: usize, input: &mut Input<'_>) -> Resu
 
 /// What a mark that is no comma, bar or closing bracket stands before: a term in brackets or braces, a list, or what
 /// the names `[]` and `{}` stand for.
+#[inline(never)]
 #[cycle(reader)]
 #[tactic(auto, unfolding(iso_model::specs::Syntax::Reading::punctuated))]
 fn punctuated(
@@ -206,6 +210,7 @@ fn punctuated(
 }
 
 /// The term in brackets, of which the first is behind (6.3.4.1).
+#[inline(never)]
 #[cycle(reader)]
 #[tactic(auto, unfolding(iso_model::specs::Syntax::Reading::bracketed))]
 fn bracketed(language: Language<'_>, depth: usize, input: &mut Input<'_>) -> Result<Node, ReadFault>
@@ -221,6 +226,7 @@ fn bracketed(language: Language<'_>, depth: usize, input: &mut Input<'_>) -> Res
 }
 
 /// The term in braces, of which the first is behind (6.3.6).
+#[inline(never)]
 #[cycle(reader)]
 #[tactic(auto, unfolding(iso_model::specs::Syntax::Reading::braced))]
 fn braced(language: Language<'_>, depth: usize, input: &mut Input<'_>) -> Result<Node, ReadFault>
@@ -232,10 +238,11 @@ fn braced(language: Language<'_>, depth: usize, input: &mut Input<'_>) -> Result
     if !input.takes("}") {
         return Err(ReadFault::Syntax);
     }
-    Ok(in_braces(language.alloc, inner)?)
+    in_braces(language.alloc, inner)
 }
 
 /// The list whose first bracket is behind (6.3.5).
+#[inline(never)]
 #[cycle(reader)]
 #[tactic(auto, unfolding(iso_model::specs::Syntax::Reading::listed))]
 fn listed(language: Language<'_>, depth: usize, input: &mut Input<'_>) -> Result<Node, ReadFault>
@@ -248,6 +255,7 @@ fn listed(language: Language<'_>, depth: usize, input: &mut Input<'_>) -> Result
 }
 
 /// The list of these elements before a tail (6.3.5), where the bracket that closes it is next.
+#[inline(never)]
 fn list_closed(
     alloc: Global,
     row: Row,
@@ -268,6 +276,7 @@ fn list_closed(
 }
 
 /// What closes a list behind its elements: a tail and the last bracket, or that bracket alone.
+#[inline(never)]
 #[cycle(reader)]
 #[tactic(auto, unfolding(iso_model::specs::Syntax::Reading::list_end))]
 fn list_end(
@@ -290,6 +299,7 @@ fn list_end(
 }
 
 /// The operator that the next token is, where it may take this operand on its left.
+#[inline(never)]
 #[tactic(auto, unfolding(iso_model::specs::Syntax::Reading::operator_behind))]
 fn operator_behind(
     language: Language<'_>,
@@ -311,6 +321,7 @@ fn operator_behind(
 }
 
 /// The operators that go on from an operand in a place of at most this priority.
+#[inline(never)]
 #[cycle(reader)]
 fn climb(
     language: Language<'_>,
@@ -333,6 +344,7 @@ fn climb(
 }
 
 /// An operand with the operator behind it, and that operator's right operand where it has one.
+#[inline(never)]
 #[cycle(reader)]
 #[tactic(auto, unfolding(iso_model::specs::Syntax::Reading::extended))]
 fn extended(
@@ -352,8 +364,8 @@ fn extended(
     match following {
         Following::Between(operator) => {
             let right = read_term(language, depth, right_of(&operator), input)?;
-            Ok(joined(language.alloc, left, operator, right)?)
+            joined(language.alloc, left, operator, right)
         }
-        Following::Behind(operator) => Ok(applied(language.alloc, operator, left)?),
+        Following::Behind(operator) => applied(language.alloc, operator, left),
     }
 }

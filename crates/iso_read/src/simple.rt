@@ -1,35 +1,39 @@
 //! Terms of one token: variables (6.3.2), integers (6.3.1.1), negative literals (6.3.1.2) and double quoted items
 //! (6.3.7).
-ghost use Rattle.std.specs.Prelude.{◌≡◌, ◌≤◌, ◌+◌, ◌^◌, Some, None, option_map, pos, neg_ℤ, IfOk, MatchOption};
+ghost use Rattle.std.specs.Prelude.{◌≡◌, ◌≤◌, ◌+◌, ◌^◌, Some, None, option_map, pos, neg_ℤ, IfOk, IfErr, MatchOption};
 ghost use Rattle.iso_model.specs.Syntax.Grammar as grammar;
 ghost use Rattle.iso_model.specs.Syntax.Lists as lists;
 ghost use Rattle.iso_model.specs.Syntax.Reading as reading;
 ghost use Rattle.iso_model.specs.Syntax.Token.{magnitude, content};
 ghost use Rattle.iso_model.specs.Terms.Trees.{Variable};
 ghost use Rattle.iso_read.specs.Views.{node_of};
+ghost use Rattle.iso_read.specs.declared.clause.ReadFault.TheVariants.{NoMemory};
 ghost use Rattle.iso_token.specs.Shows.{shown};
 
+use crate::clause::ReadFault;
 use crate::input::Input;
 use crate::language::Language;
 use crate::lists::quoted_term;
 use crate::node::{Node, closed};
 use iso_model::Term;
 use iso_token::Token;
-use std::alloc::{AllocError, Global};
 
 /// The greatest integer (the flag `max_integer`, 7.11.1.2).
 const MAX_INTEGER: u64 = 9_223_372_036_854_775_807;
 
 /// The variable of its token, at one more occurrence.
-pub fn variable<'c>(token: &Token<'c>, input: &mut Input<'c>) -> Result<Node, AllocError>
+#[inline(never)]
+pub fn variable<'c>(token: &Token<'c>, input: &mut Input<'c>) -> Result<Node, ReadFault>
     ensures node { IfOk result (λ node. node_of node ≡ grammar.closed (Variable (grammar.number_of token.now.text.now input.old.names)) 0) }
     ensures after { IfOk result (λ _. input.new ≡ grammar.with_name token.now.text.now input.old) }
+    ensures refused { IfErr result (λ fault. fault ≡ NoMemory) }
 {
     let number = input.variable(token.text)?;
     Ok(closed(Term::Var(number), 0))
 }
 
 /// The integer of its token.
+#[inline(never)]
 pub fn integer(token: &Token<'_>) -> Option<Node>
     ensures { option_map node_of result ≡ reading.integer (magnitude (shown token.now)) }
 {
@@ -61,6 +65,7 @@ fn literal(digits: &Token<'_>) -> Option<Node>
 }
 
 /// The negative literal whose digits are next.
+#[inline(never)]
 pub fn negative(input: &mut Input<'_>) -> Option<Node>
     ensures { MatchOption result (reading.negative input.old input.old.tokens ≡ None) (λ node. reading.negative input.old input.old.tokens ≡ Some (node_of node, input.new)) }
 {
@@ -68,8 +73,10 @@ pub fn negative(input: &mut Input<'_>) -> Option<Node>
 }
 
 /// What a double quoted item stands for.
-pub fn quoted(language: Language<'_>, token: &Token<'_>) -> Result<Node, AllocError>
-    ensures { IfOk result (λ node. node_of node ≡ grammar.closed (lists.quoted_term language.entry.flags.now.double_quotes (content (shown token.now))) 0) }
+#[inline(never)]
+pub fn quoted(language: Language<'_>, token: &Token<'_>) -> Result<Node, ReadFault>
+    ensures node { IfOk result (λ node. node_of node ≡ grammar.closed (lists.quoted_term language.entry.flags.now.double_quotes (content (shown token.now))) 0) }
+    ensures refused { IfErr result (λ fault. fault ≡ NoMemory) }
 {
     let text = token.content(language.alloc)?;
     let term = quoted_term(language.alloc, language.flags.double_quotes, &text)?;

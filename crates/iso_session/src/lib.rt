@@ -1,23 +1,11 @@
-//! Sessions: a program text is consulted, queries are answered, and every output, answer and error is written.
-//! Also the program's words, its reading and its statuses.
+//! Sessions with the engines that the program has, and with any other: a program text is consulted, queries are answered, and
+//! every output, answer and error is written. Also the program's words, its reading and its statuses.
 #![tactic(auto)]
 
-mod composed;
-mod console;
-mod consulting;
-mod files;
-mod flows;
-mod items;
 mod plain_sessions;
-mod preambles;
-mod queries;
-mod sessions;
-mod statuses;
-mod terms;
-pub mod words;
 
-pub use files::{TextFault, read_text};
+pub use iso_session_core::{
+    Choice, Ended, Fault, TextFault, Words, WordsFault, read_text, read_words, session_on,
+    status_of, words,
+};
 pub use plain_sessions::session;
-pub use sessions::session_on;
-pub use statuses::{Choice, Ended, Fault, status_of};
-pub use words::{Words, WordsFault, read_words};

@@ -5,14 +5,11 @@ ghost use Rattle.iso_model.specs.Search.Engines.{Ready};
 ghost use Rattle.iso_model.specs.Search.Runs.{ComesOver};
 ghost use Rattle.iso_model.specs.Session.Sessions.{session_script};
 ghost use Rattle.iso_model.specs.Search.Walker.{State, idle, first_world};
-ghost use Rattle.iso_session.specs.Progress.{outcome_of};
+ghost use Rattle.iso_session_core.specs.Progress.{outcome_of};
 
-use super::console::Console;
-use super::flows::Flow;
-use super::sessions::session_on;
-use super::statuses::{Choice, Ended, Fault};
-use iso_model::{Engine, Limit, Limits, NoMemory};
+use iso_model::{Engine, Limits, NoMemory};
 use iso_plain::plain::Plain;
+use iso_session_core::{Choice, Ended, Fault, refused_session, session_on};
 use iso_store::{Nodes, Store};
 use std::alloc::Global;
 use std::io::Write;
@@ -51,7 +48,7 @@ fn plain_session<W: Write>(
         (W.contents out.old) (W.contents out.new) (outcome_of result) }
 {
     let Ok(mut engine) = plain_engine(alloc, limits) else {
-        return Console::new(out).close(Flow::Stops(Limit::Memory));
+        return refused_session(out);
     };
     session_on(alloc, &mut engine, text, queries, limits.budget, out)
 }

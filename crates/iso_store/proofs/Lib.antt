@@ -11,7 +11,6 @@ pub mod NodeChanges
 pub mod NodeSorts
 pub mod NodeMade
 pub mod NodeBound
-pub mod Parts
 pub mod Gathering
 pub mod CellCounts
 pub mod ArgumentLemmas

@@ -11,7 +11,7 @@ use Rattle.iso_model.specs.Syntax.Reading.{term, further, rest}
 use Rattle.iso_read.specs.Views.{node_of, row_of, following_of, terms_in}
 use Rattle.iso_read.proofs.Found.{found_at}
 use Rattle.iso_read.proofs.Rows.{row_goes, row_longer, row_stops}
-use Rattle.iso_read.proofs.Climbs.{fails_with, continued_goes, continued_stops, rest_shorter, term_goes, prefixed_goes}
+use Rattle.iso_read.proofs.Climbs.{fails_with, gives_made, continued_goes, continued_stops, rest_shorter, term_goes, prefixed_goes}
 use Rattle.iso_read.proofs.reader.+reader.Goals as goal
 
 pub climb-returns-in_err-left-clause-read : goal.climb-returns-in_err-left-clause-read
@@ -71,4 +71,5 @@ prefixed-returns-clause-read t c =
     let begins_so : c.in_ok-begins.field-0 ≡ begins table (map shown c.tokens.result.now) = c.in_ok-begins.ensures in
     let starts : begins table c.args.input.now.tokens ≡ true = ap (begins table) (sym c.tokens.ensures) ∙ sym begins_so ∙ c.if-not-branch.false in
     let read : terms_in c.args.language c.args.depth (right_of o) c.args.input.now ≡ Some (node_of c.in_ok-operand.operand, c.read_term.new.input) = rw c.right_of.ensures at c.in_ok-operand.ensures.read in
-    rw c.in_ok-applied.ensures (prefixed_goes table c.args.language.flags.now (terms_in c.args.language c.args.depth) name c.args.input.now c.read_term.new.input (node_of c.in_ok-operand.operand) o is starts read)
+    let goes = prefixed_goes table c.args.language.flags.now (terms_in c.args.language c.args.depth) name c.args.input.now c.read_term.new.input (node_of c.in_ok-operand.operand) o is starts read in
+    gives_made node_of _ c.applied.result _ _ goes c.applied.ensures.node c.applied.ensures.refused

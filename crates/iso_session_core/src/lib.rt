@@ -1,0 +1,21 @@
+//! Sessions on any engine: a program text is consulted, queries are answered, and every output, answer and error is written.
+//! Also the program's words, its reading and its statuses.
+#![tactic(auto)]
+
+mod composed;
+mod console;
+mod consulting;
+mod files;
+mod flows;
+mod items;
+mod preambles;
+mod queries;
+mod sessions;
+mod statuses;
+mod terms;
+pub mod words;
+
+pub use files::{TextFault, read_text};
+pub use sessions::{refused_session, session_on};
+pub use statuses::{Choice, Ended, Fault, status_of};
+pub use words::{Words, WordsFault, read_words};
