@@ -3,7 +3,7 @@ use Rattle.std.proofs.Common.{◌≡◌, ℕ, zero, suc, ◌+◌, ◌<◌, ◌�
 use Rattle.std.proofs.lemmas.Bool.{and_parts, leb-true, false≢true}
 use Rattle.iso_model.specs.Terms.Trees.{Tree, Variable, Integer, Name, Apply, End, More, row, count}
 use Rattle.iso_model.specs.Terms.Sorts.{is_term, is_row}
-use Rattle.iso_store.specs.Arguments.{arguments, arity, member, argument, members_from, listed, arguments_from}
+use Rattle.iso_store_core.specs.Arguments.{arguments, arity, member, argument, members_from, listed, arguments_from}
 
 -- a compound that is a term has 1 to 255 terms as arguments
 pub row_of_term : (f : List ℕ) (ts : Tree) → is_term (Apply f ts) ≡ true → (0 < count ts) × (count ts ≤ 255) × (is_row ts ≡ true)

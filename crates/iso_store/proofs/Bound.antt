@@ -5,8 +5,8 @@ use Rattle.iso_model.specs.Terms.Substitutions.{Subst, apply, compose}
 use Rattle.iso_model.specs.Terms.Unification.Applied.{apply_apply, apply_none}
 use Rattle.iso_model.specs.Terms.Unification.Composed.{unifier_sym, never_sym}
 use Rattle.iso_model.proofs.OnTerms.UnifierLemmas.{compose_compose}
-use Rattle.iso_store.specs.declared.shapes.StoreFault.{StoreFault}
-use Rattle.iso_store.specs.Presents.{Present, Holds, meaning, Grows, Binds, IsUnification}
+use Rattle.iso_store_core.specs.declared.shapes.StoreFault.{StoreFault}
+use Rattle.iso_store_core.specs.Presents.{Present, Holds, meaning, Grows, Binds, IsUnification}
 
 pub binds-none : {W : Type 0} (p : Present W) → Binds p p Variable
 binds-none p = record {

@@ -3,8 +3,8 @@ use Rattle.std.proofs.Common.{ℕ, ◌+◌, ◌<◌, ◌≤◌, List, [], ◌∷
 use Rattle.iso_model.specs.Terms.Trees.{Tree, Variable, Integer, Name, Apply, End, More}
 use Rattle.iso_model.specs.Terms.Sizes.{size}
 use Rattle.iso_model.specs.Terms.Variables.{is_in, distinct_from, variable_count}
-use Rattle.iso_store.specs.Copying.{cells_of}
-use Rattle.iso_store.specs.Presents.{Present, KeepsNumbers, TakesNumber, TakesFrom, MovesOn, Grows, NumbersHaveCells}
+use Rattle.iso_store_core.specs.Copying.{cells_of}
+use Rattle.iso_store_core.specs.Presents.{Present, KeepsNumbers, TakesNumber, TakesFrom, MovesOn, Grows, NumbersHaveCells}
 
 added : (seen : List ℕ) (n : ℕ) (b : Bool) → length (if b then seen else (seen ++ n ∷ [])) ≤ length seen + 1
 added seen n true = omega arith

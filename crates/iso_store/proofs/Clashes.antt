@@ -8,10 +8,10 @@ use Rattle.iso_model.specs.Terms.Sorts.{is_term}
 use Rattle.iso_model.specs.Terms.Substitutions.{apply}
 use Rattle.iso_model.specs.Terms.Unifiers.{NeverEqual}
 use Rattle.iso_model.proofs.OnTerms.SortLemmas.{count-apply}
-use Rattle.iso_store.specs.declared.shapes.Shape.{Shape}
-use Rattle.iso_store.specs.declared.shapes.Shape.TheVariants.{Var, Int, Atom, Compound}
-use Rattle.iso_store.specs.Shapes.{IsShape}
-use Rattle.iso_store.specs.Arguments.{arity}
+use Rattle.iso_store_core.specs.declared.shapes.Shape.{Shape}
+use Rattle.iso_store_core.specs.declared.shapes.Shape.TheVariants.{Var, Int, Atom, Compound}
+use Rattle.iso_store_core.specs.Shapes.{IsShape}
+use Rattle.iso_store_core.specs.Arguments.{arity}
 use Rattle.iso_store.proofs.ArgumentLemmas.{row_of_term}
 
 -- compounds with different numbers of arguments

@@ -7,9 +7,9 @@ use Rattle.iso_model.specs.Terms.Copies.{place_of, copy_from, numbers_from}
 use Rattle.iso_model.specs.Terms.Unification.Applied.{apply_same}
 use Rattle.iso_model.specs.Terms.Unification.Listed.{distinct_covers}
 use Rattle.iso_model.specs.Terms.Substitutions.{apply}
-use Rattle.iso_store.specs.Copying.{placed_terms}
+use Rattle.iso_store.specs.Placed.{placed_terms}
 use Rattle.iso_store.proofs.Placing.{place-within}
-use Rattle.iso_store.specs.Presents.{Present, Gathers, KeepsWords, KeepsNumbers, TakesNumber, TakesFrom, MovesOn, Makes, Grows}
+use Rattle.iso_store_core.specs.Presents.{Present, Gathers, KeepsWords, KeepsNumbers, TakesNumber, TakesFrom, MovesOn, Makes, Grows}
 
 pub keeps-none : {W : Type 0} (p : Present W) → KeepsWords p p
 keeps-none p = record { stand = λ w h. h; terms = λ w h. refl }

@@ -11,11 +11,12 @@ use Rattle.iso_model.specs.Terms.Variables.{occurs}
 use Rattle.iso_model.specs.Terms.Substitutions.{Subst, apply}
 use Rattle.iso_model.specs.Terms.Building.{Step, Give, Gather, with_step}
 use Rattle.iso_model.proofs.OnTerms.CostOfRows.{apply-row}
-use Rattle.iso_store.specs.declared.patterns.Part.{Part}
-use Rattle.iso_store.specs.declared.patterns.Part.TheVariants.{Variable as Place, Integer as Number, Atom, Compound}
-use Rattle.iso_store.specs.Presents.{Present, Holds, Makes, Gathers}
-use Rattle.iso_store.specs.Copying.{cells_of}
-use Rattle.iso_store.specs.Patterns.{IsPattern, HasPlaces, IsReady, part_step, part_cells, after_parts, at_places, taken}
+use Rattle.iso_store_core.specs.declared.patterns.Part.{Part}
+use Rattle.iso_store_core.specs.declared.patterns.Part.TheVariants.{Variable as Place, Integer as Number, Atom, Compound}
+use Rattle.iso_store_core.specs.Presents.{Present, Holds, Makes, Gathers}
+use Rattle.iso_store_core.specs.Copying.{cells_of}
+use Rattle.iso_store_core.specs.Patterns.{IsPattern, HasPlaces, part_step, after_parts, at_places}
+use Rattle.iso_store.specs.Writing.{IsReady, part_cells, taken}
 use Rattle.iso_store.proofs.Gathering.{keeps-none, keeps-then, terms-kept, gathers-more, gathers-length}
 use Rattle.iso_store.proofs.PatternLemmas.{after-append}
 

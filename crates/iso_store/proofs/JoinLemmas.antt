@@ -4,7 +4,7 @@ use Rattle.std.proofs.lemmas.Bool.{cases_eq, eq-eqb, ne_eqb}
 use Rattle.iso_model.specs.Terms.Trees.{Tree}
 use Rattle.iso_model.specs.Terms.Substitutions.{Subst, apply}
 use Rattle.iso_store.specs.declared.notes.Notes.{Notes}
-use Rattle.iso_store.specs.Presents.{Present, Holds, meaning, Binds}
+use Rattle.iso_store_core.specs.Presents.{Present, Holds, meaning, Binds}
 use Rattle.iso_store.specs.Notes.{noted}
 use Rattle.iso_store.specs.Unifying.{AreJoined}
 use Rattle.iso_store.proofs.Bound.{binds-meaning}

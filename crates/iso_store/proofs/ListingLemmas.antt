@@ -10,8 +10,8 @@ use Rattle.iso_model.specs.Terms.Unification.Listed.{Covers, distinct_covers}
 use Rattle.iso_store.specs.declared.occurs.Task.{Task}
 use Rattle.iso_store.specs.declared.occurs.Task.TheVariants.{Search, Leave}
 use Rattle.iso_store.specs.declared.variables.Listing.{Listing}
-use Rattle.iso_store.specs.Presents.{Present, Holds, meaning}
-use Rattle.iso_store.specs.Arguments.{arity, argument, arguments_from}
+use Rattle.iso_store_core.specs.Presents.{Present, Holds, meaning}
+use Rattle.iso_store_core.specs.Arguments.{arity, argument, arguments_from}
 use Rattle.iso_store.specs.Notes.{noted}
 use Rattle.iso_store.specs.Searching.{IsThere}
 use Rattle.iso_store.specs.Listing.{IsListing, AreSeen, seen, seen_after, number_of}

@@ -2,29 +2,15 @@
 use Rattle.std.proofs.Common.{◌≡◌, ℕ, ◌<◌, List, [], ◌∷◌, ◌++◌, length, take, refl, ap, ap₂, sym, ◌∙◌, Option, Some, None, suc, nat_lt}
 use Rattle.std.specs.List.{slice_get, slice_index_or, list_any}
 use Rattle.std.proofs.lemmas.Option.{slice_get_within, slice_get-get_or, get_or_from_slice_get}
-use Rattle.iso_atoms.specs.Texts.{KeepsTexts, text_at}
+use Rattle.iso_atoms.specs.Texts.{KeepsTexts}
+use Rattle.iso_store_core.proofs.AtomLemmas.{text-kept, atom-kept}
 use Rattle.iso_model.specs.Terms.Trees.{Tree, Variable, Name, Apply, End, row}
 use Rattle.iso_store.specs.declared.nodes.Node.{Node}
 use Rattle.iso_store.specs.declared.nodes.Node.TheVariants.{Var, Int, Atom, Compound}
 use Rattle.iso_store.specs.declared.marks.NodesMark.{NodesMark}
-use Rattle.iso_store.specs.Presents.{Present}
+use Rattle.iso_store_core.specs.Presents.{Present}
 use Rattle.iso_store.specs.NodeTerms.{node_term, terms_at, terms_from, term_at, binding_of, bindings, bind_all, all_may_bind}
 use Rattle.iso_store.specs.NodeStores.{has_number, IsStore, StandsFor, restored, present_of}
-
--- an atom keeps its name
-pub text-kept : (old new : List (List ℕ)) → KeepsTexts old new → (a : ℕ) → a < length old → text_at new a ≡ text_at old a
-text-kept old new keeps a h = get_or_from_slice_get new a (text_at old a) [] (keeps a (text_at old a) (slice_get-get_or old a [] h))
-
--- and stays one
-pub atom-kept : (old new : List (List ℕ)) → KeepsTexts old new → (a : ℕ) → a < length old → a < length new
-atom-kept old new keeps a h = slice_get_within new a (text_at old a) (keeps a (text_at old a) (slice_get-get_or old a [] h))
-
--- the name at the place of an atom
-pub text-is : (names : List (List ℕ)) (a : ℕ) (text : List ℕ) → slice_get names a ≡ Some text → text_at names a ≡ text
-text-is names a text h = get_or_from_slice_get names a text [] h
-
-pub keeps-then : (old mid new : List (List ℕ)) → KeepsTexts old mid → KeepsTexts mid new → KeepsTexts old new
-keeps-then old mid new one other place text h = other place text (one place text h)
 
 -- the atom of the node, where it has one, is one of those that have these names
 abbrev AtomStands : List (List ℕ) → Node → Type 0

@@ -8,8 +8,8 @@ use Rattle.iso_model.specs.Terms.Substitutions.{apply, compose, single}
 use Rattle.iso_model.specs.Terms.Unification.Applied.{apply_apply}
 use Rattle.iso_store.specs.declared.nodes.Node.{Node}
 use Rattle.iso_store.specs.declared.nodes.Node.TheVariants.{Var}
-use Rattle.iso_store.specs.Presents.{Binds}
-use Rattle.iso_store.specs.Shapes.{IsYounger}
+use Rattle.iso_store_core.specs.Presents.{Binds}
+use Rattle.iso_store.specs.Meetings.{IsYounger}
 use Rattle.iso_store.specs.NodeTerms.{term_at, substitution_of}
 use Rattle.iso_store.specs.NodeStores.{is_bound, has_number, IsStore, present_of, KeepsNodesMarks}
 use Rattle.iso_store.proofs.NodeReads.{end_variable, end_is_variable}

@@ -5,8 +5,8 @@ use Rattle.std.proofs.lemmas.Bool.{lt-ltb, ltb-true, ne_eqb, or_from}
 use Rattle.iso_model.specs.Terms.Trees.{Tree}
 use Rattle.iso_store.specs.declared.nodes.Node.{Node}
 use Rattle.iso_store.specs.declared.nodes.Node.TheVariants.{Var, Int, Atom, Compound}
-use Rattle.iso_store.specs.declared.shapes.StoreFault.{StoreFault}
-use Rattle.iso_store.specs.Presents.{Makes}
+use Rattle.iso_store_core.specs.declared.shapes.StoreFault.{StoreFault}
+use Rattle.iso_store_core.specs.Presents.{Makes}
 use Rattle.iso_store.specs.NodeTerms.{node_term, terms_from}
 use Rattle.iso_store.specs.NodeStores.{IsStore, MayPush, has_number, present_of}
 use Rattle.iso_store.specs.NodeLemmas.{term_at-push, term_at-pushed}

@@ -9,7 +9,7 @@ use Rattle.iso_model.specs.Terms.Trees.{Tree, Variable, Integer, Name, Apply, ro
 use Rattle.iso_model.specs.Terms.Substitutions.{Subst, apply}
 use Rattle.iso_store.specs.declared.nodes.Node.{Node}
 use Rattle.iso_store.specs.declared.nodes.Node.TheVariants.{Var, Int, Atom, Compound}
-use Rattle.iso_store.specs.Arguments.{member, arity, argument}
+use Rattle.iso_store_core.specs.Arguments.{member, arity, argument}
 use Rattle.iso_store.specs.NodeTerms.{term_at, substitution_of}
 use Rattle.iso_store.specs.NodeStores.{has_number, is_bound, IsStore}
 use Rattle.iso_store.specs.NodeLemmas.{term_at-variable, term_at-integer, term_at-atom, term_at-compound}

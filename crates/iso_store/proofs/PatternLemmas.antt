@@ -15,10 +15,11 @@ use Rattle.iso_model.specs.Terms.Substitutions.{Subst, apply}
 use Rattle.iso_model.specs.Terms.Building.{Give, Gather, with_step, with_steps}
 use Rattle.iso_model.proofs.OnTerms.BuildingLemmas.{with_steps-more, with_gathered}
 use Rattle.iso_model.proofs.OnTerms.CostOfRows.{apply-row}
-use Rattle.iso_store.specs.declared.patterns.Part.{Part}
-use Rattle.iso_store.specs.declared.patterns.Part.TheVariants.{Variable as Place, Integer as Number, Atom, Compound}
-use Rattle.iso_store.specs.Patterns.{IsNamed, IsPattern, part_step, after_parts, terms_left}
-use Rattle.iso_store.proofs.Names.{atom-kept, text-kept}
+use Rattle.iso_store_core.specs.declared.patterns.Part.{Part}
+use Rattle.iso_store_core.specs.declared.patterns.Part.TheVariants.{Variable as Place, Integer as Number, Atom, Compound}
+use Rattle.iso_store_core.specs.Patterns.{IsNamed, IsPattern, part_step, after_parts}
+use Rattle.iso_store.specs.Writing.{terms_left}
+use Rattle.iso_store_core.proofs.AtomLemmas.{atom-kept, text-kept}
 
 -- ---- names that come
 module _ (old new : List (List ℕ)) (keeps : KeepsTexts old new) where

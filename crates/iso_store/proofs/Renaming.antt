@@ -6,8 +6,8 @@ use Rattle.iso_model.specs.Terms.Substitutions.{Subst, apply}
 use Rattle.iso_model.specs.Terms.Copies.{place_of}
 use Rattle.iso_model.specs.Terms.Unification.Applied.{occurs_from}
 use Rattle.iso_model.specs.Terms.Unification.Listed.{Covers}
-use Rattle.iso_store.specs.Copying.{cells_of}
-use Rattle.iso_store.specs.Patterns.{HasPlaces}
+use Rattle.iso_store_core.specs.Copying.{cells_of}
+use Rattle.iso_store_core.specs.Patterns.{HasPlaces}
 use Rattle.iso_store.proofs.Placing.{place-within}
 
 module _ (g : ℕ → ℕ) where

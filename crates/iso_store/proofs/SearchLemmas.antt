@@ -9,8 +9,8 @@ use Rattle.iso_model.specs.Terms.Variables.{occurs}
 use Rattle.iso_store.specs.declared.notes.Notes.{Notes}
 use Rattle.iso_store.specs.declared.occurs.Task.{Task}
 use Rattle.iso_store.specs.declared.occurs.Task.TheVariants.{Search, Leave}
-use Rattle.iso_store.specs.Presents.{Present, meaning}
-use Rattle.iso_store.specs.Arguments.{arity, argument, arguments_from}
+use Rattle.iso_store_core.specs.Presents.{Present, meaning}
+use Rattle.iso_store_core.specs.Arguments.{arity, argument, arguments_from}
 use Rattle.iso_store.specs.Notes.{noted}
 use Rattle.iso_store.specs.Searching.{IsClear, load, found, AreSound}
 use Rattle.iso_store.proofs.ArgumentLemmas.{arguments-more, arguments-last, arguments-whole}

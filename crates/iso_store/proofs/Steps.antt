@@ -5,7 +5,7 @@ use Rattle.iso_model.specs.Terms.Variables.{occurs}
 use Rattle.iso_model.specs.Terms.Substitutions.{single}
 use Rattle.iso_model.specs.Terms.Unifiers.{Unifier, NeverEqual}
 use Rattle.iso_model.specs.Terms.Unification.Composed.{unifier_bound, never_occurs}
-use Rattle.iso_store.specs.Shapes.{IsYounger}
+use Rattle.iso_store.specs.Meetings.{IsYounger}
 
 -- a variable and a term that is no younger variable, in which it does not occur
 pub variable_unifier : (x : ℕ) (a b : Tree) → a ≡ Variable x → occurs x b ≡ false → IsYounger x b → Unifier a b (single x b)

@@ -8,8 +8,8 @@ use Rattle.iso_model.specs.Terms.Building.{with_steps, steps_load}
 use Rattle.iso_model.proofs.OnTerms.BuildingLemmas.{with_steps-more, steps_load-more, with_steps-opened, steps_load-opened}
 use Rattle.iso_store.specs.declared.copies.Task.{Task}
 use Rattle.iso_store.specs.declared.copies.Task.TheVariants.{Copy, Build}
-use Rattle.iso_store.specs.Presents.{Present, meaning}
-use Rattle.iso_store.specs.Arguments.{arity, argument, arguments_from}
+use Rattle.iso_store_core.specs.Presents.{Present, meaning}
+use Rattle.iso_store_core.specs.Arguments.{arity, argument, arguments_from}
 use Rattle.iso_store.specs.Tasks.{step_of, steps_of}
 use Rattle.iso_store.proofs.ArgumentLemmas.{arguments-more, arguments-last, arguments-whole, arguments-count}
 

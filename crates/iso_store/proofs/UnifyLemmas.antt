@@ -12,12 +12,12 @@ use Rattle.iso_model.specs.Terms.Unification.Applied.{apply_apply, apply_none}
 use Rattle.iso_model.specs.Terms.Unification.Composed.{never_first, unifier_same}
 use Rattle.iso_model.proofs.OnTerms.CostOfRows.{apply-row}
 use Rattle.iso_store.specs.declared.notes.Notes.{Notes}
-use Rattle.iso_store.specs.declared.shapes.StoreFault.{StoreFault}
+use Rattle.iso_store_core.specs.declared.shapes.StoreFault.{StoreFault}
 use Rattle.iso_store.specs.declared.unify.Task.{Task}
 use Rattle.iso_store.specs.declared.unify.Task.TheVariants.{Unify, Join}
-use Rattle.iso_store.specs.Presents.{Present, Holds, meaning, Binds, IsUnification}
-use Rattle.iso_store.specs.Arguments.{arity, argument, members_from, listed, arguments_from}
-use Rattle.iso_store.specs.Shapes.{IsMeeting}
+use Rattle.iso_store_core.specs.Presents.{Present, Holds, meaning, Binds, IsUnification}
+use Rattle.iso_store_core.specs.Arguments.{arity, argument, members_from, listed, arguments_from}
+use Rattle.iso_store.specs.Meetings.{IsMeeting}
 use Rattle.iso_store.specs.declared.meetings.Meeting.TheVariants.{Arguments}
 use Rattle.iso_store.specs.Unifying.{MakesEqual, IsCompound, IsPair, terms, ones, others, AreSound, AreJoined, Stands, Steps}
 use Rattle.iso_store.proofs.Bound.{binds-meaning, binds-none}

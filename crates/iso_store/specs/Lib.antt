@@ -1,9 +1,7 @@
-pub mod Presents
-pub mod Arguments
-pub mod Shapes
-pub mod Copying
+pub mod Meetings
+pub mod Placed
+pub mod Writing
 pub mod Tasks
-pub mod Patterns
 pub mod Notes
 pub mod Searching
 pub mod Listing

@@ -8,7 +8,7 @@ use Rattle.iso_model.specs.Terms.Substitutions.{Subst, apply, compose, single}
 use Rattle.iso_model.specs.Terms.Unification.Applied.{single_other}
 use Rattle.iso_store.specs.declared.nodes.Node.{Node}
 use Rattle.iso_store.specs.declared.nodes.Node.TheVariants.{Var, Int, Atom, Compound}
-use Rattle.iso_store.specs.Presents.{Untouched}
+use Rattle.iso_store_core.specs.Presents.{Untouched}
 use Rattle.iso_store.specs.NodeTerms.{term_at, binding_of, binding_at, bindings, bind_all, substitution_of}
 use Rattle.iso_store.specs.NodeStores.{is_bound, has_number, IsStore, present_of}
 use Rattle.iso_store.specs.NodeVariables.{Inside, inside-term, inside-meaning}

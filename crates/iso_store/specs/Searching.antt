@@ -6,8 +6,8 @@ use Rattle.iso_model.specs.Terms.Variables.{occurs}
 use Rattle.iso_store.specs.declared.notes.Notes.{Notes}
 use Rattle.iso_store.specs.declared.occurs.Task.{Task}
 use Rattle.iso_store.specs.declared.occurs.Task.TheVariants.{Search, Leave}
-use Rattle.iso_store.specs.Presents.{Present, Holds, meaning}
-use Rattle.iso_store.specs.Arguments.{arity, arguments_from}
+use Rattle.iso_store_core.specs.Presents.{Present, Holds, meaning}
+use Rattle.iso_store_core.specs.Arguments.{arity, arguments_from}
 use Rattle.iso_store.specs.Notes.{noted}
 
 -- the variable is in no term that stands at a place that was searched

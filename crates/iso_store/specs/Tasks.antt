@@ -4,8 +4,8 @@ use Rattle.iso_atoms.specs.Texts.{text_at}
 use Rattle.iso_model.specs.Terms.Building.{Step, Give, Gather}
 use Rattle.iso_store.specs.declared.copies.Task.{Task}
 use Rattle.iso_store.specs.declared.copies.Task.TheVariants.{Copy, Build}
-use Rattle.iso_store.specs.Presents.{Present, Holds, meaning}
-use Rattle.iso_store.specs.Arguments.{arity, arguments_from}
+use Rattle.iso_store_core.specs.Presents.{Present, Holds, meaning}
+use Rattle.iso_store_core.specs.Arguments.{arity, arguments_from}
 
 -- in a store that is so, and where these are the names of the atoms
 module _ {W : Type 0} (p : Present W) (names : List (List ℕ)) where

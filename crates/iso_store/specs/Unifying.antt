@@ -7,8 +7,8 @@ use Rattle.iso_model.specs.Terms.Unifiers.{Unifier, NeverEqual}
 use Rattle.iso_store.specs.declared.notes.Notes.{Notes}
 use Rattle.iso_store.specs.declared.unify.Task.{Task}
 use Rattle.iso_store.specs.declared.unify.Task.TheVariants.{Unify, Join}
-use Rattle.iso_store.specs.Presents.{Present, Holds, meaning, Binds}
-use Rattle.iso_store.specs.Arguments.{arguments_from}
+use Rattle.iso_store_core.specs.Presents.{Present, Holds, meaning, Binds}
+use Rattle.iso_store_core.specs.Arguments.{arguments_from}
 use Rattle.iso_store.specs.Notes.{noted}
 
 -- the substitution makes the terms equal, each the one at its place

@@ -6,14 +6,15 @@ ghost use Rattle.iso_model.specs.Terms.Trees.{Tree, Integer, Name, Apply, Variab
 ghost use Rattle.iso_model.specs.Terms.Sorts.{is_term};
 ghost use Rattle.iso_model.specs.Terms.Variables.{occurs};
 ghost use Rattle.iso_model.specs.Terms.Substitutions.{apply, single};
-ghost use Rattle.iso_store.specs.Presents.{Present, Holds, meaning, KeepsWords, Makes, KeepsNumbers, TakesNumber, MovesOn, Grows, Binds, KeepsMarks};
-ghost use Rattle.iso_store.specs.Arguments.{arity, argument};
-ghost use Rattle.iso_store.specs.Shapes.{IsShape, IsYounger};
+ghost use Rattle.iso_store_core.specs.Presents.{Present, Holds, meaning, KeepsWords, Makes, KeepsNumbers, TakesNumber, MovesOn, Grows, Binds, KeepsMarks};
+ghost use Rattle.iso_store_core.specs.Arguments.{arity, argument};
+ghost use Rattle.iso_store_core.specs.Shapes.{IsShape};
+ghost use Rattle.iso_store.specs.Meetings.{IsYounger};
 
 use super::scratch::Scratch;
-use super::shapes::{Shape, StoreFault};
 use iso_atoms::Atom;
 use iso_model::NoMemory;
+use iso_store_core::{Shape, StoreFault};
 use std::alloc::Global;
 
 /// Words that stand for terms under one substitution, which grows by one binding at a time.

@@ -10,17 +10,18 @@ ghost use Rattle.iso_model.specs.Terms.Variables.{variable_count};
 ghost use Rattle.iso_model.specs.Terms.Substitutions.{apply};
 ghost use Rattle.iso_model.specs.Terms.Copies.{copy_from, numbers_from};
 ghost use Rattle.iso_model.specs.Terms.Unification.Listed.{Covers};
-ghost use Rattle.iso_store.specs.Presents.{Holds, meaning, Gathers, Makes, KeepsNumbers, MovesOn, TakesFrom, Grows, NumbersHaveCells, KeepsMarks};
-ghost use Rattle.iso_store.specs.Copying.{placed_terms, cells_of};
+ghost use Rattle.iso_store_core.specs.Presents.{Holds, meaning, Gathers, Makes, KeepsNumbers, MovesOn, TakesFrom, Grows, NumbersHaveCells, KeepsMarks};
+ghost use Rattle.iso_store_core.specs.Copying.{cells_of};
+ghost use Rattle.iso_store.specs.Placed.{placed_terms};
 ghost use Rattle.iso_store.specs.Tasks.{IsTask, step_of, steps_of};
 
 use super::cells::Cells;
 use super::instances::instantiate;
 use super::patterns::{Places, written};
-use super::shapes::{Shape, StoreFault};
 use iso_atoms::Atom;
 use iso_model::terms::build_last;
 use iso_model::{NoMemory, Numbering, Term};
+use iso_store_core::{Shape, StoreFault};
 use std::alloc::Global;
 
 /// What is left to do of copying a term out.

@@ -5,9 +5,9 @@ use super::cells::Cells;
 use super::marks::NodesMark;
 use super::nodes::Nodes;
 use super::scratch::Scratch;
-use super::shapes::{Shape, StoreFault};
 use iso_atoms::Atom;
 use iso_model::NoMemory;
+use iso_store_core::{Shape, StoreFault};
 use std::alloc::Global;
 use std::cell::Cell;
 

@@ -5,14 +5,14 @@ ghost use Rattle.iso_atoms.specs.Texts.{text_at};
 ghost use Rattle.iso_model.specs.Terms.Trees.{Tree, arities_fit};
 ghost use Rattle.iso_model.specs.Terms.Building.{Gather, with_step};
 ghost use Rattle.iso_model.specs.Terms.Substitutions.{apply};
-ghost use Rattle.iso_store.specs.Presents.{Holds, Gathers, Makes, KeepsNumbers, Grows, KeepsMarks};
-ghost use Rattle.iso_store.specs.Copying.{cells_of};
-ghost use Rattle.iso_store.specs.Patterns.{IsNamed, IsPattern, HasPlaces, IsReady, part_step, part_cells, at_places, taken};
+ghost use Rattle.iso_store_core.specs.Presents.{Holds, Gathers, Makes, KeepsNumbers, Grows, KeepsMarks};
+ghost use Rattle.iso_store_core.specs.Copying.{cells_of};
+ghost use Rattle.iso_store_core.specs.Patterns.{IsNamed, IsPattern, HasPlaces, part_step, at_places};
+ghost use Rattle.iso_store.specs.Writing.{IsReady, part_cells, taken};
 
 use super::cells::Cells;
-use super::patterns::{Part, Pattern};
-use super::shapes::StoreFault;
 use iso_atoms::Atom;
+use iso_store_core::{Part, Pattern, StoreFault};
 use std::alloc::Global;
 
 /// Makes a compound of the last words, so many, which it takes the place of.

@@ -1,6 +1,6 @@
 //! Words that stand for equal terms, which are joined: a place leads to a word of an earlier place that stands for the same.
 ghost use Rattle.std.specs.Prelude.{◌≡◌, ◌<◌, IfSome, OnOk};
-ghost use Rattle.iso_store.specs.Presents.{Holds, meaning};
+ghost use Rattle.iso_store_core.specs.Presents.{Holds, meaning};
 ghost use Rattle.iso_store.specs.Unifying.{AreJoined};
 
 use super::cells::Cells;

@@ -15,17 +15,12 @@ mod notes;
 mod occurs;
 mod patterns;
 mod reaches;
-mod refusals;
 mod scratch;
-mod shapes;
-mod stores;
 #[cfg(test)]
 mod tests;
 mod unify;
 mod variables;
 
+pub use iso_store_core::{Part, Pattern, Shape, Store, StoreFault};
 pub use marks::NodesMark;
 pub use nodes::Nodes;
-pub use patterns::{Part, Pattern};
-pub use shapes::{Shape, StoreFault};
-pub use stores::Store;

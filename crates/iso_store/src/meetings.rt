@@ -3,9 +3,10 @@ ghost use Rattle.std.specs.Prelude.{◌≡◌, ℕ, List, true};
 ghost use Rattle.iso_atoms.specs.Texts.{EachOnce};
 ghost use Rattle.iso_model.specs.Terms.Trees.{Tree};
 ghost use Rattle.iso_model.specs.Terms.Sorts.{is_term};
-ghost use Rattle.iso_store.specs.Shapes.{IsShape, IsMeeting};
+ghost use Rattle.iso_store_core.specs.Shapes.{IsShape};
+ghost use Rattle.iso_store.specs.Meetings.{IsMeeting};
 
-use super::shapes::Shape;
+use iso_store_core::Shape;
 
 /// How two terms meet.
 #[derive(Clone, Copy, Debug, PartialEq, Eq)]

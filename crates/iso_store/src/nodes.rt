@@ -12,15 +12,14 @@ use super::cells::Cells;
 use super::copies::{build, copy_out};
 use super::instances::instantiate;
 use super::marks::{NodesMark, unwind};
-use super::patterns::{Pattern, Places, written};
+use super::patterns::{Places, written};
 use super::reaches::{farther, within};
 use super::scratch::Scratch;
-use super::shapes::{Shape, StoreFault};
-use super::stores::Store;
 use super::unify::unify;
 use super::variables::variables;
 use iso_atoms::{Atom, Atoms};
 use iso_model::{NoMemory, Term};
+use iso_store_core::{Pattern, Shape, Store, StoreFault};
 use std::alloc::Global;
 use std::mem;
 

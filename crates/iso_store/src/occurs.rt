@@ -4,14 +4,14 @@ ghost use Rattle.std.specs.List.{All};
 ghost use Rattle.iso_model.specs.Terms.Trees.{row};
 ghost use Rattle.iso_model.specs.Terms.Sizes.{size};
 ghost use Rattle.iso_model.specs.Terms.Variables.{occurs};
-ghost use Rattle.iso_store.specs.Presents.{Holds, meaning};
-ghost use Rattle.iso_store.specs.Arguments.{arguments_from};
+ghost use Rattle.iso_store_core.specs.Presents.{Holds, meaning};
+ghost use Rattle.iso_store_core.specs.Arguments.{arguments_from};
 ghost use Rattle.iso_store.specs.Searching.{IsThere, IsClear, AreSound, found, load};
 
 use super::cells::Cells;
 use super::notes::Notes;
-use super::shapes::Shape;
 use iso_model::NoMemory;
+use iso_store_core::Shape;
 
 /// What is left to do of a search.
 #[derive(Clone, Copy)]

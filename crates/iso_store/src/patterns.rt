@@ -7,32 +7,14 @@ ghost use Rattle.iso_model.specs.Terms.TermOf.{term_of};
 ghost use Rattle.iso_model.specs.Terms.Sizes.{size};
 ghost use Rattle.iso_model.specs.Terms.Building.{with_steps};
 ghost use Rattle.iso_model.specs.Terms.Substitutions.{apply};
-ghost use Rattle.iso_store.specs.Presents.{KeepsMarks};
-ghost use Rattle.iso_store.specs.Patterns.{IsNamed, IsPattern, part_step, placed_by, terms_left};
+ghost use Rattle.iso_store_core.specs.Presents.{KeepsMarks};
+ghost use Rattle.iso_store_core.specs.Patterns.{IsNamed, IsPattern, part_step};
+ghost use Rattle.iso_store.specs.Writing.{placed_by, terms_left};
 
 use super::cells::Cells;
-use iso_atoms::Atom;
 use iso_model::{NoMemory, Numbering, Term};
+use iso_store_core::{Part, Pattern};
 use std::alloc::Global;
-
-/// A part of a term.
-#[derive(Clone, Copy, Debug)]
-pub enum Part {
-    /// The variable of this place.
-    Variable(usize),
-    /// An integer.
-    Integer(i64),
-    /// An atom.
-    Atom(Atom),
-    /// A compound of this name, whose arguments are the last terms before it, so many.
-    Compound(Atom, usize),
-}
-
-/// A term for one store, written out part by part: the arguments of a compound come before it, from the first one on.
-#[derive(Debug, Drop)]
-pub struct Pattern {
-    pub(crate) parts: Vec<Part>,
-}
 
 /// Which place a variable has.
 #[derive(Clone, Copy)]

@@ -7,8 +7,8 @@ ghost use Rattle.iso_model.specs.Terms.Trees.{Variable, row};
 ghost use Rattle.iso_model.specs.Terms.Sorts.{is_term};
 ghost use Rattle.iso_model.specs.Terms.Variables.{occurs};
 ghost use Rattle.iso_model.specs.Terms.Unifiers.{NeverEqual};
-ghost use Rattle.iso_store.specs.Presents.{Holds, meaning, IsUnification, Grows, KeepsMarks};
-ghost use Rattle.iso_store.specs.Shapes.{IsYounger, IsMeeting};
+ghost use Rattle.iso_store_core.specs.Presents.{Holds, meaning, IsUnification, Grows, KeepsMarks};
+ghost use Rattle.iso_store.specs.Meetings.{IsYounger, IsMeeting};
 ghost use Rattle.iso_store.specs.Unifying.{IsPair, AreJoined, Stands, Steps, ones, others};
 
 use super::cells::Cells;
@@ -17,8 +17,8 @@ use super::meetings::{Meeting, meet};
 use super::notes::Notes;
 use super::occurs::occurs;
 use super::scratch::Scratch;
-use super::shapes::StoreFault;
 use iso_model::NoMemory;
+use iso_store_core::StoreFault;
 
 /// What is left to do of making two terms equal.
 #[derive(Clone, Copy)]

@@ -4,16 +4,16 @@ ghost use Rattle.std.specs.List.{All};
 ghost use Rattle.iso_model.specs.Terms.Trees.{Variable, row};
 ghost use Rattle.iso_model.specs.Terms.Sizes.{size};
 ghost use Rattle.iso_model.specs.Terms.Variables.{variables, distinct_from};
-ghost use Rattle.iso_store.specs.Presents.{Holds, meaning};
-ghost use Rattle.iso_store.specs.Arguments.{arguments_from};
+ghost use Rattle.iso_store_core.specs.Presents.{Holds, meaning};
+ghost use Rattle.iso_store_core.specs.Arguments.{arguments_from};
 ghost use Rattle.iso_store.specs.Searching.{IsThere, load};
 ghost use Rattle.iso_store.specs.Listing.{IsListing, AreSeen, seen, seen_after, listing_load};
 
 use super::cells::Cells;
 use super::notes::Notes;
 use super::occurs::Task;
-use super::shapes::Shape;
 use iso_model::NoMemory;
+use iso_store_core::Shape;
 use std::alloc::Global;
 
 /// A search for the variables of a term.

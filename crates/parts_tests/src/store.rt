@@ -11,8 +11,8 @@ ghost use Rattle.std.specs.List.{All};
 ghost use Rattle.std.specs.String.{string_bytes};
 ghost use Rattle.iso_model.specs.Terms.Trees.{Apply, arities_fit};
 ghost use Rattle.iso_model.specs.Terms.TermOf.{term_of, row_of};
-ghost use Rattle.iso_store.specs.Presents.{Holds, KeepsWords};
-ghost use Rattle.iso_store.specs.Patterns.{HasPlaces};
+ghost use Rattle.iso_store_core.specs.Presents.{Holds, KeepsWords};
+ghost use Rattle.iso_store_core.specs.Patterns.{HasPlaces};
 
 use iso_model::{Term, well_formed};
 use iso_store::{Nodes, Shape, Store, StoreFault};

@@ -4,7 +4,7 @@ use Rattle.iso_model.specs.Terms.Trees.{Name}
 use Rattle.iso_model.specs.Terms.TermOf.{term_of}
 use Rattle.iso_model.specs.Terms.Building.{with_steps}
 use Rattle.iso_store.specs.Tasks.{steps_of}
-use Rattle.iso_store.proofs.Names.{text-is}
+use Rattle.iso_store_core.proofs.AtomLemmas.{text-is}
 use Rattle.iso_model.proofs.OnTerms.LeafLemmas.{term_of_atom}
 use Rattle.iso_store.proofs.TaskLemmas.{with_steps-compound, steps_load-compound}
 use Rattle.iso_store.proofs.copies.copy_next.Goals as goal

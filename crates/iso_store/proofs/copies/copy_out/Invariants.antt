@@ -3,7 +3,7 @@ use Rattle.std.proofs.Common.{◌≡◌, map, [], ◌∷◌}
 use Rattle.std.specs.List.{All}
 use Rattle.iso_model.specs.Terms.TermOf.{term_of}
 use Rattle.iso_model.specs.Terms.Building.{with_steps, steps_load}
-use Rattle.iso_store.specs.Presents.{meaning}
+use Rattle.iso_store_core.specs.Presents.{meaning}
 use Rattle.iso_store.specs.Tasks.{IsTask, steps_of}
 use Rattle.iso_store.proofs.copies.copy_out.Given as goal
 

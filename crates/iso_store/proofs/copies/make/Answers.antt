@@ -4,8 +4,8 @@ use Rattle.iso_model.specs.Terms.TermOf.{term_of}
 use Rattle.iso_model.specs.Terms.Substitutions.{apply}
 use Rattle.iso_model.specs.Terms.Copies.{place_of}
 use Rattle.iso_model.specs.Terms.Unification.Applied.{apply_apply}
-use Rattle.iso_store.specs.Presents.{Makes}
-use Rattle.iso_store.specs.Patterns.{HasPlaces, at_places}
+use Rattle.iso_store_core.specs.Presents.{Makes}
+use Rattle.iso_store_core.specs.Patterns.{HasPlaces, at_places}
 use Rattle.iso_store.proofs.Renaming.{arities-renamed, cells-renamed, places-covered}
 use Rattle.iso_store.proofs.copies.make.Goals as goal
 

@@ -2,7 +2,7 @@
 use Rattle.std.proofs.Common.{◌≡◌, ◌≤◌, ◌+◌, ℕ, map, false}
 use Rattle.iso_model.specs.Terms.Trees.{Variable}
 use Rattle.iso_model.specs.Terms.Copies.{numbers_from}
-use Rattle.iso_store.specs.Presents.{Gathers, TakesFrom, Grows, KeepsMarks}
+use Rattle.iso_store_core.specs.Presents.{Gathers, TakesFrom, Grows, KeepsMarks}
 use Rattle.iso_store.proofs.copies.variables_from.Given as goal
 
 abbrev pub invariant-loop-place : goal.invariant-loop-place

@@ -1,6 +1,7 @@
 use Rattle.std.proofs.Common.{◌≡◌, ◌+◌, suc, length, map, ap, sym, ◌∙◌, subst, arith, add-one}
 use Rattle.iso_model.specs.Terms.Substitutions.{apply}
-use Rattle.iso_store.specs.Patterns.{IsPattern, IsReady, part_cells, at_places}
+use Rattle.iso_store_core.specs.Patterns.{IsPattern, at_places}
+use Rattle.iso_store.specs.Writing.{IsReady, part_cells}
 use Rattle.iso_store.proofs.Gathering.{numbers-then, grows-on}
 use Rattle.iso_store.proofs.InstanceLemmas.{so_far, next-part, part-grows, part-is-ready, cells-more, all-parts, gathers-part, gathers-count, gathers-one}
 use Rattle.iso_store.proofs.instances.instantiate.Goals as goal

@@ -2,9 +2,9 @@
 use Rattle.std.proofs.Common.{◌≡◌, map, take, []}
 use Rattle.iso_model.specs.Terms.Trees.{row}
 use Rattle.iso_model.specs.Terms.Substitutions.{apply}
-use Rattle.iso_store.specs.Presents.{Gathers, KeepsNumbers, Grows, KeepsMarks}
-use Rattle.iso_store.specs.Copying.{cells_of}
-use Rattle.iso_store.specs.Patterns.{after_parts, at_places}
+use Rattle.iso_store_core.specs.Presents.{Gathers, KeepsNumbers, Grows, KeepsMarks}
+use Rattle.iso_store_core.specs.Copying.{cells_of}
+use Rattle.iso_store_core.specs.Patterns.{after_parts, at_places}
 use Rattle.iso_store.proofs.instances.instantiate.Given as goal
 
 abbrev pub invariant-loop-part : goal.invariant-loop-part

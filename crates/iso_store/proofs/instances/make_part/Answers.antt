@@ -4,7 +4,7 @@ use mir.Val.{SFits}
 use mir.Syntax.{w64}
 use Rattle.iso_atoms.specs.Texts.{text_at}
 use Rattle.iso_model.specs.Terms.Trees.{Integer, Name}
-use Rattle.iso_store.specs.Patterns.{part_step, at_places}
+use Rattle.iso_store_core.specs.Patterns.{part_step, at_places}
 use Rattle.iso_store.proofs.InstanceLemmas.{made-leaf}
 use Rattle.iso_store.proofs.instances.make_part.Goals as goal
 

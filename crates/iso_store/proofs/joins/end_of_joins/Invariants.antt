@@ -1,6 +1,6 @@
 -- The word so far stands for the same term, at an earlier place.
 use Rattle.std.proofs.Common.{◌≡◌}
-use Rattle.iso_store.specs.Presents.{Holds, meaning}
+use Rattle.iso_store_core.specs.Presents.{Holds, meaning}
 use Rattle.iso_store.specs.Unifying.{AreJoined}
 use Rattle.iso_store.proofs.joins.end_of_joins.Given as goal
 

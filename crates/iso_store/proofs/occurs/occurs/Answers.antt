@@ -1,7 +1,7 @@
 use Rattle.std.proofs.Common.{sym, ap, ◌∙◌, Some}
 use Rattle.std.proofs.lemmas.List.Elements.{All-pop}
 use Rattle.iso_model.specs.Terms.Variables.{occurs}
-use Rattle.iso_store.specs.Presents.{meaning}
+use Rattle.iso_store_core.specs.Presents.{meaning}
 use Rattle.iso_store.specs.Searching.{IsThere, found}
 use Rattle.iso_store.proofs.SearchLemmas.{found-true}
 use Rattle.iso_store.proofs.occurs.occurs.Goals as goal

@@ -2,7 +2,7 @@
 use Rattle.std.proofs.Common.{◌≡◌, false, sum_by}
 use Rattle.std.specs.List.{All}
 use Rattle.iso_model.specs.Terms.Variables.{occurs}
-use Rattle.iso_store.specs.Presents.{meaning}
+use Rattle.iso_store_core.specs.Presents.{meaning}
 use Rattle.iso_store.specs.Searching.{IsThere, IsClear, AreSound, found, load}
 use Rattle.iso_store.proofs.occurs.occurs.Given as goal
 

@@ -10,8 +10,8 @@ use Rattle.iso_model.specs.Terms.Substitutions.{apply}
 use Rattle.iso_model.specs.Terms.Building.{Give, Gather}
 use Rattle.iso_model.proofs.OnTerms.CopyingLemmas.{on_ok_by}
 use Rattle.iso_model.proofs.OnTerms.RowLemmas.{term_of_compound}
-use Rattle.iso_store.specs.Patterns.{placed_by, terms_left}
-use Rattle.iso_store.proofs.Names.{text-is}
+use Rattle.iso_store.specs.Writing.{placed_by, terms_left}
+use Rattle.iso_store_core.proofs.AtomLemmas.{text-is}
 use Rattle.iso_model.proofs.OnTerms.LeafLemmas.{term_of_variable, term_of_integer, term_of_atom}
 use Rattle.iso_store.proofs.PatternLemmas.{left-more, named-more, written-leaf, written-compound, size-compound}
 use Rattle.iso_store.proofs.patterns.write_next.Goals as goal

@@ -2,8 +2,9 @@ use Rattle.std.proofs.Common.{rules, ◌≡◌, [], map, ap, sym, ◌∙◌, ari
 use Rattle.iso_model.specs.Terms.Trees.{Variable}
 use Rattle.iso_model.specs.Terms.Building.{with_steps}
 use Rattle.iso_model.specs.Terms.Substitutions.{apply}
-use Rattle.iso_store.specs.Patterns.{part_step, placed_by, terms_left}
-use Rattle.iso_store.proofs.Names.{keeps-then}
+use Rattle.iso_store_core.specs.Patterns.{part_step}
+use Rattle.iso_store.specs.Writing.{placed_by, terms_left}
+use Rattle.iso_store_core.proofs.AtomLemmas.{keeps-then}
 use Rattle.iso_store.proofs.PatternLemmas.{left-push, size-popped, pattern-written}
 use Rattle.iso_store.proofs.patterns.written.Goals as goal
 

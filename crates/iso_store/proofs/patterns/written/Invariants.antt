@@ -7,8 +7,9 @@ use Rattle.iso_model.specs.Terms.TermOf.{term_of}
 use Rattle.iso_model.specs.Terms.Sizes.{size}
 use Rattle.iso_model.specs.Terms.Building.{with_steps}
 use Rattle.iso_model.specs.Terms.Substitutions.{apply}
-use Rattle.iso_store.specs.Presents.{KeepsMarks}
-use Rattle.iso_store.specs.Patterns.{IsNamed, part_step, placed_by, terms_left}
+use Rattle.iso_store_core.specs.Presents.{KeepsMarks}
+use Rattle.iso_store_core.specs.Patterns.{IsNamed, part_step}
+use Rattle.iso_store.specs.Writing.{placed_by, terms_left}
 use Rattle.iso_store.proofs.patterns.written.Given as goal
 
 abbrev pub invariant-loop-next : goal.invariant-loop-next

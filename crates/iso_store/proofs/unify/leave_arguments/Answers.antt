@@ -1,5 +1,5 @@
 use Rattle.std.proofs.Common.{◌≡◌, sym, ap, ◌∙◌}
-use Rattle.iso_store.specs.Presents.{meaning}
+use Rattle.iso_store_core.specs.Presents.{meaning}
 use Rattle.iso_store.proofs.UnifyLemmas.{opened, steps-opened, stands-opened, stands-same, steps-same}
 use Rattle.iso_store.proofs.unify.leave_arguments.Goals as goal
 

@@ -1,5 +1,5 @@
 use Rattle.std.proofs.Common.{◌<◌, ◌+◌, arith}
-use Rattle.iso_store.specs.Presents.{meaning}
+use Rattle.iso_store_core.specs.Presents.{meaning}
 use Rattle.iso_store.proofs.UnifyLemmas.{compound-arity, match_by, never-popped, stands-last, steps-last, stands-more, steps-more}
 use Rattle.iso_store.proofs.unify.unify_arguments.Goals as goal
 

@@ -1,4 +1,4 @@
-use Rattle.iso_store.specs.Presents.{meaning}
+use Rattle.iso_store_core.specs.Presents.{meaning}
 use Rattle.iso_store.proofs.Bound.{turned-result}
 use Rattle.iso_store.proofs.UnifyLemmas.{stands-same, steps-same, stands-unified, steps-unified}
 use Rattle.iso_store.proofs.unify.unify_next.Goals as goal

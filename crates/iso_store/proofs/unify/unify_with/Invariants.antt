@@ -3,7 +3,7 @@ use Rattle.std.proofs.Common.{◌≡◌, ◌+◌, ◌*◌, [], ◌∷◌, length
 use Rattle.iso_model.specs.Terms.Trees.{row}
 use Rattle.iso_model.specs.Terms.Substitutions.{Subst}
 use Rattle.iso_model.proofs.OnTerms.Cost.{cost}
-use Rattle.iso_store.specs.Presents.{meaning, Binds, Grows, KeepsMarks}
+use Rattle.iso_store_core.specs.Presents.{meaning, Binds, Grows, KeepsMarks}
 use Rattle.iso_store.specs.Unifying.{LeftBy, Stands, ones, others}
 use Rattle.iso_store.proofs.unify.unify_with.Given as goal
 

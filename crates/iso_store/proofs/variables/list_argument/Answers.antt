@@ -4,7 +4,7 @@ use Rattle.std.proofs.lemmas.List.Elements.{All-push}
 use Rattle.iso_store.specs.declared.occurs.Task.TheVariants.{Search}
 use Rattle.iso_model.proofs.OnTerms.CopyingLemmas.{on_ok_by}
 use Rattle.iso_model.specs.Terms.Variables.{distinct_from}
-use Rattle.iso_store.specs.Presents.{meaning}
+use Rattle.iso_store_core.specs.Presents.{meaning}
 use Rattle.iso_store.specs.Searching.{IsThere}
 use Rattle.iso_store.specs.Listing.{IsListing, seen, seen_after}
 use Rattle.iso_store.proofs.SearchLemmas.{load-last, load-argument}

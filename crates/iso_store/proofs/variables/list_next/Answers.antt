@@ -3,7 +3,7 @@ use Rattle.std.specs.List.{All}
 use Rattle.std.proofs.lemmas.List.Elements.{All-push}
 use Rattle.iso_store.specs.declared.occurs.Task.TheVariants.{Search, Leave}
 use Rattle.iso_model.specs.Terms.Unification.Listed.{Covers}
-use Rattle.iso_store.specs.Presents.{meaning}
+use Rattle.iso_store_core.specs.Presents.{meaning}
 use Rattle.iso_store.specs.Searching.{IsThere}
 use Rattle.iso_store.specs.Listing.{IsListing, seen, seen_after}
 use Rattle.iso_store.proofs.SearchLemmas.{load-compound}

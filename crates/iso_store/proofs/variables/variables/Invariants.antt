@@ -1,7 +1,7 @@
 -- What was found, and what is left, make all variables of the term.
 use Rattle.std.proofs.Common.{◌≡◌}
 use Rattle.iso_model.specs.Terms.Variables.{variables}
-use Rattle.iso_store.specs.Presents.{meaning}
+use Rattle.iso_store_core.specs.Presents.{meaning}
 use Rattle.iso_store.specs.Listing.{IsListing, seen, seen_after, listing_load}
 use Rattle.iso_store.proofs.variables.variables.Given as goal
 

@@ -1,6 +1,6 @@
 use Rattle.std.proofs.Common.{ap, subst, OnOk}
 use Rattle.iso_model.specs.Terms.TermOf.{term_of}
-use Rattle.iso_store.specs.Presents.{KeepsWords}
+use Rattle.iso_store_core.specs.Presents.{KeepsWords}
 use Rattle.parts_tests.proofs.Made.{made-holds, made-words}
 use Rattle.parts_tests.proofs.store.instance.Goals as goal
 

@@ -1,7 +1,7 @@
 use Rattle.std.proofs.Common.{refl, sym, ap, ◌∙◌, Some, arith}
 use Rattle.std.proofs.lemmas.Bool.{lt-ltb}
 use Rattle.std.proofs.lemmas.Option.{slice_get_read}
-use Rattle.iso_store.specs.Arguments.{arity}
+use Rattle.iso_store_core.specs.Arguments.{arity}
 use Rattle.iso_store.proofs.NodeReads.{end_arity, argument_within, argument_stands, argument_value}
 use Rattle.iso_store.proofs.nodes.NodesCells.arg.Goals as goal
 

@@ -1,7 +1,7 @@
 use Rattle.std.proofs.Common.{IfOk, subst}
 use Rattle.iso_model.specs.Terms.TermOf.{term_of}
 use Rattle.iso_model.specs.Terms.Unification.Applied.{apply_none}
-use Rattle.iso_store.specs.Patterns.{IsPattern}
+use Rattle.iso_store_core.specs.Patterns.{IsPattern}
 use Rattle.iso_store.proofs.nodes.NodesStore.pattern.Goals as goal
 
 pub returns-clause-pattern : goal.returns-clause-pattern

@@ -1,13 +1,6 @@
--- Terms made of words, and how many cells that takes.
-use Rattle.std.specs.Prelude.{ℕ, ◌+◌, List}
-use Rattle.std.specs.List.{slice_index_or}
+-- How many cells a term takes.
+use Rattle.std.specs.Prelude.{ℕ, ◌+◌}
 use Rattle.iso_model.specs.Terms.Trees.{Tree, Variable, Integer, Name, Apply, End, More, count}
-use Rattle.iso_model.specs.Terms.Substitutions.{Subst}
-use Rattle.iso_model.specs.Terms.Copies.{place_of}
-
--- each of these variables stands for the term at its place
-abbrev pub placed_terms : List Tree → List ℕ → Subst
-placed_terms ts vs x = slice_index_or ts (place_of x vs) End
 
 -- how many cells all of a term but its variables takes, where a compound of n arguments takes width n
 abbrev pub cells_of : (ℕ → ℕ) → Tree → ℕ

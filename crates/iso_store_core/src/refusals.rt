@@ -5,7 +5,7 @@ use super::shapes::StoreFault;
 use std::alloc::{AllocError, AllocFailed};
 
 impl From<AllocError> for StoreFault {
-    ghost use Rattle.iso_store.specs.declared.shapes.StoreFault.TheVariants.{NoMemory};
+    ghost use Rattle.iso_store_core.specs.declared.shapes.StoreFault.TheVariants.{NoMemory};
 
     ghost from_gives = { λ _ e. e ≡ NoMemory };
 
@@ -15,7 +15,7 @@ impl From<AllocError> for StoreFault {
 }
 
 impl<T: Drop> From<AllocFailed<T>> for StoreFault {
-    ghost use Rattle.iso_store.specs.declared.shapes.StoreFault.TheVariants.{NoMemory};
+    ghost use Rattle.iso_store_core.specs.declared.shapes.StoreFault.TheVariants.{NoMemory};
 
     ghost from_gives = { λ _ e. e ≡ NoMemory };
 

@@ -9,11 +9,11 @@ ghost use Rattle.iso_model.specs.Terms.Sizes.{size};
 ghost use Rattle.iso_model.specs.Terms.Variables.{variables, variable_count};
 ghost use Rattle.iso_model.specs.Terms.Substitutions.{IsSubstitution, apply};
 ghost use Rattle.iso_model.specs.Terms.Copies.{copy_from};
-ghost use Rattle.iso_store.specs.Presents.{Present, Holds, meaning, KeepsWords, Makes, KeepsNumbers, TakesNumber, MovesOn, Grows, NumbersHaveCells, IsUnification, KeepsMarks, Untouched};
-ghost use Rattle.iso_store.specs.Arguments.{arity, argument};
-ghost use Rattle.iso_store.specs.Shapes.{IsShape};
-ghost use Rattle.iso_store.specs.Copying.{cells_of};
-ghost use Rattle.iso_store.specs.Patterns.{IsPattern, HasPlaces, at_places};
+ghost use Rattle.iso_store_core.specs.Presents.{Present, Holds, meaning, KeepsWords, Makes, KeepsNumbers, TakesNumber, MovesOn, Grows, NumbersHaveCells, IsUnification, KeepsMarks, Untouched};
+ghost use Rattle.iso_store_core.specs.Arguments.{arity, argument};
+ghost use Rattle.iso_store_core.specs.Shapes.{IsShape};
+ghost use Rattle.iso_store_core.specs.Copying.{cells_of};
+ghost use Rattle.iso_store_core.specs.Patterns.{IsPattern, HasPlaces, at_places};
 
 use super::patterns::Pattern;
 use super::shapes::{Shape, StoreFault};

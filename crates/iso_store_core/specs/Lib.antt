@@ -1,0 +1,5 @@
+pub mod Presents
+pub mod Arguments
+pub mod Shapes
+pub mod Copying
+pub mod Patterns
