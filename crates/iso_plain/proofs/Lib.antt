@@ -24,6 +24,7 @@ pub mod CutMoves
 pub mod LocalMoves
 pub mod SameBodies
 pub mod ResumeLemmas
+pub mod RunCosts
 pub mod EndLemmas
 pub mod CalledLemmas
 pub mod RunLemmas
