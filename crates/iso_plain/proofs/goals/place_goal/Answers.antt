@@ -40,4 +40,5 @@ pub returns-in_ok-not_callable-in-Err-Callable-clause-placed : goal.returns-in_o
 returns-in_ok-not_callable-in-Err-Callable-clause-placed g c = λ runs.
     (let t = term_of c.args.goal.now in
     let k = key c.args.name.now c.args.arity in
-    run_refused t k c.if-is_unbound.ensures c.in-Err-Callable.culprit (rw c.in-Err-Callable.field-0-is at c.in-Err-Callable.ensures) runs ∙ ap Raises (sym c.in_ok-not_callable-in-Err-Callable.ensures))
+    let ball : term_of c.in_ok-not_callable-in-Err-Callable.field-0.term ≡ type_error_callable (term_of c.in-Err-Callable.culprit) k = rw c.in-Err-Callable.field-0-is at c.in_ok-not_callable-in-Err-Callable.ensures in
+    run_refused t k c.if-is_unbound.ensures c.in-Err-Callable.culprit (rw c.in-Err-Callable.field-0-is at c.in-Err-Callable.ensures) runs ∙ ap Raises (sym ball))
