@@ -230,26 +230,11 @@ module _ (t : Tree) (fits : is_term t ≡ true) (some : 0 < arity t) where
       nameless_with End (More u us) h r = refl
       nameless_with (More v vs) (More u us) h r = refl
 
-  -- a single argument is the goal
-  pub called_single : arity t ≡ 1 → (called_of t ≡ argument 0 t) × (nat_lt 255 (arity (argument 0 t)) ≡ false)
-  called_single one =
-      let first_is : argument 0 t ≡ parts.first = ap (argument 0) parts.is in
-      let total : arity t ≡ count parts.behind + 1 = ap arity parts.is in
-      let last : parts.behind ≡ End = none_behind parts.behind parts.behind_row (omega (arith, one, total)) in
-      let few = few_of_term parts.first parts.first_term in
-      let small : nat_lt 255 (arity parts.first) ≡ false = ltb_from (arity parts.first) few in
-      (called_is ∙ ap (with_arguments parts.first) last ∙ sym first_is, ap (λ u. nat_lt 255 (arity u)) first_is ∙ small)
-    where
-      none_behind : (os : Tree) → is_row os ≡ true → count os ≡ 0 → os ≡ End
-      none_behind (Variable n) h e = absurd (false≢true h)
-      none_behind (Integer z) h e = absurd (false≢true h)
-      none_behind (Name a) h e = absurd (false≢true h)
-      none_behind (Apply f ts) h e = absurd (false≢true h)
-      none_behind End h e = refl
-      none_behind (More u us) h e = absurd (omega (arith, e))
-
-      ltb_from : (n : ℕ) → n ≤ 255 → nat_lt 255 n ≡ false
-      ltb_from n h = elim (cases_Bool (nat_lt 255 n)) [ inl over ↦ absurd (let more = ltb-true _ _ over in omega (arith, h, more)) | inr under ↦ under ]
+-- a term has no more arguments than terms have
+pub few_arguments_of : (t : Tree) → is_term t ≡ true → nat_lt 255 (arity t) ≡ false
+few_arguments_of t fits =
+    let few = few_of_term t fits in
+    elim (cases_Bool (nat_lt 255 (arity t))) [ inl over ↦ absurd (let more = ltb-true _ _ over in omega (arith, few, more)) | inr under ↦ under ]
 
 -- ---- what running a goal comes to
 
@@ -319,6 +304,10 @@ module _ (t : Tree) (k : Key) (bound : IsBound t) where
       not_prepared : (o : Option Body) → converted (copy_from t 0) ≡ o → PreparesGoal {P = Preparation} (λ p. p) t o (Err (fault.Callable c)) → (converted t ≡ None) × (term_of c ≡ t)
       not_prepared (Some b) e h = absurd h
       not_prepared None e h = (no_body_of_goal t e, h)
+
+-- without the limit, where it is kept
+pub run_unlimited : (t : Tree) (k : Key) (runs : Body → Reply) → nat_lt 255 (arity t) ≡ false → goal_reply runs t k ≡ goal_reply (limited t k runs) t k
+run_unlimited t k runs few = subst (λ x. goal_reply runs t k ≡ goal_reply (λ b. if x then Raises (max_arity_error k) else runs b) t k) (sym few) refl
 
 -- the same replies
 pub run_same : {W : Type 0} (p q : Present W) (old new : List (Node W)) (first second : (Body → Reply) → Reply) (answer : Placed) → ((runs : Body → Reply) → second runs ≡ first runs) → IsRunAs p q old new first answer → IsRunAs p q old new second answer

@@ -1,17 +1,18 @@
 //! Goals that are called: read out of the store, converted, and placed among the nodes (7.8.3).
-ghost use Rattle.std.specs.Prelude.{◌≡◌, ◌+◌, ◌<◌, ◌≤◌, ℕ, IfOk, OnOk, MatchBool, MatchOption, Some, Err, true, false, nat_lt};
+ghost use Rattle.std.specs.Prelude.{◌≡◌, ◌+◌, ◌<◌, ◌≤◌, ℕ, IfOk, OnOk, MatchBool, MatchOption, codes, Some, Err, true, false, nat_lt};
 ghost use Rattle.iso_model.specs.Terms.Trees.{Tree, Variable};
 ghost use Rattle.iso_model.specs.Terms.TermOf.{term_of, row_of};
 ghost use Rattle.iso_model.specs.Terms.Sorts.{is_term};
 ghost use Rattle.iso_model.specs.Terms.Arguments as arguments;
 ghost use Rattle.iso_model.specs.Terms.Variables as distinct;
 ghost use Rattle.iso_model.specs.Search.Bodies.{Body, converted};
+ghost use Rattle.iso_model.specs.Search.BuiltIns.{goal_reply};
 ghost use Rattle.iso_model.specs.Search.Databases.{Key, key_of};
 ghost use Rattle.iso_model.specs.Search.Errors.{key};
 ghost use Rattle.iso_store.specs.Presents.{Holds, meaning, KeepsMarks};
 ghost use Rattle.iso_store.specs.Arguments.{members_from};
 ghost use Rattle.iso_plain.specs.Entering.{Adds};
-ghost use Rattle.iso_plain.specs.Replies.{Places, HasName, HasNoName, IsBound, IsGoalReady, IsPlaced, called_of};
+ghost use Rattle.iso_plain.specs.Replies.{Places, HasName, HasNoName, IsBound, IsGoalReady, IsRunAs, IsPlaced, called_of};
 
 use super::bodies::{self, Node};
 use super::{balls, entries};
@@ -176,9 +177,9 @@ fn place_goal<S: Store>(
     }
 }
 
-/// Runs the goal that a goal of `call/N`, `once/1` or `\+ /1` is for (7.8.3): its body is appended to the nodes, or the procedure of
-/// this name raises an error. The errors: the store is full, or memory was refused.
-pub fn place_called<S: Store>(
+/// Appends the body of the goal that is the first argument of this one, for which the procedure of this name and one argument was
+/// called, or gives the error that it raises. The errors: the store is full, or memory was refused.
+pub fn place_argument<S: Store>(
     alloc: Global,
     store: &mut S,
     nodes: &mut Vec<Node<S::Word>>,
@@ -187,13 +188,34 @@ pub fn place_called<S: Store>(
 ) -> Result<Placed, StoreFault>
     requires goal { Holds (S.present store.old) goal }
     requires some { 0 < arguments.arity (meaning (S.present store.old) goal) }
+    ensures placed { IfOk result (IsRunAs (S.present store.old) (S.present store.new) nodes.old.items nodes.new.items
+        (λ runs. goal_reply runs (arguments.argument 0 (meaning (S.present store.old) goal)) (key name.now 1))) }
+    ensures full { result ≡ Err StoreFault.Full → S.full store.new }
+    ensures nodes { Adds nodes.old.items nodes.new.items }
+    ensures marks { KeepsMarks (S.stands store.old) (S.stands store.new) }
+{
+    let argument = store.arg(goal, 0);
+    let called = store.copy_out(argument)?;
+    place_goal(alloc, store, nodes, &called, argument, name, 1)
+}
+
+/// Appends the body of the goal that this goal of `call/N` is for (7.8.3), or gives the error that it raises. The errors: the store is
+/// full, or memory was refused.
+pub fn place_called<S: Store>(
+    alloc: Global,
+    store: &mut S,
+    nodes: &mut Vec<Node<S::Word>>,
+    goal: S::Word,
+) -> Result<Placed, StoreFault>
+    requires goal { Holds (S.present store.old) goal }
+    requires some { 0 < arguments.arity (meaning (S.present store.old) goal) }
     ensures placed { IfOk result (IsPlaced (S.present store.old) (S.present store.new) nodes.old.items nodes.new.items
-        (called_of (meaning (S.present store.old) goal)) (key name.now (arguments.arity (meaning (S.present store.old) goal)))) }
+        (called_of (meaning (S.present store.old) goal)) (key (codes "call") (arguments.arity (meaning (S.present store.old) goal)))) }
     ensures full { result ≡ Err StoreFault.Full → S.full store.new }
     ensures nodes { Adds nodes.old.items nodes.new.items }
     ensures marks { KeepsMarks (S.stands store.old) (S.stands store.new) }
 {
     let arity = argument_count(store, goal);
     let called = called_goal(alloc, store, goal)?;
-    place_goal(alloc, store, nodes, &called, goal, name, arity)
+    place_goal(alloc, store, nodes, &called, goal, "call", arity)
 }

@@ -7,7 +7,7 @@ use Rattle.iso_model.proofs.OnTerms.RowLemmas.{term_of_compound}
 use Rattle.iso_store.specs.Arguments.{members_from}
 use Rattle.iso_store.specs.Presents.{meaning}
 use Rattle.iso_plain.specs.Replies.{HasName}
-use Rattle.iso_plain.proofs.GoalLemmas.{called_named, called_nameless, called_single}
+use Rattle.iso_plain.proofs.GoalLemmas.{called_named}
 use Rattle.iso_plain.proofs.goals.called_goal.Goals as goal
 
 pub returns : goal.returns
