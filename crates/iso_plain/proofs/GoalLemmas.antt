@@ -1,5 +1,5 @@
 -- Goals that are called: their arguments, their variables and what running them comes to.
-use Rattle.std.proofs.Common.{◌≡◌, ℕ, zero, suc, ◌+◌, ◌<◌, ◌≤◌, List, [], ◌∷◌, ◌++◌, map, length, Bool, true, false, ◌&&◌, refl, sym, ap, ap₂, ◌∙◌, subst, arith, add-one, inl, inr, Option, Some, None, option_map, nat_le, nat_lt, if◌then◌else◌, Err, Ok}
+use Rattle.std.proofs.Common.{◌≡◌, ℕ, zero, suc, ◌+◌, ◌<◌, ◌≤◌, List, [], ◌∷◌, ◌++◌, true, false, refl, sym, ap, ap₂, ◌∙◌, subst, arith, inl, inr, Option, Some, None, option_map, nat_le, nat_lt, if◌then◌else◌, Err, Ok}
 use Rattle.std.proofs.lemmas.Bool.{cases_Bool, and_parts, false≢true, leb-true, le-leb, ltb-true, ltb-false}
 use Rattle.iso_model.specs.declared.terms.Term.{Term}
 use Rattle.iso_model.specs.Terms.Trees.{Tree, Variable, Integer, Name, Apply, End, More, count, row}
@@ -20,7 +20,7 @@ use Rattle.iso_prep.specs.Preparations.{Preparation, PreparesGoal}
 use Rattle.iso_plain.specs.declared.bodies.Node.{Node}
 use Rattle.iso_plain.specs.declared.goals.Placed.{Placed}
 use Rattle.iso_plain.specs.declared.goals.Placed.TheVariants as placed
-use Rattle.iso_plain.specs.Replies.{Places, HasName, HasNoName, IsBound, IsGoalReady, called_of, limited, IsRunAs}
+use Rattle.iso_plain.specs.Replies.{HasName, HasNoName, IsBound, IsGoalReady, called_of, limited, IsRunAs}
 use Rattle.iso_plain.proofs.RenamingLemmas.{converted-renamed}
 
 -- ---- lists of terms

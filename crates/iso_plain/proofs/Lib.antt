@@ -7,8 +7,6 @@ pub mod NodeLemmas
 pub mod PatternLemmas
 pub mod PlaceLemmas
 pub mod EnteringLemmas
-pub mod ConstructLemmas
-pub mod BodyLemmas
 pub mod NumberLemmas
 pub mod ClauseLemmas
 pub mod RenamingLemmas
@@ -21,6 +19,9 @@ pub mod BackLemmas
 pub mod StartLemmas
 pub mod EndLemmas
 pub mod CalledLemmas
+pub mod GoalLemmas
+pub mod PlacedLemmas
+pub mod ReplyLemmas
 pub mod RunLemmas
 pub mod CallLemmas
 pub mod ChoiceLemmas

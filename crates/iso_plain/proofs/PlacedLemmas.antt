@@ -1,10 +1,9 @@
 -- A goal whose variables have words, made with these: it has the goal's values.
 use Rattle.std.proofs.Common.{◌≡◌, ℕ, suc, ◌+◌, ◌==◌, List, [], ◌∷◌, map, length, true, refl, sym, ap, ap₂, ◌∙◌, subst, arith, Option, Some, zero-add, inl, inr}
-use Rattle.std.specs.List.{slice_index_or}
 use Rattle.std.proofs.lemmas.Bool.{cases_Bool, eqb-true, false≢true}
 use Rattle.std.proofs.lemmas.List.{length-map}
-use Rattle.iso_model.specs.Terms.Trees.{Tree, Variable, End}
-use Rattle.iso_model.specs.Terms.Variables.{occurs, is_in, variables, variable_count}
+use Rattle.iso_model.specs.Terms.Trees.{Tree, Variable}
+use Rattle.iso_model.specs.Terms.Variables.{is_in, variables, variable_count}
 use Rattle.iso_model.specs.Terms.Substitutions.{Subst, apply, compose}
 use Rattle.iso_model.specs.Terms.Copies.{place_of, copy_from}
 use Rattle.iso_model.specs.Terms.Unification.Applied.{apply_apply, apply_alone}

@@ -7,7 +7,6 @@ use Rattle.iso_model.specs.Terms.Unifiers.{Unifier, NeverEqual}
 use Rattle.iso_model.specs.Terms.Unification.{unifier_of}
 use Rattle.iso_model.specs.Search.BuiltIns.{Calls, CallsOnce, Refutes, differ, goal_reply, reply}
 use Rattle.iso_model.specs.Search.Errors.{key}
-use Rattle.iso_model.specs.declared.built_ins.BuiltIn.{BuiltIn}
 use Rattle.iso_model.specs.declared.built_ins.BuiltIn.TheVariants as built_in
 use Rattle.iso_model.specs.declared.pauses.Ball.{Ball}
 use Rattle.iso_model.proofs.OnTerms.UnifierLemmas.{unifier_of_some, unifier_of_none}

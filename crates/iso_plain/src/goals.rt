@@ -166,9 +166,7 @@ fn place_goal<S: Store>(
         Ok(_) if is_too_long(goal) => Ok(Placed::Raises(balls::too_many_arguments(
             alloc, name, arity,
         )?)),
-        Ok(prepared) => Ok(Placed::Body(place_body(
-            alloc, store, nodes, &prepared, whole,
-        )?)),
+        Ok(prepared) => Ok(Placed::Body(place_body(alloc, store, nodes, &prepared, whole)?)),
         Err(Fault::Callable(culprit)) => Ok(Placed::Raises(balls::not_callable(
             alloc, culprit, name, arity,
         )?)),

@@ -10,6 +10,7 @@ pub mod procedures;
 // the engine's parts, and its moves
 pub mod calls;
 pub mod entries;
+pub mod goals;
 pub mod parts;
 pub mod plain;
 pub mod replies;

@@ -1,8 +1,8 @@
-use Rattle.std.proofs.Common.{◌≡◌, ◌∙◌, ap, ap₂, sym, subst, arith}
+use Rattle.std.proofs.Common.{◌≡◌, ◌∙◌, ap, ap₂, sym, subst}
 use Rattle.std.specs.String.{string_bytes}
-use Rattle.iso_model.specs.Terms.Trees.{Tree, Apply, End}
-use Rattle.iso_model.specs.Terms.TermOf.{term_of, row_of}
-use Rattle.iso_model.specs.Terms.Arguments.{argument, arguments, arity, joined}
+use Rattle.iso_model.specs.Terms.Trees.{End}
+use Rattle.iso_model.specs.Terms.TermOf.{row_of}
+use Rattle.iso_model.specs.Terms.Arguments.{argument, arguments, joined}
 use Rattle.iso_model.proofs.OnTerms.RowLemmas.{term_of_compound}
 use Rattle.iso_store.specs.Arguments.{members_from}
 use Rattle.iso_store.specs.Presents.{meaning}

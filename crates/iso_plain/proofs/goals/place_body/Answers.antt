@@ -1,8 +1,7 @@
-use Rattle.std.proofs.Common.{◌≡◌, ◌+◌, ◌-◌, List, map, length, sym, ap, ◌∙◌, subst, arith}
-use Rattle.iso_model.specs.Terms.Trees.{Tree, Variable}
+use Rattle.std.proofs.Common.{◌≡◌, ◌+◌, ◌-◌, map, length, sym, ap, ◌∙◌, subst, arith}
+use Rattle.iso_model.specs.Terms.Trees.{Variable}
 use Rattle.iso_model.specs.Terms.Variables.{variables, variable_count}
 use Rattle.iso_model.specs.Search.Bodies.{map_body}
-use Rattle.iso_store.specs.Presents.{meaning}
 use Rattle.iso_plain.specs.Nodes.{EachGoal}
 use Rattle.iso_plain.specs.Kept.{AreTemplates, IsKeptGoal}
 use Rattle.iso_plain.specs.Entering.{Copies, word_terms}

@@ -1,9 +1,7 @@
-use Rattle.std.proofs.Common.{◌≡◌, ◌∙◌, ap, sym, subst, false, true}
+use Rattle.std.proofs.Common.{◌≡◌, ◌∙◌, ap, sym}
 use Rattle.iso_model.specs.Terms.TermOf.{term_of}
-use Rattle.iso_model.specs.Terms.Trees.{Tree}
 use Rattle.iso_model.specs.Search.BuiltIns.{Raises}
 use Rattle.iso_model.specs.Search.Errors.{key, type_error_callable}
-use Rattle.std.proofs.lemmas.Bool.{true≢false}
 use Rattle.iso_plain.specs.Replies.{IsBound}
 use Rattle.iso_plain.proofs.GoalLemmas.{goal_ready, body_of_goal, bound_key, run_few, run_many, run_refused}
 use Rattle.iso_plain.proofs.goals.place_goal.Goals as goal

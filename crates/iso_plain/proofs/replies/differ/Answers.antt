@@ -1,4 +1,4 @@
-use Rattle.std.proofs.Common.{◌≡◌, Bool, true, false, not, ◌∙◌, subst, MatchBool}
+use Rattle.std.proofs.Common.{Bool, true, false, not, ◌∙◌, subst, MatchBool}
 use Rattle.iso_model.specs.Terms.Trees.{Tree}
 use Rattle.iso_model.specs.Terms.Substitutions.{Subst}
 use Rattle.iso_model.specs.Terms.Unifiers.{Unifier, NeverEqual}
