@@ -27,6 +27,9 @@ pub mod ResumeLemmas
 pub mod RunCosts
 pub mod EndLemmas
 pub mod CalledLemmas
+pub mod GoalLemmas
+pub mod PlacedLemmas
+pub mod ReplyLemmas
 pub mod RunLemmas
 pub mod CallLemmas
 pub mod ChoiceLemmas
