@@ -92,7 +92,8 @@ impl<S: Store + Drop> Plain<S> {
             self.clear();
             return Ok(Move::Pauses(Pause::Budget));
         }
-        match self.called(goal)? {
+        let called = self.called(goal)?;
+        match called {
             Called::BuiltIn(built_in) => self.run_built_in(frame, place, built_in, goal),
             Called::Fails => {
                 self.steps -= 1;
