@@ -1,5 +1,5 @@
 -- Terms and bodies by their parts: keys, bodies that are `true`, and the goals that can be kept.
-use Rattle.std.proofs.Common.{◌≡◌, ◌<◌, ◌≤◌, ℕ, List, [], ◌∷◌, ◌++◌, length, refl, sym, ap, ap₂, ◌∙◌, subst, arith, true, false, ◌&&◌, ◌||◌, ◌==◌, inl, inr, Option, Some, None, codes, String, Vec, Global, vec_len, nat_le}
+use Rattle.std.proofs.Common.{◌≡◌, ◌<◌, ℕ, List, [], ◌∷◌, ◌++◌, refl, sym, ap, ◌∙◌, subst, arith, true, false, ◌&&◌, ◌||◌, ◌==◌, inl, inr, Option, Some, None, codes, String, Vec, Global, vec_len, nat_le}
 use Rattle.std.specs.String.{string_bytes}
 use Rattle.std.specs.Str.{bytes_eq}
 use Rattle.std.proofs.lemmas.Bool.{cases_Bool, and_parts, or_cases, or_left, or_right, false≢true, leb-true}
@@ -10,7 +10,7 @@ use Rattle.iso_model.specs.Terms.Trees.{Tree, Variable, Integer, Name, Apply, En
 use Rattle.iso_model.specs.Terms.TermOf.{term_of}
 use Rattle.iso_model.specs.Terms.Sorts.{is_term}
 use Rattle.iso_model.specs.Terms.Variables.{occurs}
-use Rattle.iso_model.specs.Search.Bodies.{Body, Cut, Run, And, Or, If, Choose, converted, one, two, body_term, is_true}
+use Rattle.iso_model.specs.Search.Bodies.{Body, Cut, Run, And, Or, If, Choose, converted, two, body_term, is_true}
 use Rattle.iso_model.specs.Search.Databases.{Key, key_of}
 use Rattle.iso_model.specs.Search.Errors.{key}
 use Rattle.iso_model.proofs.OnTerms.RowLemmas.{term_of_compound, count_row_of}

@@ -1,5 +1,5 @@
 -- What makers add to a store, call by call.
-use Rattle.std.proofs.Common.{◌≡◌, ℕ, zero, suc, ◌+◌, ◌-◌, List, [], ◌∷◌, ◌++◌, Bool, true, false, ◌<◌, length, take, drop, get_or, add-one, append_assoc, append-nil, length-append, ◌==◌, refl, ap, sym, ◌∙◌, subst, arith}
+use Rattle.std.proofs.Common.{◌≡◌, ℕ, zero, suc, ◌+◌, ◌-◌, List, [], ◌∷◌, ◌++◌, Bool, true, false, ◌<◌, ◌≤◌, length, take, drop, get_or, add-one, append_assoc, append-nil, length-append, ◌==◌, refl, ap, sym, ◌∙◌, subst, arith}
 use Rattle.std.proofs.Math.Seq.{drop-cons, take-suc}
 use Rattle.iso_model.specs.declared.terms.Term.{Term}
 use Rattle.iso_model.specs.Terms.Trees.{Tree, Variable, Integer, Name, Apply, End, More, count}
@@ -11,7 +11,7 @@ use Rattle.iso_model.specs.Terms.Copies.{numbers_from, renamed}
 use Rattle.iso_store.specs.Presents.{Present, meaning, IsUnification, Binds, KeepsWords, Makes, MovesOn, KeepsNumbers}
 use Rattle.iso_plain.specs.Standing.{AreVariables, no_word, one_word, IsGoalWord, IsBody}
 use Rattle.iso_plain.specs.Entering.{Extends, Adds, IsMade, Copies, CopiesPart, Meets, GoalFits, PartsFit}
-use Rattle.iso_plain.specs.Nodes.{EndsWith, IfGoal, IsAlike, AreAlike, EachGoal, IsTermOf}
+use Rattle.iso_plain.specs.Nodes.{EndsWith, IfGoal, AreAlike, EachGoal, IsTermOf}
 use Rattle.iso_plain.specs.Kept.{IsKeptGoal}
 use Rattle.iso_plain.specs.Callable.{IsGoal}
 use Rattle.iso_plain.specs.declared.bodies.Node.{Node}
@@ -54,6 +54,12 @@ variables_push {q = q} (v ∷ ws) w n (suc k) (one_word there same others) holds
     let next : n + suc k ≡ n + 1 + k = omega arith in
     let count : suc k + 1 ≡ suc (k + 1) = omega arith in
     rw count (one_word there same (variables_push ws w (n + 1) k others holds (is ∙ ap Variable next)))
+
+pub take_all : {X : Type 0} (xs : List X) (i : ℕ) → length xs ≤ i → take i xs ≡ xs
+take_all [] zero h = refl
+take_all [] (suc i) h = refl
+take_all (x ∷ xs) zero h = absurd (omega arith)
+take_all (x ∷ xs) (suc i) h = ap (λ (ys : List _). x ∷ ys) (take_all xs i (omega arith))
 
 pub adds_none : {X : Type 0} (xs : List X) → Adds xs xs
 adds_none xs = ([], sym (append-nil xs))

@@ -70,10 +70,10 @@ module _ {S W M : Type 0} (present : S → Present W) (stands : S → M → Pres
         goes present stands older e new s r (record (pushed a.list Again (went_back a below r.own)) { steps = new.steps }) (again_step r.own first.0 a below new.steps first.1 stack left steps) engine awake
 
     -- no step is left for that
-    pub spends_on : a.left ≡ Again → e.steps ≡ 0 → ((w : World) → IsWorld e w → IsEngine present stands older new (idle w)) → new.now ≡ now.Idle → Moves present stands older (move.Pauses pause.Budget) s new
+    pub spends_on : a.left ≡ Again → e.steps ≡ 0 → IsEngine present stands older new (idle (r.own).world) → new.now ≡ now.Idle → Moves present stands older (move.Pauses pause.Budget) s new
     spends_on left none idles rests =
         let first = failing e r.own is r.engine in
-        (ends present stands older new r.own s Budget r.same (spent_step r.own first.0 a below first.1 stack left (r.engine.steps ∙ none)) rests (idles r.own.world r.engine.world), ap phase_of rests)
+        (ends present stands older new r.own s Budget r.same (spent_step r.own first.0 a below first.1 stack left (r.engine.steps ∙ none)) rests idles, ap phase_of rests)
 
   -- ---- clauses that a choice kept
 

@@ -24,8 +24,12 @@ pub mod CutMoves
 pub mod LocalMoves
 pub mod SameBodies
 pub mod ResumeLemmas
+pub mod RunCosts
 pub mod EndLemmas
 pub mod CalledLemmas
+pub mod GoalLemmas
+pub mod PlacedLemmas
+pub mod ReplyLemmas
 pub mod RunLemmas
 pub mod CallLemmas
 pub mod ChoiceLemmas

@@ -5,14 +5,14 @@ use Rattle.std.proofs.lemmas.List.Elements.{All-nil, All-cons}
 use Rattle.iso_model.specs.declared.terms.Term.{Term}
 use Rattle.iso_model.specs.Terms.Trees.{Tree, Variable}
 use Rattle.iso_model.specs.Terms.TermOf.{term_of}
-use Rattle.iso_model.specs.Terms.Substitutions.{Subst, apply}
+use Rattle.iso_model.specs.Terms.Substitutions.{apply}
 use Rattle.iso_model.specs.Terms.Copies.{renamed, numbers_from}
 use Rattle.iso_model.specs.Terms.Unification.Applied.{apply_same}
 use Rattle.iso_store.specs.Presents.{Present, Holds, KeepsWords, Makes}
 use Rattle.iso_store.specs.Patterns.{HasPlaces, at_places}
 use Rattle.iso_plain.specs.declared.bodies.Node.{Node}
 use Rattle.iso_plain.specs.Standing.{AreVariables, no_word, one_word}
-use Rattle.iso_plain.specs.Entering.{Fits, GoalFits, PartsFit, word_terms, renaming_from, IsMade, Copies}
+use Rattle.iso_plain.specs.Entering.{GoalFits, PartsFit, word_terms, renaming_from, IsMade, Copies}
 use Rattle.iso_plain.proofs.NodeLemmas.{alike_so}
 
 -- ---- words that stand on

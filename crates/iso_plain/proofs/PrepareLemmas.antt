@@ -1,9 +1,7 @@
 -- A clause that was made ready is the clause that is added.
-use Rattle.std.proofs.Common.{◌≡◌, ◌<◌, ◌≤◌, ℕ, ◌+◌, List, [], length, refl, sym, ap, ◌∙◌, subst, arith, true, false, ◌&&◌, ◌||◌, inl, inr, Option, Some, None, option_map, codes, nat_lt, ◌==◌, Result, Ok, Err, IsErrAnd}
-use Rattle.std.specs.Borrow.{Bor}
+use Rattle.std.proofs.Common.{◌≡◌, ◌<◌, ◌≤◌, ℕ, ◌+◌, List, [], length, refl, sym, ap, ◌∙◌, subst, arith, true, false, ◌&&◌, ◌||◌, inl, inr, Option, Some, None, codes, nat_lt, Result, Ok, Err, IsErrAnd}
 use Rattle.std.specs.Str.{bytes_eq}
 use Rattle.std.proofs.lemmas.Bool.{cases_Bool, eqb-true, and_parts, or_left, or_right, false≢true, ltb-false}
-use Rattle.iso_model.specs.declared.terms.Term.{Term}
 use Rattle.iso_model.specs.Terms.Trees.{Tree, Variable, Integer, Name, Apply, End, More}
 use Rattle.iso_model.specs.Terms.Sorts.{is_term}
 use Rattle.iso_model.specs.Terms.TermOf.{term_of}
@@ -22,7 +20,7 @@ use Rattle.iso_prep.specs.declared.fault.Fault.{Fault}
 use Rattle.iso_prep.specs.declared.fault.Fault.TheVariants as fault
 use Rattle.iso_prep.specs.Classes.{goals_of}
 use Rattle.iso_prep.specs.Conversions.{numbers}
-use Rattle.iso_prep.specs.Preparations.{Preparation, PreparesClause, clause_preparation}
+use Rattle.iso_prep.specs.Preparations.{Preparation, PreparesClause}
 use Rattle.iso_plain.specs.declared.clauses.Clause.{Clause}
 use Rattle.iso_plain.specs.Nodes.{ArePartsOf, IsTermOf, EachGoal}
 use Rattle.iso_plain.specs.Kept.{IsTemplate, AreTemplates, IsKeptGoal, IsReady, IsRefused, Refuses, IsAddition, ChecksUser, Prepares}

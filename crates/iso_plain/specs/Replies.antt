@@ -1,6 +1,6 @@
 -- What running a goal of a built-in makes of a store and of the nodes, and what comes next.
 use Rattle.std.specs.Prelude.{◌≡◌, ◌+◌, ℕ, List, length, Some, true, nat_lt, if◌then◌else◌}
-use Rattle.iso_model.specs.Terms.Trees.{Tree}
+use Rattle.iso_model.specs.Terms.Trees.{Tree, Variable, Name, Apply}
 use Rattle.iso_model.specs.Terms.TermOf.{term_of}
 use Rattle.iso_model.specs.Terms.Sorts.{is_term}
 use Rattle.iso_model.specs.Terms.Copies.{copy_from}
@@ -31,10 +31,27 @@ pub record Places {W : Type 0} (p q : Present W) (old new : List (Node W)) (b : 
   pub stands : IsBody q new place body
   pub values : map_body p.substitution body ≡ b
 
+-- The term is no variable.
+abbrev pub IsBound : Tree → Type 0
+IsBound (Variable n) = ⊥
+IsBound t = Unit {0}
+
 -- What was made ready is this goal.
 pub record IsGoalReady (p : Preparation) (t : Tree) : Type 0 where
   pub copied : converted (copy_from t 0) ≡ Some p.body
   pub term : is_term t ≡ true
+
+-- an atom or a compound of this name
+abbrev pub HasName : List ℕ → Tree → Type 0
+HasName f (Name a) = a ≡ f
+HasName f (Apply g ts) = g ≡ f
+HasName f t = ⊥
+
+-- neither an atom nor a compound
+abbrev pub HasNoName : Tree → Type 0
+HasNoName (Name a) = ⊥
+HasNoName (Apply f ts) = ⊥
+HasNoName t = Unit {0}
 
 -- the goal that a goal of `call/N`, `once/1` or `\+ /1` is for
 abbrev pub called_of : Tree → Tree
@@ -44,10 +61,14 @@ called_of t = with_arguments (argument 0 t) (others (arguments t))
 abbrev pub limited : Tree → Key → (Body → Reply) → Body → Reply
 limited goal k runs b = if nat_lt 255 (arity goal) then Raises (max_arity_error k) else runs b
 
--- what running a goal comes to, for which this procedure was called, in whatever way it is run
+-- what running a goal comes to, in whatever way it is run
+abbrev pub IsRunAs : {W : Type 0} → Present W → Present W → List (Node W) → List (Node W) → ((Body → Reply) → Reply) → Placed → Type 0
+IsRunAs p q old new replied (placed.Body place) = (b : Body) × ((runs : Body → Reply) → replied runs ≡ runs b) × Places p q old new b place
+IsRunAs p q old new replied (placed.Raises ball) = (runs : Body → Reply) → replied runs ≡ Raises (term_of ball.term)
+
+-- where this procedure was called for it
 abbrev pub IsPlaced : {W : Type 0} → Present W → Present W → List (Node W) → List (Node W) → Tree → Key → Placed → Type 0
-IsPlaced p q old new goal k (placed.Body place) = (b : Body) × ((runs : Body → Reply) → goal_reply (limited goal k runs) goal k ≡ runs b) × Places p q old new b place
-IsPlaced p q old new goal k (placed.Raises ball) = (runs : Body → Reply) → goal_reply (limited goal k runs) goal k ≡ Raises (term_of ball.term)
+IsPlaced p q old new goal k answer = IsRunAs p q old new (λ runs. goal_reply (limited goal k runs) goal k) answer
 
 -- The answer is the one that the reply asks for. Where it fails nothing is said of the store; where a goal goes on the store is as before, or the unifier is bound.
 abbrev pub IsReply : {W : Type 0} → Present W → Present W → List (Node W) → List (Node W) → Reply → Replied → Type 0

@@ -100,12 +100,7 @@ pub fn static_procedure(alloc: Global, name: &str, arity: usize) -> Result<Ball,
 }
 
 /// `representation_error(limit)`, raised by this procedure (7.12.2 f).
-fn representation(
-    alloc: Global,
-    limit: &str,
-    name: &str,
-    arity: usize,
-) -> Result<Ball, AllocError>
+fn representation(alloc: Global, limit: &str, name: &str, arity: usize) -> Result<Ball, AllocError>
     requires { arity < 256 }
     ensures { IfOk result (λ b. term_of b.term ≡ errors.raised (one (codes "representation_error") (Name limit.now)) (key name.now arity)) }
 {

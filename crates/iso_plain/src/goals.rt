@@ -1,17 +1,18 @@
 //! Goals that are called: read out of the store, converted, and placed among the nodes (7.8.3).
-ghost use Rattle.std.specs.Prelude.{◌≡◌, ◌+◌, ◌<◌, ◌≤◌, ℕ, IfOk, OnOk, Some, Err, true, false, nat_lt};
-ghost use Rattle.iso_model.specs.Terms.Trees.{Tree};
+ghost use Rattle.std.specs.Prelude.{◌≡◌, ◌+◌, ◌<◌, ◌≤◌, ℕ, IfOk, OnOk, MatchBool, MatchOption, codes, Some, Err, true, false, nat_lt};
+ghost use Rattle.iso_model.specs.Terms.Trees.{Tree, Variable};
 ghost use Rattle.iso_model.specs.Terms.TermOf.{term_of, row_of};
 ghost use Rattle.iso_model.specs.Terms.Sorts.{is_term};
 ghost use Rattle.iso_model.specs.Terms.Arguments as arguments;
 ghost use Rattle.iso_model.specs.Terms.Variables as distinct;
 ghost use Rattle.iso_model.specs.Search.Bodies.{Body, converted};
+ghost use Rattle.iso_model.specs.Search.BuiltIns.{goal_reply};
 ghost use Rattle.iso_model.specs.Search.Databases.{Key, key_of};
 ghost use Rattle.iso_model.specs.Search.Errors.{key};
 ghost use Rattle.iso_store.specs.Presents.{Holds, meaning, KeepsMarks};
 ghost use Rattle.iso_store.specs.Arguments.{members_from};
 ghost use Rattle.iso_plain.specs.Entering.{Adds};
-ghost use Rattle.iso_plain.specs.Replies.{Places, IsGoalReady, IsPlaced, called_of};
+ghost use Rattle.iso_plain.specs.Replies.{Places, HasName, HasNoName, IsBound, IsGoalReady, IsRunAs, IsPlaced, called_of};
 
 use super::bodies::{self, Node};
 use super::{balls, entries};
@@ -62,6 +63,18 @@ fn push_arguments<S: Store>(
     Ok(())
 }
 
+/// The name of the atom or of the compound that the word stands for.
+fn name_of<S: Store>(store: &S, word: S::Word) -> Option<&str>
+    requires { Holds (S.present store.now) word }
+    ensures { MatchOption result (HasNoName (meaning (S.present store.now) word)) (λ name. HasName name.now (meaning (S.present store.now) word)) }
+{
+    match store.shape(word) {
+        Shape::Atom(name) => Some(store.text(name)),
+        Shape::Compound(name, _) => Some(store.text(name)),
+        Shape::Var(_) | Shape::Int(_) => None,
+    }
+}
+
 /// The goal that a goal of `call/N` is for: its first argument, with the others behind its own. The error is that memory was refused.
 fn called_goal<S: Store>(alloc: Global, store: &S, goal: S::Word) -> Result<Term, NoMemory>
     requires goal { Holds (S.present store.now) goal }
@@ -72,14 +85,13 @@ fn called_goal<S: Store>(alloc: Global, store: &S, goal: S::Word) -> Result<Term
     if argument_count(store, goal) == 1 {
         return store.copy_out(first);
     }
-    let name = match store.shape(first) {
-        Shape::Var(_) | Shape::Int(_) => return store.copy_out(first),
-        Shape::Atom(name) | Shape::Compound(name, _) => name,
+    let Some(name) = name_of(store, first) else {
+        return store.copy_out(first);
     };
     let mut copies = Vec::new(alloc);
     push_arguments(store, first, 0, &mut copies)?;
     push_arguments(store, goal, 1, &mut copies)?;
-    Ok(Term::Compound(String::from_str(alloc, store.text(name))?, copies))
+    Ok(Term::Compound(String::from_str(alloc, name)?, copies))
 }
 
 /// Appends the parts of the prepared goal to the nodes, with the words of the variables of `whole`, which has the goal's variables in
@@ -115,6 +127,16 @@ fn is_too_long(term: &Term) -> bool
     }
 }
 
+/// Whether the term is a variable.
+fn is_unbound(term: &Term) -> bool
+    ensures { MatchBool result ((n : ℕ) × (term_of term.now ≡ Variable n)) (IsBound (term_of term.now)) }
+{
+    match term {
+        Term::Var(_) => true,
+        Term::Int(_) | Term::Atom(_) | Term::Compound(_, _) => false,
+    }
+}
+
 /// Converts the goal (7.6.2) and appends its parts to the nodes, with the words of the variables of `whole`, which has its variables
 /// in their order; or the error that the procedure of this name and arity raises: the goal is unbound, it can't be converted, or it has
 /// more than 255 arguments. The errors: the store is full, or memory was refused.
@@ -137,16 +159,14 @@ fn place_goal<S: Store>(
     ensures nodes { Adds nodes.old.items nodes.new.items }
     ensures marks { KeepsMarks (S.stands store.old) (S.stands store.new) }
 {
-    if let Term::Var(_) = goal {
+    if is_unbound(goal) {
         return Ok(Placed::Raises(balls::instantiation(alloc, name, arity)?));
     }
     match iso_prep::prepare_goal(alloc, goal) {
         Ok(_) if is_too_long(goal) => Ok(Placed::Raises(balls::too_many_arguments(
             alloc, name, arity,
         )?)),
-        Ok(prepared) => Ok(Placed::Body(place_body(
-            alloc, store, nodes, &prepared, whole,
-        )?)),
+        Ok(prepared) => Ok(Placed::Body(place_body(alloc, store, nodes, &prepared, whole)?)),
         Err(Fault::Callable(culprit)) => Ok(Placed::Raises(balls::not_callable(
             alloc, culprit, name, arity,
         )?)),
@@ -155,9 +175,9 @@ fn place_goal<S: Store>(
     }
 }
 
-/// Runs the goal that a goal of `call/N`, `once/1` or `\+ /1` is for (7.8.3): its body is appended to the nodes, or the procedure of
-/// this name raises an error. The errors: the store is full, or memory was refused.
-pub fn place_called<S: Store>(
+/// Appends the body of the goal that is the first argument of this one, for which the procedure of this name and one argument was
+/// called, or gives the error that it raises. The errors: the store is full, or memory was refused.
+pub fn place_argument<S: Store>(
     alloc: Global,
     store: &mut S,
     nodes: &mut Vec<Node<S::Word>>,
@@ -166,13 +186,34 @@ pub fn place_called<S: Store>(
 ) -> Result<Placed, StoreFault>
     requires goal { Holds (S.present store.old) goal }
     requires some { 0 < arguments.arity (meaning (S.present store.old) goal) }
+    ensures placed { IfOk result (IsRunAs (S.present store.old) (S.present store.new) nodes.old.items nodes.new.items
+        (λ runs. goal_reply runs (arguments.argument 0 (meaning (S.present store.old) goal)) (key name.now 1))) }
+    ensures full { result ≡ Err StoreFault.Full → S.full store.new }
+    ensures nodes { Adds nodes.old.items nodes.new.items }
+    ensures marks { KeepsMarks (S.stands store.old) (S.stands store.new) }
+{
+    let argument = store.arg(goal, 0);
+    let called = store.copy_out(argument)?;
+    place_goal(alloc, store, nodes, &called, argument, name, 1)
+}
+
+/// Appends the body of the goal that this goal of `call/N` is for (7.8.3), or gives the error that it raises. The errors: the store is
+/// full, or memory was refused.
+pub fn place_called<S: Store>(
+    alloc: Global,
+    store: &mut S,
+    nodes: &mut Vec<Node<S::Word>>,
+    goal: S::Word,
+) -> Result<Placed, StoreFault>
+    requires goal { Holds (S.present store.old) goal }
+    requires some { 0 < arguments.arity (meaning (S.present store.old) goal) }
     ensures placed { IfOk result (IsPlaced (S.present store.old) (S.present store.new) nodes.old.items nodes.new.items
-        (called_of (meaning (S.present store.old) goal)) (key name.now (arguments.arity (meaning (S.present store.old) goal)))) }
+        (called_of (meaning (S.present store.old) goal)) (key (codes "call") (arguments.arity (meaning (S.present store.old) goal)))) }
     ensures full { result ≡ Err StoreFault.Full → S.full store.new }
     ensures nodes { Adds nodes.old.items nodes.new.items }
     ensures marks { KeepsMarks (S.stands store.old) (S.stands store.new) }
 {
     let arity = argument_count(store, goal);
     let called = called_goal(alloc, store, goal)?;
-    place_goal(alloc, store, nodes, &called, goal, name, arity)
+    place_goal(alloc, store, nodes, &called, goal, "call", arity)
 }

@@ -211,18 +211,24 @@ impl<S: Store + Drop> Plain<S> {
         let choice = self.go_back();
         let left = choice.left;
         match left {
-            Left::AsIs(place) => self.go_on(choice, place),
+            Left::AsIs(place) => {
+                self.go_on(choice, place);
+                Ok(Move::Goes)
+            }
             Left::Again(_) if self.steps == 0 => {
                 self.clear();
-                return Ok(Move::Pauses(Pause::Budget));
+                Ok(Move::Pauses(Pause::Budget))
             }
-            Left::Again(place) => self.go_again(choice, place),
+            Left::Again(place) => {
+                self.go_again(choice, place);
+                Ok(Move::Goes)
+            }
             Left::Clauses(attempt) => {
                 let below = self.leave_choice(choice, attempt);
                 self.enter(attempt, below)?;
+                Ok(Move::Goes)
             }
         }
-        Ok(Move::Goes)
     }
 
     /// Keeps the call's later clauses as a choice where there are any (7.7.8); false where no choice may be made any more.

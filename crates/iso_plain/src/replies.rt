@@ -9,7 +9,7 @@ ghost use Rattle.iso_plain.specs.Replies.{IsReply};
 ghost use Rattle.iso_plain.specs.Entering.{Adds};
 
 use super::bodies::Node;
-use super::goals::{Placed, place_called};
+use super::goals::{Placed, place_argument, place_called};
 use iso_model::{Ball, BuiltIn};
 use iso_store::{Store, StoreFault};
 use std::alloc::Global;
@@ -61,15 +61,15 @@ pub fn reply<S: Store>(
             let (left, right) = (store.arg(goal, 0), store.arg(goal, 1));
             Ok(tested(differ(store, left, right)?))
         }
-        BuiltIn::Call => match place_called(alloc, store, nodes, goal, "call")? {
+        BuiltIn::Call => match place_called(alloc, store, nodes, goal)? {
             Placed::Body(place) => Ok(Replied::Calls(place)),
             Placed::Raises(ball) => Ok(Replied::Raises(ball)),
         },
-        BuiltIn::Once => match place_called(alloc, store, nodes, goal, "once")? {
+        BuiltIn::Once => match place_argument(alloc, store, nodes, goal, "once")? {
             Placed::Body(place) => Ok(Replied::CallsOnce(place)),
             Placed::Raises(ball) => Ok(Replied::Raises(ball)),
         },
-        BuiltIn::Not => match place_called(alloc, store, nodes, goal, "\\+")? {
+        BuiltIn::Not => match place_argument(alloc, store, nodes, goal, "\\+")? {
             Placed::Body(place) => Ok(Replied::Refutes(place)),
             Placed::Raises(ball) => Ok(Replied::Raises(ball)),
         },

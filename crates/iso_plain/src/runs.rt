@@ -1,5 +1,5 @@
 //! The engine's move at a member of the list of goals: a goal takes a step of the budget (7.7.4 to 7.7.7), a control construct none.
-ghost use Rattle.std.specs.Prelude.{◌≡◌, ◌≢◌, ℕ, suc, ◌+◌, ◌<◌, ◌≤◌, IfOk, OnErr, List, ◌∷◌, length, inl, inr};
+ghost use Rattle.std.specs.Prelude.{◌≡◌, ◌≢◌, ℕ, suc, ◌+◌, ◌<◌, ◌≤◌, IfOk, OnErr, List, ◌∷◌, length};
 ghost use Rattle.iso_model.specs.Terms.Trees.{Tree};
 ghost use Rattle.iso_model.specs.Search.Databases as databases;
 ghost use Rattle.iso_model.specs.Search.Walker.{State, Member, tried, with_others};
@@ -92,7 +92,8 @@ impl<S: Store + Drop> Plain<S> {
             self.clear();
             return Ok(Move::Pauses(Pause::Budget));
         }
-        match self.called(goal)? {
+        let called = self.called(goal)?;
+        match called {
             Called::BuiltIn(built_in) => self.run_built_in(frame, place, built_in, goal),
             Called::Fails => {
                 self.steps -= 1;

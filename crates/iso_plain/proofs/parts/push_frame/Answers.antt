@@ -4,6 +4,7 @@ use Rattle.iso_plain.proofs.PlaceLemmas.{goal_at}
 use Rattle.iso_plain.proofs.CostLemmas.{cost_above}
 use Rattle.iso_plain.proofs.WeightLemmas.{falls_less}
 use Rattle.iso_plain.proofs.SearchMoves.{goes}
+use Rattle.iso_plain.proofs.RunCosts.{goes_falls}
 use Rattle.iso_plain.proofs.ResumeLemmas.{resumed}
 use Rattle.iso_plain.proofs.ReplyMoves.{went_on}
 use Rattle.iso_plain.proofs.SameBodies.{same_first}

@@ -1,10 +1,8 @@
-use Rattle.std.proofs.Common.{◌≡◌, ◌+◌, ◌-◌, ◌*◌, ◌≤◌, ℕ, List, [], length, refl, sym, ap, ap₂, ◌∙◌, subst, arith}
-use Rattle.iso_model.specs.Terms.Trees.{Tree}
-use Rattle.iso_model.specs.Terms.TermOf.{term_of}
+use Rattle.std.proofs.Common.{◌≡◌, ◌+◌, ◌-◌, ◌*◌, ◌≤◌, ℕ, List, [], length, refl, sym, ap₂, ◌∙◌, subst, arith}
 use Rattle.iso_model.specs.Terms.Variables.{variables, variable_count}
 use Rattle.iso_model.specs.Terms.Copies.{numbers_from}
 use Rattle.iso_model.proofs.OnTerms.CopyLemmas.{length-numbers_from}
-use Rattle.iso_model.specs.Search.Bodies.{converted, map_body}
+use Rattle.iso_model.specs.Search.Bodies.{converted}
 use Rattle.iso_model.specs.Search.Walker.{started, shown_query}
 use Rattle.iso_plain.specs.Nodes.{EachGoal}
 use Rattle.iso_plain.specs.Kept.{AreTemplates, IsKeptGoal}

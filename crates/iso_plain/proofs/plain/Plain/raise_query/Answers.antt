@@ -1,4 +1,4 @@
-use Rattle.std.proofs.Common.{◌≡◌, refl, ap, Some}
+use Rattle.std.proofs.Common.{refl, ap, Some}
 use Rattle.std.specs.Prelude.{codes}
 use Rattle.iso_model.specs.Terms.TermOf.{term_of}
 use Rattle.iso_model.specs.Search.Errors.{key, type_error_callable}
