@@ -7,7 +7,7 @@ use Rattle.iso_model.specs.Terms.Variables.{variables}
 use Rattle.iso_model.specs.Search.Bodies.{Body}
 use Rattle.iso_model.specs.Search.Walker.{State, World, Member, Goal, CutTo, Fail, Alternative, pushed, cut_back, shortened}
 use Rattle.iso_model.specs.Search.Walker as walker
-use Rattle.iso_store.specs.Presents.{Present, KeepsMarks}
+use Rattle.iso_store_core.specs.Presents.{Present, KeepsMarks}
 use Rattle.iso_plain.specs.declared.bodies.Node.{Node}
 use Rattle.iso_plain.specs.declared.parts.Todo.{Todo}
 use Rattle.iso_plain.specs.declared.parts.Todo.TheVariants as todo

@@ -11,7 +11,7 @@ use Rattle.iso_plain.specs.declared.parts.Left.TheVariants as left
 use Rattle.iso_plain.specs.declared.procedures.Procedure.{Procedure}
 use Rattle.iso_model.specs.Search.Databases.{Clause}
 use Rattle.iso_model.specs.Search.Walker.{Member, Alternative}
-use Rattle.iso_store.specs.Presents.{Present}
+use Rattle.iso_store_core.specs.Presents.{Present}
 use Rattle.iso_plain.specs.Standing.{Links, IsBefore, Chain, ends, leads, HasLeft, StandsForChoices, links_at, none_kept, one_kept}
 use Rattle.iso_plain.specs.EngineStates.{clauses_at_place, choice_cost, choices_cost, now_cost}
 use Rattle.iso_plain.specs.Next.{IsPlace, now_at, now_behind}

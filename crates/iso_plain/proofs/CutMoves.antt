@@ -2,7 +2,7 @@
 use Rattle.std.proofs.Common.{◌≡◌, ℕ, suc, ◌+◌, ◌<◌, ◌≤◌, List, ◌∷◌, length, Option, inl, inr, refl, ap, sym, ◌∙◌, subst, arith}
 use Rattle.iso_model.specs.Search.Bodies.{Body, Cut}
 use Rattle.iso_model.specs.Search.Walker.{State, Member, Goal, CutTo, Goes, cut_back, step}
-use Rattle.iso_store.specs.Presents.{Present}
+use Rattle.iso_store_core.specs.Presents.{Present}
 use Rattle.iso_plain.specs.declared.bodies.Node.{Node}
 use Rattle.iso_plain.specs.declared.parts.Todo.{Todo}
 use Rattle.iso_plain.specs.declared.parts.Frame.{Frame}

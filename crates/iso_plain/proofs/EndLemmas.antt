@@ -8,7 +8,7 @@ use Rattle.iso_model.specs.Search.Walker.{State, World, Answered, NoMore, Uncaug
 use Rattle.iso_model.specs.declared.terms.Term.{Term}
 use Rattle.iso_model.specs.declared.pauses.Ball.{Ball}
 use Rattle.iso_model.specs.declared.pauses.Pause.TheVariants as pause
-use Rattle.iso_store.specs.Presents.{Present, Holds, meaning}
+use Rattle.iso_store_core.specs.Presents.{Present, Holds, meaning}
 use Rattle.iso_plain.specs.declared.parts.Now.{Now}
 use Rattle.iso_plain.specs.declared.parts.Now.TheVariants as now
 use Rattle.iso_plain.specs.declared.plain.Move.TheVariants as move

@@ -13,7 +13,7 @@ use Rattle.iso_model.specs.Search.Bodies.{Body, Cut, Run, And, Or, If, Choose, m
 use Rattle.iso_model.specs.Search.Databases as databases
 use Rattle.iso_model.specs.Search.Walker.{State, Member, Goal, tried_clause, before, clause_size}
 use Rattle.iso_model.proofs.Search.CallLemmas.{clause_found, clause_missed}
-use Rattle.iso_store.specs.Presents.{Present, KeepsMarks}
+use Rattle.iso_store_core.specs.Presents.{Present, KeepsMarks}
 use Rattle.iso_plain.specs.Nodes.{EndsWith, ArePartsOf, IsTermOf}
 use Rattle.iso_plain.specs.declared.bodies.Node.{Node}
 use Rattle.iso_plain.specs.declared.clauses.Clause.{Clause}

@@ -8,7 +8,7 @@ use Rattle.iso_model.specs.Search.Databases.{key_of}
 use Rattle.iso_model.specs.Terms.Substitutions.{Subst, apply, compose}
 use Rattle.iso_model.specs.Terms.Unifiers.{Unifier, NeverEqual}
 use Rattle.iso_model.specs.Terms.Copies.{numbers_from, renamed}
-use Rattle.iso_store.specs.Presents.{Present, meaning, IsUnification, Binds, KeepsWords, Makes, MovesOn, KeepsNumbers}
+use Rattle.iso_store_core.specs.Presents.{Present, meaning, IsUnification, Binds, KeepsWords, Makes, MovesOn, KeepsNumbers}
 use Rattle.iso_plain.specs.Standing.{AreVariables, no_word, one_word, IsGoalWord, IsBody}
 use Rattle.iso_plain.specs.Entering.{Extends, Adds, IsMade, Copies, CopiesPart, Meets, GoalFits, PartsFit}
 use Rattle.iso_plain.specs.Nodes.{EndsWith, IfGoal, AreAlike, EachGoal, IsTermOf}

@@ -7,7 +7,7 @@ use Rattle.iso_model.specs.Search.Walker.{State, World, Member, Alternative, AsI
 use Rattle.iso_model.specs.Search.Engines.{IsAwake}
 use Rattle.iso_model.specs.declared.pauses.Pause.TheVariants as pause
 use Rattle.iso_model.proofs.Search.CallLemmas.{clause_keeps}
-use Rattle.iso_store.specs.Presents.{Present}
+use Rattle.iso_store_core.specs.Presents.{Present}
 use Rattle.iso_plain.specs.declared.entries.Entered.{Entered}
 use Rattle.iso_plain.specs.declared.entries.Entered.TheVariants as entered
 use Rattle.iso_plain.specs.declared.parts.Attempt.{Attempt}

@@ -12,8 +12,8 @@ use Rattle.iso_model.specs.Search.Bodies.{Body, converted, map_body}
 use Rattle.iso_model.specs.Search.BuiltIns.{Reply, Raises, goal_reply, converted_reply}
 use Rattle.iso_model.specs.Search.Databases.{Key, key_of}
 use Rattle.iso_model.specs.Search.Errors.{type_error_callable, max_arity_error}
-use Rattle.iso_store.specs.Arguments.{members_from}
-use Rattle.iso_store.specs.Presents.{Present}
+use Rattle.iso_store_core.specs.Arguments.{members_from}
+use Rattle.iso_store_core.specs.Presents.{Present}
 use Rattle.iso_prep.specs.Conversions.{numbers}
 use Rattle.iso_prep.specs.declared.fault.Fault.TheVariants as fault
 use Rattle.iso_prep.specs.Preparations.{Preparation, PreparesGoal}

@@ -8,8 +8,8 @@ use Rattle.iso_model.specs.Terms.TermOf.{term_of}
 use Rattle.iso_model.specs.Terms.Substitutions.{apply}
 use Rattle.iso_model.specs.Terms.Copies.{renamed, numbers_from}
 use Rattle.iso_model.specs.Terms.Unification.Applied.{apply_same}
-use Rattle.iso_store.specs.Presents.{Present, Holds, KeepsWords, Makes}
-use Rattle.iso_store.specs.Patterns.{HasPlaces, at_places}
+use Rattle.iso_store_core.specs.Presents.{Present, Holds, KeepsWords, Makes}
+use Rattle.iso_store_core.specs.Patterns.{HasPlaces, at_places}
 use Rattle.iso_plain.specs.declared.bodies.Node.{Node}
 use Rattle.iso_plain.specs.Standing.{AreVariables, no_word, one_word}
 use Rattle.iso_plain.specs.Entering.{GoalFits, PartsFit, word_terms, renaming_from, IsMade, Copies}

@@ -12,8 +12,8 @@ use Rattle.iso_model.specs.Search.Bodies.{Body, Cut, Run, And, Or, If, Choose, c
 use Rattle.iso_model.specs.Search.RunLaws.Values.{IsOwnOption, converted_own}
 use Rattle.iso_model.proofs.OnTerms.VariableLemmas.{listed_occurring}
 use Rattle.iso_model.proofs.OnTerms.SortLemmas.{copy_is_term}
-use Rattle.iso_store.specs.Presents.{Present, meaning}
-use Rattle.iso_store.specs.Patterns.{at_places}
+use Rattle.iso_store_core.specs.Presents.{Present, meaning}
+use Rattle.iso_store_core.specs.Patterns.{at_places}
 use Rattle.iso_prep.specs.Classes.{goals_of}
 use Rattle.iso_prep.specs.Conversions.{numbers}
 use Rattle.iso_prep.specs.Preparations.{Preparation}

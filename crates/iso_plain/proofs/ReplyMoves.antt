@@ -14,7 +14,7 @@ use Rattle.iso_model.specs.Search.Runs.{Finishes, ComesOver}
 use Rattle.iso_model.specs.Search.RunLaws.Sameness.{Around, Same}
 use Rattle.iso_model.specs.Search.RunLaws.Values.{IsValue, IsOwnBody, IsOwnReply, value_is, reply_own}
 use Rattle.iso_model.proofs.Search.CallLemmas.{run_equation, run_equation_missed}
-use Rattle.iso_store.specs.Presents.{Present, KeepsMarks, KeepsWords, Binds, meaning}
+use Rattle.iso_store_core.specs.Presents.{Present, KeepsMarks, KeepsWords, Binds, meaning}
 use Rattle.iso_plain.specs.declared.bodies.Node.{Node}
 use Rattle.iso_plain.specs.declared.bodies.Node.TheVariants as node
 use Rattle.iso_plain.specs.declared.parts.Frame.{Frame}

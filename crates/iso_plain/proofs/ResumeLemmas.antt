@@ -4,7 +4,7 @@ use Rattle.std.specs.List.{slice_get}
 use Rattle.iso_model.specs.Terms.Variables.{variables}
 use Rattle.iso_model.specs.Search.Walker.{State, Alternative, AsIs, Again, pushed}
 use Rattle.iso_model.specs.Search.Walker as walker
-use Rattle.iso_store.specs.Presents.{Present}
+use Rattle.iso_store_core.specs.Presents.{Present}
 use Rattle.iso_plain.specs.declared.parts.Left.{Left}
 use Rattle.iso_plain.specs.declared.parts.Left.TheVariants as left
 use Rattle.iso_plain.specs.declared.parts.Choice as kept

@@ -11,7 +11,7 @@ use Rattle.iso_model.specs.Search.RunLaws.Sameness.{Same, failing, SameStack, no
 use Rattle.iso_model.specs.Search.RunLaws.SameRuns.{onward_same, comes_same, finishes_same, same_world}
 use Rattle.iso_model.specs.Search.RunLaws.SameSteps.{stack_length}
 use Rattle.iso_model.specs.Search.RunLaws.SameLaws.{same_beside, same_on}
-use Rattle.iso_store.specs.Presents.{Present}
+use Rattle.iso_store_core.specs.Presents.{Present}
 use Rattle.iso_plain.specs.Programs.{IsWorld}
 use Rattle.iso_plain.specs.declared.parts.Now.{Now}
 use Rattle.iso_plain.specs.declared.parts.Now.TheVariants as now

@@ -14,7 +14,7 @@ use Rattle.iso_model.proofs.OnTerms.VariableLemmas.{listed_occurring}
 use Rattle.iso_model.proofs.OnTerms.CopyLemmas.{in_numbers_from}
 use Rattle.iso_model.specs.Search.Databases.{Clause, at_end}
 use Rattle.iso_model.specs.Search.Errors.{key, type_error_callable}
-use Rattle.iso_store.specs.Presents.{Present}
+use Rattle.iso_store_core.specs.Presents.{Present}
 use Rattle.iso_plain.specs.declared.parts.Choice as kept
 use Rattle.iso_plain.specs.declared.parts.Now.TheVariants as now
 use Rattle.iso_plain.specs.Standing.{Links, StandsForChoices, none_kept, one_kept}

@@ -3,7 +3,7 @@ use Rattle.std.proofs.Common.{◌≡◌, ℕ, List, [], refl, inr, Vec, Global, 
 use Rattle.iso_model.specs.Terms.Variables.{variables}
 use Rattle.iso_model.specs.Search.Walker.{State, World, Alternative}
 use Rattle.iso_model.specs.Search.Runs.{here}
-use Rattle.iso_store.specs.Presents.{Present, KeepsMarks}
+use Rattle.iso_store_core.specs.Presents.{Present, KeepsMarks}
 use Rattle.iso_plain.specs.declared.bodies.Node.{Node}
 use Rattle.iso_plain.specs.declared.parts.Frame.{Frame}
 use Rattle.iso_plain.specs.declared.parts.Choice as kept

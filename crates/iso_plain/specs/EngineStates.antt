@@ -15,7 +15,7 @@ use Rattle.iso_model.specs.Search.Engines as engines
 use Rattle.iso_model.specs.Search.Engines.{Phase, Ready, Midway, IsAwake}
 use Rattle.iso_model.specs.declared.pauses.Pause.TheVariants as pause
 use Rattle.iso_model.specs.declared.limit.Limit.TheVariants as limit
-use Rattle.iso_store.specs.Presents.{Present}
+use Rattle.iso_store_core.specs.Presents.{Present}
 use Rattle.iso_plain.specs.Standing.{Among, Links, Chain, AtGoal, HasLeft, StandsForChoices, HaveRoom, GoesOn, DoesNext, most_numbers, numbers_a_step}
 use Rattle.iso_plain.specs.Costs.{left_cost, whole_cost, rest_cost, frame_cost, frame_costs}
 use Rattle.iso_plain.specs.Programs.{IsWorld}

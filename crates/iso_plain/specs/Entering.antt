@@ -6,8 +6,8 @@ use Rattle.iso_model.specs.Terms.TermOf.{term_of}
 use Rattle.iso_model.specs.Terms.Substitutions.{Subst, apply, compose}
 use Rattle.iso_model.specs.Terms.Unifiers.{Unifier, NeverEqual}
 use Rattle.iso_model.specs.Terms.Copies.{renamed}
-use Rattle.iso_store.specs.Presents.{Present, KeepsWords}
-use Rattle.iso_store.specs.Patterns.{HasPlaces, at_places}
+use Rattle.iso_store_core.specs.Presents.{Present, KeepsWords}
+use Rattle.iso_store_core.specs.Patterns.{HasPlaces, at_places}
 use Rattle.iso_plain.specs.Nodes.{IsAlike, AreAlike, EachGoal}
 use Rattle.iso_plain.specs.declared.bodies.Node.{Node}
 use Rattle.iso_plain.specs.declared.clauses.Clause.{Clause}

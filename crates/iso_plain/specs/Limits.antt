@@ -2,8 +2,8 @@
 use Rattle.std.specs.Prelude.{◌≤◌, length, Result, Ok, Err}
 use Rattle.iso_model.specs.declared.pauses.Pause.{Pause}
 use Rattle.iso_model.specs.declared.pauses.Pause.TheVariants as pause
-use Rattle.iso_store.specs.declared.shapes.StoreFault.{StoreFault}
-use Rattle.iso_store.specs.declared.shapes.StoreFault.TheVariants as fault
+use Rattle.iso_store_core.specs.declared.shapes.StoreFault.{StoreFault}
+use Rattle.iso_store_core.specs.declared.shapes.StoreFault.TheVariants as fault
 use Rattle.iso_plain.specs.declared.plain.Move.{Move}
 use Rattle.iso_plain.specs.declared.plain.Move.TheVariants as move
 use Rattle.iso_plain.specs.declared.plain.Plain.{Plain}

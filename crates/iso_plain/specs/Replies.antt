@@ -10,7 +10,7 @@ use Rattle.iso_model.specs.Terms.Unifiers.{Unifier, NeverEqual}
 use Rattle.iso_model.specs.Search.Bodies.{Body, converted, map_body}
 use Rattle.iso_model.specs.Search.BuiltIns.{Reply, Fails, Succeeds, Equates, Raises, Calls, CallsOnce, Refutes, Repeats, goal_reply}
 use Rattle.iso_model.specs.Search.Errors.{Key, max_arity_error}
-use Rattle.iso_store.specs.Presents.{Present, Binds, KeepsWords}
+use Rattle.iso_store_core.specs.Presents.{Present, Binds, KeepsWords}
 use Rattle.iso_prep.specs.Preparations.{Preparation}
 use Rattle.iso_plain.specs.declared.bodies.Node.{Node}
 use Rattle.iso_plain.specs.declared.goals.Placed.{Placed}

@@ -8,7 +8,7 @@ use Rattle.iso_model.specs.Search.Bodies.{Body}
 use Rattle.iso_model.specs.Search.Databases.{Clause}
 use Rattle.iso_model.specs.Search.Walker.{State, Member, Goal, CutTo, Fail, Raise, Alternative, AsIs, Again, Clauses, idle}
 use Rattle.iso_model.specs.Search.Walker as walker
-use Rattle.iso_store.specs.Presents.{Present, meaning}
+use Rattle.iso_store_core.specs.Presents.{Present, meaning}
 use Rattle.iso_plain.specs.Callable.{IsGoal}
 use Rattle.iso_plain.specs.Nodes.{At, IsTree}
 use Rattle.iso_plain.specs.declared.bodies.Node.{Node}

@@ -3,7 +3,7 @@ ghost use Rattle.std.specs.Prelude.{◌≡◌, ◌<◌, None, IfOk};
 ghost use Rattle.iso_model.specs.Search.BuiltIns.{built_in};
 ghost use Rattle.iso_model.specs.Search.Walker.{World};
 ghost use Rattle.iso_model.specs.Search.Errors.{key};
-ghost use Rattle.iso_store.specs.Presents.{Holds, meaning};
+ghost use Rattle.iso_store_core.specs.Presents.{Holds, meaning};
 ghost use Rattle.iso_plain.specs.Programs.{KeepsWorld, place_at};
 ghost use Rattle.iso_plain.specs.Callable.{IsGoal};
 ghost use Rattle.iso_plain.specs.Called.{IsNamed, IsCalled};
@@ -12,7 +12,7 @@ use super::plain::Plain;
 use super::{balls, procedures};
 use iso_model::{Ball, BuiltIn};
 use iso_ops::Unknown;
-use iso_store::{Shape, Store};
+use iso_store_core::{Shape, Store};
 use std::alloc::AllocError;
 
 /// What a goal calls.

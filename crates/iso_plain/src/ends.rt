@@ -7,7 +7,7 @@ ghost use Rattle.iso_plain.specs.Standing.{AreVariables};
 use super::parts::Now;
 use super::plain::{Move, Plain};
 use iso_model::{Pause, Term};
-use iso_store::{Store, StoreFault};
+use iso_store_core::{Store, StoreFault};
 use std::alloc::{AllocError, Global};
 
 /// The terms that these words of variables stand for. The error is that memory was refused.

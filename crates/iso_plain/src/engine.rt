@@ -12,7 +12,7 @@ use super::parts::Now;
 use super::plain::{Move, Plain};
 use iso_model::{AddFault, Engine, Limit, Pause, StartFault, Term};
 use iso_ops::{Flags, OpTable};
-use iso_store::{Store, StoreFault};
+use iso_store_core::{Store, StoreFault};
 
 impl<S: Store + Drop> Plain<S> {
     ghost use Rattle.iso_plain.specs.EngineStates.{StandsFor, Moves, Falls, Stopped, weight, phase_of};

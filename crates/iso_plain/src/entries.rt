@@ -5,7 +5,7 @@ ghost use Rattle.std.specs.List.{All};
 ghost use Rattle.iso_model.specs.Terms.TermOf.{term_of};
 ghost use Rattle.iso_model.specs.Terms.Substitutions.{apply};
 ghost use Rattle.iso_model.specs.Terms.Copies.{numbers_from};
-ghost use Rattle.iso_store.specs.Presents.{KeepsMarks, KeepsNumbers, Makes, Holds};
+ghost use Rattle.iso_store_core.specs.Presents.{KeepsMarks, KeepsNumbers, Makes, Holds};
 ghost use Rattle.iso_plain.specs.Standing.{AreVariables};
 ghost use Rattle.iso_plain.specs.Nodes.{IfGoal};
 ghost use Rattle.iso_plain.specs.Entering.{Enters, Extends, Fits, GoalFits, PartsFit, word_terms, CopiesPart, Copies, Adds};
@@ -13,7 +13,7 @@ ghost use Rattle.iso_plain.specs.Entering.{Enters, Extends, Fits, GoalFits, Part
 use super::bodies::Node;
 use super::clauses::Clause;
 use iso_model::Term;
-use iso_store::{Store, StoreFault};
+use iso_store_core::{Store, StoreFault};
 use std::alloc::Global;
 
 /// So many new variables, numbered from the next number on. The errors: the store is full, or memory was refused.

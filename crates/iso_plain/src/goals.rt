@@ -9,8 +9,8 @@ ghost use Rattle.iso_model.specs.Search.Bodies.{Body, converted};
 ghost use Rattle.iso_model.specs.Search.BuiltIns.{goal_reply};
 ghost use Rattle.iso_model.specs.Search.Databases.{Key, key_of};
 ghost use Rattle.iso_model.specs.Search.Errors.{key};
-ghost use Rattle.iso_store.specs.Presents.{Holds, meaning, KeepsMarks};
-ghost use Rattle.iso_store.specs.Arguments.{members_from};
+ghost use Rattle.iso_store_core.specs.Presents.{Holds, meaning, KeepsMarks};
+ghost use Rattle.iso_store_core.specs.Arguments.{members_from};
 ghost use Rattle.iso_plain.specs.Entering.{Adds};
 ghost use Rattle.iso_plain.specs.Replies.{Places, HasName, HasNoName, IsBound, IsGoalReady, IsRunAs, IsPlaced, called_of};
 
@@ -18,7 +18,7 @@ use super::bodies::{self, Node};
 use super::{balls, entries};
 use iso_model::{Ball, MAX_ARITY, NoMemory, Term};
 use iso_prep::{Fault, Prepared};
-use iso_store::{Shape, Store, StoreFault};
+use iso_store_core::{Shape, Store, StoreFault};
 use std::alloc::Global;
 
 /// What a goal that is to be run comes to.

@@ -6,7 +6,7 @@ ghost use Rattle.iso_model.specs.Search.Walker.{State, AsIs, Again, pushed};
 use super::parts::{Frame, Left, Now, Todo, at, keep_choice, push_frame};
 use super::plain::{Move, Plain};
 use iso_model::{Limit, Pause};
-use iso_store::{Store, StoreFault};
+use iso_store_core::{Store, StoreFault};
 
 impl<S: Store + Drop> Plain<S> {
     ghost use Rattle.iso_plain.specs.EngineStates.{IsAhead, WasRefused, Keeps, WasCalled, Falls, calling_once, refuting, choices_cost, weight};

@@ -14,7 +14,7 @@ use super::parts::{Attempt, Choice, Left, Now, at, behind, keep_choice};
 use super::plain::{Move, Plain};
 use super::procedures::Procedure;
 use iso_model::Pause;
-use iso_store::{Store, StoreFault};
+use iso_store_core::{Store, StoreFault};
 use std::alloc::AllocError;
 
 /// The clause at this place of the procedure at this place.

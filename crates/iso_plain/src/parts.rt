@@ -1,12 +1,12 @@
 //! The engine's parts: the members of the list of goals, and choices.
 ghost use Rattle.std.specs.Prelude.{◌≡◌, ◌+◌, ◌≤◌, ◌++◌, ◌∷◌, [], IfOk, OnOk, OnErr, length};
-ghost use Rattle.iso_store.specs.Presents.{KeepsMarks};
+ghost use Rattle.iso_store_core.specs.Presents.{KeepsMarks};
 ghost use Rattle.iso_plain.specs.Next.{IsPlace, now_behind, now_entered};
 ghost use Rattle.iso_plain.specs.Standing.{GainsChoice};
 
 use super::entries::Entered;
 use iso_model::Limit;
-use iso_store::Store;
+use iso_store_core::Store;
 use std::alloc::AllocError;
 
 /// What a member of the list of goals asks for.

@@ -6,7 +6,7 @@ use super::parts::{Choice, Frame, Now};
 use super::procedures::Procedure;
 use iso_model::{Ball, Pause};
 use iso_ops::{Flags, OpTable};
-use iso_store::Store;
+use iso_store_core::Store;
 use std::alloc::Global;
 
 /// Whether a move goes on without an event, or ends a call of `resume`.

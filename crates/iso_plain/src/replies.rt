@@ -3,7 +3,7 @@ ghost use Rattle.std.specs.Prelude.{◌≡◌, IfOk, OnOk, Err, MatchBool, if◌
 ghost use Rattle.iso_model.specs.Terms.Substitutions.{Subst};
 ghost use Rattle.iso_model.specs.Terms.Unifiers.{Unifier, NeverEqual};
 ghost use Rattle.iso_model.specs.Search.BuiltIns as table;
-ghost use Rattle.iso_store.specs.Presents.{Holds, meaning, KeepsMarks};
+ghost use Rattle.iso_store_core.specs.Presents.{Holds, meaning, KeepsMarks};
 ghost use Rattle.iso_plain.specs.Called.{IsBuiltIn};
 ghost use Rattle.iso_plain.specs.Replies.{IsReply};
 ghost use Rattle.iso_plain.specs.Entering.{Adds};
@@ -11,7 +11,7 @@ ghost use Rattle.iso_plain.specs.Entering.{Adds};
 use super::bodies::Node;
 use super::goals::{Placed, place_argument, place_called};
 use iso_model::{Ball, BuiltIn};
-use iso_store::{Store, StoreFault};
+use iso_store_core::{Store, StoreFault};
 use std::alloc::Global;
 
 /// What a goal of a built-in comes to.

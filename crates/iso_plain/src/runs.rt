@@ -4,7 +4,7 @@ ghost use Rattle.iso_model.specs.Terms.Trees.{Tree};
 ghost use Rattle.iso_model.specs.Search.Databases as databases;
 ghost use Rattle.iso_model.specs.Search.Walker.{State, Member, tried, with_others};
 ghost use Rattle.iso_model.specs.Search.Runs.{ComesOver};
-ghost use Rattle.iso_store.specs.Presents.{meaning};
+ghost use Rattle.iso_store_core.specs.Presents.{meaning};
 ghost use Rattle.iso_plain.specs.Called.{IsBuiltIn};
 ghost use Rattle.iso_plain.specs.declared.bodies.Node.TheVariants as node;
 
@@ -14,7 +14,7 @@ use super::parts::{Attempt, Frame, Now, Todo, at};
 use super::plain::{Move, Plain};
 use super::replies::{self, Replied};
 use iso_model::{BuiltIn, Limit, Pause};
-use iso_store::{Store, StoreFault};
+use iso_store_core::{Store, StoreFault};
 
 impl<S: Store + Drop> Plain<S> {
     ghost use Rattle.iso_plain.specs.EngineStates.{Represents, Stopped, WasRefused, Moves, Falls, Calls, WasCalled, choices_cost, cost, weight};

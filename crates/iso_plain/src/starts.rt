@@ -13,7 +13,7 @@ use super::{balls, bodies, clauses, entries, procedures};
 use iso_model::{AddFault, Term};
 use iso_ops::{Flags, OpTable};
 use iso_prep::{Fault, Prepared};
-use iso_store::{Store, StoreFault};
+use iso_store_core::{Store, StoreFault};
 use std::alloc::{AllocError, Global};
 
 impl<S: Store + Drop> Plain<S> {

@@ -1,7 +1,7 @@
 -- The values so far are those of the first words.
 use Rattle.std.proofs.Common.{◌≡◌, map, take}
 use Rattle.iso_model.specs.Terms.TermOf.{term_of}
-use Rattle.iso_store.specs.Presents.{meaning}
+use Rattle.iso_store_core.specs.Presents.{meaning}
 use Rattle.iso_plain.proofs.ends.values.Given as goal
 
 abbrev pub invariant-loop-word : goal.invariant-loop-word

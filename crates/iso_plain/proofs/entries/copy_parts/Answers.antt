@@ -1,6 +1,6 @@
 use Rattle.std.proofs.Common.{◌≡◌, length, ap, subst}
 use Rattle.iso_model.specs.Terms.Substitutions.{Subst}
-use Rattle.iso_store.specs.Patterns.{at_places}
+use Rattle.iso_store_core.specs.Patterns.{at_places}
 use Rattle.iso_plain.specs.Entering.{CopiesPart, word_terms}
 use Rattle.iso_plain.proofs.PatternLemmas.{words_hold, words_kept}
 use Rattle.iso_plain.proofs.EnteringLemmas.{extends_none, extends_on, copies_none, copies_push, adds_none, adds_push, fits_next}

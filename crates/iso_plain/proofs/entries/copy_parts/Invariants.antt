@@ -1,6 +1,6 @@
 -- The parts before the next one are copied.
 use Rattle.std.proofs.Common.{length, take, drop}
-use Rattle.iso_store.specs.Presents.{KeepsMarks}
+use Rattle.iso_store_core.specs.Presents.{KeepsMarks}
 use Rattle.iso_plain.specs.Entering.{Extends, PartsFit, Copies, Adds, word_terms}
 use Rattle.iso_plain.proofs.entries.copy_parts.Given as goal
 

@@ -1,6 +1,6 @@
 -- So many variables are there.
 use Rattle.iso_model.specs.Terms.Copies.{numbers_from}
-use Rattle.iso_store.specs.Presents.{KeepsMarks}
+use Rattle.iso_store_core.specs.Presents.{KeepsMarks}
 use Rattle.iso_plain.specs.Standing.{AreVariables}
 use Rattle.iso_plain.specs.Entering.{Extends}
 use Rattle.iso_plain.proofs.entries.new_variables.Given as goal

@@ -4,8 +4,8 @@ use Rattle.iso_model.specs.Terms.Trees.{End}
 use Rattle.iso_model.specs.Terms.TermOf.{row_of}
 use Rattle.iso_model.specs.Terms.Arguments.{argument, arguments, joined}
 use Rattle.iso_model.proofs.OnTerms.RowLemmas.{term_of_compound}
-use Rattle.iso_store.specs.Arguments.{members_from}
-use Rattle.iso_store.specs.Presents.{meaning}
+use Rattle.iso_store_core.specs.Arguments.{members_from}
+use Rattle.iso_store_core.specs.Presents.{meaning}
 use Rattle.iso_plain.specs.Replies.{HasName}
 use Rattle.iso_plain.proofs.GoalLemmas.{called_named}
 use Rattle.iso_plain.proofs.goals.called_goal.Goals as goal

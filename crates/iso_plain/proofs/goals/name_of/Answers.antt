@@ -1,5 +1,5 @@
 use Rattle.std.proofs.Common.{sym, subst}
-use Rattle.iso_store.proofs.Names.{text-is}
+use Rattle.iso_store_core.proofs.AtomLemmas.{text-is}
 use Rattle.iso_plain.specs.Replies.{HasName}
 use Rattle.iso_plain.proofs.goals.name_of.Goals as goal
 

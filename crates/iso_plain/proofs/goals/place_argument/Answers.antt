@@ -5,7 +5,7 @@ use Rattle.iso_model.specs.Terms.Variables.{variables}
 use Rattle.iso_model.specs.Search.BuiltIns.{goal_reply}
 use Rattle.iso_model.specs.Search.Errors.{key}
 use Rattle.iso_model.proofs.OnTerms.MeaningLemmas.{meaning_is_term}
-use Rattle.iso_store.specs.Presents.{meaning}
+use Rattle.iso_store_core.specs.Presents.{meaning}
 use Rattle.iso_prep.proofs.ReadLemmas.{if_ok_by}
 use Rattle.iso_plain.specs.Replies.{limited}
 use Rattle.iso_plain.proofs.GoalLemmas.{few_arguments_of, run_same, run_unlimited}

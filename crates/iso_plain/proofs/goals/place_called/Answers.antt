@@ -4,7 +4,7 @@ use Rattle.iso_model.specs.Terms.Arguments.{arity}
 use Rattle.iso_model.specs.Terms.Variables.{variables}
 use Rattle.iso_model.specs.Search.Databases.{key_of}
 use Rattle.std.specs.Prelude.{nat_lt}
-use Rattle.iso_store.specs.Presents.{meaning}
+use Rattle.iso_store_core.specs.Presents.{meaning}
 use Rattle.iso_plain.proofs.GoalLemmas.{called_variables, called_term}
 use Rattle.iso_plain.proofs.goals.place_called.Goals as goal
 

@@ -2,8 +2,8 @@ use Rattle.std.proofs.Common.{◌≡◌, ◌+◌, ◌<◌, sym, ap, ◌∙◌, a
 use Rattle.iso_model.specs.Terms.Trees.{End, More, count}
 use Rattle.iso_model.specs.Terms.TermOf.{term_of, row_of}
 use Rattle.iso_model.specs.Terms.Arguments.{arguments, joined, member}
-use Rattle.iso_store.specs.Arguments.{members_from}
-use Rattle.iso_store.specs.Presents.{meaning}
+use Rattle.iso_store_core.specs.Arguments.{members_from}
+use Rattle.iso_store_core.specs.Presents.{meaning}
 use Rattle.iso_plain.proofs.GoalLemmas.{row_whole, member_next, joined_end, joined_push, row_of_goal}
 use Rattle.iso_plain.proofs.goals.push_arguments.Goals as goal
 

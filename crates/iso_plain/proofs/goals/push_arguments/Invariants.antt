@@ -2,8 +2,8 @@
 use Rattle.std.proofs.Common.{◌≡◌}
 use Rattle.iso_model.specs.Terms.Arguments.{arguments, joined}
 use Rattle.iso_model.specs.Terms.TermOf.{row_of}
-use Rattle.iso_store.specs.Arguments.{members_from}
-use Rattle.iso_store.specs.Presents.{meaning}
+use Rattle.iso_store_core.specs.Arguments.{members_from}
+use Rattle.iso_store_core.specs.Presents.{meaning}
 use Rattle.iso_plain.proofs.goals.push_arguments.Given as goal
 
 abbrev pub invariant-loop-index : goal.invariant-loop-index

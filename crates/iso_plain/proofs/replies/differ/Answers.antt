@@ -2,7 +2,7 @@ use Rattle.std.proofs.Common.{Bool, true, false, not, ◌∙◌, subst, MatchBoo
 use Rattle.iso_model.specs.Terms.Trees.{Tree}
 use Rattle.iso_model.specs.Terms.Substitutions.{Subst}
 use Rattle.iso_model.specs.Terms.Unifiers.{Unifier, NeverEqual}
-use Rattle.iso_store.specs.Presents.{Present, IsUnification, meaning}
+use Rattle.iso_store_core.specs.Presents.{Present, IsUnification, meaning}
 use Rattle.iso_plain.proofs.replies.differ.Goals as goal
 
 differs_by : {W : Type 0} (p r : Present W) (a b : Tree) (equal : Bool) → IsUnification p r a b equal → MatchBool (not equal) (NeverEqual a b) ((s : Subst) × Unifier a b s)

@@ -1,6 +1,6 @@
 use Rattle.std.proofs.Common.{◌≡◌, arith}
 use Rattle.iso_model.specs.Terms.Arguments.{arity}
-use Rattle.iso_store.specs.Presents.{meaning}
+use Rattle.iso_store_core.specs.Presents.{meaning}
 use Rattle.iso_plain.proofs.CalledLemmas.{built_in_arguments}
 use Rattle.iso_plain.proofs.ReplyLemmas.{call_body, call_error, once_body, once_error, not_body, not_error, differ_replied}
 use Rattle.iso_plain.proofs.replies.reply.Goals as goal

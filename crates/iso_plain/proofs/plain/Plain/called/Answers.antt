@@ -1,8 +1,8 @@
 use Rattle.std.proofs.Common.{◌≡◌, Some, ap, ap₂, ◌∙◌}
 use Rattle.iso_model.specs.Search.Databases.{key_of}
 use Rattle.iso_model.specs.Search.Errors.{key}
-use Rattle.iso_store.specs.Presents.{meaning}
-use Rattle.iso_store.proofs.Names.{text-is}
+use Rattle.iso_store_core.specs.Presents.{meaning}
+use Rattle.iso_store_core.proofs.AtomLemmas.{text-is}
 use Rattle.iso_plain.proofs.CalledLemmas.{calls_shown}
 use Rattle.iso_plain.proofs.plain.Plain.called.Goals as goal
 

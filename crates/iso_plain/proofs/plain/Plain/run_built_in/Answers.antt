@@ -2,7 +2,7 @@ use Rattle.std.proofs.Common.{◌≡◌, ◌-◌, ◌+◌, ◌<◌, length, ap, 
 use Rattle.std.proofs.lemmas.Result.{on_err_weaker}
 use Rattle.iso_model.specs.Terms.TermOf.{term_of}
 use Rattle.iso_model.specs.Search.BuiltIns.{reply}
-use Rattle.iso_store.specs.Presents.{meaning}
+use Rattle.iso_store_core.specs.Presents.{meaning}
 use Rattle.iso_plain.specs.EngineStates.{Falls, cost, weight, phase_of}
 use Rattle.iso_plain.proofs.EnteringLemmas.{adds_none}
 use Rattle.iso_plain.proofs.LimitLemmas.{result_full}

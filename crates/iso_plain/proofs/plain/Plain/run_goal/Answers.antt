@@ -1,7 +1,7 @@
 use Rattle.std.proofs.Common.{◌-◌, ap, refl, subst, arith}
 use Rattle.iso_model.specs.Terms.TermOf.{term_of}
 use Rattle.std.proofs.lemmas.Result.{on_err_weaker}
-use Rattle.iso_store.specs.Presents.{meaning}
+use Rattle.iso_store_core.specs.Presents.{meaning}
 use Rattle.iso_plain.specs.EngineStates.{Falls, cost, weight, phase_of}
 use Rattle.iso_plain.proofs.StoppedLemmas.{behind_error, keeps_all}
 use Rattle.iso_plain.proofs.SearchMoves.{stops_here}
