@@ -1,5 +1,7 @@
 -- By what moves fall.
-use Rattle.std.proofs.Common.{◌≡◌, ◌<◌, ◌≤◌, ◌+◌, ℕ, suc, Option, ap, ◌∙◌, arith}
+use Rattle.std.proofs.Common.{◌≡◌, ◌<◌, ◌≤◌, ◌+◌, ℕ, suc, Option, refl, ap, ◌∙◌, arith}
+use Rattle.iso_plain.specs.declared.parts.Now.{Now}
+use Rattle.iso_plain.specs.declared.parts.Now.TheVariants as now
 use Rattle.iso_plain.specs.declared.plain.Plain.{Plain}
 use Rattle.iso_plain.specs.Costs.{body_cost, most, left_cost, whole_cost, rest_cost, frame_costs}
 use Rattle.iso_plain.specs.EngineStates.{choices_cost, now_cost, cost, weight}
@@ -58,3 +60,9 @@ falls_again e new w steps within less =
     let b = cost_above most (cost e) in
     let paid = whole_paid new.steps (cost e) (cost new) (omega (arith, a, b, within, less)) in
     rw all paid
+
+-- an answer was given
+pub answered_falls : {S W M : Type 0} (e : Plain S W M) → e.now ≡ now.Answering → weight (record e { now = now.Failing }) < weight e
+answered_falls e doing =
+    let old : cost e ≡ choices_cost e.procedures.items (frame_costs e.frames.items) e.choices.items + 1 = ap (λ (n : Now). choices_cost e.procedures.items (frame_costs e.frames.items) e.choices.items + now_cost (frame_costs e.frames.items) n) doing in
+    falls_less e (record e { now = now.Failing }) refl (omega (arith, old))
