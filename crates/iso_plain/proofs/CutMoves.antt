@@ -1,7 +1,7 @@
 -- A cut: the choices above its mark go.
-use Rattle.std.proofs.Common.{◌≡◌, ℕ, suc, ◌+◌, ◌<◌, ◌≤◌, List, ◌∷◌, length, Option, inl, inr, refl, ap, sym, ◌∙◌, subst, arith}
-use Rattle.iso_model.specs.Search.Bodies.{Body, Cut}
-use Rattle.iso_model.specs.Search.Walker.{State, Member, Goal, CutTo, Goes, cut_back, step}
+use Rattle.std.proofs.Common.{◌≡◌, ℕ, ◌+◌, ◌<◌, ◌≤◌, List, ◌∷◌, inl, inr, ap, sym, ◌∙◌, subst, arith}
+use Rattle.iso_model.specs.Search.Bodies.{Body}
+use Rattle.iso_model.specs.Search.Walker.{State, Member, Goal, Goes, cut_back, step}
 use Rattle.iso_store.specs.Presents.{Present}
 use Rattle.iso_plain.specs.declared.bodies.Node.{Node}
 use Rattle.iso_plain.specs.declared.parts.Todo.{Todo}
@@ -10,10 +10,10 @@ use Rattle.iso_plain.specs.declared.parts.Now.{Now}
 use Rattle.iso_plain.specs.declared.parts.Now.TheVariants as now
 use Rattle.iso_plain.specs.declared.plain.Move.TheVariants as move
 use Rattle.iso_plain.specs.declared.plain.Plain.{Plain}
-use Rattle.iso_plain.specs.Costs.{rest_cost, todo_cost, frame_cost, frame_costs, place_cost}
+use Rattle.iso_plain.specs.Costs.{todo_cost, frame_costs, place_cost}
 use Rattle.iso_plain.specs.Next.{now_behind}
-use Rattle.iso_plain.specs.Standing.{IsCut, Chain}
-use Rattle.iso_plain.specs.EngineStates.{IsEngine, IsAhead, Represents, Moves, choices_cost, now_cost, cost, weight, links_of}
+use Rattle.iso_plain.specs.Standing.{IsCut}
+use Rattle.iso_plain.specs.EngineStates.{IsAhead, Represents, Moves, choices_cost, now_cost, cost, weight}
 use Rattle.iso_plain.proofs.AheadLemmas.{AtFrame, at_frame, body_of, cut_of, engine_place}
 use Rattle.iso_plain.proofs.CostLemmas.{cost_above, behind_cost}
 use Rattle.iso_plain.proofs.FailLemmas.{awake_behind}
