@@ -1,5 +1,5 @@
 -- The engine, as it goes on with the members from a place on, and as frames and choices come and go.
-use Rattle.std.proofs.Common.{◌≡◌, ℕ, zero, suc, ◌+◌, ◌-◌, ◌*◌, ◌<◌, ◌≤◌, ◌++◌, List, [], ◌∷◌, length, take, drop, Option, Some, None, refl, ap, sym, ◌∙◌, subst, arith, Vec, Global}
+use Rattle.std.proofs.Common.{◌≡◌, ℕ, zero, suc, ◌-◌, ◌≤◌, ◌++◌, List, [], ◌∷◌, length, take, drop, Option, Some, None, refl, ap, sym, ◌∙◌, subst, arith, Vec, Global}
 use Rattle.std.specs.Prelude.{option_map}
 use Rattle.std.specs.List.{slice_get}
 use Rattle.iso_model.specs.Terms.TermOf.{term_of}
@@ -18,10 +18,10 @@ use Rattle.iso_plain.specs.declared.parts.Now.{Now}
 use Rattle.iso_plain.specs.declared.parts.Now.TheVariants as now
 use Rattle.iso_plain.specs.declared.plain.Plain.{Plain}
 use Rattle.iso_plain.specs.Next.{IsPlace, now_behind}
-use Rattle.iso_plain.specs.Standing.{Among, Links, IsBefore, IsBody, IsMember, a_body, a_cut, a_failure, Chain, leads, First, HasMembers, HasLeft, StandsForChoice, StandsForChoices, GainsChoice, HaveRoom, GoesOn, DoesNext, entered_at}
+use Rattle.iso_plain.specs.Standing.{Among, Links, IsBefore, IsBody, IsMember, a_body, a_cut, a_failure, Chain, leads, HasMembers, HasLeft, StandsForChoice, StandsForChoices, GainsChoice, HaveRoom, GoesOn, DoesNext, entered_at}
 use Rattle.iso_plain.specs.EngineStates.{IsEngine, IsAhead, Keeps, left_at, links_of}
 use Rattle.iso_plain.proofs.EnteringLemmas.{words_same, adds_none}
-use Rattle.iso_plain.proofs.StandingLemmas.{AddsLinks, at_last, chain_more, chain_place, choices_more, choices_keep, choices_length, choices_push, Lower, lower, marks_stand, next_behind}
+use Rattle.iso_plain.proofs.StandingLemmas.{AddsLinks, at_last, chain_more, chain_place, choices_more, choices_keep, choices_length, choices_push, lower, marks_stand, next_behind}
 use Rattle.iso_plain.proofs.StoppedLemmas.{base_kept}
 
 -- ---- what a frame asks for

@@ -14,12 +14,11 @@ use Rattle.iso_plain.specs.declared.parts.Now.{Now}
 use Rattle.iso_plain.specs.declared.parts.Now.TheVariants as now
 use Rattle.iso_plain.specs.declared.procedures.Procedure.{Procedure}
 use Rattle.iso_plain.specs.declared.plain.Plain.{Plain}
-use Rattle.iso_plain.specs.Costs.{body_cost, most, left_cost, whole_cost, rest_cost, todo_cost, frame_cost, frame_costs, place_cost}
+use Rattle.iso_plain.specs.Costs.{body_cost, most, todo_cost, frame_cost, frame_costs, place_cost}
 use Rattle.iso_plain.specs.Next.{IsPlace}
 use Rattle.iso_plain.specs.Standing.{IsAt, GainsChoice}
-use Rattle.iso_plain.specs.EngineStates.{IsEngine, IsAhead, Represents, choice_cost, choices_cost, now_cost, cost, weight, links_of}
-use Rattle.iso_plain.proofs.CostLemmas.{cost_above, cost_more, cost_parts, left_more, left_higher, left_step, whole_paid, called_cost, more_cost, newest_cost, choices_last, choices_on_more}
-use Rattle.iso_plain.proofs.AheadLemmas.{AtBody, at_body}
+use Rattle.iso_plain.specs.EngineStates.{Represents, choice_cost, choices_cost, now_cost, cost, weight}
+use Rattle.iso_plain.proofs.CostLemmas.{cost_above, cost_more, cost_parts, more_cost, newest_cost, choices_last, choices_on_more}
 use Rattle.iso_plain.proofs.ControlMoves.{body_frame, at, and_parts, if_parts, or_parts, choose_parts}
 use Rattle.iso_plain.proofs.StandingLemmas.{chain_place, length_last}
 use Rattle.iso_plain.proofs.WeightLemmas.{falls_less}

@@ -1,7 +1,7 @@
 -- Moves at control constructs.
 use Rattle.std.proofs.Common.{◌≡◌, ℕ, suc, ◌+◌, ◌-◌, ◌<◌, ◌≤◌, ◌++◌, List, [], ◌∷◌, length, Some, refl, ap, sym, ◌∙◌, subst, arith, Vec, Global}
-use Rattle.iso_model.specs.Search.Bodies.{Body, And, Or, If, Choose}
-use Rattle.iso_model.specs.Search.Walker.{State, Member, Goal, CutTo, Alternative, AsIs, Goes, pushed, step}
+use Rattle.iso_model.specs.Search.Bodies.{Body, And, Or, If}
+use Rattle.iso_model.specs.Search.Walker.{State, Goal, CutTo, Alternative, AsIs, Goes, pushed, step}
 use Rattle.iso_model.specs.Search.Runs.{ComesOver}
 use Rattle.iso_store_core.specs.Presents.{Present, KeepsMarks}
 use Rattle.iso_plain.specs.declared.bodies.Node.TheVariants as node
@@ -13,10 +13,10 @@ use Rattle.iso_plain.specs.declared.parts.Now.TheVariants as now
 use Rattle.iso_plain.specs.declared.plain.Move.TheVariants as move
 use Rattle.iso_plain.specs.declared.plain.Plain.{Plain}
 use Rattle.iso_plain.specs.Standing.{IsAt, IsBody, IsGoalWord, Chain, a_body, a_cut, GainsChoice}
-use Rattle.iso_plain.specs.EngineStates.{IsEngine, IsAhead, Represents, Stopped, Keeps, Moves, links_of}
-use Rattle.iso_plain.proofs.AheadLemmas.{AtBody, at_body, engine_frame, keeps_ahead, ahead_frame, members_left, ahead_choice, ahead_other, chain_pushed}
+use Rattle.iso_plain.specs.EngineStates.{IsEngine, IsAhead, Represents, Stopped, Keeps, Moves}
+use Rattle.iso_plain.proofs.AheadLemmas.{AtBody, at_body, engine_frame, ahead_frame, members_left, ahead_choice, ahead_other, chain_pushed}
 use Rattle.iso_plain.proofs.PlaceLemmas.{Pair, Triple, and_at, or_at, if_at, choose_at}
-use Rattle.iso_plain.proofs.SearchMoves.{goes, stops, stops_here, comes_over}
+use Rattle.iso_plain.proofs.SearchMoves.{goes, stops, comes_over}
 use Rattle.iso_plain.proofs.SearchSteps.{parts_step, either_step, condition_step, choose_step}
 use Rattle.iso_plain.proofs.StandingLemmas.{choices_length}
 
@@ -127,7 +127,7 @@ module _ {S W M : Type 0} (present : S → Present W) (stands : S → M → Pres
 
     choose_goes : (c d : ℕ) (h : IsAt e.nodes.items f k (node.Choose c d))
         → step own ≡ Goes (record (pushed (Goal ((choose_parts c d h).5).third f.mark ∷ (at h.asks).behind) AsIs own)
-            { list = Goal ((choose_parts c d h).5).first (suc (length own.stack)) ∷ CutTo (length own.stack) ∷ Goal ((choose_parts c d h).5).second f.mark ∷ (at h.asks).behind })
+        { list = Goal ((choose_parts c d h).5).first (suc (length own.stack)) ∷ CutTo (length own.stack) ∷ Goal ((choose_parts c d h).5).second f.mark ∷ (at h.asks).behind })
     choose_goes c d h =
         let a = at h.asks in
         let p = (choose_parts c d h).5 in

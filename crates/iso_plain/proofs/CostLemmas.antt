@@ -16,10 +16,10 @@ use Rattle.iso_plain.specs.Standing.{Links, IsBefore, Chain, ends, leads, HasLef
 use Rattle.iso_plain.specs.EngineStates.{clauses_at_place, choice_cost, choices_cost, now_cost}
 use Rattle.iso_plain.specs.Next.{IsPlace, now_at, now_behind}
 use Rattle.iso_plain.proofs.StandingLemmas.{chain_place}
-use Rattle.iso_plain.specs.Costs.{body_cost, most, left_cost, whole_cost, rest_cost, todo_cost, frame_cost, costs_behind, frame_costs, place_cost}
+use Rattle.iso_plain.specs.Costs.{body_cost, most, left_cost, whole_cost, todo_cost, frame_cost, costs_behind, frame_costs, place_cost}
 use Rattle.std.proofs.Math.Nat.{eq-or-lt_of_le}
 use Rattle.std.proofs.Math.Seq.{get_or-append_seam}
-use Rattle.std.proofs.lemmas.List.{get_or_append_left, get_or-take}
+use Rattle.std.proofs.lemmas.List.{get_or_append_left}
 
 pub cost_above : (k r : ℕ) → r < body_cost k r
 unfolding body_cost

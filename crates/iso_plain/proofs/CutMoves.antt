@@ -10,10 +10,10 @@ use Rattle.iso_plain.specs.declared.parts.Now.{Now}
 use Rattle.iso_plain.specs.declared.parts.Now.TheVariants as now
 use Rattle.iso_plain.specs.declared.plain.Move.TheVariants as move
 use Rattle.iso_plain.specs.declared.plain.Plain.{Plain}
-use Rattle.iso_plain.specs.Costs.{rest_cost, todo_cost, frame_cost, frame_costs, place_cost}
+use Rattle.iso_plain.specs.Costs.{todo_cost, frame_costs, place_cost}
 use Rattle.iso_plain.specs.Next.{now_behind}
-use Rattle.iso_plain.specs.Standing.{IsCut, Chain}
-use Rattle.iso_plain.specs.EngineStates.{IsEngine, IsAhead, Represents, Moves, choices_cost, now_cost, cost, weight, links_of}
+use Rattle.iso_plain.specs.Standing.{IsCut}
+use Rattle.iso_plain.specs.EngineStates.{IsAhead, Represents, Moves, choices_cost, now_cost, cost, weight}
 use Rattle.iso_plain.proofs.AheadLemmas.{AtFrame, at_frame, body_of, cut_of, engine_place}
 use Rattle.iso_plain.proofs.CostLemmas.{cost_above, behind_cost}
 use Rattle.iso_plain.proofs.FailLemmas.{awake_behind}

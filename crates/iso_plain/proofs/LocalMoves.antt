@@ -5,19 +5,18 @@ use Rattle.iso_model.specs.Search.Walker.{State, Member, Goal, CutTo, Fail, Alte
 use Rattle.iso_store_core.specs.Presents.{Present, KeepsMarks}
 use Rattle.iso_plain.specs.declared.parts.Todo.TheVariants as todo
 use Rattle.iso_plain.specs.declared.parts.Frame.{Frame}
-use Rattle.iso_plain.specs.declared.parts.Left.{Left}
 use Rattle.iso_plain.specs.declared.parts.Left.TheVariants as left
 use Rattle.iso_plain.specs.declared.parts.Choice as kept
 use Rattle.iso_plain.specs.declared.parts.Now.TheVariants as now
 use Rattle.iso_plain.specs.declared.plain.Plain.{Plain}
-use Rattle.iso_plain.specs.Costs.{body_cost, most, left_cost, whole_cost, rest_cost, frame_cost, frame_costs, place_cost}
-use Rattle.iso_plain.specs.Next.{IsPlace, now_behind}
-use Rattle.iso_plain.specs.Standing.{IsBody, a_body, a_cut, a_failure, Chain, GainsChoice}
-use Rattle.iso_plain.specs.EngineStates.{IsEngine, IsAhead, Keeps, calling_once, refuting, choices_cost, now_cost, weight, links_of}
-use Rattle.iso_plain.proofs.AheadLemmas.{engine_frame, engine_place, ahead_frame, ahead_choice, ahead_other, members_left}
+use Rattle.iso_plain.specs.Costs.{body_cost, most, whole_cost, frame_costs, place_cost}
+use Rattle.iso_plain.specs.Next.{now_behind}
+use Rattle.iso_plain.specs.Standing.{IsBody, a_body, a_cut, a_failure, GainsChoice}
+use Rattle.iso_plain.specs.EngineStates.{IsEngine, IsAhead, calling_once, refuting, choices_cost, weight}
+use Rattle.iso_plain.proofs.AheadLemmas.{engine_frame, engine_place, ahead_frame, ahead_choice, members_left}
 use Rattle.iso_plain.proofs.ControlCosts.{grown, new_place, old_place, gained_cost}
 use Rattle.iso_plain.proofs.CostLemmas.{cost_above, cost_more, cost_parts, left_step, whole_paid, called_cost, zero_cost, some_most, below_words, choices_on_more, behind_cost}
-use Rattle.iso_plain.proofs.StandingLemmas.{chain_place, choices_length, body_within, length_last}
+use Rattle.iso_plain.proofs.StandingLemmas.{chain_place, choices_length, body_within}
 
 -- ---- what is left to be done
 

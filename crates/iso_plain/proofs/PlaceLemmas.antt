@@ -1,12 +1,12 @@
 -- Which body stands at a node.
-use Rattle.std.proofs.Common.{◌≡◌, ◌+◌, ◌<◌, ◌≤◌, ◌-◌, ℕ, List, Some, true, refl, ap, sym, ◌∙◌, subst, arith}
+use Rattle.std.proofs.Common.{◌≡◌, ◌+◌, ◌<◌, ◌≤◌, ◌-◌, ℕ, List, Some, refl, sym, ◌∙◌, subst, arith}
 use Rattle.std.specs.List.{slice_get}
 use Rattle.iso_model.specs.Terms.Trees.{Tree}
 use Rattle.iso_model.specs.Search.Bodies.{Body, Cut, Run, And, Or, If, Choose}
 use Rattle.iso_store_core.specs.Presents.{Present}
 use Rattle.iso_plain.specs.declared.bodies.Node.{Node}
 use Rattle.iso_plain.specs.declared.bodies.Node.TheVariants as node
-use Rattle.iso_plain.specs.Nodes.{At, IsTree, runs, cuts, joins, branches, commits, chooses}
+use Rattle.iso_plain.specs.Nodes.{IsTree, runs, cuts, joins, branches, commits, chooses}
 use Rattle.iso_plain.specs.Standing.{IsBody, IsGoalWord}
 
 some_same : {X : Type 0} {x y : X} → Some x ≡ Some y → x ≡ y

@@ -1,5 +1,5 @@
 -- A goal of a built-in: whatever its reply is, the engine's move is a step.
-use Rattle.std.proofs.Common.{◌≡◌, ◌≢◌, ◌+◌, ◌-◌, ◌≤◌, ℕ, suc, List, [], ◌∷◌, length, Option, Some, refl, ap, sym, ◌∙◌, subst, arith, inl, inr, Vec, Global}
+use Rattle.std.proofs.Common.{◌≡◌, ◌≢◌, ◌+◌, ◌-◌, ◌≤◌, ℕ, suc, List, [], ◌∷◌, length, refl, ap, sym, ◌∙◌, subst, arith, inl, inr, Vec, Global}
 use Rattle.iso_model.specs.Terms.Trees.{Tree}
 use Rattle.iso_model.specs.Terms.TermOf.{term_of}
 use Rattle.iso_model.specs.Terms.Substitutions.{Subst, compose}
@@ -7,11 +7,10 @@ use Rattle.iso_model.specs.Terms.Unifiers.{Unifier, NeverEqual}
 use Rattle.iso_model.specs.Search.Bodies.{Body, Run, map_body}
 use Rattle.iso_model.specs.Search.BuiltIns.{Reply, Fails, Succeeds, Equates, Raises, Calls, CallsOnce, Refutes, Repeats, reply}
 use Rattle.iso_model.specs.declared.built_ins.BuiltIn.{BuiltIn}
-use Rattle.iso_model.specs.declared.pauses.Pause.TheVariants as pause
 use Rattle.iso_model.specs.declared.limit.Limit.TheVariants as limit
-use Rattle.iso_model.specs.Search.Walker.{State, Member, Goal, CutTo, Fail, World, Goes, AsIs, Again, Uncaught, idle, fails, with_goal, pushed, step}
+use Rattle.iso_model.specs.Search.Walker.{State, Goal, CutTo, Fail, World, Goes, AsIs, Again, Uncaught, idle, fails, with_goal, pushed, step}
 use Rattle.iso_model.specs.Search.Runs.{Finishes, ComesOver}
-use Rattle.iso_model.specs.Search.RunLaws.Sameness.{Around, Same}
+use Rattle.iso_model.specs.Search.RunLaws.Sameness.{Around}
 use Rattle.iso_model.specs.Search.RunLaws.Values.{IsValue, IsOwnBody, IsOwnReply, value_is, reply_own}
 use Rattle.iso_model.proofs.Search.CallLemmas.{run_equation, run_equation_missed}
 use Rattle.iso_store_core.specs.Presents.{Present, KeepsMarks, KeepsWords, Binds, meaning}
@@ -19,7 +18,6 @@ use Rattle.iso_plain.specs.declared.bodies.Node.{Node}
 use Rattle.iso_plain.specs.declared.bodies.Node.TheVariants as node
 use Rattle.iso_plain.specs.declared.parts.Frame.{Frame}
 use Rattle.iso_plain.specs.declared.parts.Todo.TheVariants as todo
-use Rattle.iso_plain.specs.declared.parts.Now.{Now}
 use Rattle.iso_plain.specs.declared.parts.Now.TheVariants as now
 use Rattle.iso_plain.specs.declared.plain.Move.{Move}
 use Rattle.iso_plain.specs.declared.plain.Move.TheVariants as move
@@ -31,7 +29,7 @@ use Rattle.iso_plain.specs.Called.{IsBuiltIn}
 use Rattle.iso_plain.specs.Entering.{Adds}
 use Rattle.iso_plain.specs.Programs.{IsWorld}
 use Rattle.iso_plain.specs.Replies.{IsReply, Places}
-use Rattle.iso_plain.specs.Standing.{IsAt, IsBody, a_body}
+use Rattle.iso_plain.specs.Standing.{IsAt, a_body}
 use Rattle.iso_plain.specs.EngineStates.{IsEngine, IsAhead, Represents, StandsFor, Stopped, Keeps, WasCalled, WasRefused, Moves, calling_once, refuting, phase_of}
 use Rattle.iso_plain.proofs.AheadLemmas.{engine_frame, engine_place}
 use Rattle.iso_plain.proofs.EngineMoves.{spent_stands}
@@ -171,7 +169,6 @@ module _ {S W M : Type 0} (present : S → Present W) (stands : S → M → Pres
     goes_on (Equates x y) is (unified u unifier binds) =
         went (o.built + 2) (compose o.subst u) binds.words (binds.substitution ∙ ap (λ (v : Subst). compose v u) a.ahead.goes.subst) binds.numbers.next
         (runs_to present stands older e s f k w doing there r (record o { list = a.behind; subst = compose o.subst u; built = o.built + 2 }) more (own_goal t a.behind o b (Equates x y) is_own is ∙ run_equation x y a.behind o u unifier))
-
     goes_on Fails is x3 = elim x3 [ ]
     goes_on (Raises error) is x4 = elim x4 [ ]
     goes_on (Calls goal) is x5 = elim x5 [ ]
@@ -189,7 +186,6 @@ module _ {S W M : Type 0} (present : S → Present W) (stands : S → M → Pres
     fails_now Fails is at_once = failed o.built (runs_to present stands older e s f k w doing there r (fails o) more (own_goal t a.behind o b Fails is_own is))
     fails_now (Equates x y) is (never_equal never) =
         failed (o.built + 2) (runs_to present stands older e s f k w doing there r (record o { list = Fail ∷ []; built = o.built + 2 }) more (own_goal t a.behind o b (Equates x y) is_own is ∙ run_equation_missed x y a.behind o never))
-
     fails_now Succeeds is x3 = elim x3 [ ]
     fails_now (Raises error) is x4 = elim x4 [ ]
     fails_now (Calls goal) is x5 = elim x5 [ ]

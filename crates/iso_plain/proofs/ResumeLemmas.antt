@@ -1,6 +1,5 @@
 -- Members that the newest choice kept are gone on with: the choice goes, or stays.
-use Rattle.std.proofs.Common.{◌≡◌, ℕ, suc, ◌+◌, ◌-◌, ◌*◌, ◌<◌, ◌≤◌, ◌++◌, List, [], ◌∷◌, length, take, Option, refl, ap, sym, ◌∙◌, subst, arith, Vec, Global}
-use Rattle.std.specs.List.{slice_get}
+use Rattle.std.proofs.Common.{◌≡◌, ℕ, suc, ◌+◌, ◌-◌, ◌<◌, ◌≤◌, ◌++◌, List, [], ◌∷◌, length, take, Option, refl, ap, sym, ◌∙◌, subst, arith, Vec, Global}
 use Rattle.iso_model.specs.Terms.Variables.{variables}
 use Rattle.iso_model.specs.Search.Walker.{State, Alternative, AsIs, Again, pushed}
 use Rattle.iso_model.specs.Search.Walker as walker
@@ -8,12 +7,11 @@ use Rattle.iso_store_core.specs.Presents.{Present}
 use Rattle.iso_plain.specs.declared.parts.Left.{Left}
 use Rattle.iso_plain.specs.declared.parts.Left.TheVariants as left
 use Rattle.iso_plain.specs.declared.parts.Choice as kept
-use Rattle.iso_plain.specs.declared.parts.Now.TheVariants as now
 use Rattle.iso_plain.specs.declared.plain.Plain.{Plain}
-use Rattle.iso_plain.specs.Costs.{frame_costs, place_cost}
+use Rattle.iso_plain.specs.Costs.{frame_costs}
 use Rattle.iso_plain.specs.Next.{now_behind}
-use Rattle.iso_plain.specs.Standing.{Among, Chain, HasMembers, HasLeft, StandsForChoices, HaveRoom, GoesOn, entered_at, numbers_a_step, most_numbers}
-use Rattle.iso_plain.specs.EngineStates.{IsEngine, IsAhead, WentBack, went_back, left_at, links_of, choice_cost, choices_cost, now_cost, cost}
+use Rattle.iso_plain.specs.Standing.{Chain, HasMembers, HasLeft, StandsForChoices, HaveRoom, GoesOn}
+use Rattle.iso_plain.specs.EngineStates.{IsEngine, IsAhead, WentBack, went_back, left_at, links_of, choice_cost, choices_cost, cost}
 use Rattle.iso_plain.proofs.AheadLemmas.{engine_place}
 use Rattle.iso_plain.proofs.CostLemmas.{choices_last, behind_cost}
 use Rattle.iso_plain.proofs.RunLemmas.{room_less}

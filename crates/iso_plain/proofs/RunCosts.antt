@@ -4,16 +4,15 @@ use Rattle.iso_store_core.specs.Presents.{Present}
 use Rattle.iso_model.specs.Search.Bodies.{Body}
 use Rattle.iso_model.specs.Search.Walker.{State}
 use Rattle.iso_plain.specs.declared.bodies.Node.{Node}
-use Rattle.iso_plain.specs.declared.bodies.Node.TheVariants as node
 use Rattle.iso_plain.specs.declared.parts.Todo.{Todo}
 use Rattle.iso_plain.specs.declared.parts.Todo.TheVariants as todo
 use Rattle.iso_plain.specs.declared.parts.Frame.{Frame}
 use Rattle.iso_plain.specs.declared.parts.Now.{Now}
 use Rattle.iso_plain.specs.declared.parts.Now.TheVariants as now
 use Rattle.iso_plain.specs.declared.plain.Plain.{Plain}
-use Rattle.iso_plain.specs.Costs.{body_cost, most, whole_cost, todo_cost, frame_costs, place_cost}
+use Rattle.iso_plain.specs.Costs.{whole_cost, todo_cost, frame_costs, place_cost}
 use Rattle.iso_plain.specs.Next.{now_behind}
-use Rattle.iso_plain.specs.Standing.{IsAt, IsBody}
+use Rattle.iso_plain.specs.Standing.{IsBody}
 use Rattle.iso_plain.specs.EngineStates.{Represents, choices_cost, now_cost, cost, weight}
 use Rattle.iso_plain.proofs.AheadLemmas.{at_body}
 use Rattle.iso_plain.proofs.ControlCosts.{cost_at}

@@ -1,11 +1,11 @@
 -- What running a goal comes to.
-use Rattle.std.proofs.Common.{◌≡◌, ◌≢◌, ◌+◌, ◌<◌, ◌≤◌, ◌-◌, ℕ, suc, List, [], ◌∷◌, None, Some, length, refl, ap, ◌∙◌, subst, arith, inl, inr, Result, Ok, Err, IfOk, Vec, Global}
+use Rattle.std.proofs.Common.{◌≡◌, ◌≢◌, ◌<◌, ◌≤◌, ◌-◌, ℕ, suc, List, [], ◌∷◌, None, Some, length, refl, ap, ◌∙◌, subst, arith, inl, inr, Result, Ok, Err, IfOk, Vec, Global}
 use Rattle.iso_ops.specs.declared.settings.Unknown.TheVariants as on_unknown
 use Rattle.iso_model.specs.Terms.Trees.{Tree}
 use Rattle.iso_model.specs.Search.Databases as databases
 use Rattle.iso_model.specs.Search.Databases.{Key, clauses_at}
 use Rattle.iso_model.specs.Search.Errors.{existence_error}
-use Rattle.iso_model.specs.Search.Walker.{State, World, Member, Goal, Fail, Raise, Alternative, Goes, Budget, Uncaught, idle, fails, run_value, tried, with_others, step}
+use Rattle.iso_model.specs.Search.Walker.{State, World, Member, Fail, Raise, Alternative, Goes, Budget, Uncaught, idle, fails, run_value, tried, with_others, step}
 use Rattle.iso_model.specs.Search.Runs.{Finishes, ComesOver}
 use Rattle.iso_model.specs.Search.RunLaws.{finishes_behind}
 use Rattle.iso_model.specs.Search.RunLaws.SameRuns.{onward_same}

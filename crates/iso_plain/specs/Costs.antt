@@ -1,5 +1,5 @@
 -- What is to be done at most before a goal takes a step, and in all: a number that falls at each move of the engine.
-use Rattle.std.specs.Prelude.{ℕ, zero, suc, ◌+◌, ◌-◌, List, [], ◌∷◌, ◌++◌, length, Option, Some, None}
+use Rattle.std.specs.Prelude.{ℕ, zero, suc, ◌+◌, List, [], ◌∷◌, ◌++◌, Option, Some, None}
 use Rattle.std.specs.List.{slice_index_or}
 use Rattle.iso_plain.specs.declared.parts.Todo.{Todo}
 use Rattle.iso_plain.specs.declared.parts.Todo.TheVariants as todo

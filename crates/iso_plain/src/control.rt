@@ -70,10 +70,13 @@ impl<S: Store + Drop> Plain<S> {
         ensures met { ResultMet S.full result self.new }
         ensures stays { Stays self.old self.new }
     {
-        let second = push_frame(&mut self.frames, Frame {
-            todo: Todo::Body(place - 1),
-            ..frame
-        })?;
+        let second = push_frame(
+            &mut self.frames,
+            Frame {
+                todo: Todo::Body(place - 1),
+                ..frame
+            },
+        )?;
         self.now = Now::Running(Frame {
             todo: Todo::Body(place - distance),
             mark: frame.mark,
@@ -102,15 +105,21 @@ impl<S: Store + Drop> Plain<S> {
         ensures stays { Stays self.old self.new }
     {
         let height = self.choices.len();
-        let behind = push_frame(&mut self.frames, Frame {
-            todo: Todo::Body(place - 1),
-            ..frame
-        })?;
-        let once = push_frame(&mut self.frames, Frame {
-            todo: Todo::CutBack,
-            mark: height,
-            next: Some(behind),
-        })?;
+        let behind = push_frame(
+            &mut self.frames,
+            Frame {
+                todo: Todo::Body(place - 1),
+                ..frame
+            },
+        )?;
+        let once = push_frame(
+            &mut self.frames,
+            Frame {
+                todo: Todo::CutBack,
+                mark: height,
+                next: Some(behind),
+            },
+        )?;
         self.now = Now::Running(Frame {
             todo: Todo::Body(place - distance),
             mark: height,
@@ -142,10 +151,13 @@ impl<S: Store + Drop> Plain<S> {
             self.now = Now::Spent(Limit::Frames);
             return Ok(Move::Pauses(Pause::FramesFull));
         }
-        let second = push_frame(&mut self.frames, Frame {
-            todo: Todo::Body(place - 1),
-            ..frame
-        })?;
+        let second = push_frame(
+            &mut self.frames,
+            Frame {
+                todo: Todo::Body(place - 1),
+                ..frame
+            },
+        )?;
         keep_choice(
             &mut self.store,
             &mut self.choices,
@@ -186,10 +198,13 @@ impl<S: Store + Drop> Plain<S> {
             self.now = Now::Spent(Limit::Frames);
             return Ok(Move::Pauses(Pause::FramesFull));
         }
-        let other = push_frame(&mut self.frames, Frame {
-            todo: Todo::Body(place - 1),
-            ..frame
-        })?;
+        let other = push_frame(
+            &mut self.frames,
+            Frame {
+                todo: Todo::Body(place - 1),
+                ..frame
+            },
+        )?;
         keep_choice(
             &mut self.store,
             &mut self.choices,
@@ -197,15 +212,21 @@ impl<S: Store + Drop> Plain<S> {
             self.nodes.len(),
             self.frames.len(),
         )?;
-        let behind = push_frame(&mut self.frames, Frame {
-            todo: Todo::Body(place - next),
-            ..frame
-        })?;
-        let once = push_frame(&mut self.frames, Frame {
-            todo: Todo::CutBack,
-            mark: height,
-            next: Some(behind),
-        })?;
+        let behind = push_frame(
+            &mut self.frames,
+            Frame {
+                todo: Todo::Body(place - next),
+                ..frame
+            },
+        )?;
+        let once = push_frame(
+            &mut self.frames,
+            Frame {
+                todo: Todo::CutBack,
+                mark: height,
+                next: Some(behind),
+            },
+        )?;
         self.now = Now::Running(Frame {
             todo: Todo::Body(place - condition),
             mark: height + 1,

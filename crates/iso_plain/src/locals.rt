@@ -17,11 +17,7 @@ impl<S: Store + Drop> Plain<S> {
 
     /// Runs the body at this place of the nodes for its first solution, before the members from `next` on (8.15.2). The error is
     /// that memory was refused.
-    pub(crate) fn call_once(
-        &mut self,
-        body: usize,
-        next: Option<usize>,
-    ) -> Result<Move, StoreFault>
+    pub(crate) fn call_once(&mut self, body: usize, next: Option<usize>) -> Result<Move, StoreFault>
         requires { (s : State) × (b : Body) × IsAhead S.present S.stands S.older self.old s next × IsBody (S.present self.old.store) self.old.nodes.items body b }
         ensures called { (s : State) (b : Body) → IsAhead S.present S.stands S.older self.old s next → IsBody (S.present self.old.store) self.old.nodes.items body b
             → IfOk result (λ m. WasCalled S.present S.stands S.older m self.new s (calling_once b s)) }
@@ -33,11 +29,14 @@ impl<S: Store + Drop> Plain<S> {
         ensures stays { Stays self.old self.new }
     {
         let height = self.choices.len();
-        let once = push_frame(&mut self.frames, Frame {
-            todo: Todo::CutBack,
-            mark: height,
-            next,
-        })?;
+        let once = push_frame(
+            &mut self.frames,
+            Frame {
+                todo: Todo::CutBack,
+                mark: height,
+                next,
+            },
+        )?;
         self.now = Now::Running(Frame {
             todo: Todo::Body(body),
             mark: height,
@@ -48,11 +47,7 @@ impl<S: Store + Drop> Plain<S> {
 
     /// Runs the body at this place of the nodes, and goes on with the members from `next` on where it has no solution
     /// (8.15.1). The error is that memory was refused; where no choice may be made any more the engine is spent.
-    pub(crate) fn refute(
-        &mut self,
-        body: usize,
-        next: Option<usize>,
-    ) -> Result<Move, StoreFault>
+    pub(crate) fn refute(&mut self, body: usize, next: Option<usize>) -> Result<Move, StoreFault>
         requires { (s : State) × (b : Body) × IsAhead S.present S.stands S.older self.old s next × IsBody (S.present self.old.store) self.old.nodes.items body b }
         ensures called { (s : State) (b : Body) → IsAhead S.present S.stands S.older self.old s next → IsBody (S.present self.old.store) self.old.nodes.items body b
             → IfOk result (λ m. WasCalled S.present S.stands S.older m self.new s (refuting b s)) }
@@ -76,16 +71,22 @@ impl<S: Store + Drop> Plain<S> {
             self.nodes.len(),
             self.frames.len(),
         )?;
-        let fail = push_frame(&mut self.frames, Frame {
-            todo: Todo::Fail,
-            mark: height,
-            next,
-        })?;
-        let once = push_frame(&mut self.frames, Frame {
-            todo: Todo::CutBack,
-            mark: height,
-            next: Some(fail),
-        })?;
+        let fail = push_frame(
+            &mut self.frames,
+            Frame {
+                todo: Todo::Fail,
+                mark: height,
+                next,
+            },
+        )?;
+        let once = push_frame(
+            &mut self.frames,
+            Frame {
+                todo: Todo::CutBack,
+                mark: height,
+                next: Some(fail),
+            },
+        )?;
         self.now = Now::Running(Frame {
             todo: Todo::Body(body),
             mark: height + 1,

@@ -130,11 +130,7 @@ impl<S: Store + Drop> Plain<S> {
     }
 
     /// Leaves the newest choice at its next clause, or takes it away where this is its last one; how many stand below it.
-    fn leave_choice(
-        &mut self,
-        choice: Choice<S::Word, S::Mark>,
-        attempt: Attempt<S::Word>,
-    ) -> usize
+    fn leave_choice(&mut self, choice: Choice<S::Word, S::Mark>, attempt: Attempt<S::Word>) -> usize
         requires some { 0 < length self.old.choices.items }
         requires left { choice.left ≡ left.Clauses attempt }
         requires back { (s : State) × (a : Alternative) × (below : List Alternative) × WentBack S.present S.stands S.older self.old choice s a below }

@@ -71,12 +71,7 @@ impl<S: Store + Drop> Plain<S> {
     }
 
     /// Runs the goal of the frame's body. The errors: the store is full, or memory was refused.
-    fn run_goal(
-        &mut self,
-        frame: Frame,
-        place: usize,
-        goal: S::Word,
-    ) -> Result<Move, StoreFault>
+    fn run_goal(&mut self, frame: Frame, place: usize, goal: S::Word) -> Result<Move, StoreFault>
         requires now { self.old.now ≡ now.Running frame }
         requires there { IsAt self.old.nodes.items frame place (node.Run goal) }
         requires stands { (s : State) × Represents S.present S.stands S.older self.old s }
@@ -137,13 +132,7 @@ impl<S: Store + Drop> Plain<S> {
         ensures met { ResultMet S.full result self.new }
         ensures stays { Stays self.old self.new }
     {
-        let replied = replies::reply(
-            self.alloc,
-            &mut self.store,
-            &mut self.nodes,
-            built_in,
-            goal,
-        )?;
+        let replied = replies::reply(self.alloc, &mut self.store, &mut self.nodes, built_in, goal)?;
         self.steps -= 1;
         match replied {
             Replied::GoesOn => {

@@ -1,4 +1,3 @@
-use Rattle.std.proofs.Common.{◌≡◌, length}
 use Rattle.iso_plain.proofs.parts.push_frame.Goals as goal
 
 pub returns-clause-place : goal.returns-clause-place

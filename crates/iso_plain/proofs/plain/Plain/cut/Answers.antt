@@ -1,4 +1,3 @@
-use Rattle.std.proofs.Common.{arith}
 use Rattle.iso_plain.proofs.CutMoves.{at, cuts, cut_falls}
 use Rattle.iso_plain.proofs.StandingLemmas.{chain_place}
 use Rattle.iso_plain.proofs.plain.Plain.cut.Goals as goal

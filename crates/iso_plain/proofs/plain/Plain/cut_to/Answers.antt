@@ -1,6 +1,5 @@
-use Rattle.std.proofs.Common.{◌≡◌, ◌<◌, ◌≤◌, length, take, Some, arith}
+use Rattle.std.proofs.Common.{◌≡◌, ◌<◌, ◌≤◌, length, Some, arith}
 use Rattle.std.specs.List.{slice_get}
-use Rattle.iso_plain.specs.EngineStates.{choices_cost}
 use Rattle.iso_plain.specs.Costs.{frame_costs}
 use Rattle.iso_plain.proofs.AheadLemmas.{ahead_cut, ahead_uncut}
 use Rattle.iso_plain.proofs.BackLemmas.{get_at}

@@ -1,6 +1,6 @@
-use Rattle.std.proofs.Common.{rules, ◌≡◌, ◌≤◌, ◌+◌, ◌∙◌, length, arith, ap, sym}
+use Rattle.std.proofs.Common.{rules, ◌≡◌, ◌∙◌, length, arith, ap, sym}
 use Rattle.iso_model.specs.Search.Walker.{with_others}
-use Rattle.iso_plain.specs.EngineStates.{went_back, choices_cost, cost}
+use Rattle.iso_plain.specs.EngineStates.{went_back, choices_cost}
 use Rattle.iso_plain.specs.Costs.{frame_costs}
 use Rattle.iso_plain.proofs.StoppedLemmas.{behind_error}
 use Rattle.iso_plain.proofs.StandingLemmas.{choices_length}

@@ -1,4 +1,4 @@
-use Rattle.std.proofs.Common.{◌≡◌, ◌-◌, length, take}
+use Rattle.std.proofs.Common.{◌≡◌, length}
 use Rattle.iso_plain.proofs.FailLemmas.{awake_behind}
 use Rattle.iso_plain.proofs.ResumeLemmas.{has_members, resumed, resumed_cost}
 use Rattle.iso_plain.proofs.StandingLemmas.{chain_place}

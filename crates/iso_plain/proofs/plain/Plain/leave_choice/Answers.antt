@@ -1,4 +1,4 @@
-use Rattle.std.proofs.Common.{◌≡◌, ◌+◌, ◌-◌, length, arith, refl, ap, take}
+use Rattle.std.proofs.Common.{◌≡◌, ◌-◌, length, arith, ap, take}
 use Rattle.std.specs.Vec.{with_item}
 use Rattle.iso_plain.specs.declared.parts.Left.TheVariants as left
 use Rattle.iso_plain.specs.Costs.{frame_costs}

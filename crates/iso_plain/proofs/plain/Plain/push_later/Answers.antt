@@ -1,4 +1,4 @@
-use Rattle.std.proofs.Common.{◌≡◌, ◌+◌, ◌≤◌, length, arith, refl, ap}
+use Rattle.std.proofs.Common.{◌≡◌, ◌+◌, length, arith, ap}
 use Rattle.iso_model.specs.Terms.Variables.{variables}
 use Rattle.iso_plain.specs.EngineStates.{choices_cost, clauses_at_place}
 use Rattle.iso_plain.specs.Costs.{rest_cost, frame_costs}

@@ -1,4 +1,4 @@
-use Rattle.std.proofs.Common.{◌≡◌, ◌≤◌, ◌∙◌, ◌++◌, ◌∷◌, [], length, arith, refl, sym, append-nil, Some, inl, inr}
+use Rattle.std.proofs.Common.{◌≡◌, ◌∙◌, ◌++◌, ◌∷◌, [], length, arith, refl, sym, append-nil, inl, inr}
 use Rattle.iso_model.specs.Search.Walker.{AsIs, pushed}
 use Rattle.iso_plain.specs.declared.parts.Todo.TheVariants as todo
 use Rattle.iso_plain.specs.declared.parts.Frame.{Frame}
@@ -46,9 +46,11 @@ returns-clause-called g c = λ s b h body.
     (let e = c.args.self.now in
     let height : c.len-height.result ≡ length e.choices.items = cc (c.len-height.ensures, e.choices.ok.0) in
     let nodes : c.len.result ≡ length e.nodes.items = cc (c.len.ensures, e.nodes.ok.0) in
-    let frames : c.len-2.result ≡ length e.frames.items = cc (c.len-2.ensures, e.frames.ok.0) in
-    (rw (height, c.in_ok-once.ensures.place) (refute_engine g.S.Store.present g.S.Store.stands g.S.Store.older e s c.args.next h c.keep_choice.new.store c.keep_choice.new.choices c.in_ok-keep_choice.ensures.present c.in_ok-keep_choice.ensures.marks (rw (nodes, frames) at c.in_ok-keep_choice.ensures.gains)
-    c.args.body c.len-height.result b c.push_frame.new.frames c.push_frame-2.new.frames body c.in_ok-fail.ensures.pushed (rw (height, c.in_ok-fail.ensures.place) at c.in_ok-once.ensures.pushed)), tt))
+    let frames : c.len-2.result ≡ length e.frames.items = cc (c.len-2.ensures, e.frames.ok.0) in (
+      rw (height, c.in_ok-once.ensures.place) (refute_engine g.S.Store.present g.S.Store.stands g.S.Store.older e s c.args.next h c.keep_choice.new.store c.keep_choice.new.choices c.in_ok-keep_choice.ensures.present c.in_ok-keep_choice.ensures.marks (rw (nodes, frames) at c.in_ok-keep_choice.ensures.gains)
+          c.args.body c.len-height.result b c.push_frame.new.frames c.push_frame-2.new.frames body c.in_ok-fail.ensures.pushed (rw (height, c.in_ok-fail.ensures.place) at c.in_ok-once.ensures.pushed)),
+      tt,
+    ))
 
 pub returns-clause-falls : goal.returns-clause-falls
 returns-clause-falls g c = λ w less.

@@ -1,5 +1,4 @@
-use Rattle.std.proofs.Common.{◌≡◌, ◌≤◌, length, arith, refl}
-use Rattle.iso_plain.proofs.EnteringLemmas.{adds_none}
+use Rattle.std.proofs.Common.{◌≡◌, length, arith, refl}
 use Rattle.iso_plain.proofs.AheadLemmas.{keeps_ahead}
 use Rattle.iso_plain.proofs.FailLemmas.{awake_behind}
 use Rattle.iso_plain.proofs.StandingLemmas.{chain_place}
@@ -26,9 +25,10 @@ pub returns-clause-called : goal.returns-clause-called
 returns-clause-called g c = λ s h.
     (let e = c.args.self.now in
     let nodes : c.len-2.result ≡ length e.nodes.items = cc (c.len-2.ensures, e.nodes.ok.0) in
-    let frames : c.len-3.result ≡ length e.frames.items = cc (c.len-3.ensures, e.frames.ok.0) in
-    (rw (c.at-self.ensures, c.as_slice.ensures.value) (repeat_engine g.S.Store.present g.S.Store.stands g.S.Store.older e s c.args.next h c.keep_choice.new.store c.keep_choice.new.choices c.in_ok-keep_choice.ensures.present c.in_ok-keep_choice.ensures.marks (rw (nodes, frames) at c.in_ok-keep_choice.ensures.gains)),
-    rw c.at-self.ensures (awake_behind _ c.args.next)))
+    let frames : c.len-3.result ≡ length e.frames.items = cc (c.len-3.ensures, e.frames.ok.0) in (
+      rw (c.at-self.ensures, c.as_slice.ensures.value) (repeat_engine g.S.Store.present g.S.Store.stands g.S.Store.older e s c.args.next h c.keep_choice.new.store c.keep_choice.new.choices c.in_ok-keep_choice.ensures.present c.in_ok-keep_choice.ensures.marks (rw (nodes, frames) at c.in_ok-keep_choice.ensures.gains)),
+      rw c.at-self.ensures (awake_behind _ c.args.next),
+    ))
 
 pub returns-clause-falls : goal.returns-clause-falls
 returns-clause-falls g c = λ w less.

@@ -1,4 +1,4 @@
-use Rattle.std.proofs.Common.{◌-◌, ap, refl, subst, arith}
+use Rattle.std.proofs.Common.{◌-◌, ap, subst, arith}
 use Rattle.iso_model.specs.Terms.TermOf.{term_of}
 use Rattle.std.proofs.lemmas.Result.{on_err_weaker}
 use Rattle.iso_store_core.specs.Presents.{meaning}

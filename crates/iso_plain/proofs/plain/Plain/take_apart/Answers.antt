@@ -1,4 +1,4 @@
-use Rattle.std.proofs.Common.{◌≡◌, ◌∙◌, ◌++◌, [], length, arith, sym, append-nil}
+use Rattle.std.proofs.Common.{◌≡◌, ◌∙◌, ◌++◌, [], arith, sym, append-nil}
 use Rattle.iso_plain.proofs.EnteringLemmas.{adds_none}
 use Rattle.iso_plain.proofs.StoppedLemmas.{behind_error, keeps_all, keeps_more}
 use Rattle.iso_plain.proofs.SearchMoves.{stops_here}
