@@ -1,7 +1,7 @@
 -- A cut: the choices above its mark go.
-use Rattle.std.proofs.Common.{◌≡◌, ℕ, suc, ◌+◌, ◌<◌, ◌≤◌, List, ◌∷◌, length, Option, inl, inr, refl, ap, sym, ◌∙◌, subst, arith}
-use Rattle.iso_model.specs.Search.Bodies.{Body, Cut}
-use Rattle.iso_model.specs.Search.Walker.{State, Member, Goal, CutTo, Goes, cut_back, step}
+use Rattle.std.proofs.Common.{◌≡◌, ℕ, ◌+◌, ◌<◌, ◌≤◌, List, ◌∷◌, inl, inr, ap, sym, ◌∙◌, subst, arith}
+use Rattle.iso_model.specs.Search.Bodies.{Body}
+use Rattle.iso_model.specs.Search.Walker.{State, Member, Goal, Goes, cut_back, step}
 use Rattle.iso_store_core.specs.Presents.{Present}
 use Rattle.iso_plain.specs.declared.bodies.Node.{Node}
 use Rattle.iso_plain.specs.declared.parts.Todo.{Todo}

@@ -11,7 +11,6 @@ use Rattle.iso_model.specs.Search.RunLaws.{finishes_behind}
 use Rattle.iso_model.specs.Search.RunLaws.SameRuns.{onward_same}
 use Rattle.iso_model.proofs.Search.CallLemmas.{clause_keeps}
 use Rattle.iso_model.specs.declared.limit.Limit.TheVariants as limit
-use Rattle.iso_model.specs.declared.pauses.Pause.{Pause}
 use Rattle.iso_store_core.specs.Presents.{Present, KeepsMarks, meaning}
 use Rattle.iso_plain.specs.declared.bodies.Node.{Node}
 use Rattle.iso_plain.specs.declared.bodies.Node.TheVariants as node
