@@ -9,10 +9,14 @@ pub mod clauses;
 pub mod procedures;
 // the engine's parts, and its moves
 pub mod calls;
+pub mod ends;
 pub mod entries;
 pub mod goals;
+pub mod moves;
 pub mod parts;
 pub mod plain;
 pub mod replies;
+pub mod runs;
 // what the callers call
+pub mod engine;
 pub mod starts;
