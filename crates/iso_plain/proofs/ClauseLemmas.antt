@@ -3,14 +3,13 @@ use Rattle.std.proofs.Common.{◌≡◌, ◌<◌, ℕ, List, [], ◌∷◌, ◌+
 use Rattle.std.specs.String.{string_bytes}
 use Rattle.std.specs.Str.{bytes_eq}
 use Rattle.std.proofs.lemmas.Bool.{cases_Bool, and_parts, or_cases, or_left, or_right, false≢true, leb-true}
-use Rattle.std.proofs.lemmas.Slice.Eq.{bytes_eq-Decides}
 use Rattle.iso_model.specs.declared.terms.Term.{Term}
 use Rattle.iso_model.specs.declared.terms.Term.TheVariants.{Compound}
 use Rattle.iso_model.specs.Terms.Trees.{Tree, Variable, Integer, Name, Apply, End, More, count}
 use Rattle.iso_model.specs.Terms.TermOf.{term_of}
 use Rattle.iso_model.specs.Terms.Sorts.{is_term}
 use Rattle.iso_model.specs.Terms.Variables.{occurs}
-use Rattle.iso_model.specs.Search.Bodies.{Body, Cut, Run, And, Or, If, Choose, converted, two, body_term, is_true}
+use Rattle.iso_model.specs.Search.Bodies.{Body, Cut, Run, converted, two}
 use Rattle.iso_model.specs.Search.Databases.{Key, key_of}
 use Rattle.iso_model.specs.Search.Errors.{key}
 use Rattle.iso_model.proofs.OnTerms.RowLemmas.{term_of_compound, count_row_of}
@@ -21,46 +20,13 @@ use Rattle.iso_prep.proofs.ConversionLemmas.{by_connective, both_parts, converte
 use Rattle.iso_prep.proofs.GoalLemmas.{goals_joined}
 use Rattle.iso_plain.specs.declared.bodies.Node.{Node}
 use Rattle.iso_plain.specs.declared.bodies.Node.TheVariants as node
-use Rattle.iso_plain.specs.Nodes.{EndsWith, ArePartsOf, IsTermOf, EachGoal, goals_in}
+use Rattle.iso_plain.specs.Nodes.{EachGoal, goals_in}
 use Rattle.iso_plain.specs.Kept.{IsTemplate, AreTemplates, IsKeptGoal}
 
 pub key_of_compound : (t : Term) (f : String Global) (v : Vec Term Global) → t ≡ Compound f v → key_of (term_of t) ≡ Some (key (string_bytes f) (vec_len v))
 key_of_compound t f v is =
     let n = count_row_of v.items ∙ sym v.ok.0 in
     rw (is, term_of_compound f v, n) refl
-
--- ---- a body that is `true` alone
-
-true_body : (b : Body) → body_term b ≡ Name (codes "true") → is_true b ≡ true
-true_body Cut e = cc
-true_body (Run t) e = rw e refl
-true_body (And a b) e = cc
-true_body (Or a b) e = cc
-true_body (If a b) e = cc
-true_body (Choose a b c) e = cc
-
-pub true_parts : (parts : List (Node Term)) (b : Body) (t : Tree) → t ≡ body_term b → t ≡ Name (codes "true") → parts ≡ [] → ArePartsOf IsTermOf parts b
-true_parts parts b t is fact none = rw (true_body b (sym is ∙ fact)) none
-
-untrue_body : (b : Body) → (body_term b ≡ Name (codes "true") → ⊥) → is_true b ≡ false
-untrue_body Cut h = refl
-untrue_body (Run (Variable n)) h = refl
-untrue_body (Run (Integer z)) h = refl
-untrue_body (Run (Name a)) h =
-    elim (cases_Bool (bytes_eq a (codes "true"))) [
-      | inl same ↦ absurd (h (ap Name ((bytes_eq-Decides a (codes "true")).0 same)))
-      | inr other ↦ other
-    ]
-untrue_body (Run (Apply f ts)) h = refl
-untrue_body (Run End) h = refl
-untrue_body (Run (More t ts)) h = refl
-untrue_body (And a b) h = refl
-untrue_body (Or a b) h = refl
-untrue_body (If a b) h = refl
-untrue_body (Choose a b c) h = refl
-
-pub other_parts : (parts : List (Node Term)) (b : Body) (t : Tree) → t ≡ body_term b → (t ≡ Name (codes "true") → ⊥) → EndsWith IsTermOf parts b → ArePartsOf IsTermOf parts b
-other_parts parts b t is other ends = rw (untrue_body b (λ e. other (is ∙ e))) ends
 
 -- ---- goals that can be kept
 

@@ -20,7 +20,7 @@ use Rattle.iso_prep.specs.Preparations.{Preparation, PreparesGoal}
 use Rattle.iso_plain.specs.declared.bodies.Node.{Node}
 use Rattle.iso_plain.specs.declared.goals.Placed.{Placed}
 use Rattle.iso_plain.specs.declared.goals.Placed.TheVariants as placed
-use Rattle.iso_plain.specs.Replies.{HasName, HasNoName, IsBound, IsGoalReady, called_of, limited, IsRunAs}
+use Rattle.iso_plain.specs.Replies.{HasName, IsBound, IsGoalReady, called_of, limited, IsRunAs}
 use Rattle.iso_plain.proofs.RenamingLemmas.{converted-renamed}
 
 -- ---- lists of terms
@@ -63,9 +63,6 @@ joined_end (t ∷ ts) = ap (More (term_of t)) (joined_end ts)
 pub joined_push : (xs : List Term) (x : Term) (m : Tree) → joined (row_of (xs ++ x ∷ [])) m ≡ joined (row_of xs) (More (term_of x) m)
 joined_push [] x m = refl
 joined_push (y ∷ xs) x m = ap (More (term_of y)) (joined_push xs x m)
-
-joined_none : (us : Tree) → joined End us ≡ us
-joined_none us = refl
 
 count_joined : (ts us : Tree) → is_row ts ≡ true → count (joined ts us) ≡ count ts + count us
 count_joined (Variable n) us h = absurd (false≢true h)
@@ -210,25 +207,6 @@ module _ (t : Tree) (fits : is_term t ≡ true) (some : 0 < arity t) where
       named_with f (Integer z) (More u us) h some r = absurd h
       named_with f End (More u us) h some r = absurd h
       named_with f (More v vs) (More u us) h some r = absurd h
-
-  -- one that has none stays as it is
-  pub called_nameless : HasNoName (argument 0 t) → argument 0 t ≡ called_of t
-  called_nameless none =
-      let first_is : argument 0 t ≡ parts.first = ap (argument 0) parts.is in
-      first_is ∙ nameless_with parts.first parts.behind (subst HasNoName first_is none) parts.behind_row ∙ sym called_is
-    where
-      nameless_with : (g os : Tree) → HasNoName g → is_row os ≡ true → g ≡ with_arguments g os
-      nameless_with g End h r = refl
-      nameless_with g (Variable n) h r = absurd (false≢true r)
-      nameless_with g (Integer z) h r = absurd (false≢true r)
-      nameless_with g (Name a) h r = absurd (false≢true r)
-      nameless_with g (Apply k ts) h r = absurd (false≢true r)
-      nameless_with (Variable n) (More u us) h r = refl
-      nameless_with (Integer z) (More u us) h r = refl
-      nameless_with (Name a) (More u us) h r = absurd h
-      nameless_with (Apply k ts) (More u us) h r = absurd h
-      nameless_with End (More u us) h r = refl
-      nameless_with (More v vs) (More u us) h r = refl
 
 -- a term has no more arguments than terms have
 pub few_arguments_of : (t : Tree) → is_term t ≡ true → nat_lt 255 (arity t) ≡ false

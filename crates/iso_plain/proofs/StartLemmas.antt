@@ -145,9 +145,6 @@ not_renamed (Choose a b c) = λ i. Choose (not_renamed a i) (not_renamed b i) (n
 -- ---- an engine that was cleared
 
 module _ {S W M : Type 0} {present : S → Present W} {stands : S → M → Present W → Type 0} {older : M → M → Type 0} where
-  pub fresh_from : {e : Plain S W M} {w : World} → IsEngine present stands older e (idle w) → (present e.store).substitution ≡ Variable → (present e.store).next ≡ 0 → IsFresh present stands older e w
-  fresh_from h substitution next = record { world = h.world; base = h.base; choices = no_choice_left refl h.choices; substitution = substitution; next = next }
-
   -- with other steps
   pub fresh_again : {e : Plain S W M} {w : World} {steps : ℕ} → IsEngine present stands older e (idle w) → (present e.store).substitution ≡ Variable → (present e.store).next ≡ 0
       → IsFresh present stands older (record e { steps = steps }) w
@@ -177,8 +174,3 @@ module _ {S W M : Type 0} {present : S → Present W} {stands : S → M → Pres
     no_memory : (a : Addition) → Comes present stands older a w (Err add.NoMemory) e
     no_memory (Adds after) = engine
     no_memory (Refuses error) = engine
-
-  -- No memory was left for it.
-  pub no_memory_left : (t : Tree) (w : World) (r : Result Unit AddFault) (e : Plain S W M) → IsErrAnd r (λ x. x ≡ add.NoMemory) → IsEngine present stands older e (idle w)
-      → Comes present stands older (consulted t w.database) w r e
-  no_memory_left t w r e is engine = refused t w r add.NoMemory e tt is engine
