@@ -3,3 +3,4 @@ pub mod CallLemmas
 pub mod WorkedRows
 pub mod WorkedAppend
 pub mod WorkedJoin
+pub mod WorkedControlRuns

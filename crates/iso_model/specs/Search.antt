@@ -2,6 +2,7 @@
 pub mod Bodies
 pub mod Keys
 pub mod BuiltIns
+pub mod Rows
 pub mod Databases
 pub mod Errors
 pub mod Additions
@@ -10,3 +11,4 @@ pub mod Runs
 pub mod RunLaws
 pub mod Engines
 pub mod WorkedRuns
+pub mod WorkedControl

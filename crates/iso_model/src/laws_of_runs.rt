@@ -1,5 +1,5 @@
 //! Laws of runs: each is the contract of a function that does nothing.
-ghost use Rattle.iso_model.specs.Search.RunLaws.{EveryStateHasOneRun, RunOfIsTheRun, QuietStepsKeepTheRun, EventsBeginTheRun, EndingsAreTheRun, SameStatesHaveOneRun};
+ghost use Rattle.iso_model.specs.Search.RunLaws.{EveryStateHasOneRun, RunOfIsTheRun, QuietStepsKeepTheRun, EventsBeginTheRun, EndingsAreTheRun, SameStatesHaveOneRun, MarksStand};
 
 /// Every state of the search has exactly one run: the search is deterministic, and its budget makes it end.
 pub fn one_run_each()
@@ -29,4 +29,9 @@ pub fn ending_alone()
 /// States whose goals, with conjunctions taken apart, have the same values under each state's own substitution have one run.
 pub fn same_states()
     ensures { SameStatesHaveOneRun }
+{}
+
+/// Cut marks are heights of the stack that stand when a goal is started, and behind every step (7.8.4).
+pub fn cut_marks()
+    ensures { MarksStand }
 {}

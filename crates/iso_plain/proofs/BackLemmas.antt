@@ -1,5 +1,5 @@
 -- The engine goes back to its newest choice.
-use Rattle.std.proofs.Common.{◌≡◌, ℕ, zero, suc, ◌-◌, ◌<◌, ◌≤◌, List, [], ◌∷◌, length, take, get_or, Some, refl, ap, sym, ◌∙◌, subst, arith, Vec, Global}
+use Rattle.std.proofs.Common.{◌≡◌, ℕ, zero, suc, ◌-◌, ◌<◌, ◌≤◌, List, [], ◌∷◌, length, take, drop, get_or, Some, refl, ap, sym, ◌∙◌, subst, arith, Vec, Global}
 use Rattle.std.specs.List.{slice_get}
 use Rattle.iso_model.specs.Terms.Variables.{variables}
 use Rattle.iso_model.specs.Search.Walker.{State, Alternative}
@@ -8,9 +8,15 @@ use Rattle.iso_plain.specs.declared.bodies.Node.{Node}
 use Rattle.iso_plain.specs.declared.parts.Frame.{Frame}
 use Rattle.iso_plain.specs.declared.parts.Choice as kept
 use Rattle.iso_plain.specs.declared.plain.Plain.{Plain}
-use Rattle.iso_plain.specs.Standing.{Links, AtGoal, StandsForChoices, HaveRoom, links_at}
-use Rattle.iso_plain.specs.EngineStates.{IsEngine, WentBack, left_at, links_of}
-use Rattle.iso_plain.proofs.StandingLemmas.{newest, choices_keep}
+use Rattle.iso_plain.specs.Standing.{Links, HasLeft, StandsForChoices, HaveRoom, links_at}
+use Rattle.iso_plain.specs.EngineStates.{IsEngine, WentBack, choice_cost, choices_cost, left_at, links_of}
+use Rattle.iso_plain.proofs.StandingLemmas.{newest, choices_keep, last_split}
+use Rattle.iso_plain.proofs.CostLemmas.{choices_last, choices_on_more, left_place}
+use Rattle.std.proofs.lemmas.List.{take-append-drop}
+use Rattle.std.proofs.lemmas.Option.{slice_get_within}
+use Rattle.iso_model.specs.Search.Databases.{Clause}
+use Rattle.iso_plain.specs.Costs.{frame_costs}
+use Rattle.iso_plain.specs.declared.procedures.Procedure.{Procedure}
 
 pub get_at : {X : Type 0} (xs : List X) (i : ℕ) (x : X) → i < length xs → x ≡ get_or xs i x → slice_get xs i ≡ Some x
 get_at [] i x within is = absurd (omega arith)
@@ -21,6 +27,23 @@ take_same : {X : Type 0} (n : ℕ) (xs : List X) → n ≤ length xs → n ≡ l
 take_same zero xs h = refl
 take_same (suc n) [] h = absurd (omega arith)
 take_same (suc n) (x ∷ xs) h = ap suc (take_same n xs (omega arith))
+
+-- over the frames that stood the choices cost what they did
+pub back_costs : {W M : Type 0} {stands : M → Present W → Type 0} {older : M → M → Type 0} {base : M} {left_at : ℕ → ℕ → List Clause} {query : List W} {named : List ℕ} {links : Links W} {cs : List (kept.Choice W M)} {ks : List Alternative}
+    (ps : List Procedure) (c : kept.Choice W M) → slice_get cs (length cs - 1) ≡ Some c → StandsForChoices stands older base left_at query named links cs ks
+    → choices_cost ps (frame_costs (take c.frames links.frames)) cs ≡ choices_cost ps (frame_costs links.frames) cs
+back_costs {left_at = left_at} {query = query} {named = named} {links = links} {cs = cs} ps c last are =
+    let n = newest c last are in
+    let front = take c.frames links.frames in
+    let whole = take-append-drop c.frames links.frames in
+    let some : 0 < length cs = (let h = slice_get_within cs (length cs - 1) c last in omega (arith, h)) in
+    let split = last_split cs (length cs - 1) c last (omega (arith, some)) in
+    let before = take (length cs - 1) cs in
+    let one = ap (λ fs. choices_cost ps (frame_costs fs) before) (sym whole) ∙ choices_on_more ps (drop c.frames links.frames) n.stands_below in
+    let other = ap (λ fs. choice_cost ps (frame_costs fs) c.left) (sym whole) ∙ left_place left_at query named n.here.present (links_at c links) n.alternative ps (drop c.frames links.frames) c.left n.here.has in
+    let old = ap (choices_cost ps (frame_costs links.frames)) split ∙ choices_last ps (frame_costs links.frames) before c in
+    let new = ap (choices_cost ps (frame_costs front)) split ∙ choices_last ps (frame_costs front) before c in
+    omega (arith, one, other, old, new)
 
 module _ {S W M : Type 0} (present : S → Present W) (stands : S → M → Present W → Type 0) (older : M → M → Type 0) where
   -- what going back makes of the engine
@@ -57,11 +80,8 @@ module _ {S W M : Type 0} (present : S → Present W) (stands : S → M → Pres
           newest = last;
           nodes = take_same c.nodes e.nodes.items n.within.nodes ∙ ap length (sym kept_nodes);
           frames = take_same c.frames e.frames.items n.within.frames ∙ ap length (sym kept_frames);
-          call = h.call;
-          at = subst (λ (ls : Links W). AtGoal (present store) ls e.query.items (variables s.query) c.attempt.goal c.attempt.rest h.call a.list a.subst a.next) stood
-              (subst (λ (p : Present W). AtGoal p (links_at c (links_of e)) e.query.items (variables s.query) c.attempt.goal c.attempt.rest h.call a.list a.subst a.next) at h.at);
-          left = h.left;
-          some = h.some;
+          has = subst (λ (ls : Links W). HasLeft (left_at s.world.database.procedures) e.query.items (variables s.query) (present store) ls c.left a) stood
+              (subst (λ (p : Present W). HasLeft (left_at s.world.database.procedures) e.query.items (variables s.query) p (links_at c (links_of e)) c.left a) at h.has);
           newer_base = h.newer;
           newer = n.newer;
           stands_below = subst (λ (ls : Links W). StandsForChoices (stands store) older e.base (left_at s.world.database.procedures) e.query.items (variables s.query) ls (take (length e.choices.items - 1) e.choices.items) n.below) stood below;

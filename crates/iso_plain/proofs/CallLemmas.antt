@@ -1,5 +1,5 @@
 -- The engine calls a procedure: the clauses behind the first are kept as a choice.
-use Rattle.std.proofs.Common.{◌≡◌, ℕ, ◌+◌, ◌<◌, ◌≤◌, List, [], ◌∷◌, ◌++◌, length, refl, ap, sym, subst, arith, inl, inr, ◌⊎◌, Vec, Global}
+use Rattle.std.proofs.Common.{◌≡◌, ℕ, ◌+◌, ◌<◌, ◌≤◌, List, [], ◌∷◌, ◌-◌, ◌^◌, length, Option, refl, ap, sym, subst, arith, Vec, Global}
 use Rattle.iso_model.specs.Terms.Variables.{variables}
 use Rattle.iso_model.specs.Terms.Trees.{Tree}
 use Rattle.iso_model.specs.Search.Databases as databases
@@ -8,54 +8,42 @@ use Rattle.iso_model.specs.Search.Walker.{State, Member, Alternative, Clauses, w
 use Rattle.iso_store_core.specs.Presents.{Present, KeepsMarks}
 use Rattle.iso_plain.specs.declared.parts.Attempt.{Attempt}
 use Rattle.iso_plain.specs.declared.parts.Choice as kept
-use Rattle.iso_plain.specs.declared.procedures.Procedure.{Procedure}
 use Rattle.iso_plain.specs.declared.plain.Plain.{Plain}
-use Rattle.iso_plain.specs.Programs.{IsDatabase}
-use Rattle.iso_plain.specs.Standing.{Among, Links, AtGoal, StandsForChoice, StandsForChoices, none_kept, one_kept}
-use Rattle.iso_plain.specs.EngineStates.{Calls, left_at, links_of, clauses_left, most_clauses}
-use Rattle.iso_plain.proofs.CountLemmas.{clauses_counted, left_next, at_most, left_last}
-use Rattle.iso_plain.proofs.StandingLemmas.{choices_keep, choices_push}
+use Rattle.iso_plain.specs.Costs.{body_cost, left_cost, most, frame_costs, place_cost}
+use Rattle.iso_plain.specs.declared.bodies.Node.{Node}
+use Rattle.iso_plain.specs.declared.clauses.Clause.{Clause}
+use Rattle.iso_plain.specs.declared.entries.Entered.{Entered}
+use Rattle.iso_plain.specs.declared.entries.Entered.TheVariants as entered
+use Rattle.iso_plain.specs.declared.parts.Frame.{Frame}
+use Rattle.iso_plain.specs.Entering.{Enters}
+use Rattle.iso_plain.specs.Next.{now_behind, now_entered}
+use Rattle.iso_plain.specs.declared.parts.Left.TheVariants as left
+use Rattle.iso_plain.specs.Standing.{Among, AtGoal, GainsChoice, StandsForChoice, StandsForChoices}
+use Rattle.iso_plain.specs.EngineStates.{Calls, now_cost, left_at, links_of}
+use Rattle.iso_plain.proofs.CountLemmas.{left_next}
+use Rattle.iso_plain.proofs.CostLemmas.{cost_above, cost_higher, left_higher, below_most}
+use Rattle.iso_plain.proofs.StandingLemmas.{choices_keep, choices_push, marks_stand}
 
--- ---- how many clauses are left
+-- ---- what is left to be done
 
--- A choice of a call leaves fewer clauses than the procedures have.
-pub left_pushed : {W M : Type 0} (ps : List Procedure) (db : Procedures) (cs : List (kept.Choice W M)) (c : kept.Choice W M) (j : ℕ) (d : databases.Clause) (others : List databases.Clause)
-    → IsDatabase ps db → left_at db c.attempt.procedure j ≡ d ∷ others → c.attempt.clause ≡ j + 1 → clauses_left ps (cs ++ c ∷ []) + 1 ≤ clauses_left ps cs + most_clauses ps
-left_pushed ps db cs c j d others is h next =
-    let more = left_last ps cs c in
-    let many = clauses_counted ps db c.attempt.procedure j d others is h in
-    let most = at_most ps c.attempt.procedure in
-    omega (arith, more, many, most, next)
+-- The choice of a call has no more clauses than a procedure may have.
+pub later_cost : (n j r : ℕ) → n < 2 ^ 63 → left_cost (n - j) r ≤ left_cost most r
+later_cost n j r few = left_higher most (n - j) r (below_most (n - j) (omega (arith, few)))
 
--- Where there is a clause to be tried, the procedures have one.
-pub left_same : {W M : Type 0} (ps : List Procedure) (db : Procedures) (cs : List (kept.Choice W M)) (i j : ℕ) (d : databases.Clause) (others : List databases.Clause)
-    → IsDatabase ps db → left_at db i j ≡ d ∷ others → clauses_left ps cs + 1 ≤ clauses_left ps cs + most_clauses ps
-left_same ps db cs i j d others is h =
-    let many = clauses_counted ps db i j d others is h in
-    let most = at_most ps i in
-    omega (arith, many, most)
+-- what comes next behind a clause that was tried
+pub entered_least : {W : Type 0} (p q : Present W) (old : List (Node W)) (nodes : Vec (Node W) Global) (call : Tree) (clause : Clause) (frames : List Frame) (mark : ℕ) (rest : Option ℕ)
+    → now_cost (frame_costs frames) (now_behind frames rest) ≡ place_cost frames rest → (entered : Entered) → Enters p q old nodes.items call clause entered
+    → now_cost (frame_costs frames) (now_entered frames entered mark rest) ≤ body_cost most (place_cost frames rest)
+entered_least p q old nodes call clause frames mark rest behind entered.Missed h = omega arith
+entered_least p q old nodes call clause frames mark rest behind entered.Fact h = (let up = cost_above most (place_cost frames rest) in omega (arith, behind, up))
+entered_least p q old nodes call clause frames mark rest behind (entered.Body place) h =
+    let end = h.2 in
+    let many = nodes.ok.0 in
+    let within = nodes.ok.1 in
+    let small = nodes.small in
+    cost_higher most place (place_cost frames rest) (below_most place (omega (arith, end, many, within, small)))
 
 -- ---- the choice of a call
-
-among_end : {X : Type 0} (x : X) (xs : List X) (y : X) → Among x (xs ++ y ∷ []) → Among x xs ⊎ (x ≡ y)
-among_end x [] y (inl e) = inr e
-among_end x [] y (inr h) = absurd h
-among_end x (z ∷ xs) y (inl e) = inl (inl e)
-among_end x (z ∷ xs) y (inr h) = on_end (among_end x xs y h) where
-  on_end : Among x xs ⊎ (x ≡ y) → Among x (z ∷ xs) ⊎ (x ≡ y)
-  on_end (inl a) = inl (inr a)
-  on_end (inr e) = inr e
-
-module _ {W M : Type 0} {stands : M → Present W → Type 0} {older : M → M → Type 0} {base : M} {left : ℕ → ℕ → List databases.Clause} {query : List W} {named : List ℕ} where
-  -- The mark of each choice stands for something.
-  pub marks_stand : {links : Links W} {cs : List (kept.Choice W M)} {ks : List Alternative} (d : kept.Choice W M) → StandsForChoices stands older base left query named links cs ks
-      → Among d cs → (p : Present W) × stands d.mark p
-  marks_stand d none_kept among = absurd among
-  marks_stand d (one_kept {before = before} {c = c} is on here newer below) among =
-      on_end (marks_stand d below) (among_end d before c (subst (λ (ds : List (kept.Choice W M)). Among d ds) is among)) where
-        on_end : (Among d before → (p : Present W) × stands d.mark p) → Among d before ⊎ (d ≡ c) → (p : Present W) × stands d.mark p
-        on_end before_stand (inl a) = before_stand a
-        on_end before_stand (inr e) = (here.present, subst (λ (x : kept.Choice W M). stands x.mark here.present) (sym e) here.mark)
 
 module _ {S W M : Type 0} (present : S → Present W) (stands : S → M → Present W → Type 0) (older : M → M → Type 0) where
   -- no clause behind the attempt's
@@ -64,39 +52,31 @@ module _ {S W M : Type 0} (present : S → Present W) (stands : S → M → Pres
   calls_last e attempt s call c [] behind t many = t
   calls_last e attempt s call c (d ∷ cs) behind t many = absurd (omega (arith, many))
 
-  -- the choice that is made of the clauses behind the attempt's
-  abbrev pub later : Plain S W M → Attempt W → M → kept.Choice W M
-  later e attempt mark = record { mark = mark; nodes = length e.nodes.items; frames = length e.frames.items; attempt = record attempt { clause = attempt.clause + 1 } }
-
-  pub calls_later : (e : Plain S W M) (attempt : Attempt W) (s : State) (call : Tree) (c : databases.Clause) (cs : List databases.Clause) (behind : List Member)
-      (store : S) (choices : Vec (kept.Choice W M) Global) (mark : M)
-      → Calls present stands older e attempt s call c cs behind → 0 < length cs
-      → present store ≡ present e.store → stands store mark (present e.store) → ((m : M) (p : Present W) → stands e.store m p → older m mark)
-      → KeepsMarks (stands e.store) (stands store) → choices.items ≡ e.choices.items ++ later e attempt mark ∷ []
+  pub calls_later : (e : Plain S W M) (attempt : Attempt W) (s : State) (call : Tree) (c : databases.Clause) (cs : List databases.Clause) (behind : List Member) (store : S) (choices : Vec (kept.Choice W M) Global)
+      → Calls present stands older e attempt s call c cs behind → 0 < length cs → present store ≡ present e.store → KeepsMarks (stands e.store) (stands store)
+      → GainsChoice (stands e.store) (stands store) older (present e.store) (length e.nodes.items) (length e.frames.items) (left.Clauses (record attempt { clause = attempt.clause + 1 })) e.choices.items choices.items
       → Calls present stands older (record e { store = store; choices = choices }) attempt (with_others call cs behind s) call c cs behind
-  calls_later e attempt s call c [] behind store choices mark t many same stood newest keeps pushed = absurd (omega (arith, many))
-  calls_later e attempt s call c (d ∷ cs) behind store choices mark t many same stood newest keeps pushed =
+  calls_later e attempt s call c [] behind store choices t many same keeps gains = absurd (omega (arith, many))
+  calls_later e attempt s call c (d ∷ cs) behind store choices t many same keeps gains =
       let b = t.base in
+      let later : kept.Choice W M = record { mark = gains.mark; nodes = length e.nodes.items; frames = length e.frames.items; left = left.Clauses (record attempt { clause = attempt.clause + 1 }) } in
       let next = left_next s.world.database.procedures attempt.procedure attempt.clause c (d ∷ cs) t.clauses in
       let a : Alternative = record { list = behind; subst = s.subst; next = s.next; built = s.built; left = Clauses call (d ∷ cs) } in
       let old : StandsForChoices (stands store) older e.base (left_at s.world.database.procedures) e.query.items (variables s.query) (links_of e) e.choices.items s.stack =
       choices_keep (λ x p among there. keeps x.mark p there) t.choices in
-      let here : StandsForChoice (stands store) older e.base (left_at s.world.database.procedures) e.query.items (variables s.query) (links_of e) (later e attempt mark) a = record {
+      let here : StandsForChoice (stands store) older e.base (left_at s.world.database.procedures) e.query.items (variables s.query) (links_of e) later a = record {
         present = present e.store;
-        mark = stood;
-        newer = newest e.base b.present b.stands_for;
-        call = call;
-        at = t.at;
-        left = ap (Clauses call) (sym next);
-        some = subst (λ (xs : List databases.Clause). 0 < length xs) (sym next) many;
+        mark = gains.stands;
+        newer = gains.newer e.base b.present b.stands_for;
+        has = record { call = call; at = t.at; left = ap (Clauses call) (sym next); some = subst (λ (xs : List databases.Clause). 0 < length xs) (sym next) many };
       } in
-      let newer : (x : kept.Choice W M) → Among x e.choices.items → older x.mark mark = λ x among.
-      (let there = marks_stand x t.choices among in newest x.mark there.0 there.1) in
+      let newer : (x : kept.Choice W M) → Among x e.choices.items → older x.mark gains.mark = λ x among.
+      (let there = marks_stand x t.choices among in gains.newer x.mark there.0 there.1) in
       record {
         world = record { procedures_are = t.world.procedures_are; operators_are = t.world.operators_are; flags_are = t.world.flags_are };
         steps = t.steps;
         base = record { present = b.present; stands_for = keeps e.base b.present b.stands_for; substitution = b.substitution; next = b.next };
-        choices = rw pushed (choices_push (later e attempt mark) a refl refl here newer old);
+        choices = rw gains.are (choices_push later a refl refl here newer old);
         room = (t.space, t.room);
         space = t.space;
         at = subst (λ (p : Present W). AtGoal p (links_of e) e.query.items (variables s.query) attempt.goal attempt.rest call behind s.subst s.next) (sym same) t.at;

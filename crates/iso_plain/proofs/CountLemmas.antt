@@ -1,12 +1,11 @@
 -- How many clauses a procedure has, and how many are left at the choices.
-use Rattle.std.proofs.Common.{◌≡◌, ℕ, zero, suc, ◌+◌, ◌-◌, ◌^◌, ◌<◌, ◌≤◌, List, [], ◌∷◌, ◌++◌, length, drop, get_or, refl, ap, ◌∙◌, subst, arith}
+use Rattle.std.proofs.Common.{◌≡◌, ℕ, zero, suc, ◌+◌, ◌^◌, ◌<◌, List, [], ◌∷◌, length, drop, get_or, refl, ap, ◌∙◌, subst, arith}
 use Rattle.iso_model.specs.Search.Databases as databases
 use Rattle.iso_model.specs.Search.Databases.{Procedures}
 use Rattle.iso_plain.specs.declared.clauses.Clause.{Clause}
-use Rattle.iso_plain.specs.declared.parts.Choice as kept
 use Rattle.iso_plain.specs.declared.procedures.Procedure.{Procedure}
 use Rattle.iso_plain.specs.Programs.{AreClauses, no_clauses, more_clauses, IsDatabase, no_procedures, more_procedures}
-use Rattle.iso_plain.specs.EngineStates.{left_at, clauses_at_place, clauses_left, most_clauses}
+use Rattle.iso_plain.specs.EngineStates.{left_at, clauses_at_place}
 
 -- ---- the clauses of a procedure
 
@@ -48,22 +47,8 @@ left_next (p ∷ db) zero j c others h =
     subst (λ n. drop n p.clauses ≡ others) next (dropped_next p.clauses j c others h)
 left_next (p ∷ db) (suc i) j c others h = left_next db i j c others h
 
--- not more than all of them
-pub at_most : (ps : List Procedure) (i : ℕ) → clauses_at_place ps i ≤ most_clauses ps
-at_most [] i = omega arith
-at_most (p ∷ ps) zero = omega arith
-at_most (p ∷ ps) (suc i) = (let more = at_most ps i in omega (arith, more))
-
 -- The number of clauses at a place fits a word.
 pub count_fits : (ps : List Procedure) (i : ℕ) → clauses_at_place ps i < 2 ^ 63
 count_fits [] i = omega arith
 count_fits (p ∷ ps) zero = (let many = p.clauses.ok.0 in let within = p.clauses.ok.1 in let small = p.clauses.small in omega (arith, many, within, small))
 count_fits (p ∷ ps) (suc i) = count_fits ps i
-
--- ---- the clauses that are left at choices
-
--- a newest choice adds its own
-pub left_last : {W M : Type 0} (ps : List Procedure) (cs : List (kept.Choice W M)) (c : kept.Choice W M)
-    → clauses_left ps (cs ++ c ∷ []) ≡ clauses_left ps cs + (clauses_at_place ps c.attempt.procedure - c.attempt.clause)
-left_last ps [] c = omega arith
-left_last ps (d ∷ cs) c = (let more = left_last ps cs c in omega (arith, more))

@@ -45,7 +45,7 @@ module _ {S W M : Type 0} (present : S → Present W) (stands : S → M → Pres
     base = is.base;
     choices = is.choices;
     room = is.room;
-    next = refl;
+    next = ([], refl);
   }
 
   pub answers_engine : (e : Plain S W M) (s : State) (values : Vec Term Global) → e.now ≡ now.Answering
@@ -81,4 +81,4 @@ module _ {S W M : Type 0} (present : S → Present W) (stands : S → M → Pres
       let o = r.own in
       let same = next_is e o now.Idle doing r.engine in
       let is : IsEngine present stands older e (idle o.world) = subst (λ (m : State). IsEngine present stands older e m) same r.engine in
-      (ends present stands older e o s NoMore r.same (last_step o (ap (λ (m : State). m.list) same) (ap (λ (m : State). m.stack) same)) doing is, ap phase_of doing)
+      (ends present stands older e o s NoMore r.same (last_step o [] (ap (λ (m : State). m.list) same) (ap (λ (m : State). m.stack) same)) doing is, ap phase_of doing)

@@ -1,34 +1,37 @@
 -- The engine's parts behind a clause that was tried.
-use Rattle.std.proofs.Common.{◌≡◌, ◌<◌, ℕ, ◌+◌, List, [], ◌∷◌, ◌++◌, true, false, length, refl, ap, ◌∙◌, sym, subst, arith, Vec, Global, append-nil, length-append}
+use Rattle.std.proofs.Common.{◌≡◌, ◌<◌, ℕ, ◌+◌, List, [], ◌∷◌, true, false, inl, inr, length, refl, ap, ◌∙◌, sym, subst, arith, Vec, Global}
 use Rattle.std.specs.Prelude.{option_map}
+use Rattle.std.proofs.lemmas.Bool.{cases_Bool}
+use Rattle.iso_model.specs.declared.terms.Term.{Term}
 use Rattle.iso_model.specs.Terms.Variables.{variables}
-use Rattle.iso_model.specs.Terms.Trees.{Tree, Variable}
+use Rattle.iso_model.specs.Terms.Trees.{Tree, Variable, Integer, Name, Apply, End, More}
 use Rattle.iso_model.specs.Terms.TermOf.{term_of}
 use Rattle.iso_model.specs.Terms.Substitutions.{Subst, apply, compose}
 use Rattle.iso_model.specs.Terms.Unifiers.{Unifier, NeverEqual}
 use Rattle.iso_model.specs.Terms.Copies.{renamed}
-use Rattle.iso_model.specs.Search.Bodies.{Body, map_body, is_true}
+use Rattle.iso_model.specs.Search.Bodies.{Body, Cut, Run, And, Or, If, Choose, map_body, is_true}
 use Rattle.iso_model.specs.Search.Databases as databases
 use Rattle.iso_model.specs.Search.Walker.{State, Member, Goal, tried_clause, before, clause_size}
 use Rattle.iso_model.proofs.Search.CallLemmas.{clause_found, clause_missed}
 use Rattle.iso_store_core.specs.Presents.{Present, KeepsMarks}
-use Rattle.iso_plain.specs.Nodes.{layout, layout_of, trees_of}
+use Rattle.iso_plain.specs.Nodes.{EndsWith, ArePartsOf, IsTermOf}
 use Rattle.iso_plain.specs.declared.bodies.Node.{Node}
 use Rattle.iso_plain.specs.declared.clauses.Clause.{Clause}
 use Rattle.iso_plain.specs.declared.entries.Entered.{Entered}
 use Rattle.iso_plain.specs.declared.entries.Entered.TheVariants as entered
 use Rattle.iso_plain.specs.declared.parts.Attempt.{Attempt}
+use Rattle.iso_plain.specs.declared.parts.Frame.{Frame}
+use Rattle.iso_plain.specs.declared.parts.Todo.TheVariants as todo
 use Rattle.iso_plain.specs.declared.parts.Now.{Now}
 use Rattle.iso_plain.specs.declared.parts.Now.TheVariants as now
 use Rattle.iso_plain.specs.declared.plain.Plain.{Plain}
-use Rattle.iso_plain.specs.Standing.{Links, IsBody, GoesOn, DoesNext}
+use Rattle.iso_plain.specs.Standing.{Links, IsBody, a_body, GoesOn, DoesNext}
 use Rattle.iso_plain.specs.Kept.{IsClause}
-use Rattle.iso_plain.specs.Entering.{Enters, Meets, Copies, Adds, AreNodes, renamed_nodes}
+use Rattle.iso_plain.specs.Entering.{Enters, Meets, Copies, Adds, renaming_from}
 use Rattle.iso_plain.specs.Next.{now_behind, now_entered}
 use Rattle.iso_plain.specs.EngineStates.{IsEngine, Calls, links_of}
 use Rattle.iso_plain.proofs.StandingLemmas.{AddsLinks, chain_more, variables_more, next_behind}
-use Rattle.iso_plain.proofs.NodeLemmas.{layout_is, layout_renamed, fact_true, body_untrue, goals_renamed, body_at}
-use Rattle.iso_plain.proofs.EnteringLemmas.{adds_none}
+use Rattle.iso_plain.proofs.EnteringLemmas.{adds_none, placed_body}
 use Rattle.iso_plain.proofs.StoppedLemmas.{base_kept, choices_on}
 
 -- the members that a clause brings: its body where it isn't `true`
@@ -37,6 +40,37 @@ before_fact b mark rest is = rw is refl
 
 before_body : (b : Body) (mark : ℕ) (rest : List Member) → is_true b ≡ false → before b mark rest ≡ Goal b mark ∷ rest
 before_body b mark rest is = rw is refl
+
+-- ---- whether a clause has a body
+
+true_renamed : (n : ℕ) (b : Body) → is_true (map_body (renaming_from n) b) ≡ is_true b
+true_renamed n Cut = refl
+true_renamed n (Run (Variable k)) = refl
+true_renamed n (Run (Integer z)) = refl
+true_renamed n (Run (Name a)) = refl
+true_renamed n (Run (Apply f ts)) = refl
+true_renamed n (Run End) = refl
+true_renamed n (Run (More t ts)) = refl
+true_renamed n (And a b) = refl
+true_renamed n (Or a b) = refl
+true_renamed n (If a b) = refl
+true_renamed n (Choose a b c) = refl
+
+-- a clause without parts has the body `true`, also with its variables renamed
+fact_true : (n : ℕ) (parts : List (Node Term)) (b : Body) → ArePartsOf IsTermOf parts b → parts ≡ [] → is_true (map_body (renaming_from n) b) ≡ true
+fact_true n parts b h none =
+    elim (cases_Bool (is_true b)) [
+      | inl fact ↦ true_renamed n b ∙ fact
+      | inr other ↦ absurd (let ends : EndsWith IsTermOf parts b = rw other at h in let some = ends.some in let many = ap length none in omega (arith, some, many))
+    ]
+
+-- one with parts has another
+body_untrue : (n : ℕ) (parts : List (Node Term)) (b : Body) → ArePartsOf IsTermOf parts b → 0 < length parts → (is_true (map_body (renaming_from n) b) ≡ false) × EndsWith IsTermOf parts b
+body_untrue n parts b h some =
+    elim (cases_Bool (is_true b)) [
+      | inl fact ↦ absurd (let none : parts ≡ [] = rw fact at h in let many = ap length none in omega (arith, some, many))
+      | inr other ↦ (true_renamed n b ∙ other, rw other at h)
+    ]
 
 module _ {S W M : Type 0} (present : S → Present W) (stands : S → M → Present W → Type 0) (older : M → M → Type 0) where
   -- the engine with another store, other nodes and something else to do next
@@ -80,9 +114,9 @@ module _ {S W M : Type 0} (present : S → Present W) (stands : S → M → Pres
     missed_engine never =
         let at = (t.calls).at in
         let P : Tree → Subst → ℕ → Tree → Type 0 = λ a r n h. NeverEqual a (apply r (renamed n h)) in
-        let none : P call s.subst s.next c.head = rw (at.value, ← at.subst_is, ← at.next_is, ← t.is.head) never in
+        let none : P call s.subst s.next c.head = rw (at.value, ← at.on.subst_is, ← at.on.next_is, ← t.is.head) never in
         let is = clause_missed call c mark behind s none in
-        subst (λ (v : State). IsEngine present stands older (onward e store nodes now.Failing) v) (sym is) (with_next now.Failing _ refl refl refl refl refl)
+        subst (λ (v : State). IsEngine present stands older (onward e store nodes now.Failing) v) (sym is) (with_next now.Failing _ refl refl refl refl ([], refl))
 
     -- where members are still to be run
     goes_on : (m : Meets p q (p.term attempt.goal) (term_of k.head) k.variables) (list : List Member)
@@ -90,50 +124,44 @@ module _ {S W M : Type 0} (present : S → Present W) (stands : S → M → Pres
     goes_on m list =
         let at = (t.calls).at in
         record {
-          subst = m.substitution ∙ ap (λ (r : Subst). compose r m.unifier) at.subst_is;
-          next = (let a = at.next_is in let b = t.is.variables in let d = m.next in omega (arith, a, b, d));
+          subst = m.substitution ∙ ap (λ (r : Subst). compose r m.unifier) at.on.subst_is;
+          next = (let a = at.on.next_is in let b = t.is.variables in let d = m.next in omega (arith, a, b, d));
           room = (let few = t.is.few in let space = (t.calls).space in let steps = (t.calls).steps in omega (arith, few, space, steps));
-          words = variables_more m.words at.words;
+          words = variables_more m.words at.on.words;
         }
 
     unifies : (m : Meets p q (p.term attempt.goal) (term_of k.head) k.variables) → Unifier call (apply s.subst (renamed s.next c.head)) m.unifier
     unifies m =
         let at = (t.calls).at in
         let P : Tree → Subst → ℕ → Tree → Type 0 = λ a r n h. Unifier a (apply r (renamed n h)) m.unifier in
-        let here : P call s.subst s.next c.head = rw (at.value, ← at.subst_is, ← at.next_is, ← t.is.head) m.is in
+        let here : P call s.subst s.next c.head = rw (at.value, ← at.on.subst_is, ← at.on.next_is, ← t.is.head) m.is in
         here
 
     links_add : AddsLinks (links_of e) links
     links_add = record { nodes = t.adds; frames = adds_none e.frames.items }
 
-    pub fact_engine : Meets p q (p.term attempt.goal) (term_of k.head) k.variables → trees_of k.parts.items ≡ []
+    pub fact_engine : Meets p q (p.term attempt.goal) (term_of k.head) k.variables → k.parts.items ≡ []
         → IsEngine present stands older (onward e store nodes (now_behind e.frames.items attempt.rest)) (tried_clause call c mark behind s)
     fact_engine m none =
-        let b = map_body (λ x. Variable (s.next + x)) c.body in
-        let fact = before_fact b mark behind (fact_true s.next c.body (sym t.is.parts ∙ none)) in
-        let v : State = record s { list = before b mark behind; subst = compose s.subst m.unifier; next = s.next + c.variables; built = s.built + clause_size c } in
+        let fact = before_fact (map_body (renaming_from s.next) c.body) mark behind (fact_true s.next k.parts.items c.body t.is.parts none) in
+        let v : State = record s { list = before (map_body (renaming_from s.next) c.body) mark behind; subst = compose s.subst m.unifier; next = s.next + c.variables; built = s.built + clause_size c } in
         let next : DoesNext q links e.query.items (now_behind e.frames.items attempt.rest) (option_map (λ b. term_of b.term) e.raised) v =
-        next_behind q links e.query.items (option_map (λ b. term_of b.term) e.raised) v attempt.rest behind fact (chain_more links links_add m.words (t.calls).at.chain) (goes_on m (before b mark behind)) in
+        next_behind q links e.query.items (option_map (λ b. term_of b.term) e.raised) v attempt.rest behind fact (chain_more links links_add m.words (t.calls).at.on.chain) (goes_on m v.list) in
         subst (λ (x : State). IsEngine present stands older (onward e store nodes (now_behind e.frames.items attempt.rest)) x) (sym (clause_found call c mark behind s m.unifier (unifies m)))
         (with_next (now_behind e.frames.items attempt.rest) v refl refl refl refl next)
 
-    pub body_engine : (place : ℕ) → Meets p q (p.term attempt.goal) (term_of k.head) k.variables → Copies q e.nodes.items nodes.items (renamed_nodes p.next (trees_of k.parts.items)) → place + 1 ≡ length nodes.items
-        → 0 < length (trees_of k.parts.items)
-        → IsEngine present stands older (onward e store nodes (now.Running (record { body = place; mark = mark; next = attempt.rest }))) (tried_clause call c mark behind s)
+    pub body_engine : (place : ℕ) → Meets p q (p.term attempt.goal) (term_of k.head) k.variables → Copies q (renaming_from p.next) e.nodes.items nodes.items k.parts.items → place + 1 ≡ length nodes.items → 0 < length k.parts.items
+        → IsEngine present stands older (onward e store nodes (now.Running (record { todo = todo.Body place; mark = mark; next = attempt.rest }))) (tried_clause call c mark behind s)
     body_engine place m copies end some =
-        let b = map_body (λ x. Variable (s.next + x)) c.body in
-        let many : 0 < length (layout_of c.body) = subst (λ ts. 0 < length ts) t.is.parts some in
-        let whole = before_body b mark behind (body_untrue s.next c.body many) in
+        let b = map_body (renaming_from s.next) c.body in
+        let f : Frame = record { todo = todo.Body place; mark = mark; next = attempt.rest } in
+        let body = body_untrue s.next k.parts.items c.body t.is.parts some in
         let v : State = record s { list = before b mark behind; subst = compose s.subst m.unifier; next = s.next + c.variables; built = s.built + clause_size c } in
-        let parts : renamed_nodes p.next (trees_of k.parts.items) ≡ layout b =
-        ap (renamed_nodes p.next) (t.is.parts ∙ layout_is c.body many) ∙ (ap (λ (n : ℕ). renamed_nodes n (layout c.body)) (t.calls).at.next_is ∙ layout_renamed s.next c.body) in
-        let are : AreNodes q copies.more (layout b) = subst (λ ts. AreNodes q copies.more ts) parts copies.nodes in
-        let at = body_at q b nodes.items e.nodes.items copies.more [] (copies.are ∙ sym (append-nil (e.nodes.items ++ copies.more))) are (goals_renamed s.next c.variables c.body t.is.goal_templates) in
-        let same : at.place ≡ place = (let a = at.end in let l = ap length copies.are in let n = length-append e.nodes.items copies.more in omega (arith, a, l, n, end)) in
-        let next : DoesNext q links e.query.items (now.Running (record { body = place; mark = mark; next = attempt.rest })) (option_map (λ b. term_of b.term) e.raised) v =
-        (record { body = b; behind = behind; is = whole; node = subst (λ (i : ℕ). IsBody q nodes.items i b) same at.body; chain = chain_more links links_add m.words (t.calls).at.chain }, goes_on m (before b mark behind)) in
-        subst (λ (x : State). IsEngine present stands older (onward e store nodes (now.Running (record { body = place; mark = mark; next = attempt.rest }))) x) (sym (clause_found call c mark behind s m.unifier (unifies m)))
-        (with_next (now.Running (record { body = place; mark = mark; next = attempt.rest })) v refl refl refl refl next)
+        let at : IsBody q nodes.items place (map_body (renaming_from p.next) c.body) = placed_body q (renaming_from p.next) c.variables e.nodes.items nodes.items k.parts.items c.body place body.1 t.is.goal_templates copies end in
+        let here : IsBody q nodes.items place b = subst (λ (n : ℕ). IsBody q nodes.items place (map_body (renaming_from n) c.body)) (t.calls).at.on.next_is at in
+        let next : DoesNext q links e.query.items (now.Running f) (option_map (λ b. term_of b.term) e.raised) v =
+        (record { member = Goal b mark; behind = behind; is = before_body b mark behind body.0; stands = a_body refl here; chain = chain_more links links_add m.words (t.calls).at.on.chain }, goes_on m v.list) in
+        subst (λ (x : State). IsEngine present stands older (onward e store nodes (now.Running f)) x) (sym (clause_found call c mark behind s m.unifier (unifies m))) (with_next (now.Running f) v refl refl refl refl next)
 
     -- what an entry comes to
     pub tried_engine : (entered : Entered) → Enters p q e.nodes.items nodes.items (p.term attempt.goal) k entered

@@ -16,10 +16,9 @@ use Rattle.iso_plain.specs.EngineStates.{IsEngine, Represents, Stopped, StandsBy
 use Rattle.iso_plain.specs.declared.parts.Now.{Now}
 use Rattle.iso_plain.specs.declared.parts.Now.TheVariants as now
 use Rattle.iso_plain.specs.declared.plain.Plain.{Plain}
-use Rattle.iso_model.specs.Search.RunLaws.SameSteps.{same_itself}
 use Rattle.iso_model.specs.Search.RunLaws.SameRuns.{same_world}
 use Rattle.iso_plain.proofs.StoppedLemmas.{keeps_all}
-use Rattle.iso_plain.proofs.SearchMoves.{world_settings, stops_here, stopped_behind}
+use Rattle.iso_plain.proofs.SearchMoves.{same_idle, world_settings, stops_here, stopped_behind}
 
 module _ {S W M : Type 0} (present : S → Present W) (stands : S → M → Present W → Type 0) (older : M → M → Type 0) where
   -- an engine that is awake stands for what it represents
@@ -91,7 +90,7 @@ module _ {S W M : Type 0} (present : S → Present W) (stands : S → M → Pres
   pauses_behind e s t pause.Spent same q h = absurd h
 
   idle_stands : (e : Plain S W M) (w : World) → IsEngine present stands older e (idle w) → StandsFor present stands older e (idle w)
-  idle_stands e w is = represents_stands e.now e (idle w) (record { own = idle w; engine = is; same = same_itself (idle w) })
+  idle_stands e w is = represents_stands e.now e (idle w) (record { own = idle w; engine = is; same = same_idle w })
 
   -- what adding a clause comes to
   pub consults_stand : (a : Addition) (s : State) (result : Result Unit AddFault) (e : Plain S W M) → Comes present stands older a s.world result e

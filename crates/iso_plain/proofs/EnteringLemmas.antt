@@ -1,19 +1,21 @@
 -- What makers add to a store, call by call.
-use Rattle.std.proofs.Common.{◌≡◌, ℕ, zero, suc, ◌+◌, List, [], ◌∷◌, ◌++◌, Bool, true, false, ◌&&◌, ◌<◌, ◌≤◌, length, take, drop, get_or, add-one, append_assoc, append-nil, length-append, ◌==◌, refl, ap, sym, ◌∙◌, subst, arith}
+use Rattle.std.proofs.Common.{◌≡◌, ℕ, zero, suc, ◌+◌, ◌-◌, List, [], ◌∷◌, ◌++◌, Bool, true, false, ◌<◌, ◌≤◌, length, take, drop, get_or, add-one, append_assoc, append-nil, length-append, ◌==◌, refl, ap, sym, ◌∙◌, subst, arith}
 use Rattle.std.proofs.Math.Seq.{drop-cons, take-suc}
 use Rattle.iso_model.specs.declared.terms.Term.{Term}
-use Rattle.iso_model.specs.Terms.TermOf.{term_of}
-use Rattle.iso_model.specs.Terms.Trees.{Tree, Variable, count}
+use Rattle.iso_model.specs.Terms.Trees.{Tree, Variable, Integer, Name, Apply, End, More, count}
+use Rattle.iso_model.specs.Search.Bodies.{Body, map_body}
+use Rattle.iso_model.specs.Search.Databases.{key_of}
 use Rattle.iso_model.specs.Terms.Substitutions.{Subst, apply, compose}
 use Rattle.iso_model.specs.Terms.Unifiers.{Unifier, NeverEqual}
 use Rattle.iso_model.specs.Terms.Copies.{numbers_from, renamed}
 use Rattle.iso_store_core.specs.Presents.{Present, meaning, IsUnification, Binds, KeepsWords, Makes, MovesOn, KeepsNumbers}
-use Rattle.iso_plain.specs.Standing.{AreVariables, no_word, one_word}
-use Rattle.iso_plain.specs.Entering.{Extends, Adds, Copies, CopiesPart, Meets, no_nodes, renamed_nodes}
-use Rattle.iso_plain.specs.Nodes.{map_node, trees_of}
-use Rattle.std.proofs.lemmas.List.{map-append}
+use Rattle.iso_plain.specs.Standing.{AreVariables, no_word, one_word, IsGoalWord, IsBody}
+use Rattle.iso_plain.specs.Entering.{Extends, Adds, IsMade, Copies, CopiesPart, Meets, GoalFits, PartsFit}
+use Rattle.iso_plain.specs.Nodes.{EndsWith, IfGoal, AreAlike, EachGoal, IsTermOf}
+use Rattle.iso_plain.specs.Kept.{IsKeptGoal}
+use Rattle.iso_plain.specs.Callable.{IsGoal}
 use Rattle.iso_plain.specs.declared.bodies.Node.{Node}
-use Rattle.iso_plain.proofs.NodeLemmas.{nodes_push, nodes_length}
+use Rattle.iso_plain.proofs.NodeLemmas.{alike_so, alike_push, alike_length, any_goal, tree_alike}
 use Rattle.std.proofs.lemmas.Bool.{eqb-true, eq-eqb, true≢false}
 
 pub words_same : {W : Type 0} (p : Present W) → KeepsWords p p
@@ -53,11 +55,6 @@ variables_push {q = q} (v ∷ ws) w n (suc k) (one_word there same others) holds
     let count : suc k + 1 ≡ suc (k + 1) = omega arith in
     rw count (one_word there same (variables_push ws w (n + 1) k others holds (is ∙ ap Variable next)))
 
-pub both_true : (a b : Bool) → a && b ≡ true → (a ≡ true) × (b ≡ true)
-both_true true b h = (refl, h)
-both_true false b h = absurd (cc)
-
--- words for all of a list of terms
 pub take_all : {X : Type 0} (xs : List X) (i : ℕ) → length xs ≤ i → take i xs ≡ xs
 take_all [] zero h = refl
 take_all [] (suc i) h = refl
@@ -112,38 +109,72 @@ meets {p = p} {q = q} {r = r} {s = s} {v = v} head t {count = count} e m k held 
       words = words_on (words_on e.words (words_on m.words b.words)) x.words;
     }
 
+-- ---- parts are copied
+
+pub copies_none : {W : Type 0} (p : Present W) (s : Subst) (old : List (Node W)) → Copies p s old old []
+copies_none p s old = record { more = []; are = sym (append-nil old); nodes = tt }
+
 -- a copied part more
-pub copies_push : {W : Type 0} {p q : Present W} {old new : List (Node W)} {ts : List (Node Tree)} (n : Node W) (t : Node Tree) → Copies p old new ts → CopiesPart p q n t → Copies q old (new ++ n ∷ []) (ts ++ t ∷ [])
-copies_push {old = old} {new = new} {ts = ts} n t h made = record {
-  more = h.more ++ n ∷ [];
-  are = ap (λ (xs : List (Node _)). xs ++ n ∷ []) h.are ∙ append_assoc old h.more (n ∷ []);
-  nodes = nodes_push h.more ts n t h.nodes made.extends.words made.is;
-}
+pub copies_push : {W : Type 0} {p q : Present W} {s : Subst} (old new : List (Node W)) (parts : List (Node Term)) (i : ℕ) (part : Node Term) (n : Node W) → i < length parts → part ≡ get_or parts i part
+    → Copies p s old new (take i parts) → CopiesPart p q s part n → Copies q s old (new ++ n ∷ []) (take (i + 1) parts)
+copies_push {p = p} {q = q} {s = s} old new parts i part n within is h made =
+    let next : take (i + 1) parts ≡ take i parts ++ part ∷ [] = rw (add-one, take-suc parts i part within, ← is) refl in
+    let on : (g : Term) (w : _) → Unit {0} → IsMade p s g w → IsMade q s g w = λ g w u m. (made.extends.words.stand w m.0, made.extends.words.terms w m.0 ∙ m.1) in
+    let before : AreAlike (IsMade q s) (take i parts) h.more = alike_so on (take i parts) h.more (any_goal (take i parts)) h.nodes in
+    record {
+      more = h.more ++ n ∷ [];
+      are = ap (λ (xs : List (Node _)). xs ++ n ∷ []) h.are ∙ append_assoc old h.more (n ∷ []);
+      nodes = subst (λ xs. AreAlike (IsMade q s) xs (h.more ++ n ∷ [])) (sym next) (alike_push (IsMade q s) (take i parts) h.more part n before made.is);
+    }
 
-pub copies_none : {W : Type 0} (p : Present W) (old : List (Node W)) → Copies p old old []
-copies_none p old = record { more = []; are = sym (append-nil old); nodes = no_nodes }
-
--- the next part of a list of parts
-pub trees_at : (xs : List (Node Term)) (i : ℕ) (x : Node Term) → i < length xs → x ≡ get_or xs i x → trees_of (drop i xs) ≡ map_node term_of x ∷ trees_of (drop (i + 1) xs)
-trees_at xs i x within is = rw (drop-cons xs i x within, ← is, add-one) refl
-
--- the parts before it, and it
-pub trees_front : (first : ℕ) (xs : List (Node Term)) (i : ℕ) (x : Node Term) → i < length xs → x ≡ get_or xs i x
-    → renamed_nodes first (trees_of (take (i + 1) xs)) ≡ renamed_nodes first (trees_of (take i xs)) ++ map_node (renamed first) (map_node term_of x) ∷ []
-trees_front first xs i x within is =
-    let next : take (i + 1) xs ≡ take i xs ++ x ∷ [] = rw (add-one, take-suc xs i x within, ← is) refl in
-    ap (λ (ts : List (Node Term)). renamed_nodes first (trees_of ts)) next
-    ∙ (ap (renamed_nodes first) (map-append (map_node term_of) (take i xs) (x ∷ [])) ∙ map-append (map_node (renamed first)) (trees_of (take i xs)) (map_node term_of x ∷ []))
+-- the next part fits
+pub fits_next : (n : ℕ) (parts : List (Node Term)) (i : ℕ) (part : Node Term) → i < length parts → part ≡ get_or parts i part → PartsFit n (drop i parts) → IfGoal (GoalFits n) part × PartsFit n (drop (i + 1) parts)
+fits_next n parts i part within is h =
+    let next : drop i parts ≡ part ∷ drop (i + 1) parts = rw (drop-cons parts i part within, ← is, add-one) refl in
+    subst (PartsFit n) next h
 
 -- whether there are parts
-pub no_trees : (xs : List (Node Term)) (b : Bool) → b ≡ length xs == 0 → b ≡ true → trees_of xs ≡ []
-no_trees [] b is e = refl
-no_trees (x ∷ xs) b is e = absurd (let none = eqb-true (length (x ∷ xs)) 0 (sym is ∙ e) in omega (arith, none))
+pub no_parts : {X : Type 0} (xs : List X) (b : Bool) → b ≡ length xs == 0 → b ≡ true → xs ≡ []
+no_parts [] b is e = refl
+no_parts (x ∷ xs) b is e = absurd (let none = eqb-true (length (x ∷ xs)) 0 (sym is ∙ e) in omega (arith, none))
 
-pub some_trees : (xs : List (Node Term)) (b : Bool) → b ≡ length xs == 0 → b ≡ false → 0 < length (trees_of xs)
-some_trees [] b is e = absurd (true≢false (sym (eq-eqb 0 0 refl) ∙ (sym is ∙ e)))
-some_trees (x ∷ xs) b is e = omega arith
+pub some_parts : {X : Type 0} (xs : List X) (b : Bool) → b ≡ length xs == 0 → b ≡ false → 0 < length xs
+some_parts [] b is e = absurd (true≢false (sym (eq-eqb 0 0 refl) ∙ (sym is ∙ e)))
+some_parts (x ∷ xs) b is e = omega arith
 
 -- where some parts were copied there are some nodes
-pub copies_some : {W : Type 0} {p : Present W} {old new : List (Node W)} {ts : List (Node Tree)} → Copies p old new ts → 0 < length ts → 0 < length new
-copies_some {old = old} h some = (let all = ap length h.are in let more = length-append old h.more in let same = nodes_length h.nodes in omega (arith, all, more, same, some))
+pub copies_some : {W : Type 0} {p : Present W} {s : Subst} {old new : List (Node W)} {parts : List (Node Term)} → Copies p s old new parts → 0 < length parts → 0 < length new
+copies_some {p = p} {s = s} {old = old} {new = new} {parts = parts} h some =
+    (let all = ap length h.are in let more = length-append old h.more in let same = alike_length (IsMade p s) parts h.more h.nodes in omega (arith, all, more, same, some))
+
+-- ---- the copied parts of a body are the body, under the substitution
+
+goal_applied : (s : Subst) (t : Tree) → IsGoal t → IsGoal (apply s t)
+goal_applied s (Variable n) h = absurd (let e = h.key.1 in cc e)
+goal_applied s (Integer z) h = absurd (let e = h.key.1 in cc e)
+goal_applied s (Name a) h = record { key = h.key }
+goal_applied s (Apply f ts) h = record { key = (record { name = f; arity = count (apply s ts) }, refl) }
+goal_applied s End h = absurd (let e = h.key.1 in cc e)
+goal_applied s (More t ts) h = absurd (let e = h.key.1 in cc e)
+
+module _ {W : Type 0} (q : Present W) (s : Subst) (n : ℕ) where
+  -- a goal that can be kept was made
+  abbrev IsKeptMade : Term → W → Type 0
+  IsKeptMade g w = IsKeptGoal n g × IsMade q s g w
+
+  kept_means : (g : Term) (w : W) (t : Tree) → IsKeptMade g w → IsTermOf g t → IsGoalWord q w (apply s t)
+  kept_means g w t h is =
+      let goal : IsGoal t = record { key = (h.0.key.0, ap key_of is ∙ h.0.key.1) } in
+      (h.1.0, ap (apply s) is ∙ sym h.1.1, goal_applied s t goal)
+
+  pub placed_body : (old new : List (Node W)) (parts : List (Node Term)) (b : Body) (place : ℕ) → EndsWith IsTermOf parts b → EachGoal (IsKeptGoal n) parts → Copies q s old new parts → place + 1 ≡ length new
+      → IsBody q new place (map_body s b)
+  placed_body old new parts b place ends goals copies last =
+      let gives : (g : Term) (w : W) → IsKeptGoal n g → IsMade q s g w → IsKeptMade g w = λ g w kept made. (kept, made) in
+      let alike : AreAlike IsKeptMade parts copies.more = alike_so gives parts copies.more goals copies.nodes in
+      let tree : IsBody q (old ++ copies.more) (length old + (length parts - 1)) (map_body s b) = tree_alike IsKeptMade s kept_means old copies.more alike ends.last in
+      let many = alike_length IsKeptMade parts copies.more alike in
+      let all = ap length copies.are in
+      let sum = length-append old copies.more in
+      let here : length old + (length parts - 1) ≡ place = omega (arith, many, all, sum, last, ends.some) in
+      subst (λ k. IsBody q new k (map_body s b)) here (subst (λ xs. IsBody q xs (length old + (length parts - 1)) (map_body s b)) (sym copies.are) tree)

@@ -1,19 +1,20 @@
 -- Clauses as the engine keeps them: where they are, and that they can be entered.
-use Rattle.std.proofs.Common.{◌≡◌, ℕ, zero, suc, ◌<◌, List, ◌∷◌, length, drop, get_or, Bool, true, ◌&&◌, refl, sym, subst, arith}
-use Rattle.std.proofs.lemmas.Bool.{lt-ltb, eq-eqb, or_left, or_right}
-use Rattle.iso_model.specs.Terms.Trees.{Tree, Variable, Integer, Name, Apply, End, More}
-use Rattle.iso_model.specs.Terms.Variables.{occurs}
+use Rattle.std.proofs.Common.{◌≡◌, ℕ, zero, suc, ◌<◌, List, ◌∷◌, length, drop, get_or, sym, subst, arith}
+use Rattle.iso_model.specs.declared.terms.Term.{Term}
+use Rattle.iso_model.specs.Terms.Trees.{Tree}
+use Rattle.iso_model.specs.Terms.TermOf.{term_of}
 use Rattle.iso_model.specs.Search.Databases as databases
 use Rattle.iso_model.specs.Search.Databases.{Procedures}
+use Rattle.iso_model.proofs.OnTerms.SortLemmas.{term_fits}
+use Rattle.iso_plain.specs.declared.bodies.Node.{Node}
 use Rattle.iso_plain.specs.declared.clauses.Clause.{Clause}
 use Rattle.iso_plain.specs.declared.procedures.Procedure.{Procedure}
-use Rattle.iso_plain.specs.Kept.{IsClause}
+use Rattle.iso_plain.specs.Nodes.{EachGoal}
+use Rattle.iso_plain.specs.Kept.{IsClause, IsTemplate, IsKeptGoal}
 use Rattle.iso_plain.specs.Programs.{AreClauses, no_clauses, more_clauses, IsDatabase, no_procedures, more_procedures}
-use Rattle.iso_plain.specs.Entering.{is_below}
+use Rattle.iso_plain.specs.Entering.{Fits, PartsFit}
 use Rattle.iso_plain.specs.EngineStates.{left_at}
-
-both_from : {a b : Bool} → a ≡ true → b ≡ true → a && b ≡ true
-both_from p q = rw (p, q) refl
+use Rattle.iso_plain.proofs.NodeLemmas.{each_goal}
 
 -- the clause at a place
 pub record ClauseAt (ks : List Clause) (j : ℕ) (c : databases.Clause) : Type 0 where
@@ -47,11 +48,8 @@ kept_at ps db (suc i) j c others (more_procedures {kept = p} {p = q} {ks = ps'} 
 
 -- ---- a clause that can be entered
 
-pub below_from : (n : ℕ) (t : Tree) → ((x : ℕ) → occurs x t ≡ true → x < n) → is_below n t ≡ true
-below_from n (Variable k) h = lt-ltb k n (h k (eq-eqb k k refl))
-below_from n (Integer z) h = refl
-below_from n (Name a) h = refl
-below_from n (Apply f ts) h = below_from n ts h
-below_from n End h = refl
-below_from n (More t ts) h =
-    both_from (below_from n t (λ x o. h x (or_left (occurs x t) (occurs x ts) o))) (below_from n ts (λ x o. h x (or_right (occurs x t) (occurs x ts) o)))
+pub template_fits : (n : ℕ) (t : Tree) → IsTemplate n t → Fits n t
+template_fits n t h = record { arities = term_fits t h.is; below = h.below }
+
+pub kept_parts_fit : (n : ℕ) (parts : List (Node Term)) → EachGoal (IsKeptGoal n) parts → PartsFit n parts
+kept_parts_fit n parts h = each_goal (λ g template. template_fits n (term_of g) template) parts h

@@ -1,207 +1,236 @@
--- Bodies laid out part by part, as parts of clauses and as nodes of the engine.
-use Rattle.std.proofs.Common.{◌≡◌, ℕ, suc, ◌+◌, ◌<◌, List, [], ◌∷◌, ◌++◌, length, true, false, inl, inr, refl, ap, ap₂, sym, ◌∙◌, subst, arith, length-append, append_assoc, zero-add}
-use Rattle.std.proofs.lemmas.Bool.{cases_Bool}
-use Rattle.std.proofs.lemmas.List.{map-append}
-use Rattle.iso_model.specs.Terms.Trees.{Tree, Variable, Integer, Name, Apply, End, More}
-use Rattle.iso_model.specs.Terms.Unification.Applied.{apply_alone}
-use Rattle.iso_model.specs.Terms.Copies.{renamed}
-use Rattle.iso_model.specs.Search.Bodies.{Body, Run, And, map_body, is_true}
-use Rattle.iso_model.proofs.OnTerms.SortLemmas.{term_fits}
-use Rattle.iso_store_core.specs.Presents.{Present, KeepsWords}
+-- Bodies as lists of parts: parts that are alike are those of one body, also behind others.
+use Rattle.std.proofs.Common.{◌≡◌, ℕ, zero, suc, ◌+◌, ◌-◌, ◌<◌, List, [], ◌∷◌, ◌++◌, map, length, refl, sym, ap, ap₂, ◌∙◌, subst, arith, Some, option_map, get_or, take, add-one}
+use Rattle.std.proofs.Math.Seq.{take-suc}
+use Rattle.std.specs.List.{slice_get}
+use Rattle.std.specs.Borrow.{Bor}
+use Rattle.std.proofs.lemmas.List.{length-map, map-append}
+use Rattle.std.proofs.lemmas.Option.{slice_get-map}
+use Rattle.iso_model.specs.declared.terms.Term.{Term}
+use Rattle.iso_model.specs.Terms.Trees.{Tree, Variable}
+use Rattle.iso_model.specs.Terms.Unification.Applied.{apply_none}
+use Rattle.iso_model.specs.Terms.TermOf.{term_of}
+use Rattle.iso_model.specs.Terms.Substitutions.{Subst, apply}
+use Rattle.iso_model.specs.Search.Bodies.{Body, Cut, Run, And, Or, If, Choose, map_body}
+use Rattle.iso_prep.specs.declared.constructs.Construct.{Construct}
+use Rattle.iso_prep.specs.declared.constructs.Construct.TheVariants as construct
+use Rattle.iso_prep.specs.Trees as prepared
 use Rattle.iso_plain.specs.declared.bodies.Node.{Node}
 use Rattle.iso_plain.specs.declared.bodies.Node.TheVariants as node
-use Rattle.iso_plain.specs.Nodes.{layout, layout_of, map_node}
-use Rattle.iso_plain.specs.Callable.{IsGoal, AreGoals}
-use Rattle.iso_plain.specs.Kept.{IsTemplate, AreTemplates}
-use Rattle.iso_plain.specs.Standing.{At, IsBody, runs, joins}
-use Rattle.iso_plain.specs.Entering.{Fits, PartsFit, renamed_nodes, IsNode, AreNodes, no_nodes, one_node}
-use Rattle.iso_plain.proofs.RenamingLemmas.{is_term-renamed, key-renamed}
-use Rattle.iso_plain.proofs.KeptLemmas.{below_from}
+use Rattle.iso_plain.specs.Nodes.{At, IsTree, runs, cuts, joins, branches, commits, chooses, EndsWith, IsAlike, AreAlike, IfGoal, EachGoal, IsTermOf, shown, IsGoalCopy, goals_in}
 
--- ---- what a layout has
+-- ---- parts that are alike
 
-pub parts_fit-append : (n : ℕ) (xs ys : List (Node Tree)) → PartsFit n xs → PartsFit n ys → PartsFit n (xs ++ ys)
-parts_fit-append n [] ys h k = k
-parts_fit-append n (x ∷ xs) ys h k = (h.0, parts_fit-append n xs ys h.1 k)
+module _ {G H : Type 0} (R : G → H → Type 0) where
+  pub alike_push : (xs : List (Node G)) (ys : List (Node H)) (x : Node G) (y : Node H) → AreAlike R xs ys → IsAlike R x y → AreAlike R (xs ++ x ∷ []) (ys ++ y ∷ [])
+  alike_push [] [] x y h is = (is, tt)
+  alike_push [] (z ∷ ys) x y h is = absurd h
+  alike_push (w ∷ xs) [] x y h is = absurd h
+  alike_push (w ∷ xs) (z ∷ ys) x y h is = (h.0, alike_push xs ys x y h.1 is)
 
-pub template_fits : (n : ℕ) (t : Tree) → IsTemplate n t → Fits n t
-template_fits n t h = record { arities = term_fits t h.is; below = below_from n t h.below }
+  pub alike_length : (xs : List (Node G)) (ys : List (Node H)) → AreAlike R xs ys → length xs ≡ length ys
+  alike_length [] [] h = refl
+  alike_length [] (y ∷ ys) h = absurd h
+  alike_length (x ∷ xs) [] h = absurd h
+  alike_length (x ∷ xs) (y ∷ ys) h = ap suc (alike_length xs ys h.1)
 
-pub layout_fits : (n : ℕ) (b : Body) → AreTemplates n b → PartsFit n (layout b)
-layout_fits n (Run t) h = (template_fits n t h, tt)
-layout_fits n (And a b) h =
-    parts_fit-append n (layout a ++ layout b) (node.And (length (layout b) + 1) ∷ []) (parts_fit-append n (layout a) (layout b) (layout_fits n a h.0) (layout_fits n b h.1)) (tt, tt)
+  -- the part at a place, and the one that is like it behind other parts
+  record Partner (x : Node G) (ys : List (Node H)) (i : ℕ) : Type 0 where
+    part : Node H
+    at : slice_get ys i ≡ Some part
+    is : IsAlike R x part
 
-pub layout_of_fits : (n : ℕ) (b : Body) → AreTemplates n b → PartsFit n (layout_of b)
-layout_of_fits n b h = elim (cases_Bool (is_true b)) [ inl fact ↦ rw fact tt | inr other ↦ rw other (layout_fits n b h) ]
+  partner : (front : List (Node H)) (xs : List (Node G)) (ys : List (Node H)) (i : ℕ) (x : Node G) → AreAlike R xs ys → slice_get xs i ≡ Some x → Partner x (front ++ ys) (length front + i)
+  partner (z ∷ front) xs ys i x h at =
+      let there = partner front xs ys i x h at in
+      let place : length (z ∷ front) + i ≡ suc (length front + i) = omega arith in
+      record { part = there.part; at = ap (slice_get (z ∷ (front ++ ys))) place ∙ there.at; is = there.is }
+  partner [] [] [] i x h at = cc
+  partner [] [] (y ∷ ys) i x h at = absurd h
+  partner [] (w ∷ xs) [] i x h at = absurd h
+  partner [] (w ∷ xs) (y ∷ ys) zero x h at =
+      let same : w ≡ x = cc in
+      record { part = y; at = refl; is = subst (λ z. IsAlike R z y) same h.0 }
+  partner [] (w ∷ xs) (y ∷ ys) (suc i) x h at =
+      let there = partner [] xs ys i x h.1 at in
+      let place : 0 + suc i ≡ suc (0 + i) = omega arith in
+      record { part = there.part; at = ap (slice_get (y ∷ ys)) place ∙ there.at; is = there.is }
 
--- some part is there
-pub layout_some : (b : Body) → 0 < length (layout b)
-layout_some (Run t) = omega arith
-layout_some (And a b) = (let more = length-append (layout a ++ layout b) (node.And (length (layout b) + 1) ∷ []) in omega (arith, more))
+-- ---- a part that is like one of a kind
 
-pub length-renamed : (n : ℕ) (ts : List (Node Tree)) → length (renamed_nodes n ts) ≡ length ts
-length-renamed n [] = refl
-length-renamed n (t ∷ ts) = ap suc (length-renamed n ts)
+module _ {G H : Type 0} (R : G → H → Type 0) where
+  abbrev Goal_like : G → Node H → Type 0
+  Goal_like g y = (h : H) × (y ≡ node.Run h) × R g h
 
--- renaming the parts renames the body
-pub layout_renamed : (n : ℕ) (b : Body) → renamed_nodes n (layout b) ≡ layout (map_body (λ k. Variable (n + k)) b)
-layout_renamed n (Run t) = refl
-layout_renamed n (And a b) =
-    let first = layout_renamed n a in
-    let second = layout_renamed n b in
-    let many : length (layout b) ≡ length (layout (map_body (λ k. Variable (n + k)) b)) = sym (length-renamed n (layout b)) ∙ ap length second in
-    map-append (map_node (renamed n)) (layout a ++ layout b) (node.And (length (layout b) + 1) ∷ [])
-    ∙ ap₂ ◌++◌ (map-append (map_node (renamed n)) (layout a) (layout b) ∙ ap₂ ◌++◌ first second) (ap (λ (k : ℕ). node.And (k + 1) ∷ []) many)
+  goal_like : (g : G) (y : Node H) → IsAlike R (node.Run g) y → Goal_like g y
+  goal_like g (node.Run h) is = (h, refl, is)
+  goal_like g node.Cut is = absurd is
+  goal_like g (node.And e) is = absurd is
+  goal_like g (node.Or e) is = absurd is
+  goal_like g (node.If e) is = absurd is
+  goal_like g (node.Choose b e) is = absurd is
 
-true_renamed : (n : ℕ) (b : Body) → is_true (map_body (λ k. Variable (n + k)) b) ≡ is_true b
-true_renamed n (Run (Variable k)) = refl
-true_renamed n (Run (Integer z)) = refl
-true_renamed n (Run (Name a)) = refl
-true_renamed n (Run (Apply f ts)) = refl
-true_renamed n (Run End) = refl
-true_renamed n (Run (More t ts)) = refl
-true_renamed n (And a b) = refl
+  cut_like : (y : Node H) → IsAlike R node.Cut y → y ≡ node.Cut
+  cut_like (node.Run h) is = absurd is
+  cut_like node.Cut is = refl
+  cut_like (node.And e) is = absurd is
+  cut_like (node.Or e) is = absurd is
+  cut_like (node.If e) is = absurd is
+  cut_like (node.Choose b e) is = absurd is
 
--- a clause's body without parts is `true` alone, also with its variables renamed
-pub fact_true : (n : ℕ) (b : Body) → layout_of b ≡ [] → is_true (map_body (λ k. Variable (n + k)) b) ≡ true
-fact_true n b h =
-    elim (cases_Bool (is_true b)) [
-      | inl fact ↦ true_renamed n b ∙ fact
-      | inr other ↦ absurd (let none : layout b ≡ [] = rw other at h in let some = layout_some b in let many = ap length none in omega (arith, some, many))
-    ]
+  and_like : (d : ℕ) (y : Node H) → IsAlike R (node.And d) y → y ≡ node.And d
+  and_like d (node.Run h) is = absurd is
+  and_like d node.Cut is = absurd is
+  and_like d (node.And e) is = ap node.And (sym is)
+  and_like d (node.Or e) is = absurd is
+  and_like d (node.If e) is = absurd is
+  and_like d (node.Choose b e) is = absurd is
 
--- one with parts isn't, and these are its layout
-pub body_untrue : (n : ℕ) (b : Body) → 0 < length (layout_of b) → is_true (map_body (λ k. Variable (n + k)) b) ≡ false
-body_untrue n b h =
-    elim (cases_Bool (is_true b)) [
-      | inl fact ↦ absurd (let none : 0 < 0 = rw fact at h in omega (arith, none))
-      | inr other ↦ true_renamed n b ∙ other
-    ]
+  or_like : (d : ℕ) (y : Node H) → IsAlike R (node.Or d) y → y ≡ node.Or d
+  or_like d (node.Run h) is = absurd is
+  or_like d node.Cut is = absurd is
+  or_like d (node.And e) is = absurd is
+  or_like d (node.Or e) is = ap node.Or (sym is)
+  or_like d (node.If e) is = absurd is
+  or_like d (node.Choose b e) is = absurd is
 
-pub layout_is : (b : Body) → 0 < length (layout_of b) → layout_of b ≡ layout b
-layout_is b h =
-    elim (cases_Bool (is_true b)) [
-      | inl fact ↦ absurd (let none : 0 < 0 = rw fact at h in omega (arith, none))
-      | inr other ↦ rw other refl
-    ]
+  if_like : (d : ℕ) (y : Node H) → IsAlike R (node.If d) y → y ≡ node.If d
+  if_like d (node.Run h) is = absurd is
+  if_like d node.Cut is = absurd is
+  if_like d (node.And e) is = absurd is
+  if_like d (node.Or e) is = absurd is
+  if_like d (node.If e) is = ap node.If (sym is)
+  if_like d (node.Choose b e) is = absurd is
 
-renamed_none : (t : Tree) → renamed 0 t ≡ t
-renamed_none t = apply_alone (λ x. Variable (0 + x)) t (λ x o. ap Variable (zero-add x))
+  choose_like : (c d : ℕ) (y : Node H) → IsAlike R (node.Choose c d) y → y ≡ node.Choose c d
+  choose_like c d (node.Run h) is = absurd is
+  choose_like c d node.Cut is = absurd is
+  choose_like c d (node.And e) is = absurd is
+  choose_like c d (node.Or e) is = absurd is
+  choose_like c d (node.If e) is = absurd is
+  choose_like c d (node.Choose b e) is = ap₂ node.Choose (sym is.0) (sym is.1)
 
--- the parts of a query are not renamed
-pub nodes_not_renamed : (ts : List (Node Tree)) → renamed_nodes 0 ts ≡ ts
-nodes_not_renamed [] = refl
-nodes_not_renamed (node.Run t ∷ ts) = ap₂ ◌∷◌ (ap node.Run (renamed_none t)) (nodes_not_renamed ts)
-nodes_not_renamed (node.And d ∷ ts) = ap₂ ◌∷◌ refl (nodes_not_renamed ts)
+-- where each goal of the first parts is such, parts that are alike are also alike in this way
+module _ {G H : Type 0} {P : G → Type 0} {R Q : G → H → Type 0} (gives : (g : G) (h : H) → P g → R g h → Q g h) where
+  part_alike : (x : Node G) (y : Node H) → IfGoal P x → IsAlike R x y → IsAlike Q x y
+  part_alike (node.Run g) (node.Run h) p r = gives g h p r
+  part_alike node.Cut node.Cut p r = r
+  part_alike (node.And d) (node.And e) p r = r
+  part_alike (node.Or d) (node.Or e) p r = r
+  part_alike (node.If d) (node.If e) p r = r
+  part_alike (node.Choose c d) (node.Choose b e) p r = r
+  part_alike x y p r = absurd r
 
--- ---- goals that can be run
+  pub alike_so : (xs : List (Node G)) (ys : List (Node H)) → EachGoal P xs → AreAlike R xs ys → AreAlike Q xs ys
+  alike_so [] [] p r = tt
+  alike_so [] (y ∷ ys) p r = absurd r
+  alike_so (x ∷ xs) [] p r = absurd r
+  alike_so (x ∷ xs) (y ∷ ys) p r = (part_alike x y p.0 r.0, alike_so xs ys p.1 r.1)
 
-pub templates_goals : (n : ℕ) (b : Body) → AreTemplates n b → AreGoals b
-templates_goals n (Run t) h = record { is = h.is; key = h.key }
-templates_goals n (And a b) h = (templates_goals n a h.0, templates_goals n b h.1)
+pub each_goal : {G : Type 0} {P Q : G → Type 0} → ((g : G) → P g → Q g) → (xs : List (Node G)) → EachGoal P xs → EachGoal Q xs
+each_goal gives [] h = tt
+each_goal gives (node.Run g ∷ xs) h = (gives g h.0, each_goal gives xs h.1)
+each_goal gives (node.Cut ∷ xs) h = (tt, each_goal gives xs h.1)
+each_goal gives (node.And d ∷ xs) h = (tt, each_goal gives xs h.1)
+each_goal gives (node.Or d ∷ xs) h = (tt, each_goal gives xs h.1)
+each_goal gives (node.If d ∷ xs) h = (tt, each_goal gives xs h.1)
+each_goal gives (node.Choose c d ∷ xs) h = (tt, each_goal gives xs h.1)
 
--- with their variables numbered from m on
-pub goals_renamed : (m n : ℕ) (b : Body) → AreTemplates n b → AreGoals (map_body (λ k. Variable (m + k)) b)
-goals_renamed m n (Run t) h = record { is = is_term-renamed (λ k. m + k) t ∙ h.is; key = (h.key.0, key-renamed (λ k. m + k) t ∙ h.key.1) }
-goals_renamed m n (And a b) h = (goals_renamed m n a h.0, goals_renamed m n b h.1)
+pub any_goal : {G : Type 0} (xs : List (Node G)) → EachGoal (λ g. Unit {0}) xs
+any_goal [] = tt
+any_goal (node.Run g ∷ xs) = (tt, any_goal xs)
+any_goal (node.Cut ∷ xs) = (tt, any_goal xs)
+any_goal (node.And d ∷ xs) = (tt, any_goal xs)
+any_goal (node.Or d ∷ xs) = (tt, any_goal xs)
+any_goal (node.If d ∷ xs) = (tt, any_goal xs)
+any_goal (node.Choose c d ∷ xs) = (tt, any_goal xs)
 
--- ---- nodes
+-- a construct's parts are as far apart behind others
+behind_others : (n i k d : ℕ) → k ≡ i + d → n + k ≡ n + i + d
+behind_others n i k d e = omega arith
 
-at_here : {X : Type 0} (front : List X) (x : X) (back : List X) → At (front ++ x ∷ back) (length front) x
-at_here [] x back = record { is = refl }
-at_here (y ∷ front) x back = record { is = (at_here front x back).is }
+-- ---- parts that are like those of a body are the body's, with the goals that they stand for under a substitution
 
--- nodes for one list of parts and then another
-record Split {W : Type 0} (p : Present W) (ns : List (Node W)) (xs ys : List (Node Tree)) : Type 0 where
-  front : List (Node W)
-  back : List (Node W)
-  is : ns ≡ front ++ back
-  first : AreNodes p front xs
-  second : AreNodes p back ys
+module _ {G H : Type 0} {Stands : G → Tree → Type 0} {Means : H → Tree → Type 0} (R : G → H → Type 0) (s : Subst) (means : (g : G) (h : H) (t : Tree) → R g h → Stands g t → Means h (apply s t)) (front : List (Node H)) where
+  pub tree_alike : {xs : List (Node G)} (ys : List (Node H)) {k : ℕ} {b : Body} → AreAlike R xs ys → IsTree Stands xs k b → IsTree Means (front ++ ys) (length front + k) (map_body s b)
+  tree_alike {xs} ys {k} h (runs {g = g} {t = t} at stands) =
+      let p = partner R front xs ys k (node.Run g) h at.is in
+      let l = goal_like R g p.part p.is in
+      runs {g = l.0} (record { is = p.at ∙ ap Some l.1 }) (means g l.0 t l.2 stands)
+  tree_alike {xs} ys {k} h (cuts at) =
+      let p = partner R front xs ys k node.Cut h at.is in
+      cuts (record { is = p.at ∙ ap Some (cut_like R p.part p.is) })
+  tree_alike {xs} ys {k} h (joins {i = i} {j = j} {distance = d} at e f some first second) =
+      let p = partner R front xs ys k (node.And d) h at.is in
+      joins (record { is = p.at ∙ ap Some (and_like R d p.part p.is) }) (behind_others (length front) i k d e) (behind_others (length front) j k 1 f) some (tree_alike ys h first) (tree_alike ys h second)
+  tree_alike {xs} ys {k} h (branches {i = i} {j = j} {distance = d} at e f some first second) =
+      let p = partner R front xs ys k (node.Or d) h at.is in
+      branches (record { is = p.at ∙ ap Some (or_like R d p.part p.is) }) (behind_others (length front) i k d e) (behind_others (length front) j k 1 f) some (tree_alike ys h first) (tree_alike ys h second)
+  tree_alike {xs} ys {k} h (commits {i = i} {j = j} {distance = d} at e f some first second) =
+      let p = partner R front xs ys k (node.If d) h at.is in
+      commits (record { is = p.at ∙ ap Some (if_like R d p.part p.is) }) (behind_others (length front) i k d e) (behind_others (length front) j k 1 f) some (tree_alike ys h first) (tree_alike ys h second)
+  tree_alike {xs} ys {k} h (chooses {h = a} {i = i} {j = j} {condition = c} {next = d} at e f g some other first second third) =
+      let p = partner R front xs ys k (node.Choose c d) h at.is in
+      chooses (record { is = p.at ∙ ap Some (choose_like R c d p.part p.is) }) (behind_others (length front) a k c e) (behind_others (length front) i k d f) (behind_others (length front) j k 1 g) some other
+      (tree_alike ys h first) (tree_alike ys h second) (tree_alike ys h third)
 
-split : {W : Type 0} {p : Present W} (ns : List (Node W)) (xs ys : List (Node Tree)) → AreNodes p ns (xs ++ ys) → Split p ns xs ys
-split ns [] ys h = record { front = []; back = ns; is = refl; first = no_nodes; second = h }
-split [] (x ∷ xs) ys h = elim h [ ]
-split (n ∷ ns) (x ∷ xs) ys (one_node is others) =
-    let more = split ns xs ys others in
-    record { front = n ∷ more.front; back = more.back; is = ap (λ (ms : List (Node _)). n ∷ ms) more.is; first = one_node is more.first; second = more.second }
+-- ---- bodies that were made ready
 
-pub nodes_length : {W : Type 0} {p : Present W} {ns : List (Node W)} {ts : List (Node Tree)} → AreNodes p ns ts → length ns ≡ length ts
-nodes_length no_nodes = refl
-nodes_length (one_node is others) = ap suc (nodes_length others)
+-- the goal that the borrowed term is
+abbrev pub IsBorrowed : Bor Term → Tree → Type 0
+IsBorrowed g t = t ≡ term_of g.now
 
-node_kept : {W : Type 0} {p q : Present W} (n : Node W) (t : Node Tree) → KeepsWords p q → IsNode p n t → IsNode q n t
-node_kept (node.Run w) (node.Run t) keeps h = (keeps.stand w h.0, keeps.terms w h.0 ∙ h.1)
-node_kept (node.And d) (node.And e) keeps h = h
-node_kept (node.Run w) (node.And e) keeps h = absurd h
-node_kept (node.And d) (node.Run t) keeps h = absurd h
+at_shown : (cs : List Construct) (k : ℕ) (c : Construct) → prepared.At cs k c → At (map shown cs) k (shown c)
+at_shown cs k c at = record { is = slice_get-map shown cs k ∙ ap (option_map shown) at.is }
 
--- a node more
-pub nodes_push : {W : Type 0} {p q : Present W} (ns : List (Node W)) (ts : List (Node Tree)) (n : Node W) (t : Node Tree) → AreNodes p ns ts → KeepsWords p q → IsNode q n t → AreNodes q (ns ++ n ∷ []) (ts ++ t ∷ [])
-nodes_push [] [] n t no_nodes keeps is = one_node is no_nodes
-nodes_push [] (u ∷ ts) n t h keeps is = elim h [ ]
-nodes_push (m ∷ ns) [] n t h keeps is = elim h [ ]
-nodes_push (m ∷ ns) (u ∷ ts) n t (one_node here others) keeps is = one_node (node_kept m u keeps here) (nodes_push ns ts n t others keeps is)
+pub tree_shown : {cs : List Construct} {k : ℕ} {b : Body} → prepared.IsTree cs k b → IsTree IsBorrowed (map shown cs) k b
+tree_shown {cs} {k} (prepared.cuts at) = cuts (at_shown cs k construct.Cut at)
+tree_shown {cs} {k} (prepared.runs {g = g} at) = runs (at_shown cs k (construct.Goal g) at) refl
+tree_shown {cs} {k} (prepared.joins {distance = d} at e f some first second) = joins (at_shown cs k (construct.And d) at) e f some (tree_shown first) (tree_shown second)
+tree_shown {cs} {k} (prepared.branches {distance = d} at e f some first second) = branches (at_shown cs k (construct.Or d) at) e f some (tree_shown first) (tree_shown second)
+tree_shown {cs} {k} (prepared.commits {distance = d} at e f some first second) = commits (at_shown cs k (construct.If d) at) e f some (tree_shown first) (tree_shown second)
+tree_shown {cs} {k} (prepared.chooses {condition = c} {next = d} at e f g some other first second third) =
+    chooses (at_shown cs k (construct.Choose c d) at) e f g some other (tree_shown first) (tree_shown second) (tree_shown third)
 
--- the last of these nodes
-record Last {W : Type 0} (p : Present W) (ns : List (Node W)) (t : Node Tree) : Type 0 where
-  node : Node W
-  only : ns ≡ node ∷ []
-  is : IsNode p node t
+map_none : (b : Body) → map_body Variable b ≡ b
+map_none Cut = refl
+map_none (Run t) = ap Run (apply_none t)
+map_none (And a b) = ap₂ And (map_none a) (map_none b)
+map_none (Or a b) = ap₂ Or (map_none a) (map_none b)
+map_none (If a b) = ap₂ If (map_none a) (map_none b)
+map_none (Choose a b c) = λ i. Choose (map_none a i) (map_none b i) (map_none c i)
 
-last_of : {W : Type 0} {p : Present W} (ns : List (Node W)) (t : Node Tree) → AreNodes p ns (t ∷ []) → Last p ns t
-last_of [] t h = elim h [ ]
-last_of (n ∷ []) t (one_node is others) = record { node = n; only = refl; is = is }
-last_of (n ∷ m ∷ ns) t (one_node is others) = elim others [ ]
-
--- These nodes, between others, are the body, which ends where they end.
-pub record BodyAt {W : Type 0} (p : Present W) (nodes : List (Node W)) (size : ℕ) (b : Body) : Type 0 where
-  pub place : ℕ
-  pub end : place + 1 ≡ size
-  pub body : IsBody p nodes place b
-
-one_body : {W : Type 0} (p : Present W) (front back : List (Node W)) (n : Node W) (t : Tree) → IsNode p n (node.Run t) → IsGoal t → IsBody p (front ++ n ∷ back) (length front) (Run t)
-one_body p front back (node.Run w) t is goal = runs (at_here front (node.Run w) back) is.0 (sym is.1) goal
-one_body p front back (node.And d) t is goal = absurd is
-
-joined : {W : Type 0} (p : Present W) (front back : List (Node W)) (n : Node W) (i j d : ℕ) (a b : Body) → IsNode p n (node.And d) → length front ≡ i + d → length front ≡ j + 1 → 0 < d
-    → IsBody p (front ++ n ∷ back) i a → IsBody p (front ++ n ∷ back) j b → IsBody p (front ++ n ∷ back) (length front) (And a b)
-joined p front back (node.And e) i j d a b is first second some x y =
-    joins (at_here front (node.And e) back) (first ∙ ap (λ (k : ℕ). i + k) (sym is)) second (omega (arith, some, is)) x y
-joined p front back (node.Run w) i j d a b is first second some x y = absurd is
-
-pub body_at : {W : Type 0} (p : Present W) (b : Body) (nodes front ns back : List (Node W)) → nodes ≡ front ++ ns ++ back → AreNodes p ns (layout b) → AreGoals b → BodyAt p nodes (length front + length ns) b
-body_at {W} p (Run t) nodes front ns back e h goals =
-    let l = last_of ns (node.Run t) h in
-    let are : nodes ≡ front ++ l.node ∷ back = e ∙ (append_assoc front ns back ∙ ap (λ (ms : List (Node W)). front ++ (ms ++ back)) l.only) in
-    let one : length ns ≡ 1 = ap length l.only in
-    record { place = length front; end = omega (arith, one); body = subst (λ (ms : List (Node W)). IsBody p ms (length front) (Run t)) (sym are) (one_body p front back l.node t l.is goals) }
-body_at {W} p (And a b) nodes front ns back e h goals =
-    let d = length (layout b) + 1 in
-    let s = split ns (layout a ++ layout b) (node.And d ∷ []) h in
-    let r = split s.front (layout a) (layout b) s.first in
-    let l = last_of s.back (node.And d) s.second in
-    let n = l.node in
-    let all : ns ≡ r.front ++ r.back ++ n ∷ [] = s.is ∙ ap₂ ◌++◌ r.is l.only in
-    let start : nodes ≡ front ++ (r.front ++ r.back ++ n ∷ []) ++ back = e ∙ ap (λ (ms : List (Node W)). front ++ ms ++ back) all in
-    let tail : (r.front ++ r.back ++ n ∷ []) ++ back ≡ r.front ++ (r.back ++ n ∷ back) = append_assoc (r.front ++ r.back) (n ∷ []) back ∙ append_assoc r.front r.back (n ∷ back) in
-    let first_e : nodes ≡ front ++ r.front ++ (r.back ++ n ∷ back) = start ∙ (append_assoc front (r.front ++ r.back ++ n ∷ []) back ∙ (ap (λ (ms : List (Node W)). front ++ ms) tail ∙ sym (append_assoc front r.front (r.back ++ n ∷ back)))) in
-    let second_e : nodes ≡ front ++ r.front ++ r.back ++ n ∷ back = first_e ∙ sym (append_assoc (front ++ r.front) r.back (n ∷ back)) in
-    let x = body_at p a nodes front r.front (r.back ++ n ∷ back) first_e r.first goals.0 in
-    let y = body_at p b nodes (front ++ r.front) r.back (n ∷ back) second_e r.second goals.1 in
-    let whole = front ++ r.front ++ r.back in
-    let one = length-append front r.front in
-    let two = length-append (front ++ r.front) r.back in
-    let many = nodes_length r.second in
-    let size : length ns ≡ length r.front + length r.back + 1 =
-    ap length all ∙ (length-append (r.front ++ r.back) (n ∷ []) ∙ ap (λ (k : ℕ). k + 1) (length-append r.front r.back)) in
-    let xe = x.end in
-    let ye = y.end in
+-- the copied parts of a body are the body's
+pub copied_ends : (cs : List Construct) (ns : List (Node Term)) (b : Body) → AreAlike IsGoalCopy (map shown cs) ns → prepared.EndsWith cs b → EndsWith IsTermOf ns b
+copied_ends cs ns b h ends =
+    let many : length cs ≡ length ns = sym (length-map cs shown) ∙ alike_length IsGoalCopy (map shown cs) ns h in
+    let means : (g : Bor Term) (n : Term) (t : Tree) → IsGoalCopy g n → IsBorrowed g t → IsTermOf n (apply Variable t) = λ g n t copy is. apply_none t ∙ is ∙ sym copy in
+    let tree : IsTree IsTermOf ns (0 + (length cs - 1)) (map_body Variable b) = tree_alike IsGoalCopy Variable means [] ns h (tree_shown ends.last) in
+    let place : 0 + (length cs - 1) ≡ length ns - 1 = omega (arith, many) in
     record {
-      place = length whole;
-      end = omega (arith, one, two, size);
-      body = subst (λ (ms : List (Node W)). IsBody p ms (length whole) (And a b)) (sym second_e)
-          (joined p whole back n x.place y.place d a b l.is (omega (arith, one, two, many, xe)) (omega (arith, one, two, ye)) (omega arith)
-          (subst (λ (ms : List (Node W)). IsBody p ms x.place a) second_e x.body) (subst (λ (ms : List (Node W)). IsBody p ms y.place b) second_e y.body));
+      some = omega (arith, many, ends.some);
+      last = subst (λ k. IsTree IsTermOf ns k b) place (subst (λ c. IsTree IsTermOf ns (0 + (length cs - 1)) c) (map_none b) tree);
     }
+
+-- and they have its goals
+pub copied_goals : (cs : List Construct) (ns : List (Node Term)) → AreAlike IsGoalCopy (map shown cs) ns → goals_in ns ≡ prepared.goals_in cs
+copied_goals [] [] h = refl
+copied_goals [] (n ∷ ns) h = absurd h
+copied_goals (c ∷ cs) [] h = absurd h
+copied_goals (construct.Goal g ∷ cs) (node.Run n ∷ ns) h = ap₂ ◌∷◌ h.0 (copied_goals cs ns h.1)
+copied_goals (construct.Goal g ∷ cs) (node.Cut ∷ ns) h = absurd h.0
+copied_goals (construct.Goal g ∷ cs) (node.And e ∷ ns) h = absurd h.0
+copied_goals (construct.Goal g ∷ cs) (node.Or e ∷ ns) h = absurd h.0
+copied_goals (construct.Goal g ∷ cs) (node.If e ∷ ns) h = absurd h.0
+copied_goals (construct.Goal g ∷ cs) (node.Choose b e ∷ ns) h = absurd h.0
+copied_goals (construct.Cut ∷ cs) (n ∷ ns) h = ap (λ x. goals_in (x ∷ ns)) (cut_like IsGoalCopy n h.0) ∙ copied_goals cs ns h.1
+copied_goals (construct.And d ∷ cs) (n ∷ ns) h = ap (λ x. goals_in (x ∷ ns)) (and_like IsGoalCopy d n h.0) ∙ copied_goals cs ns h.1
+copied_goals (construct.Or d ∷ cs) (n ∷ ns) h = ap (λ x. goals_in (x ∷ ns)) (or_like IsGoalCopy d n h.0) ∙ copied_goals cs ns h.1
+copied_goals (construct.If d ∷ cs) (n ∷ ns) h = ap (λ x. goals_in (x ∷ ns)) (if_like IsGoalCopy d n h.0) ∙ copied_goals cs ns h.1
+copied_goals (construct.Choose c d ∷ cs) (n ∷ ns) h = ap (λ x. goals_in (x ∷ ns)) (choose_like IsGoalCopy c d n h.0) ∙ copied_goals cs ns h.1
+
+-- one part more
+pub shown_push : (cs : List Construct) (ns : List (Node Term)) (i : ℕ) (c : Construct) (n : Node Term) → i < length cs → c ≡ get_or cs i c → AreAlike IsGoalCopy (map shown (take i cs)) ns → IsAlike IsGoalCopy (shown c) n
+    → AreAlike IsGoalCopy (map shown (take (i + 1) cs)) (ns ++ n ∷ [])
+shown_push cs ns i c n within is h here =
+    let next : take (i + 1) cs ≡ take i cs ++ c ∷ [] = rw (add-one, take-suc cs i c within, ← is) refl in
+    subst (λ xs. AreAlike IsGoalCopy xs (ns ++ n ∷ [])) (sym (ap (map shown) next ∙ map-append shown (take i cs) (c ∷ []))) (alike_push IsGoalCopy (map shown (take i cs)) ns (shown c) n h here)

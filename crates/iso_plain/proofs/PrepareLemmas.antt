@@ -1,120 +1,55 @@
--- A clause that was checked, numbered and converted is the clause that is added.
-use Rattle.std.proofs.Common.{◌≡◌, ◌<◌, ◌≤◌, ℕ, ◌+◌, List, [], length, refl, sym, ap, ◌∙◌, subst, arith, true, false, ◌&&◌, ◌||◌, inl, inr, Option, Some, None, option_map, codes, nat_lt, zero-add, ◌==◌, rules, Result, Ok, Err, IsErrAnd}
+-- A clause that was made ready is the clause that is added.
+use Rattle.std.proofs.Common.{◌≡◌, ◌<◌, ◌≤◌, ℕ, ◌+◌, List, [], length, refl, sym, ap, ◌∙◌, subst, arith, true, false, ◌&&◌, ◌||◌, inl, inr, Option, Some, None, codes, nat_lt, Result, Ok, Err, IsErrAnd}
 use Rattle.std.specs.Str.{bytes_eq}
-use Rattle.std.proofs.lemmas.Bool.{cases_Bool, eqb-true, and_parts, or_cases, or_left, or_right, false≢true}
-use Rattle.iso_model.specs.Terms.Trees.{Tree, Variable, Integer, Name, Apply, End, More, count}
+use Rattle.std.proofs.lemmas.Bool.{cases_Bool, eqb-true, and_parts, or_left, or_right, false≢true, ltb-false}
+use Rattle.iso_model.specs.Terms.Trees.{Tree, Variable, Integer, Name, Apply, End, More}
 use Rattle.iso_model.specs.Terms.Sorts.{is_term}
 use Rattle.iso_model.specs.Terms.TermOf.{term_of}
-use Rattle.iso_model.specs.Terms.Variables.{occurs, distinct_from, variables, variable_count}
+use Rattle.iso_model.specs.Terms.Variables.{occurs, variables, variable_count}
 use Rattle.iso_model.specs.Terms.Substitutions.{apply}
-use Rattle.iso_model.specs.Terms.Unification.Applied.{apply_same, occurs_from}
+use Rattle.iso_model.specs.Terms.Unification.Applied.{occurs_from}
 use Rattle.iso_model.specs.Terms.Unification.Listed.{Covers, distinct_covers}
 use Rattle.iso_model.specs.Terms.Copies.{place_of, copy_from}
-use Rattle.iso_model.specs.Search.Bodies.{Body, Run, And, converted, both, two, map_body}
+use Rattle.iso_model.specs.Search.Bodies.{Body, converted}
 use Rattle.iso_model.specs.Search.Databases.{Key, key_of}
 use Rattle.iso_model.specs.Search.BuiltIns.{is_built_in}
-use Rattle.iso_model.specs.Search.Additions.{head_of, body_of, most_variables, consult_key, Check, Faulty, NotCallable, TooManyVariables, NotUser, checked, checked_head, checked_body, checked_user, fault_error}
-use Rattle.iso_plain.specs.declared.clauses.Clause.{Clause}
-use Rattle.iso_plain.specs.Nodes.{trees_of, layout_of}
-use Rattle.iso_plain.specs.Kept.{numbers, IsTemplate, AreTemplates, IsRefused, IsAddition, Numbers, ChecksUser, Prepares}
+use Rattle.iso_model.specs.Search.Additions.{head_of, body_of, most_variables, consult_key, Check, Fits, Faulty, UnboundHead, NotCallable, TooManyVariables, NotUser, checked, prepared, prepared_head, prepared_body, prepared_small, user_checked, fault_error}
 use Rattle.iso_model.specs.declared.pauses.AddFault.{AddFault}
 use Rattle.iso_model.specs.declared.pauses.AddFault.TheVariants as add
-use Rattle.iso_plain.proofs.NumberLemmas.{place_known, numbers_more}
-use Rattle.iso_plain.proofs.RenamingLemmas.{is_term-renamed, key-renamed, converted-renamed, head-renamed, body-renamed}
+use Rattle.iso_prep.specs.declared.fault.Fault.{Fault}
+use Rattle.iso_prep.specs.declared.fault.Fault.TheVariants as fault
+use Rattle.iso_prep.specs.Classes.{goals_of}
+use Rattle.iso_prep.specs.Conversions.{numbers}
+use Rattle.iso_prep.specs.Preparations.{Preparation, PreparesClause}
+use Rattle.iso_plain.specs.declared.clauses.Clause.{Clause}
+use Rattle.iso_plain.specs.Nodes.{ArePartsOf, IsTermOf, EachGoal}
+use Rattle.iso_plain.specs.Kept.{IsTemplate, AreTemplates, IsKeptGoal, IsReady, IsRefused, Refuses, IsAddition, ChecksUser, Prepares}
+use Rattle.iso_plain.proofs.NumberLemmas.{place_known}
+use Rattle.iso_plain.proofs.RenamingLemmas.{is_term-renamed, key-renamed, head-renamed, body-renamed}
+use Rattle.iso_plain.proofs.ClauseLemmas.{body_templates}
 
 -- ---- a clause's variables, numbered
 
--- the variables of a clause are those of its head and then those of its body
-variables_split : (t : Tree) → distinct_from (distinct_from [] (head_of t)) (body_of t) ≡ variables t
-variables_split (Apply f (More h (More u End))) =
-    elim (cases_Bool (bytes_eq f (codes ":-"))) [ inl same ↦ rw same refl | inr other ↦ rw other refl ]
-variables_split t = refl
-
--- a copy from 0 numbers the variables by their places
-copy_zero : (t : Tree) → copy_from t 0 ≡ apply (numbers (variables t)) t
-copy_zero t = apply_same (λ x. Variable (0 + place_of x (variables t))) (numbers (variables t)) t (λ x o. ap Variable (zero-add (place_of x (variables t))))
-
-head_copied : (t : Tree) → head_of (copy_from t 0) ≡ apply (numbers (variables t)) (head_of t)
-head_copied t = ap head_of (copy_zero t) ∙ head-renamed (λ x. place_of x (variables t)) t
-
-body_copied : (t : Tree) → body_of (copy_from t 0) ≡ apply (numbers (variables t)) (body_of t)
-body_copied t = ap body_of (copy_zero t) ∙ body-renamed (λ x. place_of x (variables t)) t
-
--- a body that can't be converted can't with its variables numbered, and the other way
-pub unnumbered : (vs : List ℕ) (t : Tree) → converted (apply (numbers vs) t) ≡ None → converted t ≡ None
-unnumbered vs t h = by_body (converted t) (sym (converted-renamed (λ x. place_of x vs) t) ∙ h) where
-  by_body : (o : Option Body) → option_map (map_body (numbers vs)) o ≡ None → o ≡ None
-  by_body (Some b) e = cc
-  by_body None e = refl
-
--- the head was numbered first, and then the body
-pub numbered_clause : (t : Tree) (none first whole : List ℕ) (kept : Clause) → none ≡ [] → first ≡ distinct_from none (head_of t) → whole ≡ distinct_from first (body_of t)
-    → term_of kept.head ≡ apply (numbers first) (head_of t) → (b : Body) × (converted (apply (numbers whole) (body_of t)) ≡ Some b) × (trees_of kept.parts.items ≡ layout_of b) → kept.variables ≡ length whole
-    → Numbers t (Ok kept)
-numbered_clause t none first whole kept z f w head body n =
-    let from : first ≡ distinct_from [] (head_of t) = f ∙ ap (λ vs. distinct_from vs (head_of t)) z in
-    let all : whole ≡ variables t = w ∙ (ap (λ vs. distinct_from vs (body_of t)) from ∙ variables_split t) in
-    let covers : Covers (distinct_from [] (head_of t)) (head_of t) = distinct_covers [] (head_of t) in
-    let head_is : term_of kept.head ≡ apply (numbers (variables t)) (head_of t) =
-    head ∙ (ap (λ vs. apply (numbers vs) (head_of t)) from ∙ (sym (numbers_more (distinct_from [] (head_of t)) (body_of t) (head_of t) covers) ∙ ap (λ vs. apply (numbers vs) (head_of t)) (variables_split t))) in
-    let body_is : converted (body_of (copy_from t 0)) ≡ Some body.0 = ap converted (body_copied t ∙ ap (λ vs. apply (numbers vs) (body_of t)) (sym all)) ∙ body.1 in
-    (body.0, body_is, head_is ∙ sym (head_copied t), body.2, n ∙ ap length all)
-
--- ---- what is numbered is a template
-
-pub template : (vs : List ℕ) (t : Tree) (k : Key) → is_term t ≡ true → key_of t ≡ Some k → Covers vs t → IsTemplate (length vs) (apply (numbers vs) t)
-template vs t k fits e covers = record {
-  is = is_term-renamed (λ x. place_of x vs) t ∙ fits;
-  key = (k, key-renamed (λ x. place_of x vs) t ∙ e);
-  below = λ y o.
-      (let from = occurs_from (numbers vs) t y o in
-      let at : place_of from.0 vs ≡ y = eqb-true (place_of from.0 vs) y from.2 in
-      let known = place_known from.0 vs (covers from.0 from.1) in
-      omega arith);
-}
-
-one_template : (n : ℕ) (t : Tree) (b : Body) (k : Key) → Run t ≡ b → is_term t ≡ true → key_of t ≡ Some k → ((x : ℕ) → occurs x t ≡ true → x < n) → AreTemplates n b
-one_template n t b k same fits e below = subst (λ (c : Body). AreTemplates n c) same (record { is = fits; key = (k, e); below = below })
-
--- a conjunction's goals are those of its parts
-both_parts : (a b : Option Body) (c : Body) → both a b ≡ Some c → (x y : Body) × (a ≡ Some x) × (b ≡ Some y) × (c ≡ And x y)
-both_parts (Some a) (Some b) c e = let same : c ≡ And a b = cc in (a, b, refl, refl, same)
-both_parts (Some a) None c e = cc
-both_parts None b c e = cc
-
--- the goals of a body whose variables are below n
-pub body_templates : (n : ℕ) (t : Tree) (b : Body) → converted t ≡ Some b → is_term t ≡ true → ((x : ℕ) → occurs x t ≡ true → x < n) → AreTemplates n b
-body_templates n (Variable k) b e fits below =
-    let same : Run (Apply (codes "call") (More (Variable k) End)) ≡ b = cc in
-    one_template n (Apply (codes "call") (More (Variable k) End)) b (record { name = codes "call"; arity = 1 }) same refl refl (λ x o. below x (only x o))
-  where
-    only : (x : ℕ) → occurs x (Apply (codes "call") (More (Variable k) End)) ≡ true → occurs x (Variable k) ≡ true
-    only x o = elim (or_cases (k == x) false o) [ inl here ↦ here | inr there ↦ absurd (false≢true there) ]
-body_templates n (Integer z) b e fits below = cc
-body_templates n (Name a) b e fits below = let same : Run (Name a) ≡ b = cc in one_template n (Name a) b (record { name = a; arity = 0 }) same fits refl below
-body_templates n (Apply f (More x (More y End))) b e fits below =
-    elim (cases_Bool (bytes_eq f (codes ","))) [
-      | inl conjunction ↦ (let p = both_parts (converted x) (converted y) b (rw conjunction at e) in
-          let inner = and_parts (is_term x) (is_term y && true) fits in
-          let second = and_parts (is_term y) true inner.1 in
-          let first = body_templates n x p.0 p.2 inner.0 (λ z o. below z (or_left (occurs z x) (occurs z y || false) o)) in
-          let last = body_templates n y p.1 p.3 second.0 (λ z o. below z (or_right (occurs z x) (occurs z y || false) (or_left (occurs z y) false o))) in
-          rw p.4 (first, last))
-      | inr other ↦ (let d : Some (Run (two f x y)) ≡ Some b = rw other at e in
-          let same : Run (two f x y) ≡ b = cc in
-          one_template n (two f x y) b (record { name = f; arity = count (More x (More y End)) }) same fits refl below)
-    ]
-body_templates n (Apply f t) b e fits below = let same : Run (Apply f t) ≡ b = cc in one_template n (Apply f t) b (record { name = f; arity = count t }) same fits refl below
-body_templates n End b e fits below = cc
-body_templates n (More t ts) b e fits below = cc
-
--- a term whose variables were numbered
-numbered_below : (vs : List ℕ) (t : Tree) → Covers vs t → (x : ℕ) → occurs x (apply (numbers vs) t) ≡ true → x < length vs
+-- where a variable of a numbered term is from
+pub numbered_below : (vs : List ℕ) (t : Tree) → Covers vs t → (x : ℕ) → occurs x (apply (numbers vs) t) ≡ true → x < length vs
 numbered_below vs t covers x o =
     let from = occurs_from (numbers vs) t x o in
-    let at : place_of from.0 vs ≡ x = eqb-true (place_of from.0 vs) x from.2 in
+    let at : 0 + place_of from.0 vs ≡ x = eqb-true (0 + place_of from.0 vs) x from.2 in
     let known = place_known from.0 vs (covers from.0 from.1) in
-    omega arith
+    omega (arith, at, known)
+
+template : (vs : List ℕ) (t : Tree) (k : Key) → is_term t ≡ true → key_of t ≡ Some k → Covers vs t → IsTemplate (length vs) (apply (numbers vs) t)
+template vs t k fits e covers = record {
+  is = is_term-renamed (λ x. 0 + place_of x vs) t ∙ fits;
+  key = (k, key-renamed (λ x. 0 + place_of x vs) t ∙ e);
+  below = numbered_below vs t covers;
+}
+
+head_copied : (t : Tree) → head_of (copy_from t 0) ≡ apply (numbers (variables t)) (head_of t)
+head_copied t = head-renamed (λ x. 0 + place_of x (variables t)) t
+
+body_copied : (t : Tree) → body_of (copy_from t 0) ≡ apply (numbers (variables t)) (body_of t)
+body_copied t = body-renamed (λ x. 0 + place_of x (variables t)) t
 
 -- ---- the parts of a clause
 
@@ -138,74 +73,119 @@ parts_covered (Apply f (More h (More b End))) vs covers =
     ]
 parts_covered t vs covers = (covers, λ x o. absurd (false≢true o))
 
--- ---- the clause is added, or refused
+-- ---- what the checks found
 
-callable_checked : (t h : Tree) (k : Key) → key_of h ≡ Some k → checked_head t h (key_of h) ≡ checked_body t k (converted (body_of (copy_from t 0)))
-callable_checked t (Variable n) k e = cc
-callable_checked t (Integer z) k e = cc
-callable_checked t (Name a) k e = let same : record { name = a; arity = 0 } ≡ k = cc in ap (λ k. checked_body t k (converted (body_of (copy_from t 0)))) same
-callable_checked t (Apply f ts) k e = let same : record { name = f; arity = count ts } ≡ k = cc in ap (λ k. checked_body t k (converted (body_of (copy_from t 0)))) same
-callable_checked t End k e = cc
-callable_checked t (More u us) k e = cc
+small_parts : (t : Tree) (j k : Key) (c b : Body) → prepared_small t j c ≡ Fits k b → (j ≡ k) × (c ≡ b) × (variable_count t ≤ most_variables)
+small_parts t j k c b e =
+    elim (cases_Bool (nat_lt most_variables (variable_count t))) [
+      | inl large ↦ absurd (let bad : Faulty TooManyVariables ≡ Fits k b = rw large at e in cc)
+      | inr small ↦ (let good : Fits j c ≡ Fits k b = rw small at e in
+          let few = ltb-false _ _ small in
+          let key : j ≡ k = cc in
+          let body : c ≡ b = cc in
+          (key, body, omega (arith, few)))
+    ]
 
--- a head that is callable, and a body that can't be converted
-pub refused_body : (t : Tree) (k : Key) → key_of (head_of t) ≡ Some k → converted (body_of t) ≡ None → checked t ≡ Faulty (NotCallable (body_of t))
-refused_body t k h e =
-    let none : converted (body_of (copy_from t 0)) ≡ None = ap converted (body_copied t) ∙ (converted-renamed (λ x. place_of x (variables t)) (body_of t) ∙ ap (option_map (map_body (numbers (variables t)))) e) in
-    callable_checked t (head_of t) k h ∙ ap (λ o. checked_body t k o) none
+body_parts : (t : Tree) (j k : Key) (o : Option Body) (b : Body) → prepared_body t j o ≡ Fits k b → (j ≡ k) × (o ≡ Some b) × (variable_count t ≤ most_variables)
+body_parts t j k None b e = cc
+body_parts t j k (Some c) b e = let found = small_parts t j k c b e in (found.0, ap Some found.1, found.2)
 
-pub refused_large : (t : Tree) (b : Body) (k : Key) → key_of (head_of t) ≡ Some k → converted (body_of (copy_from t 0)) ≡ Some b → most_variables < variable_count t → checked t ≡ Faulty TooManyVariables
-refused_large t b k h e large =
-    let over : nat_lt most_variables (variable_count t) ≡ true = search rules in
-    callable_checked t (head_of t) k h ∙ ap (λ o. checked_body t k o) e ∙ rw over refl
+head_parts : (t h : Tree) (o : Option Key) (k : Key) (b : Body) → prepared_head t h o ≡ Fits k b → (o ≡ Some k) × (converted (body_of (copy_from t 0)) ≡ Some b) × (variable_count t ≤ most_variables)
+head_parts t (Variable n) o k b e = cc
+head_parts t (Integer z) None k b e = cc
+head_parts t (Integer z) (Some j) k b e = let found = body_parts t j k (converted (body_of (copy_from t 0))) b e in (ap Some found.0, found.1, found.2)
+head_parts t (Name a) None k b e = cc
+head_parts t (Name a) (Some j) k b e = let found = body_parts t j k (converted (body_of (copy_from t 0))) b e in (ap Some found.0, found.1, found.2)
+head_parts t (Apply f ts) None k b e = cc
+head_parts t (Apply f ts) (Some j) k b e = let found = body_parts t j k (converted (body_of (copy_from t 0))) b e in (ap Some found.0, found.1, found.2)
+head_parts t End None k b e = cc
+head_parts t End (Some j) k b e = let found = body_parts t j k (converted (body_of (copy_from t 0))) b e in (ap Some found.0, found.1, found.2)
+head_parts t (More u us) None k b e = cc
+head_parts t (More u us) (Some j) k b e = let found = body_parts t j k (converted (body_of (copy_from t 0))) b e in (ap Some found.0, found.1, found.2)
 
-small_checked : (t : Tree) (b : Body) (k : Key) → key_of (head_of t) ≡ Some k → converted (body_of (copy_from t 0)) ≡ Some b → variable_count t ≤ most_variables → checked t ≡ checked_user k b
-small_checked t b k h e small =
-    let fits : nat_lt most_variables (variable_count t) ≡ false = search rules in
-    callable_checked t (head_of t) k h ∙ ap (λ o. checked_body t k o) e ∙ rw fits refl
+-- ---- a clause that was made ready
 
-pub refused_user : (t : Tree) (b : Body) (k : Key) → key_of (head_of t) ≡ Some k → converted (body_of (copy_from t 0)) ≡ Some b → variable_count t ≤ most_variables → is_built_in k ≡ true → checked t ≡ Faulty (NotUser k)
-refused_user t b k h e small built = small_checked t b k h e small ∙ rw built refl
+pub ready : (t : Tree) (p : Preparation) → is_term t ≡ true → PreparesClause (λ p. p) t (prepared t) (Ok p) → IsReady p t
+ready t p fits h = by_check (prepared t) refl h where
+  by_check : (c : Check) → prepared t ≡ c → PreparesClause (λ p. p) t c (Ok p) → IsReady p t
+  by_check (Fits k b) e h = record { key = k; body = b; term = fits; fits = e; is = h }
+  by_check (Faulty f) e h = absurd h
 
-pub prepared : (t : Tree) (k : Key) (kept : Clause) → is_term t ≡ true → key_of (head_of t) ≡ Some k → Numbers t (Ok kept) → kept.variables ≤ most_variables → is_built_in k ≡ false → IsAddition t kept
-prepared t k kept fits h n small user =
-    let vs = variables t in
-    let many = n.4 in
-    let few : variable_count t ≤ most_variables = omega (arith, many, small) in
-    let fit = parts_fit t fits in
-    let covered = parts_covered t vs (distinct_covers [] t) in
-    let u = body_of (copy_from t 0) in
-    let term : is_term u ≡ true = ap is_term (body_copied t) ∙ (is_term-renamed (λ x. place_of x vs) (body_of t) ∙ fit.1) in
-    let below : (x : ℕ) → occurs x u ≡ true → x < variable_count t = λ x o. numbered_below vs (body_of t) covered.1 x (sym (ap (occurs x) (body_copied t)) ∙ o) in
-    let head : term_of kept.head ≡ apply (numbers vs) (head_of t) = n.2 ∙ head_copied t in
-    record {
-      body = n.0;
-      key = k;
-      clause = λ m. record {
-        head = n.2;
-        parts = n.3;
-        variables = n.4;
-        few = few;
-        head_template = subst (λ (x : Tree). IsTemplate (variable_count t) x) (sym (head_copied t)) (template vs (head_of t) k fit.0 h covered.0);
-        goal_templates = body_templates (variable_count t) u n.0 n.1 term below;
-      };
-      named = ap key_of head ∙ key-renamed (λ x. place_of x vs) (head_of t) ∙ h;
-      fits = small_checked t n.0 k h n.1 few ∙ rw user refl;
-    }
+module _ (t : Tree) (p : Preparation) (r : IsReady p t) where
+  found : (key_of (head_of t) ≡ Some r.key) × (converted (body_of (copy_from t 0)) ≡ Some r.body) × (variable_count t ≤ most_variables)
+  found = head_parts t (head_of t) (key_of (head_of t)) r.key r.body r.fits
 
--- ---- by the answers of the calls
+  fit : (is_term (head_of t) ≡ true) × (is_term (body_of t) ≡ true)
+  fit = parts_fit t r.term
 
--- the fault that the checks found, and its error
-pub refuses : (t : Tree) (fault : _) (error : Tree) → checked t ≡ Faulty fault → fault_error consult_key fault ≡ error → IsRefused (checked t) error
-refuses t fault error is same = subst (λ (c : Check). IsRefused c error) (sym is) same
+  covered : Covers (variables t) (head_of t) × Covers (variables t) (body_of t)
+  covered = parts_covered t (variables t) (distinct_covers [] t)
 
-pub refused_numbers : (t : Tree) (k : Key) (r : Result Clause AddFault) (e : AddFault) → key_of (head_of t) ≡ Some k → IsErrAnd r (λ x. x ≡ e) → Numbers t (Err e) → Prepares t r
-refused_numbers t k (Ok c) e h err g = absurd err
-refused_numbers t k (Err x) (add.Refused ball) h err g = rw err (refuses t (NotCallable (body_of t)) (term_of ball.term) (refused_body t k h g.0) (sym g.1))
-refused_numbers t k (Err x) add.NoMemory h err g = rw err tt
+  -- it has a head, which is callable
+  pub head_there : p.head ≡ Some (head_of (copy_from t 0))
+  head_there = ap (λ q. q.head) r.is
 
-pub refused_built_in : (t : Tree) (b : Body) (k : Key) (r : Result Clause AddFault) (e : AddFault) → key_of (head_of t) ≡ Some k → converted (body_of (copy_from t 0)) ≡ Some b → variable_count t ≤ most_variables
-    → IsErrAnd r (λ x. x ≡ e) → ChecksUser k (Err e) → Prepares t r
-refused_built_in t b k (Ok c) e h g small err u = absurd err
-refused_built_in t b k (Err x) (add.Refused ball) h g small err u = rw err (refuses t (NotUser k) (term_of ball.term) (refused_user t b k h g small u.0) (sym u.1))
-refused_built_in t b k (Err x) add.NoMemory h g small err u = rw err tt
+  pub head_is_term : is_term (head_of (copy_from t 0)) ≡ true
+  head_is_term = ap is_term (head_copied t) ∙ is_term-renamed (λ x. 0 + place_of x (variables t)) (head_of t) ∙ fit.0
+
+  pub head_key : key_of (head_of (copy_from t 0)) ≡ Some r.key
+  head_key = ap key_of (head_copied t) ∙ key-renamed (λ x. 0 + place_of x (variables t)) (head_of t) ∙ found.0
+
+  -- its goals can be kept
+  pub ready_goals : AreTemplates (variable_count t) (goals_of p.body)
+  ready_goals =
+      let u = body_of (copy_from t 0) in
+      let term : is_term u ≡ true = ap is_term (body_copied t) ∙ is_term-renamed (λ x. 0 + place_of x (variables t)) (body_of t) ∙ fit.1 in
+      let below : (x : ℕ) → occurs x u ≡ true → x < variable_count t = λ x o. numbered_below (variables t) (body_of t) covered.1 x (sym (ap (occurs x) (body_copied t)) ∙ o) in
+      subst (λ b. AreTemplates (variable_count t) (goals_of b)) (sym (ap (λ q. q.body) r.is)) (body_templates (variable_count t) u r.body found.1 term below)
+
+  -- and what is kept of it is the clause
+  pub addition : (kept : Clause) → term_of kept.head ≡ head_of (copy_from t 0) → ArePartsOf IsTermOf kept.parts.items p.body → EachGoal (IsKeptGoal (variable_count t)) kept.parts.items → kept.variables ≡ p.variables
+      → is_built_in r.key ≡ false → IsAddition t kept
+  addition kept head parts goals count user = record {
+    body = r.body;
+    key = r.key;
+    clause = λ m. record {
+      head = head;
+      parts = subst (λ b. ArePartsOf IsTermOf kept.parts.items b) (ap (λ q. q.body) r.is) parts;
+      variables = count ∙ ap (λ q. q.variables) r.is;
+      few = found.2;
+      head_template = subst (λ (x : Tree). IsTemplate (variable_count t) x) (sym (head_copied t)) (template (variables t) (head_of t) r.key fit.0 found.0 covered.0);
+      goal_templates = goals;
+    };
+    named = ap key_of head ∙ head_key;
+    fits = ap user_checked r.fits ∙ rw user refl;
+  }
+
+  -- or it is that of a built-in
+  pub built_in_refused : (k : Key) (e : AddFault) (x : Result Clause AddFault) → k ≡ r.key → IsErrAnd x (λ y. y ≡ e) → ChecksUser k (Err e) → Prepares t x
+  built_in_refused k e (Ok c) same is h = absurd is
+  built_in_refused k (add.Refused ball) (Err y) same is h =
+      let built : is_built_in r.key ≡ true = ap is_built_in (sym same) ∙ h.0 in
+      let check : checked t ≡ Faulty (NotUser r.key) = ap user_checked r.fits ∙ rw built refl in
+      let error : fault_error consult_key (NotUser r.key) ≡ term_of ball.term = ap (λ j. fault_error consult_key (NotUser j)) (sym same) ∙ sym h.1 in
+      rw is (subst (λ (c : Check). IsRefused c (term_of ball.term)) (sym check) error)
+  built_in_refused k add.NoMemory (Err y) same is h = rw is tt
+
+-- ---- a clause that wasn't made ready
+
+pub refused_clause : (t : Tree) (f : Fault) (x : AddFault) → PreparesClause (λ p. p) t (prepared t) (Err f) → Refuses f x → Prepares t (Err x)
+refused_clause t f add.NoMemory h k = tt
+refused_clause t f (add.Refused ball) h k = by_check (prepared t) f h k where
+  by_check : (c : Check) (f : Fault) → PreparesClause (λ p. p) t c (Err f) → Refuses f (add.Refused ball) → IsRefused (user_checked c) (term_of ball.term)
+  by_check c fault.NoMemory h k = absurd k
+  by_check (Fits j b) fault.Instantiation h k = absurd h
+  by_check (Fits j b) (fault.Callable u) h k = absurd h
+  by_check (Fits j b) fault.TooManyVariables h k = absurd h
+  by_check (Faulty UnboundHead) fault.Instantiation h k = sym k
+  by_check (Faulty UnboundHead) (fault.Callable u) h k = absurd h
+  by_check (Faulty UnboundHead) fault.TooManyVariables h k = absurd h
+  by_check (Faulty (NotCallable v)) fault.Instantiation h k = absurd h
+  by_check (Faulty (NotCallable v)) (fault.Callable u) h k = ap (λ w. fault_error consult_key (NotCallable w)) (sym h) ∙ sym k
+  by_check (Faulty (NotCallable v)) fault.TooManyVariables h k = absurd h
+  by_check (Faulty TooManyVariables) fault.Instantiation h k = absurd h
+  by_check (Faulty TooManyVariables) (fault.Callable u) h k = absurd h
+  by_check (Faulty TooManyVariables) fault.TooManyVariables h k = sym k
+  by_check (Faulty (NotUser j)) fault.Instantiation h k = absurd h
+  by_check (Faulty (NotUser j)) (fault.Callable u) h k = absurd h
+  by_check (Faulty (NotUser j)) fault.TooManyVariables h k = absurd h

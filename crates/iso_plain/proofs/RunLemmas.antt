@@ -1,73 +1,30 @@
--- The engine is at a body.
-use Rattle.std.proofs.Common.{◌≡◌, ◌≢◌, ◌<◌, ◌≤◌, ◌-◌, ℕ, zero, suc, List, [], ◌∷◌, Some, length, true, refl, ap, sym, ◌∙◌, subst, arith}
-use Rattle.std.specs.List.{slice_get}
+-- The engine is at a goal.
+use Rattle.std.proofs.Common.{◌≡◌, ◌≢◌, ◌-◌, ℕ, zero, suc, List, [], ◌∷◌, Option, true, refl, ap, sym, ◌∙◌, subst, arith, Vec, Global}
 use Rattle.iso_model.specs.Terms.Trees.{Tree}
+use Rattle.iso_model.specs.Terms.Variables.{variables}
 use Rattle.iso_model.specs.Terms.Substitutions.{Subst, apply}
-use Rattle.iso_model.specs.Search.Bodies.{Body, Run, And}
+use Rattle.iso_model.specs.Search.Bodies.{Body, Run}
 use Rattle.iso_model.specs.Search.Databases as databases
 use Rattle.iso_model.specs.Search.Walker.{State, Member, Goal, Alternative}
-use Rattle.iso_store_core.specs.Presents.{Present, meaning}
+use Rattle.iso_store_core.specs.Presents.{Present, KeepsMarks, KeepsWords, meaning}
 use Rattle.iso_plain.specs.Callable.{IsGoal}
 use Rattle.iso_plain.specs.declared.bodies.Node.{Node}
 use Rattle.iso_plain.specs.declared.bodies.Node.TheVariants as node
 use Rattle.iso_plain.specs.declared.parts.Frame.{Frame}
 use Rattle.iso_plain.specs.declared.parts.Now.TheVariants as now
 use Rattle.iso_plain.specs.declared.plain.Plain.{Plain}
-use Rattle.iso_plain.specs.Standing.{IsBody, runs, joins, Chain, GoesOn, HaveRoom}
-use Rattle.iso_plain.specs.EngineStates.{IsEngine, Calls, left_at, links_of}
-use Rattle.iso_plain.proofs.StandingLemmas.{body_within}
-use Rattle.iso_plain.proofs.EndLemmas.{next_is}
-
-some_same : {X : Type 0} {x y : X} → Some x ≡ Some y → x ≡ y
-some_same h = cc
+use Rattle.iso_plain.specs.Entering.{Adds}
+use Rattle.iso_plain.specs.Standing.{IsAt, HaveRoom}
+use Rattle.iso_plain.specs.EngineStates.{IsEngine, IsAhead, Calls, left_at, links_of}
+use Rattle.iso_plain.proofs.AheadLemmas.{at_body}
+use Rattle.iso_plain.proofs.EnteringLemmas.{adds_none}
+use Rattle.iso_plain.proofs.PlaceLemmas.{goal_at}
+use Rattle.iso_plain.proofs.StandingLemmas.{AddsLinks, chain_more, variables_more}
+use Rattle.iso_plain.proofs.StoppedLemmas.{base_kept, choices_on}
 
 pub one_less : (n : ℕ) → n ≢ 0 → n ≡ suc (n - 1)
 one_less zero h = absurd (h refl)
 one_less (suc n) h = omega (arith)
-
--- the body of a node that is a goal
-pub record GoalAt {W : Type 0} (p : Present W) (w : W) (b : Body) : Type 0 where
-  pub term : Tree
-  pub is : b ≡ Run term
-  pub holds : p.holds w ≡ true
-  pub same : term ≡ p.term w
-  pub goal : IsGoal term
-
-pub goal_at : {W : Type 0} {p : Present W} {nodes : List (Node W)} {i : ℕ} {b : Body} (w : W) → slice_get nodes i ≡ Some (node.Run w) → IsBody p nodes i b → GoalAt p w b
-goal_at {p = p} w there (runs {w = v} {t = t} at holds is goal) =
-    let both : node.Run v ≡ node.Run w = some_same (sym at.is ∙ there) in
-    let same : v ≡ w = cc in
-    record { term = t; is = refl; holds = subst (λ (x : _). p.holds x ≡ true) same holds; same = is ∙ ap p.term same; goal = goal }
-goal_at w there (joins {distance = d} at first second some x y) = absurd (let both : node.And d ≡ node.Run w = some_same (sym at.is ∙ there) in cc)
-
--- the body of a node that is a conjunction
-pub record PartsAt {W : Type 0} (p : Present W) (nodes : List (Node W)) (place distance : ℕ) (b : Body) : Type 0 where
-  pub first : Body
-  pub second : Body
-  pub is : b ≡ And first second
-  pub within : distance ≤ place
-  pub more : 0 < distance
-  pub some : 0 < place
-  pub first_body : IsBody p nodes (place - distance) first
-  pub second_body : IsBody p nodes (place - 1) second
-
-pub parts_at : {W : Type 0} {p : Present W} {nodes : List (Node W)} {k : ℕ} {b : Body} (d : ℕ) → slice_get nodes k ≡ Some (node.And d) → IsBody p nodes k b → PartsAt p nodes k d b
-parts_at d there (runs {w = v} at holds is goal) = absurd (let both : node.Run v ≡ node.And d = some_same (sym at.is ∙ there) in cc)
-parts_at {p = p} {nodes = nodes} d there (joins {i = i} {j = j} {k = k} {distance = e} {a = a} {b = b} at first second some x y) =
-    let both : node.And e ≡ node.And d = some_same (sym at.is ∙ there) in
-    let same : e ≡ d = cc in
-    let front : i ≡ k - d = omega (arith, first, same) in
-    let back : j ≡ k - 1 = omega (arith, second) in
-    record {
-      first = a;
-      second = b;
-      is = refl;
-      within = omega (arith, first, same);
-      more = omega (arith, some, same);
-      some = omega (arith, second);
-      first_body = subst (λ (n : ℕ). IsBody p nodes n a) front x;
-      second_body = subst (λ (n : ℕ). IsBody p nodes n b) back y;
-    }
 
 -- fewer steps need less room
 pub room_less : (steps : ℕ) (ks : List Alternative) → HaveRoom (suc steps) ks → HaveRoom steps ks
@@ -83,40 +40,56 @@ module _ {S W M : Type 0} (present : S → Present W) (stands : S → M → Pres
     pub holds : (present e.store).holds w ≡ true
     pub goal : IsGoal ((present e.store).term w)
     pub value : apply s.subst term ≡ meaning (present e.store) w
-    pub chain : Chain (present e.store) (links_of e) f.next behind
-    pub goes : GoesOn (present e.store) e.query.items s
+    pub ahead : IsAhead present stands older e (record s { list = behind }) f.next
 
-  pub at_run : (e : Plain S W M) (s : State) (f : Frame) (w : W) → e.now ≡ now.Running f → slice_get e.nodes.items f.body ≡ Some (node.Run w) → IsEngine present stands older e s → AtRun e s f w
-  at_run e s f w doing there is =
-      let next = next_is present stands older e s (now.Running f) doing is in
-      let first = next.0 in
-      let g = goal_at w there first.node in
+  pub at_run : (e : Plain S W M) (s : State) (f : Frame) (k : ℕ) (w : W) → e.now ≡ now.Running f → IsAt e.nodes.items f k (node.Run w) → IsEngine present stands older e s → AtRun e s f w
+  at_run e s f k w doing there is =
+      let b = at_body present stands older e s f k doing there.asks is in
+      let g = goal_at (present e.store) w there.there b.stands_for in
       record {
-        term = g.term;
-        behind = first.behind;
-        list = first.is ∙ ap (λ (b : Body). Goal b f.mark ∷ first.behind) g.is;
-        holds = g.holds;
-        goal = subst (λ (t : Tree). IsGoal t) g.same g.goal;
-        value = ap (apply s.subst) g.same ∙ ap (λ (r : Subst). apply r ((present e.store).term w)) (sym (next.1).subst);
-        chain = first.chain;
-        goes = next.1;
+        term = g.0;
+        behind = b.behind;
+        list = b.list ∙ ap (λ (c : Body). Goal c f.mark ∷ b.behind) g.1;
+        holds = (g.2).0;
+        goal = subst (λ (t : Tree). IsGoal t) (g.2).1 (g.2).2;
+        value = ap (apply s.subst) (g.2).1 ∙ ap (λ (r : Subst). apply r ((present e.store).term w)) (sym (b.ahead.goes).subst);
+        ahead = b.ahead;
       }
 
   -- the goal is called, which takes a step; its procedure has these clauses
   pub calls_engine : (e : Plain S W M) (s : State) (f : Frame) (w : W) (procedure n : ℕ) (c : databases.Clause) (cs : List databases.Clause) (a : AtRun e s f w)
-      → e.steps ≡ suc n → left_at s.world.database.procedures procedure 0 ≡ c ∷ cs → IsEngine present stands older e s
+      → e.steps ≡ suc n → left_at s.world.database.procedures procedure 0 ≡ c ∷ cs
       → Calls present stands older (record e { steps = n }) (record { procedure = procedure; clause = 0; goal = w; rest = f.next }) (record s { steps = n }) (meaning (present e.store) w) c cs a.behind
-  calls_engine e s f w procedure n c cs a many clauses is = record {
-    world = record { procedures_are = is.world.procedures_are; operators_are = is.world.operators_are; flags_are = is.world.flags_are };
-    steps = refl;
-    base = is.base;
-    choices = is.choices;
-    room = room_less n s.stack (subst (λ (k : ℕ). HaveRoom k s.stack) many is.room);
-    space = (let room = a.goes.room in let all = is.steps in omega (arith, room, all, many));
-    at = record { subst_is = a.goes.subst; next_is = a.goes.next; holds = a.holds; value = refl; chain = a.chain; words = a.goes.words };
-    clauses = clauses;
-  }
+  calls_engine e s f w procedure n c cs a many clauses =
+      let h = a.ahead in
+      record {
+        world = record { procedures_are = h.world.procedures_are; operators_are = h.world.operators_are; flags_are = h.world.flags_are };
+        steps = refl;
+        base = h.base;
+        choices = h.choices;
+        room = room_less n s.stack (subst (λ (k : ℕ). HaveRoom k s.stack) many h.room);
+        space = (let room = h.goes.room in let all = h.steps in omega (arith, room, all, many));
+        at = record { holds = a.holds; value = refl; on = record { subst_is = h.goes.subst; next_is = h.goes.next; chain = h.chain; words = h.goes.words } };
+        clauses = clauses;
+      }
 
-  -- the place of the body is one of a node
-  pub runs_within : (e : Plain S W M) (s : State) (f : Frame) → e.now ≡ now.Running f → IsEngine present stands older e s → f.body < length e.nodes.items
-  runs_within e s f doing is = body_within ((next_is present stands older e s (now.Running f) doing is).0).node
+  -- a step was taken, bindings came and nodes, and the goals behind the goal come next
+  pub ahead_step : (e : Plain S W M) (store : S) (nodes : Vec (Node W) Global) (s : State) (place : Option ℕ) (n built : ℕ) (q : Subst) → IsAhead present stands older e s place → e.steps ≡ suc n
+      → KeepsMarks (stands e.store) (stands store) → Adds e.nodes.items nodes.items → KeepsWords (present e.store) (present store) → (present store).substitution ≡ q → (present store).next ≡ (present e.store).next
+      → IsAhead present stands older (record e { store = store; nodes = nodes; steps = n }) (record s { subst = q; built = built; steps = n }) place
+  ahead_step e store nodes s place n built q h many keeps adds words substitution next =
+      let more : AddsLinks (links_of e) (record { nodes = nodes.items; frames = e.frames.items }) = record { nodes = adds; frames = adds_none e.frames.items } in
+      record {
+        world = record { procedures_are = h.world.procedures_are; operators_are = h.world.operators_are; flags_are = h.world.flags_are };
+        steps = refl;
+        base = base_kept (stands e.store) (stands store) e.base keeps h.base;
+        choices = choices_on present stands older e store nodes e.frames s.world (variables s.query) s.stack keeps adds (adds_none e.frames.items) h.choices;
+        room = room_less n s.stack (subst (λ (k : ℕ). HaveRoom k s.stack) many h.room);
+        goes = record {
+          subst = substitution;
+          next = next ∙ h.goes.next;
+          room = (let room = h.goes.room in let all = h.steps in omega (arith, room, all, many));
+          words = variables_more words h.goes.words;
+        };
+        chain = chain_more (record { nodes = nodes.items; frames = e.frames.items }) more words h.chain;
+      }

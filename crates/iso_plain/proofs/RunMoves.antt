@@ -1,37 +1,40 @@
--- What running a body comes to.
-use Rattle.std.proofs.Common.{◌≡◌, ◌≢◌, ◌<◌, ◌≤◌, ◌-◌, ◌++◌, ℕ, suc, List, [], ◌∷◌, Some, None, length, refl, ap, ◌∙◌, subst, arith, inl, inr, Result, Ok, Err, IfOk, Vec, Global}
-use Rattle.std.specs.List.{slice_get}
+-- What running a goal comes to.
+use Rattle.std.proofs.Common.{◌≡◌, ◌≢◌, ◌<◌, ◌≤◌, ◌-◌, ℕ, suc, List, [], ◌∷◌, None, Some, length, refl, ap, ◌∙◌, subst, arith, inl, inr, Result, Ok, Err, IfOk, Vec, Global}
 use Rattle.iso_ops.specs.declared.settings.Unknown.TheVariants as on_unknown
 use Rattle.iso_model.specs.Terms.Trees.{Tree}
 use Rattle.iso_model.specs.Search.Databases as databases
 use Rattle.iso_model.specs.Search.Databases.{Key, clauses_at}
 use Rattle.iso_model.specs.Search.Errors.{existence_error}
-use Rattle.iso_model.specs.Search.Walker.{State, World, Member, Goal, Fail, Raise, Alternative, Goes, Budget, Uncaught, idle, fails, run_value, tried, with_others, step}
+use Rattle.iso_model.specs.Search.Walker.{State, World, Member, Fail, Raise, Alternative, Goes, Budget, Uncaught, idle, fails, run_value, tried, with_others, step}
 use Rattle.iso_model.specs.Search.Runs.{Finishes, ComesOver}
 use Rattle.iso_model.specs.Search.RunLaws.{finishes_behind}
 use Rattle.iso_model.specs.Search.RunLaws.SameRuns.{onward_same}
-use Rattle.iso_model.specs.Search.RunLaws.SameLaws.{same_beside, stack_length}
 use Rattle.iso_model.proofs.Search.CallLemmas.{clause_keeps}
 use Rattle.iso_model.specs.declared.limit.Limit.TheVariants as limit
 use Rattle.iso_store_core.specs.Presents.{Present, KeepsMarks, meaning}
+use Rattle.iso_plain.specs.declared.bodies.Node.{Node}
 use Rattle.iso_plain.specs.declared.bodies.Node.TheVariants as node
 use Rattle.iso_plain.specs.declared.parts.Frame.{Frame}
+use Rattle.iso_plain.specs.declared.parts.Todo.TheVariants as todo
 use Rattle.iso_plain.specs.declared.parts.Now.TheVariants as now
 use Rattle.iso_plain.specs.declared.plain.Move.{Move}
 use Rattle.iso_plain.specs.declared.plain.Move.TheVariants as move
 use Rattle.iso_plain.specs.declared.plain.Plain.{Plain}
 use Rattle.iso_plain.specs.Called.{IsUser}
+use Rattle.iso_plain.specs.Entering.{Adds}
 use Rattle.iso_plain.specs.Programs.{IsWorld}
-use Rattle.iso_plain.specs.Standing.{Links, Chain, leads, HaveRoom}
-use Rattle.iso_plain.specs.EngineStates.{IsEngine, Represents, StandsFor, Keeps, Stopped, WasCalled, WasRefused, Moves, phase_of, links_of}
-use Rattle.iso_plain.proofs.EndLemmas.{next_is}
+use Rattle.iso_plain.specs.Standing.{IsAt, HaveRoom}
+use Rattle.iso_plain.specs.EngineStates.{IsEngine, Represents, StandsFor, Keeps, Stopped, WasCalled, WasRefused, Moves, phase_of}
+use Rattle.iso_model.specs.Search.Runs.{here}
+use Rattle.iso_model.specs.Terms.Variables.{variables}
+use Rattle.iso_plain.proofs.AheadLemmas.{at_frame, fail_of}
 use Rattle.iso_plain.proofs.EngineMoves.{spent_stands}
-use Rattle.iso_plain.proofs.EnteringLemmas.{words_same, adds_none}
-use Rattle.iso_plain.proofs.RunLemmas.{AtRun, at_run, PartsAt, parts_at, room_less, one_less}
-use Rattle.iso_plain.proofs.SearchMoves.{goes, ends, stops, stops_here}
-use Rattle.iso_plain.proofs.SearchSteps.{goal_step, budget_step, raise_step, parts_step, procedure_goal, unknown_goal, tried_steps, others_keep, one_more}
-use Rattle.iso_plain.proofs.StandingLemmas.{AddsLinks, at_last, chain_more, choices_more, choices_keep, choices_length}
-use Rattle.iso_plain.proofs.StoppedLemmas.{base_kept}
+use Rattle.iso_plain.proofs.EnteringLemmas.{adds_none}
+use Rattle.iso_plain.proofs.RunLemmas.{AtRun, at_run, room_less, one_less}
+use Rattle.iso_plain.proofs.SearchMoves.{goes, ends, stops, stops_here, comes_over}
+use Rattle.iso_plain.proofs.SearchSteps.{goal_step, budget_step, raise_step, procedure_goal, unknown_goal, tried_steps, others_keep, one_more}
+use Rattle.iso_plain.proofs.StandingLemmas.{choices_length}
+use Rattle.iso_plain.proofs.StoppedLemmas.{base_kept, choices_on}
 
 pub if_ok_map : {T E : Type 0} (P Q : T → Type 0) (result : Result T E) → ((t : T) → P t → Q t) → IfOk result P → IfOk result Q
 if_ok_map P Q (Ok t) f h = f t h
@@ -43,59 +46,49 @@ others_stack call [] rest s k = refl
 others_stack call (c ∷ cs) rest s k = refl
 
 module _ {S W M : Type 0} (present : S → Present W) (stands : S → M → Present W → Type 0) (older : M → M → Type 0) where
-  -- A goal took a step and failed, whatever is bound now.
-  pub failed_engine : (e : Plain S W M) (store : S) (s : State) (n built : ℕ) → e.steps ≡ suc n → KeepsMarks (stands e.store) (stands store) → IsEngine present stands older e s
-      → IsEngine present stands older (record e { store = store; steps = n; now = now.Failing }) (record s { list = Fail ∷ []; built = built; steps = n })
-  failed_engine e store s n built many keeps is = record {
+  -- A frame asks for failure.
+  pub fails_next : (e : Plain S W M) (s : State) (f : Frame) → e.now ≡ now.Running f → f.todo ≡ todo.Fail → Represents present stands older e s → Moves present stands older move.Goes s (record e { now = now.Failing })
+  fails_next e s f doing asks r =
+      let a = at_frame present stands older e r.own f doing r.engine in
+      let is = fail_of (present e.store) e.nodes.items f a.member asks a.stands_for in
+      let h = r.engine in (
+        s,
+        here,
+        record {
+          own = r.own;
+          engine = record {
+            world = record { procedures_are = h.world.procedures_are; operators_are = h.world.operators_are; flags_are = h.world.flags_are };
+            steps = h.steps;
+            base = h.base;
+            choices = h.choices;
+            room = h.room;
+            next = (a.behind, a.list ∙ ap (λ (m : Member). m ∷ a.behind) is);
+          };
+          same = r.same;
+        },
+        tt,
+      )
+
+  -- A goal took a step and failed, whatever is bound now, and whatever nodes came.
+  pub failed_engine : (e : Plain S W M) (store : S) (nodes : Vec (Node W) Global) (s : State) (n built : ℕ) → e.steps ≡ suc n → KeepsMarks (stands e.store) (stands store) → Adds e.nodes.items nodes.items → IsEngine present stands older e s
+      → IsEngine present stands older (record e { store = store; nodes = nodes; steps = n; now = now.Failing }) (record s { list = Fail ∷ []; built = built; steps = n })
+  failed_engine e store nodes s n built many keeps adds is = record {
     world = record { procedures_are = is.world.procedures_are; operators_are = is.world.operators_are; flags_are = is.world.flags_are };
     steps = refl;
     base = base_kept (stands e.store) (stands store) e.base keeps is.base;
-    choices = choices_keep (λ d p among stood. keeps d.mark p stood) is.choices;
+    choices = choices_on present stands older e store nodes e.frames s.world (variables s.query) s.stack keeps adds (adds_none e.frames.items) is.choices;
     room = room_less n s.stack (subst (λ (k : ℕ). HaveRoom k s.stack) many is.room);
-    next = refl;
+    next = ([], refl);
   }
-
-  -- ---- a conjunction
-
-  -- the place of the first body, and of the second
-  pub conjunction : (e : Plain S W M) (s : State) (f : Frame) (distance : ℕ) (doing : e.now ≡ now.Running f) → slice_get e.nodes.items f.body ≡ Some (node.And distance) → (r : Represents present stands older e s)
-      → PartsAt (present e.store) e.nodes.items f.body distance ((next_is present stands older e r.own (now.Running f) doing r.engine).0).body
-  conjunction e s f distance doing there r = parts_at distance there ((next_is present stands older e r.own (now.Running f) doing r.engine).0).node
-
-  pub takes_apart : (e : Plain S W M) (s : State) (f : Frame) (distance : ℕ) (frames : Vec Frame Global) (doing : e.now ≡ now.Running f) → slice_get e.nodes.items f.body ≡ Some (node.And distance) → Represents present stands older e s
-      → frames.items ≡ e.frames.items ++ record { body = f.body - 1; mark = f.mark; next = f.next } ∷ []
-      → Moves present stands older move.Goes s (record e { frames = frames; now = now.Running (record { body = f.body - distance; mark = f.mark; next = Some (length e.frames.items) }) })
-  takes_apart e s f distance frames doing there r pushed =
-      let o = r.own in
-      let next = next_is present stands older e o (now.Running f) doing r.engine in
-      let first = next.0 in
-      let parts = conjunction e s f distance doing there r in
-      let is = r.engine in
-      let second : Frame = record { body = f.body - 1; mark = f.mark; next = f.next } in
-      let links : Links W = record { nodes = e.nodes.items; frames = frames.items } in
-      let adds : AddsLinks (links_of e) links = record { nodes = adds_none e.nodes.items; frames = (second ∷ [], pushed) } in
-      let v : State = record o { list = Goal parts.first f.mark ∷ Goal parts.second f.mark ∷ first.behind } in
-      let chain : Chain (present e.store) links (Some (length e.frames.items)) (Goal parts.second f.mark ∷ first.behind) =
-      leads (rw pushed (at_last e.frames.items second)) parts.second_body (chain_more links adds (words_same (present e.store)) first.chain) in
-      goes present stands older e (record e { frames = frames; now = now.Running (record { body = f.body - distance; mark = f.mark; next = Some (length e.frames.items) }) }) s r v
-      (parts_step o parts.first parts.second f.mark first.behind (first.is ∙ ap (λ b. Goal b f.mark ∷ first.behind) parts.is))
-      (record {
-        world = record { procedures_are = is.world.procedures_are; operators_are = is.world.operators_are; flags_are = is.world.flags_are };
-        steps = is.steps;
-        base = is.base;
-        choices = choices_more links adds is.choices;
-        room = is.room;
-        next = (record { body = parts.first; behind = Goal parts.second f.mark ∷ first.behind; is = refl; node = parts.first_body; chain = chain }, record { subst = next.1.subst; next = next.1.next; room = next.1.room; words = next.1.words });
-      }) tt
 
   -- ---- a goal
 
-  module _ (e : Plain S W M) (s : State) (f : Frame) (w : W) (doing : e.now ≡ now.Running f) (there : slice_get e.nodes.items f.body ≡ Some (node.Run w)) (r : Represents present stands older e s) where
+  module _ (e : Plain S W M) (s : State) (f : Frame) (k : ℕ) (w : W) (doing : e.now ≡ now.Running f) (there : IsAt e.nodes.items f k (node.Run w)) (r : Represents present stands older e s) where
     abbrev pub own : State
     own = r.own
 
     abbrev pub at : AtRun present stands older e own f w
-    at = at_run present stands older e own f w doing there r.engine
+    at = at_run present stands older e own f k w doing there r.engine
 
     abbrev pub call : Tree
     call = meaning (present e.store) w
@@ -110,26 +103,32 @@ module _ {S W M : Type 0} (present : S → Present W) (stands : S → M → Pres
     runs_to v more h =
         goal_step own at.term f.mark at.behind (e.steps - 1) v at.list (r.engine.steps ∙ one_less e.steps more) (ap (λ (t : Tree). run_value t at.behind own) at.value ∙ h)
 
+    -- an error is raised, which nothing catches
+    pub raises : (new : Plain S W M) (ball : Tree) → e.steps ≢ 0 → ((v : World) → IsWorld e v → IsEngine present stands older new (idle v)) → new.now ≡ now.Idle
+        → run_value call at.behind own ≡ Goes (record own { list = Raise ball ∷ at.behind }) → Finishes s (Uncaught ball) (StandsFor present stands older new)
+    raises new ball more idles rests h =
+        let v : State = record own { list = Raise ball ∷ at.behind; steps = e.steps - 1 } in
+        let k = onward_same own v s (runs_to (record own { list = Raise ball ∷ at.behind }) more h) r.same in
+        finishes_behind k.1 (ends present stands older new v k.0 (Uncaught ball) k.2 (raise_step v ball at.behind refl) rests (idles own.world r.engine.world))
+
     -- an unknown procedure
     pub raises_error : (new : Plain S W M) (ball : Tree) → e.steps ≢ 0 → ((v : World) → IsWorld e v → IsEngine present stands older new (idle v)) → new.now ≡ now.Idle
         → (k : Key) × IsUser call k × (clauses_at own.world.database.procedures k ≡ None) × (own.world.flags.unknown ≡ on_unknown.Error) × (ball ≡ existence_error k)
         → Finishes s (Uncaught ball) (StandsFor present stands older new)
     raises_error new ball more idles rests is =
-        let v : State = record own { list = Raise (existence_error is.0) ∷ at.behind; steps = e.steps - 1 } in
-        let k = onward_same own v s (runs_to (record own { list = Raise (existence_error is.0) ∷ at.behind }) more (unknown_goal call at.behind own is.0 on_unknown.Error is.1 is.2 is.3)) r.same in
-        rw is.4 (finishes_behind k.1 (ends present stands older new v k.0 (Uncaught (existence_error is.0)) k.2 (raise_step v (existence_error is.0) at.behind refl) rests (idles own.world r.engine.world)))
+        rw is.4 (raises new (existence_error is.0) more idles rests (unknown_goal call at.behind own is.0 on_unknown.Error is.1 is.2 is.3))
 
     -- one that fails
     pub fails_unknown : e.steps ≢ 0 → (k : Key) × IsUser call k × (clauses_at own.world.database.procedures k ≡ None) × (own.world.flags.unknown ≡ on_unknown.Fail)
         → Moves present stands older move.Goes s (record e { steps = e.steps - 1; now = now.Failing })
     fails_unknown more is =
         goes present stands older e (record e { steps = e.steps - 1; now = now.Failing }) s r (record (fails own) { steps = e.steps - 1 }) (runs_to (fails own) more (unknown_goal call at.behind own is.0 on_unknown.Fail is.1 is.2 is.3))
-        (failed_engine e e.store own (e.steps - 1) own.built (one_less e.steps more) (λ m p h. h) r.engine) tt
+        (failed_engine e e.store e.nodes own (e.steps - 1) own.built (one_less e.steps more) (λ m p h. h) (adds_none e.nodes.items) r.engine) tt
 
     -- ---- a call of a procedure with these clauses
-    module _ (more : e.steps ≢ 0) (k : Key) (c : databases.Clause) (cs : List databases.Clause) (user : IsUser call k) (found : clauses_at own.world.database.procedures k ≡ Some (c ∷ cs)) where
+    module _ (more : e.steps ≢ 0) (key : Key) (c : databases.Clause) (cs : List databases.Clause) (user : IsUser call key) (found : clauses_at own.world.database.procedures key ≡ Some (c ∷ cs)) where
       calls_to : step own ≡ Goes (record (tried call (c ∷ cs) at.behind own) { steps = e.steps - 1 })
-      calls_to = runs_to (tried call (c ∷ cs) at.behind own) more (procedure_goal call at.behind own k (c ∷ cs) user found)
+      calls_to = runs_to (tried call (c ∷ cs) at.behind own) more (procedure_goal call at.behind own key (c ∷ cs) user found)
 
       there_stack : (record (tried call (c ∷ cs) at.behind own) { steps = e.steps - 1 }).stack ≡ (with_others call cs at.behind own).stack
       there_stack = (clause_keeps call c (length own.stack) at.behind (with_others call cs at.behind own)).0
@@ -156,9 +155,5 @@ module _ {S W M : Type 0} (present : S → Present W) (stands : S → M → Pres
       -- a call that may make no choice any more: the search comes to more alternatives than there may be
       pub over : e.limit ≤ length e.choices.items → 0 < length cs → ComesOver e.limit s
       over full some =
-          let t = onward_same own (record (tried call (c ∷ cs) at.behind own) { steps = e.steps - 1 }) s calls_to r.same in
-          let same = stack_length (same_beside _ t.0 t.2).stack in
-          let stack = ap length there_stack in
-          let longer = one_more call cs at.behind own some in
           let many = choices_length r.engine.choices in
-          record { at = t.0; quiet = t.1; holds = omega (arith, same, stack, longer, many, full) }
+          comes_over present stands older e s r (record (tried call (c ∷ cs) at.behind own) { steps = e.steps - 1 }) e.limit calls_to (ap length there_stack ∙ one_more call cs at.behind own some) (omega (arith, many, full))

@@ -1,16 +1,16 @@
 -- A move of the engine's own state is some steps of each state that is the same.
-use Rattle.std.proofs.Common.{◌≡◌, List, ap, ap₂, sym, ◌∙◌, subst, inl}
+use Rattle.std.proofs.Common.{◌≡◌, ◌≤◌, ℕ, suc, List, [], length, refl, ap, ap₂, sym, ◌∙◌, subst, inl, arith}
 use Rattle.iso_model.specs.Terms.Variables.{variables}
 use Rattle.iso_ops.specs.Operators.{Operator}
 use Rattle.iso_ops.specs.declared.settings.Flags.{Flags}
 use Rattle.iso_model.specs.Search.Walker.{State, World, Alternative, Event, Ending, Goes, Gives, Ends, idle, step}
-use Rattle.iso_model.specs.Search.Runs.{Quiet, here, Comes, Finishes}
+use Rattle.iso_model.specs.Search.Runs.{Quiet, here, Comes, Finishes, ComesOver}
 use Rattle.iso_model.specs.Search.Engines.{IsAwake}
 use Rattle.iso_model.specs.Search.RunLaws.{quiet_trans}
-use Rattle.iso_model.specs.Search.RunLaws.Sameness.{Same, SameStack}
-use Rattle.iso_model.specs.Search.RunLaws.SameSteps.{same_itself}
+use Rattle.iso_model.specs.Search.RunLaws.Sameness.{Same, failing, SameStack, no_alternative}
 use Rattle.iso_model.specs.Search.RunLaws.SameRuns.{onward_same, comes_same, finishes_same, same_world}
-use Rattle.iso_model.specs.Search.RunLaws.SameLaws.{same_beside}
+use Rattle.iso_model.specs.Search.RunLaws.SameSteps.{stack_length}
+use Rattle.iso_model.specs.Search.RunLaws.SameLaws.{same_beside, same_on}
 use Rattle.iso_store_core.specs.Presents.{Present}
 use Rattle.iso_plain.specs.Programs.{IsWorld}
 use Rattle.iso_plain.specs.declared.parts.Now.{Now}
@@ -18,6 +18,10 @@ use Rattle.iso_plain.specs.declared.parts.Now.TheVariants as now
 use Rattle.iso_plain.specs.declared.plain.Move.TheVariants as move
 use Rattle.iso_plain.specs.declared.plain.Plain.{Plain}
 use Rattle.iso_plain.specs.EngineStates.{IsEngine, Represents, Keeps, Stopped, StandsBy, StandsFor, Moves, phase_of, settings_of, settings_in}
+
+-- a state in which no goal was started is the same as itself
+pub same_idle : (w : World) → Same (idle w) (idle w)
+same_idle w = failing [] [] refl refl (record { stack = no_alternative; world = refl; steps = refl })
 
 module _ {S W M : Type 0} (present : S → Present W) (stands : S → M → Present W → Type 0) (older : M → M → Type 0) where
   -- an engine keeps the operators and the flags of its world
@@ -31,12 +35,27 @@ module _ {S W M : Type 0} (present : S → Present W) (stands : S → M → Pres
       let k = onward_same r.own v s h r.same in
       (k.0, k.1, record { own = v; engine = is; same = k.2 }, awake)
 
+  -- the engine's own goals have the values of those that the step goes to
+  pub goes_as : (e new : Plain S W M) (s : State) (r : Represents present stands older e s) (v u : State) → step r.own ≡ Goes v → Same u v → IsEngine present stands older new u → IsAwake (phase_of new.now)
+      → Moves present stands older move.Goes s new
+  goes_as e new s r v u h same is awake =
+      let k = onward_same r.own v s h r.same in
+      (k.0, k.1, record { own = u; engine = is; same = same_on u v k.0 same k.2 }, awake)
+
+  -- where the step goes to a state with one alternative more, and there may be none more, the search comes to more than there may be
+  pub comes_over : (e : Plain S W M) (s : State) (r : Represents present stands older e s) (v : State) (limit : ℕ) → step r.own ≡ Goes v → length v.stack ≡ suc (length (r.own).stack) → limit ≤ length (r.own).stack → ComesOver limit s
+  comes_over e s r v limit h longer full =
+      let k = onward_same r.own v s h r.same in
+      let beside = same_beside v k.0 k.2 in
+      let same = stack_length beside.stack in
+      record { at = k.0; quiet = k.1; holds = omega (arith, same, longer, full) }
+
   stands_by : (n m : Now) (e : Plain S W M) (s : State) → n ≡ m → StandsBy present stands older m e s → StandsBy present stands older n e s
   stands_by n m e s is r = subst (λ (x : Now). StandsBy present stands older x e s) (sym is) r
 
   -- an engine that is idle
   pub idle_stands : (e : Plain S W M) (w : World) → e.now ≡ now.Idle → IsEngine present stands older e (idle w) → StandsFor present stands older e (idle w)
-  idle_stands e w rests is = stands_by e.now now.Idle e (idle w) rests (record { own = idle w; engine = is; same = same_itself (idle w) })
+  idle_stands e w rests is = stands_by e.now now.Idle e (idle w) rests (record { own = idle w; engine = is; same = same_idle w })
 
   -- the run ends, and the engine is idle
   pub ends : (new : Plain S W M) (o s : State) (ending : Ending) → Same o s → step o ≡ Ends ending o.world → new.now ≡ now.Idle → IsEngine present stands older new (idle o.world)
@@ -46,8 +65,8 @@ module _ {S W M : Type 0} (present : S → Present W) (stands : S → M → Pres
   -- an event, behind which the engine fails
   pub gives : (new : Plain S W M) (o v s : State) (event : Event) → Same o s → step o ≡ Gives event v → new.now ≡ now.Failing → IsEngine present stands older new v
       → Comes s event (StandsFor present stands older new)
-  gives new o v s event same h failing is =
-      comes_same o v s event (StandsFor present stands older new) h (λ t k. stands_by new.now now.Failing new t failing (record { own = v; engine = is; same = k })) same
+  gives new o v s event same h doing is =
+      comes_same o v s event (StandsFor present stands older new) h (λ t k. stands_by new.now now.Failing new t doing (record { own = v; engine = is; same = k })) same
 
   -- ---- the engine stopped
 

@@ -5,12 +5,13 @@ use Rattle.iso_model.specs.Terms.Trees.{Tree}
 use Rattle.iso_model.specs.Terms.Substitutions.{Subst, apply}
 use Rattle.iso_model.specs.Terms.Unification.{unifier_of}
 use Rattle.iso_model.specs.Terms.Copies.{renamed}
-use Rattle.iso_model.specs.Search.Bodies.{Body, Run, And}
+use Rattle.iso_model.specs.Search.Bodies.{Body, Cut, Run, And, Or, If, Choose}
 use Rattle.iso_model.specs.Search.Databases.{Clause, Key, clauses_at}
 use Rattle.iso_model.specs.Search.BuiltIns.{Reply, reply}
 use Rattle.iso_model.specs.declared.built_ins.BuiltIn.{BuiltIn}
-use Rattle.iso_model.specs.Search.Walker.{State, Member, Goal, Fail, Raise, Alternative, Left, Clauses, Outcome, Goes, Gives, Ends, Answered, NoMore, Budget, Uncaught, charged, paid, fails, values, under, entered, with_others, tried, retried, backtracked, unknown_called, called, replied, selected, run_goal, run_value, thrown, clause_size, step_list, step}
+use Rattle.iso_model.specs.Search.Walker.{State, Member, Goal, CutTo, Fail, Raise, Alternative, Left, AsIs, Again, Clauses, pushed, cut_back, Outcome, Goes, Gives, Ends, Answered, NoMore, Budget, Uncaught, charged, paid, fails, values, under, entered, with_others, tried, retried, backtracked, unknown_called, called, replied, selected, run_goal, run_value, thrown, clause_size, step_list, step}
 use Rattle.iso_plain.specs.Called.{IsBuiltIn, IsUser}
+use Rattle.iso_plain.specs.EngineStates.{went_back}
 
 -- by the list
 pub step_is : (s : State) (ms : List Member) → s.list ≡ ms → step s ≡ step_list ms s
@@ -19,18 +20,31 @@ step_is s ms is = ap (λ (xs : List Member). step_list xs s) is
 
 -- ---- failure
 
--- the state behind failure, at which this alternative is tried
-abbrev pub back : Alternative → List Alternative → State → State
-back a below s = record s { list = a.list; subst = a.subst; next = a.next; built = a.built; stack = below }
+back_step : (s : State) (rest : List Member) (a : Alternative) (below : List Alternative) (left : Left) → s.list ≡ Fail ∷ rest → s.stack ≡ a ∷ below → a.left ≡ left → step s ≡ retried left (went_back a below s)
+back_step s rest a below left list stack is =
+    step_is s (Fail ∷ rest) list ∙ (ap (λ (xs : List Alternative). backtracked xs s) stack ∙ ap (λ (l : Left). retried l (went_back a below s)) is)
 
-pub retry_step : (s : State) (a : Alternative) (below : List Alternative) (call : Tree) (cs : List Clause) → s.list ≡ Fail ∷ [] → s.stack ≡ a ∷ below → a.left ≡ Clauses call cs
-    → step s ≡ Goes (tried call cs a.list (back a below s))
-retry_step s a below call cs list stack left =
-    step_is s (Fail ∷ []) list ∙ (ap (λ (xs : List Alternative). backtracked xs s) stack ∙ ap (λ (l : Left). retried l (back a below s)) left)
+pub retry_step : (s : State) (rest : List Member) (a : Alternative) (below : List Alternative) (call : Tree) (cs : List Clause) → s.list ≡ Fail ∷ rest → s.stack ≡ a ∷ below → a.left ≡ Clauses call cs
+    → step s ≡ Goes (tried call cs a.list (went_back a below s))
+retry_step s rest a below call cs list stack left = back_step s rest a below (Clauses call cs) list stack left
+
+-- its goals are gone on with as they are
+pub resume_step : (s : State) (rest : List Member) (a : Alternative) (below : List Alternative) → s.list ≡ Fail ∷ rest → s.stack ≡ a ∷ below → a.left ≡ AsIs → step s ≡ Goes (went_back a below s)
+resume_step s rest a below list stack left = back_step s rest a below AsIs list stack left
+
+-- and again, for which a step is needed
+pub again_step : (s : State) (rest : List Member) (a : Alternative) (below : List Alternative) (n : ℕ) → s.list ≡ Fail ∷ rest → s.stack ≡ a ∷ below → a.left ≡ Again → s.steps ≡ suc n
+    → step s ≡ Goes (record (pushed a.list Again (went_back a below s)) { steps = n })
+again_step s rest a below n list stack left more =
+    back_step s rest a below Again list stack left ∙ ap (λ (k : ℕ). paid k (went_back a below s) (Goes (pushed a.list Again (went_back a below s)))) more
+
+pub spent_step : (s : State) (rest : List Member) (a : Alternative) (below : List Alternative) → s.list ≡ Fail ∷ rest → s.stack ≡ a ∷ below → a.left ≡ Again → s.steps ≡ 0 → step s ≡ Ends Budget s.world
+spent_step s rest a below list stack left none =
+    back_step s rest a below Again list stack left ∙ ap (λ (k : ℕ). paid k (went_back a below s) (Goes (pushed a.list Again (went_back a below s)))) none
 
 -- no alternative is left
-pub last_step : (s : State) → s.list ≡ Fail ∷ [] → s.stack ≡ [] → step s ≡ Ends NoMore s.world
-last_step s list stack = step_is s (Fail ∷ []) list ∙ ap (λ (xs : List Alternative). backtracked xs s) stack
+pub last_step : (s : State) (rest : List Member) → s.list ≡ Fail ∷ rest → s.stack ≡ [] → step s ≡ Ends NoMore s.world
+last_step s rest list stack = step_is s (Fail ∷ rest) list ∙ ap (λ (xs : List Alternative). backtracked xs s) stack
 
 -- ---- an answer, and a ball
 
@@ -48,6 +62,27 @@ raise_step s ball rest list = step_is s (Raise ball ∷ rest) list ∙ thrown_is
 
 pub parts_step : (s : State) (a b : Body) (mark : ℕ) (rest : List Member) → s.list ≡ Goal (And a b) mark ∷ rest → step s ≡ Goes (record s { list = Goal a mark ∷ Goal b mark ∷ rest })
 parts_step s a b mark rest list = step_is s (Goal (And a b) mark ∷ rest) list
+
+pub either_step : (s : State) (a b : Body) (mark : ℕ) (rest : List Member) → s.list ≡ Goal (Or a b) mark ∷ rest → step s ≡ Goes (record (pushed (Goal b mark ∷ rest) AsIs s) { list = Goal a mark ∷ rest })
+either_step s a b mark rest list = step_is s (Goal (Or a b) mark ∷ rest) list
+
+pub condition_step : (s : State) (c t : Body) (mark : ℕ) (rest : List Member) → s.list ≡ Goal (If c t) mark ∷ rest
+    → step s ≡ Goes (record s { list = Goal c (length s.stack) ∷ CutTo (length s.stack) ∷ Goal t mark ∷ rest })
+condition_step s c t mark rest list = step_is s (Goal (If c t) mark ∷ rest) list
+
+pub choose_step : (s : State) (c t e : Body) (mark : ℕ) (rest : List Member) → s.list ≡ Goal (Choose c t e) mark ∷ rest
+    → step s ≡ Goes (record (pushed (Goal e mark ∷ rest) AsIs s) { list = Goal c (suc (length s.stack)) ∷ CutTo (length s.stack) ∷ Goal t mark ∷ rest })
+choose_step s c t e mark rest list = step_is s (Goal (Choose c t e) mark ∷ rest) list
+
+-- ---- a cut
+
+pub cut_step : (s : State) (mark : ℕ) (rest : List Member) → s.list ≡ Goal Cut mark ∷ rest → step s ≡ Goes (cut_back mark rest s)
+cut_step s mark rest list = step_is s (Goal Cut mark ∷ rest) list
+
+pub cut_back_step : (s : State) (mark : ℕ) (rest : List Member) → s.list ≡ CutTo mark ∷ rest → step s ≡ Goes (cut_back mark rest s)
+cut_back_step s mark rest list = step_is s (CutTo mark ∷ rest) list
+
+-- ---- a goal
 
 -- a step is needed and none is left
 pub budget_step : (s : State) (t : Tree) (mark : ℕ) (rest : List Member) → s.list ≡ Goal (Run t) mark ∷ rest → s.steps ≡ 0 → step s ≡ Ends Budget s.world

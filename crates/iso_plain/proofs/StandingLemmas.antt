@@ -1,7 +1,8 @@
 -- Bodies, frames and choices, as the store, the nodes and the frames change.
-use Rattle.std.proofs.Common.{◌≡◌, ℕ, zero, suc, ◌+◌, ◌-◌, ◌<◌, List, [], ◌∷◌, ◌++◌, length, take, Option, Some, None, refl, ap, ap₂, sym, ◌∙◌, subst, arith, inl, inr, length-append}
+use Rattle.std.proofs.Common.{◌≡◌, ℕ, zero, suc, ◌+◌, ◌-◌, ◌<◌, List, [], ◌∷◌, ◌++◌, length, take, drop, get_or, Option, Some, None, refl, ap, ap₂, sym, ◌∙◌, subst, arith, ◌⊎◌, inl, inr, length-append}
 use Rattle.std.specs.List.{slice_get}
-use Rattle.std.proofs.lemmas.List.{take-append-le}
+use Rattle.std.proofs.Math.Nat.{eq-or-lt_of_le}
+use Rattle.std.proofs.lemmas.List.{take-append-le, take-append-drop}
 use Rattle.std.proofs.lemmas.Option.{slice_get_within}
 use Rattle.iso_model.specs.Terms.Trees.{Tree}
 use Rattle.iso_model.specs.Search.Bodies.{Body}
@@ -12,7 +13,8 @@ use Rattle.iso_plain.specs.Next.{IsPlace, now_at, now_behind}
 use Rattle.iso_plain.specs.declared.bodies.Node.{Node}
 use Rattle.iso_plain.specs.declared.parts.Frame.{Frame}
 use Rattle.iso_plain.specs.declared.parts.Choice as kept
-use Rattle.iso_plain.specs.Standing.{At, Among, Links, IsBody, runs, joins, Chain, ends, leads, First, StandsOn, StandsForChoice, StandsForChoices, none_kept, one_kept, links_at, Newest, AreVariables, no_word, one_word, GoesOn, DoesNext}
+use Rattle.iso_plain.specs.Nodes.{At, IsTree, runs, cuts, joins, branches, commits, chooses}
+use Rattle.iso_plain.specs.Standing.{Among, Links, IsBody, IsMember, a_body, a_cut, a_failure, Chain, ends, leads, First, StandsOn, StandsForChoice, StandsForChoices, none_kept, one_kept, links_at, Newest, AreVariables, no_word, one_word, GoesOn, DoesNext}
 use Rattle.iso_plain.specs.Entering.{Adds}
 
 -- ---- places
@@ -28,20 +30,53 @@ at_last (y ∷ xs) x = record { is = (at_last xs x).is }
 
 -- ---- bodies and frames
 
--- more nodes, and a store that keeps its words
-pub body_more : {W : Type 0} {p q : Present W} {nodes : List (Node W)} {i : ℕ} {b : Body} (more : List (Node W)) → KeepsWords p q → IsBody p nodes i b → IsBody q (nodes ++ more) i b
-body_more {nodes = nodes} more keeps (runs {i = i} {w = w} at holds is goal) = runs (at_more nodes more i _ at) (keeps.stand w holds) (is ∙ sym (keeps.terms w holds)) goal
-body_more {nodes = nodes} more keeps (joins {k = k} at first second some a b) = joins (at_more nodes more k _ at) first second some (body_more more keeps a) (body_more more keeps b)
+-- more nodes
+tree_more : {G : Type 0} {Stands : G → Tree → Type 0} {parts : List (Node G)} {i : ℕ} {b : Body} (more : List (Node G)) → IsTree Stands parts i b → IsTree Stands (parts ++ more) i b
+tree_more {parts = parts} more (runs {k = k} at stands) = runs (at_more parts more k _ at) stands
+tree_more {parts = parts} more (cuts {k = k} at) = cuts (at_more parts more k _ at)
+tree_more {parts = parts} more (joins {k = k} at first second some a b) = joins (at_more parts more k _ at) first second some (tree_more more a) (tree_more more b)
+tree_more {parts = parts} more (branches {k = k} at first second some a b) = branches (at_more parts more k _ at) first second some (tree_more more a) (tree_more more b)
+tree_more {parts = parts} more (commits {k = k} at first second some a b) = commits (at_more parts more k _ at) first second some (tree_more more a) (tree_more more b)
+tree_more {parts = parts} more (chooses {k = k} at first second third some also a b c) = chooses (at_more parts more k _ at) first second third some also (tree_more more a) (tree_more more b) (tree_more more c)
+
+-- goals that stand on
+tree_keep : {G : Type 0} {Old New : G → Tree → Type 0} {parts : List (Node G)} {i : ℕ} {b : Body} → ((g : G) (t : Tree) → Old g t → New g t) → IsTree Old parts i b → IsTree New parts i b
+tree_keep keeps (runs {g = g} {t = t} at stands) = runs at (keeps g t stands)
+tree_keep keeps (cuts at) = cuts at
+tree_keep keeps (joins at first second some a b) = joins at first second some (tree_keep keeps a) (tree_keep keeps b)
+tree_keep keeps (branches at first second some a b) = branches at first second some (tree_keep keeps a) (tree_keep keeps b)
+tree_keep keeps (commits at first second some a b) = commits at first second some (tree_keep keeps a) (tree_keep keeps b)
+tree_keep keeps (chooses at first second third some also a b c) = chooses at first second third some also (tree_keep keeps a) (tree_keep keeps b) (tree_keep keeps c)
+
+-- the place of a body is one of a node
+tree_within : {G : Type 0} {Stands : G → Tree → Type 0} {parts : List (Node G)} {i : ℕ} {b : Body} → IsTree Stands parts i b → i < length parts
+tree_within {parts = parts} (runs {k = k} at stands) = slice_get_within parts k _ at.is
+tree_within {parts = parts} (cuts {k = k} at) = slice_get_within parts k _ at.is
+tree_within {parts = parts} (joins {k = k} at first second some a b) = slice_get_within parts k _ at.is
+tree_within {parts = parts} (branches {k = k} at first second some a b) = slice_get_within parts k _ at.is
+tree_within {parts = parts} (commits {k = k} at first second some a b) = slice_get_within parts k _ at.is
+tree_within {parts = parts} (chooses {k = k} at first second third some also a b c) = slice_get_within parts k _ at.is
 
 -- a store that keeps its words
 pub body_keep : {W : Type 0} {p q : Present W} {nodes : List (Node W)} {i : ℕ} {b : Body} → KeepsWords p q → IsBody p nodes i b → IsBody q nodes i b
-body_keep keeps (runs {w = w} at holds is goal) = runs at (keeps.stand w holds) (is ∙ sym (keeps.terms w holds)) goal
-body_keep keeps (joins at first second some a b) = joins at first second some (body_keep keeps a) (body_keep keeps b)
+body_keep keeps body = tree_keep (λ w t h. (keeps.stand w h.0, h.1 ∙ sym (keeps.terms w h.0), h.2)) body
 
--- the place of a body is one of a node
-pub body_within : {W : Type 0} {p : Present W} {nodes : List (Node W)} {i : ℕ} {b : Body} → IsBody p nodes i b → i < length nodes
-body_within {nodes = nodes} (runs {i = i} at holds is goal) = slice_get_within nodes i _ at.is
-body_within {nodes = nodes} (joins {k = k} at first second some a b) = slice_get_within nodes k _ at.is
+-- more nodes, and a store that keeps its words
+pub body_more : {W : Type 0} {p q : Present W} {nodes : List (Node W)} {i : ℕ} {b : Body} (more : List (Node W)) → KeepsWords p q → IsBody p nodes i b → IsBody q (nodes ++ more) i b
+body_more more keeps body = tree_more more (body_keep keeps body)
+
+pub body_within : {W : Type 0} (p : Present W) {nodes : List (Node W)} {i : ℕ} {b : Body} → IsBody p nodes i b → i < length nodes
+body_within p body = tree_within body
+
+pub member_more : {W : Type 0} {p q : Present W} {nodes : List (Node W)} {f : Frame} {m : Member} (more : List (Node W)) → KeepsWords p q → IsMember p nodes f m → IsMember q (nodes ++ more) f m
+member_more more keeps (a_body is body) = a_body is (body_more more keeps body)
+member_more more keeps (a_cut is) = a_cut is
+member_more more keeps (a_failure is) = a_failure is
+
+pub member_keep : {W : Type 0} {p q : Present W} {nodes : List (Node W)} {f : Frame} {m : Member} → KeepsWords p q → IsMember p nodes f m → IsMember q nodes f m
+member_keep keeps (a_body is body) = a_body is (body_keep keeps body)
+member_keep keeps (a_cut is) = a_cut is
+member_keep keeps (a_failure is) = a_failure is
 
 -- nodes and frames that were added at the end
 pub record AddsLinks {W : Type 0} (old new : Links W) : Type 0 where
@@ -50,18 +85,18 @@ pub record AddsLinks {W : Type 0} (old new : Links W) : Type 0 where
 
 pub chain_more : {W : Type 0} {p q : Present W} {old : Links W} {place : Option ℕ} {ms : List Member} (new : Links W) → AddsLinks old new → KeepsWords p q → Chain p old place ms → Chain q new place ms
 chain_more new adds keeps ends = ends
-chain_more {q = q} {old = old} new adds keeps (leads {i = i} {f = f} {b = b} at body others) =
-    leads (subst (λ (fs : List Frame). At fs i f) (sym adds.frames.1) (at_more old.frames adds.frames.0 i f at))
-    (subst (λ (ns : List (Node _)). IsBody q ns f.body b) (sym adds.nodes.1) (body_more adds.nodes.0 keeps body)) (chain_more new adds keeps others)
+chain_more {q = q} {old = old} new adds keeps (leads {i = i} {f = f} {m = m} at below member others) =
+    leads (subst (λ (fs : List Frame). At fs i f) (sym adds.frames.1) (at_more old.frames adds.frames.0 i f at)) below
+    (subst (λ (ns : List (Node _)). IsMember q ns f m) (sym adds.nodes.1) (member_more adds.nodes.0 keeps member)) (chain_more new adds keeps others)
 
 pub chain_keep : {W : Type 0} {p q : Present W} {links : Links W} {place : Option ℕ} {ms : List Member} → KeepsWords p q → Chain p links place ms → Chain q links place ms
 chain_keep keeps ends = ends
-chain_keep keeps (leads at body others) = leads at (body_keep keeps body) (chain_keep keeps others)
+chain_keep keeps (leads at below member others) = leads at below (member_keep keeps member) (chain_keep keeps others)
 
 -- the place that a chain begins at
 pub chain_place : {W : Type 0} {p : Present W} {links : Links W} (place : Option ℕ) {ms : List Member} → Chain p links place ms → IsPlace links.frames place
 chain_place None ends = tt
-chain_place {links = links} (Some i) (leads at body others) = slice_get_within links.frames i _ at.is
+chain_place {links = links} (Some i) (leads at below member others) = slice_get_within links.frames i _ at.is
 
 -- ---- lists that end in an item
 
@@ -85,6 +120,28 @@ pub among_last : {X : Type 0} (xs : List X) (y : X) → Among y (xs ++ y ∷ [])
 among_last [] y = inl refl
 among_last (z ∷ xs) y = inr (among_last xs y)
 
+pub item_is : {X : Type 0} (xs : List X) (i : ℕ) (c x : X) → slice_get xs i ≡ Some c → x ≡ get_or xs i x → x ≡ c
+item_is [] i c x at is = absurd (cc)
+item_is (y ∷ ys) zero c x at is = cc
+item_is (y ∷ ys) (suc i) c x at is = item_is ys i c x at is
+
+pub last_split : {X : Type 0} (xs : List X) (i : ℕ) (c : X) → slice_get xs i ≡ Some c → i + 1 ≡ length xs → xs ≡ take i xs ++ c ∷ []
+last_split [] i c at all = absurd (cc)
+last_split (x ∷ []) zero c at all = (let same : x ≡ c = cc in ap (λ (y : _). y ∷ []) same)
+last_split (x ∷ y ∷ ys) zero c at all = absurd (omega arith)
+last_split (x ∷ xs) (suc i) c at all = ap (λ (ys : List _). x ∷ ys) (last_split xs i c at (omega arith))
+
+-- an item before the last
+at_front : {X : Type 0} (xs : List X) (y : X) (i : ℕ) → i < length xs → slice_get (xs ++ y ∷ []) i ≡ slice_get xs i
+at_front [] y i less = absurd (omega arith)
+at_front (x ∷ xs) y zero less = refl
+at_front (x ∷ xs) y (suc i) less = at_front xs y i (omega arith)
+
+take_take : {X : Type 0} (n : ℕ) (xs : List X) → take n (take n xs) ≡ take n xs
+take_take zero xs = refl
+take_take (suc n) [] = refl
+take_take (suc n) (x ∷ xs) = ap (λ (ys : List _). x ∷ ys) (take_take n xs)
+
 take_whole : {X : Type 0} (xs : List X) → take (length xs) xs ≡ xs
 take_whole [] = refl
 take_whole (x ∷ xs) = ap (λ (ys : List _). x ∷ ys) (take_whole xs)
@@ -105,6 +162,15 @@ stands_more c old new on adds = record {
   nodes = (let a = on.nodes in let b = ap length adds.nodes.1 in let d = length-append old.nodes adds.nodes.0 in omega (arith, a, b, d));
   frames = (let a = on.frames in let b = ap length adds.frames.1 in let d = length-append old.frames adds.frames.0 in omega (arith, a, b, d));
 }
+
+-- What is left of choices where those above a height are taken away.
+pub record Lower {W M : Type 0} (stands : M → Present W → Type 0) (older : M → M → Type 0) (base : M) (left_at : ℕ → ℕ → List Clause) (query : List W) (named : List ℕ) (links : Links W) (cs : List (kept.Choice W M)) (ks : List Alternative) (height : ℕ)
+    (c : kept.Choice W M) : Type 0 where
+  pub stand : StandsForChoices stands older base left_at query named links (take height cs) (drop (length ks - height) ks)
+  pub newer : (d : kept.Choice W M) → Among d (take height cs) → older d.mark c.mark
+  pub newer_base : older base c.mark
+  pub present : Present W
+  pub mark : stands c.mark present
 
 module _ {W M : Type 0} {older : M → M → Type 0} {base : M} {left_at : ℕ → ℕ → List Clause} {query : List W} {named : List ℕ} where
   -- more nodes and frames
@@ -128,10 +194,7 @@ module _ {W M : Type 0} {older : M → M → Type 0} {base : M} {left_at : ℕ �
         present = here.present;
         mark = keeps c here.present (subst (λ (ds : List (kept.Choice W M)). Among c ds) (sym is) (among_last before c)) here.mark;
         newer = here.newer;
-        call = here.call;
-        at = here.at;
-        left = here.left;
-        some = here.some;
+        has = here.has;
       })
       newer
       (choices_keep (λ d p among stood. keeps d p (subst (λ (ds : List (kept.Choice W M)). Among d ds) (sym is) (among_front d before c among)) stood) below)
@@ -179,12 +242,83 @@ module _ {W M : Type 0} {older : M → M → Type 0} {base : M} {left_at : ℕ �
       (subst (λ (ls : Links W). StandsForChoice stands older base left_at query named ls c a) (sym whole) here) newer
       (subst (λ (ls : Links W). StandsForChoices stands older base left_at query named ls cs ks) (sym whole) below)
 
+  -- ---- choices up to a height
+
+  -- the older choices stand over all nodes and frames
+  wider : {stands : M → Present W → Type 0} {links : Links W} {cs : List (kept.Choice W M)} {ks : List Alternative} (c : kept.Choice W M)
+      → StandsForChoices stands older base left_at query named (links_at c links) cs ks → StandsForChoices stands older base left_at query named links cs ks
+  wider {links = links} c h = choices_more links (record { nodes = (drop c.nodes links.nodes, sym (take-append-drop c.nodes links.nodes)); frames = (drop c.frames links.frames, sym (take-append-drop c.frames links.frames)) }) h
+
+  lower_by : {stands : M → Present W → Type 0} {links : Links W} {before : List (kept.Choice W M)} {ks : List Alternative} (height : ℕ) (c d : kept.Choice W M) (a : Alternative)
+      → StandsOn d links → StandsForChoice stands older base left_at query named (links_at d links) d a → ((x : kept.Choice W M) → Among x before → older x.mark d.mark)
+      → StandsForChoices stands older base left_at query named (links_at d links) before ks → slice_get (before ++ d ∷ []) height ≡ Some c
+      → (height < length before → Lower stands older base left_at query named (links_at d links) before ks height c) → (height ≡ length before) ⊎ (height < length before) → Lower stands older base left_at query named links (before ++ d ∷ []) (a ∷ ks) height c
+  lower_by {stands = stands} {links = links} {before = before} {ks = ks} height c d a on here newer below there inner (inr less) =
+      let l = inner less in
+      let many = choices_length below in
+      let front : take height before ≡ take height (before ++ d ∷ []) = sym (take-append-le height before (d ∷ []) (omega (arith, less))) in
+      let back : suc (length ks - height) ≡ suc (length ks) - height = omega (arith, less, many) in
+      record {
+        stand = subst (λ (xs : List (kept.Choice W M)). StandsForChoices stands older base left_at query named links xs (drop (suc (length ks) - height) (a ∷ ks))) front
+            (subst (λ (n : ℕ). StandsForChoices stands older base left_at query named links (take height before) (drop n (a ∷ ks))) back (wider d l.stand));
+        newer = λ x among. l.newer x (subst (λ (xs : List (kept.Choice W M)). Among x xs) (sym front) among);
+        newer_base = l.newer_base;
+        present = l.present;
+        mark = l.mark;
+      }
+  lower_by {stands = stands} {links = links} {before = before} {ks = ks} height c d a on here newer below there inner (inl same) =
+      let many = choices_length below in
+      let front : before ≡ take height (before ++ d ∷ []) = sym (ap (λ (n : ℕ). take n (before ++ d ∷ [])) same ∙ front_is before d) in
+      let back : suc 0 ≡ suc (length ks) - height = omega (arith, same, many) in
+      let is : d ≡ c = some_same (sym (last_is before d) ∙ (ap (slice_get (before ++ d ∷ [])) (sym same) ∙ there)) in
+      record {
+        stand = subst (λ (xs : List (kept.Choice W M)). StandsForChoices stands older base left_at query named links xs (drop (suc (length ks) - height) (a ∷ ks))) front
+            (subst (λ (n : ℕ). StandsForChoices stands older base left_at query named links before (drop n (a ∷ ks))) back (wider d below));
+        newer = λ x among. subst (λ (y : kept.Choice W M). older x.mark y.mark) is (newer x (subst (λ (xs : List (kept.Choice W M)). Among x xs) (sym front) among));
+        newer_base = subst (λ (y : kept.Choice W M). older base y.mark) is here.newer;
+        present = here.present;
+        mark = subst (λ (y : kept.Choice W M). stands y.mark here.present) is here.mark;
+      }
+
+  pub lower : {stands : M → Present W → Type 0} {links : Links W} {cs : List (kept.Choice W M)} {ks : List Alternative} (height : ℕ) (c : kept.Choice W M) → slice_get cs height ≡ Some c
+      → StandsForChoices stands older base left_at query named links cs ks → Lower stands older base left_at query named links cs ks height c
+  lower height c at none_kept = absurd (cc)
+  lower {stands = stands} {links = links} {cs = cs} height c at (one_kept {before = before} {c = d} {a = a} {ks = ks} is on here newer below) =
+      let there : slice_get (before ++ d ∷ []) height ≡ Some c = subst (λ (ds : List (kept.Choice W M)). slice_get ds height ≡ Some c) is at in
+      let within = slice_get_within (before ++ d ∷ []) height c there in
+      let long = length_last before d in
+      let shorter : (height < length before) → slice_get before height ≡ Some c = λ less. sym (at_front before d height less) ∙ there in
+      subst (λ (ds : List (kept.Choice W M)). Lower stands older base left_at query named links ds (a ∷ ks) height c) (sym is)
+      (lower_by height c d a on here newer below there (λ less. lower height c (shorter less) below) (eq-or-lt_of_le (omega (arith, within, long))))
+
   -- no choice
   pub no_choices : {stands : M → Present W → Type 0} {links : Links W} {cs : List (kept.Choice W M)} {ks : List Alternative} → cs ≡ []
       → StandsForChoices stands older base left_at query named links cs ks → ks ≡ []
   no_choices e none_kept = refl
   no_choices {cs = cs} e (one_kept {before = before} {c = c} is on here newer below) =
       absurd (let l : length cs ≡ length before + 1 = ap length is ∙ length_last before c in let z : length cs ≡ 0 = ap length e in omega arith)
+
+-- ---- the marks of choices
+
+among_end : {X : Type 0} (x : X) (xs : List X) (y : X) → Among x (xs ++ y ∷ []) → Among x xs ⊎ (x ≡ y)
+among_end x [] y (inl e) = inr e
+among_end x [] y (inr h) = absurd h
+among_end x (z ∷ xs) y (inl e) = inl (inl e)
+among_end x (z ∷ xs) y (inr h) = on_end (among_end x xs y h) where
+  on_end : Among x xs ⊎ (x ≡ y) → Among x (z ∷ xs) ⊎ (x ≡ y)
+  on_end (inl a) = inl (inr a)
+  on_end (inr e) = inr e
+
+module _ {W M : Type 0} {stands : M → Present W → Type 0} {older : M → M → Type 0} {base : M} {left_at : ℕ → ℕ → List Clause} {query : List W} {named : List ℕ} where
+  -- The mark of each choice stands for something.
+  pub marks_stand : {links : Links W} {cs : List (kept.Choice W M)} {ks : List Alternative} (d : kept.Choice W M) → StandsForChoices stands older base left_at query named links cs ks
+      → Among d cs → (p : Present W) × stands d.mark p
+  marks_stand d none_kept among = absurd among
+  marks_stand d (one_kept {before = before} {c = c} is on here newer below) among =
+      on_end (marks_stand d below) (among_end d before c (subst (λ (ds : List (kept.Choice W M)). Among d ds) is among)) where
+        on_end : (Among d before → (p : Present W) × stands d.mark p) → Among d before ⊎ (d ≡ c) → (p : Present W) × stands d.mark p
+        on_end before_stand (inl a) = before_stand a
+        on_end before_stand (inr e) = (here.present, subst (λ (x : kept.Choice W M). stands x.mark here.present) (sym e) here.mark)
 
 -- the words of variables, in a store that keeps its words
 pub variables_more : {W : Type 0} {p q : Present W} {ws : List W} {ns : List ℕ} → KeepsWords p q → AreVariables p ws ns → AreVariables q ws ns
@@ -200,14 +334,14 @@ pub record Leads {W : Type 0} (p : Present W) (links : Links W) (place : ℕ) (m
   pub first : First p links frame ms
 
 pub leads_to : {W : Type 0} {p : Present W} {links : Links W} {place : ℕ} {ms : List Member} → Chain p links (Some place) ms → Leads p links place ms
-leads_to (leads {f = f} {b = b} {ms = ms} at body others) = record { frame = f; at = at.is; first = record { body = b; behind = ms; is = refl; node = body; chain = others } }
+leads_to (leads {f = f} {m = m} {ms = ms} at below member others) = record { frame = f; at = at.is; first = record { member = m; behind = ms; is = refl; stands = member; chain = others } }
 
 -- no members are behind the last
 pub none_linked : {W : Type 0} {p : Present W} {links : Links W} {ms : List Member} → Chain p links None ms → ms ≡ []
 none_linked ends = refl
 
 first_as : {W : Type 0} {p : Present W} {links : Links W} {f : Frame} {ms ns : List Member} → First p links f ms → ns ≡ ms → First p links f ns
-first_as h same = record { body = h.body; behind = h.behind; is = same ∙ h.is; node = h.node; chain = h.chain }
+first_as h same = record { member = h.member; behind = h.behind; is = same ∙ h.is; stands = h.stands; chain = h.chain }
 
 -- the members from the place on come next; where there are none, an answer
 pub next_behind : {W : Type 0} (q : Present W) (links : Links W) (query : List W) (raised : Option Tree) (s : State) (place : Option ℕ) (ms : List Member) → s.list ≡ ms → Chain q links place ms → GoesOn q query s

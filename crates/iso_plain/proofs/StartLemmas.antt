@@ -1,32 +1,45 @@
 -- How a goal is started, and how a clause comes to an engine that was cleared.
-use Rattle.std.proofs.Common.{◌≡◌, ◌<◌, ℕ, List, [], ◌∷◌, ◌++◌, true, Option, Some, None, codes, refl, ap, sym, ◌∙◌, arith, inl, inr}
-use Rattle.std.specs.Str.{bytes_eq}
-use Rattle.std.proofs.lemmas.Bool.{cases_Bool}
+use Rattle.std.proofs.Common.{◌≡◌, ◌<◌, ◌≤◌, ◌+◌, ◌==◌, ℕ, zero, suc, List, [], ◌∷◌, true, Option, Some, None, codes, refl, ap, ap₂, sym, ◌∙◌, subst, arith, zero-add, inl, inr}
+use Rattle.std.proofs.lemmas.Bool.{cases_Bool, eqb-true, eqb-false}
 use Rattle.iso_model.specs.Terms.Trees.{Tree, Variable, Integer, Name, Apply, End, More}
 use Rattle.iso_model.specs.Terms.TermOf.{term_of}
+use Rattle.iso_model.specs.Terms.Substitutions.{Subst}
 use Rattle.iso_model.specs.Terms.Variables.{occurs, is_in, distinct_from, variables, variable_count}
-use Rattle.iso_model.specs.Terms.Copies.{numbers_from, IsNumbered}
-use Rattle.iso_model.specs.Search.Bodies.{Body, Run, And, converted, body_term, both, two}
+use Rattle.iso_model.specs.Terms.Copies.{place_of, copy_from, numbers_from, IsNumbered}
+use Rattle.iso_model.specs.Terms.Sorts.{is_term}
+use Rattle.iso_model.specs.Terms.Unification.Applied.{apply_alone}
+use Rattle.iso_model.specs.declared.terms.Term.{Term}
+use Rattle.iso_model.specs.Search.Bodies.{Body, Cut, Run, And, Or, If, Choose, converted, map_body, two}
 use Rattle.iso_model.proofs.OnTerms.VariableLemmas.{listed_occurring}
 use Rattle.iso_model.proofs.OnTerms.CopyLemmas.{in_numbers_from}
 use Rattle.iso_model.specs.Search.Databases.{Clause, at_end}
 use Rattle.iso_model.specs.Search.Errors.{key, type_error_callable}
 use Rattle.iso_store_core.specs.Presents.{Present}
-use Rattle.iso_plain.specs.declared.bodies.Node.{Node}
 use Rattle.iso_plain.specs.declared.parts.Choice as kept
 use Rattle.iso_plain.specs.declared.parts.Now.TheVariants as now
 use Rattle.iso_plain.specs.Standing.{Links, StandsForChoices, none_kept, one_kept}
 use Rattle.std.specs.Prelude.{Result, Ok, Err, IsErrAnd}
-use Rattle.iso_model.specs.Search.Walker.{World, Alternative, Goal, Raise, idle, opening, shown_query}
+use Rattle.iso_model.specs.Search.RunLaws.Values.{IsTwice}
+use Rattle.iso_model.specs.Search.RunLaws.Sameness.{Same, going, SameStack, no_alternative}
+use Rattle.iso_model.specs.Search.RunLaws.SameSteps.{list_same}
+use Rattle.iso_model.specs.Search.Walker.{World, State, Alternative, Goal, Raise, idle, opening, shown_query}
 use Rattle.iso_model.specs.Search.Additions.{Addition, Adds, Refuses, Check, Fits, Faulty, checked, addition_by, consulted, consult_key}
 use Rattle.iso_model.specs.declared.pauses.AddFault.{AddFault}
 use Rattle.iso_model.specs.declared.pauses.AddFault.TheVariants as add
 use Rattle.iso_plain.specs.declared.plain.Plain.{Plain}
 use Rattle.iso_plain.specs.Programs.{IsWorld}
 use Rattle.iso_plain.specs.EngineStates.{IsEngine}
-use Rattle.iso_plain.specs.Kept.{Prepares, IsRefused}
-use Rattle.iso_plain.specs.Starts.{IsFresh, Comes}
-use Rattle.iso_plain.specs.Nodes.{layout, AppendsBody}
+use Rattle.iso_plain.specs.Kept.{Prepares, IsRefused, AreTemplates}
+use Rattle.iso_plain.specs.Starts.{IsQuery, IsFresh, Comes}
+use Rattle.iso_prep.specs.declared.connectives.Connective.{Connective}
+use Rattle.iso_prep.specs.declared.fault.Fault.TheVariants as fault
+use Rattle.iso_prep.specs.Connectives.{connective_of}
+use Rattle.iso_prep.specs.Classes.{goals_of}
+use Rattle.iso_prep.specs.Conversions.{joined, with_calls}
+use Rattle.iso_prep.specs.Preparations.{Preparation, PreparesGoal}
+use Rattle.iso_prep.proofs.ConversionLemmas.{converts}
+use Rattle.iso_plain.specs.Entering.{renaming_from}
+use Rattle.iso_plain.proofs.ClauseLemmas.{body_templates}
 
 -- where no choice is stood for, there is none
 pub no_choice_left : {W M : Type 0} {stands : M → Present W → Type 0} {older : M → M → Type 0} {base : M} {left_at : ℕ → ℕ → List Clause} {query : List W} {named : List ℕ}
@@ -36,35 +49,41 @@ no_choice_left e (one_kept is on here newer below) = absurd (cc)
 
 -- ---- the query
 
+-- a state in which nothing is bound and no alternative is left is the same as itself
+pub same_fresh : (s : State) → s.subst ≡ Variable → s.stack ≡ [] → Same s s
+same_fresh s subst_is stack_is =
+    let twice : IsTwice s.subst = subst (λ (r : Subst). IsTwice r) (sym subst_is) (λ n. refl) in
+    going
+    (record {
+      agree = record { shown = refl; beyond = λ x more. refl; twice = twice; other = twice };
+      next = refl;
+      beside = record { stack = subst (λ (ks : List Alternative). SameStack (variables s.query) (variables s.query) ks ks) (sym stack_is) no_alternative; world = refl; steps = refl };
+    })
+    (list_same s.list)
+
 pub opening_error : (goal : Tree) → converted goal ≡ None → opening goal (converted goal) ≡ Raise (type_error_callable goal (key (codes "call") 1)) ∷ []
 opening_error goal is = ap (opening goal) is
 
 pub opening_body : (goal : Tree) (b : Body) → converted goal ≡ Some b → opening goal (converted goal) ≡ Goal b 0 ∷ []
 opening_body goal b is = ap (opening goal) is
 
--- a conjunction's parts
-both_parts : (a b : Option Body) (c : Body) → both a b ≡ Some c → (x y : Body) × (a ≡ Some x) × (b ≡ Some y) × (c ≡ And x y)
-both_parts (Some a) (Some b) c e = let same : c ≡ And a b = cc in (a, b, refl, refl, same)
-both_parts (Some a) None c e = cc
-both_parts None b c e = cc
-
 -- a converted query has the variables of the query
-converted_same : (t : Tree) (b : Body) (seen : List ℕ) → converted t ≡ Some b → distinct_from seen (body_term b) ≡ distinct_from seen t
-converted_same (Variable n) b seen e = let same : b ≡ Run (Apply (codes "call") (More (Variable n) End)) = cc in rw same refl
-converted_same (Integer z) b seen e = cc
-converted_same (Name a) b seen e = let same : b ≡ Run (Name a) = cc in rw same refl
-converted_same (Apply f (More x (More y End))) b seen e =
-    elim (cases_Bool (bytes_eq f (codes ","))) [
-      | inl conjunction ↦ (let p = both_parts (converted x) (converted y) b (rw conjunction at e) in
-          rw p.4 (ap (λ vs. distinct_from vs (body_term p.1)) (converted_same x p.0 seen p.2) ∙ converted_same y p.1 (distinct_from seen x) p.3))
-      | inr other ↦ (let d : Some (Run (two f x y)) ≡ Some b = rw other at e in let same : b ≡ Run (two f x y) = cc in rw same refl)
-    ]
-converted_same (Apply f t) b seen e = let same : b ≡ Run (Apply f t) = cc in rw same refl
-converted_same End b seen e = cc
-converted_same (More t ts) b seen e = cc
+joined_same : (f : List ℕ) (a b x y : Tree) (seen : List ℕ) (o : Option Connective) → distinct_from seen x ≡ distinct_from seen a → distinct_from (distinct_from seen a) y ≡ distinct_from (distinct_from seen a) b
+    → distinct_from seen (joined o f x y (two f a b)) ≡ distinct_from seen (two f a b)
+joined_same f a b x y seen None first second = refl
+joined_same f a b x y seen (Some k) first second = ap (λ vs. distinct_from vs y) first ∙ second
+
+calls_same : (t : Tree) (seen : List ℕ) → distinct_from seen (with_calls t) ≡ distinct_from seen t
+calls_same (Variable n) seen = refl
+calls_same (Integer z) seen = refl
+calls_same (Name a) seen = refl
+calls_same (Apply f (More a (More b End))) seen = joined_same f a b (with_calls a) (with_calls b) seen (connective_of f) (calls_same a seen) (calls_same b (distinct_from seen a))
+calls_same (Apply f t) seen = refl
+calls_same End seen = refl
+calls_same (More t ts) seen = refl
 
 pub query_variables : (goal : Tree) (b : Body) → converted goal ≡ Some b → variables (shown_query goal (converted goal)) ≡ variables goal
-query_variables goal b is = ap (λ (o : Option Body). variables (shown_query goal o)) is ∙ converted_same goal b [] is
+query_variables goal b is = ap (λ (o : Option Body). variables (shown_query goal o)) is ∙ ap variables (converts goal b is).term ∙ calls_same goal []
 
 -- the numbers of its variables
 pub numbered_below : (t : Tree) → IsNumbered t → (x : ℕ) → occurs x t ≡ true → x < variable_count t
@@ -74,12 +93,58 @@ numbered_below t h x o =
     let range = in_numbers_from 0 (variable_count t) x known in
     omega (arith, range.1)
 
+-- a numbered term is its own copy
+place_back : (n k : ℕ) (x : ℕ) → n ≤ x → x < n + k → n + place_of x (numbers_from n k) ≡ x
+place_back n zero x low high = absurd (omega (arith, low, high))
+place_back n (suc k) x low high =
+    elim (cases_Bool (n == x)) [
+      | inl here ↦ (let same = eqb-true n x here in rw here (omega (arith, same)))
+      | inr other ↦ (let apart = eqb-false n x other in
+          let rest = place_back (n + 1) k x (omega (arith, low, apart)) (omega (arith, high)) in
+          rw other (omega (arith, rest)))
+    ]
+
+pub own_copy : (t : Tree) → IsNumbered t → copy_from t 0 ≡ t
+own_copy t h = apply_alone (λ x. Variable (0 + place_of x (variables t))) t (λ x o.
+    (let below = numbered_below t h x o in
+    let place : 0 + place_of x (numbers_from 0 (variable_count t)) ≡ x = place_back 0 (variable_count t) x (omega arith) (omega (arith, below)) in
+    ap Variable (ap (λ vs. 0 + place_of x vs) h ∙ place)))
+
+-- what was made ready of a goal is the query
+pub query_ready : (t : Tree) (p : Preparation) → is_term t ≡ true → IsNumbered t → PreparesGoal (λ p. p) t (converted (copy_from t 0)) (Ok p) → IsQuery p t
+query_ready t p fits numbered h = by_body (converted (copy_from t 0)) refl h where
+  by_body : (o : Option Body) → converted (copy_from t 0) ≡ o → PreparesGoal (λ p. p) t o (Ok p) → IsQuery p t
+  by_body (Some b) e h = record {
+    converted_is = ap converted (sym (own_copy t numbered)) ∙ e ∙ ap (λ q. Some q.body) (sym h);
+    variables_are = ap (λ q. q.variables) h;
+    numbered = numbered;
+    term = fits;
+  }
+  by_body None e h = absurd h
+
+-- or it can't be converted, and is the culprit
+pub query_refused : (t culprit : Tree) (c : Term) → term_of c ≡ culprit → IsNumbered t → PreparesGoal {P = Preparation} (λ p. p) t (converted (copy_from t 0)) (Err (fault.Callable c)) → (culprit ≡ t) × (converted t ≡ None)
+query_refused t culprit c is numbered h = by_body (converted (copy_from t 0)) refl h where
+  by_body : (o : Option Body) → converted (copy_from t 0) ≡ o → PreparesGoal {P = Preparation} (λ p. p) t o (Err (fault.Callable c)) → (culprit ≡ t) × (converted t ≡ None)
+  by_body (Some b) e h = absurd h
+  by_body None e h = (sym is ∙ h, ap converted (sym (own_copy t numbered)) ∙ e)
+
+-- its goals can be kept
+pub query_goals : (t : Tree) (p : Preparation) → IsQuery p t → AreTemplates (variable_count t) (goals_of p.body)
+query_goals t p q = body_templates (variable_count t) t p.body q.converted_is q.term (numbered_below t q.numbered)
+
+-- its variables are not renamed
+pub not_renamed : (b : Body) → map_body (renaming_from 0) b ≡ b
+not_renamed Cut = refl
+not_renamed (Run t) = ap Run (apply_alone (λ x. Variable (0 + x)) t (λ x o. ap Variable (zero-add x)))
+not_renamed (And a b) = ap₂ And (not_renamed a) (not_renamed b)
+not_renamed (Or a b) = ap₂ Or (not_renamed a) (not_renamed b)
+not_renamed (If a b) = ap₂ If (not_renamed a) (not_renamed b)
+not_renamed (Choose a b c) = λ i. Choose (not_renamed a i) (not_renamed b i) (not_renamed c i)
+
 -- ---- an engine that was cleared
 
 module _ {S W M : Type 0} {present : S → Present W} {stands : S → M → Present W → Type 0} {older : M → M → Type 0} where
-  pub fresh_from : {e : Plain S W M} {w : World} → IsEngine present stands older e (idle w) → (present e.store).substitution ≡ Variable → (present e.store).next ≡ 0 → IsFresh present stands older e w
-  fresh_from h substitution next = record { world = h.world; base = h.base; choices = no_choice_left refl h.choices; substitution = substitution; next = next }
-
   -- with other steps
   pub fresh_again : {e : Plain S W M} {w : World} {steps : ℕ} → IsEngine present stands older e (idle w) → (present e.store).substitution ≡ Variable → (present e.store).next ≡ 0
       → IsFresh present stands older (record e { steps = steps }) w
@@ -109,13 +174,3 @@ module _ {S W M : Type 0} {present : S → Present W} {stands : S → M → Pres
     no_memory : (a : Addition) → Comes present stands older a w (Err add.NoMemory) e
     no_memory (Adds after) = engine
     no_memory (Refuses error) = engine
-
-  -- No memory was left for it.
-  pub no_memory_left : (t : Tree) (w : World) (r : Result Unit AddFault) (e : Plain S W M) → IsErrAnd r (λ x. x ≡ add.NoMemory) → IsEngine present stands older e (idle w)
-      → Comes present stands older (consulted t w.database) w r e
-  no_memory_left t w r e is engine = refused t w r add.NoMemory e tt is engine
-
--- all of the parts of a body
-pub parts_come : (o : Option Body) (old new : List (Node Tree)) (u : Unit {0}) → old ≡ [] → AppendsBody o old (Ok u) new → (b : Body) × (o ≡ Some b) × (new ≡ layout b)
-parts_come (Some b) old new u none h = (b, refl, h ∙ ap (λ (ts : List (Node Tree)). ts ++ layout b) none)
-parts_come None old new u none h = absurd h

@@ -1,11 +1,12 @@
 -- What is left of an engine that stops.
-use Rattle.std.proofs.Common.{ℕ, List, [], refl, inr, Vec, Global, Result, Ok, Err, OnErr}
+use Rattle.std.proofs.Common.{◌≡◌, ℕ, List, [], refl, inr, Vec, Global, Result, Ok, Err, OnErr}
 use Rattle.iso_model.specs.Terms.Variables.{variables}
 use Rattle.iso_model.specs.Search.Walker.{State, World, Alternative}
 use Rattle.iso_model.specs.Search.Runs.{here}
 use Rattle.iso_store_core.specs.Presents.{Present, KeepsMarks}
 use Rattle.iso_plain.specs.declared.bodies.Node.{Node}
 use Rattle.iso_plain.specs.declared.parts.Frame.{Frame}
+use Rattle.iso_plain.specs.declared.parts.Choice as kept
 use Rattle.iso_plain.specs.declared.plain.Plain.{Plain}
 use Rattle.iso_plain.specs.Entering.{Adds}
 use Rattle.iso_plain.specs.Standing.{StandsForChoices, none_kept}
@@ -50,6 +51,10 @@ module _ {S W M : Type 0} (present : S → Present W) (stands : S → M → Pres
       → Keeps present stands older (record e { store = store }) w ks
   keeps_store e store w ks k keeps =
       (k.0, base_kept (stands e.store) (stands store) e.base keeps k.1, (k.2.0, choices_keep (λ d p among stood. keeps d.mark p stood) k.2.1))
+
+  -- no choice came
+  pub keeps_choices : (e : Plain S W M) (choices : Vec (kept.Choice W M) Global) (w : World) (ks : List Alternative) → choices.items ≡ e.choices.items → Keeps present stands older e w ks → Keeps present stands older (record e { choices = choices }) w ks
+  keeps_choices e choices w ks same k = (k.0, k.1, (k.2.0, rw same k.2.1))
 
   -- no goal was started
   pub stopped_before : (e : Plain S W M) (s : State) → Keeps present stands older e s.world [] → Stopped present stands older e s

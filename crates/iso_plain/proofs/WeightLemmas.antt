@@ -1,52 +1,68 @@
--- By what moves fall: a step or a clause that is left weighs more than any body.
-use Rattle.std.proofs.Common.{◌≡◌, ◌<◌, ◌≤◌, ◌+◌, ◌*◌, ℕ, List, Option, arith, Vec, Global}
-use Rattle.std.specs.Prelude.{option_map}
-use Rattle.iso_model.specs.Terms.Trees.{Tree}
-use Rattle.iso_model.specs.Terms.TermOf.{term_of}
-use Rattle.iso_model.specs.Search.Walker.{State}
-use Rattle.iso_store_core.specs.Presents.{Present}
-use Rattle.iso_plain.specs.declared.bodies.Node.{Node}
-use Rattle.iso_plain.specs.declared.parts.Frame.{Frame}
+-- By what moves fall.
+use Rattle.std.proofs.Common.{◌≡◌, ◌<◌, ◌≤◌, ◌+◌, ℕ, suc, Option, refl, ap, ◌∙◌, arith}
 use Rattle.iso_plain.specs.declared.parts.Now.{Now}
 use Rattle.iso_plain.specs.declared.parts.Now.TheVariants as now
 use Rattle.iso_plain.specs.declared.plain.Plain.{Plain}
-use Rattle.iso_plain.specs.Standing.{DoesNext}
-use Rattle.iso_plain.specs.EngineStates.{IsEngine, rank, body_weight, weight, most_clauses, clauses_left}
-use Rattle.iso_plain.proofs.StandingLemmas.{body_within}
+use Rattle.iso_plain.specs.Costs.{body_cost, most, left_cost, whole_cost, rest_cost, frame_costs}
+use Rattle.iso_plain.specs.EngineStates.{choices_cost, now_cost, cost, weight}
+use Rattle.iso_plain.proofs.CostLemmas.{whole_more, whole_paid, called_cost, left_step, cost_above}
 
--- as many steps, and a clause less
-fewer_clauses : (steps most c d r q : ℕ) → d + 1 ≤ c → q < body_weight → body_weight * (steps * (most + 1) + d) + q < body_weight * (steps * (most + 1) + c) + r
-fewer_clauses steps most c d r q less small = omega (arith, less, small)
+-- as many steps, and less to be done before the next
+pub falls_less : {S W M : Type 0} (e new : Plain S W M) → new.steps ≡ e.steps → cost new < cost e → weight new < weight e
+falls_less e new steps less = rw steps (whole_more e.steps (cost new) (cost e) less)
 
--- as many steps, and fewer clauses more than a procedure has
-called_clauses : (steps most c d r q : ℕ) → d + 1 ≤ c + most → q < body_weight → body_weight * (steps * (most + 1) + d) + q < body_weight * (steps * (most + 1) + c) + r + body_weight * (most + 1)
-called_clauses steps most c d r q less small = omega (arith, less, small)
+-- a step was taken for a call
+pub falls_called : (steps s r w v : ℕ) → s + r ≤ w → v ≤ s + left_cost most r + body_cost most r → whole_cost steps v < whole_cost (suc steps) w
+falls_called steps s r w v less within =
+    let h = called_cost most most s r w (omega arith) (omega arith) less in
+    whole_paid steps w v (omega (arith, h, within))
 
-rank_of : {W : Type 0} (p : Present W) (nodes : Vec (Node W) Global) (frames : List Frame) (query : List W) (n : Now) (raised : Option Tree) (s : State) → DoesNext p (record { nodes = nodes.items; frames = frames }) query n raised s
-    → rank n < body_weight
-rank_of p nodes frames query now.Idle raised s h = omega arith
-rank_of p nodes frames query now.Failing raised s h = omega arith
-rank_of p nodes frames query now.Answering raised s h = omega arith
-rank_of p nodes frames query (now.Running f) raised s h =
-    (let here = body_within h.0.node in let many = nodes.ok.0 in let within = nodes.ok.1 in let small = nodes.small in omega (arith, here, many, within, small))
-rank_of p nodes frames query now.Raising raised s h = omega arith
-rank_of p nodes frames query (now.Spent limit) raised s h = omega arith
+-- what a call leaves to be done: its other clauses, and what comes next
+pub call_costs : {S W M : Type 0} (e mid new : Plain S W M) (rest : Option ℕ) → mid.frames ≡ e.frames → new.frames ≡ mid.frames → new.choices ≡ mid.choices → new.procedures ≡ e.procedures
+    → choices_cost e.procedures.items (frame_costs e.frames.items) mid.choices.items ≤ choices_cost e.procedures.items (frame_costs e.frames.items) e.choices.items + left_cost most (rest_cost (frame_costs e.frames.items) rest)
+    → now_cost (frame_costs mid.frames.items) new.now ≤ body_cost most (rest_cost (frame_costs mid.frames.items) rest)
+    → cost new ≤ choices_cost e.procedures.items (frame_costs e.frames.items) e.choices.items + left_cost most (rest_cost (frame_costs e.frames.items) rest) + body_cost most (rest_cost (frame_costs e.frames.items) rest)
+call_costs e mid new rest frames same choices procedures kept next =
+    let all : choices_cost new.procedures.items (frame_costs new.frames.items) new.choices.items ≡ choices_cost e.procedures.items (frame_costs e.frames.items) mid.choices.items =
+    ap (λ ps. choices_cost ps.items (frame_costs new.frames.items) new.choices.items) procedures
+    ∙ (ap (λ fs. choices_cost e.procedures.items (frame_costs fs.items) new.choices.items) (same ∙ frames) ∙ ap (λ cs. choices_cost e.procedures.items (frame_costs e.frames.items) cs.items) choices) in
+    let here : now_cost (frame_costs new.frames.items) new.now ≡ now_cost (frame_costs mid.frames.items) new.now = ap (λ fs. now_cost (frame_costs fs.items) new.now) same in
+    let there : body_cost most (rest_cost (frame_costs mid.frames.items) rest) ≡ body_cost most (rest_cost (frame_costs e.frames.items) rest) = ap (λ fs. body_cost most (rest_cost (frame_costs fs.items) rest)) frames in
+    omega (arith, all, here, there, kept, next)
 
-module _ {S W M : Type 0} {present : S → Present W} {stands : S → M → Present W → Type 0} {older : M → M → Type 0} where
-  -- a body weighs less than a step or a clause
-  pub rank_small : (e : Plain S W M) (s : State) → IsEngine present stands older e s → rank e.now < body_weight
-  rank_small e s is = rank_of (present e.store) e.nodes e.frames.items e.query.items e.now (option_map (λ b. term_of b.term) e.raised) s is.next
+-- behind failure: the newest choice was taken away, or left at less
+pub back_cost : {S W M : Type 0} (e back : Plain S W M) → back.choices ≡ e.choices → back.procedures ≡ e.procedures
+    → choices_cost e.procedures.items (frame_costs back.frames.items) e.choices.items ≡ choices_cost e.procedures.items (frame_costs e.frames.items) e.choices.items
+    → choices_cost back.procedures.items (frame_costs back.frames.items) back.choices.items ≤ cost e
+back_cost e back choices procedures same =
+    let all : choices_cost back.procedures.items (frame_costs back.frames.items) back.choices.items ≡ choices_cost e.procedures.items (frame_costs back.frames.items) e.choices.items =
+    ap (λ ps. choices_cost ps.items (frame_costs back.frames.items) back.choices.items) procedures ∙ ap (λ cs. choices_cost e.procedures.items (frame_costs back.frames.items) cs.items) choices in
+    omega (arith, all, same)
 
--- a clause at a choice was tried
-pub falls_clause : {S W M : Type 0} (e new : Plain S W M) → new.steps ≡ e.steps → new.procedures ≡ e.procedures → clauses_left e.procedures.items new.choices.items + 1 ≤ clauses_left e.procedures.items e.choices.items → rank new.now < body_weight
-    → weight new < weight e
-falls_clause e new steps procedures less small =
-    let h = fewer_clauses e.steps (most_clauses e.procedures.items) (clauses_left e.procedures.items e.choices.items) (clauses_left e.procedures.items new.choices.items) (rank e.now) (rank new.now) less small in
-    rw (steps, procedures) h
+-- a clause of a choice was entered
+pub entered_cost : {S W M : Type 0} (back mid new : Plain S W M) (rest : Option ℕ) → mid.frames ≡ back.frames → new.frames ≡ mid.frames → new.choices ≡ mid.choices → new.procedures ≡ back.procedures
+    → choices_cost back.procedures.items (frame_costs back.frames.items) mid.choices.items + (body_cost most (rest_cost (frame_costs back.frames.items) rest) + 1) ≤ choices_cost back.procedures.items (frame_costs back.frames.items) back.choices.items
+    → now_cost (frame_costs mid.frames.items) new.now ≤ body_cost most (rest_cost (frame_costs mid.frames.items) rest)
+    → cost new < choices_cost back.procedures.items (frame_costs back.frames.items) back.choices.items
+entered_cost back mid new rest frames same choices procedures fewer next =
+    let all : choices_cost new.procedures.items (frame_costs new.frames.items) new.choices.items ≡ choices_cost back.procedures.items (frame_costs back.frames.items) mid.choices.items =
+    ap (λ ps. choices_cost ps.items (frame_costs new.frames.items) new.choices.items) procedures
+    ∙ (ap (λ fs. choices_cost back.procedures.items (frame_costs fs.items) new.choices.items) (same ∙ frames) ∙ ap (λ cs. choices_cost back.procedures.items (frame_costs back.frames.items) cs.items) choices) in
+    let here : now_cost (frame_costs new.frames.items) new.now ≡ now_cost (frame_costs mid.frames.items) new.now = ap (λ fs. now_cost (frame_costs fs.items) new.now) same in
+    let there : body_cost most (rest_cost (frame_costs mid.frames.items) rest) ≡ body_cost most (rest_cost (frame_costs back.frames.items) rest) = ap (λ fs. body_cost most (rest_cost (frame_costs fs.items) rest)) frames in
+    omega (arith, all, here, there, fewer, next)
 
--- a procedure was called, for which a step was taken
-pub falls_call : {S W M : Type 0} (e new : Plain S W M) → new.steps ≡ e.steps → new.procedures ≡ e.procedures → clauses_left e.procedures.items new.choices.items + 1 ≤ clauses_left e.procedures.items e.choices.items + most_clauses e.procedures.items
-    → rank new.now < body_weight → weight new < weight e + body_weight * (most_clauses e.procedures.items + 1)
-falls_call e new steps procedures less small =
-    let h = called_clauses e.steps (most_clauses e.procedures.items) (clauses_left e.procedures.items e.choices.items) (clauses_left e.procedures.items new.choices.items) (rank e.now) (rank new.now) less small in
-    rw (steps, procedures) h
+-- a step was taken for a choice that stays
+pub falls_again : {S W M : Type 0} (e new : Plain S W M) (w : ℕ) → new.steps + 1 ≡ e.steps → cost new ≤ w + w → w ≤ cost e → weight new < weight e
+falls_again e new w steps within less =
+    let all : e.steps ≡ suc new.steps = omega (arith, steps) in
+    let a = left_step most (cost e) in
+    let b = cost_above most (cost e) in
+    let paid = whole_paid new.steps (cost e) (cost new) (omega (arith, a, b, within, less)) in
+    rw all paid
+
+-- an answer was given
+pub answered_falls : {S W M : Type 0} (e : Plain S W M) → e.now ≡ now.Answering → weight (record e { now = now.Failing }) < weight e
+answered_falls e doing =
+    let old : cost e ≡ choices_cost e.procedures.items (frame_costs e.frames.items) e.choices.items + 1 = ap (λ (n : Now). choices_cost e.procedures.items (frame_costs e.frames.items) e.choices.items + now_cost (frame_costs e.frames.items) n) doing in
+    falls_less e (record e { now = now.Failing }) refl (omega (arith, old))

@@ -1,12 +1,13 @@
 -- Which states of the search the engine stands for, what its moves come to, and by what they fall.
-use Rattle.std.specs.Prelude.{◌≡◌, ℕ, zero, suc, ◌+◌, ◌*◌, ◌-◌, ◌^◌, ◌<◌, ◌≤◌, List, [], ◌∷◌, length, take, drop, Some, option_map, ◌⊎◌}
+use Rattle.std.specs.Prelude.{◌≡◌, ℕ, zero, suc, ◌+◌, ◌*◌, ◌-◌, ◌<◌, ◌≤◌, List, [], ◌∷◌, length, take, drop, Option, Some, option_map, ◌⊎◌}
 use Rattle.std.specs.List.{slice_get}
 use Rattle.iso_model.specs.Terms.Trees.{Tree, Variable}
 use Rattle.iso_model.specs.Terms.Variables.{variables}
 use Rattle.iso_model.specs.Search.RunLaws.Sameness.{Same, SameStack}
 use Rattle.iso_model.specs.Terms.TermOf.{term_of}
 use Rattle.iso_model.specs.Search.Databases.{Clause, Procedures}
-use Rattle.iso_model.specs.Search.Walker.{State, World, Alternative, Member, Clauses, with_others}
+use Rattle.iso_model.specs.Search.Walker.{State, World, Alternative, Member, Goal, CutTo, Fail, AsIs, Clauses, pushed, with_others}
+use Rattle.iso_model.specs.Search.Bodies.{Body}
 use Rattle.iso_ops.specs.Operators.{Operator}
 use Rattle.iso_ops.specs.declared.settings.Flags.{Flags}
 use Rattle.iso_model.specs.Search.Runs.{Quiet}
@@ -15,10 +16,13 @@ use Rattle.iso_model.specs.Search.Engines.{Phase, Ready, Midway, IsAwake}
 use Rattle.iso_model.specs.declared.pauses.Pause.TheVariants as pause
 use Rattle.iso_model.specs.declared.limit.Limit.TheVariants as limit
 use Rattle.iso_store_core.specs.Presents.{Present}
-use Rattle.iso_plain.specs.Standing.{Among, Links, AtGoal, StandsForChoices, HaveRoom, DoesNext, most_numbers, numbers_a_step}
+use Rattle.iso_plain.specs.Standing.{Among, Links, Chain, AtGoal, HasLeft, StandsForChoices, HaveRoom, GoesOn, DoesNext, most_numbers, numbers_a_step}
+use Rattle.iso_plain.specs.Costs.{left_cost, whole_cost, rest_cost, frame_cost, frame_costs}
 use Rattle.iso_plain.specs.Programs.{IsWorld}
 use Rattle.iso_plain.specs.declared.procedures.Procedure.{Procedure}
 use Rattle.iso_plain.specs.declared.parts.Attempt.{Attempt}
+use Rattle.iso_plain.specs.declared.parts.Left.{Left}
+use Rattle.iso_plain.specs.declared.parts.Left.TheVariants as left
 use Rattle.iso_plain.specs.declared.parts.Choice as kept
 use Rattle.iso_plain.specs.declared.parts.Now.{Now}
 use Rattle.iso_plain.specs.declared.parts.Now.TheVariants as now
@@ -38,6 +42,17 @@ pub record IsBase {W M : Type 0} (stands : M → Present W → Type 0) (base : M
   pub stands_for : stands base present
   pub substitution : present.substitution ≡ Variable
   pub next : present.next ≡ 0
+
+-- the state behind failure, at which this alternative is tried
+abbrev pub went_back : Alternative → List Alternative → State → State
+went_back a below s = record s { list = a.list; subst = a.subst; next = a.next; built = a.built; stack = below }
+
+-- this body is run before the list, for its first solution; or so that the list is gone on with where it has none
+abbrev pub calling_once : Body → State → State
+calling_once b s = record s { list = Goal b (length s.stack) ∷ CutTo (length s.stack) ∷ s.list }
+
+abbrev pub refuting : Body → State → State
+refuting b s = record (pushed s.list AsIs s) { list = Goal b (suc (length s.stack)) ∷ CutTo (length s.stack) ∷ Fail ∷ s.list }
 
 -- the phase of an engine
 abbrev pub phase_of : Now → Phase
@@ -116,6 +131,16 @@ module _ {S W M : Type 0} (present : S → Present W) (stands : S → M → Pres
     pub at : AtGoal (present e.store) (links_of e) e.query.items (variables s.query) attempt.goal attempt.rest call behind s.subst s.next
     pub clauses : left_at s.world.database.procedures attempt.procedure attempt.clause ≡ c ∷ cs
 
+  -- The engine, in this state, has its members from this place of the frames on.
+  pub record IsAhead (e : Plain S W M) (s : State) (place : Option ℕ) : Type 0 where
+    pub world : IsWorld e s.world
+    pub steps : s.steps ≡ e.steps
+    pub base : IsBase (stands e.store) e.base
+    pub choices : HasChoices e s.world (variables s.query) s.stack
+    pub room : HaveRoom e.steps s.stack
+    pub goes : GoesOn (present e.store) e.query.items s
+    pub chain : Chain (present e.store) (links_of e) place s.list
+
   -- The engine, in this state, went back to its newest choice, which is still there, and stands for this alternative.
   pub record WentBack (e : Plain S W M) (c : kept.Choice W M) (s : State) (a : Alternative) (below : List Alternative) : Type 0 where
     pub world : IsWorld e s.world
@@ -125,10 +150,7 @@ module _ {S W M : Type 0} (present : S → Present W) (stands : S → M → Pres
     pub newest : slice_get e.choices.items (length e.choices.items - 1) ≡ Some c
     pub nodes : c.nodes ≡ length e.nodes.items
     pub frames : c.frames ≡ length e.frames.items
-    pub call : Tree
-    pub at : AtGoal (present e.store) (links_of e) e.query.items (variables s.query) c.attempt.goal c.attempt.rest call a.list a.subst a.next
-    pub left : a.left ≡ Clauses call (left_at s.world.database.procedures c.attempt.procedure c.attempt.clause)
-    pub some : 0 < length (left_at s.world.database.procedures c.attempt.procedure c.attempt.clause)
+    pub has : HasLeft (left_at s.world.database.procedures) e.query.items (variables s.query) (present e.store) (links_of e) c.left a
     pub newer_base : older e.base c.mark
     pub newer : (d : kept.Choice W M) → Among d (take (length e.choices.items - 1) e.choices.items) → older d.mark c.mark
     pub stands_below : StandsForChoices (stands e.store) older e.base (left_at s.world.database.procedures) e.query.items (variables s.query) (links_of e) (take (length e.choices.items - 1) e.choices.items) below
@@ -140,7 +162,7 @@ module _ {S W M : Type 0} (present : S → Present W) (stands : S → M → Pres
     pub clause : Clause
     pub others : List Clause
     pub left : a.left ≡ Clauses call (clause ∷ others)
-    pub calls : Calls e attempt (with_others call others a.list (record s { list = a.list; subst = a.subst; next = a.next; built = a.built; stack = below })) call clause others a.list
+    pub calls : Calls e attempt (with_others call others a.list (went_back a below s)) call clause others a.list
 
   -- A call was refused: before its later clauses became a choice, or behind that.
   abbrev pub WasRefused : Plain S W M → State → State → Type 0
@@ -158,38 +180,38 @@ module _ {S W M : Type 0} (present : S → Present W) (stands : S → M → Pres
 
 -- ---- what falls
 
--- how many clauses the procedures have
-abbrev pub most_clauses : List Procedure → ℕ
-most_clauses [] = 0
-most_clauses (p ∷ ps) = length p.clauses.items + most_clauses ps
-
 -- how many clauses the procedure at this place has
 abbrev pub clauses_at_place : List Procedure → ℕ → ℕ
 clauses_at_place [] i = 0
 clauses_at_place (p ∷ ps) zero = length p.clauses.items
 clauses_at_place (p ∷ ps) (suc i) = clauses_at_place ps i
 
--- how many clauses are left at the choices
-abbrev pub clauses_left : {W M : Type 0} → List Procedure → List (kept.Choice W M) → ℕ
-clauses_left ps [] = 0
-clauses_left ps (c ∷ cs) = (clauses_at_place ps c.attempt.procedure - c.attempt.clause) + clauses_left ps cs
+-- what is to be done at most at what is left to be tried, over frames with these costs
+abbrev pub choice_cost : {W : Type 0} → List Procedure → List ℕ → Left W → ℕ
+choice_cost ps costs (left.AsIs place) = suc (rest_cost costs place)
+choice_cost ps costs (left.Again place) = suc (rest_cost costs place)
+choice_cost ps costs (left.Clauses attempt) = left_cost (clauses_at_place ps attempt.procedure - attempt.clause) (rest_cost costs attempt.rest)
 
--- how far what comes next is from being run: a body's parts have lower places
-abbrev pub rank : Now → ℕ
-rank now.Idle = 0
-rank now.Failing = 0
-rank now.Answering = 1
-rank (now.Running frame) = frame.body + 1
-rank now.Raising = 1
-rank (now.Spent limit) = 0
+abbrev pub choices_cost : {W M : Type 0} → List Procedure → List ℕ → List (kept.Choice W M) → ℕ
+choices_cost ps costs [] = 0
+choices_cost ps costs (c ∷ cs) = choice_cost ps costs c.left + choices_cost ps costs cs
 
--- a step or a clause that is left weighs more than any body
-abbrev pub body_weight : ℕ
-body_weight = 2 ^ 64
+-- what is to be done at most at what comes next
+abbrev pub now_cost : List ℕ → Now → ℕ
+now_cost costs now.Idle = 0
+now_cost costs now.Failing = 0
+now_cost costs now.Answering = 1
+now_cost costs (now.Running frame) = frame_cost costs frame
+now_cost costs now.Raising = 1
+now_cost costs (now.Spent limit) = 0
 
--- A number that falls at each move: a step that is left weighs more than all clauses of a procedure.
+-- before the next step
+abbrev pub cost : {S W M : Type 0} → Plain S W M → ℕ
+cost e = choices_cost e.procedures.items (frame_costs e.frames.items) e.choices.items + now_cost (frame_costs e.frames.items) e.now
+
+-- A number that falls at each move.
 abbrev pub weight : {S W M : Type 0} → Plain S W M → ℕ
-weight e = body_weight * (e.steps * (most_clauses e.procedures.items + 1) + clauses_left e.procedures.items e.choices.items) + rank e.now
+weight e = whole_cost e.steps (cost e)
 
 -- a move that goes on, and one that gives an event, make it fall
 abbrev pub Falls : Move → ℕ → ℕ → Type 0

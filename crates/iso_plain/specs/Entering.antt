@@ -1,39 +1,31 @@
 -- What entering a clause makes of a store and of the nodes.
-use Rattle.std.specs.Prelude.{◌≡◌, ℕ, ◌+◌, ◌<◌, List, [], ◌∷◌, ◌++◌, map, length, Bool, true, ◌&&◌, nat_lt}
-use Rattle.iso_model.specs.Terms.Trees.{Tree, Variable, Integer, Name, Apply, End, More, arities_fit}
+use Rattle.std.specs.Prelude.{◌≡◌, ℕ, ◌+◌, ◌<◌, List, [], ◌++◌, map, length, true}
+use Rattle.iso_model.specs.declared.terms.Term.{Term}
+use Rattle.iso_model.specs.Terms.Trees.{Tree, Variable, arities_fit}
 use Rattle.iso_model.specs.Terms.TermOf.{term_of}
 use Rattle.iso_model.specs.Terms.Substitutions.{Subst, apply, compose}
 use Rattle.iso_model.specs.Terms.Unifiers.{Unifier, NeverEqual}
 use Rattle.iso_model.specs.Terms.Copies.{renamed}
 use Rattle.iso_store_core.specs.Presents.{Present, KeepsWords}
-use Rattle.iso_plain.specs.Nodes.{map_node, trees_of}
+use Rattle.iso_store_core.specs.Patterns.{HasPlaces, at_places}
+use Rattle.iso_plain.specs.Nodes.{IsAlike, AreAlike, EachGoal}
 use Rattle.iso_plain.specs.declared.bodies.Node.{Node}
-use Rattle.iso_plain.specs.declared.bodies.Node.TheVariants as node
 use Rattle.iso_plain.specs.declared.clauses.Clause.{Clause}
 use Rattle.iso_plain.specs.declared.entries.Entered.{Entered}
 use Rattle.iso_plain.specs.declared.entries.Entered.TheVariants as entered
 
--- whether all variables of the term have numbers below this one
-abbrev pub is_below : ℕ → Tree → Bool
-is_below n (Variable k) = nat_lt k n
-is_below n (Integer z) = true
-is_below n (Name a) = true
-is_below n (Apply f ts) = is_below n ts
-is_below n End = true
-is_below n (More t ts) = is_below n t && is_below n ts
-
 -- The term can be made in a store, with its variables standing for n words.
 pub record Fits (n : ℕ) (t : Tree) : Type 0 where
   pub arities : arities_fit t ≡ true
-  pub below : is_below n t ≡ true
+  pub below : HasPlaces n t
 
-abbrev pub PartFits : ℕ → Node Tree → Type 0
-PartFits n (node.Run t) = Fits n t
-PartFits n (node.And distance) = Unit {0}
+-- the Rust term can
+abbrev pub GoalFits : ℕ → Term → Type 0
+GoalFits n g = Fits n (term_of g)
 
-abbrev pub PartsFit : ℕ → List (Node Tree) → Type 0
-PartsFit n [] = Unit {0}
-PartsFit n (t ∷ ts) = PartFits n t × PartsFit n ts
+-- the goals among the parts can
+abbrev pub PartsFit : ℕ → List (Node Term) → Type 0
+PartsFit n parts = EachGoal (GoalFits n) parts
 
 -- Words and numbers come, no binding changes.
 pub record Extends {W : Type 0} (p q : Present W) (count : ℕ) : Type 0 where
@@ -41,36 +33,28 @@ pub record Extends {W : Type 0} (p q : Present W) (count : ℕ) : Type 0 where
   pub substitution : q.substitution ≡ p.substitution
   pub next : q.next ≡ p.next + count
 
--- the parts, with n added to the number of each variable
-abbrev pub renamed_nodes : ℕ → List (Node Tree) → List (Node Tree)
-renamed_nodes n ts = map (map_node (renamed n)) ts
+-- the terms of the words, by their places
+abbrev pub word_terms : {W : Type 0} → Present W → List W → Subst
+word_terms p ws = at_places (map p.term ws)
 
--- the node stands for this part
-abbrev pub IsNode : {W : Type 0} → Present W → Node W → Node Tree → Type 0
-IsNode p (node.Run w) (node.Run t) = (p.holds w ≡ true) × (p.term w ≡ t)
-IsNode p (node.And d) (node.And e) = d ≡ e
-IsNode p (node.Run w) (node.And e) = ⊥
-IsNode p (node.And d) (node.Run t) = ⊥
-
--- These nodes stand for the parts, in their order.
-pub data AreNodes {W : Type 0} (p : Present W) : List (Node W) → List (Node Tree) → Type 0 where
-  no_nodes : AreNodes p [] []
-  one_node : {n : Node W} {ns : List (Node W)} {t : Node Tree} {ts : List (Node Tree)} → IsNode p n t → AreNodes p ns ts → AreNodes p (n ∷ ns) (t ∷ ts)
+-- the word stands for the goal under the substitution
+abbrev pub IsMade : {W : Type 0} → Present W → Subst → Term → W → Type 0
+IsMade p s g w = (p.holds w ≡ true) × (p.term w ≡ apply s (term_of g))
 
 -- A node comes for the part.
-pub record CopiesPart {W : Type 0} (p q : Present W) (n : Node W) (t : Node Tree) : Type 0 where
+pub record CopiesPart {W : Type 0} (p q : Present W) (s : Subst) (part : Node Term) (n : Node W) : Type 0 where
   pub extends : Extends p q 0
-  pub is : IsNode q n t
+  pub is : IsAlike (IsMade q s) part n
 
 -- items that were added at the end
 abbrev pub Adds : {X : Type 0} → List X → List X → Type 0
 Adds {X} old new = (more : List X) × (new ≡ old ++ more)
 
 -- Nodes for the parts were added at the end.
-pub record Copies {W : Type 0} (p : Present W) (old new : List (Node W)) (ts : List (Node Tree)) : Type 0 where
+pub record Copies {W : Type 0} (p : Present W) (s : Subst) (old new : List (Node W)) (parts : List (Node Term)) : Type 0 where
   pub more : List (Node W)
   pub are : new ≡ old ++ more
-  pub nodes : AreNodes p more ts
+  pub nodes : AreAlike (IsMade p s) parts more
 
 -- The head, with its variables new, was unified with the call, and the store is under the unifier.
 pub record Meets {W : Type 0} (p q : Present W) (call head : Tree) (count : ℕ) : Type 0 where
@@ -80,9 +64,13 @@ pub record Meets {W : Type 0} (p q : Present W) (call head : Tree) (count : ℕ)
   pub next : q.next ≡ p.next + count
   pub words : KeepsWords p q
 
+-- each variable by its new one
+abbrev pub renaming_from : ℕ → Subst
+renaming_from n x = Variable (n + x)
+
 -- What trying the clause for a call comes to.
 abbrev pub Enters : {W : Type 0} → Present W → Present W → List (Node W) → List (Node W) → Tree → Clause → Entered → Type 0
 Enters p q old new call clause entered.Missed = NeverEqual (apply p.substitution call) (apply p.substitution (renamed p.next (term_of clause.head)))
-Enters p q old new call clause entered.Fact = Meets p q call (term_of clause.head) clause.variables × (trees_of clause.parts.items ≡ [])
+Enters p q old new call clause entered.Fact = Meets p q call (term_of clause.head) clause.variables × (clause.parts.items ≡ [])
 Enters p q old new call clause (entered.Body place) =
-    Meets p q call (term_of clause.head) clause.variables × Copies q old new (renamed_nodes p.next (trees_of clause.parts.items)) × (place + 1 ≡ length new) × (0 < length (trees_of clause.parts.items))
+    Meets p q call (term_of clause.head) clause.variables × Copies q (renaming_from p.next) old new clause.parts.items × (place + 1 ≡ length new) × (0 < length clause.parts.items)

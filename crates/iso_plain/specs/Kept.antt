@@ -1,36 +1,23 @@
 -- Clauses as the engine keeps them, and the checks by which they come.
-use Rattle.std.specs.Prelude.{◌≡◌, ℕ, ◌<◌, ◌≤◌, List, Option, Some, None, Result, Ok, Err, true, false, codes}
-use Rattle.iso_model.specs.Terms.Trees.{Tree, Variable, Name}
+use Rattle.std.specs.Prelude.{◌≡◌, ℕ, ◌<◌, ◌≤◌, List, [], ◌∷◌, Some, Result, Ok, Err, true, false}
+use Rattle.iso_model.specs.Terms.Trees.{Tree}
 use Rattle.iso_model.specs.Terms.Sorts.{is_term}
 use Rattle.iso_model.specs.Terms.TermOf.{term_of}
-use Rattle.iso_model.specs.Terms.Variables.{occurs, variable_count}
-use Rattle.iso_model.specs.Terms.Substitutions.{Subst, apply}
-use Rattle.iso_model.specs.Terms.Copies.{place_of, copy_from}
-use Rattle.iso_model.specs.Search.Bodies.{Body, Run, And, two, converted}
+use Rattle.iso_model.specs.Terms.Variables.{occurs}
+use Rattle.iso_model.specs.Search.Bodies.{Body}
 use Rattle.iso_model.specs.Search.Databases as databases
 use Rattle.iso_model.specs.Search.Databases.{Key, key_of}
 use Rattle.iso_model.specs.Search.BuiltIns.{is_built_in}
-use Rattle.iso_model.specs.Search.Errors.{type_error_callable, permission_error}
-use Rattle.iso_model.specs.Search.Additions.{head_of, body_of, most_variables, consult_key, Check, Fits, Faulty, checked, checked_head, fault_error, clause_of}
+use Rattle.iso_model.specs.Search.Errors.{permission_error}
+use Rattle.iso_model.specs.Search.Additions.{most_variables, consult_key, Check, Fits, Faulty, UnboundHead, NotCallable, TooManyVariables, checked, prepared, fault_error, clause_of}
 use Rattle.iso_model.specs.declared.terms.Term.{Term}
 use Rattle.iso_model.specs.declared.pauses.AddFault.{AddFault}
 use Rattle.iso_model.specs.declared.pauses.AddFault.TheVariants as add
-use Rattle.std.specs.declared.vec.Vec.{Vec}
-use Rattle.std.specs.declared.alloc.Global.{Global}
+use Rattle.iso_prep.specs.declared.fault.Fault.{Fault}
+use Rattle.iso_prep.specs.declared.fault.Fault.TheVariants as fault
+use Rattle.iso_prep.specs.Preparations.{Preparation, clause_preparation}
 use Rattle.iso_plain.specs.declared.clauses.Clause.{Clause}
-use Rattle.iso_plain.specs.declared.bodies.Node.{Node}
-use Rattle.iso_plain.specs.declared.bodies.BodyFault.{BodyFault}
-use Rattle.iso_plain.specs.declared.bodies.BodyFault.TheVariants as fault
-use Rattle.iso_plain.specs.Nodes.{trees_of, layout_of}
-
--- each variable by its place in the list
-abbrev pub numbers : List ℕ → Subst
-numbers vs x = Variable (place_of x vs)
-
--- A clause by its head and, where it has one, its body.
-abbrev pub Splits : Tree → Tree → Option Tree → Type 0
-Splits t head (Some body) = t ≡ two (codes ":-") head body
-Splits t head None = (head ≡ t) × (head_of t ≡ t) × (body_of t ≡ Name (codes "true"))
+use Rattle.iso_plain.specs.Nodes.{ArePartsOf, EachGoal, IsTermOf}
 
 -- A callable term whose variables are below n.
 pub record IsTemplate (n : ℕ) (t : Tree) : Type 0 where
@@ -38,47 +25,44 @@ pub record IsTemplate (n : ℕ) (t : Tree) : Type 0 where
   pub key : (k : Key) × (key_of t ≡ Some k)
   pub below : (x : ℕ) → occurs x t ≡ true → x < n
 
--- each goal of the body is one
-abbrev pub AreTemplates : ℕ → Body → Type 0
-AreTemplates n (Run t) = IsTemplate n t
-AreTemplates n (And a b) = AreTemplates n a × AreTemplates n b
+-- Each of the terms is one.
+abbrev pub AreTemplates : ℕ → List Tree → Type 0
+AreTemplates n [] = Unit {0}
+AreTemplates n (t ∷ ts) = IsTemplate n t × AreTemplates n ts
+
+-- the Rust term is one
+abbrev pub IsKeptGoal : ℕ → Term → Type 0
+IsKeptGoal n g = IsTemplate n (term_of g)
 
 -- The engine keeps the clause of the database so.
 pub record IsClause (kept : Clause) (c : databases.Clause) : Type 0 where
   pub head : term_of kept.head ≡ c.head
-  pub parts : trees_of kept.parts.items ≡ layout_of c.body
+  pub parts : ArePartsOf IsTermOf kept.parts.items c.body
   pub variables : kept.variables ≡ c.variables
   pub few : c.variables ≤ most_variables
   pub head_template : IsTemplate c.variables c.head
-  pub goal_templates : AreTemplates c.variables c.body
+  pub goal_templates : EachGoal (IsKeptGoal c.variables) kept.parts.items
 
--- The parts of a body come, or the body can't be converted.
-abbrev pub PartsOf : Tree → Result (Vec (Node Term) Global) BodyFault → Type 0
-PartsOf body (Ok parts) = (b : Body) × (converted body ≡ Some b) × (trees_of parts.items ≡ layout_of b)
-PartsOf body (Err fault.NotCallable) = converted body ≡ None
-PartsOf body (Err fault.NoMemory) = Unit {0}
-
--- The parts of the body with its variables numbered by this list come, or the body can't be converted.
-abbrev pub NumbersBody : Tree → List ℕ → Result (Vec (Node Term) Global) AddFault → Type 0
-NumbersBody body vs (Ok parts) = (b : Body) × (converted (apply (numbers vs) body) ≡ Some b) × (trees_of parts.items ≡ layout_of b)
-NumbersBody body vs (Err (add.Refused ball)) = (converted body ≡ None) × (term_of ball.term ≡ type_error_callable body consult_key)
-NumbersBody body vs (Err add.NoMemory) = Unit {0}
-
--- The clause comes with its variables numbered, or its body can't be converted.
-abbrev pub Numbers : Tree → Result Clause AddFault → Type 0
-Numbers t (Ok kept) = (b : Body) × (converted (body_of (copy_from t 0)) ≡ Some b) × (term_of kept.head ≡ head_of (copy_from t 0)) × (trees_of kept.parts.items ≡ layout_of b) × (kept.variables ≡ variable_count t)
-Numbers t (Err (add.Refused ball)) = (converted (body_of t) ≡ None) × (term_of ball.term ≡ type_error_callable (body_of t) consult_key)
-Numbers t (Err add.NoMemory) = Unit {0}
+-- What was made ready is this clause, which fits but for its procedure.
+pub record IsReady (p : Preparation) (t : Tree) : Type 0 where
+  pub key : Key
+  pub body : Body
+  pub term : is_term t ≡ true
+  pub fits : prepared t ≡ Fits key body
+  pub is : p ≡ clause_preparation t body
 
 -- the checks found a fault, for which this is the error of a clause of the text
 abbrev pub IsRefused : Check → Tree → Type 0
 IsRefused (Fits k b) error = ⊥
 IsRefused (Faulty fault) error = fault_error consult_key fault ≡ error
 
--- The head is not callable, and the clause is refused.
-abbrev pub RefusesHead : Tree → AddFault → Type 0
-RefusesHead head (add.Refused ball) = (t : Tree) → IsRefused (checked_head t head (key_of head)) (term_of ball.term)
-RefusesHead head add.NoMemory = Unit {0}
+-- What refuses a clause that wasn't made ready for this reason.
+abbrev pub Refuses : Fault → AddFault → Type 0
+Refuses fault.Instantiation (add.Refused ball) = term_of ball.term ≡ fault_error consult_key UnboundHead
+Refuses (fault.Callable culprit) (add.Refused ball) = term_of ball.term ≡ fault_error consult_key (NotCallable (term_of culprit))
+Refuses fault.TooManyVariables (add.Refused ball) = term_of ball.term ≡ fault_error consult_key TooManyVariables
+Refuses fault.NoMemory (add.Refused ball) = ⊥
+Refuses fault add.NoMemory = Unit {0}
 
 -- The head is that of no built-in, or the clause is refused.
 abbrev pub ChecksUser : Key → Result Unit AddFault → Type 0

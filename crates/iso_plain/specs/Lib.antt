@@ -11,3 +11,4 @@ pub mod Starts
 pub mod Callable
 pub mod Replies
 pub mod Called
+pub mod Costs

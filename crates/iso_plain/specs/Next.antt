@@ -1,9 +1,10 @@
 -- What the engine does next.
-use Rattle.std.specs.Prelude.{◌<◌, ℕ, List, length, Bool, true, false, Option, Some, None}
+use Rattle.std.specs.Prelude.{◌<◌, ℕ, List, length, Option, Some, None}
 use Rattle.std.specs.List.{slice_get}
 use Rattle.iso_plain.specs.declared.entries.Entered.{Entered}
 use Rattle.iso_plain.specs.declared.entries.Entered.TheVariants as entered
 use Rattle.iso_plain.specs.declared.parts.Frame.{Frame}
+use Rattle.iso_plain.specs.declared.parts.Todo.TheVariants as todo
 use Rattle.iso_plain.specs.declared.parts.Now.{Now}
 use Rattle.iso_plain.specs.declared.parts.Now.TheVariants as now
 
@@ -25,9 +26,4 @@ now_behind frames (Some i) = now_at (slice_get frames i)
 abbrev pub now_entered : List Frame → Entered → ℕ → Option ℕ → Now
 now_entered frames entered.Missed mark rest = now.Failing
 now_entered frames entered.Fact mark rest = now_behind frames rest
-now_entered frames (entered.Body body) mark rest = now.Running (record { body = body; mark = mark; next = rest })
-
--- behind a goal that went on, or failed, with the place of the member behind it
-abbrev pub now_replied : List Frame → Bool → Option ℕ → Now
-now_replied frames false place = now.Failing
-now_replied frames true place = now_behind frames place
+now_entered frames (entered.Body body) mark rest = now.Running (record { todo = todo.Body body; mark = mark; next = rest })

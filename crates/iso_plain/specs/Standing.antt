@@ -4,21 +4,32 @@ use Rattle.std.specs.List.{slice_get}
 use Rattle.iso_model.specs.Terms.Trees.{Tree, Variable}
 use Rattle.iso_model.specs.Terms.Variables.{variables}
 use Rattle.iso_model.specs.Terms.Substitutions.{Subst}
-use Rattle.iso_model.specs.Search.Bodies.{Body, Run, And}
+use Rattle.iso_model.specs.Search.Bodies.{Body}
 use Rattle.iso_model.specs.Search.Databases.{Clause}
-use Rattle.iso_model.specs.Search.Walker.{State, Member, Goal, Fail, Raise, Alternative, Clauses, idle}
+use Rattle.iso_model.specs.Search.Walker.{State, Member, Goal, CutTo, Fail, Raise, Alternative, AsIs, Again, Clauses, idle}
+use Rattle.iso_model.specs.Search.Walker as walker
 use Rattle.iso_store_core.specs.Presents.{Present, meaning}
 use Rattle.iso_plain.specs.Callable.{IsGoal}
+use Rattle.iso_plain.specs.Nodes.{At, IsTree}
 use Rattle.iso_plain.specs.declared.bodies.Node.{Node}
 use Rattle.iso_plain.specs.declared.bodies.Node.TheVariants as node
+use Rattle.iso_plain.specs.declared.parts.Todo.TheVariants as todo
 use Rattle.iso_plain.specs.declared.parts.Frame.{Frame}
+use Rattle.iso_plain.specs.declared.parts.Left.{Left}
+use Rattle.iso_plain.specs.declared.parts.Left.TheVariants as left
+use Rattle.iso_plain.specs.declared.parts.Attempt.{Attempt}
 use Rattle.iso_plain.specs.declared.parts.Choice as kept
 use Rattle.iso_plain.specs.declared.parts.Now.{Now}
 use Rattle.iso_plain.specs.declared.parts.Now.TheVariants as now
 
--- The list has this item at this place.
-pub record At {X : Type 0} (xs : List X) (i : ℕ) (x : X) : Type 0 where
-  pub is : slice_get xs i ≡ Some x
+-- The frame asks for the body at this place of the nodes, whose own part is this.
+pub record IsAt {W : Type 0} (nodes : List (Node W)) (f : Frame) (place : ℕ) (part : Node W) : Type 0 where
+  pub asks : f.todo ≡ todo.Body place
+  pub there : slice_get nodes place ≡ Some part
+
+-- The frame asks for a cut: it is one, or its body is.
+abbrev pub IsCut : {W : Type 0} → List (Node W) → Frame → Type 0
+IsCut nodes f = (f.todo ≡ todo.CutBack) ⊎ ((i : ℕ) × IsAt nodes f i node.Cut)
 
 -- The item is one of the list.
 abbrev pub Among : {X : Type 0} → X → List X → Type 0
@@ -30,23 +41,36 @@ pub record Links (W : Type 0) : Type 0 where
   pub nodes : List (Node W)
   pub frames : List Frame
 
--- The node at this place is this body's, each goal of which can be run.
-pub data IsBody {W : Type 0} (p : Present W) (nodes : List (Node W)) : ℕ → Body → Type 0 where
-  runs : {i : ℕ} {w : W} {t : Tree} → At nodes i (node.Run w) → p.holds w ≡ true → t ≡ p.term w → IsGoal t → IsBody p nodes i (Run t)
-  joins : {i j k distance : ℕ} {a b : Body} → At nodes k (node.And distance) → k ≡ i + distance → k ≡ j + 1 → 0 < distance → IsBody p nodes i a → IsBody p nodes j b
-      → IsBody p nodes k (And a b)
+-- The word is a goal that can be run, made with this term.
+abbrev pub IsGoalWord : {W : Type 0} → Present W → W → Tree → Type 0
+IsGoalWord p w t = (p.holds w ≡ true) × (t ≡ p.term w) × IsGoal t
 
--- The frames from this place on are these members.
+-- The node at this place is this body's, each goal of which can be run.
+abbrev pub IsBody : {W : Type 0} → Present W → List (Node W) → ℕ → Body → Type 0
+IsBody p nodes = IsTree (IsGoalWord p) nodes
+
+-- The frame is this member.
+pub data IsMember {W : Type 0} (p : Present W) (nodes : List (Node W)) (f : Frame) : Member → Type 0 where
+  a_body : {i : ℕ} {b : Body} → f.todo ≡ todo.Body i → IsBody p nodes i b → IsMember p nodes f (Goal b f.mark)
+  a_cut : f.todo ≡ todo.CutBack → IsMember p nodes f (CutTo f.mark)
+  a_failure : f.todo ≡ todo.Fail → IsMember p nodes f Fail
+
+-- The place is before the i-th, or none.
+abbrev pub IsBefore : Option ℕ → ℕ → Type 0
+IsBefore None i = Unit {0}
+IsBefore (Some j) i = j < i
+
+-- The frames from this place on are these members, each after those behind it.
 pub data Chain {W : Type 0} (p : Present W) (links : Links W) : Option ℕ → List Member → Type 0 where
   ends : Chain p links None []
-  leads : {i : ℕ} {f : Frame} {b : Body} {ms : List Member} → At links.frames i f → IsBody p links.nodes f.body b → Chain p links f.next ms → Chain p links (Some i) (Goal b f.mark ∷ ms)
+  leads : {i : ℕ} {f : Frame} {m : Member} {ms : List Member} → At links.frames i f → IsBefore f.next i → IsMember p links.nodes f m → Chain p links f.next ms → Chain p links (Some i) (m ∷ ms)
 
 -- The frame comes first, and then the members behind it.
 pub record First {W : Type 0} (p : Present W) (links : Links W) (f : Frame) (list : List Member) : Type 0 where
-  pub body : Body
+  pub member : Member
   pub behind : List Member
-  pub is : list ≡ Goal body f.mark ∷ behind
-  pub node : IsBody p links.nodes f.body body
+  pub is : list ≡ member ∷ behind
+  pub stands : IsMember p links.nodes f member
   pub chain : Chain p links f.next behind
 
 -- These words are the variables of these numbers.
@@ -54,15 +78,18 @@ pub data AreVariables {W : Type 0} (p : Present W) : List W → List ℕ → Typ
   no_word : AreVariables p [] []
   one_word : {w : W} {ws : List W} {n : ℕ} {ns : List ℕ} → p.holds w ≡ true → p.term w ≡ Variable n → AreVariables p ws ns → AreVariables p (w ∷ ws) (n ∷ ns)
 
--- What comes next is the goal of this word, whose value is the call; behind it are these members, under this substitution and with this next number.
--- The words of the query's variables have these numbers.
-pub record AtGoal {W : Type 0} (p : Present W) (links : Links W) (query : List W) (named : List ℕ) (goal : W) (rest : Option ℕ) (call : Tree) (behind : List Member) (subst : Subst) (next : ℕ) : Type 0 where
+-- From this place on these are the members, under this substitution and with this next number. The words of the query's variables have these numbers.
+pub record OnList {W : Type 0} (p : Present W) (links : Links W) (query : List W) (named : List ℕ) (place : Option ℕ) (list : List Member) (subst : Subst) (next : ℕ) : Type 0 where
   pub subst_is : p.substitution ≡ subst
   pub next_is : p.next ≡ next
+  pub chain : Chain p links place list
+  pub words : AreVariables p query named
+
+-- What comes next is the goal of this word, whose value is the call, and then the members behind it.
+pub record AtGoal {W : Type 0} (p : Present W) (links : Links W) (query : List W) (named : List ℕ) (goal : W) (rest : Option ℕ) (call : Tree) (behind : List Member) (subst : Subst) (next : ℕ) : Type 0 where
   pub holds : p.holds goal ≡ true
   pub value : call ≡ meaning p goal
-  pub chain : Chain p links rest behind
-  pub words : AreVariables p query named
+  pub on : OnList p links query named rest behind subst next
 
 -- what stood when the choice was made
 abbrev pub links_at : {W M : Type 0} → kept.Choice W M → Links W → Links W
@@ -73,18 +100,35 @@ pub record StandsOn {W M : Type 0} (c : kept.Choice W M) (links : Links W) : Typ
   pub nodes : c.nodes ≤ length links.nodes
   pub frames : c.frames ≤ length links.frames
 
+-- What is left to be tried is said by the clauses left at a procedure from a place on, and the words of the query's variables with their numbers.
+module _ {W : Type 0} (left_at : ℕ → ℕ → List Clause) (query : List W) (named : List ℕ) where
+  -- The alternative is the goal of a call, with what is behind it, for which these clauses are left to be tried.
+  pub record HasClauses (p : Present W) (links : Links W) (attempt : Attempt W) (a : Alternative) : Type 0 where
+    pub call : Tree
+    pub at : AtGoal p links query named attempt.goal attempt.rest call a.list a.subst a.next
+    pub left : a.left ≡ Clauses call (left_at attempt.procedure attempt.clause)
+    pub some : 0 < length (left_at attempt.procedure attempt.clause)
+
+  -- The alternative is the members from this place on, with this left to be tried.
+  pub record HasMembers (p : Present W) (links : Links W) (place : Option ℕ) (left : walker.Left) (a : Alternative) : Type 0 where
+    pub on : OnList p links query named place a.list a.subst a.next
+    pub is : a.left ≡ left
+
+  -- over this store, this is left to be tried at the alternative
+  abbrev pub HasLeft : Present W → Links W → Left W → Alternative → Type 0
+  HasLeft p links (left.Clauses attempt) a = HasClauses p links attempt a
+  HasLeft p links (left.AsIs place) a = HasMembers p links place AsIs a
+  HasLeft p links (left.Again place) a = HasMembers p links place Again a
+
 -- Choices are made of an engine's marks (whether a mark stands for a store, and which is older), its mark for the empty store, the clauses left at a
 -- procedure from a place on, and the words of the query's variables with their numbers.
 module _ {W M : Type 0} (stands : M → Present W → Type 0) (older : M → M → Type 0) (base : M) (left_at : ℕ → ℕ → List Clause) (query : List W) (named : List ℕ) where
-  -- What one choice stands for: its mark brings back a store in which its goal is called, with what is behind it.
+  -- What one choice stands for: its mark brings back a store over which what is left is to be tried.
   pub record StandsForChoice (links : Links W) (c : kept.Choice W M) (a : Alternative) : Type 0 where
     pub present : Present W
     pub mark : stands c.mark present
     pub newer : older base c.mark
-    pub call : Tree
-    pub at : AtGoal present links query named c.attempt.goal c.attempt.rest call a.list a.subst a.next
-    pub left : a.left ≡ Clauses call (left_at c.attempt.procedure c.attempt.clause)
-    pub some : 0 < length (left_at c.attempt.procedure c.attempt.clause)
+    pub has : HasLeft left_at query named present links c.left a
 
   -- The choices, the newest last, are these alternatives, the newest first. What is below a choice stands over what stood when it was made.
   pub data StandsForChoices : Links W → List (kept.Choice W M) → List Alternative → Type 0 where
@@ -103,6 +147,13 @@ module _ {W M : Type 0} (stands : M → Present W → Type 0) (older : M → M �
     pub newer : (d : kept.Choice W M) → Among d (take (length cs - 1) cs) → older d.mark c.mark
     pub stands_below : StandsForChoices (links_at c links) (take (length cs - 1) cs) below
 
+-- A choice came behind the others: so many nodes and frames stand, this is left, and its mark brings back the store as it is, and is newer than all others.
+pub record GainsChoice {W M : Type 0} (old new : M → Present W → Type 0) (older : M → M → Type 0) (present : Present W) (nodes frames : ℕ) (left : Left W) (before after : List (kept.Choice W M)) : Type 0 where
+  pub mark : M
+  pub stands : new mark present
+  pub newer : (m : M) (p : Present W) → old m p → older m mark
+  pub are : after ≡ before ++ record { mark = mark; nodes = nodes; frames = frames; left = left } ∷ []
+
 -- the most variable numbers that a run uses
 abbrev pub most_numbers : ℕ
 most_numbers = 4611686018427387904
@@ -111,10 +162,16 @@ most_numbers = 4611686018427387904
 abbrev pub numbers_a_step : ℕ
 numbers_a_step = 65535
 
+-- how many clauses are entered at once where this is tried, without a step
+abbrev pub entered_at : walker.Left → ℕ
+entered_at AsIs = 0
+entered_at Again = 0
+entered_at (Clauses call cs) = 1
+
 -- Room is left for the numbers of a clause entered at each alternative and in each step that is left.
 abbrev pub HaveRoom : ℕ → List Alternative → Type 0
 HaveRoom steps [] = Unit {0}
-HaveRoom steps (a ∷ ks) = (a.next + numbers_a_step * (steps + 1) ≤ most_numbers) × HaveRoom steps ks
+HaveRoom steps (a ∷ ks) = (a.next + numbers_a_step * (steps + entered_at a.left) ≤ most_numbers) × HaveRoom steps ks
 
 -- where members are still to be run, the store's substitution and next number are those of the search, and room is left
 pub record GoesOn {W : Type 0} (p : Present W) (query : List W) (s : State) : Type 0 where
@@ -126,7 +183,7 @@ pub record GoesOn {W : Type 0} (p : Present W) (query : List W) (s : State) : Ty
 -- What comes next, as the engine has it. Of a state that fails the substitution and the next number don't count.
 abbrev pub DoesNext : {W : Type 0} → Present W → Links W → List W → Now → Option Tree → State → Type 0
 DoesNext p links query now.Idle raised s = s ≡ idle s.world
-DoesNext p links query now.Failing raised s = s.list ≡ Fail ∷ []
+DoesNext p links query now.Failing raised s = (rest : List Member) × (s.list ≡ Fail ∷ rest)
 DoesNext p links query now.Answering raised s = (s.list ≡ []) × GoesOn p query s
 DoesNext p links query (now.Running f) raised s = First p links f s.list × GoesOn p query s
 DoesNext p links query now.Raising raised s = (ball : Tree) × (s.list ≡ Raise ball ∷ []) × (raised ≡ Some ball)

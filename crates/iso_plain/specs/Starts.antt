@@ -1,6 +1,11 @@
 -- How a run begins, and how a clause comes to the database.
-use Rattle.std.specs.Prelude.{◌≡◌, [], Result, Ok, Err}
-use Rattle.iso_model.specs.Terms.Trees.{Variable}
+use Rattle.std.specs.Prelude.{◌≡◌, [], Some, true, Result, Ok, Err}
+use Rattle.iso_model.specs.Terms.Trees.{Tree, Variable}
+use Rattle.iso_model.specs.Terms.Sorts.{is_term}
+use Rattle.iso_model.specs.Terms.Variables.{variable_count}
+use Rattle.iso_model.specs.Terms.Copies.{IsNumbered}
+use Rattle.iso_model.specs.Search.Bodies.{converted}
+use Rattle.iso_prep.specs.Preparations.{Preparation}
 use Rattle.iso_model.specs.Terms.TermOf.{term_of}
 use Rattle.iso_model.specs.Search.Additions.{Addition, Adds, Refuses}
 use Rattle.iso_model.specs.Search.Walker.{World, idle}
@@ -10,6 +15,13 @@ use Rattle.iso_store_core.specs.Presents.{Present}
 use Rattle.iso_plain.specs.Programs.{IsWorld}
 use Rattle.iso_plain.specs.EngineStates.{IsBase, IsEngine}
 use Rattle.iso_plain.specs.declared.plain.Plain.{Plain}
+
+-- What was made ready is this query.
+pub record IsQuery (p : Preparation) (t : Tree) : Type 0 where
+  pub converted_is : converted t ≡ Some p.body
+  pub variables_are : p.variables ≡ variable_count t
+  pub numbered : IsNumbered t
+  pub term : is_term t ≡ true
 
 module _ {S W M : Type 0} (present : S → Present W) (stands : S → M → Present W → Type 0) (older : M → M → Type 0) where
   -- The engine has this world, its store is empty, and no choice stands.

@@ -2,7 +2,7 @@
 ghost use Rattle.std.specs.Prelude.{◌≡◌, ◌<◌, IfOk, codes};
 ghost use Rattle.iso_model.specs.Terms.Trees.{Name};
 ghost use Rattle.iso_model.specs.Terms.TermOf.{term_of};
-ghost use Rattle.iso_model.specs.Search.Bodies.{two};
+ghost use Rattle.iso_model.specs.Search.Bodies.{one, two};
 ghost use Rattle.iso_model.specs.Search.Errors.{key};
 ghost use Rattle.iso_model.specs.Search.Errors as errors;
 ghost use Rattle.iso_model.specs.Search.Additions.{consult_key};
@@ -99,14 +99,30 @@ pub fn static_procedure(alloc: Global, name: &str, arity: usize) -> Result<Ball,
     error(alloc, what, place)
 }
 
-/// `representation_error(max_variables)`, raised by `consult/1` (own limit; 7.12.2 f).
+/// `representation_error(limit)`, raised by this procedure (7.12.2 f).
+fn representation(alloc: Global, limit: &str, name: &str, arity: usize) -> Result<Ball, AllocError>
+    requires { arity < 256 }
+    ensures { IfOk result (λ b. term_of b.term ≡ errors.raised (one (codes "representation_error") (Name limit.now)) (key name.now arity)) }
+{
+    let mut arguments = Vec::with_capacity(alloc, 1)?;
+    let limit = atom(alloc, limit)?;
+    arguments.push(limit)?;
+    let what = Term::Compound(String::from_str(alloc, "representation_error")?, arguments);
+    let place = indicator(alloc, name, arity)?;
+    error(alloc, what, place)
+}
+
+/// `representation_error(max_variables)`, raised by `consult/1` (own limit).
 pub fn too_many_variables(alloc: Global) -> Result<Ball, AllocError>
     ensures { IfOk result (λ b. term_of b.term ≡ errors.max_variables_error consult_key) }
 {
-    let mut arguments = Vec::with_capacity(alloc, 1)?;
-    let limit = atom(alloc, "max_variables")?;
-    arguments.push(limit)?;
-    let what = Term::Compound(String::from_str(alloc, "representation_error")?, arguments);
-    let place = indicator(alloc, "consult", 1)?;
-    error(alloc, what, place)
+    representation(alloc, "max_variables", "consult", 1)
+}
+
+/// `representation_error(max_arity)`, raised by this procedure (own limit).
+pub fn too_many_arguments(alloc: Global, name: &str, arity: usize) -> Result<Ball, AllocError>
+    requires { arity < 256 }
+    ensures { IfOk result (λ b. term_of b.term ≡ errors.max_arity_error (key name.now arity)) }
+{
+    representation(alloc, "max_arity", name, arity)
 }

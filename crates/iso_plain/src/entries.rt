@@ -1,13 +1,14 @@
 //! The entry of a clause: its variables get new numbers, its head is unified with the goal, and the parts of its body are
 //! copied (7.7.10, 7.7.11).
-ghost use Rattle.std.specs.Prelude.{◌≡◌, ℕ, ◌+◌, ◌<◌, ◌≤◌, ◌^◌, IfOk, OnOk, length, true, Err};
-ghost use Rattle.iso_model.specs.Terms.Trees.{arities_fit};
+ghost use Rattle.std.specs.Prelude.{◌≡◌, ◌+◌, ◌<◌, ◌^◌, IfOk, OnOk, length, Err};
+ghost use Rattle.std.specs.List.{All};
 ghost use Rattle.iso_model.specs.Terms.TermOf.{term_of};
-ghost use Rattle.iso_model.specs.Terms.Copies.{renamed, numbers_from};
+ghost use Rattle.iso_model.specs.Terms.Substitutions.{apply};
+ghost use Rattle.iso_model.specs.Terms.Copies.{numbers_from};
 ghost use Rattle.iso_store_core.specs.Presents.{KeepsMarks, KeepsNumbers, Makes, Holds};
 ghost use Rattle.iso_plain.specs.Standing.{AreVariables};
-ghost use Rattle.iso_plain.specs.Nodes.{map_node, trees_of};
-ghost use Rattle.iso_plain.specs.Entering.{Enters, Extends, is_below, Fits, PartFits, PartsFit, CopiesPart, Copies, Adds, renamed_nodes};
+ghost use Rattle.iso_plain.specs.Nodes.{IfGoal};
+ghost use Rattle.iso_plain.specs.Entering.{Enters, Extends, Fits, GoalFits, PartsFit, word_terms, CopiesPart, Copies, Adds};
 
 use super::bodies::Node;
 use super::clauses::Clause;
@@ -35,18 +36,16 @@ pub fn new_variables<S: Store>(
     Ok(variables)
 }
 
-/// The term in the store, with its variables 0, 1, .. standing for these words, which are those numbered from `first` on.
-/// The errors: the store is full, or memory was refused.
+/// The term in the store, with these words for its variables 0, 1, .. The errors: the store is full, or memory was refused.
 pub fn instantiate<S: Store>(
     store: &mut S,
     term: &Term,
     variables: &[S::Word],
 ) -> Result<S::Word, StoreFault>
-    requires fits { arities_fit (term_of term.now) ≡ true }
-    requires below { is_below (length variables.now) (term_of term.now) ≡ true }
-    requires variables { (first : ℕ) × AreVariables (S.present store.old) variables.now (numbers_from first (length variables.now)) }
-    ensures made { (first : ℕ) → AreVariables (S.present store.old) variables.now (numbers_from first (length variables.now))
-        → IfOk result (λ w. Makes (S.present store.old) (S.present store.new) w (renamed first (term_of term.now))) }
+    requires fits { Fits (length variables.now) (term_of term.now) }
+    requires variables { All (λ w. Holds (S.present store.old) w) variables.now }
+    ensures made { IfOk result (λ w. Makes (S.present store.old) (S.present store.new) w
+        (apply (word_terms (S.present store.old) variables.now) (term_of term.now))) }
     ensures numbers { OnOk result (KeepsNumbers (S.present store.old) (S.present store.new)) }
     ensures full { result ≡ Err StoreFault.Full → S.full store.new }
     ensures marks { KeepsMarks (S.stands store.old) (S.stands store.new) }
@@ -55,37 +54,39 @@ pub fn instantiate<S: Store>(
     store.instantiate(&pattern, variables)
 }
 
-/// The part with its goal in the store, its variables standing for these words. The errors: the store is full, or memory was refused.
+/// The part with its goal in the store, these words for its variables. The errors: the store is full, or memory was refused.
 fn copied_part<S: Store>(
     store: &mut S,
     part: &Node<Term>,
     variables: &[S::Word],
 ) -> Result<Node<S::Word>, StoreFault>
-    requires fits { PartFits (length variables.now) (map_node term_of part.now) }
-    requires variables { (first : ℕ) × AreVariables (S.present store.old) variables.now (numbers_from first (length variables.now)) }
-    ensures copies { (first : ℕ) → AreVariables (S.present store.old) variables.now (numbers_from first (length variables.now))
-        → IfOk result (λ node. CopiesPart (S.present store.old) (S.present store.new) node (map_node (renamed first) (map_node term_of part.now))) }
+    requires fits { IfGoal (GoalFits (length variables.now)) part.now }
+    requires variables { All (λ w. Holds (S.present store.old) w) variables.now }
+    ensures copies { IfOk result (CopiesPart (S.present store.old) (S.present store.new) (word_terms (S.present store.old) variables.now) part.now) }
     ensures full { result ≡ Err StoreFault.Full → S.full store.new }
     ensures marks { KeepsMarks (S.stands store.old) (S.stands store.new) }
 {
     match part {
         Node::Run(goal) => Ok(Node::Run(instantiate(store, goal, variables)?)),
-        Node::And(distance) => Ok(Node::And(*distance)),
+        Node::Cut => Ok(Node::Cut),
+        Node::And(first) => Ok(Node::And(*first)),
+        Node::Or(first) => Ok(Node::Or(*first)),
+        Node::If(condition) => Ok(Node::If(*condition)),
+        Node::Choose(condition, next) => Ok(Node::Choose(*condition, *next)),
     }
 }
 
-/// Appends the parts to the nodes, their goals made in the store with their variables standing for these words, which are those
-/// numbered from some number on. The errors: the store is full, or memory was refused.
+/// Appends the parts to the nodes, their goals made in the store with these words for their variables. The errors: the store is
+/// full, or memory was refused.
 pub fn copy_parts<S: Store>(
     store: &mut S,
     nodes: &mut Vec<Node<S::Word>>,
     parts: &[Node<Term>],
     variables: &[S::Word],
 ) -> Result<(), StoreFault>
-    requires fits { PartsFit (length variables.now) (trees_of parts.now) }
-    requires variables { (first : ℕ) × AreVariables (S.present store.old) variables.now (numbers_from first (length variables.now)) }
-    ensures copies { (first : ℕ) → AreVariables (S.present store.old) variables.now (numbers_from first (length variables.now))
-        → OnOk result (Copies (S.present store.new) nodes.old.items nodes.new.items (renamed_nodes first (trees_of parts.now))) }
+    requires fits { PartsFit (length variables.now) parts.now }
+    requires variables { All (λ w. Holds (S.present store.old) w) variables.now }
+    ensures copies { OnOk result (Copies (S.present store.new) (word_terms (S.present store.old) variables.now) nodes.old.items nodes.new.items parts.now) }
     ensures extends { OnOk result (Extends (S.present store.old) (S.present store.new) 0) }
     ensures full { result ≡ Err StoreFault.Full → S.full store.new }
     ensures nodes { Adds nodes.old.items nodes.new.items }
@@ -121,7 +122,7 @@ pub fn enter<S: Store>(
     requires goal { Holds (S.present store.old) goal }
     requires room { (S.present store.old).next + clause.now.variables < 2 ^ 63 }
     requires head_fits { Fits clause.now.variables (term_of clause.now.head) }
-    requires parts_fit { PartsFit clause.now.variables (trees_of clause.now.parts.items) }
+    requires parts_fit { PartsFit clause.now.variables clause.now.parts.items }
     ensures enters { IfOk result (Enters (S.present store.old) (S.present store.new) nodes.old.items nodes.new.items
         ((S.present store.old).term goal) clause.now) }
     ensures full { result ≡ Err StoreFault.Full → S.full store.new }

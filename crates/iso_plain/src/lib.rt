@@ -9,8 +9,11 @@ pub mod clauses;
 pub mod procedures;
 // the engine's parts, and its moves
 pub mod calls;
+pub mod control;
 pub mod ends;
 pub mod entries;
+pub mod goals;
+pub mod locals;
 pub mod moves;
 pub mod parts;
 pub mod plain;

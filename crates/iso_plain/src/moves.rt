@@ -1,16 +1,16 @@
 //! The engine's moves: each is some steps of the standard's search (7.7).
-ghost use Rattle.std.specs.Prelude.{◌≡◌, ◌<◌, ◌≤◌, ◌+◌, true, false, IfOk, OnOk, OnErr, Ok, List, ◌∷◌, length, Err};
+ghost use Rattle.std.specs.Prelude.{◌≡◌, ◌≢◌, ℕ, ◌<◌, ◌≤◌, ◌+◌, true, false, IfOk, OnOk, OnErr, Ok, List, ◌∷◌, length, Err};
 ghost use Rattle.iso_model.specs.Terms.Trees.{Tree};
 ghost use Rattle.iso_model.specs.Search.Databases as databases;
 ghost use Rattle.iso_model.specs.Search.Databases.{Procedures};
 ghost use Rattle.iso_plain.specs.Kept.{IsClause};
 ghost use Rattle.iso_plain.specs.Programs.{IsDatabase};
-ghost use Rattle.iso_plain.specs.EngineStates.{left_at, clauses_at_place};
-ghost use Rattle.iso_model.specs.Search.Walker.{State, Member, Alternative, tried, tried_clause, with_others};
+ghost use Rattle.iso_plain.specs.EngineStates.{left_at, went_back, clauses_at_place};
+ghost use Rattle.iso_model.specs.Search.Walker.{State, Member, Alternative, AsIs, Again, pushed, tried, tried_clause, with_others};
 
 use super::clauses::Clause;
 use super::entries;
-use super::parts::{Attempt, Choice, behind};
+use super::parts::{Attempt, Choice, Left, Now, at, behind, keep_choice};
 use super::plain::{Move, Plain};
 use super::procedures::Procedure;
 use iso_model::Pause;
@@ -37,11 +37,13 @@ fn clause_count(procedures: &[Procedure], place: usize) -> usize
 }
 
 impl<S: Store + Drop> Plain<S> {
-    ghost use Rattle.iso_plain.specs.EngineStates.{IsBase, IsEngine, Represents, Keeps, Stopped, Calls, WentBack, Moves, Falls, Retries, WasRefused, clauses_left, most_clauses, weight, phase_of, settings_of};
+    ghost use Rattle.iso_plain.specs.EngineStates.{IsBase, IsEngine, Represents, Keeps, Stopped, Calls, WentBack, Moves, Falls, Retries, WasRefused, choices_cost, cost, now_cost, weight, phase_of, settings_of};
+    ghost use Rattle.iso_plain.specs.Costs.{body_cost, left_cost, most, rest_cost, frame_costs};
     ghost use Rattle.iso_plain.specs.Stays.{Stays};
     ghost use Rattle.iso_model.specs.Search.Engines.{IsAwake};
     ghost use Rattle.iso_plain.specs.Limits.{ResultMet, ResultFull};
     ghost use Rattle.iso_plain.specs.declared.parts.Now.TheVariants as now;
+    ghost use Rattle.iso_plain.specs.declared.parts.Left.TheVariants as left;
 
     /// Enters the clause, with this cut mark; where its head doesn't unify with the goal the engine fails next (7.7.10).
     pub(crate) fn enter(&mut self, attempt: Attempt<S::Word>, mark: usize) -> Result<(), StoreFault>
@@ -57,6 +59,8 @@ impl<S: Store + Drop> Plain<S> {
         ensures awake { OnOk result (IsAwake (phase_of self.new.now)) }
         ensures full { result ≡ Err StoreFault.Full → S.full self.new.store }
         ensures choices { self.new.choices ≡ self.old.choices }
+        ensures frames { self.new.frames ≡ self.old.frames }
+        ensures cost { OnOk result (now_cost (frame_costs self.old.frames.items) self.new.now ≤ body_cost most (rest_cost (frame_costs self.old.frames.items) attempt.rest)) }
         ensures stays { Stays self.old self.new }
     {
         let clause = clause_at(
@@ -83,6 +87,9 @@ impl<S: Store + Drop> Plain<S> {
             × (s.stack ≡ a ∷ below) × WentBack S.present S.stands S.older self.new result s a below }
         ensures steps { self.new.steps ≡ self.old.steps }
         ensures choices { self.new.choices ≡ self.old.choices }
+        ensures now { self.new.now ≡ self.old.now }
+        ensures costs { choices_cost self.old.procedures.items (frame_costs self.new.frames.items) self.old.choices.items
+            ≡ choices_cost self.old.procedures.items (frame_costs self.old.frames.items) self.old.choices.items }
         ensures stays { Stays self.old self.new }
     {
         let choice = self.choices[self.choices.len() - 1];
@@ -104,40 +111,42 @@ impl<S: Store + Drop> Plain<S> {
             → OnErr result (Keeps S.present S.stands S.older self.new s.world s.stack) }
         ensures steps { self.new.steps ≡ self.old.steps }
         ensures count { length self.new.choices.items ≤ length self.old.choices.items + 1 }
-        ensures fewer { clauses_left self.old.procedures.items self.new.choices.items + 1
-            ≤ clauses_left self.old.procedures.items self.old.choices.items + most_clauses self.old.procedures.items }
+        ensures frames_same { self.new.frames ≡ self.old.frames }
+        ensures costs { choices_cost self.old.procedures.items (frame_costs self.old.frames.items) self.new.choices.items
+            ≤ choices_cost self.old.procedures.items (frame_costs self.old.frames.items) self.old.choices.items + left_cost most (rest_cost (frame_costs self.old.frames.items) attempt.rest) }
         ensures limit { self.new.limit ≡ self.old.limit }
         ensures settings { settings_of self.new ≡ settings_of self.old }
         ensures procedures { self.new.procedures ≡ self.old.procedures }
     {
-        let mark = self.store.mark();
-        let nodes = self.nodes.len();
-        let frames = self.frames.len();
         let clause = attempt.clause + 1;
-        self.choices.push(Choice {
-            mark,
-            nodes,
-            frames,
-            attempt: Attempt { clause, ..attempt },
-        })?;
+        keep_choice(
+            &mut self.store,
+            &mut self.choices,
+            Left::Clauses(Attempt { clause, ..attempt }),
+            self.nodes.len(),
+            self.frames.len(),
+        )?;
         Ok(())
     }
 
     /// Leaves the newest choice at its next clause, or takes it away where this is its last one; how many stand below it.
-    pub(crate) fn leave_choice(&mut self, choice: Choice<S::Word, S::Mark>) -> usize
+    fn leave_choice(&mut self, choice: Choice<S::Word, S::Mark>, attempt: Attempt<S::Word>) -> usize
         requires some { 0 < length self.old.choices.items }
+        requires left { choice.left ≡ left.Clauses attempt }
         requires back { (s : State) × (a : Alternative) × (below : List Alternative) × WentBack S.present S.stands S.older self.old choice s a below }
         ensures calls { (s : State) (a : Alternative) (below : List Alternative) → WentBack S.present S.stands S.older self.old choice s a below
-            → Retries S.present S.stands S.older self.new choice.attempt s a below }
+            → Retries S.present S.stands S.older self.new attempt s a below }
         ensures below { result + 1 ≡ length self.old.choices.items }
         ensures steps { self.new.steps ≡ self.old.steps }
         ensures stays { Stays self.old self.new }
-        ensures fewer { clauses_left self.old.procedures.items self.new.choices.items + 1 ≤ clauses_left self.old.procedures.items self.old.choices.items }
+        ensures frames { self.new.frames ≡ self.old.frames }
+        ensures costs { choices_cost self.old.procedures.items (frame_costs self.old.frames.items) self.new.choices.items + (body_cost most (rest_cost (frame_costs self.old.frames.items) attempt.rest) + 1)
+            ≤ choices_cost self.old.procedures.items (frame_costs self.old.frames.items) self.old.choices.items }
     {
         let newest = self.choices.len() - 1;
-        let next = choice.attempt.clause + 1;
-        if next < clause_count(self.procedures.as_slice(), choice.attempt.procedure) {
-            self.choices[newest].attempt.clause = next;
+        let clause = attempt.clause + 1;
+        if clause < clause_count(self.procedures.as_slice(), attempt.procedure) {
+            self.choices[newest].left = Left::Clauses(Attempt { clause, ..attempt });
         } else {
             self.choices.truncate(newest);
             self.store.forget(choice.mark);
@@ -145,7 +154,42 @@ impl<S: Store + Drop> Plain<S> {
         newest
     }
 
-    /// Goes on with the newest choice's next clause; where there is no choice the run ends (7.7.8).
+    /// Goes on with the members from this place on, which the newest choice kept, and takes the choice away (7.8.6).
+    fn go_on(&mut self, choice: Choice<S::Word, S::Mark>, place: Option<usize>)
+        requires some { 0 < length self.old.choices.items }
+        requires left { choice.left ≡ left.AsIs place }
+        requires back { (s : State) × (a : Alternative) × (below : List Alternative) × WentBack S.present S.stands S.older self.old choice s a below }
+        ensures goes { (s : State) (a : Alternative) (below : List Alternative) → WentBack S.present S.stands S.older self.old choice s a below
+            → (a.left ≡ AsIs) × IsEngine S.present S.stands S.older self.new (went_back a below s) }
+        ensures awake { IsAwake (phase_of self.new.now) }
+        ensures steps { self.new.steps ≡ self.old.steps }
+        ensures stays { Stays self.old self.new }
+        ensures costs { cost self.new < choices_cost self.old.procedures.items (frame_costs self.old.frames.items) self.old.choices.items }
+    {
+        self.choices.truncate(self.choices.len() - 1);
+        self.store.forget(choice.mark);
+        self.now = at(self.frames.as_slice(), place);
+    }
+
+    /// Goes on with the members from this place on, which the newest choice keeps on; this takes a step (8.15.3).
+    fn go_again(&mut self, choice: Choice<S::Word, S::Mark>, place: Option<usize>)
+        requires some { 0 < length self.old.choices.items }
+        requires left { choice.left ≡ left.Again place }
+        requires steps { self.old.steps ≢ 0 }
+        requires back { (s : State) × (a : Alternative) × (below : List Alternative) × WentBack S.present S.stands S.older self.old choice s a below }
+        ensures goes { (s : State) (a : Alternative) (below : List Alternative) → WentBack S.present S.stands S.older self.old choice s a below
+            → (a.left ≡ Again) × IsEngine S.present S.stands S.older self.new (record (pushed a.list Again (went_back a below s)) { steps = self.new.steps }) }
+        ensures awake { IsAwake (phase_of self.new.now) }
+        ensures step { self.new.steps + 1 ≡ self.old.steps }
+        ensures stays { Stays self.old self.new }
+        ensures costs { cost self.new ≤ choices_cost self.old.procedures.items (frame_costs self.old.frames.items) self.old.choices.items
+            + choices_cost self.old.procedures.items (frame_costs self.old.frames.items) self.old.choices.items }
+    {
+        self.steps -= 1;
+        self.now = at(self.frames.as_slice(), place);
+    }
+
+    /// Goes on with what is left at the newest choice; where there is no choice the run ends (7.7.8).
     pub(crate) fn fail(&mut self) -> Result<Move, StoreFault>
         requires represents { (s : State) × Represents S.present S.stands S.older self.old s }
         requires failing { self.old.now ≡ now.Failing }
@@ -161,9 +205,26 @@ impl<S: Store + Drop> Plain<S> {
             return Ok(Move::Pauses(Pause::NoMore));
         }
         let choice = self.go_back();
-        let below = self.leave_choice(choice);
-        self.enter(choice.attempt, below)?;
-        Ok(Move::Goes)
+        let left = choice.left;
+        match left {
+            Left::AsIs(place) => {
+                self.go_on(choice, place);
+                Ok(Move::Goes)
+            }
+            Left::Again(_) if self.steps == 0 => {
+                self.clear();
+                Ok(Move::Pauses(Pause::Budget))
+            }
+            Left::Again(place) => {
+                self.go_again(choice, place);
+                Ok(Move::Goes)
+            }
+            Left::Clauses(attempt) => {
+                let below = self.leave_choice(choice, attempt);
+                self.enter(attempt, below)?;
+                Ok(Move::Goes)
+            }
+        }
     }
 
     /// Keeps the call's later clauses as a choice where there are any (7.7.8); false where no choice may be made any more.
@@ -183,8 +244,9 @@ impl<S: Store + Drop> Plain<S> {
             → (self.old.limit ≤ length self.old.choices.items) × (0 < length cs) }
         ensures steps { self.new.steps ≡ self.old.steps }
         ensures stays { Stays self.old self.new }
-        ensures fewer { clauses_left self.old.procedures.items self.new.choices.items + 1
-            ≤ clauses_left self.old.procedures.items self.old.choices.items + most_clauses self.old.procedures.items }
+        ensures frames_same { self.new.frames ≡ self.old.frames }
+        ensures costs { choices_cost self.old.procedures.items (frame_costs self.old.frames.items) self.new.choices.items
+            ≤ choices_cost self.old.procedures.items (frame_costs self.old.frames.items) self.old.choices.items + left_cost most (rest_cost (frame_costs self.old.frames.items) attempt.rest) }
     {
         let count = clause_count(self.procedures.as_slice(), attempt.procedure);
         if attempt.clause + 1 >= count {
@@ -216,8 +278,8 @@ impl<S: Store + Drop> Plain<S> {
         ensures full { result ≡ Err StoreFault.Full → S.full self.new.store }
         ensures steps { self.new.steps ≡ self.old.steps }
         ensures stays { Stays self.old self.new }
-        ensures fewer { clauses_left self.old.procedures.items self.new.choices.items + 1
-            ≤ clauses_left self.old.procedures.items self.old.choices.items + most_clauses self.old.procedures.items }
+        ensures costs { result ≡ Ok true → cost self.new ≤ choices_cost self.old.procedures.items (frame_costs self.old.frames.items) self.old.choices.items
+            + left_cost most (rest_cost (frame_costs self.old.frames.items) attempt.rest) + body_cost most (rest_cost (frame_costs self.old.frames.items) attempt.rest) }
     {
         let mark = self.choices.len();
         if !self.push_choice(attempt)? {

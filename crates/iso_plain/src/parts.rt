@@ -1,15 +1,30 @@
 //! The engine's parts: the members of the list of goals, and choices.
-ghost use Rattle.std.specs.Prelude.{◌≡◌, ◌<◌, length};
-ghost use Rattle.iso_plain.specs.Next.{IsPlace, now_behind, now_entered, now_replied};
+ghost use Rattle.std.specs.Prelude.{◌≡◌, ◌+◌, ◌≤◌, ◌++◌, ◌∷◌, [], IfOk, OnOk, OnErr, length};
+ghost use Rattle.iso_store_core.specs.Presents.{KeepsMarks};
+ghost use Rattle.iso_plain.specs.Next.{IsPlace, now_behind, now_entered};
+ghost use Rattle.iso_plain.specs.Standing.{GainsChoice};
 
 use super::entries::Entered;
 use iso_model::Limit;
+use iso_store_core::Store;
+use std::alloc::AllocError;
 
-/// A body that is still to be run: the place of its node, its cut mark (how many choices stood when it came), and the
-/// place of the member behind it.
+/// What a member of the list of goals asks for.
+#[derive(Clone, Copy)]
+pub enum Todo {
+    /// To run the body at this place of the nodes.
+    Body(usize),
+    /// To take the choices away that were made since so many stood as the mark says.
+    CutBack,
+    /// To go back to the newest choice.
+    Fail,
+}
+
+/// A member of the list of goals, with its cut mark (how many choices stood when it came), and the place of the member
+/// behind it.
 #[derive(Clone, Copy)]
 pub struct Frame {
-    pub body: usize,
+    pub todo: Todo,
     pub mark: usize,
     pub next: Option<usize>,
 }
@@ -23,7 +38,18 @@ pub struct Attempt<W> {
     pub rest: Option<usize>,
 }
 
-/// Clauses that are left to be tried for a goal, and what to go back to first.
+/// What is left to be tried at a choice.
+#[derive(Clone, Copy)]
+pub enum Left<W> {
+    /// The members from this place on, as they are.
+    AsIs(Option<usize>),
+    /// The members from this place on, again and again (8.15.3).
+    Again(Option<usize>),
+    /// The clauses from this one on.
+    Clauses(Attempt<W>),
+}
+
+/// What is left to be tried, and what to go back to first.
 #[derive(Clone, Copy)]
 pub struct Choice<W, M> {
     pub mark: M,
@@ -31,8 +57,7 @@ pub struct Choice<W, M> {
     pub nodes: usize,
     /// How many frames stood when it was made.
     pub frames: usize,
-    /// The next clause to be entered.
-    pub attempt: Attempt<W>,
+    pub left: Left<W>,
 }
 
 /// What the engine does next.
@@ -44,7 +69,7 @@ pub enum Now {
     Failing,
     /// No member is left: give an answer.
     Answering,
-    /// Run this body.
+    /// Do what this member asks for.
     Running(Frame),
     /// Raise the ball that was kept.
     Raising,
@@ -72,21 +97,46 @@ pub(crate) fn behind(frames: &[Frame], entered: Entered, mark: usize, rest: Opti
         Entered::Missed => Now::Failing,
         Entered::Fact => at(frames, rest),
         Entered::Body(body) => Now::Running(Frame {
-            body,
+            todo: Todo::Body(body),
             mark,
             next: rest,
         }),
     }
 }
 
-/// What to do behind a goal that went on, or failed, with the place of the member behind it.
-pub(crate) fn replied(frames: &[Frame], goes_on: bool, next: Option<usize>) -> Now
-    requires { IsPlace frames.now next }
-    ensures { result ≡ now_replied frames.now goes_on next }
+/// Appends the frame; the answer is its place. The error is that memory was refused.
+pub(crate) fn push_frame(frames: &mut Vec<Frame>, frame: Frame) -> Result<usize, AllocError>
+    ensures place { IfOk result (λ place. place ≡ length frames.old.items) }
+    ensures pushed { OnOk result (frames.new.items ≡ frames.old.items ++ frame ∷ []) }
+    ensures kept { OnErr result (frames.new.items ≡ frames.old.items) }
 {
-    if goes_on {
-        at(frames, next)
-    } else {
-        Now::Failing
-    }
+    let place = frames.len();
+    frames.push(frame)?;
+    Ok(place)
+}
+
+/// Appends a choice at which this is left to be tried, with a mark of the store as it is; so many nodes and frames stand. The
+/// error is that memory was refused.
+pub(crate) fn keep_choice<S: Store>(
+    store: &mut S,
+    choices: &mut Vec<Choice<S::Word, S::Mark>>,
+    left: Left<S::Word>,
+    nodes: usize,
+    frames: usize,
+) -> Result<(), AllocError>
+    ensures present { S.present store.new ≡ S.present store.old }
+    ensures marks { KeepsMarks (S.stands store.old) (S.stands store.new) }
+    ensures gains { OnOk result (GainsChoice (S.stands store.old) (S.stands store.new) S.older (S.present store.old) nodes frames left
+        choices.old.items choices.new.items) }
+    ensures kept { OnErr result (choices.new.items ≡ choices.old.items) }
+    ensures count { length choices.new.items ≤ length choices.old.items + 1 }
+{
+    let mark = store.mark();
+    choices.push(Choice {
+        mark,
+        nodes,
+        frames,
+        left,
+    })?;
+    Ok(())
 }

@@ -1,27 +1,31 @@
-//! The engine's move at a body: a conjunction is taken apart, a goal takes a step of the budget (7.7.4 to 7.7.7).
-ghost use Rattle.std.specs.Prelude.{◌≡◌, ◌+◌, ◌*◌, ◌<◌, ◌≤◌, IfOk, OnErr, List, ◌∷◌, length, Some};
-ghost use Rattle.std.specs.List.{slice_get};
+//! The engine's move at a member of the list of goals: a goal takes a step of the budget (7.7.4 to 7.7.7), a control construct none.
+ghost use Rattle.std.specs.Prelude.{◌≡◌, ◌≢◌, ℕ, suc, ◌+◌, ◌<◌, ◌≤◌, IfOk, OnErr, List, ◌∷◌, length};
 ghost use Rattle.iso_model.specs.Terms.Trees.{Tree};
 ghost use Rattle.iso_model.specs.Search.Databases as databases;
 ghost use Rattle.iso_model.specs.Search.Walker.{State, Member, tried, with_others};
 ghost use Rattle.iso_model.specs.Search.Runs.{ComesOver};
+ghost use Rattle.iso_store_core.specs.Presents.{meaning};
+ghost use Rattle.iso_plain.specs.Called.{IsBuiltIn};
 ghost use Rattle.iso_plain.specs.declared.bodies.Node.TheVariants as node;
 
 use super::bodies::Node;
 use super::calls::Called;
-use super::parts::{Attempt, Frame, Now, replied};
+use super::parts::{Attempt, Frame, Now, Todo, at};
 use super::plain::{Move, Plain};
-use super::replies;
-use iso_model::{Limit, Pause};
+use super::replies::{self, Replied};
+use iso_model::{BuiltIn, Limit, Pause};
 use iso_store_core::{Store, StoreFault};
 
 impl<S: Store + Drop> Plain<S> {
-    ghost use Rattle.iso_plain.specs.EngineStates.{Represents, Stopped, WasRefused, Moves, Falls, Calls, WasCalled, weight, body_weight, most_clauses};
+    ghost use Rattle.iso_plain.specs.EngineStates.{Represents, Stopped, WasRefused, Moves, Falls, Calls, WasCalled, choices_cost, cost, weight};
+    ghost use Rattle.iso_plain.specs.Costs.{rest_cost, frame_costs, whole_cost};
+    ghost use Rattle.iso_plain.specs.Standing.{IsAt};
     ghost use Rattle.iso_plain.specs.Stays.{Stays};
     ghost use Rattle.iso_plain.specs.Limits.{ResultMet, ResultFull};
     ghost use Rattle.iso_plain.specs.declared.parts.Now.TheVariants as now;
+    ghost use Rattle.iso_plain.specs.declared.parts.Todo.TheVariants as todo;
 
-    /// Runs the body of the frame. The errors: the store is full, or memory was refused.
+    /// Does what the frame asks for. The errors: the store is full, or memory was refused.
     pub(crate) fn run(&mut self, frame: Frame) -> Result<Move, StoreFault>
         requires now { self.old.now ≡ now.Running frame }
         requires stands { (s : State) × Represents S.present S.stands S.older self.old s }
@@ -33,44 +37,44 @@ impl<S: Store + Drop> Plain<S> {
         ensures met { ResultMet S.full result self.new }
         ensures stays { Stays self.old self.new }
     {
-        match self.nodes[frame.body] {
-            Node::Run(goal) => self.run_goal(frame, goal),
-            Node::And(distance) => self.take_apart(frame, distance),
+        match frame.todo {
+            Todo::Body(place) => self.run_body(frame, place),
+            Todo::CutBack => Ok(self.cut(frame)),
+            Todo::Fail => {
+                self.now = Now::Failing;
+                Ok(Move::Goes)
+            }
         }
     }
 
-    /// Takes the conjunction apart: its second body comes before what is behind it, its first one is run next (7.8.5). The error
-    /// is that memory was refused.
-    fn take_apart(&mut self, frame: Frame, distance: usize) -> Result<Move, StoreFault>
+    /// Runs the body at this place of the nodes, which the frame asks for. The errors are those of `run`.
+    fn run_body(&mut self, frame: Frame, place: usize) -> Result<Move, StoreFault>
         requires now { self.old.now ≡ now.Running frame }
+        requires body { frame.todo ≡ todo.Body place }
         requires stands { (s : State) × Represents S.present S.stands S.older self.old s }
-        requires node { slice_get self.old.nodes.items frame.body ≡ Some (node.And distance) }
         ensures moves { (s : State) → Represents S.present S.stands S.older self.old s
             → IfOk result (λ m. Moves S.present S.stands S.older m s self.new) }
         ensures stopped { (s : State) → Represents S.present S.stands S.older self.old s → OnErr result (Stopped S.present S.stands S.older self.new s) }
         ensures falls { IfOk result (λ m. Falls m (weight self.old) (weight self.new)) }
-        ensures frames { ResultFull ⊥ result }
+        ensures frames { (s : State) → Represents S.present S.stands S.older self.old s → ResultFull (ComesOver self.old.limit s) result }
         ensures met { ResultMet S.full result self.new }
         ensures stays { Stays self.old self.new }
     {
-        let second = self.frames.len();
-        self.frames.push(Frame {
-            body: frame.body - 1,
-            ..frame
-        })?;
-        self.now = Now::Running(Frame {
-            body: frame.body - distance,
-            mark: frame.mark,
-            next: Some(second),
-        });
-        Ok(Move::Goes)
+        match self.nodes[place] {
+            Node::Run(goal) => self.run_goal(frame, place, goal),
+            Node::Cut => Ok(self.cut(frame)),
+            Node::And(distance) => self.take_apart(frame, place, distance),
+            Node::Or(distance) => self.take_either(frame, place, distance),
+            Node::If(distance) => self.take_condition(frame, place, distance),
+            Node::Choose(condition, next) => self.choose(frame, place, condition, next),
+        }
     }
 
     /// Runs the goal of the frame's body. The errors: the store is full, or memory was refused.
-    fn run_goal(&mut self, frame: Frame, goal: S::Word) -> Result<Move, StoreFault>
+    fn run_goal(&mut self, frame: Frame, place: usize, goal: S::Word) -> Result<Move, StoreFault>
         requires now { self.old.now ≡ now.Running frame }
+        requires there { IsAt self.old.nodes.items frame place (node.Run goal) }
         requires stands { (s : State) × Represents S.present S.stands S.older self.old s }
-        requires node { slice_get self.old.nodes.items frame.body ≡ Some (node.Run goal) }
         ensures moves { (s : State) → Represents S.present S.stands S.older self.old s
             → IfOk result (λ m. Moves S.present S.stands S.older m s self.new) }
         ensures stopped { (s : State) → Represents S.present S.stands S.older self.old s → OnErr result (Stopped S.present S.stands S.older self.new s) }
@@ -84,14 +88,10 @@ impl<S: Store + Drop> Plain<S> {
             return Ok(Move::Pauses(Pause::Budget));
         }
         let called = self.called(goal)?;
-        self.steps -= 1;
         match called {
-            Called::BuiltIn(built_in) => {
-                let goes_on = replies::reply(&mut self.store, built_in, goal)?;
-                self.now = replied(self.frames.as_slice(), goes_on, frame.next);
-                Ok(Move::Goes)
-            }
+            Called::BuiltIn(built_in) => self.run_built_in(frame, place, built_in, goal),
             Called::Fails => {
+                self.steps -= 1;
                 self.now = Now::Failing;
                 Ok(Move::Goes)
             }
@@ -99,12 +99,65 @@ impl<S: Store + Drop> Plain<S> {
                 self.clear();
                 Ok(Move::Pauses(Pause::Uncaught(ball)))
             }
-            Called::User(procedure) => self.call_first(Attempt {
-                procedure,
-                clause: 0,
-                goal,
-                rest: frame.next,
-            }),
+            Called::User(procedure) => {
+                self.steps -= 1;
+                self.call_first(Attempt {
+                    procedure,
+                    clause: 0,
+                    goal,
+                    rest: frame.next,
+                })
+            }
+        }
+    }
+
+    /// Runs the goal of the frame's body, which is one of this built-in. The errors: the store is full, or memory was refused.
+    fn run_built_in(
+        &mut self,
+        frame: Frame,
+        place: usize,
+        built_in: BuiltIn,
+        goal: S::Word,
+    ) -> Result<Move, StoreFault>
+        requires now { self.old.now ≡ now.Running frame }
+        requires there { IsAt self.old.nodes.items frame place (node.Run goal) }
+        requires steps { self.old.steps ≢ 0 }
+        requires built_in { IsBuiltIn (meaning (S.present self.old.store) goal) built_in }
+        requires stands { (s : State) × Represents S.present S.stands S.older self.old s }
+        ensures moves { (s : State) → Represents S.present S.stands S.older self.old s
+            → IfOk result (λ m. Moves S.present S.stands S.older m s self.new) }
+        ensures stopped { (s : State) → Represents S.present S.stands S.older self.old s → OnErr result (Stopped S.present S.stands S.older self.new s) }
+        ensures falls { IfOk result (λ m. Falls m (weight self.old) (weight self.new)) }
+        ensures frames { (s : State) → Represents S.present S.stands S.older self.old s → ResultFull (ComesOver self.old.limit s) result }
+        ensures met { ResultMet S.full result self.new }
+        ensures stays { Stays self.old self.new }
+    {
+        let replied = replies::reply(self.alloc, &mut self.store, &mut self.nodes, built_in, goal)?;
+        self.steps -= 1;
+        match replied {
+            Replied::GoesOn => {
+                self.now = at(self.frames.as_slice(), frame.next);
+                Ok(Move::Goes)
+            }
+            Replied::Fails => {
+                self.now = Now::Failing;
+                Ok(Move::Goes)
+            }
+            Replied::Raises(ball) => {
+                self.clear();
+                Ok(Move::Pauses(Pause::Uncaught(ball)))
+            }
+            Replied::Calls(body) => {
+                self.now = Now::Running(Frame {
+                    todo: Todo::Body(body),
+                    mark: self.choices.len(),
+                    next: frame.next,
+                });
+                Ok(Move::Goes)
+            }
+            Replied::CallsOnce(body) => self.call_once(body, frame.next),
+            Replied::Refutes(body) => self.refute(body, frame.next),
+            Replied::Repeats => self.repeat(frame.next),
         }
     }
 
@@ -118,7 +171,8 @@ impl<S: Store + Drop> Plain<S> {
         ensures kept { (s : State) (call : Tree) (c : databases.Clause) (cs : List databases.Clause) (behind : List Member)
             → Calls S.present S.stands S.older self.old attempt s call c cs behind
             → OnErr result (WasRefused S.present S.stands S.older self.new s (with_others call cs behind s)) }
-        ensures falls { IfOk result (λ m. Falls m (weight self.old + body_weight * (most_clauses self.old.procedures.items + 1)) (weight self.new)) }
+        ensures falls { (w : ℕ) → choices_cost self.old.procedures.items (frame_costs self.old.frames.items) self.old.choices.items
+            + rest_cost (frame_costs self.old.frames.items) attempt.rest ≤ w → IfOk result (λ m. Falls m (whole_cost (suc self.old.steps) w) (weight self.new)) }
         ensures frames { (s : State) (call : Tree) (c : databases.Clause) (cs : List databases.Clause) (behind : List Member)
             → Calls S.present S.stands S.older self.old attempt s call c cs behind
             → ResultFull ((self.old.limit ≤ length self.old.choices.items) × (0 < length cs)) result }

@@ -1,51 +1,27 @@
 //! How an engine is made, and how a goal is started and a clause added (7.5, 7.7).
-ghost use Rattle.std.specs.Prelude.{◌≡◌, ◌<◌, ◌^◌, vec_len, IfOk, OnOk, OnErr, Some, true, [], Err};
-ghost use Rattle.iso_model.specs.Terms.Trees.{arities_fit};
+ghost use Rattle.std.specs.Prelude.{◌≡◌, ◌<◌, ◌^◌, IfOk, OnOk, OnErr, None, true, [], Err};
+ghost use Rattle.iso_model.specs.Terms.Trees.{Tree, arities_fit};
 ghost use Rattle.iso_model.specs.Terms.TermOf.{term_of};
-ghost use Rattle.iso_model.specs.Terms.Variables.{variable_count};
 ghost use Rattle.iso_model.specs.Terms.Copies.{IsNumbered};
-ghost use Rattle.iso_model.specs.Search.Bodies.{Body, converted};
+ghost use Rattle.iso_model.specs.Search.Bodies.{converted};
 ghost use Rattle.iso_model.specs.Search.Additions.{consulted};
 ghost use Rattle.iso_model.specs.Search.Walker.{World, first_world, idle, started};
-ghost use Rattle.iso_plain.specs.Nodes.{layout, trees_of};
 
-use super::bodies::{self, BodyFault, Node};
-use super::parts::{Frame, Now};
+use super::parts::{Frame, Now, Todo};
 use super::plain::Plain;
-use super::{balls, clauses, entries, procedures};
-use iso_model::{AddFault, Numbering, Term, copied};
+use super::{balls, bodies, clauses, entries, procedures};
+use iso_model::{AddFault, Term};
 use iso_ops::{Flags, OpTable};
+use iso_prep::{Fault, Prepared};
 use iso_store_core::{Store, StoreFault};
 use std::alloc::{AllocError, Global};
-
-/// The places of the term's distinct variables: 0, 1, ..
-fn variable_places(alloc: Global, term: &Term) -> Result<Vec<u64>, AllocError>
-    ensures { IfOk result (λ places. vec_len places ≡ variable_count (term_of term.now)) }
-{
-    let mut seen = Numbering::new(alloc);
-    seen.note_all(alloc, term)?;
-    let mut places = Vec::new(alloc);
-    for place in 0..seen.len() {
-        places.push(place as u64)?;
-    }
-    Ok(places)
-}
-
-/// How many distinct variables the term has.
-fn count_variables(alloc: Global, term: &Term) -> Result<usize, AllocError>
-    ensures count { IfOk result (λ n. n ≡ variable_count (term_of term.now)) }
-    ensures few { IfOk result (λ n. n < 2 ^ 60) }
-{
-    let places = variable_places(alloc, term)?;
-    Ok(places.as_slice().len())
-}
 
 impl<S: Store + Drop> Plain<S> {
     ghost use Rattle.iso_plain.specs.Limits.{IsWithin};
     ghost use Rattle.iso_model.specs.Terms.Trees.{Variable};
     ghost use Rattle.iso_plain.specs.Stays.{Stays};
     ghost use Rattle.iso_plain.specs.EngineStates.{IsEngine, Represents, Keeps, StandsFor, phase_of};
-    ghost use Rattle.iso_plain.specs.Starts.{IsFresh, Comes};
+    ghost use Rattle.iso_plain.specs.Starts.{IsQuery, IsFresh, Comes};
     ghost use Rattle.iso_model.specs.Search.Engines.{Ready, Midway};
     ghost use Rattle.iso_plain.specs.declared.parts.Now.TheVariants.{Idle};
 
@@ -80,16 +56,15 @@ impl<S: Store + Drop> Plain<S> {
         })
     }
 
-    /// Keeps the error of the query that can't be converted (7.6.2), raised by `call/1`.
-    fn raise_query(&mut self, query: &Term) -> Result<(), AllocError>
-        requires { converted (term_of query.now) ≡ None }
+    /// Keeps the error of the query that can't be converted (7.6.2), raised by `call/1`; the culprit is all of it.
+    fn raise_query(&mut self, culprit: Term) -> Result<(), AllocError>
+        requires { converted (term_of culprit) ≡ None }
         ensures started { OnOk result ((w : World) → IsFresh S.present S.stands S.older self.old w
-            → Represents S.present S.stands S.older self.new (started (term_of query.now) self.old.steps w)) }
+            → Represents S.present S.stands S.older self.new (started (term_of culprit) self.old.steps w)) }
         ensures kept { (w : World) → IsFresh S.present S.stands S.older self.old w → OnErr result (Keeps S.present S.stands S.older self.new w []) }
         ensures midway { OnOk result (phase_of self.new.now ≡ Midway) }
         ensures stays { Stays self.old self.new }
     {
-        let culprit = copied(self.alloc, query)?;
         let ball = balls::not_callable(self.alloc, culprit, "call", 1)?;
         self.raised = Some(ball);
         self.now = Now::Raising;
@@ -97,30 +72,29 @@ impl<S: Store + Drop> Plain<S> {
     }
 
     /// Copies the parts of the query, its variables new in the store, to be run next. The errors: the store is full, or memory was refused.
-    fn place_query(&mut self, query: &Term, parts: &[Node<Term>]) -> Result<(), StoreFault>
-        requires fits { arities_fit (term_of query.now) ≡ true }
-        requires numbered { IsNumbered (term_of query.now) }
-        requires parts { (b : Body) × (converted (term_of query.now) ≡ Some b) × (trees_of parts.now ≡ layout b) }
+    fn place_query(&mut self, query: &Prepared) -> Result<(), StoreFault>
+        requires query { (t : Tree) × IsQuery query.now t }
         requires next { (S.present self.old.store).next ≡ 0 }
         requires steps { self.old.steps < 2 ^ 32 }
-        ensures started { OnOk result ((w : World) → IsFresh S.present S.stands S.older self.old w
-            → Represents S.present S.stands S.older self.new (started (term_of query.now) self.old.steps w)) }
+        ensures started { OnOk result ((t : Tree) (w : World) → IsQuery query.now t → IsFresh S.present S.stands S.older self.old w
+            → Represents S.present S.stands S.older self.new (started t self.old.steps w)) }
         ensures kept { (w : World) → IsFresh S.present S.stands S.older self.old w → OnErr result (Keeps S.present S.stands S.older self.new w []) }
         ensures midway { OnOk result (phase_of self.new.now ≡ Midway) }
         ensures full { result ≡ Err StoreFault.Full → S.full self.new.store }
         ensures stays { Stays self.old self.new }
     {
-        let count = count_variables(self.alloc, query)?;
+        let parts = bodies::parts_of(self.alloc, query)?;
+        let count = query.variables();
         let variables = entries::new_variables(self.alloc, &mut self.store, count)?;
         entries::copy_parts(
             &mut self.store,
             &mut self.nodes,
-            parts,
+            parts.as_slice(),
             variables.as_slice(),
         )?;
         self.query = variables;
         self.now = Now::Running(Frame {
-            body: self.nodes.len() - 1,
+            todo: Todo::Body(self.nodes.len() - 1),
             mark: 0,
             next: None,
         });
@@ -142,11 +116,11 @@ impl<S: Store + Drop> Plain<S> {
         ensures stays { Stays self.old self.new }
     {
         self.steps = budget;
-        let mut parts = Vec::new(self.alloc);
-        match bodies::append_body(self.alloc, goal, &mut parts) {
-            Ok(()) => self.place_query(goal, parts.as_slice()),
-            Err(BodyFault::NotCallable) => Ok(self.raise_query(goal)?),
-            Err(BodyFault::NoMemory) => Err(StoreFault::NoMemory),
+        match iso_prep::prepare_goal(self.alloc, goal) {
+            Ok(query) => self.place_query(&query),
+            Err(Fault::Callable(culprit)) => Ok(self.raise_query(culprit)?),
+            Err(Fault::NoMemory) => Err(StoreFault::NoMemory),
+            Err(Fault::Instantiation | Fault::TooManyVariables) => unreachable!(),
         }
     }
 

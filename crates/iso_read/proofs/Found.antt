@@ -4,10 +4,7 @@ use Rattle.iso_ops.specs.declared.specifiers.Spec.{Spec}
 use Rattle.iso_ops.specs.declared.specifiers.Kind.{Kind}
 use Rattle.iso_ops.specs.Operators.{Operator, operator, find_op, priority_and_spec}
 use Rattle.iso_model.proofs.Syntax.MarkLemmas.{found_name}
-
--- an entry with the name that was looked for
-abbrev pub named_so : List ℕ → ℕ × Spec → Operator
-named_so name x = operator x.0 x.1 name
+use Rattle.iso_read.specs.Views.{named_so}
 
 found_by : (kind : Kind) (name : List ℕ) (table : List Operator) (o : Option Operator) → find_op kind name table ≡ o → option_map (named_so name) (option_map priority_and_spec o) ≡ o
 found_by kind name table None is = refl

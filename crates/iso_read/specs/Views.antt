@@ -1,6 +1,7 @@
 -- What clauses see of the reader's types.
-use Rattle.std.specs.Prelude.{ℕ, map}
+use Rattle.std.specs.Prelude.{ℕ, List, map}
 use Rattle.std.specs.String.{string_bytes}
+use Rattle.iso_ops.specs.declared.specifiers.Spec.{Spec}
 use Rattle.iso_ops.specs.Operators as operators
 use Rattle.iso_model.specs.Syntax.Grammar as grammar
 use Rattle.iso_model.specs.Syntax.Reading as reading
@@ -15,6 +16,10 @@ use Rattle.iso_read.specs.declared.node.Row.{Row}
 -- the operator that a Rust operator is
 abbrev pub operator_of : Operator → operators.Operator
 operator_of o = operators.operator o.priority o.spec (string_bytes o.name)
+
+-- an operator with this name, and this priority and specifier
+abbrev pub named_so : List ℕ → ℕ × Spec → operators.Operator
+named_so name x = operators.operator x.0 x.1 name
 
 abbrev pub following_of : Following → reading.Following
 following_of (following.Between o) = reading.Between (operator_of o)

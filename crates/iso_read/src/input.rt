@@ -1,21 +1,29 @@
 //! What is left of a clause while it is read.
-ghost use Rattle.std.specs.Prelude.{◌≡◌, ◌<◌, ◌++◌, [], ◌∷◌, length, map, not, position, nat_lt, if◌then◌else◌, IfOk, MatchOption};
+ghost use Rattle.std.specs.Prelude.{◌≡◌, ◌<◌, ◌++◌, [], ◌∷◌, length, map, not, position, nat_lt, if◌then◌else◌, option_map, IfSome, IfOk, MatchOption};
 ghost use Rattle.std.specs.Str.{bytes_eq};
 ghost use Rattle.std.specs.String.{string_bytes};
 ghost use Rattle.iso_model.specs.Syntax.Grammar as model;
+ghost use Rattle.iso_model.specs.Syntax.Reading as reading;
 ghost use Rattle.iso_model.specs.Syntax.Reading.{rest};
+ghost use Rattle.iso_model.specs.Syntax.Token.{content};
+ghost use Rattle.iso_read.specs.Views.{following_of};
 ghost use Rattle.iso_token.specs.Shows.{shown};
 
+use crate::language::Language;
 use crate::names::Names;
+use crate::operators::{Following, operator_at};
 use iso_token::{Kind, Token};
 use std::alloc::{AllocError, Global};
 use std::marker::Model;
+use std::mem;
 
-/// The tokens that are left of a clause, and the names of the variables so far.
+/// The tokens that are left of a clause, and the names of the variables so far. What the first token stands for is kept once
+/// it was asked for, since each term that ends before it asks.
 #[derive(Drop)]
 pub struct Input<'c> {
     tokens: &'c [Token<'c>],
     names: Names<'c>,
+    content: Option<String>,
 }
 
 impl<'c> Model for Input<'c> {
@@ -23,9 +31,11 @@ impl<'c> Model for Input<'c> {
 
     ghost Value = { Left };
 
-    ghost use Rattle.iso_read.specs.Cursor.{left_of};
+    ghost use Rattle.iso_read.specs.Cursor.{left_of, KeepsContent};
 
     ghost view = { left_of };
+
+    ghost invariant = { λ input. KeepsContent input.content input.tokens.now };
 }
 
 /// Whether the token is this mark of punctuation.
@@ -57,6 +67,17 @@ pub fn negates(unquoted: bool, name: &str, tokens: &[Token<'_>]) -> bool
     }
 }
 
+/// What the token stands for, which may be known.
+fn content_of(alloc: Global, known: Option<String>, token: &Token<'_>) -> Result<String, AllocError>
+    requires { IfSome known (λ text. string_bytes text ≡ content (shown token.now)) }
+    ensures { IfOk result (λ text. string_bytes text ≡ content (shown token.now)) }
+{
+    match known {
+        Some(text) => Ok(text),
+        None => token.content(alloc),
+    }
+}
+
 impl<'c> Input<'c> {
     /// These tokens, and no variable so far.
     pub fn new(alloc: Global, tokens: &'c [Token<'c>]) -> Input<'c>
@@ -65,16 +86,24 @@ impl<'c> Input<'c> {
         Input {
             tokens,
             names: Names::new(alloc),
+            content: None,
         }
     }
 
-    /// The next token, which is left where it is.
-    pub fn peek(&self) -> Option<Token<'c>>
-        ensures { MatchOption result (self.now.tokens ≡ []) (λ t. self.now ≡ model.before (shown t) (rest self.now)) }
+    /// The infix or postfix operator that the next token is.
+    pub fn following(&mut self, language: Language<'_>) -> Result<Option<Following>, AllocError>
+        ensures found { IfOk result (λ found. option_map following_of found ≡ reading.next_operator language.entry.ops.now language.entry.flags.now self.old.tokens) }
+        ensures same { self.new ≡ self.old }
     {
         match self.tokens {
-            [] => None,
-            [first, ..] => Some(*first),
+            [] => Ok(None),
+            [first, ..] => {
+                let kept = mem::replace(&mut self.content, None);
+                let content = content_of(language.alloc, kept, first)?;
+                let found = operator_at(language, first, content.as_str());
+                self.content = Some(content);
+                found
+            }
         }
     }
 
@@ -93,6 +122,7 @@ impl<'c> Input<'c> {
         match self.tokens {
             [] => None,
             [first, rest @ ..] => {
+                self.content = None;
                 self.tokens = rest;
                 Some(*first)
             }
@@ -106,6 +136,7 @@ impl<'c> Input<'c> {
     {
         match self.tokens {
             [first, rest @ ..] if is_mark(first, mark) => {
+                self.content = None;
                 self.tokens = rest;
                 true
             }
@@ -132,7 +163,7 @@ impl<'c> Input<'c> {
     pub fn into_names(self, alloc: Global) -> Result<Vec<(String, u64)>, AllocError>
         ensures { IfOk result (λ numbered. map (λ entry. (string_bytes entry.0, entry.1)) numbered.items ≡ model.numbered 0 self.entry.names) }
     {
-        let Input { tokens: _, names } = self;
+        let Input { names, .. } = self;
         names.numbered(alloc)
     }
 }

@@ -4,14 +4,15 @@ ghost use Rattle.std.specs.String.{string_bytes};
 ghost use Rattle.iso_model.specs.Syntax.Grammar as grammar;
 ghost use Rattle.iso_model.specs.Syntax.Operators as model;
 ghost use Rattle.iso_model.specs.Syntax.Reading as reading;
-ghost use Rattle.iso_read.specs.Views.{operator_of, following_of};
+ghost use Rattle.iso_model.specs.Syntax.Token.{content};
+ghost use Rattle.iso_read.specs.Views.{operator_of, following_of, named_so};
 ghost use Rattle.iso_token.specs.Shows.{shown};
 
 use crate::input::{is_mark, negates, opens_arguments};
 use crate::language::Language;
-use iso_ops::{OpTable, Spec};
+use iso_ops::Spec;
 use iso_token::{Kind, Token};
-use std::alloc::AllocError;
+use std::alloc::{AllocError, Global};
 
 /// An operator, with its name.
 #[derive(Debug, Drop)]
@@ -40,57 +41,66 @@ pub fn operator_in(following: &Following) -> &Operator
     }
 }
 
-/// The infix operator of this name.
-#[tactic(auto, using(crate::proofs::Found::found_at))]
-fn infix_named(ops: &OpTable, name: String) -> Option<Operator>
-    ensures { option_map operator_of result ≡ model.infix_named ops.now (string_bytes name) }
+/// The operator of this name with what the table has of it, if it has any.
+fn with_name(
+    alloc: Global,
+    name: &str,
+    entry: Option<(u16, Spec)>,
+) -> Result<Option<Operator>, AllocError>
+    ensures { IfOk result (λ found. option_map operator_of found ≡ option_map (named_so name.now) entry) }
 {
-    let (priority, spec) = ops.infix(&name)?;
-    Some(Operator {
-        name,
-        priority,
-        spec,
-    })
-}
-
-/// The infix or postfix operator of this name.
-#[tactic(auto, using(crate::proofs::Found::found_at))]
-fn following_named(language: Language<'_>, name: String) -> Option<Following>
-    ensures { option_map following_of result ≡ reading.following_by language.entry.ops.now language.entry.flags.now (model.infix_named language.entry.ops.now (string_bytes name)) (model.postfix_named language.entry.ops.now (string_bytes name)) }
-{
-    let ops = language.ops;
-    if let Some((priority, spec)) = ops.infix(&name) {
-        return Some(Following::Between(Operator {
-            name,
-            priority,
-            spec,
-        }));
-    }
-    let (priority, spec) = ops.postfix(&name)?;
-    Some(Following::Behind(Operator {
+    let Some((priority, spec)) = entry else {
+        return Ok(None);
+    };
+    let name = String::from_str(alloc, name)?;
+    Ok(Some(Operator {
         name,
         priority,
         spec,
     }))
 }
 
-/// The infix or postfix operator that the token is.
+/// The infix operator of this name.
+#[tactic(auto, using(crate::proofs::Found::found_at))]
+fn infix_named(language: Language<'_>, name: &str) -> Result<Option<Operator>, AllocError>
+    ensures { IfOk result (λ found. option_map operator_of found ≡ model.infix_named language.entry.ops.now name.now) }
+{
+    with_name(language.alloc, name, language.ops.infix(name))
+}
+
+/// The postfix operator of this name.
+#[tactic(auto, using(crate::proofs::Found::found_at))]
+fn postfix_named(language: Language<'_>, name: &str) -> Result<Option<Operator>, AllocError>
+    ensures { IfOk result (λ found. option_map operator_of found ≡ model.postfix_named language.entry.ops.now name.now) }
+{
+    with_name(language.alloc, name, language.ops.postfix(name))
+}
+
+/// The infix or postfix operator of this name.
+fn following_named(language: Language<'_>, name: &str) -> Result<Option<Following>, AllocError>
+    ensures { IfOk result (λ found. option_map following_of found ≡ reading.following_by language.entry.ops.now language.entry.flags.now (model.infix_named language.entry.ops.now name.now) (model.postfix_named language.entry.ops.now name.now)) }
+{
+    if let Some(operator) = infix_named(language, name)? {
+        return Ok(Some(Following::Between(operator)));
+    }
+    Ok(postfix_named(language, name)?.map(Following::Behind))
+}
+
+/// The infix or postfix operator that the token is, which stands for this text.
 #[inline(never)]
 pub fn operator_at(
     language: Language<'_>,
     token: &Token<'_>,
+    text: &str,
 ) -> Result<Option<Following>, AllocError>
+    requires { text.now ≡ content (shown token.now) }
     ensures { IfOk result (λ found. option_map following_of found ≡ reading.following_by language.entry.ops.now language.entry.flags.now (grammar.infix_at language.entry.ops.now (shown token.now)) (grammar.postfix_at language.entry.ops.now (shown token.now))) }
 {
     match token.kind {
-        Kind::Name | Kind::Quoted => {
-            let name = token.content(language.alloc)?;
-            Ok(following_named(language, name))
-        }
+        Kind::Name | Kind::Quoted => following_named(language, text),
         Kind::Punct => {
             if token.text == "," {
-                let name = token.content(language.alloc)?;
-                Ok(infix_named(language.ops, name).map(Following::Between))
+                Ok(infix_named(language, text)?.map(Following::Between))
             } else {
                 Ok(None)
             }

@@ -18,7 +18,7 @@ use crate::input::{Input, is_mark, negates, opens_arguments};
 use crate::language::Language;
 use crate::lists::{list_before, nil};
 use crate::node::{Node, Row, applied, closed, fits, in_braces, joined, right_of};
-use crate::operators::{Following, Operator, begins, operator_at, operator_in};
+use crate::operators::{Following, Operator, begins, operator_in};
 use crate::simple::{integer, negative, quoted, variable};
 use iso_model::{MAX_ARITY, Term};
 use iso_token::{Kind, Token};
@@ -305,14 +305,12 @@ fn operator_behind(
     language: Language<'_>,
     most: u16,
     left: &Node,
-    input: &Input<'_>,
+    input: &mut Input<'_>,
 ) -> Result<Option<Following>, AllocError>
-    ensures { IfOk result (λ found. option_map following_of found ≡ reading.operator_behind language.entry.ops.now language.entry.flags.now most (node_of left.now) input.now) }
+    ensures found { IfOk result (λ found. option_map following_of found ≡ reading.operator_behind language.entry.ops.now language.entry.flags.now most (node_of left.now) input.old) }
+    ensures same { input.new ≡ input.old }
 {
-    let Some(token) = input.peek() else {
-        return Ok(None);
-    };
-    let Some(found) = operator_at(language, &token)? else {
+    let Some(found) = input.following(language)? else {
         return Ok(None);
     };
     if fits(most, left, operator_in(&found)) {

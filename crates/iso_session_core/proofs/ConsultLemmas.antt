@@ -1,5 +1,5 @@
 -- What consulting a term comes to.
-use Rattle.std.proofs.Common.{◌≡◌, ℕ, zero, suc, ◌+◌, ◌-◌, ◌≤◌, ◌<◌, min, true, false, List, [], ◌∷◌, ◌++◌, length, codes, Option, Some, None, Result, Err, IfSome, refl, ap, ap₂, subst, ◌∙◌, arith}
+use Rattle.std.proofs.Common.{◌≡◌, ℕ, zero, suc, ◌+◌, ◌-◌, ◌≤◌, ◌<◌, min, true, false, List, [], ◌∷◌, ◌++◌, length, codes, Option, Some, None, Result, Ok, Err, IfSome, refl, ap, ap₂, subst, ◌∙◌, arith}
 use Rattle.std.specs.Fmt.{decimal}
 use Rattle.iso_model.specs.Terms.Trees.{Tree}
 use Rattle.iso_model.specs.Terms.TermOf.{term_of}
@@ -55,6 +55,13 @@ skipped budget Stands May now old new count k t w next r stands ready counts is 
 -- any other term is a clause
 pub not_skipped : (k : ℕ) (t : Tree) (w : World) (next : World → Script) → is_skipped t ≡ false → read_script k t w next ≡ added_script k (consulted t w.database) w next
 not_skipped k t w next is = rw is refl
+
+-- the clause was added
+pub added : (budget : ℕ) (Stands : State → Type 0) (May : Limit → State → Type 0) (now : Phase) (at : Place) (k : ℕ) (a : Addition) (w : World) (next : World → Script)
+    → Consults a (idle w) (Ok tt) Stands → now ≡ Ready → Does budget Stands May now at at (added_script k a w next) next (Ok flow.On)
+added budget Stands May now at k (Adds db) w next c ready =
+    record { at = record w { database = db }; stands = c; ready = ready; advances = advance_none at (next (record w { database = db })) }
+added budget Stands May now at k (Refuses error) w next c ready = absurd c
 
 -- the clause was refused with this ball, where these are the operators of what the engine stands for
 pub refused : (budget : ℕ) (Stands : State → Type 0) (May : Limit → State → Type 0) (table : List Operator) → ((t : State) → Stands t → table ≡ t.world.operators) → (now : Phase) (old new : Place) (count k : ℕ) (a : Addition) (w : World) (ball : Ball) (next : World → Script) (r : Result Flow Fault)

@@ -10,6 +10,8 @@ mod numbering;
 #[cfg(test)]
 mod ops;
 #[cfg(test)]
+mod prep;
+#[cfg(test)]
 mod read;
 #[cfg(test)]
 mod read_texts;

@@ -229,7 +229,7 @@ pub const ROWS: &[Row] = &[
         budget: None,
         cells: None,
         frames: None,
-        output: "end: error error(type_error(callable,1),call/1)\nend: error error(type_error(callable,(a,2)),call/1)\nend: error error(existence_error(procedure,call/1),call/1)\n",
+        output: "end: error error(type_error(callable,1),call/1)\nend: error error(type_error(callable,(a,2)),call/1)\nend: error error(instantiation_error,call/1)\n",
         status: 0,
     },
     Row {
@@ -603,13 +603,13 @@ pub const ROWS: &[Row] = &[
         status: 0,
     },
     Row {
-        name: "a cut is an unknown procedure yet",
+        name: "a body that is a cut",
         text: "a :- ! .",
         queries: "a.",
         budget: None,
         cells: None,
         frames: None,
-        output: "end: error error(existence_error(procedure,!/0),!/0)\n",
+        output: "answer 1: true\nend: no more\n",
         status: 0,
     },
 ];

@@ -6,21 +6,12 @@ use Rattle.iso_model.specs.Terms.Variables.{occurs}
 use Rattle.iso_model.specs.Terms.Substitutions.{Subst, apply, compose, Extends, BindsToOlder, IsSubstitution}
 use Rattle.iso_model.specs.Terms.Unifiers.{Unifier, NeverEqual, IsUnifierOf}
 use Rattle.iso_model.specs.Terms.UnifierLaws.{StaysBelow, AllBelow, Concerns, UnifiesUnder, NeverEqualUnder}
-use Rattle.iso_model.specs.Terms.Unification.{answer_of, unifier_of, unify_under}
+use Rattle.iso_model.specs.Terms.Unification.{unifier_of, unifier_of_is, unify_under}
 use Rattle.iso_model.specs.Terms.Unification.Applied.{apply_apply, apply_none, apply_alone, apply_absorbs, occurs_from}
 use Rattle.iso_model.specs.Terms.Unification.Composed.{variable_from, unifier_sym, unifier_apply, unifier_more, never_sym, never_apply, never_first, never_rest}
 use Rattle.iso_model.specs.Terms.Unification.Bindings.{unifier_leaves, unifier_brings, unifier_fixes}
 use Rattle.iso_model.specs.Terms.Unification.Unique.{unifier_unique}
-use Rattle.iso_model.specs.Terms.Unification.Exists.{Answer, solved_unifier, exists_or_not, alone_or_not}
-
-answer_is : (a b : Tree) (found : Answer a b) → IsUnifierOf a b (answer_of found)
-answer_is a b (inl found) = solved_unifier found.1
-answer_is a b (inr never) = never
-
--- it is their unifier, or they are never equal
-pub unifier_of_is : (a b : Tree) → IsUnifierOf a b (unifier_of a b)
-unfolding unifier_of
-unifier_of_is a b = answer_is a b (exists_or_not a b)
+use Rattle.iso_model.specs.Terms.Unification.Exists.{alone_or_not}
 
 -- two answers for the same terms are the same
 pub answers_same : (a b : Tree) (o p : Option Subst) → IsUnifierOf a b o → IsUnifierOf a b p → o ≡ p

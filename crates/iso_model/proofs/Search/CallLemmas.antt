@@ -10,7 +10,7 @@ use Rattle.iso_model.specs.Search.Bodies.{map_body}
 use Rattle.iso_model.specs.Search.Databases.{Clause}
 use Rattle.iso_model.specs.Search.Walker.{State, Member, Fail, Alternative, Goes, before, under, entered, equated, replied, clause_size, with_others, tried, tried_clause, fails}
 use Rattle.iso_model.specs.Search.BuiltIns.{Equates}
-use Rattle.iso_model.proofs.OnTerms.UnifierLemmas.{unifier_of_is}
+use Rattle.iso_model.specs.Terms.Unification.{unifier_of_is}
 
 answer_same : (a b : Tree) (u : Subst) (found : Option Subst) → Unifier a b u → IsUnifierOf a b found → found ≡ Some u
 answer_same a b u (Some s) h k = ap Some (unifier_unique a b s u k h)

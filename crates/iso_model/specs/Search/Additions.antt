@@ -37,27 +37,33 @@ pub data Check : Type 0 where
   Fits : (procedure : Key) → (body : Body) → Check
   Faulty : (fault : ClauseFault) → Check
 
-abbrev pub checked_user : Key → Body → Check
-checked_user k b = if is_built_in k then Faulty (NotUser k) else Fits k b
-
-abbrev pub checked_small : Tree → Key → Body → Check
-checked_small t k b = if nat_lt most_variables (variable_count t) then Faulty TooManyVariables else checked_user k b
+abbrev pub prepared_small : Tree → Key → Body → Check
+prepared_small t k b = if nat_lt most_variables (variable_count t) then Faulty TooManyVariables else Fits k b
 
 -- with the converted body of the clause with its variables numbered, where it can be converted
-abbrev pub checked_body : Tree → Key → Option Body → Check
-checked_body t k None = Faulty (NotCallable (body_of t))
-checked_body t k (Some b) = checked_small t k b
+abbrev pub prepared_body : Tree → Key → Option Body → Check
+prepared_body t k None = Faulty (NotCallable (body_of t))
+prepared_body t k (Some b) = prepared_small t k b
 
 -- with the key of its head, where the head is callable
-abbrev pub checked_head : Tree → Tree → Option Key → Check
-checked_head t (Variable n) k = Faulty UnboundHead
-checked_head t h None = Faulty (NotCallable h)
-checked_head t h (Some k) = checked_body t k (converted (body_of (copy_from t 0)))
+abbrev pub prepared_head : Tree → Tree → Option Key → Check
+prepared_head t (Variable n) k = Faulty UnboundHead
+prepared_head t h None = Faulty (NotCallable h)
+prepared_head t h (Some k) = prepared_body t k (converted (body_of (copy_from t 0)))
 
--- The checks are made in this order: a head that is a variable, a head that is a number, a body that can't be converted, too many variables,
--- a built-in procedure.
+-- What a clause is whatever procedures there are. The checks are made in this order: a head that is a variable, a head that is a number, a body
+-- that can't be converted, too many variables.
+abbrev pub prepared : Tree → Check
+prepared t = prepared_head t (head_of t) (key_of (head_of t))
+
+-- no clause is added to a procedure of the language itself
+abbrev pub user_checked : Check → Check
+user_checked (Fits k b) = if is_built_in k then Faulty (NotUser k) else Fits k b
+user_checked (Faulty fault) = Faulty fault
+
+-- all checks, that of the procedure last
 abbrev pub checked : Tree → Check
-checked t = checked_head t (head_of t) (key_of (head_of t))
+checked t = user_checked (prepared t)
 
 -- the error that this procedure raises for the fault
 abbrev pub fault_error : Key → ClauseFault → Tree

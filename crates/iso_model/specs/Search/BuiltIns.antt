@@ -1,17 +1,24 @@
 -- The procedures of the language itself (ISO/IEC 13211-1:1995, 7.8 and 8): one table says which there are, and one function what a goal of
 -- each comes to.
-use Rattle.std.specs.Prelude.{List, [], ◌∷◌, Bool, true, false, ◌||◌, Option, Some, None, codes, if◌then◌else◌}
-use Rattle.iso_model.specs.Terms.Trees.{Tree}
+use Rattle.std.specs.Prelude.{nat_lt, List, [], ◌∷◌, Bool, true, false, ◌||◌, Option, Some, None, codes, if◌then◌else◌}
+use Rattle.iso_model.specs.Terms.Trees.{Tree, Variable}
 use Rattle.iso_model.specs.Terms.Substitutions.{Subst}
 use Rattle.iso_model.specs.Terms.Unification.{unifier_of}
 use Rattle.iso_model.specs.Search.Keys.{Key, key, same_key}
-use Rattle.iso_model.specs.Terms.Arguments.{argument}
+use Rattle.iso_model.specs.Terms.Arguments.{argument, arguments, arity, others, with_arguments}
+use Rattle.iso_model.specs.Search.Bodies.{Body, converted}
+use Rattle.iso_model.specs.Search.Errors.{instantiation_error, type_error_callable, max_arity_error}
 use Rattle.iso_model.specs.declared.built_ins.BuiltIn.{BuiltIn}
-use Rattle.iso_model.specs.declared.built_ins.BuiltIn.TheVariants.{True, Fail, Unify, Differ}
+use Rattle.iso_model.specs.declared.built_ins.BuiltIn.TheVariants.{True, Fail, Unify, Differ, Call, Once, Not, Repeat}
 
 -- the built-ins by name and arity
 abbrev pub built_ins : List (Key × BuiltIn)
-built_ins = (key (codes "true") 0, True) ∷ (key (codes "fail") 0, Fail) ∷ (key (codes "=") 2, Unify) ∷ (key (codes "\\=") 2, Differ) ∷ []
+built_ins =
+    (key (codes "true") 0, True) ∷ (key (codes "fail") 0, Fail) ∷ (key (codes "false") 0, Fail) ∷ (key (codes "repeat") 0, Repeat)
+    ∷ (key (codes "call") 1, Call) ∷ (key (codes "call") 2, Call) ∷ (key (codes "call") 3, Call) ∷ (key (codes "call") 4, Call)
+    ∷ (key (codes "call") 5, Call) ∷ (key (codes "call") 6, Call) ∷ (key (codes "call") 7, Call) ∷ (key (codes "call") 8, Call)
+    ∷ (key (codes "once") 1, Once) ∷ (key (codes "\\+") 1, Not)
+    ∷ (key (codes "=") 2, Unify) ∷ (key (codes "\\=") 2, Differ) ∷ []
 
 abbrev pub built_in_among : List (Key × BuiltIn) → Key → Option BuiltIn
 built_in_among [] k = None
@@ -27,7 +34,7 @@ is_some_built_in (Some b) = true
 
 -- the control constructs that bodies are converted through: no goal is one
 abbrev pub is_control : Key → Bool
-is_control k = same_key (key (codes ",") 2) k
+is_control k = same_key (key (codes ",") 2) k || (same_key (key (codes ";") 2) k || (same_key (key (codes "->") 2) k || same_key (key (codes "!") 0) k))
 
 -- whether this is the key of a built-in or of a control construct, which no clause may be added to
 abbrev pub is_built_in : Key → Bool
@@ -38,15 +45,43 @@ pub data Reply : Type 0 where
   Fails : Reply
   Succeeds : Reply
   Equates : (left : Tree) → (right : Tree) → Reply
+  -- this error is thrown
+  Raises : (error : Tree) → Reply
+  -- this goal is run, and a cut in it is local to it
+  Calls : (goal : Body) → Reply
+  -- the same, for its first solution
+  CallsOnce : (goal : Body) → Reply
+  -- the same, and it succeeds where the goal has no solution
+  Refutes : (goal : Body) → Reply
+  -- it succeeds each time that it is tried
+  Repeats : Reply
 
 -- nothing is bound where terms have a unifier or have none
 abbrev pub differ : Option Subst → Reply
 differ None = Succeeds
 differ (Some u) = Fails
 
--- what this goal of the built-in comes to (7.8.1, 7.8.2, 8.2.1, 8.2.3)
+-- a goal is run in this way where it can be converted; else this procedure raises an error
+abbrev pub converted_reply : (Body → Reply) → Option Body → Tree → Key → Reply
+converted_reply runs None goal k = Raises (type_error_callable goal k)
+converted_reply runs (Some b) goal k = runs b
+
+-- a goal is not to be unbound (7.8.3.3, 8.15.1.3, 8.15.2.3)
+abbrev pub goal_reply : (Body → Reply) → Tree → Key → Reply
+goal_reply runs (Variable n) k = Raises (instantiation_error k)
+goal_reply runs goal k = converted_reply runs (converted goal) goal k
+
+-- a goal to which arguments were added has at most 255 (own)
+abbrev pub called_reply : Tree → Key → Reply
+called_reply goal k = goal_reply (λ b. if nat_lt 255 (arity goal) then Raises (max_arity_error k) else Calls b) goal k
+
+-- what this goal of the built-in comes to (7.8.1 to 7.8.3, 8.2.1, 8.2.3, 8.15.1, 8.15.2, 8.15.3; call/2 to call/8 are own)
 abbrev pub reply : BuiltIn → Tree → Reply
 reply True t = Succeeds
 reply Fail t = Fails
 reply Unify t = Equates (argument 0 t) (argument 1 t)
 reply Differ t = differ (unifier_of (argument 0 t) (argument 1 t))
+reply Call t = called_reply (with_arguments (argument 0 t) (others (arguments t))) (key (codes "call") (arity t))
+reply Once t = goal_reply CallsOnce (argument 0 t) (key (codes "once") 1)
+reply Not t = goal_reply Refutes (argument 0 t) (key (codes "\\+") 1)
+reply Repeat t = Repeats

@@ -28,3 +28,7 @@ permission_error culprit k =
 
 abbrev pub max_variables_error : Key → Tree
 max_variables_error k = raised (one (codes "representation_error") (Name (codes "max_variables"))) k
+
+-- a goal would have more than 255 arguments
+abbrev pub max_arity_error : Key → Tree
+max_arity_error k = raised (one (codes "representation_error") (Name (codes "max_arity"))) k

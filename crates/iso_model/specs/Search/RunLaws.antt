@@ -4,14 +4,18 @@ pub mod Exists
 pub mod Named
 pub mod Quiets
 pub mod Moves
+pub mod Marks
+pub mod Values
 pub mod Sameness
 pub mod SameSteps
 pub mod SameRuns
 pub mod SameLaws
-use Rattle.std.specs.Prelude.{◌≡◌}
-use Rattle.iso_model.specs.Search.Walker.{State, World, Event, Ending, Goes, Gives, Ends, step}
+use Rattle.std.specs.Prelude.{◌≡◌, ℕ}
+use Rattle.iso_model.specs.Search.Walker.{State, World, Event, Ending, Goes, Gives, Ends, step, started}
 use Rattle.iso_model.specs.Search.Runs.{Trace, Then, Stops, Run, Quiet}
+use Rattle.iso_model.specs.Terms.Trees.{Tree}
 use Rattle.iso_model.specs.Search.RunLaws.Sameness.{Same}
+use Rattle.iso_model.specs.Search.RunLaws.Marks.{IsMarked, KeepsMarked}
 pub use Rattle.iso_model.specs.Search.RunLaws.Named.{one_run, run_of, run_of_is, run_of_only}
 pub use Rattle.iso_model.specs.Search.RunLaws.Exists.{has_run}
 pub use Rattle.iso_model.specs.Search.RunLaws.Quiets.{goes_run, gives_run, ends_run, quiet_one, quiet_trans, quiet_run, comes_run, finishes_run, reaches_run, comes_behind, finishes_behind, reaches_behind, trace_length, comes_fewer}
@@ -39,3 +43,8 @@ EndingsAreTheRun = (s at : State) (e : Ending) (w : World) → Quiet s at → st
 -- States that are the same have one run: what was built, the marks that nothing reads, and how conjunctions are grouped have no part in it.
 abbrev pub SameStatesHaveOneRun : Type 0
 SameStatesHaveOneRun = (s t : State) → Same s t → run_of s ≡ run_of t
+
+-- Each cut mark is a height at which the stack stands still, and what follows a mark is marked over what the mark leaves: so it is when a goal is
+-- started, and every step keeps it.
+abbrev pub MarksStand : Type 0
+MarksStand = ((goal : Tree) (budget : ℕ) (w : World) → IsMarked (started goal budget w)) × ((s : State) → IsMarked s → KeepsMarked (step s))

@@ -1,5 +1,5 @@
 -- The standard's search, step by step (ISO/IEC 13211-1:1995, 7.7): depth first, clauses in their order, goals from left to right.
-use Rattle.std.specs.Prelude.{ℕ, zero, suc, ◌+◌, List, [], ◌∷◌, length, map, Option, Some, None, option_map, codes, if◌then◌else◌}
+use Rattle.std.specs.Prelude.{ℕ, zero, suc, ◌+◌, ◌-◌, List, [], ◌∷◌, length, drop, map, Option, Some, None, option_map, codes, if◌then◌else◌}
 use Rattle.iso_ops.specs.Operators.{Operator}
 use Rattle.iso_ops.specs.InitialOperators.{initial_entries}
 use Rattle.iso_ops.specs.declared.settings.Flags.{Flags}
@@ -12,9 +12,9 @@ use Rattle.iso_model.specs.Terms.Variables.{variables, variable_count}
 use Rattle.iso_model.specs.Terms.Substitutions.{Subst, apply, compose}
 use Rattle.iso_model.specs.Terms.Unification.{unifier_of}
 use Rattle.iso_model.specs.Terms.Copies.{renamed}
-use Rattle.iso_model.specs.Search.Bodies.{Body, Run, And, converted, body_term, map_body, is_true}
+use Rattle.iso_model.specs.Search.Bodies.{Body, Cut, Run, And, Or, If, Choose, converted, body_term, map_body, is_true}
 use Rattle.iso_model.specs.Search.Databases.{Clause, Key, Database, key, key_of, no_clauses, clauses_at}
-use Rattle.iso_model.specs.Search.BuiltIns.{Reply, Fails, Succeeds, Equates, built_in, reply}
+use Rattle.iso_model.specs.Search.BuiltIns.{Reply, Fails, Succeeds, Equates, Raises, Calls, CallsOnce, Refutes, Repeats, built_in, reply}
 use Rattle.iso_model.specs.Search.Errors.{type_error_callable, existence_error}
 use Rattle.iso_model.specs.declared.built_ins.BuiltIn.{BuiltIn}
 
@@ -30,14 +30,18 @@ pub record World : Type 0 where
 abbrev pub first_world : World
 first_world = record { database = no_clauses; operators = initial_entries; flags = initial_flags; runs = 0 }
 
--- A member of the list of goals: a goal with its cut mark (a height of the stack), failure, or a thrown ball (7.7.3, 7.8.10).
+-- A member of the list of goals: a goal with its cut mark (a height of the stack), a cut back to a height, failure, or a thrown ball
+-- (7.7.3, 7.8.4, 7.8.10).
 pub data Member : Type 0 where
   Goal : (body : Body) → (mark : ℕ) → Member
+  CutTo : (height : ℕ) → Member
   Fail : Member
   Raise : (ball : Tree) → Member
 
--- what is left to be tried at an alternative: these clauses, for this call
+-- what is left to be tried at an alternative: its goals as they are, once or again and again, or these clauses for this call
 pub data Left : Type 0 where
+  AsIs : Left
+  Again : Left
   Clauses : (call : Tree) → (clauses : List Clause) → Left
 
 -- An alternative: the goals, the substitution, the next number and what was built, as they were when it was made, and what is left to
@@ -103,8 +107,12 @@ arguments_size (Apply f ts) = size ts
 arguments_size t = 0
 
 abbrev pub body_size : Body → ℕ
+body_size Cut = 0
 body_size (Run t) = arguments_size t
 body_size (And a b) = body_size a + body_size b
+body_size (Or a b) = body_size a + body_size b
+body_size (If a b) = body_size a + body_size b
+body_size (Choose a b c) = body_size a + (body_size b + body_size c)
 
 abbrev pub clause_size : Clause → ℕ
 clause_size c = c.variables + (arguments_size c.head + body_size c.body)
@@ -128,19 +136,32 @@ abbrev pub tried_clause : Tree → Clause → ℕ → List Member → State → 
 tried_clause call c mark rest s =
     entered (under s.subst (unifier_of call (apply s.subst (renamed s.next c.head)))) c s.next mark rest (record s { next = s.next + c.variables; built = s.built + clause_size c })
 
+-- an alternative with this list, at which this is left to be tried
+abbrev pub pushed : List Member → Left → State → State
+pushed ms left s = record s { stack = record { list = ms; subst = s.subst; next = s.next; built = s.built; left = left } ∷ s.stack }
+
+-- the alternatives up to this height, the oldest ones
+abbrev pub shortened : ℕ → List Alternative → List Alternative
+shortened height stack = drop (length stack - height) stack
+
+-- a cut: the alternatives that were made since the stack had this height are taken away (7.8.4)
+abbrev pub cut_back : ℕ → List Member → State → State
+cut_back height rest s = record s { list = rest; stack = shortened height s.stack }
+
 -- the clauses behind the first are one alternative, where there are any
 abbrev pub with_others : Tree → List Clause → List Member → State → State
 with_others call [] rest s = s
-with_others call (c ∷ cs) rest s =
-    record s { stack = record { list = rest; subst = s.subst; next = s.next; built = s.built; left = Clauses call (c ∷ cs) } ∷ s.stack }
+with_others call (c ∷ cs) rest s = pushed rest (Clauses call (c ∷ cs)) s
 
 -- the clauses are tried in their order for this call
 abbrev pub tried : Tree → List Clause → List Member → State → State
 tried call [] rest s = fails s
 tried call (c ∷ cs) rest s = tried_clause call c (length s.stack) rest (with_others call cs rest s)
 
--- what is left at an alternative is tried: a further solution may be one that is paid for
+-- What is left at an alternative is tried. A further solution of `repeat` takes a step (8.15.3; that it does is own).
 abbrev pub retried : Left → State → Outcome
+retried AsIs s = Goes s
+retried Again s = paid s.steps s (Goes (pushed s.list Again s))
 retried (Clauses call cs) s = Goes (tried call cs s.list s)
 
 -- failure goes on with the newest alternative; where there is none the search ends
@@ -163,10 +184,20 @@ abbrev pub equated : Option Subst → List Member → State → State
 equated None rest s = fails s
 equated (Some u) rest s = record s { list = rest; subst = u }
 
--- a goal of a built-in comes to this
+-- what a built-in makes is the goal that it runs (own)
+abbrev pub with_goal : Body → State → State
+with_goal b s = record s { built = s.built + size (body_term b) }
+
+-- A goal of a built-in comes to this. Where it runs a goal, a cut in that is one back to the height of the stack at its call.
 abbrev pub replied : Reply → List Member → State → Outcome
 replied Fails rest s = Goes (fails s)
 replied Succeeds rest s = Goes (record s { list = rest })
+replied (Raises error) rest s = Goes (record s { list = Raise error ∷ rest })
+replied (Calls b) rest s = Goes (record (with_goal b s) { list = Goal b (length s.stack) ∷ rest })
+replied (CallsOnce b) rest s = Goes (record (with_goal b s) { list = Goal b (length s.stack) ∷ CutTo (length s.stack) ∷ rest })
+replied (Refutes b) rest s =
+    Goes (record (pushed rest AsIs (with_goal b s)) { list = Goal b (suc (length s.stack)) ∷ CutTo (length s.stack) ∷ Fail ∷ rest })
+replied Repeats rest s = Goes (record (pushed rest Again s) { list = rest })
 replied (Equates a b) rest s = Goes (equated (under s.subst (unifier_of a b)) rest (record s { built = s.built + 2 }))
 
 -- what a goal of this name and arity runs: a built-in where there is one, else a user procedure
@@ -188,13 +219,19 @@ thrown ball (m ∷ rest) s = thrown ball rest s
 abbrev pub run_value : Tree → List Member → State → Outcome
 run_value t rest s = run_goal (key_of t) t rest s
 
--- a control step, or a goal's
+-- A control step, or a goal's (7.8.4 to 7.8.8). A condition has a cut mark of its own, and its first solution is its only one.
 abbrev pub step_goal : Body → ℕ → List Member → State → Outcome
+step_goal Cut mark rest s = Goes (cut_back mark rest s)
 step_goal (And a b) mark rest s = Goes (record s { list = Goal a mark ∷ Goal b mark ∷ rest })
+step_goal (Or a b) mark rest s = Goes (record (pushed (Goal b mark ∷ rest) AsIs s) { list = Goal a mark ∷ rest })
+step_goal (If c t) mark rest s = Goes (record s { list = Goal c (length s.stack) ∷ CutTo (length s.stack) ∷ Goal t mark ∷ rest })
+step_goal (Choose c t e) mark rest s =
+    Goes (record (pushed (Goal e mark ∷ rest) AsIs s) { list = Goal c (suc (length s.stack)) ∷ CutTo (length s.stack) ∷ Goal t mark ∷ rest })
 step_goal (Run t) mark rest s = paid s.steps s (run_value (apply s.subst t) rest s)
 
 abbrev pub step_list : List Member → State → Outcome
 step_list [] s = Gives (Answered (values s)) (fails s)
+step_list (CutTo height ∷ rest) s = Goes (cut_back height rest s)
 step_list (Fail ∷ rest) s = backtracked s.stack s
 step_list (Raise ball ∷ rest) s = thrown ball rest s
 step_list (Goal b mark ∷ rest) s = step_goal b mark rest s

@@ -24,3 +24,20 @@ member i t = End
 -- the argument at this place, from 0 on
 abbrev pub argument : ℕ → Tree → Tree
 argument i t = member i (arguments t)
+
+-- the members of a list of terms behind its first
+abbrev pub others : Tree → Tree
+others (More t ts) = ts
+others t = End
+
+-- two lists of terms, one behind the other
+abbrev pub joined : Tree → Tree → Tree
+joined (More t ts) us = More t (joined ts us)
+joined t us = us
+
+-- An atom or a compound with further arguments behind its own. A variable or an integer has none, and stays as it is (own).
+abbrev pub with_arguments : Tree → Tree → Tree
+with_arguments t End = t
+with_arguments (Name a) us = Apply a us
+with_arguments (Apply f ts) us = Apply f (joined ts us)
+with_arguments t us = t

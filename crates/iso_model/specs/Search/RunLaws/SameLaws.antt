@@ -1,22 +1,25 @@
 -- The same in both directions, and one after the other.
-use Rattle.std.proofs.Common.{suc, length, ◌≡◌, ℕ, List, [], ◌∷◌, refl, sym, ap, ◌∙◌, arith}
-use Rattle.iso_model.specs.Terms.Substitutions.{Subst}
-use Rattle.iso_model.specs.Search.Bodies.{Body, Run, And}
-use Rattle.iso_model.specs.Search.Walker.{State, Member, Goal, Fail, Raise, Alternative}
-use Rattle.iso_model.specs.Search.RunLaws.Sameness.{put, flat, SameList, no_member, same_goal, same_failure, same_ball, Agree, SameStack, no_alternative, same_alternative, Beside, Same, going, failing}
+use Rattle.std.proofs.Common.{◌≡◌, ℕ, List, [], ◌∷◌, refl, sym, ap, ◌∙◌, subst, arith}
+use Rattle.iso_model.specs.Terms.Substitutions.{Subst, apply}
+use Rattle.iso_model.specs.Search.Bodies.{Body, Cut, Run, And, Or, If, Choose}
+use Rattle.iso_model.specs.Search.Walker.{State, Member, Goal, CutTo, Fail, Raise, Alternative}
+use Rattle.iso_model.specs.Search.RunLaws.SameSteps.{is_run}
+use Rattle.iso_model.specs.Search.RunLaws.Sameness.{put, flat, SameList, no_member, same_goal, same_construct, same_cut, same_failure, same_ball, Agree, SameStack, no_alternative, same_alternative, Beside, Same, going, failing}
 
 pub list_back : {r q : Subst} {ms ns : List Member} → SameList r q ms ns → SameList q r ns ms
 list_back no_member = no_member
 list_back (same_goal same others) = same_goal (sym same) (list_back others)
+list_back (same_construct same others) = same_construct (sym same) (list_back others)
+list_back (same_cut others) = same_cut (list_back others)
 list_back same_failure = same_failure
 list_back same_ball = same_ball
 
 agree_back : {r q : Subst} {vs ws : List ℕ} (n m : ℕ) → n ≡ m → Agree r q vs ws n → Agree q r ws vs m
-agree_back n m e h = record { shown = sym h.shown; beyond = λ x more. sym (h.beyond x (omega (arith, e, more))) }
+agree_back n m e h = record { shown = sym h.shown; beyond = λ x more. sym (h.beyond x (omega (arith, e, more))); twice = h.other; other = h.twice }
 
 stack_back : {vs ws : List ℕ} {xs ys : List Alternative} → SameStack vs ws xs ys → SameStack ws vs ys xs
 stack_back no_alternative = no_alternative
-stack_back (same_alternative {a = a} {b = b} agree next list left others) = same_alternative (agree_back a.next b.next next agree) (sym next) (list_back list) (sym left) (stack_back others)
+stack_back (same_alternative {a = a} {b = b} agree next list left own other others) = same_alternative (agree_back a.next b.next next agree) (sym next) (list_back list) (sym left) other own (stack_back others)
 
 beside_back : {s t : State} → Beside s t → Beside t s
 beside_back h = record { stack = stack_back h.stack; world = sym h.world; steps = sym h.steps }
@@ -28,34 +31,49 @@ same_back s t (failing ms ns is are h) = failing ns ms are is (beside_back h)
 list_on_list : {r q p : Subst} {ms ns os : List Member} → SameList r q ms ns → SameList q p ns os → SameList r p ms os
 list_on_list no_member no_member = no_member
 list_on_list (same_goal same others) (same_goal again more) = same_goal (same ∙ again) (list_on_list others more)
+list_on_list (same_construct same others) (same_construct again more) = same_construct (same ∙ again) (list_on_list others more)
+list_on_list {r} {q} {p} (same_goal {t = t} {u = u} {m = m} {ms = ms} same others) (same_construct {c = c} {m = k} {ns = os} again more) =
+    let run = is_run p (apply q u) c again in
+    subst (λ (d : Body). SameList r p (Goal (Run t) m ∷ ms) (Goal d k ∷ os)) (sym run.1) (same_goal (same ∙ run.2) (list_on_list others more))
+list_on_list {r} {q} {p} (same_construct {b = b} {m = m} {ms = ms} same others) (same_goal {t = u} {u = w} {n = k} {ns = os} again more) =
+    let run = is_run r (apply q u) b (sym same) in
+    subst (λ (d : Body). SameList r p (Goal d m ∷ ms) (Goal (Run w) k ∷ os)) (sym run.1) (same_goal (sym run.2 ∙ again) (list_on_list others more))
+list_on_list (same_cut others) (same_cut more) = same_cut (list_on_list others more)
 list_on_list same_failure same_failure = same_failure
 list_on_list same_ball same_ball = same_ball
 
 agree_on_agree : {r q p : Subst} {us vs ws : List ℕ} (n m : ℕ) → n ≡ m → Agree r q us vs n → Agree q p vs ws m → Agree r p us ws n
-agree_on_agree n m e h k = record { shown = h.shown ∙ k.shown; beyond = λ x more. h.beyond x more ∙ k.beyond x (omega (arith, e, more)) }
+agree_on_agree n m e h k = record { shown = h.shown ∙ k.shown; beyond = λ x more. h.beyond x more ∙ k.beyond x (omega (arith, e, more)); twice = h.twice; other = k.other }
 
 stack_on_stack : {us vs ws : List ℕ} {xs ys zs : List Alternative} → SameStack us vs xs ys → SameStack vs ws ys zs → SameStack us ws xs zs
 stack_on_stack no_alternative no_alternative = no_alternative
-stack_on_stack (same_alternative {a = a} {b = b} agree next list left others) (same_alternative agree' next' list' left' others') =
-    same_alternative (agree_on_agree a.next b.next next agree agree') (next ∙ next') (list_on_list list list') (left ∙ left') (stack_on_stack others others')
+stack_on_stack (same_alternative {a = a} {b = b} agree next list left own other others) (same_alternative agree' next' list' left' own' other' others') =
+    same_alternative (agree_on_agree a.next b.next next agree agree') (next ∙ next') (list_on_list list list') (left ∙ left') own other' (stack_on_stack others others')
 
 beside_on : {s t u : State} → Beside s t → Beside t u → Beside s u
 beside_on h k = record { stack = stack_on_stack h.stack k.stack; world = h.world ∙ k.world; steps = h.steps ∙ k.steps }
 
 -- a list whose goals begin with failure does so itself
 body_no_failure : (b : Body) (mark : ℕ) (ms ns : List Member) → put b mark ms ≡ Fail ∷ ns → ⊥
+body_no_failure Cut mark ms ns e = cc
 body_no_failure (Run t) mark ms ns e = cc
+body_no_failure (Or a b) mark ms ns e = cc
+body_no_failure (If c t) mark ms ns e = cc
+body_no_failure (Choose c t e) mark ms ns is = cc
 body_no_failure (And a b) mark ms ns e = body_no_failure a mark (put b mark ms) ns e
 
 failure_first : (ms ns : List Member) → flat ms ≡ Fail ∷ ns → (others : List Member) × (ms ≡ Fail ∷ others)
 failure_first [] ns e = absurd (cc)
 failure_first (Goal b mark ∷ ms) ns e = absurd (body_no_failure b mark (flat ms) ns e)
+failure_first (CutTo height ∷ ms) ns e = absurd (cc)
 failure_first (Fail ∷ ms) ns e = (ms, refl)
 failure_first (Raise ball ∷ ms) ns e = absurd (cc)
 
 fails_left : {r q : Subst} {ms ns : List Member} (others : List Member) → SameList r q ms ns → ns ≡ Fail ∷ others → (front : List Member) × (ms ≡ Fail ∷ front)
 fails_left others no_member e = absurd (cc)
 fails_left others (same_goal same more) e = absurd (cc)
+fails_left others (same_construct same more) e = absurd (cc)
+fails_left others (same_cut more) e = absurd (cc)
 fails_left others (same_failure {ms = ms}) e = (ms, refl)
 fails_left others same_ball e = absurd (cc)
 
@@ -76,7 +94,3 @@ same_on s t u (failing ms ns is are h) (failing ms' ns' is' are' h') = failing m
 pub same_beside : (s t : State) → Same s t → Beside s t
 same_beside s t (going at list) = at.beside
 same_beside s t (failing ms ns is are h) = h
-
-pub stack_length : {vs ws : List ℕ} {xs ys : List Alternative} → SameStack vs ws xs ys → length xs ≡ length ys
-stack_length no_alternative = refl
-stack_length (same_alternative agree next list left others) = ap suc (stack_length others)

@@ -1,29 +1,49 @@
 -- What steps of states that are the same come to.
-use Rattle.std.proofs.Common.{◌≡◌, ℕ, zero, suc, ◌+◌, ◌≤◌, List, [], ◌∷◌, true, false, Option, Some, None, map, length, refl, sym, ap, ◌∙◌, subst, arith, if◌then◌else◌}
+use Rattle.std.proofs.Common.{◌≡◌, ℕ, zero, suc, ◌+◌, ◌≤◌, ◌-◌, List, [], ◌∷◌, Bool, true, false, Option, Some, None, map, length, drop, refl, sym, ap, ap₂, ◌∙◌, subst, arith, if◌then◌else◌}
 use Rattle.iso_ops.specs.declared.settings.Unknown.{Unknown}
 use Rattle.iso_ops.specs.declared.settings.Unknown.TheVariants as on_unknown
 use Rattle.iso_model.specs.Terms.Trees.{Tree, Variable}
 use Rattle.iso_model.specs.Terms.Variables.{variables}
 use Rattle.iso_model.specs.Terms.Substitutions.{Subst, apply, compose}
-use Rattle.iso_model.specs.Terms.Unification.{unifier_of}
+use Rattle.iso_model.specs.Terms.Unifiers.{Unifier, IsUnifierOf}
+use Rattle.iso_model.specs.Terms.Unification.{unifier_of, unifier_of_is}
 use Rattle.iso_model.specs.Terms.Unification.Applied.{apply_apply, apply_same}
 use Rattle.iso_model.specs.Terms.Copies.{renamed}
-use Rattle.iso_model.specs.Search.Bodies.{Body, Run, And, map_body, is_true}
+use Rattle.iso_model.specs.Search.Bodies.{Body, Cut, Run, And, Or, If, Choose, map_body, is_true}
 use Rattle.iso_model.specs.Search.Databases.{Clause, Key, key_of, clauses_at}
-use Rattle.iso_model.specs.Search.BuiltIns.{Reply, Fails, Succeeds, Equates, built_in, reply}
+use Rattle.iso_model.specs.Search.BuiltIns.{Reply, Fails, Succeeds, Equates, Raises, Calls, CallsOnce, Refutes, Repeats, built_in, reply}
 use Rattle.iso_model.specs.declared.built_ins.BuiltIn.{BuiltIn}
-use Rattle.iso_model.specs.Search.Walker.{State, World, Member, Goal, Fail, Raise, Left, Clauses, Alternative, Event, Ending, Outcome, Goes, Gives, Ends, Answered, NoMore, Budget, Uncaught, charged, paid, before, entered, under, tried_clause, with_others, tried, retried, backtracked, unknown_called, called, equated, replied, selected, run_goal, run_value, thrown, fails, values, clause_size, step_list, step}
+use Rattle.iso_model.specs.Search.Walker.{State, World, Member, Goal, CutTo, Fail, Raise, Left, AsIs, Again, Clauses, Alternative, Event, Ending, Outcome, Goes, Gives, Ends, Answered, NoMore, Budget, Uncaught, charged, paid, before, entered, under, tried_clause, with_others, tried, retried, backtracked, unknown_called, called, equated, with_goal, replied, selected, run_goal, run_value, thrown, fails, values, clause_size, shortened, cut_back, pushed, step_goal, step_list, step}
 use Rattle.iso_model.specs.Search.Runs.{Quiet, here, onward}
-use Rattle.iso_model.specs.Search.RunLaws.Sameness.{put, flat, SameList, no_member, same_goal, same_failure, same_ball, Agree, SameStack, no_alternative, same_alternative, Beside, Around, Same, going, failing}
+use Rattle.iso_model.specs.Search.RunLaws.Values.{IsValue, IsOwnBody, IsOwnLeft, IsOwnReply, value_is, twice_on, reply_own}
+use Rattle.iso_model.specs.Search.RunLaws.Sameness.{put, flat, SameList, no_member, same_goal, same_construct, same_cut, same_failure, same_ball, Agree, SameStack, no_alternative, same_alternative, Beside, Around, Same, going, failing}
 
 -- ---- substitutions
 
 value_on : (r q u : Subst) (a b : Tree) → apply r a ≡ apply q b → apply (compose r u) a ≡ apply (compose q u) b
 value_on r q u a b same = sym (apply_apply r u a) ∙ ap (apply u) same ∙ apply_apply q u b
 
+-- a body under one substitution and then another
+map_body_map : (r u : Subst) (b : Body) → map_body u (map_body r b) ≡ map_body (compose r u) b
+map_body_map r u Cut = refl
+map_body_map r u (Run t) = ap Run (apply_apply r u t)
+map_body_map r u (And a b) = ap₂ And (map_body_map r u a) (map_body_map r u b)
+map_body_map r u (Or a b) = ap₂ Or (map_body_map r u a) (map_body_map r u b)
+map_body_map r u (If a b) = ap₂ If (map_body_map r u a) (map_body_map r u b)
+map_body_map r u (Choose a b c) =
+    let first = map_body_map r u a in
+    let second = map_body_map r u b in
+    let third = map_body_map r u c in
+    λ i. Choose (first i) (second i) (third i)
+
+body_on : (r q u : Subst) (a b : Body) → map_body r a ≡ map_body q b → map_body (compose r u) a ≡ map_body (compose q u) b
+body_on r q u a b same = sym (map_body_map r u a) ∙ ap (map_body u) same ∙ map_body_map q u b
+
 list_on : {r q : Subst} {ms ns : List Member} (u : Subst) → SameList r q ms ns → SameList (compose r u) (compose q u) ms ns
 list_on u no_member = no_member
 list_on {r} {q} u (same_goal {t = a} {u = b} same others) = same_goal (value_on r q u a b same) (list_on u others)
+list_on {r} {q} u (same_construct {b = a} {c = b} same others) = same_construct (body_on r q u a b same) (list_on u others)
+list_on u (same_cut others) = same_cut (list_on u others)
 list_on u same_failure = same_failure
 list_on u same_ball = same_ball
 
@@ -31,14 +51,23 @@ map_on : (r u : Subst) (vs : List ℕ) → map (compose r u) vs ≡ map (apply u
 map_on r u [] = refl
 map_on r u (v ∷ vs) = ap (λ (ts : List Tree). apply u (r v) ∷ ts) (map_on r u vs)
 
-agree_on : {r q : Subst} {vs ws : List ℕ} {n : ℕ} (u : Subst) → Agree r q vs ws n → Agree (compose r u) (compose q u) vs ws n
-agree_on {r} {q} {vs} {ws} u h = record {
+-- terms that both substitutions leave as they are
+record AreValues (r q : Subst) (a b : Tree) : Type 0 where
+  first : IsValue r a
+  second : IsValue r b
+  third : IsValue q a
+  fourth : IsValue q b
+
+agree_on : {r q : Subst} {vs ws : List ℕ} {n : ℕ} (u : Subst) (a b : Tree) → AreValues r q a b → Unifier a b u → Agree r q vs ws n → Agree (compose r u) (compose q u) vs ws n
+agree_on {r} {q} {vs} {ws} u a b are unifies h = record {
   shown = map_on r u vs ∙ (ap (map (apply u)) h.shown ∙ sym (map_on q u ws));
   beyond = λ x more. ap (apply u) (h.beyond x more);
+  twice = twice_on r u a b h.twice are.first are.second unifies;
+  other = twice_on q u a b h.other are.third are.fourth unifies;
 }
 
 agree_more : {r q : Subst} {vs ws : List ℕ} {n : ℕ} (k : ℕ) → Agree r q vs ws n → Agree r q vs ws (n + k)
-agree_more {n = n} k h = record { shown = h.shown; beyond = λ x more. h.beyond x (omega (arith, more)) }
+agree_more {n = n} k h = record { shown = h.shown; beyond = λ x more. h.beyond x (omega (arith, more)); twice = h.twice; other = h.other }
 
 -- a term whose variables are not used yet
 renamed_same : (r q : Subst) (n : ℕ) (t : Tree) → ((x : ℕ) → n ≤ x → r x ≡ q x) → apply r (renamed n t) ≡ apply q (renamed n t)
@@ -48,38 +77,120 @@ renamed_same r q n t beyond =
 
 -- ---- lists
 
-put_new : (r q : Subst) (ms ns : List Member) (n : ℕ) (b : Body) (mark mark' : ℕ) → ((x : ℕ) → n ≤ x → r x ≡ q x) → SameList r q ms ns
-    → SameList r q (put (map_body (λ k. Variable (n + k)) b) mark ms) (put (map_body (λ k. Variable (n + k)) b) mark' ns)
-put_new r q ms ns n (Run t) mark mark' beyond others = same_goal (renamed_same r q n t beyond) others
-put_new r q ms ns n (And a b) mark mark' beyond others =
-    put_new r q (put (map_body (λ k. Variable (n + k)) b) mark ms) (put (map_body (λ k. Variable (n + k)) b) mark' ns) n a mark mark' beyond (put_new r q ms ns n b mark mark' beyond others)
+-- a body whose variables are not used yet
+body_new : (r q : Subst) (n : ℕ) (b : Body) → ((x : ℕ) → n ≤ x → r x ≡ q x) → map_body r (map_body (λ k. Variable (n + k)) b) ≡ map_body q (map_body (λ k. Variable (n + k)) b)
+body_new r q n Cut beyond = refl
+body_new r q n (Run t) beyond = ap Run (renamed_same r q n t beyond)
+body_new r q n (And a b) beyond = ap₂ And (body_new r q n a beyond) (body_new r q n b beyond)
+body_new r q n (Or a b) beyond = ap₂ Or (body_new r q n a beyond) (body_new r q n b beyond)
+body_new r q n (If a b) beyond = ap₂ If (body_new r q n a beyond) (body_new r q n b beyond)
+body_new r q n (Choose a b c) beyond =
+    let first = body_new r q n a beyond in
+    let second = body_new r q n b beyond in
+    let third = body_new r q n c beyond in
+    λ i. Choose (first i) (second i) (third i)
 
-before_same : (r q : Subst) (ms ns : List Member) (n : ℕ) (b : Body) (mark mark' : ℕ) → ((x : ℕ) → n ≤ x → r x ≡ q x) → SameList r q (flat ms) (flat ns)
-    → SameList r q (flat (before (map_body (λ k. Variable (n + k)) b) mark ms)) (flat (before (map_body (λ k. Variable (n + k)) b) mark' ns))
-before_same r q ms ns n b mark mark' beyond others =
+-- what a body is that is equal under a substitution
+parts_of_and : (q : Subst) (x y c : Body) → And x y ≡ map_body q c → (a : Body) × (b : Body) × (c ≡ And a b) × (x ≡ map_body q a) × (y ≡ map_body q b)
+parts_of_and q x y (And a b) e = (a, b, refl, cc, cc)
+parts_of_and q x y Cut e = absurd (cc)
+parts_of_and q x y (Run t) e = absurd (cc)
+parts_of_and q x y (Or a b) e = absurd (cc)
+parts_of_and q x y (If a b) e = absurd (cc)
+parts_of_and q x y (Choose a b c) e = absurd (cc)
+
+parts_of_or : (q : Subst) (x y c : Body) → Or x y ≡ map_body q c → (a : Body) × (b : Body) × (c ≡ Or a b) × (x ≡ map_body q a) × (y ≡ map_body q b)
+parts_of_or q x y (Or a b) e = (a, b, refl, cc, cc)
+parts_of_or q x y Cut e = absurd (cc)
+parts_of_or q x y (Run t) e = absurd (cc)
+parts_of_or q x y (And a b) e = absurd (cc)
+parts_of_or q x y (If a b) e = absurd (cc)
+parts_of_or q x y (Choose a b c) e = absurd (cc)
+
+parts_of_if : (q : Subst) (x y c : Body) → If x y ≡ map_body q c → (a : Body) × (b : Body) × (c ≡ If a b) × (x ≡ map_body q a) × (y ≡ map_body q b)
+parts_of_if q x y (If a b) e = (a, b, refl, cc, cc)
+parts_of_if q x y Cut e = absurd (cc)
+parts_of_if q x y (Run t) e = absurd (cc)
+parts_of_if q x y (And a b) e = absurd (cc)
+parts_of_if q x y (Or a b) e = absurd (cc)
+parts_of_if q x y (Choose a b c) e = absurd (cc)
+
+parts_of_choose : (q : Subst) (x y z d : Body) → Choose x y z ≡ map_body q d → (a : Body) × (b : Body) × (c : Body) × (d ≡ Choose a b c) × (x ≡ map_body q a) × (y ≡ map_body q b) × (z ≡ map_body q c)
+parts_of_choose q x y z (Choose a b c) e = (a, b, c, refl, cc, cc, cc)
+parts_of_choose q x y z Cut e = absurd (cc)
+parts_of_choose q x y z (Run t) e = absurd (cc)
+parts_of_choose q x y z (And a b) e = absurd (cc)
+parts_of_choose q x y z (Or a b) e = absurd (cc)
+parts_of_choose q x y z (If a b) e = absurd (cc)
+
+is_cut : (q : Subst) (c : Body) → Cut ≡ map_body q c → c ≡ Cut
+is_cut q Cut e = refl
+is_cut q (Run t) e = absurd (cc)
+is_cut q (And a b) e = absurd (cc)
+is_cut q (Or a b) e = absurd (cc)
+is_cut q (If a b) e = absurd (cc)
+is_cut q (Choose a b c) e = absurd (cc)
+
+pub is_run : (q : Subst) (v : Tree) (c : Body) → Run v ≡ map_body q c → (u : Tree) × (c ≡ Run u) × (v ≡ apply q u)
+is_run q v (Run u) e = (u, refl, cc)
+is_run q v Cut e = absurd (cc)
+is_run q v (And a b) e = absurd (cc)
+is_run q v (Or a b) e = absurd (cc)
+is_run q v (If a b) e = absurd (cc)
+is_run q v (Choose a b c) e = absurd (cc)
+
+-- bodies that are equal, before lists that are the same
+pub put_alike : (r q : Subst) (ms ns : List Member) (b c : Body) (mark : ℕ) → map_body r b ≡ map_body q c → SameList r q ms ns → SameList r q (put b mark ms) (put c mark ns)
+put_alike r q ms ns (And x y) c mark same others =
+    let p = parts_of_and q (map_body r x) (map_body r y) c same in
+    subst (λ (d : Body). SameList r q (put x mark (put y mark ms)) (put d mark ns)) (sym p.2)
+    (put_alike r q (put y mark ms) (put p.1 mark ns) x p.0 mark p.3 (put_alike r q ms ns y p.1 mark p.4 others))
+put_alike r q ms ns Cut c mark same others =
+    subst (λ (d : Body). SameList r q (Goal Cut mark ∷ ms) (put d mark ns)) (sym (is_cut q c same)) (same_construct refl others)
+put_alike r q ms ns (Run t) c mark same others =
+    let p = is_run q (apply r t) c same in
+    subst (λ (d : Body). SameList r q (Goal (Run t) mark ∷ ms) (put d mark ns)) (sym p.1) (same_goal p.2 others)
+put_alike r q ms ns (Or x y) c mark same others =
+    let p = parts_of_or q (map_body r x) (map_body r y) c same in
+    subst (λ (d : Body). SameList r q (Goal (Or x y) mark ∷ ms) (put d mark ns)) (sym p.2) (same_construct (ap₂ Or p.3 p.4) others)
+put_alike r q ms ns (If x y) c mark same others =
+    let p = parts_of_if q (map_body r x) (map_body r y) c same in
+    subst (λ (d : Body). SameList r q (Goal (If x y) mark ∷ ms) (put d mark ns)) (sym p.2) (same_construct (ap₂ If p.3 p.4) others)
+put_alike r q ms ns (Choose x y z) c mark same others =
+    let p = parts_of_choose q (map_body r x) (map_body r y) (map_body r z) c same in
+    let first = p.4 in
+    let second = p.5 in
+    let third = p.6 in
+    subst (λ (d : Body). SameList r q (Goal (Choose x y z) mark ∷ ms) (put d mark ns)) (sym p.3) (same_construct (λ i. Choose (first i) (second i) (third i)) others)
+
+before_same : (r q : Subst) (ms ns : List Member) (n : ℕ) (b : Body) (mark : ℕ) → ((x : ℕ) → n ≤ x → r x ≡ q x) → SameList r q (flat ms) (flat ns)
+    → SameList r q (flat (before (map_body (λ k. Variable (n + k)) b) mark ms)) (flat (before (map_body (λ k. Variable (n + k)) b) mark ns))
+before_same r q ms ns n b mark beyond others =
     let c = map_body (λ k. Variable (n + k)) b in
-    elim (is_true c) as (λ fact. SameList r q (flat (if fact then ms else Goal c mark ∷ ms)) (flat (if fact then ns else Goal c mark' ∷ ns))) [
+    elim (is_true c) as (λ fact. SameList r q (flat (if fact then ms else Goal c mark ∷ ms)) (flat (if fact then ns else Goal c mark ∷ ns))) [
       | true ↦ others
-      | false ↦ put_new r q (flat ms) (flat ns) n b mark mark' beyond others
+      | false ↦ put_alike r q (flat ms) (flat ns) c c mark (body_new r q n b beyond) others
     ]
-
-put_same : {r : Subst} {ms ns : List Member} (b : Body) (mark : ℕ) → SameList r r ms ns → SameList r r (put b mark ms) (put b mark ns)
-put_same (Run t) mark others = same_goal refl others
-put_same (And a b) mark others = put_same a mark (put_same b mark others)
 
 pub list_same : {r : Subst} (ms : List Member) → SameList r r (flat ms) (flat ms)
 list_same [] = no_member
-list_same (Goal b mark ∷ ms) = put_same b mark (list_same ms)
+list_same {r} (Goal b mark ∷ ms) = put_alike r r (flat ms) (flat ms) b b mark refl (list_same ms)
+list_same (CutTo height ∷ ms) = same_cut (list_same ms)
 list_same (Fail ∷ ms) = same_failure
 list_same (Raise ball ∷ ms) = same_ball
 
-pub stack_same : (vs : List ℕ) (xs : List Alternative) → SameStack vs vs xs xs
-stack_same vs [] = no_alternative
-stack_same vs (a ∷ xs) = same_alternative (record { shown = refl; beyond = λ x more. refl }) refl (list_same a.list) refl (stack_same vs xs)
+pub stack_length : {vs ws : List ℕ} {xs ys : List Alternative} → SameStack vs ws xs ys → length xs ≡ length ys
+stack_length no_alternative = refl
+stack_length (same_alternative agree next list left own other others) = ap suc (stack_length others)
 
--- each state is the same as itself
-pub same_itself : (s : State) → Same s s
-same_itself s = going (record { agree = record { shown = refl; beyond = λ x more. refl }; next = refl; beside = record { stack = stack_same (variables s.query) s.stack; world = refl; steps = refl } }) (list_same s.list)
+dropped_same : {vs ws : List ℕ} {xs ys : List Alternative} (n : ℕ) → SameStack vs ws xs ys → SameStack vs ws (drop n xs) (drop n ys)
+dropped_same zero others = others
+dropped_same (suc n) no_alternative = no_alternative
+dropped_same (suc n) (same_alternative agree next list left own other others) = dropped_same n others
+
+shortened_same : {vs ws : List ℕ} {xs ys : List Alternative} (height : ℕ) → SameStack vs ws xs ys → SameStack vs ws (shortened height xs) (shortened height ys)
+shortened_same {vs} {ws} {xs} {ys} height same =
+    subst (λ (n : ℕ). SameStack vs ws (shortened height xs) (drop (n - height) ys)) (stack_length same) (dropped_same (length xs - height) same)
 
 -- ---- what steps come to
 
@@ -92,72 +203,123 @@ fails_same : {s t : State} → Beside s t → Same (fails s) (fails t)
 fails_same h = failing [] [] refl refl (record { stack = h.stack; world = h.world; steps = h.steps })
 
 -- a clause was met, with the same unifier of the two calls with its head
-entered_same : (s t : State) (ms ns : List Member) (o : Option Subst) (c : Clause) (mark mark' : ℕ) → Around s t → SameList s.subst t.subst (flat ms) (flat ns)
+entered_same : (s t : State) (ms ns : List Member) (o : Option Subst) (a b : Tree) (c : Clause) (mark : ℕ) → AreValues s.subst t.subst a b → IsUnifierOf a b o → Around s t → SameList s.subst t.subst (flat ms) (flat ns)
     → Same (entered (under s.subst o) c s.next mark ms (record s { next = s.next + c.variables; built = s.built + clause_size c }))
-    (entered (under t.subst o) c t.next mark' ns (record t { next = t.next + c.variables; built = t.built + clause_size c }))
-entered_same s t ms ns None c mark mark' at list = failing [] [] refl refl (record { stack = at.beside.stack; world = at.beside.world; steps = at.beside.steps })
-entered_same s t ms ns (Some u) c mark mark' at list =
+    (entered (under t.subst o) c t.next mark ns (record t { next = t.next + c.variables; built = t.built + clause_size c }))
+entered_same s t ms ns None a b c mark are is at list = failing [] [] refl refl (record { stack = at.beside.stack; world = at.beside.world; steps = at.beside.steps })
+entered_same s t ms ns (Some u) a b c mark are is at list =
     let r = compose s.subst u in
     let q = compose t.subst u in
-    let agree = agree_on u at.agree in
-    let lists : SameList r q (flat (before (map_body (λ k. Variable (s.next + k)) c.body) mark ms)) (flat (before (map_body (λ k. Variable (t.next + k)) c.body) mark' ns)) =
-    subst (λ (n : ℕ). SameList r q (flat (before (map_body (λ k. Variable (s.next + k)) c.body) mark ms)) (flat (before (map_body (λ k. Variable (n + k)) c.body) mark' ns))) at.next
-    (before_same r q ms ns s.next c.body mark mark' agree.beyond (list_on u list)) in
+    let agree = agree_on u a b are is at.agree in
+    let lists : SameList r q (flat (before (map_body (λ k. Variable (s.next + k)) c.body) mark ms)) (flat (before (map_body (λ k. Variable (t.next + k)) c.body) mark ns)) =
+    subst (λ (n : ℕ). SameList r q (flat (before (map_body (λ k. Variable (s.next + k)) c.body) mark ms)) (flat (before (map_body (λ k. Variable (n + k)) c.body) mark ns))) at.next
+    (before_same r q ms ns s.next c.body mark agree.beyond (list_on u list)) in
     going (record { agree = agree_more c.variables agree; next = ap (λ (n : ℕ). n + c.variables) at.next; beside = record { stack = at.beside.stack; world = at.beside.world; steps = at.beside.steps } }) lists
 
-others_same : (s t : State) (ms ns : List Member) (call : Tree) (cs : List Clause) → Around s t → SameList s.subst t.subst (flat ms) (flat ns) → Around (with_others call cs ms s) (with_others call cs ns t)
-others_same s t ms ns call [] at list = at
-others_same s t ms ns call (c ∷ cs) at list = record {
+others_same : (s t : State) (ms ns : List Member) (call : Tree) (cs : List Clause) → IsValue s.subst call → IsValue t.subst call → Around s t → SameList s.subst t.subst (flat ms) (flat ns) → Around (with_others call cs ms s) (with_others call cs ns t)
+others_same s t ms ns call [] own other at list = at
+others_same s t ms ns call (c ∷ cs) own other at list = record {
   agree = at.agree;
   next = at.next;
-  beside = record { stack = same_alternative at.agree at.next list refl at.beside.stack; world = at.beside.world; steps = at.beside.steps };
+  beside = record { stack = same_alternative at.agree at.next list refl own other at.beside.stack; world = at.beside.world; steps = at.beside.steps };
 }
 
-clause_same : (s t : State) (ms ns : List Member) (call : Tree) (c : Clause) (mark mark' : ℕ) → Around s t → SameList s.subst t.subst (flat ms) (flat ns)
-    → Same (tried_clause call c mark ms s) (tried_clause call c mark' ns t)
-clause_same s t ms ns call c mark mark' at list =
-    let o = unifier_of call (apply s.subst (renamed s.next c.head)) in
+-- what is left to be tried changes no substitution
+others_value : (v call : Tree) (cs : List Clause) (ms : List Member) (s : State) → IsValue s.subst v → IsValue (with_others call cs ms s).subst v
+others_value v call [] ms s own = own
+others_value v call (c ∷ cs) ms s own = own
+
+clause_same : (s t : State) (ms ns : List Member) (call : Tree) (c : Clause) (mark : ℕ) → IsValue s.subst call → IsValue t.subst call → Around s t → SameList s.subst t.subst (flat ms) (flat ns)
+    → Same (tried_clause call c mark ms s) (tried_clause call c mark ns t)
+clause_same s t ms ns call c mark own other at list =
+    let head = apply s.subst (renamed s.next c.head) in
+    let o = unifier_of call head in
     let one = renamed_same s.subst t.subst s.next c.head at.agree.beyond ∙ ap (λ (n : ℕ). apply t.subst (renamed n c.head)) at.next in
     let same : o ≡ unifier_of call (apply t.subst (renamed t.next c.head)) = ap (unifier_of call) one in
-    subst (λ (p : Option Subst). Same (tried_clause call c mark ms s) (entered (under t.subst p) c t.next mark' ns (record t { next = t.next + c.variables; built = t.built + clause_size c }))) same
-    (entered_same s t ms ns o c mark mark' at list)
+    let are : AreValues s.subst t.subst call head = record {
+      first = own;
+      second = value_is s.subst (renamed s.next c.head) at.agree.twice;
+      third = other;
+      fourth = subst (λ (x : Tree). IsValue t.subst x) (sym one) (value_is t.subst (renamed t.next c.head) at.agree.other);
+    } in
+    subst (λ (p : Option Subst). Same (tried_clause call c mark ms s) (entered (under t.subst p) c t.next mark ns (record t { next = t.next + c.variables; built = t.built + clause_size c }))) same
+    (entered_same s t ms ns o call head c mark are (unifier_of_is call head) at list)
 
 others_list : (s t : State) (ms ns : List Member) (call : Tree) (cs : List Clause) → SameList s.subst t.subst (flat ms) (flat ns)
     → SameList (with_others call cs ms s).subst (with_others call cs ns t).subst (flat ms) (flat ns)
 others_list s t ms ns call [] list = list
 others_list s t ms ns call (c ∷ cs) list = list
 
-tried_same : (s t : State) (ms ns : List Member) (call : Tree) (cs : List Clause) → Around s t → SameList s.subst t.subst (flat ms) (flat ns) → Same (tried call cs ms s) (tried call cs ns t)
-tried_same s t ms ns call [] at list = fails_same at.beside
-tried_same s t ms ns call (c ∷ cs) at list = clause_same (with_others call cs ms s) (with_others call cs ns t) ms ns call c (length s.stack) (length t.stack) (others_same s t ms ns call cs at list) (others_list s t ms ns call cs list)
+tried_same : (s t : State) (ms ns : List Member) (call : Tree) (cs : List Clause) → IsValue s.subst call → IsValue t.subst call → Around s t → SameList s.subst t.subst (flat ms) (flat ns) → Same (tried call cs ms s) (tried call cs ns t)
+tried_same s t ms ns call [] own other at list = fails_same at.beside
+tried_same s t ms ns call (c ∷ cs) own other at list =
+    let one = clause_same (with_others call cs ms s) (with_others call cs ns t) ms ns call c (length s.stack) (others_value call call cs ms s own) (others_value call call cs ns t other) (others_same s t ms ns call cs own other at list) (others_list s t ms ns call cs list) in
+    subst (λ (h : ℕ). Same (tried call (c ∷ cs) ms s) (tried_clause call c h ns (with_others call cs ns t))) (stack_length at.beside.stack) one
 
 unknown_same : (s t : State) (ms ns : List Member) (u : Unknown) (k : Key) → Around s t → Same (unknown_called u k ms s) (unknown_called u k ns t)
 unknown_same s t ms ns on_unknown.Error k at = going (record { agree = at.agree; next = at.next; beside = record { stack = at.beside.stack; world = at.beside.world; steps = at.beside.steps } }) same_ball
 unknown_same s t ms ns on_unknown.Fail k at = fails_same at.beside
 
-called_same : (s t : State) (ms ns : List Member) (cs : Option (List Clause)) (k : Key) (v : Tree) → Around s t → SameList s.subst t.subst (flat ms) (flat ns) → Same (called cs k v ms s) (called cs k v ns t)
-called_same s t ms ns (Some cs) k v at list = tried_same s t ms ns v cs at list
-called_same s t ms ns None k v at list =
+called_same : (s t : State) (ms ns : List Member) (cs : Option (List Clause)) (k : Key) (v : Tree) → IsValue s.subst v → IsValue t.subst v → Around s t → SameList s.subst t.subst (flat ms) (flat ns) → Same (called cs k v ms s) (called cs k v ns t)
+called_same s t ms ns (Some cs) k v own other at list = tried_same s t ms ns v cs own other at list
+called_same s t ms ns None k v own other at list =
     subst (λ (w : World). Same (unknown_called s.world.flags.unknown k ms s) (unknown_called w.flags.unknown k ns t)) at.beside.world (unknown_same s t ms ns s.world.flags.unknown k at)
 
-equated_same : (s t : State) (ms ns : List Member) (o : Option Subst) → Around s t → SameList s.subst t.subst (flat ms) (flat ns)
+equated_same : (s t : State) (ms ns : List Member) (o : Option Subst) (a b : Tree) → AreValues s.subst t.subst a b → IsUnifierOf a b o → Around s t → SameList s.subst t.subst (flat ms) (flat ns)
     → Same (equated (under s.subst o) ms (record s { built = s.built + 2 })) (equated (under t.subst o) ns (record t { built = t.built + 2 }))
-equated_same s t ms ns None at list = failing [] [] refl refl (record { stack = at.beside.stack; world = at.beside.world; steps = at.beside.steps })
-equated_same s t ms ns (Some u) at list = going (record { agree = agree_on u at.agree; next = at.next; beside = record { stack = at.beside.stack; world = at.beside.world; steps = at.beside.steps } }) (list_on u list)
+equated_same s t ms ns None a b are is at list = failing [] [] refl refl (record { stack = at.beside.stack; world = at.beside.world; steps = at.beside.steps })
+equated_same s t ms ns (Some u) a b are is at list = going (record { agree = agree_on u a b are is at.agree; next = at.next; beside = record { stack = at.beside.stack; world = at.beside.world; steps = at.beside.steps } }) (list_on u list)
 
-replied_same : (s t : State) (ms ns : List Member) (r : Reply) → Around s t → SameList s.subst t.subst (flat ms) (flat ns) → SameOut (replied r ms s) (replied r ns t)
-replied_same s t ms ns Fails at list = both_go (fails_same at.beside)
-replied_same s t ms ns Succeeds at list = both_go (going (record { agree = at.agree; next = at.next; beside = record { stack = at.beside.stack; world = at.beside.world; steps = at.beside.steps } }) list)
-replied_same s t ms ns (Equates a b) at list = both_go (equated_same s t ms ns (unifier_of a b) at list)
+-- an alternative before the stack, and then these lists
+pushed_same : (s t : State) (left : Left) (xs ys ms ns : List Member) → IsOwnLeft s.subst left → IsOwnLeft t.subst left → Around s t → SameList s.subst t.subst (flat xs) (flat ys) → SameList s.subst t.subst (flat ms) (flat ns)
+    → Same (record (pushed xs left s) { list = ms }) (record (pushed ys left t) { list = ns })
+pushed_same s t left xs ys ms ns own other at kept list =
+    going (record {
+      agree = at.agree;
+      next = at.next;
+      beside = record { stack = same_alternative at.agree at.next kept refl own other at.beside.stack; world = at.beside.world; steps = at.beside.steps };
+    }) list
 
-selected_same : (s t : State) (ms ns : List Member) (b : Option BuiltIn) (k : Key) (v : Tree) → Around s t → SameList s.subst t.subst (flat ms) (flat ns) → SameOut (selected b k v ms s) (selected b k v ns t)
-selected_same s t ms ns (Some b) k v at list = replied_same s t ms ns (reply b v) at list
-selected_same s t ms ns None k v at list =
-    both_go (subst (λ (w : World). Same (called (clauses_at s.world.database.procedures k) k v ms s) (called (clauses_at w.database.procedures k) k v ns t)) at.beside.world (called_same s t ms ns (clauses_at s.world.database.procedures k) k v at list))
+-- the states with other lists, and whatever was built
+listed_same : (s t : State) (ms ns : List Member) (m n : ℕ) → Around s t → SameList s.subst t.subst (flat ms) (flat ns) → Same (record s { list = ms; built = m }) (record t { list = ns; built = n })
+listed_same s t ms ns m n at list = going (record { agree = at.agree; next = at.next; beside = record { stack = at.beside.stack; world = at.beside.world; steps = at.beside.steps } }) list
 
-run_same : (s t : State) (ms ns : List Member) (k : Option Key) (v : Tree) → Around s t → SameList s.subst t.subst (flat ms) (flat ns) → SameOut (run_goal k v ms s) (run_goal k v ns t)
-run_same s t ms ns (Some k) v at list = selected_same s t ms ns (built_in k) k v at list
-run_same s t ms ns None v at list = both_go (fails_same at.beside)
+-- a goal's converted body, which both substitutions leave as it is
+own_put : (r q : Subst) (b : Body) (mark : ℕ) (ms ns : List Member) → IsOwnBody r b → IsOwnBody q b → SameList r q (flat ms) (flat ns) → SameList r q (put b mark (flat ms)) (put b mark (flat ns))
+own_put r q b mark ms ns own other list = put_alike r q (flat ms) (flat ns) b b mark (own ∙ sym other) list
+
+replied_same : (s t : State) (ms ns : List Member) (r : Reply) → IsOwnReply s.subst r → IsOwnReply t.subst r → Around s t → SameList s.subst t.subst (flat ms) (flat ns) → SameOut (replied r ms s) (replied r ns t)
+replied_same s t ms ns Fails own other at list = both_go (fails_same at.beside)
+replied_same s t ms ns Succeeds own other at list = both_go (listed_same s t ms ns s.built t.built at list)
+replied_same s t ms ns (Equates a b) own other at list =
+    both_go (equated_same s t ms ns (unifier_of a b) a b (record { first = own.0; second = own.1; third = other.0; fourth = other.1 }) (unifier_of_is a b) at list)
+replied_same s t ms ns (Raises error) own other at list = both_go (listed_same s t (Raise error ∷ ms) (Raise error ∷ ns) s.built t.built at same_ball)
+replied_same s t ms ns (Calls b) own other at list =
+    let h = length s.stack in
+    subst (λ (k : ℕ). SameOut (replied (Calls b) ms s) (Goes (record (with_goal b t) { list = Goal b k ∷ ns }))) (stack_length at.beside.stack)
+    (both_go (listed_same s t (Goal b h ∷ ms) (Goal b h ∷ ns) (with_goal b s).built (with_goal b t).built at (own_put s.subst t.subst b h ms ns own other list)))
+replied_same s t ms ns (CallsOnce b) own other at list =
+    let h = length s.stack in
+    subst (λ (k : ℕ). SameOut (replied (CallsOnce b) ms s) (Goes (record (with_goal b t) { list = Goal b k ∷ CutTo k ∷ ns }))) (stack_length at.beside.stack)
+    (both_go (listed_same s t (Goal b h ∷ CutTo h ∷ ms) (Goal b h ∷ CutTo h ∷ ns) (with_goal b s).built (with_goal b t).built at (own_put s.subst t.subst b h (CutTo h ∷ ms) (CutTo h ∷ ns) own other (same_cut list))))
+replied_same s t ms ns (Refutes b) own other at list =
+    let h = length s.stack in
+    let u = with_goal b s in
+    let v = with_goal b t in
+    let around : Around u v = record { agree = at.agree; next = at.next; beside = record { stack = at.beside.stack; world = at.beside.world; steps = at.beside.steps } } in
+    subst (λ (k : ℕ). SameOut (replied (Refutes b) ms s) (Goes (record (pushed ns AsIs v) { list = Goal b (suc k) ∷ CutTo k ∷ Fail ∷ ns }))) (stack_length at.beside.stack)
+    (both_go (pushed_same u v AsIs ms ns (Goal b (suc h) ∷ CutTo h ∷ Fail ∷ ms) (Goal b (suc h) ∷ CutTo h ∷ Fail ∷ ns) tt tt around list
+    (own_put s.subst t.subst b (suc h) (CutTo h ∷ Fail ∷ ms) (CutTo h ∷ Fail ∷ ns) own other (same_cut same_failure))))
+replied_same s t ms ns Repeats own other at list = both_go (pushed_same s t Again ms ns ms ns tt tt at list list)
+
+selected_same : (s t : State) (ms ns : List Member) (b : Option BuiltIn) (k : Key) (v : Tree) → IsValue s.subst v → IsValue t.subst v → Around s t → SameList s.subst t.subst (flat ms) (flat ns) → SameOut (selected b k v ms s) (selected b k v ns t)
+selected_same s t ms ns (Some b) k v own other at list = replied_same s t ms ns (reply b v) (reply_own s.subst b v own) (reply_own t.subst b v other) at list
+selected_same s t ms ns None k v own other at list =
+    both_go (subst (λ (w : World). Same (called (clauses_at s.world.database.procedures k) k v ms s) (called (clauses_at w.database.procedures k) k v ns t)) at.beside.world (called_same s t ms ns (clauses_at s.world.database.procedures k) k v own other at list))
+
+run_same : (s t : State) (ms ns : List Member) (k : Option Key) (v : Tree) → IsValue s.subst v → IsValue t.subst v → Around s t → SameList s.subst t.subst (flat ms) (flat ns) → SameOut (run_goal k v ms s) (run_goal k v ns t)
+run_same s t ms ns (Some k) v own other at list = selected_same s t ms ns (built_in k) k v own other at list
+run_same s t ms ns None v own other at list = both_go (fails_same at.beside)
 
 -- with as many steps left
 pub steps_same : {s t : State} (n : ℕ) → Same s t → Same (record s { steps = n }) (record t { steps = n })
@@ -175,21 +337,28 @@ paid_same s t {o} {p} zero m steps world out =
     subst (λ (k : ℕ). SameOut (paid zero s o) (paid k t p)) steps ended
 paid_same s t {o} {p} (suc n) m steps world out = subst (λ (k : ℕ). SameOut (paid (suc n) s o) (paid k t p)) steps (charged_same n out)
 
-retried_same : (s t : State) (ms ns : List Member) (l : Left) → s.list ≡ ms → t.list ≡ ns → Around s t → SameList s.subst t.subst (flat ms) (flat ns) → SameOut (retried l s) (retried l t)
-retried_same s t ms ns (Clauses call cs) first second at list =
+retried_same : (s t : State) (ms ns : List Member) (l : Left) → IsOwnLeft s.subst l → IsOwnLeft t.subst l → s.list ≡ ms → t.list ≡ ns → Around s t → SameList s.subst t.subst (flat ms) (flat ns) → SameOut (retried l s) (retried l t)
+retried_same s t ms ns AsIs own other first second at list =
     let here : SameList s.subst t.subst (flat s.list) (flat t.list) = rw (first, second) list in
-    both_go (tried_same s t s.list t.list call cs at here)
+    both_go (going at here)
+retried_same s t ms ns Again own other first second at list =
+    let here : SameList s.subst t.subst (flat s.list) (flat t.list) = rw (first, second) list in
+    paid_same s t s.steps t.steps at.beside.steps at.beside.world (both_go (pushed_same s t Again s.list t.list s.list t.list tt tt at here here))
+retried_same s t ms ns (Clauses call cs) own other first second at list =
+    let here : SameList s.subst t.subst (flat s.list) (flat t.list) = rw (first, second) list in
+    both_go (tried_same s t s.list t.list call cs own other at here)
 
 backtracked_same : {vs ws : List ℕ} {xs ys : List Alternative} (s t : State) → variables s.query ≡ vs → variables t.query ≡ ws → s.world ≡ t.world → s.steps ≡ t.steps → SameStack vs ws xs ys
     → SameOut (backtracked xs s) (backtracked ys t)
 backtracked_same s t first second world steps no_alternative = subst (λ (w : World). SameOut (Ends NoMore s.world) (Ends NoMore w)) world both_end
-backtracked_same {vs} {ws} s t first second world steps (same_alternative {a = a} {b = b} {xs = xs} {ys = ys} agree next list left others) =
+backtracked_same {vs} {ws} s t first second world steps (same_alternative {a = a} {b = b} {xs = xs} {ys = ys} agree next list left own other others) =
     let s' : State = record s { list = a.list; subst = a.subst; next = a.next; built = a.built; stack = xs } in
     let t' : State = record t { list = b.list; subst = b.subst; next = b.next; built = b.built; stack = ys } in
+    let other_left : IsOwnLeft b.subst a.left = subst (λ (l : Left). IsOwnLeft b.subst l) (sym left) other in
     let known : Agree a.subst b.subst (variables s.query) (variables t.query) a.next = rw (first, second) agree in
     let stack : SameStack (variables s.query) (variables t.query) xs ys = rw (first, second) others in
     subst (λ (l : Left). SameOut (retried a.left s') (retried l t')) left
-    (retried_same s' t' a.list b.list a.left refl refl (record { agree = known; next = next; beside = record { stack = stack; world = world; steps = steps } }) list)
+    (retried_same s' t' a.list b.list a.left own other_left refl refl (record { agree = known; next = next; beside = record { stack = stack; world = world; steps = steps } }) list)
 
 failing_same : (s t : State) → Beside s t → SameOut (backtracked s.stack s) (backtracked t.stack t)
 failing_same s t h = backtracked_same s t refl refl h.world h.steps h.stack
@@ -204,20 +373,34 @@ answered_same s t at = subst (λ (vs : List Tree). SameOut (Gives (Answered (val
 
 -- ---- conjunctions taken apart, step by step
 
+abbrev pub is_conjunction : Body → Bool
+is_conjunction (And a b) = true
+is_conjunction Cut = false
+is_conjunction (Run t) = false
+is_conjunction (Or a b) = false
+is_conjunction (If c t) = false
+is_conjunction (Choose c t e) = false
+
 -- the list's first member is no conjunction
 pub data Open : List Member → Type 0 where
   open_end : Open []
-  open_goal : {t : Tree} {mark : ℕ} {ms : List Member} → Open (Goal (Run t) mark ∷ ms)
+  open_goal : {b : Body} {mark : ℕ} {ms : List Member} → is_conjunction b ≡ false → Open (Goal b mark ∷ ms)
+  open_cut : {height : ℕ} {ms : List Member} → Open (CutTo height ∷ ms)
   open_failure : {ms : List Member} → Open (Fail ∷ ms)
   open_ball : {ball : Tree} {ms : List Member} → Open (Raise ball ∷ ms)
 
 abbrev open_body : Body → ℕ → List Member → List Member
-open_body (Run t) mark ms = Goal (Run t) mark ∷ ms
 open_body (And a b) mark ms = open_body a mark (Goal b mark ∷ ms)
+open_body Cut mark ms = Goal Cut mark ∷ ms
+open_body (Run t) mark ms = Goal (Run t) mark ∷ ms
+open_body (Or a b) mark ms = Goal (Or a b) mark ∷ ms
+open_body (If c t) mark ms = Goal (If c t) mark ∷ ms
+open_body (Choose c t e) mark ms = Goal (Choose c t e) mark ∷ ms
 
 abbrev open_list : List Member → List Member
 open_list [] = []
 open_list (Goal b mark ∷ ms) = open_body b mark ms
+open_list (CutTo height ∷ ms) = CutTo height ∷ ms
 open_list (Fail ∷ ms) = Fail ∷ ms
 open_list (Raise ball ∷ ms) = Raise ball ∷ ms
 
@@ -226,22 +409,32 @@ abbrev pub opened : State → State
 opened s = record s { list = open_list s.list }
 
 body_is_open : (b : Body) (mark : ℕ) (ms : List Member) → Open (open_body b mark ms)
-body_is_open (Run t) mark ms = open_goal
 body_is_open (And a b) mark ms = body_is_open a mark (Goal b mark ∷ ms)
+body_is_open Cut mark ms = open_goal refl
+body_is_open (Run t) mark ms = open_goal refl
+body_is_open (Or a b) mark ms = open_goal refl
+body_is_open (If c t) mark ms = open_goal refl
+body_is_open (Choose c t e) mark ms = open_goal refl
 
 pub list_is_open : (ms : List Member) → Open (open_list ms)
 list_is_open [] = open_end
 list_is_open (Goal b mark ∷ ms) = body_is_open b mark ms
+list_is_open (CutTo height ∷ ms) = open_cut
 list_is_open (Fail ∷ ms) = open_failure
 list_is_open (Raise ball ∷ ms) = open_ball
 
 body_flat : (b : Body) (mark : ℕ) (ms : List Member) → flat (open_body b mark ms) ≡ put b mark (flat ms)
-body_flat (Run t) mark ms = refl
 body_flat (And a b) mark ms = body_flat a mark (Goal b mark ∷ ms)
+body_flat Cut mark ms = refl
+body_flat (Run t) mark ms = refl
+body_flat (Or a b) mark ms = refl
+body_flat (If c t) mark ms = refl
+body_flat (Choose c t e) mark ms = refl
 
 list_flat : (ms : List Member) → flat (open_list ms) ≡ flat ms
 list_flat [] = refl
 list_flat (Goal b mark ∷ ms) = body_flat b mark ms
+list_flat (CutTo height ∷ ms) = refl
 list_flat (Fail ∷ ms) = refl
 list_flat (Raise ball ∷ ms) = refl
 
@@ -254,12 +447,17 @@ before_quiet h here = onward here h
 before_quiet h (onward q k) = onward (before_quiet h q) k
 
 body_quiet : (s : State) (b : Body) (mark : ℕ) (ms : List Member) → Quiet (record s { list = Goal b mark ∷ ms }) (record s { list = open_body b mark ms })
+body_quiet s Cut mark ms = here
 body_quiet s (Run t) mark ms = here
+body_quiet s (Or a b) mark ms = here
+body_quiet s (If c t) mark ms = here
+body_quiet s (Choose c t e) mark ms = here
 body_quiet s (And a b) mark ms = before_quiet (parts_step s a b mark ms) (body_quiet s a mark (Goal b mark ∷ ms))
 
 list_quiet : (s : State) (ms : List Member) → Quiet (record s { list = ms }) (record s { list = open_list ms })
 list_quiet s [] = here
 list_quiet s (Goal b mark ∷ ms) = body_quiet s b mark ms
+list_quiet s (CutTo height ∷ ms) = here
 list_quiet s (Fail ∷ ms) = here
 list_quiet s (Raise ball ∷ ms) = here
 
@@ -284,26 +482,109 @@ goal_same : (s t : State) (a b : Tree) (ms ns : List Member) → apply s.subst a
     → SameOut (paid s.steps s (run_value (apply s.subst a) ms s)) (paid t.steps t (run_value (apply t.subst b) ns t))
 goal_same s t a b ms ns value at list =
     let v = apply s.subst a in
-    let out = subst (λ (x : Tree). SameOut (run_value v ms s) (run_value x ns t)) value (run_same s t ms ns (key_of v) v at list) in
+    let own = value_is s.subst a at.agree.twice in
+    let other = subst (λ (x : Tree). IsValue t.subst x) (sym value) (value_is t.subst b at.agree.other) in
+    let out = subst (λ (x : Tree). SameOut (run_value v ms s) (run_value x ns t)) value (run_same s t ms ns (key_of v) v own other at list) in
     paid_same s t s.steps t.steps at.beside.steps at.beside.world out
+
+-- the same cut
+cut_same : (s t : State) (height : ℕ) (ms ns : List Member) → Around s t → SameList s.subst t.subst (flat ms) (flat ns) → SameOut (Goes (cut_back height ms s)) (Goes (cut_back height ns t))
+cut_same s t height ms ns at list =
+    both_go (going (record { agree = at.agree; next = at.next; beside = record { stack = shortened_same height at.beside.stack; world = at.beside.world; steps = at.beside.steps } }) list)
+
+-- a condition, the cut behind it, and the next goal
+condition_same : (r q : Subst) (c d x y : Body) (inner height mark : ℕ) (ms ns : List Member) → map_body r c ≡ map_body q d → map_body r x ≡ map_body q y → SameList r q (flat ms) (flat ns)
+    → SameList r q (flat (Goal c inner ∷ CutTo height ∷ Goal x mark ∷ ms)) (flat (Goal d inner ∷ CutTo height ∷ Goal y mark ∷ ns))
+condition_same r q c d x y inner height mark ms ns first second others =
+    put_alike r q (CutTo height ∷ put x mark (flat ms)) (CutTo height ∷ put y mark (flat ns)) c d inner first (same_cut (put_alike r q (flat ms) (flat ns) x y mark second others))
+
+-- the steps of control constructs that are equal
+construct_same : (s t : State) (b c : Body) (mark : ℕ) (ms ns : List Member) → is_conjunction b ≡ false → map_body s.subst b ≡ map_body t.subst c → Around s t → SameList s.subst t.subst (flat ms) (flat ns)
+    → SameOut (step_goal b mark ms s) (step_goal c mark ns t)
+construct_same s t (And x y) c mark ms ns alone same at list = absurd (cc)
+construct_same s t Cut c mark ms ns alone same at list =
+    subst (λ (d : Body). SameOut (step_goal Cut mark ms s) (step_goal d mark ns t)) (sym (is_cut t.subst c same)) (cut_same s t mark ms ns at list)
+construct_same s t (Run a) c mark ms ns alone same at list =
+    let p = is_run t.subst (apply s.subst a) c same in
+    subst (λ (d : Body). SameOut (step_goal (Run a) mark ms s) (step_goal d mark ns t)) (sym p.1) (goal_same s t a p.0 ms ns p.2 at list)
+construct_same s t (Or x y) c mark ms ns alone same at list =
+    let p = parts_of_or t.subst (map_body s.subst x) (map_body s.subst y) c same in
+    subst (λ (d : Body). SameOut (step_goal (Or x y) mark ms s) (step_goal d mark ns t)) (sym p.2)
+    (both_go (pushed_same s t AsIs (Goal y mark ∷ ms) (Goal p.1 mark ∷ ns) (Goal x mark ∷ ms) (Goal p.0 mark ∷ ns) tt tt at
+    (put_alike s.subst t.subst (flat ms) (flat ns) y p.1 mark p.4 list) (put_alike s.subst t.subst (flat ms) (flat ns) x p.0 mark p.3 list)))
+construct_same s t (If x y) c mark ms ns alone same at list =
+    let p = parts_of_if t.subst (map_body s.subst x) (map_body s.subst y) c same in
+    let h = length s.stack in
+    let lists = condition_same s.subst t.subst x p.0 y p.1 h h mark ms ns p.3 p.4 list in
+    let one : SameOut (step_goal (If x y) mark ms s) (Goes (record t { list = Goal p.0 h ∷ CutTo h ∷ Goal p.1 mark ∷ ns })) = both_go (going (record { agree = at.agree; next = at.next; beside = record { stack = at.beside.stack; world = at.beside.world; steps = at.beside.steps } }) lists) in
+    subst (λ (d : Body). SameOut (step_goal (If x y) mark ms s) (step_goal d mark ns t)) (sym p.2)
+    (subst (λ (k : ℕ). SameOut (step_goal (If x y) mark ms s) (Goes (record t { list = Goal p.0 k ∷ CutTo k ∷ Goal p.1 mark ∷ ns }))) (stack_length at.beside.stack) one)
+construct_same s t (Choose x y z) c mark ms ns alone same at list =
+    let p = parts_of_choose t.subst (map_body s.subst x) (map_body s.subst y) (map_body s.subst z) c same in
+    let h = length s.stack in
+    let lists = condition_same s.subst t.subst x p.0 y p.1 (suc h) h mark ms ns p.4 p.5 list in
+    let one = pushed_same s t AsIs (Goal z mark ∷ ms) (Goal p.2 mark ∷ ns) (Goal x (suc h) ∷ CutTo h ∷ Goal y mark ∷ ms) (Goal p.0 (suc h) ∷ CutTo h ∷ Goal p.1 mark ∷ ns) tt tt at
+    (put_alike s.subst t.subst (flat ms) (flat ns) z p.2 mark p.6 list) lists in
+    subst (λ (d : Body). SameOut (step_goal (Choose x y z) mark ms s) (step_goal d mark ns t)) (sym p.3)
+    (subst (λ (k : ℕ). SameOut (step_goal (Choose x y z) mark ms s) (Goes (record (pushed (Goal p.2 mark ∷ ns) AsIs t) { list = Goal p.0 (suc k) ∷ CutTo k ∷ Goal p.1 mark ∷ ns }))) (stack_length at.beside.stack) (both_go one))
+
+-- a body that is no conjunction is one member
+put_alone : (b : Body) (mark : ℕ) (ms : List Member) → is_conjunction b ≡ false → put b mark ms ≡ Goal b mark ∷ ms
+put_alone (And a b) mark ms alone = absurd (cc)
+put_alone Cut mark ms alone = refl
+put_alone (Run t) mark ms alone = refl
+put_alone (Or a b) mark ms alone = refl
+put_alone (If c t) mark ms alone = refl
+put_alone (Choose c t e) mark ms alone = refl
+
+goals_same : (s t : State) {b c : Body} {m n : ℕ} (ms ns : List Member) → is_conjunction b ≡ false → Around s t → SameList s.subst t.subst (Goal b m ∷ flat ms) (Goal c n ∷ flat ns)
+    → SameOut (step_goal b m ms s) (step_goal c n ns t)
+goals_same s t ms ns first at (same_goal {t = a} {u = b} value others) = goal_same s t a b ms ns value at others
+goals_same s t ms ns first at (same_construct {b = b} {c = c} {m = m} same others) = construct_same s t b c m ms ns first same at others
+
+-- what a list begins with
+abbrev kind : List Member → ℕ
+kind [] = 0
+kind (Goal b mark ∷ ms) = 1
+kind (CutTo height ∷ ms) = 2
+kind (Fail ∷ ms) = 3
+kind (Raise ball ∷ ms) = 4
+
+kinds_same : {r q : Subst} {ms ns : List Member} → SameList r q ms ns → kind ms ≡ kind ns
+kinds_same no_member = refl
+kinds_same (same_goal same others) = refl
+kinds_same (same_construct same others) = refl
+kinds_same (same_cut others) = refl
+kinds_same same_failure = refl
+kinds_same same_ball = refl
 
 lists_same : (s t : State) {ms ns : List Member} → Open ms → Open ns → Around s t → SameList s.subst t.subst (flat ms) (flat ns) → SameOut (step_list ms s) (step_list ns t)
 lists_same s t open_end open_end at list = answered_same s t at
-lists_same s t (open_goal {t = a} {ms = ms}) (open_goal {t = b} {ms = ns}) at (same_goal value others) = goal_same s t a b ms ns value at others
+lists_same s t (open_goal {b = b} {mark = m} {ms = ms} first) (open_goal {b = c} {mark = n} {ms = ns} second) at list =
+    goals_same s t ms ns first at (rw (put_alone b m (flat ms) first, put_alone c n (flat ns) second) at list)
+lists_same s t (open_cut {height = h} {ms = ms}) (open_cut {ms = ns}) at (same_cut others) = cut_same s t h ms ns at others
 lists_same s t open_failure open_failure at list = failing_same s t at.beside
 lists_same s t (open_ball {ball = ball} {ms = ms}) (open_ball {ms = ns}) at same_ball = thrown_same s t ball ms ns at.beside.world
-lists_same s t open_end open_goal at list = elim list [ ]
-lists_same s t open_end open_failure at list = elim list [ ]
-lists_same s t open_end open_ball at list = elim list [ ]
-lists_same s t open_goal open_end at list = elim list [ ]
-lists_same s t open_goal open_failure at list = elim list [ ]
-lists_same s t open_goal open_ball at list = elim list [ ]
-lists_same s t open_failure open_end at list = elim list [ ]
-lists_same s t open_failure open_goal at list = elim list [ ]
-lists_same s t open_failure open_ball at list = elim list [ ]
-lists_same s t open_ball open_end at list = elim list [ ]
-lists_same s t open_ball open_goal at list = elim list [ ]
-lists_same s t open_ball open_failure at list = elim list [ ]
+lists_same s t open_end (open_goal {b = c} {mark = n} {ms = ns} second) at list = let k = kinds_same (rw (put_alone c n (flat ns) second) at list) in absurd (cc)
+lists_same s t open_end open_cut at list = let k = kinds_same list in absurd (cc)
+lists_same s t open_end open_failure at list = let k = kinds_same list in absurd (cc)
+lists_same s t open_end open_ball at list = let k = kinds_same list in absurd (cc)
+lists_same s t (open_goal {b = b} {mark = m} {ms = ms} first) open_end at list = let k = kinds_same (rw (put_alone b m (flat ms) first) at list) in absurd (cc)
+lists_same s t (open_goal {b = b} {mark = m} {ms = ms} first) open_cut at list = let k = kinds_same (rw (put_alone b m (flat ms) first) at list) in absurd (cc)
+lists_same s t (open_goal {b = b} {mark = m} {ms = ms} first) open_failure at list = let k = kinds_same (rw (put_alone b m (flat ms) first) at list) in absurd (cc)
+lists_same s t (open_goal {b = b} {mark = m} {ms = ms} first) open_ball at list = let k = kinds_same (rw (put_alone b m (flat ms) first) at list) in absurd (cc)
+lists_same s t open_cut open_end at list = let k = kinds_same list in absurd (cc)
+lists_same s t open_cut (open_goal {b = c} {mark = n} {ms = ns} second) at list = let k = kinds_same (rw (put_alone c n (flat ns) second) at list) in absurd (cc)
+lists_same s t open_cut open_failure at list = let k = kinds_same list in absurd (cc)
+lists_same s t open_cut open_ball at list = let k = kinds_same list in absurd (cc)
+lists_same s t open_failure open_end at list = let k = kinds_same list in absurd (cc)
+lists_same s t open_failure (open_goal {b = c} {mark = n} {ms = ns} second) at list = let k = kinds_same (rw (put_alone c n (flat ns) second) at list) in absurd (cc)
+lists_same s t open_failure open_cut at list = let k = kinds_same list in absurd (cc)
+lists_same s t open_failure open_ball at list = let k = kinds_same list in absurd (cc)
+lists_same s t open_ball open_end at list = let k = kinds_same list in absurd (cc)
+lists_same s t open_ball (open_goal {b = c} {mark = n} {ms = ns} second) at list = let k = kinds_same (rw (put_alone c n (flat ns) second) at list) in absurd (cc)
+lists_same s t open_ball open_cut at list = let k = kinds_same list in absurd (cc)
+lists_same s t open_ball open_failure at list = let k = kinds_same list in absurd (cc)
 
 -- the steps of states that are the same, neither of which begins with a conjunction
 pub steps_alike : (s t : State) → Open s.list → Open t.list → Same s t → SameOut (step s) (step t)

@@ -4,38 +4,49 @@ use Rattle.std.specs.Prelude.{◌≡◌, ℕ, ◌≤◌, List, [], ◌∷◌, ma
 use Rattle.iso_model.specs.Terms.Trees.{Tree}
 use Rattle.iso_model.specs.Terms.Variables.{variables}
 use Rattle.iso_model.specs.Terms.Substitutions.{Subst, apply}
-use Rattle.iso_model.specs.Search.Bodies.{Body, Run, And}
-use Rattle.iso_model.specs.Search.Walker.{State, Member, Goal, Fail, Raise, Alternative}
+use Rattle.iso_model.specs.Search.Bodies.{Body, Cut, Run, And, Or, If, Choose, map_body}
+use Rattle.iso_model.specs.Search.RunLaws.Values.{IsTwice, IsOwnLeft}
+use Rattle.iso_model.specs.Search.Walker.{State, Member, Goal, CutTo, Fail, Raise, Alternative}
 
 -- a body's goals before what follows, its conjunctions taken apart
 abbrev pub put : Body → ℕ → List Member → List Member
-put (Run t) mark rest = Goal (Run t) mark ∷ rest
 put (And a b) mark rest = put a mark (put b mark rest)
+put Cut mark rest = Goal Cut mark ∷ rest
+put (Run t) mark rest = Goal (Run t) mark ∷ rest
+put (Or a b) mark rest = Goal (Or a b) mark ∷ rest
+put (If c t) mark rest = Goal (If c t) mark ∷ rest
+put (Choose c t e) mark rest = Goal (Choose c t e) mark ∷ rest
 
 -- the list with all conjunctions taken apart
 abbrev pub flat : List Member → List Member
 flat [] = []
 flat (Goal b mark ∷ ms) = put b mark (flat ms)
+flat (CutTo height ∷ ms) = CutTo height ∷ flat ms
 flat (Fail ∷ ms) = Fail ∷ flat ms
 flat (Raise ball ∷ ms) = Raise ball ∷ flat ms
 
--- Two lists without conjunctions have the same goals under these substitutions. What follows failure or a ball is never run.
+-- Two lists without conjunctions have the same goals under these substitutions. No goal but a control construct reads its mark, and what follows
+-- failure or a ball is never run.
 pub data SameList (r q : Subst) : List Member → List Member → Type 0 where
   no_member : SameList r q [] []
   same_goal : {t u : Tree} {m n : ℕ} {ms ns : List Member} → apply r t ≡ apply q u → SameList r q ms ns → SameList r q (Goal (Run t) m ∷ ms) (Goal (Run u) n ∷ ns)
+  same_construct : {b c : Body} {m : ℕ} {ms ns : List Member} → map_body r b ≡ map_body q c → SameList r q ms ns → SameList r q (Goal b m ∷ ms) (Goal c m ∷ ns)
+  same_cut : {height : ℕ} {ms ns : List Member} → SameList r q ms ns → SameList r q (CutTo height ∷ ms) (CutTo height ∷ ns)
   same_failure : {ms ns : List Member} → SameList r q (Fail ∷ ms) (Fail ∷ ns)
   same_ball : {ball : Tree} {ms ns : List Member} → SameList r q (Raise ball ∷ ms) (Raise ball ∷ ns)
 
--- The substitutions give the queries' variables the same values, and agree on the numbers that are not used yet.
+-- The substitutions give the queries' variables the same values, agree on the numbers that are not used yet, and leave their own terms as they are.
 pub record Agree (r q : Subst) (vs ws : List ℕ) (n : ℕ) : Type 0 where
   pub shown : map r vs ≡ map q ws
   pub beyond : (x : ℕ) → n ≤ x → r x ≡ q x
+  pub twice : IsTwice r
+  pub other : IsTwice q
 
 -- the alternatives are the same, each under its own substitutions, for queries with these variables
 pub data SameStack (vs ws : List ℕ) : List Alternative → List Alternative → Type 0 where
   no_alternative : SameStack vs ws [] []
   same_alternative : {a b : Alternative} {xs ys : List Alternative} → Agree a.subst b.subst vs ws a.next → a.next ≡ b.next → SameList a.subst b.subst (flat a.list) (flat b.list) → a.left ≡ b.left
-      → SameStack vs ws xs ys → SameStack vs ws (a ∷ xs) (b ∷ ys)
+      → IsOwnLeft a.subst a.left → IsOwnLeft b.subst b.left → SameStack vs ws xs ys → SameStack vs ws (a ∷ xs) (b ∷ ys)
 
 -- The states are the same, whatever comes next.
 pub record Beside (s t : State) : Type 0 where

@@ -1,22 +1,27 @@
 -- A number that falls at each step that takes none of the budget: it counts the control constructs and the clauses that are left. A
 -- substitution doesn't change it.
-use Rattle.std.proofs.Common.{◌≡◌, ◌<◌, ◌≤◌, ◌+◌, ℕ, zero, suc, List, [], ◌∷◌, true, false, Option, Some, None, ◌⊎◌, inl, inr, refl, ap, ◌∙◌, subst, arith, length, if◌then◌else◌}
+use Rattle.std.proofs.Common.{◌≡◌, ◌<◌, ◌≤◌, ◌+◌, ℕ, zero, suc, List, [], ◌∷◌, true, false, Option, Some, None, ◌⊎◌, inl, inr, refl, ap, ap₂, ◌∙◌, subst, arith, length, drop, ◌-◌, if◌then◌else◌}
 use Rattle.iso_model.specs.Terms.Trees.{Tree, Variable}
 use Rattle.iso_model.specs.Terms.Substitutions.{Subst, apply}
 use Rattle.iso_model.specs.Terms.Unification.{unifier_of}
 use Rattle.iso_model.specs.Terms.Copies.{renamed}
-use Rattle.iso_model.specs.Search.Bodies.{Body, Run, And, map_body, is_true}
+use Rattle.iso_model.specs.Search.Bodies.{Body, Cut, Run, And, Or, If, Choose, map_body, is_true}
 use Rattle.iso_model.specs.Search.Databases.{Clause}
-use Rattle.iso_model.specs.Search.Walker.{State, Member, Goal, Fail, Raise, Left, Clauses, Alternative, Outcome, Goes, Gives, Ends, charged, paid, before, entered, with_others, tried, retried, backtracked, thrown, step_goal, step_list, step, run_value, under, clause_size}
+use Rattle.iso_model.specs.Search.Walker.{State, Member, Goal, CutTo, Fail, Raise, Left, AsIs, Again, Clauses, Alternative, Outcome, Goes, Gives, Ends, charged, paid, before, entered, pushed, with_others, tried, retried, backtracked, thrown, step_goal, step_list, step, run_value, under, clause_size}
 
 -- a body, before what weighs r
 abbrev pub body_weight : Body → ℕ → ℕ
+body_weight Cut r = suc r
 body_weight (Run t) r = suc r
 body_weight (And a b) r = suc (body_weight a (body_weight b r))
+body_weight (Or a b) r = 2 + (body_weight a r + body_weight b r)
+body_weight (If c t) r = suc (body_weight c (suc (body_weight t r)))
+body_weight (Choose c t e) r = 2 + (body_weight c (suc (body_weight t r)) + body_weight e r)
 
 -- failure and a thrown ball drop what follows them
 abbrev pub list_weight : List Member → ℕ
 list_weight [] = 1
+list_weight (CutTo height ∷ rest) = suc (list_weight rest)
 list_weight (Fail ∷ rest) = 0
 list_weight (Raise ball ∷ rest) = 1
 list_weight (Goal b mark ∷ rest) = body_weight b (list_weight rest)
@@ -27,6 +32,8 @@ clauses_weight [] r = 1
 clauses_weight (c ∷ cs) r = suc (body_weight c.body r) + clauses_weight cs r
 
 abbrev pub left_weight : Left → ℕ → ℕ
+left_weight AsIs r = suc r
+left_weight Again r = 1
 left_weight (Clauses call cs) r = clauses_weight cs r
 
 abbrev pub stack_weight : List Alternative → ℕ
@@ -52,15 +59,33 @@ Progress n w (Gives e t) = Smaller n w t
 Progress n w (Ends e world) = Unit {0}
 
 body_weight-map : (u : Subst) (b : Body) (r : ℕ) → body_weight (map_body u b) r ≡ body_weight b r
+body_weight-map u Cut r = refl
 body_weight-map u (Run t) r = refl
 body_weight-map u (And a b) r = ap suc (body_weight-map u a (body_weight (map_body u b) r) ∙ ap (body_weight a) (body_weight-map u b r))
+body_weight-map u (Or a b) r = ap₂ (λ m n. 2 + (m + n)) (body_weight-map u a r) (body_weight-map u b r)
+body_weight-map u (If c t) r = ap suc (body_weight-map u c (suc (body_weight (map_body u t) r)) ∙ ap (λ n. body_weight c (suc n)) (body_weight-map u t r))
+body_weight-map u (Choose c t e) r =
+    ap₂ (λ m n. 2 + (m + n)) (body_weight-map u c (suc (body_weight (map_body u t) r)) ∙ ap (λ n. body_weight c (suc n)) (body_weight-map u t r)) (body_weight-map u e r)
 
 body_weight-more : (b : Body) (r : ℕ) → r ≤ body_weight b r
+body_weight-more Cut r = omega arith
 body_weight-more (Run t) r = omega arith
 body_weight-more (And a b) r =
     let first = body_weight-more a (body_weight b r) in
     let second = body_weight-more b r in
     omega arith
+body_weight-more (Or a b) r = let first = body_weight-more a r in omega arith
+body_weight-more (If c t) r =
+    let first = body_weight-more c (suc (body_weight t r)) in
+    let second = body_weight-more t r in
+    omega arith
+body_weight-more (Choose c t e) r = let last = body_weight-more e r in omega arith
+
+-- fewer alternatives weigh no more
+dropped_weight : (n : ℕ) (stack : List Alternative) → stack_weight (drop n stack) ≤ stack_weight stack
+dropped_weight zero stack = omega arith
+dropped_weight (suc n) [] = omega arith
+dropped_weight (suc n) (a ∷ below) = let less = dropped_weight n below in omega arith
 
 before_weight : (b : Body) (mark : ℕ) (rest : List Member) → list_weight (before b mark rest) ≤ body_weight b (list_weight rest)
 before_weight b mark rest =
@@ -95,17 +120,6 @@ tried_lighter call (c ∷ cs) rest s =
     let light = t.lighter in
     record { steps = t.steps ∙ others.0; lighter = omega arith }
 
-retried_progress : (l : Left) (s : State) → Progress s.steps (left_weight l (list_weight s.list) + stack_weight s.stack) (retried l s)
-retried_progress (Clauses call cs) s = inr (tried_lighter call cs s.list s)
-
-backtracked_progress : (stack : List Alternative) (s : State) → Progress s.steps (stack_weight stack) (backtracked stack s)
-backtracked_progress [] s = tt
-backtracked_progress (a ∷ below) s = retried_progress a.left (record s { list = a.list; subst = a.subst; next = a.next; built = a.built; stack = below })
-
-thrown_progress : (ball : Tree) (rest : List Member) (n w : ℕ) (s : State) → Progress n w (thrown ball rest s)
-thrown_progress ball [] n w s = tt
-thrown_progress ball (m ∷ rest) n w s = thrown_progress ball rest n w s
-
 charged_progress : (n k w : ℕ) (o : Outcome) → k < n → Progress n w (charged k o)
 charged_progress n k w (Goes t) h = inl h
 charged_progress n k w (Gives e t) h = inl h
@@ -116,14 +130,32 @@ paid_progress : (n w : ℕ) (s : State) (o : Outcome) → Progress n w (paid n s
 paid_progress zero w s o = tt
 paid_progress (suc n) w s o = charged_progress (suc n) n w o (omega arith)
 
+retried_progress : (l : Left) (s : State) → Progress s.steps (left_weight l (list_weight s.list) + stack_weight s.stack) (retried l s)
+retried_progress AsIs s = inr (record { steps = refl; lighter = omega arith })
+retried_progress Again s = paid_progress s.steps (1 + stack_weight s.stack) s (Goes (pushed s.list Again s))
+retried_progress (Clauses call cs) s = inr (tried_lighter call cs s.list s)
+
+backtracked_progress : (stack : List Alternative) (s : State) → Progress s.steps (stack_weight stack) (backtracked stack s)
+backtracked_progress [] s = tt
+backtracked_progress (a ∷ below) s = retried_progress a.left (record s { list = a.list; subst = a.subst; next = a.next; built = a.built; stack = below })
+
+thrown_progress : (ball : Tree) (rest : List Member) (n w : ℕ) (s : State) → Progress n w (thrown ball rest s)
+thrown_progress ball [] n w s = tt
+thrown_progress ball (m ∷ rest) n w s = thrown_progress ball rest n w s
+
 goal_progress : (b : Body) (mark : ℕ) (rest : List Member) (s : State)
     → Progress s.steps (body_weight b (list_weight rest) + stack_weight s.stack) (step_goal b mark rest s)
+goal_progress Cut mark rest s = let less = dropped_weight (length s.stack - mark) s.stack in inr (record { steps = refl; lighter = omega arith })
 goal_progress (And a b) mark rest s = inr (record { steps = refl; lighter = omega arith })
+goal_progress (Or a b) mark rest s = inr (record { steps = refl; lighter = omega arith })
+goal_progress (If c t) mark rest s = inr (record { steps = refl; lighter = omega arith })
+goal_progress (Choose c t e) mark rest s = inr (record { steps = refl; lighter = omega arith })
 goal_progress (Run t) mark rest s =
     paid_progress s.steps (body_weight (Run t) (list_weight rest) + stack_weight s.stack) s (run_value (apply s.subst t) rest s)
 
 list_progress : (list : List Member) (s : State) → Progress s.steps (list_weight list + stack_weight s.stack) (step_list list s)
 list_progress [] s = inr (record { steps = refl; lighter = omega arith })
+list_progress (CutTo height ∷ rest) s = let less = dropped_weight (length s.stack - height) s.stack in inr (record { steps = refl; lighter = omega arith })
 list_progress (Fail ∷ rest) s =
     let none : stack_weight s.stack ≡ 0 + stack_weight s.stack = omega arith in
     subst (λ w. Progress s.steps w (backtracked s.stack s)) none (backtracked_progress s.stack s)

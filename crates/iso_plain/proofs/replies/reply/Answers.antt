@@ -1,15 +1,69 @@
-use Rattle.std.proofs.Common.{◌≡◌, ap, ◌∙◌, arith}
+use Rattle.std.proofs.Common.{◌≡◌, arith}
 use Rattle.iso_model.specs.Terms.Arguments.{arity}
 use Rattle.iso_store_core.specs.Presents.{meaning}
-use Rattle.iso_plain.proofs.CalledLemmas.{arity_of, built_in_arguments}
+use Rattle.iso_plain.proofs.CalledLemmas.{built_in_arguments}
+use Rattle.iso_plain.proofs.ReplyLemmas.{call_body, call_error, once_body, once_error, not_body, not_error, differ_replied}
 use Rattle.iso_plain.proofs.replies.reply.Goals as goal
 
 pub arg-left-requires-clause-index : goal.arg-left-requires-clause-index
 arg-left-requires-clause-index g c =
-    let two : arity (meaning (g.S.Store.present c.args.store.now) c.args.goal) ≡ 2 = built_in_arguments _ c.args.built_in c.requires.built_in ∙ ap arity_of c.in-Unify.is in
+    let two : arity (meaning (g.S.Store.present c.args.store.now) c.args.goal) ≡ 2 = rw c.in-Unify.is at (built_in_arguments _ c.args.built_in c.requires.built_in) in
     omega (arith, two)
 
 pub arg-right-requires-clause-index : goal.arg-right-requires-clause-index
 arg-right-requires-clause-index g c =
-    let two : arity (meaning (g.S.Store.present c.args.store.now) c.args.goal) ≡ 2 = built_in_arguments _ c.args.built_in c.requires.built_in ∙ ap arity_of c.in-Unify.is in
+    let two : arity (meaning (g.S.Store.present c.args.store.now) c.args.goal) ≡ 2 = rw c.in-Unify.is at (built_in_arguments _ c.args.built_in c.requires.built_in) in
     omega (arith, two)
+
+pub arg-left-requires-in-Differ-clause-index : goal.arg-left-requires-in-Differ-clause-index
+arg-left-requires-in-Differ-clause-index g c =
+    let two : arity (meaning (g.S.Store.present c.args.store.now) c.args.goal) ≡ 2 = rw c.in-Differ.is at (built_in_arguments _ c.args.built_in c.requires.built_in) in
+    omega (arith, two)
+
+pub arg-right-requires-in-Differ-clause-index : goal.arg-right-requires-in-Differ-clause-index
+arg-right-requires-in-Differ-clause-index g c =
+    let two : arity (meaning (g.S.Store.present c.args.store.now) c.args.goal) ≡ 2 = rw c.in-Differ.is at (built_in_arguments _ c.args.built_in c.requires.built_in) in
+    omega (arith, two)
+
+pub place_called-requires-clause-some : goal.place_called-requires-clause-some
+place_called-requires-clause-some g c = (rw c.in-Call.is at (built_in_arguments (meaning (g.S.Store.present c.args.store.now) c.args.goal) c.args.built_in c.requires.built_in)).0
+
+pub place_argument-requires-clause-some : goal.place_argument-requires-clause-some
+place_argument-requires-clause-some g c =
+    let one : arity (meaning (g.S.Store.present c.args.store.now) c.args.goal) ≡ 1 = rw c.in-Once.is at (built_in_arguments _ c.args.built_in c.requires.built_in) in
+    omega (arith, one)
+
+pub place_argument-requires-in-Not-clause-some : goal.place_argument-requires-in-Not-clause-some
+place_argument-requires-in-Not-clause-some g c =
+    let one : arity (meaning (g.S.Store.present c.args.store.now) c.args.goal) ≡ 1 = rw c.in-Not.is at (built_in_arguments _ c.args.built_in c.requires.built_in) in
+    omega (arith, one)
+
+pub returns-in_ok-differ-in-Differ-clause-replies : goal.returns-in_ok-differ-in-Differ-clause-replies
+returns-in_ok-differ-in-Differ-clause-replies g c =
+    let p = g.S.Store.present c.args.store.now in
+    let differs = rw (c.arg-left-in-Differ.ensures.value, c.arg-right-in-Differ.ensures.value) at c.in_ok-differ-in-Differ.ensures.differs in
+    rw (c.in-Differ.is, c.tested-in-Differ.ensures) (differ_replied p (g.S.Store.present c.differ.new.store) c.args.nodes.now.items _ _ c.in_ok-differ-in-Differ.field-0 differs c.in_ok-differ-in-Differ.ensures.present)
+
+pub returns-in-Body-clause-replies : goal.returns-in-Body-clause-replies
+returns-in-Body-clause-replies g c =
+    rw c.in-Call.is (call_body _ _ _ _ (meaning (g.S.Store.present c.args.store.now) c.args.goal) c.in-Body.place (rw c.in-Body.is at c.in_ok-place-in-Call.ensures.placed))
+
+pub returns-in-Raises-clause-replies : goal.returns-in-Raises-clause-replies
+returns-in-Raises-clause-replies g c =
+    rw c.in-Call.is (call_error _ _ _ _ (meaning (g.S.Store.present c.args.store.now) c.args.goal) c.in-Raises.ball (rw c.in-Raises.is at c.in_ok-place-in-Call.ensures.placed))
+
+pub returns-in-Body-2-clause-replies : goal.returns-in-Body-2-clause-replies
+returns-in-Body-2-clause-replies g c =
+    rw c.in-Once.is (once_body _ _ _ _ (meaning (g.S.Store.present c.args.store.now) c.args.goal) c.in-Body-2.place (rw c.in-Body-2.is at c.in_ok-place-in-Once.ensures.placed))
+
+pub returns-in-Raises-2-clause-replies : goal.returns-in-Raises-2-clause-replies
+returns-in-Raises-2-clause-replies g c =
+    rw c.in-Once.is (once_error _ _ _ _ (meaning (g.S.Store.present c.args.store.now) c.args.goal) c.in-Raises-2.ball (rw c.in-Raises-2.is at c.in_ok-place-in-Once.ensures.placed))
+
+pub returns-in-Body-3-clause-replies : goal.returns-in-Body-3-clause-replies
+returns-in-Body-3-clause-replies g c =
+    rw c.in-Not.is (not_body _ _ _ _ (meaning (g.S.Store.present c.args.store.now) c.args.goal) c.in-Body-3.place (rw c.in-Body-3.is at c.in_ok-place-in-Not.ensures.placed))
+
+pub returns-in-Raises-3-clause-replies : goal.returns-in-Raises-3-clause-replies
+returns-in-Raises-3-clause-replies g c =
+    rw c.in-Not.is (not_error _ _ _ _ (meaning (g.S.Store.present c.args.store.now) c.args.goal) c.in-Raises-3.ball (rw c.in-Raises-3.is at c.in_ok-place-in-Not.ensures.placed))

@@ -7,7 +7,7 @@ use Rattle.iso_model.specs.Syntax.Grammar.{begins}
 use Rattle.iso_model.specs.Syntax.Operators.{prefix_named, right_of}
 use Rattle.iso_model.specs.Terms.TermOf.{term_of}
 use Rattle.iso_token.specs.Shows.{shown}
-use Rattle.iso_model.specs.Syntax.Reading.{term, further}
+use Rattle.iso_model.specs.Syntax.Reading.{term, further, rest}
 use Rattle.iso_read.specs.Views.{node_of, row_of, following_of, terms_in}
 use Rattle.iso_read.proofs.Found.{found_at}
 use Rattle.iso_read.proofs.Rows.{row_goes, row_longer, row_stops}
@@ -17,21 +17,22 @@ use Rattle.iso_read.proofs.reader.+reader.Goals as goal
 pub climb-returns-in_err-left-clause-read : goal.climb-returns-in_err-left-clause-read
 climb-returns-in_err-left-clause-read t c =
     let h = c.loop-left.invariant in
-    let goes = continued_goes c.args.language.ops.now c.args.language.flags.now c.args.depth c.args.most (node_of c.loop-left.left) c.loop-left.input c.next.new.self (following_of c.in-Some.following) h.0 (rw c.in-Some.is at c.in_ok-following.ensures) c.next.ensures.after in
+    let goes = continued_goes c.args.language.ops.now c.args.language.flags.now c.args.depth c.args.most (node_of c.loop-left.left) c.loop-left.input c.next.new.self (following_of c.in-Some.following) h.0 (rw c.in-Some.is at c.in_ok-following.ensures.found) (c.next.ensures.after ∙ ap rest c.in_ok-following.ensures.same) in
     let failed = fails_with node_of node_of _ _ _ _ c.extended.new.input c.extended.new.input (sym h.2 ∙ goes) c.in_err-left.ensures.read in
     search (rules, failed)
 
 pub climb-loop-left-preserved : goal.climb-loop-left-preserved
 climb-loop-left-preserved t c =
     let h = c.loop-left.invariant in
-    let goes = continued_goes c.args.language.ops.now c.args.language.flags.now c.args.depth c.args.most (node_of c.loop-left.left) c.loop-left.input c.next.new.self (following_of c.in-Some.following) h.0 (rw c.in-Some.is at c.in_ok-following.ensures) c.next.ensures.after in
-    let fewer = rest_shorter c.loop-left.input c.next.new.self c.next.ensures.after in
+    let goes = continued_goes c.args.language.ops.now c.args.language.flags.now c.args.depth c.args.most (node_of c.loop-left.left) c.loop-left.input c.next.new.self (following_of c.in-Some.following) h.0 (rw c.in-Some.is at c.in_ok-following.ensures.found) (c.next.ensures.after ∙ ap rest c.in_ok-following.ensures.same) in
+    let fewer = rest_shorter c.loop-left.input c.next.new.self (c.next.ensures.after ∙ ap rest c.in_ok-following.ensures.same) in
     (c.in_ok-left.ensures.height.1, omega (arith, c.in_ok-left.ensures.shorter), sym (rw c.in_ok-left.ensures.read at goes) ∙ h.2)
 
 pub climb-returns-clause-read : goal.climb-returns-clause-read
 climb-returns-clause-read t c =
     let h = c.loop-left.invariant in
-    sym h.2 ∙ continued_stops c.args.language.ops.now c.args.language.flags.now c.args.depth c.args.most (node_of c.loop-left.left) c.loop-left.input h.0 (sym (rw c.in_default.is at c.in_ok-following.ensures))
+    sym h.2 ∙ continued_stops c.args.language.ops.now c.args.language.flags.now c.args.depth c.args.most (node_of c.loop-left.left) c.loop-left.input h.0 (sym (rw c.in_default.is at c.in_ok-following.ensures.found))
+    ∙ ap (λ z. Some (node_of c.loop-left.left, z)) (sym c.in_ok-following.ensures.same)
 
 pub elements-returns-in_err-next-clause-read : goal.elements-returns-in_err-next-clause-read
 elements-returns-in_err-next-clause-read t c =

@@ -1,7 +1,7 @@
 use Rattle.std.proofs.Common.{refl}
 use Rattle.iso_model.specs.Terms.TermOf.{term_of}
 use Rattle.iso_model.specs.Search.Additions.{clause_of}
-use Rattle.iso_plain.proofs.StartLemmas.{idle_again}
+use Rattle.iso_plain.proofs.StartLemmas.{idle_again, refused}
 use Rattle.iso_plain.proofs.plain.Plain.add.Goals as goal
 
 pub returns-clause-comes : goal.returns-clause-comes
@@ -13,3 +13,6 @@ returns-clause-comes g c = λ w h.
       operators_are = h.world.operators_are;
       flags_are = h.world.flags_are;
     })))
+
+pub returns-in_err-prepared-clause-comes : goal.returns-in_err-prepared-clause-comes
+returns-in_err-prepared-clause-comes g c = λ w h. refused (term_of c.args.clause.now) w c.from_residual.result _ c.args.self.now c.in_err-prepared.ensures c.from_residual.ensures.1 h

@@ -1,6 +1,7 @@
 use Rattle.iso_plain.proofs.StoppedLemmas.{behind_error, keeps_all}
 use Rattle.iso_plain.proofs.SearchMoves.{stops_here}
 use Rattle.iso_plain.proofs.EndLemmas.{answers_engine}
+use Rattle.iso_plain.proofs.WeightLemmas.{answered_falls}
 use Rattle.iso_plain.proofs.plain.Plain.answer.Goals as goal
 
 pub returns-clause-moves : goal.returns-clause-moves
@@ -10,3 +11,6 @@ returns-clause-moves g c = λ s r.
 pub returns-in_err-values-clause-stopped : goal.returns-in_err-values-clause-stopped
 returns-in_err-values-clause-stopped g c = λ s r.
     behind_error c.from_residual.result (stops_here g.S.Store.present g.S.Store.stands g.S.Store.older c.args.self.now r.own s r.same (keeps_all g.S.Store.present g.S.Store.stands g.S.Store.older c.args.self.now r.own r.engine))
+
+pub returns-clause-falls : goal.returns-clause-falls
+returns-clause-falls g c = answered_falls c.args.self.now c.requires.now

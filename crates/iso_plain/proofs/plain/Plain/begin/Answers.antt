@@ -1,18 +1,29 @@
-use Rattle.std.proofs.Common.{ap}
-use Rattle.iso_plain.specs.Nodes.{trees_of}
-use Rattle.iso_plain.proofs.ClauseLemmas.{not_converted}
+use Rattle.std.proofs.Common.{◌∙◌, ap, refl}
 use Rattle.std.proofs.lemmas.Result.{on_ok_weaker}
-use Rattle.iso_plain.proofs.StartLemmas.{parts_come, fresh_again}
+use Rattle.iso_model.specs.Terms.TermOf.{term_of}
+use Rattle.iso_model.specs.Search.Bodies.{converted}
+use Rattle.iso_model.proofs.OnTerms.MeaningLemmas.{meaning_is_term}
+use Rattle.iso_plain.proofs.StartLemmas.{query_ready, query_refused, fresh_again}
 use Rattle.iso_plain.proofs.plain.Plain.begin.Goals as goal
 
-pub place_query-requires-clause-parts : goal.place_query-requires-clause-parts
-place_query-requires-clause-parts g c = rw c.as_slice.ensures.value (parts_come _ _ _ _ (ap trees_of c.new-parts.ensures.items) c.in-Ok.ensures)
+pub place_query-requires-clause-query : goal.place_query-requires-clause-query
+place_query-requires-clause-query g c =
+    (term_of c.args.goal.now, query_ready (term_of c.args.goal.now) c.in-Ok.query (meaning_is_term c.args.goal.now ∙ c.requires.fits) c.requires.numbered c.in-Ok.ensures)
 
 pub raise_query-requires : goal.raise_query-requires
-raise_query-requires g c = not_converted _ _ _ (rw c.in-Err-NotCallable.field-0-is at c.in-Err-NotCallable.ensures)
+raise_query-requires g c =
+    let found = query_refused (term_of c.args.goal.now) (term_of c.in-Err-Callable.culprit) c.in-Err-Callable.culprit refl c.requires.numbered (rw c.in-Err-Callable.field-0-is at c.in-Err-Callable.ensures) in
+    ap converted found.0 ∙ found.1
 
 pub returns-in-Ok-clause-started : goal.returns-in-Ok-clause-started
-returns-in-Ok-clause-started g c = on_ok_weaker c.place_query.result (λ started w is. started w (fresh_again is c.requires.substitution c.requires.next)) c.place_query.ensures.started
+returns-in-Ok-clause-started g c =
+    let query = query_ready (term_of c.args.goal.now) c.in-Ok.query (meaning_is_term c.args.goal.now ∙ c.requires.fits) c.requires.numbered c.in-Ok.ensures in
+    on_ok_weaker c.place_query.result (λ started w is. started (term_of c.args.goal.now) w query (fresh_again is c.requires.substitution c.requires.next)) c.place_query.ensures.started
 
-pub returns-in-Err-NotCallable-clause-started : goal.returns-in-Err-NotCallable-clause-started
-returns-in-Err-NotCallable-clause-started g c = λ w is. c.in_ok-raise_query-in-Err-NotCallable.ensures.started w (fresh_again is c.requires.substitution c.requires.next)
+pub returns-in_ok-raise_query-in-Err-Callable-clause-started : goal.returns-in_ok-raise_query-in-Err-Callable-clause-started
+returns-in_ok-raise_query-in-Err-Callable-clause-started g c = λ w is.
+    (let found = query_refused (term_of c.args.goal.now) (term_of c.in-Err-Callable.culprit) c.in-Err-Callable.culprit refl c.requires.numbered (rw c.in-Err-Callable.field-0-is at c.in-Err-Callable.ensures) in
+    rw (← found.0) (c.in_ok-raise_query-in-Err-Callable.ensures.started w (fresh_again is c.requires.substitution c.requires.next)))
+
+pub returns-in-Ok-clause-kept : goal.returns-in-Ok-clause-kept
+returns-in-Ok-clause-kept g c = λ w is. c.place_query.ensures.kept w (fresh_again is c.requires.substitution c.requires.next)

@@ -1,8 +1,9 @@
-use Rattle.std.proofs.Common.{◌≡◌, ℕ, length, ap, subst, Ok, inl, inr}
+use Rattle.std.proofs.Common.{◌≡◌, ℕ, length, ap, ◌∙◌, subst, Ok, inl, inr}
 use Rattle.iso_model.specs.Search.Walker.{with_others, tried_clause}
 use Rattle.iso_plain.specs.EngineStates.{IsEngine}
 use Rattle.iso_plain.proofs.StandingLemmas.{choices_length}
 use Rattle.iso_plain.proofs.StoppedLemmas.{behind_error}
+use Rattle.iso_plain.proofs.WeightLemmas.{call_costs}
 use Rattle.iso_plain.proofs.plain.Plain.call.Goals as goal
 
 pub enter-requires : goal.enter-requires
@@ -25,3 +26,8 @@ returns-in_err-push_choice-clause-kept g c = λ s call k ks gs t. behind_error c
 pub returns-in_err-enter-clause-kept : goal.returns-in_err-enter-clause-kept
 returns-in_err-enter-clause-kept g c = λ s call k ks gs t.
     behind_error c.from_residual-in_err-enter.result (inr (c.in_err-enter.ensures.kept (with_others call ks gs s) call k ks gs (c.in_ok-push_choice.ensures.calls s call k ks gs t (ap Ok c.if-not-branch.false))))
+
+pub returns-clause-costs : goal.returns-clause-costs
+returns-clause-costs g c = λ done.
+    call_costs c.args.self.now c.push_choice.new.self c.enter.new.self c.args.attempt.rest c.in_ok-push_choice.ensures.frames_same c.in_ok-enter.ensures.frames c.in_ok-enter.ensures.choices (c.in_ok-enter.ensures.stays.procedures ∙ c.in_ok-push_choice.ensures.stays.procedures)
+    c.in_ok-push_choice.ensures.costs c.in_ok-enter.ensures.cost

@@ -1,6 +1,8 @@
 use Rattle.std.proofs.Common.{ap, Ok}
 use Rattle.iso_plain.proofs.StoppedLemmas.{behind_error}
-use Rattle.iso_plain.proofs.WeightLemmas.{rank_small, falls_call}
+use Rattle.iso_plain.specs.Costs.{rest_cost, frame_costs}
+use Rattle.iso_plain.specs.EngineStates.{choices_cost, cost}
+use Rattle.iso_plain.proofs.WeightLemmas.{falls_called}
 use Rattle.iso_plain.proofs.plain.Plain.call_first.Goals as goal
 
 pub returns-then-branch-clause-called : goal.returns-then-branch-clause-called
@@ -19,6 +21,7 @@ pub returns-in_err-call-clause-kept : goal.returns-in_err-call-clause-kept
 returns-in_err-call-clause-kept g c = λ s call k ks gs t. behind_error c.from_residual.result (c.in_err-call.ensures.kept s call k ks gs t)
 
 pub returns-then-branch-clause-falls : goal.returns-then-branch-clause-falls
-returns-then-branch-clause-falls g c =
-    let engine = c.in_ok-call.ensures.tried c.requires.0 c.requires.1 c.requires.2 c.requires.3 c.requires.4 c.requires.5 (ap Ok c.if-branch.true) in
-    falls_call c.args.self.now c.call.new.self c.call.ensures.steps c.call.ensures.stays.procedures c.call.ensures.fewer (rank_small c.call.new.self _ engine)
+returns-then-branch-clause-falls g c = λ w less.
+    (let e = c.args.self.now in
+    let costs = frame_costs e.frames.items in
+    rw c.call.ensures.steps (falls_called e.steps (choices_cost e.procedures.items costs e.choices.items) (rest_cost costs c.args.attempt.rest) w (cost c.call.new.self) less (c.in_ok-call.ensures.costs (ap Ok c.if-branch.true))))

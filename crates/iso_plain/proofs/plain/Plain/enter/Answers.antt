@@ -1,8 +1,9 @@
 use Rattle.std.proofs.Common.{arith}
 use Rattle.iso_model.specs.Terms.Variables.{variables}
 use Rattle.iso_plain.proofs.StoppedLemmas.{behind_error, base_kept, choices_on}
-use Rattle.iso_plain.proofs.KeptLemmas.{kept_at}
-use Rattle.iso_plain.proofs.NodeLemmas.{template_fits, layout_of_fits}
+use Rattle.iso_plain.proofs.KeptLemmas.{kept_at, template_fits, kept_parts_fit}
+use Rattle.iso_plain.proofs.CallLemmas.{entered_least}
+use Rattle.iso_plain.proofs.CostLemmas.{behind_cost}
 use Rattle.iso_plain.proofs.EnteringLemmas.{adds_none}
 use Rattle.iso_plain.proofs.StandingLemmas.{chain_place}
 use Rattle.iso_plain.proofs.EngineLemmas.{Tried, tried_engine}
@@ -22,7 +23,7 @@ enter-requires-clause-room g c =
     let few = is.few in
     let many = is.variables in
     let space = t.space in
-    let next = t.at.next_is in
+    let next = t.at.on.next_is in
     omega (arith, few, many, space, next)
 
 pub enter-requires-clause-head_fits : goal.enter-requires-clause-head_fits
@@ -35,10 +36,10 @@ pub enter-requires-clause-parts_fit : goal.enter-requires-clause-parts_fit
 enter-requires-clause-parts_fit g c =
     let t = c.requires.5 in
     let is = c.clause_at-clause.ensures c.requires.0.world.database.procedures c.requires.2 c.requires.3 (rw c.as_slice.ensures.value t.world.procedures_are) t.clauses in
-    rw (is.variables, is.parts) (layout_of_fits _ _ is.goal_templates)
+    rw is.variables (kept_parts_fit _ _ is.goal_templates)
 
 pub behind-self-requires : goal.behind-self-requires
-behind-self-requires g c = rw c.as_slice-2.ensures.value (chain_place c.args.attempt.rest c.requires.5.at.chain)
+behind-self-requires g c = rw c.as_slice-2.ensures.value (chain_place c.args.attempt.rest c.requires.5.at.on.chain)
 
 pub returns-clause-tried : goal.returns-clause-tried
 returns-clause-tried g c = λ s call k ks gs t.
@@ -58,3 +59,10 @@ returns-in_err-entered-clause-kept g c = λ s call k ks gs t.
       base_kept (g.S.Store.stands c.args.self.now.store) (g.S.Store.stands c.enter.new.store) c.args.self.now.base c.in_err-entered.ensures.marks t.base,
       (variables s.query, choices_on g.S.Store.present g.S.Store.stands g.S.Store.older c.args.self.now c.enter.new.store c.enter.new.nodes c.args.self.now.frames s.world (variables s.query) s.stack c.in_err-entered.ensures.marks c.in_err-entered.ensures.nodes (adds_none _) t.choices),
     )
+
+pub returns-clause-cost : goal.returns-clause-cost
+returns-clause-cost g c =
+    let e = c.args.self.now in
+    rw (c.behind-self.ensures, c.as_slice-2.ensures.value)
+    (entered_least (g.S.Store.present e.store) (g.S.Store.present c.enter.new.store) e.nodes.items c.enter.new.nodes ((g.S.Store.present e.store).term c.args.attempt.goal) c.clause_at-clause.result.now e.frames.items c.args.mark c.args.attempt.rest
+    (behind_cost c.args.attempt.rest c.requires.5.at.on.chain) c.in_ok-entered.entered c.in_ok-entered.ensures.enters)

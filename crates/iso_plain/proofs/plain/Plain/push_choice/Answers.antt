@@ -2,7 +2,7 @@ use Rattle.std.proofs.Common.{◌≡◌, length, arith}
 use Rattle.iso_plain.proofs.StoppedLemmas.{behind_error}
 use Rattle.iso_plain.proofs.KeptLemmas.{kept_at}
 use Rattle.iso_plain.proofs.CountLemmas.{clauses_counted}
-use Rattle.iso_plain.proofs.CallLemmas.{calls_last, left_same}
+use Rattle.iso_plain.proofs.CallLemmas.{calls_last}
 use Rattle.iso_plain.proofs.plain.Plain.push_choice.Goals as goal
 
 pub clause_count-count-requires : goal.clause_count-count-requires
@@ -48,16 +48,6 @@ returns-clause-calls g c = λ s call k ks gs t done. c.in_ok-push_later.ensures.
     let count = rw c.as_slice.ensures.value at c.clause_count-count.ensures in
     let more = c.if-attempt-count.false in
     omega (arith, many, count, more))
-
-pub returns-then-attempt-count-clause-fewer : goal.returns-then-attempt-count-clause-fewer
-returns-then-attempt-count-clause-fewer g c =
-    let t = c.requires.5 in
-    left_same c.args.self.now.procedures.items c.requires.0.world.database.procedures c.args.self.now.choices.items c.args.attempt.procedure c.args.attempt.clause c.requires.2 c.requires.3 t.world.procedures_are t.clauses
-
-pub returns-then-len-self-clause-fewer : goal.returns-then-len-self-clause-fewer
-returns-then-len-self-clause-fewer g c =
-    let t = c.requires.5 in
-    left_same c.args.self.now.procedures.items c.requires.0.world.database.procedures c.args.self.now.choices.items c.args.attempt.procedure c.args.attempt.clause c.requires.2 c.requires.3 t.world.procedures_are t.clauses
 
 pub returns-then-len-self-clause-frames : goal.returns-then-len-self-clause-frames
 returns-then-len-self-clause-frames g c = λ s call k ks gs t done. (

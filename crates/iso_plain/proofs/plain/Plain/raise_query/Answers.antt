@@ -1,35 +1,30 @@
-use Rattle.std.proofs.Common.{◌≡◌, refl, ap, ◌∙◌, Some}
+use Rattle.std.proofs.Common.{refl, ap, Some}
 use Rattle.std.specs.Prelude.{codes}
 use Rattle.iso_model.specs.Terms.TermOf.{term_of}
 use Rattle.iso_model.specs.Search.Errors.{key, type_error_callable}
 use Rattle.iso_model.specs.Search.Walker.{started}
-use Rattle.iso_model.specs.Search.RunLaws.SameSteps.{same_itself}
 use Rattle.iso_plain.specs.Standing.{none_kept}
 use Rattle.iso_plain.proofs.StoppedLemmas.{behind_error, keeps_none}
-use Rattle.iso_plain.proofs.StartLemmas.{opening_error}
+use Rattle.iso_plain.proofs.StartLemmas.{same_fresh, opening_error}
 use Rattle.iso_plain.proofs.plain.Plain.raise_query.Goals as goal
 
 pub returns-clause-started : goal.returns-clause-started
 returns-clause-started g c = λ w fresh.
-    (let goal = term_of c.args.query.now in
+    (let goal = term_of c.args.culprit in
     let error = type_error_callable goal (key (codes "call") 1) in
-    let ball : term_of c.in_ok-ball.ball.term ≡ error = c.in_ok-ball.ensures ∙ ap (λ t. type_error_callable t (key (codes "call") 1)) c.in_ok-culprit.ensures in
     let s = started goal c.args.self.now.steps w in
     record {
       own = s;
-      same = same_itself s;
+      same = same_fresh s refl refl;
       engine = record {
         world = record { procedures_are = fresh.world.procedures_are; operators_are = fresh.world.operators_are; flags_are = fresh.world.flags_are };
         steps = refl;
         base = fresh.base;
         choices = rw fresh.choices none_kept;
         room = tt;
-        next = (error, opening_error goal c.requires, ap Some ball);
+        next = (error, opening_error goal c.requires, ap Some c.in_ok-ball.ensures);
       };
     })
 
-pub returns-in_err-culprit-clause-kept : goal.returns-in_err-culprit-clause-kept
-returns-in_err-culprit-clause-kept g c = λ w fresh. behind_error c.from_residual.result (keeps_none g.S.Store.present g.S.Store.stands g.S.Store.older c.args.self.now w fresh)
-
 pub returns-in_err-ball-clause-kept : goal.returns-in_err-ball-clause-kept
-returns-in_err-ball-clause-kept g c = λ w fresh. behind_error c.from_residual-in_err-ball.result (keeps_none g.S.Store.present g.S.Store.stands g.S.Store.older c.args.self.now w fresh)
+returns-in_err-ball-clause-kept g c = λ w fresh. behind_error c.from_residual.result (keeps_none g.S.Store.present g.S.Store.stands g.S.Store.older c.args.self.now w fresh)

@@ -1,24 +1,17 @@
-use Rattle.std.proofs.Common.{Some, arith, ap, ◌∙◌}
-use Rattle.iso_plain.specs.EngineStates.{}
-use Rattle.iso_plain.proofs.BackLemmas.{get_at}
-use Rattle.iso_plain.proofs.RunLemmas.{runs_within}
+use Rattle.std.proofs.Common.{inl}
+use Rattle.iso_plain.proofs.LimitLemmas.{move_full}
+use Rattle.iso_plain.proofs.RunMoves.{fails_next}
+use Rattle.iso_plain.proofs.RunCosts.{failing_falls}
 use Rattle.iso_plain.proofs.plain.Plain.run.Goals as goal
 
-pub index-requires : goal.index-requires
-index-requires g c =
-    let r = c.requires.stands.1 in
-    let within = runs_within g.S.Store.present g.S.Store.stands g.S.Store.older c.args.self.now r.own c.args.frame c.requires.now r.engine in
-    let many = c.args.self.now.nodes.ok.0 in
-    omega (arith, within, many)
+pub cut-requires-clause-cuts : goal.cut-requires-clause-cuts
+cut-requires-clause-cuts g c = inl c.in-CutBack.is
 
-pub run_goal-requires-clause-node : goal.run_goal-requires-clause-node
-run_goal-requires-clause-node g c =
-    let r = c.requires.stands.1 in
-    let within = runs_within g.S.Store.present g.S.Store.stands g.S.Store.older c.args.self.now r.own c.args.frame c.requires.now r.engine in
-    get_at c.args.self.now.nodes.items c.args.frame.body c.index.result.now within c.index.ensures ∙ ap Some c.in-Run.is
+pub returns-in-CutBack-clause-frames : goal.returns-in-CutBack-clause-frames
+returns-in-CutBack-clause-frames g c = λ s r. move_full c.cut.result (λ h. absurd h) c.cut.ensures.frames
 
-pub take_apart-requires-clause-node : goal.take_apart-requires-clause-node
-take_apart-requires-clause-node g c =
-    let r = c.requires.stands.1 in
-    let within = runs_within g.S.Store.present g.S.Store.stands g.S.Store.older c.args.self.now r.own c.args.frame c.requires.now r.engine in
-    get_at c.args.self.now.nodes.items c.args.frame.body c.index.result.now within c.index.ensures ∙ ap Some c.in-And.is
+pub returns-in-Fail-clause-moves : goal.returns-in-Fail-clause-moves
+returns-in-Fail-clause-moves g c = λ s r. fails_next g.S.Store.present g.S.Store.stands g.S.Store.older c.args.self.now s c.args.frame c.requires.now c.in-Fail.is r
+
+pub returns-in-Fail-clause-falls : goal.returns-in-Fail-clause-falls
+returns-in-Fail-clause-falls g c = failing_falls c.args.self.now c.args.frame c.requires.now c.in-Fail.is

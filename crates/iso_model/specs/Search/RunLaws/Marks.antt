@@ -1,0 +1,189 @@
+-- Cut marks: each is a height at which the stack stands still, and what follows a mark is marked over what the mark leaves of the stack. Every step
+-- keeps this, so an engine may keep its alternatives in one stack, and a cut gives back the newest of them.
+use Rattle.std.proofs.Common.{◌≡◌, ℕ, zero, suc, ◌+◌, ◌-◌, ◌≤◌, List, [], ◌∷◌, true, false, Option, Some, None, length, drop, refl, sym, ap, ◌∙◌, subst, arith, if◌then◌else◌}
+use Rattle.iso_ops.specs.declared.settings.Unknown.{Unknown}
+use Rattle.iso_ops.specs.declared.settings.Unknown.TheVariants as on_unknown
+use Rattle.iso_model.specs.Terms.Trees.{Tree, Variable}
+use Rattle.iso_model.specs.Terms.Substitutions.{Subst, apply}
+use Rattle.iso_model.specs.Terms.Unification.{unifier_of}
+use Rattle.iso_model.specs.Terms.Copies.{renamed}
+use Rattle.iso_model.specs.Search.Bodies.{Body, Cut, Run, And, Or, If, Choose, map_body, is_true, converted}
+use Rattle.iso_model.specs.Search.Databases.{Clause, Key, key_of, clauses_at}
+use Rattle.iso_model.specs.Search.BuiltIns.{Reply, Fails, Succeeds, Equates, Raises, Calls, CallsOnce, Refutes, Repeats, built_in, reply}
+use Rattle.iso_model.specs.declared.built_ins.BuiltIn.{BuiltIn}
+use Rattle.iso_model.specs.Search.Walker.{State, World, Member, Goal, CutTo, Fail, Raise, Left, AsIs, Again, Clauses, Alternative, Outcome, Goes, Gives, Ends, charged, paid, before, entered, under, with_others, tried, retried, backtracked, unknown_called, called, equated, replied, selected, run_goal, run_value, thrown, clause_size, shortened, cut_back, pushed, step_goal, step_list, step, opening, started}
+
+-- The first stack is what is left of the second when some of its newest alternatives are taken away.
+pub data Under : List Alternative → List Alternative → Type 0 where
+  all : {low : List Alternative} → Under low low
+  above : {low stack : List Alternative} {a : Alternative} → Under low stack → Under low (a ∷ stack)
+
+-- Over this stack the list's marks are heights that stand, and what follows each is marked over what it leaves.
+pub data Marked : List Alternative → List Member → Type 0 where
+  done : {stack : List Alternative} → Marked stack []
+  goal : {low stack : List Alternative} {b : Body} {m : ℕ} {rest : List Member} → Under low stack → length low ≡ m → Marked low rest → Marked stack (Goal b m ∷ rest)
+  cut : {low stack : List Alternative} {m : ℕ} {rest : List Member} → Under low stack → length low ≡ m → Marked low rest → Marked stack (CutTo m ∷ rest)
+  failing : {low stack : List Alternative} {rest : List Member} → Under low stack → Marked low rest → Marked stack (Fail ∷ rest)
+  raising : {low stack : List Alternative} {ball : Tree} {rest : List Member} → Under low stack → Marked low rest → Marked stack (Raise ball ∷ rest)
+
+-- the list of each alternative is marked over those below it
+pub data Stacked : List Alternative → Type 0 where
+  none : Stacked []
+  more : {a : Alternative} {below : List Alternative} → Marked below a.list → Stacked below → Stacked (a ∷ below)
+
+-- The marks of a state are as they should be.
+pub record IsMarked (s : State) : Type 0 where
+  pub list : Marked s.stack s.list
+  pub stack : Stacked s.stack
+
+-- where a step leads, they are so again
+abbrev pub KeepsMarked : Outcome → Type 0
+KeepsMarked (Goes t) = IsMarked t
+KeepsMarked (Gives e t) = IsMarked t
+KeepsMarked (Ends e w) = Unit {0}
+
+-- ---- stacks
+
+under_on : {low middle stack : List Alternative} → Under low middle → Under middle stack → Under low stack
+under_on h all = h
+under_on h (above k) = above (under_on h k)
+
+under_length : {low stack : List Alternative} → Under low stack → length low ≤ length stack
+under_length all = omega arith
+under_length (above h) = let less = under_length h in omega arith
+
+-- what a mark leaves is what the cut to it leaves
+pub shortened_is : {low stack : List Alternative} (m : ℕ) → Under low stack → length low ≡ m → shortened m stack ≡ low
+shortened_is {low = low} m all e = let none : length low - m ≡ 0 = omega (arith, e) in ap (λ n. drop n low) none
+shortened_is {low = low} m (above {stack = stack} {a = a} h) e =
+    let less = under_length h in
+    let one : suc (length stack) - m ≡ suc (length stack - m) = omega (arith, e, less) in
+    ap (λ n. drop n (a ∷ stack)) one ∙ shortened_is m h e
+
+marked_on : {low stack : List Alternative} {ms : List Member} → Under low stack → Marked low ms → Marked stack ms
+marked_on h done = done
+marked_on h (goal k e rest) = goal (under_on k h) e rest
+marked_on h (cut k e rest) = cut (under_on k h) e rest
+marked_on h (failing k rest) = failing (under_on k h) rest
+marked_on h (raising k rest) = raising (under_on k h) rest
+
+stacked_under : {low stack : List Alternative} → Under low stack → Stacked stack → Stacked low
+stacked_under all k = k
+stacked_under (above h) (more m k) = stacked_under h k
+
+-- ---- steps
+
+fails_marked : (s : State) → Stacked s.stack → IsMarked (record s { list = Fail ∷ [] })
+fails_marked s k = record { list = failing all done; stack = k }
+
+-- a cut
+cut_marked : (s : State) {low : List Alternative} (m : ℕ) (rest : List Member) → Under low s.stack → length low ≡ m → Marked low rest → Stacked s.stack → IsMarked (cut_back m rest s)
+cut_marked s m rest h e marked k =
+    let is = sym (shortened_is m h e) in
+    record { list = subst (λ (xs : List Alternative). Marked xs rest) is marked; stack = subst Stacked is (stacked_under h k) }
+
+before_marked : (b : Body) (m : ℕ) {low stack : List Alternative} (rest : List Member) → Under low stack → length low ≡ m → Marked low rest → Marked stack (before b m rest)
+before_marked b m {low} {stack} rest h e marked =
+    elim (is_true b) as (λ fact. Marked stack (if fact then rest else Goal b m ∷ rest)) [
+      | true ↦ marked_on h marked
+      | false ↦ goal h e marked
+    ]
+
+entered_marked : (u : Option Subst) (c : Clause) (n m : ℕ) {low : List Alternative} (rest : List Member) (s : State) → Under low s.stack → length low ≡ m → Marked low rest → Stacked s.stack → IsMarked (entered u c n m rest s)
+entered_marked None c n m rest s h e marked k = fails_marked s k
+entered_marked (Some u) c n m rest s h e marked k = record { list = before_marked (map_body (λ x. Variable (n + x)) c.body) m rest h e marked; stack = k }
+
+others_under : (call : Tree) (cs : List Clause) (rest : List Member) (s : State) → Under s.stack (with_others call cs rest s).stack
+others_under call [] rest s = all
+others_under call (c ∷ cs) rest s = above all
+
+others_stacked : (call : Tree) (cs : List Clause) (rest : List Member) (s : State) → Marked s.stack rest → Stacked s.stack → Stacked (with_others call cs rest s).stack
+others_stacked call [] rest s marked k = k
+others_stacked call (c ∷ cs) rest s marked k = more marked k
+
+tried_marked : (call : Tree) (cs : List Clause) (rest : List Member) (s : State) → Marked s.stack rest → Stacked s.stack → IsMarked (tried call cs rest s)
+tried_marked call [] rest s marked k = fails_marked s k
+tried_marked call (c ∷ cs) rest s marked k =
+    let p = with_others call cs rest s in
+    entered_marked (under p.subst (unifier_of call (apply p.subst (renamed p.next c.head)))) c p.next (length s.stack) rest (record p { next = p.next + c.variables; built = p.built + clause_size c })
+    (others_under call cs rest s) refl marked (others_stacked call cs rest s marked k)
+
+charged_marked : (n : ℕ) (o : Outcome) → KeepsMarked o → KeepsMarked (charged n o)
+charged_marked n (Goes t) h = record { list = h.list; stack = h.stack }
+charged_marked n (Gives e t) h = record { list = h.list; stack = h.stack }
+charged_marked n (Ends e w) h = tt
+
+paid_marked : (n : ℕ) (s : State) (o : Outcome) → KeepsMarked o → KeepsMarked (paid n s o)
+paid_marked zero s o h = tt
+paid_marked (suc n) s o h = charged_marked n o h
+
+retried_marked : (l : Left) (s : State) → Marked s.stack s.list → Stacked s.stack → KeepsMarked (retried l s)
+retried_marked AsIs s marked k = record { list = marked; stack = k }
+retried_marked Again s marked k = paid_marked s.steps s (Goes (pushed s.list Again s)) (record { list = marked_on (above all) marked; stack = more marked k })
+retried_marked (Clauses call cs) s marked k = tried_marked call cs s.list s marked k
+
+backtracked_marked : (stack : List Alternative) (s : State) → Stacked stack → KeepsMarked (backtracked stack s)
+backtracked_marked [] s k = tt
+backtracked_marked (a ∷ below) s (more marked k) = retried_marked a.left (record s { list = a.list; subst = a.subst; next = a.next; built = a.built; stack = below }) marked k
+
+unknown_marked : (u : Unknown) (k : Key) (rest : List Member) (s : State) → Marked s.stack rest → Stacked s.stack → IsMarked (unknown_called u k rest s)
+unknown_marked on_unknown.Error k rest s marked stacked = record { list = raising all marked; stack = stacked }
+unknown_marked on_unknown.Fail k rest s marked stacked = fails_marked s stacked
+
+called_marked : (cs : Option (List Clause)) (k : Key) (t : Tree) (rest : List Member) (s : State) → Marked s.stack rest → Stacked s.stack → IsMarked (called cs k t rest s)
+called_marked (Some cs) k t rest s marked stacked = tried_marked t cs rest s marked stacked
+called_marked None k t rest s marked stacked = unknown_marked s.world.flags.unknown k rest s marked stacked
+
+equated_marked : (u : Option Subst) (rest : List Member) (s : State) → Marked s.stack rest → Stacked s.stack → IsMarked (equated u rest s)
+equated_marked None rest s marked k = fails_marked s k
+equated_marked (Some u) rest s marked k = record { list = marked; stack = k }
+
+replied_marked : (r : Reply) (rest : List Member) (s : State) → Marked s.stack rest → Stacked s.stack → KeepsMarked (replied r rest s)
+replied_marked Fails rest s marked k = fails_marked s k
+replied_marked Succeeds rest s marked k = record { list = marked; stack = k }
+replied_marked (Equates a b) rest s marked k = equated_marked (under s.subst (unifier_of a b)) rest (record s { built = s.built + 2 }) marked k
+replied_marked (Raises error) rest s marked k = record { list = raising all marked; stack = k }
+replied_marked (Calls b) rest s marked k = record { list = goal all refl marked; stack = k }
+replied_marked (CallsOnce b) rest s marked k = record { list = goal all refl (cut all refl marked); stack = k }
+replied_marked (Refutes b) rest s marked k = record { list = goal all refl (cut (above all) refl (failing all marked)); stack = more marked k }
+replied_marked Repeats rest s marked k = record { list = marked_on (above all) marked; stack = more marked k }
+
+selected_marked : (b : Option BuiltIn) (k : Key) (t : Tree) (rest : List Member) (s : State) → Marked s.stack rest → Stacked s.stack → KeepsMarked (selected b k t rest s)
+selected_marked (Some b) k t rest s marked stacked = replied_marked (reply b t) rest s marked stacked
+selected_marked None k t rest s marked stacked = called_marked (clauses_at s.world.database.procedures k) k t rest s marked stacked
+
+run_marked : (k : Option Key) (t : Tree) (rest : List Member) (s : State) → Marked s.stack rest → Stacked s.stack → KeepsMarked (run_goal k t rest s)
+run_marked (Some k) t rest s marked stacked = selected_marked (built_in k) k t rest s marked stacked
+run_marked None t rest s marked stacked = fails_marked s stacked
+
+goal_marked : (b : Body) (m : ℕ) {low : List Alternative} (rest : List Member) (s : State) → Under low s.stack → length low ≡ m → Marked low rest → Stacked s.stack → KeepsMarked (step_goal b m rest s)
+goal_marked Cut m rest s h e marked k = cut_marked s m rest h e marked k
+goal_marked (Run t) m rest s h e marked k = paid_marked s.steps s (run_value (apply s.subst t) rest s) (run_marked (key_of (apply s.subst t)) (apply s.subst t) rest s (marked_on h marked) k)
+goal_marked (And a b) m rest s h e marked k = record { list = goal h e (goal all e marked); stack = k }
+goal_marked (Or a b) m rest s h e marked k = record { list = goal (above h) e marked; stack = more (goal h e marked) k }
+goal_marked (If c t) m rest s h e marked k = record { list = goal all refl (cut all refl (goal h e marked)); stack = k }
+goal_marked (Choose c t x) m rest s h e marked k = record { list = goal all refl (cut (above all) refl (goal h e marked)); stack = more (goal h e marked) k }
+
+thrown_marked : (ball : Tree) (rest : List Member) (s : State) → KeepsMarked (thrown ball rest s)
+thrown_marked ball [] s = tt
+thrown_marked ball (m ∷ rest) s = thrown_marked ball rest s
+
+list_marked : (ms : List Member) (s : State) → Marked s.stack ms → Stacked s.stack → KeepsMarked (step_list ms s)
+list_marked [] s marked k = fails_marked s k
+list_marked (CutTo m ∷ rest) s (cut h e marked) k = cut_marked s m rest h e marked k
+list_marked (Fail ∷ rest) s marked k = backtracked_marked s.stack s k
+list_marked (Raise ball ∷ rest) s marked k = thrown_marked ball rest s
+list_marked (Goal b m ∷ rest) s (goal h e marked) k = goal_marked b m rest s h e marked k
+
+-- a step keeps the marks
+pub step_marked : (s : State) → IsMarked s → KeepsMarked (step s)
+unfolding step
+step_marked s h = list_marked s.list s h.list h.stack
+
+opening_marked : (t : Tree) (o : Option Body) → Marked [] (opening t o)
+opening_marked t None = raising all done
+opening_marked t (Some b) = goal all refl done
+
+-- a goal that is started has them
+pub started_marked : (t : Tree) (budget : ℕ) (w : World) → IsMarked (started t budget w)
+started_marked t budget w = record { list = opening_marked t (converted t); stack = none }

@@ -1,0 +1,245 @@
+-- The engine, as it goes on with the members from a place on, and as frames and choices come and go.
+use Rattle.std.proofs.Common.{◌≡◌, ℕ, zero, suc, ◌-◌, ◌≤◌, ◌++◌, List, [], ◌∷◌, length, take, drop, Option, Some, None, refl, ap, sym, ◌∙◌, subst, arith, Vec, Global}
+use Rattle.std.specs.Prelude.{option_map}
+use Rattle.std.specs.List.{slice_get}
+use Rattle.iso_model.specs.Terms.TermOf.{term_of}
+use Rattle.iso_model.specs.Terms.Variables.{variables}
+use Rattle.iso_model.specs.Search.Bodies.{Body}
+use Rattle.iso_model.specs.Search.Walker.{State, World, Member, Goal, CutTo, Fail, Alternative, pushed, cut_back, shortened}
+use Rattle.iso_model.specs.Search.Walker as walker
+use Rattle.iso_store_core.specs.Presents.{Present, KeepsMarks}
+use Rattle.iso_plain.specs.declared.bodies.Node.{Node}
+use Rattle.iso_plain.specs.declared.parts.Todo.{Todo}
+use Rattle.iso_plain.specs.declared.parts.Todo.TheVariants as todo
+use Rattle.iso_plain.specs.declared.parts.Frame.{Frame}
+use Rattle.iso_plain.specs.declared.parts.Left.{Left}
+use Rattle.iso_plain.specs.declared.parts.Choice as kept
+use Rattle.iso_plain.specs.declared.parts.Now.{Now}
+use Rattle.iso_plain.specs.declared.parts.Now.TheVariants as now
+use Rattle.iso_plain.specs.declared.plain.Plain.{Plain}
+use Rattle.iso_plain.specs.Next.{IsPlace, now_behind}
+use Rattle.iso_plain.specs.Standing.{Among, Links, IsBefore, IsBody, IsMember, a_body, a_cut, a_failure, Chain, leads, HasMembers, HasLeft, StandsForChoice, StandsForChoices, GainsChoice, HaveRoom, GoesOn, DoesNext, entered_at}
+use Rattle.iso_plain.specs.EngineStates.{IsEngine, IsAhead, Keeps, left_at, links_of}
+use Rattle.iso_plain.proofs.EnteringLemmas.{words_same, adds_none}
+use Rattle.iso_plain.proofs.StandingLemmas.{AddsLinks, at_last, chain_more, chain_place, choices_more, choices_keep, choices_length, choices_push, lower, marks_stand, next_behind}
+use Rattle.iso_plain.proofs.StoppedLemmas.{base_kept}
+
+-- ---- what a frame asks for
+
+todo_number : Todo → ℕ
+todo_number (todo.Body k) = 0
+todo_number todo.CutBack = 1
+todo_number todo.Fail = 2
+
+-- a body at this place
+pub body_of : {W : Type 0} (p : Present W) (nodes : List (Node W)) (f : Frame) (m : Member) (k : ℕ) → f.todo ≡ todo.Body k → IsMember p nodes f m → (b : Body) × (m ≡ Goal b f.mark) × IsBody p nodes k b
+body_of p nodes f m k asks (a_body {i = i} {b = b} is body) =
+    let same : todo.Body i ≡ todo.Body k = sym is ∙ asks in
+    let place : i ≡ k = cc in
+    (b, refl, subst (λ (n : ℕ). IsBody p nodes n b) place body)
+body_of p nodes f m k asks (a_cut is) = absurd (let other : todo.CutBack ≡ todo.Body k = sym is ∙ asks in cc)
+body_of p nodes f m k asks (a_failure is) = absurd (let other : todo.Fail ≡ todo.Body k = sym is ∙ asks in cc)
+
+pub cut_of : {W : Type 0} (p : Present W) (nodes : List (Node W)) (f : Frame) (m : Member) → f.todo ≡ todo.CutBack → IsMember p nodes f m → m ≡ CutTo f.mark
+cut_of p nodes f m asks (a_body {i = i} is body) = absurd (let other : todo.Body i ≡ todo.CutBack = sym is ∙ asks in cc)
+cut_of p nodes f m asks (a_cut is) = refl
+cut_of p nodes f m asks (a_failure is) = absurd (let other : todo.Fail ≡ todo.CutBack = sym is ∙ asks in cc)
+
+pub fail_of : {W : Type 0} (p : Present W) (nodes : List (Node W)) (f : Frame) (m : Member) → f.todo ≡ todo.Fail → IsMember p nodes f m → m ≡ Fail
+fail_of p nodes f m asks (a_body {i = i} is body) = absurd (let other : todo.Body i ≡ todo.Fail = sym is ∙ asks in cc)
+fail_of p nodes f m asks (a_cut is) = absurd (let other : todo.CutBack ≡ todo.Fail = sym is ∙ asks in cc)
+fail_of p nodes f m asks (a_failure is) = refl
+
+place_before : (frames : List Frame) (place : Option ℕ) → IsPlace frames place → IsBefore place (length frames)
+place_before frames None within = tt
+place_before frames (Some i) within = within
+
+-- with other goals and alternatives
+pub goes_with : {W : Type 0} {p : Present W} {query : List W} {s : State} (list : List Member) (stack : List Alternative) → GoesOn p query s → GoesOn p query (record s { list = list; stack = stack })
+goes_with list stack g = record { subst = g.subst; next = g.next; room = g.room; words = g.words }
+
+room_dropped : (steps n : ℕ) (ks : List Alternative) → HaveRoom steps ks → HaveRoom steps (drop n ks)
+room_dropped steps zero ks h = h
+room_dropped steps (suc n) [] h = h
+room_dropped steps (suc n) (k ∷ ks) h = room_dropped steps n ks h.1
+
+module _ {S W M : Type 0} (present : S → Present W) (stands : S → M → Present W → Type 0) (older : M → M → Type 0) where
+  -- The engine, in this state, is to do what this frame asks for.
+  pub record AtFrame (e : Plain S W M) (s : State) (f : Frame) : Type 0 where
+    pub member : Member
+    pub behind : List Member
+    pub list : s.list ≡ member ∷ behind
+    pub stands_for : IsMember (present e.store) e.nodes.items f member
+    pub ahead : IsAhead present stands older e (record s { list = behind }) f.next
+
+  pub at_frame : (e : Plain S W M) (s : State) (f : Frame) → e.now ≡ now.Running f → IsEngine present stands older e s → AtFrame e s f
+  at_frame e s f doing is =
+      let next : DoesNext (present e.store) (links_of e) e.query.items (now.Running f) (option_map (λ b. term_of b.term) e.raised) s =
+      subst (λ (n : Now). DoesNext (present e.store) (links_of e) e.query.items n (option_map (λ b. term_of b.term) e.raised) s) doing is.next in
+      let first = next.0 in
+      record {
+        member = first.member;
+        behind = first.behind;
+        list = first.is;
+        stands_for = first.stands;
+        ahead = record {
+          world = record { procedures_are = is.world.procedures_are; operators_are = is.world.operators_are; flags_are = is.world.flags_are };
+          steps = is.steps;
+          base = is.base;
+          choices = is.choices;
+          room = is.room;
+          goes = goes_with first.behind s.stack next.1;
+          chain = first.chain;
+        };
+      }
+
+  -- The engine, in this state, is to run this frame's body, which is at this place of the nodes.
+  pub record AtBody (e : Plain S W M) (s : State) (f : Frame) (k : ℕ) : Type 0 where
+    pub body : Body
+    pub behind : List Member
+    pub list : s.list ≡ Goal body f.mark ∷ behind
+    pub stands_for : IsBody (present e.store) e.nodes.items k body
+    pub ahead : IsAhead present stands older e (record s { list = behind }) f.next
+
+  pub at_body : (e : Plain S W M) (s : State) (f : Frame) (k : ℕ) → e.now ≡ now.Running f → f.todo ≡ todo.Body k → IsEngine present stands older e s → AtBody e s f k
+  at_body e s f k doing asks is =
+      let a = at_frame e s f doing is in
+      let b = body_of (present e.store) e.nodes.items f a.member k asks a.stands_for in
+      record { body = b.0; behind = a.behind; list = a.list ∙ ap (λ (m : Member). m ∷ a.behind) b.1; stands_for = b.2; ahead = a.ahead }
+
+  -- ---- what comes next
+
+  pub engine_frame : (e : Plain S W M) (s : State) (f : Frame) (m : Member) → IsAhead present stands older e s f.next → IsMember (present e.store) e.nodes.items f m
+      → IsEngine present stands older (record e { now = now.Running f }) (record s { list = m ∷ s.list })
+  engine_frame e s f m h is = record {
+    world = record { procedures_are = h.world.procedures_are; operators_are = h.world.operators_are; flags_are = h.world.flags_are };
+    steps = h.steps;
+    base = h.base;
+    choices = h.choices;
+    room = h.room;
+    next = (record { member = m; behind = s.list; is = refl; stands = is; chain = h.chain }, goes_with (m ∷ s.list) s.stack h.goes);
+  }
+
+  pub engine_place : (e : Plain S W M) (s : State) (place : Option ℕ) → IsAhead present stands older e s place → IsEngine present stands older (record e { now = now_behind e.frames.items place }) s
+  engine_place e s place h = record {
+    world = record { procedures_are = h.world.procedures_are; operators_are = h.world.operators_are; flags_are = h.world.flags_are };
+    steps = h.steps;
+    base = h.base;
+    choices = h.choices;
+    room = h.room;
+    next = next_behind (present e.store) (links_of e) e.query.items (option_map (λ b. term_of b.term) e.raised) s place s.list refl h.chain h.goes;
+  }
+
+  pub keeps_ahead : (e : Plain S W M) (s : State) (place : Option ℕ) → IsAhead present stands older e s place → Keeps present stands older e s.world s.stack
+  keeps_ahead e s place h = (h.world, h.base, (variables s.query, h.choices))
+
+  -- ---- frames and choices that come
+
+  -- other members
+  pub ahead_other : (e : Plain S W M) (s : State) (place other : Option ℕ) (ms : List Member) → IsAhead present stands older e s place → Chain (present e.store) (links_of e) other ms
+      → IsAhead present stands older e (record s { list = ms }) other
+  ahead_other e s place other ms h chain = record {
+    world = record { procedures_are = h.world.procedures_are; operators_are = h.world.operators_are; flags_are = h.world.flags_are };
+    steps = h.steps;
+    base = h.base;
+    choices = h.choices;
+    room = h.room;
+    goes = goes_with ms s.stack h.goes;
+    chain = chain;
+  }
+
+  pub chain_pushed : (e : Plain S W M) (frames : Vec Frame Global) (f : Frame) (place : Option ℕ) (ms : List Member) → frames.items ≡ e.frames.items ++ f ∷ [] → Chain (present e.store) (links_of e) place ms
+      → Chain (present e.store) (record { nodes = e.nodes.items; frames = frames.items }) place ms
+  chain_pushed e frames f place ms pushed chain =
+      let adds : AddsLinks (links_of e) (record { nodes = e.nodes.items; frames = frames.items }) = record { nodes = adds_none e.nodes.items; frames = (f ∷ [], pushed) } in
+      chain_more (record { nodes = e.nodes.items; frames = frames.items }) adds (words_same (present e.store)) chain
+
+  pub ahead_frame : (e : Plain S W M) (s : State) (f : Frame) (m : Member) (frames : Vec Frame Global) → IsAhead present stands older e s f.next → IsMember (present e.store) e.nodes.items f m
+      → frames.items ≡ e.frames.items ++ f ∷ [] → IsAhead present stands older (record e { frames = frames }) (record s { list = m ∷ s.list }) (Some (length e.frames.items))
+  ahead_frame e s f m frames h is pushed =
+      let links : Links W = record { nodes = e.nodes.items; frames = frames.items } in
+      let adds : AddsLinks (links_of e) links = record { nodes = adds_none e.nodes.items; frames = (f ∷ [], pushed) } in
+      record {
+        world = record { procedures_are = h.world.procedures_are; operators_are = h.world.operators_are; flags_are = h.world.flags_are };
+        steps = h.steps;
+        base = h.base;
+        choices = choices_more links adds h.choices;
+        room = h.room;
+        goes = goes_with (m ∷ s.list) s.stack h.goes;
+        chain = leads (rw pushed (at_last e.frames.items f)) (place_before e.frames.items f.next (chain_place f.next h.chain)) is (chain_pushed e frames f f.next s.list pushed h.chain);
+      }
+
+  -- the members ahead, as what is left at a choice
+  pub members_left : (e : Plain S W M) (s : State) (place : Option ℕ) (l : walker.Left) → IsAhead present stands older e s place
+      → HasMembers (left_at s.world.database.procedures) e.query.items (variables s.query) (present e.store) (links_of e) place l (record { list = s.list; subst = s.subst; next = s.next; built = s.built; left = l })
+  members_left e s place l h = record { on = record { subst_is = h.goes.subst; next_is = h.goes.next; chain = h.chain; words = h.goes.words }; is = refl }
+
+  -- a choice with this left to be tried of the members ahead
+  pub ahead_choice : (e : Plain S W M) (s : State) (place : Option ℕ) (store : S) (choices : Vec (kept.Choice W M) Global) (left : Left W) (l : walker.Left) → IsAhead present stands older e s place
+      → HasLeft (left_at s.world.database.procedures) e.query.items (variables s.query) (present e.store) (links_of e) left (record { list = s.list; subst = s.subst; next = s.next; built = s.built; left = l }) → entered_at l ≡ 0
+      → present store ≡ present e.store → KeepsMarks (stands e.store) (stands store)
+      → GainsChoice (stands e.store) (stands store) older (present e.store) (length e.nodes.items) (length e.frames.items) left e.choices.items choices.items
+      → IsAhead present stands older (record e { store = store; choices = choices }) (pushed s.list l s) place
+  ahead_choice e s place store choices left l h has none same keeps gains =
+      let b = h.base in
+      let c : kept.Choice W M = record { mark = gains.mark; nodes = length e.nodes.items; frames = length e.frames.items; left = left } in
+      let a : Alternative = record { list = s.list; subst = s.subst; next = s.next; built = s.built; left = l } in
+      let old : StandsForChoices (stands store) older e.base (left_at s.world.database.procedures) e.query.items (variables s.query) (links_of e) e.choices.items s.stack =
+      choices_keep (λ x p among there. keeps x.mark p there) h.choices in
+      let here : StandsForChoice (stands store) older e.base (left_at s.world.database.procedures) e.query.items (variables s.query) (links_of e) c a = record {
+        present = present e.store;
+        mark = gains.stands;
+        newer = gains.newer e.base b.present b.stands_for;
+        has = has;
+      } in
+      let newer : (x : kept.Choice W M) → Among x e.choices.items → older x.mark gains.mark = λ x among.
+      (let there = marks_stand x h.choices among in gains.newer x.mark there.0 there.1) in
+      let goes = goes_with {p = present e.store} {query = e.query.items} {s = s} s.list (a ∷ s.stack) h.goes in
+      record {
+        world = record { procedures_are = h.world.procedures_are; operators_are = h.world.operators_are; flags_are = h.world.flags_are };
+        steps = h.steps;
+        base = base_kept (stands e.store) (stands store) e.base keeps b;
+        choices = rw gains.are (choices_push c a refl refl here newer old);
+        room = ((let room = h.goes.room in let steps = h.steps in omega (arith, room, steps, none)), h.room);
+        goes = subst (λ (p : Present W). GoesOn p e.query.items (pushed s.list l s)) (sym same) goes;
+        chain = subst (λ (p : Present W). Chain p (links_of e) place s.list) (sym same) h.chain;
+      }
+
+  -- ---- choices that go
+
+  -- those above a height
+  pub ahead_cut : (e : Plain S W M) (s : State) (place : Option ℕ) (height : ℕ) (store : S) (choices : Vec (kept.Choice W M) Global) (c : kept.Choice W M) → IsAhead present stands older e s place
+      → slice_get e.choices.items height ≡ Some c → choices.items ≡ take height e.choices.items → present store ≡ present e.store
+      → ((m : M) (p : Present W) → older m c.mark → stands e.store m p → stands store m p)
+      → IsAhead present stands older (record e { store = store; choices = choices }) (cut_back height s.list s) place
+  ahead_cut e s place height store choices c h there taken same marks =
+      let b = h.base in
+      let l = lower height c there h.choices in
+      let stood : StandsForChoices (stands store) older e.base (left_at s.world.database.procedures) e.query.items (variables s.query) (links_of e) (take height e.choices.items) (shortened height s.stack) =
+      choices_keep (λ d p among standing. marks d.mark p (l.newer d among) standing) l.stand in
+      let goes = goes_with {p = present e.store} {query = e.query.items} {s = s} s.list (shortened height s.stack) h.goes in
+      record {
+        world = record { procedures_are = h.world.procedures_are; operators_are = h.world.operators_are; flags_are = h.world.flags_are };
+        steps = h.steps;
+        base = record { present = b.present; stands_for = marks e.base b.present l.newer_base b.stands_for; substitution = b.substitution; next = b.next };
+        choices = rw taken stood;
+        room = room_dropped e.steps (length s.stack - height) s.stack h.room;
+        goes = subst (λ (p : Present W). GoesOn p e.query.items (cut_back height s.list s)) (sym same) goes;
+        chain = subst (λ (p : Present W). Chain p (links_of e) place s.list) (sym same) h.chain;
+      }
+
+  -- none is above it
+  pub ahead_uncut : (e : Plain S W M) (s : State) (place : Option ℕ) (height : ℕ) → IsAhead present stands older e s place → length e.choices.items ≤ height → IsAhead present stands older e (cut_back height s.list s) place
+  ahead_uncut e s place height h less =
+      let many = choices_length h.choices in
+      let none : 0 ≡ length s.stack - height = omega (arith, many, less) in
+      let same : State = s in
+      subst (λ (n : ℕ). IsAhead present stands older e (record s { stack = drop n s.stack }) place) none (record {
+        world = record { procedures_are = h.world.procedures_are; operators_are = h.world.operators_are; flags_are = h.world.flags_are };
+        steps = h.steps;
+        base = h.base;
+        choices = h.choices;
+        room = h.room;
+        goes = goes_with s.list s.stack h.goes;
+        chain = h.chain;
+      })

@@ -1,0 +1,67 @@
+-- What a goal that took a step leaves to be done.
+use Rattle.std.proofs.Common.{◌≡◌, ◌≢◌, ◌+◌, ◌-◌, ◌<◌, ◌≤◌, ℕ, suc, refl, ap, sym, ◌∙◌, subst, arith, Vec, Global}
+use Rattle.iso_store_core.specs.Presents.{Present}
+use Rattle.iso_model.specs.Search.Bodies.{Body}
+use Rattle.iso_model.specs.Search.Walker.{State}
+use Rattle.iso_plain.specs.declared.bodies.Node.{Node}
+use Rattle.iso_plain.specs.declared.parts.Todo.{Todo}
+use Rattle.iso_plain.specs.declared.parts.Todo.TheVariants as todo
+use Rattle.iso_plain.specs.declared.parts.Frame.{Frame}
+use Rattle.iso_plain.specs.declared.parts.Now.{Now}
+use Rattle.iso_plain.specs.declared.parts.Now.TheVariants as now
+use Rattle.iso_plain.specs.declared.plain.Plain.{Plain}
+use Rattle.iso_plain.specs.Costs.{whole_cost, todo_cost, frame_costs, place_cost}
+use Rattle.iso_plain.specs.Next.{now_behind}
+use Rattle.iso_plain.specs.Standing.{IsBody}
+use Rattle.iso_plain.specs.EngineStates.{Represents, choices_cost, now_cost, cost, weight}
+use Rattle.iso_plain.proofs.AheadLemmas.{at_body}
+use Rattle.iso_plain.proofs.ControlCosts.{cost_at}
+use Rattle.iso_plain.proofs.CostLemmas.{cost_above, whole_paid, below_words, behind_cost}
+use Rattle.iso_plain.proofs.LocalMoves.{goal_paid, rest_paid}
+use Rattle.iso_plain.proofs.RunLemmas.{one_less}
+use Rattle.iso_plain.proofs.StandingLemmas.{body_within}
+use Rattle.iso_plain.proofs.WeightLemmas.{falls_less}
+
+-- a frame that asks for failure
+pub failing_falls : {S W M : Type 0} (e : Plain S W M) (f : Frame) → e.now ≡ now.Running f → f.todo ≡ todo.Fail → weight (record e { now = now.Failing }) < weight e
+failing_falls e f doing asks =
+    let old : cost e ≡ choices_cost e.procedures.items (frame_costs e.frames.items) e.choices.items + suc (place_cost e.frames.items f.next) =
+    ap (λ (n : Now). choices_cost e.procedures.items (frame_costs e.frames.items) e.choices.items + now_cost (frame_costs e.frames.items) n) doing
+    ∙ ap (λ (t : Todo). choices_cost e.procedures.items (frame_costs e.frames.items) e.choices.items + todo_cost t (place_cost e.frames.items f.next)) asks in
+    falls_less e (record e { now = now.Failing }) refl (omega (arith, old))
+
+module _ {S W M : Type 0} (present : S → Present W) (stands : S → M → Present W → Type 0) (older : M → M → Type 0) where
+  module _ (e : Plain S W M) (s : State) (f : Frame) (k : ℕ) (doing : e.now ≡ now.Running f) (asks : f.todo ≡ todo.Body k) (r : Represents present stands older e s) (more : e.steps ≢ 0) where
+    -- less than before the goal is to be done behind it
+    pub behind_less : choices_cost e.procedures.items (frame_costs e.frames.items) e.choices.items + place_cost e.frames.items f.next + 1 ≤ cost e
+    behind_less =
+        let old = cost_at present stands older e s f k doing r asks in
+        let up = cost_above k (place_cost e.frames.items f.next) in
+        omega (arith, old, up)
+
+    -- with the step that is taken
+    pub step_weight : whole_cost (suc (e.steps - 1)) (cost e) ≡ weight e
+    step_weight = ap (λ n. whole_cost n (cost e)) (sym (one_less e.steps more))
+
+    pub goes_falls : (store : S) (nodes : Vec (Node W) Global) → weight (record e { store = store; nodes = nodes; steps = e.steps - 1; now = now_behind e.frames.items f.next }) < weight e
+    goes_falls store nodes =
+        let chain = ((at_body present stands older e r.own f k doing asks r.engine).ahead).chain in
+        let next = behind_cost f.next chain in
+        let paid = rest_paid (e.steps - 1) (choices_cost e.procedures.items (frame_costs e.frames.items) e.choices.items) (place_cost e.frames.items f.next) (cost e) behind_less in
+        subst (λ x. weight (record e { store = store; nodes = nodes; steps = e.steps - 1; now = now_behind e.frames.items f.next }) < x) step_weight (rw next paid)
+
+    pub fails_falls : (store : S) (nodes : Vec (Node W) Global) → weight (record e { store = store; nodes = nodes; steps = e.steps - 1; now = now.Failing }) < weight e
+    fails_falls store nodes =
+        let all = behind_less in
+        let paid = whole_paid (e.steps - 1) (cost e) (choices_cost e.procedures.items (frame_costs e.frames.items) e.choices.items + 0) (omega (arith, all)) in
+        subst (λ x. weight (record e { store = store; nodes = nodes; steps = e.steps - 1; now = now.Failing }) < x) step_weight paid
+
+    pub calls_falls : (store : S) (nodes : Vec (Node W) Global) (place mark : ℕ) (b : Body) → IsBody (present store) nodes.items place b
+        → weight (record e { store = store; nodes = nodes; steps = e.steps - 1; now = now.Running (record { todo = todo.Body place; mark = mark; next = f.next }) }) < weight e
+    calls_falls store nodes place mark b body =
+        let here = body_within (present store) body in
+        let many = nodes.ok.0 in
+        let within = nodes.ok.1 in
+        let small = nodes.small in
+        let paid = goal_paid place (e.steps - 1) (choices_cost e.procedures.items (frame_costs e.frames.items) e.choices.items) (place_cost e.frames.items f.next) (cost e) (below_words place (omega (arith, here, many, within, small))) behind_less in
+        subst (λ x. weight (record e { store = store; nodes = nodes; steps = e.steps - 1; now = now.Running (record { todo = todo.Body place; mark = mark; next = f.next }) }) < x) step_weight paid

@@ -1,0 +1,29 @@
+-- Bodies with the same values come to states that are the same.
+use Rattle.std.proofs.Common.{◌≡◌, ℕ, List, ◌∷◌, refl, sym, ◌∙◌}
+use Rattle.iso_model.specs.Search.Bodies.{Body, map_body}
+use Rattle.iso_model.specs.Search.Walker.{State, Member, Goal, Fail, AsIs, pushed}
+use Rattle.iso_model.specs.Search.RunLaws.Sameness.{flat, Around, Same, going, failing, same_alternative}
+use Rattle.iso_model.specs.Search.RunLaws.SameSteps.{put_alike, list_same}
+use Rattle.iso_model.specs.Search.RunLaws.SameLaws.{same_back, same_on}
+
+goal_no_failure : {b : Body} {m : ℕ} {ms ns : List Member} → Goal b m ∷ ms ≡ Fail ∷ ns → ⊥
+goal_no_failure e = cc
+
+around_itself : (s : State) (b : Body) (mark : ℕ) (rest : List Member) → s.list ≡ Goal b mark ∷ rest → Same s s → Around s s
+around_itself s b mark rest list (going at same) = at
+around_itself s b mark rest list (failing ms ns is are h) = absurd (goal_no_failure (sym list ∙ is))
+
+-- a state that goes on, and is the same as another, is the same as itself
+pub around_own : (o s : State) (b : Body) (mark : ℕ) (rest : List Member) → o.list ≡ Goal b mark ∷ rest → Same o s → Around o o
+around_own o s b mark rest list same = around_itself o b mark rest list (same_on o s o same (same_back o s same))
+
+-- with other steps, and something else built
+pub around_steps : (s : State) (list : List Member) (built steps : ℕ) → Around s s → Around (record s { list = list; built = built; steps = steps }) (record s { list = list; built = built; steps = steps })
+around_steps s list built steps at = record { agree = at.agree; next = refl; beside = record { stack = at.beside.stack; world = refl; steps = refl } }
+
+pub around_pushed : (s : State) (list : List Member) → Around s s → Around (pushed list AsIs s) (pushed list AsIs s)
+around_pushed s list at = record { agree = at.agree; next = refl; beside = record { stack = same_alternative at.agree refl (list_same list) refl tt tt at.beside.stack; world = refl; steps = refl } }
+
+pub same_first : (s : State) (b c : Body) (mark : ℕ) (ms : List Member) → map_body s.subst b ≡ map_body s.subst c → Around s s → Same (record s { list = Goal b mark ∷ ms }) (record s { list = Goal c mark ∷ ms })
+same_first s b c mark ms same at =
+    going (record { agree = at.agree; next = refl; beside = record { stack = at.beside.stack; world = refl; steps = refl } }) (put_alike s.subst s.subst (flat ms) (flat ms) b c mark same (list_same ms))

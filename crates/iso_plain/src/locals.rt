@@ -1,0 +1,125 @@
+//! The engine's moves at goals that run a goal, or that succeed again and again (7.8.3, 8.15).
+ghost use Rattle.std.specs.Prelude.{◌≡◌, ℕ, suc, ◌+◌, ◌≤◌, IfOk, OnErr, ◌∷◌, length};
+ghost use Rattle.iso_model.specs.Search.Bodies.{Body};
+ghost use Rattle.iso_model.specs.Search.Walker.{State, AsIs, Again, pushed};
+
+use super::parts::{Frame, Left, Now, Todo, at, keep_choice, push_frame};
+use super::plain::{Move, Plain};
+use iso_model::{Limit, Pause};
+use iso_store_core::{Store, StoreFault};
+
+impl<S: Store + Drop> Plain<S> {
+    ghost use Rattle.iso_plain.specs.EngineStates.{IsAhead, WasRefused, Keeps, WasCalled, Falls, calling_once, refuting, choices_cost, weight};
+    ghost use Rattle.iso_plain.specs.Costs.{rest_cost, frame_costs, whole_cost};
+    ghost use Rattle.iso_plain.specs.Standing.{IsBody};
+    ghost use Rattle.iso_plain.specs.Stays.{Stays};
+    ghost use Rattle.iso_plain.specs.Limits.{ResultMet, ResultFull};
+
+    /// Runs the body at this place of the nodes for its first solution, before the members from `next` on (8.15.2). The error is
+    /// that memory was refused.
+    pub(crate) fn call_once(&mut self, body: usize, next: Option<usize>) -> Result<Move, StoreFault>
+        requires { (s : State) × (b : Body) × IsAhead S.present S.stands S.older self.old s next × IsBody (S.present self.old.store) self.old.nodes.items body b }
+        ensures called { (s : State) (b : Body) → IsAhead S.present S.stands S.older self.old s next → IsBody (S.present self.old.store) self.old.nodes.items body b
+            → IfOk result (λ m. WasCalled S.present S.stands S.older m self.new s (calling_once b s)) }
+        ensures kept { (s : State) → IsAhead S.present S.stands S.older self.old s next → OnErr result (Keeps S.present S.stands S.older self.new s.world s.stack) }
+        ensures falls { (w : ℕ) → choices_cost self.old.procedures.items (frame_costs self.old.frames.items) self.old.choices.items
+            + rest_cost (frame_costs self.old.frames.items) next + 1 ≤ w → IfOk result (λ m. Falls m (whole_cost (suc self.old.steps) w) (weight self.new)) }
+        ensures frames { ResultFull ⊥ result }
+        ensures met { ResultMet S.full result self.new }
+        ensures stays { Stays self.old self.new }
+    {
+        let height = self.choices.len();
+        let once = push_frame(
+            &mut self.frames,
+            Frame {
+                todo: Todo::CutBack,
+                mark: height,
+                next,
+            },
+        )?;
+        self.now = Now::Running(Frame {
+            todo: Todo::Body(body),
+            mark: height,
+            next: Some(once),
+        });
+        Ok(Move::Goes)
+    }
+
+    /// Runs the body at this place of the nodes, and goes on with the members from `next` on where it has no solution
+    /// (8.15.1). The error is that memory was refused; where no choice may be made any more the engine is spent.
+    pub(crate) fn refute(&mut self, body: usize, next: Option<usize>) -> Result<Move, StoreFault>
+        requires { (s : State) × (b : Body) × IsAhead S.present S.stands S.older self.old s next × IsBody (S.present self.old.store) self.old.nodes.items body b }
+        ensures called { (s : State) (b : Body) → IsAhead S.present S.stands S.older self.old s next → IsBody (S.present self.old.store) self.old.nodes.items body b
+            → IfOk result (λ m. WasCalled S.present S.stands S.older m self.new s (refuting b s)) }
+        ensures kept { (s : State) → IsAhead S.present S.stands S.older self.old s next
+            → OnErr result (WasRefused S.present S.stands S.older self.new s (pushed s.list AsIs s)) }
+        ensures falls { (w : ℕ) → choices_cost self.old.procedures.items (frame_costs self.old.frames.items) self.old.choices.items
+            + rest_cost (frame_costs self.old.frames.items) next + 1 ≤ w → IfOk result (λ m. Falls m (whole_cost (suc self.old.steps) w) (weight self.new)) }
+        ensures frames { ResultFull (self.old.limit ≤ length self.old.choices.items) result }
+        ensures met { ResultMet S.full result self.new }
+        ensures stays { Stays self.old self.new }
+    {
+        let height = self.choices.len();
+        if height >= self.limit as usize {
+            self.now = Now::Spent(Limit::Frames);
+            return Ok(Move::Pauses(Pause::FramesFull));
+        }
+        keep_choice(
+            &mut self.store,
+            &mut self.choices,
+            Left::AsIs(next),
+            self.nodes.len(),
+            self.frames.len(),
+        )?;
+        let fail = push_frame(
+            &mut self.frames,
+            Frame {
+                todo: Todo::Fail,
+                mark: height,
+                next,
+            },
+        )?;
+        let once = push_frame(
+            &mut self.frames,
+            Frame {
+                todo: Todo::CutBack,
+                mark: height,
+                next: Some(fail),
+            },
+        )?;
+        self.now = Now::Running(Frame {
+            todo: Todo::Body(body),
+            mark: height + 1,
+            next: Some(once),
+        });
+        Ok(Move::Goes)
+    }
+
+    /// Goes on with the members from `next` on, and leaves a choice that does so again and again (8.15.3). The error is that
+    /// memory was refused; where no choice may be made any more the engine is spent.
+    pub(crate) fn repeat(&mut self, next: Option<usize>) -> Result<Move, StoreFault>
+        requires { (s : State) × IsAhead S.present S.stands S.older self.old s next }
+        ensures called { (s : State) → IsAhead S.present S.stands S.older self.old s next
+            → IfOk result (λ m. WasCalled S.present S.stands S.older m self.new s (pushed s.list Again s)) }
+        ensures kept { (s : State) → IsAhead S.present S.stands S.older self.old s next → OnErr result (Keeps S.present S.stands S.older self.new s.world s.stack) }
+        ensures falls { (w : ℕ) → choices_cost self.old.procedures.items (frame_costs self.old.frames.items) self.old.choices.items
+            + rest_cost (frame_costs self.old.frames.items) next + 1 ≤ w → IfOk result (λ m. Falls m (whole_cost (suc self.old.steps) w) (weight self.new)) }
+        ensures frames { ResultFull (self.old.limit ≤ length self.old.choices.items) result }
+        ensures met { ResultMet S.full result self.new }
+        ensures stays { Stays self.old self.new }
+    {
+        if self.choices.len() >= self.limit as usize {
+            self.now = Now::Spent(Limit::Frames);
+            return Ok(Move::Pauses(Pause::FramesFull));
+        }
+        keep_choice(
+            &mut self.store,
+            &mut self.choices,
+            Left::Again(next),
+            self.nodes.len(),
+            self.frames.len(),
+        )?;
+        self.now = at(self.frames.as_slice(), next);
+        Ok(Move::Goes)
+    }
+}

@@ -1,0 +1,15 @@
+pub mod TermLemmas
+pub mod ConnectiveLemmas
+pub mod PlaceLemmas
+pub mod ConversionLemmas
+pub mod CopyLemmas
+pub mod PrepareLemmas
+pub mod TreeLemmas
+pub mod ReadingLemmas
+pub mod PartGoals
+pub mod GoalLemmas
+pub mod UseLemmas
+pub mod VariableUses
+pub mod ClassLemmas
+pub mod ReadLemmas
+pub mod KeptLemmas

@@ -1,0 +1,10 @@
+pub mod Classes
+pub mod Preparations
+pub mod Connectives
+pub mod Conversions
+pub mod Loads
+pub mod Assembling
+pub mod Codes
+pub mod Trees
+pub mod Readings
+pub mod Uses

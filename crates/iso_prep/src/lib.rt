@@ -1,0 +1,17 @@
+//! Clauses and goals made ready once, before they are run: checked and converted, with their variables numbered (7.6).
+#![tactic(auto)]
+
+mod callable;
+pub mod classes;
+mod connectives;
+pub mod constructs;
+mod copies;
+pub mod fault;
+mod goals;
+mod prepared;
+mod uses;
+
+pub use classes::Class;
+pub use constructs::Construct;
+pub use fault::Fault;
+pub use prepared::{Prepared, prepare, prepare_goal};
