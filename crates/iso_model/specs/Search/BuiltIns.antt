@@ -1,6 +1,6 @@
 -- The procedures of the language itself (ISO/IEC 13211-1:1995, 7.8 and 8): one table says which there are, and one function what a goal of
 -- each comes to.
-use Rattle.std.specs.Prelude.{nat_lt, List, [], ◌∷◌, Bool, true, false, ◌||◌, Option, Some, None, codes, if◌then◌else◌}
+use Rattle.std.specs.Prelude.{ℕ, nat_lt, List, [], ◌∷◌, Bool, true, false, ◌||◌, Option, Some, None, codes, if◌then◌else◌}
 use Rattle.iso_model.specs.Terms.Trees.{Tree, Variable}
 use Rattle.iso_model.specs.Terms.Substitutions.{Subst}
 use Rattle.iso_model.specs.Terms.Unification.{unifier_of}
@@ -55,6 +55,10 @@ pub data Reply : Type 0 where
   Refutes : (goal : Body) → Reply
   -- it succeeds each time that it is tried
   Repeats : Reply
+  -- a goal is run, or an error thrown, inside a catch with this catcher and this recovery
+  Catches : (inside : Reply) → (catcher : Tree) → (recovery : Tree) → Reply
+  -- the search ends with this status
+  Halts : (status : ℕ) → Reply
 
 -- nothing is bound where terms have a unifier or have none
 abbrev pub differ : Option Subst → Reply

@@ -11,10 +11,10 @@ use Rattle.iso_model.specs.Terms.Sizes.{size}
 use Rattle.iso_model.specs.Terms.Variables.{variables, variable_count}
 use Rattle.iso_model.specs.Terms.Substitutions.{Subst, apply, compose}
 use Rattle.iso_model.specs.Terms.Unification.{unifier_of}
-use Rattle.iso_model.specs.Terms.Copies.{renamed}
-use Rattle.iso_model.specs.Search.Bodies.{Body, Cut, Run, And, Or, If, Choose, converted, body_term, map_body, is_true}
+use Rattle.iso_model.specs.Terms.Copies.{copy_from, renamed}
+use Rattle.iso_model.specs.Search.Bodies.{Body, Cut, Run, And, Or, If, Choose, one, converted, body_term, map_body, is_true}
 use Rattle.iso_model.specs.Search.Databases.{Clause, Key, Database, key, key_of, no_clauses, clauses_at}
-use Rattle.iso_model.specs.Search.BuiltIns.{Reply, Fails, Succeeds, Equates, Raises, Calls, CallsOnce, Refutes, Repeats, built_in, reply}
+use Rattle.iso_model.specs.Search.BuiltIns.{Reply, Fails, Succeeds, Equates, Raises, Calls, CallsOnce, Refutes, Repeats, Catches, Halts, built_in, reply}
 use Rattle.iso_model.specs.Search.Errors.{type_error_callable, existence_error}
 use Rattle.iso_model.specs.declared.built_ins.BuiltIn.{BuiltIn}
 
@@ -30,19 +30,23 @@ pub record World : Type 0 where
 abbrev pub first_world : World
 first_world = record { database = no_clauses; operators = initial_entries; flags = initial_flags; runs = 0 }
 
--- A member of the list of goals: a goal with its cut mark (a height of the stack), a cut back to a height, failure, or a thrown ball
--- (7.7.3, 7.8.4, 7.8.10).
+-- A member of the list of goals: a goal with its cut mark (a height of the stack), a cut back to a height, failure, the end of a catch's goal (its
+-- alternative stands at this height), a thrown ball, or a ball that is to be caught by this catcher (7.7.3, 7.8.4, 7.8.9, 7.8.10).
 pub data Member : Type 0 where
   Goal : (body : Body) → (mark : ℕ) → Member
   CutTo : (height : ℕ) → Member
   Fail : Member
+  Leave : (height : ℕ) → Member
   Raise : (ball : Tree) → Member
+  Meet : (ball : Tree) → (catcher : Tree) → (recovery : Tree) → Member
 
--- what is left to be tried at an alternative: its goals as they are, once or again and again, or these clauses for this call
+-- what is left to be tried at an alternative: its goals as they are, once or again and again, these clauses for this call, or nothing: it is the entry
+-- of a catch
 pub data Left : Type 0 where
   AsIs : Left
   Again : Left
   Clauses : (call : Tree) → (clauses : List Clause) → Left
+  Catching : (catcher : Tree) → (recovery : Tree) → Left
 
 -- An alternative: the goals, the substitution, the next number and what was built, as they were when it was made, and what is left to
 -- be tried (7.7.8).
@@ -163,6 +167,7 @@ abbrev pub retried : Left → State → Outcome
 retried AsIs s = Goes s
 retried Again s = paid s.steps s (Goes (pushed s.list Again s))
 retried (Clauses call cs) s = Goes (tried call cs s.list s)
+retried (Catching catcher recovery) s = Goes (fails s)
 
 -- failure goes on with the newest alternative; where there is none the search ends
 abbrev pub backtracked : List Alternative → State → Outcome
@@ -188,7 +193,8 @@ equated (Some u) rest s = record s { list = rest; subst = u }
 abbrev pub with_goal : Body → State → State
 with_goal b s = record s { built = s.built + size (body_term b) }
 
--- A goal of a built-in comes to this. Where it runs a goal, a cut in that is one back to the height of the stack at its call.
+-- A goal of a built-in comes to this. Where it runs a goal, a cut in that is one back to the height of the stack at its call. A catch's goal is run, or
+-- its error raised, inside the catch: behind its alternative and before its end.
 abbrev pub replied : Reply → List Member → State → Outcome
 replied Fails rest s = Goes (fails s)
 replied Succeeds rest s = Goes (record s { list = rest })
@@ -198,6 +204,8 @@ replied (CallsOnce b) rest s = Goes (record (with_goal b s) { list = Goal b (len
 replied (Refutes b) rest s =
     Goes (record (pushed rest AsIs (with_goal b s)) { list = Goal b (suc (length s.stack)) ∷ CutTo (length s.stack) ∷ Fail ∷ rest })
 replied Repeats rest s = Goes (record (pushed rest Again s) { list = rest })
+replied (Catches inside catcher recovery) rest s = replied inside (Leave (length s.stack) ∷ rest) (pushed rest (Catching catcher recovery) s)
+replied (Halts status) rest s = Ends (Halted status) s.world
 replied (Equates a b) rest s = Goes (equated (under s.subst (unifier_of a b)) rest (record s { built = s.built + 2 }))
 
 -- what a goal of this name and arity runs: a built-in where there is one, else a user procedure
@@ -210,10 +218,33 @@ abbrev pub run_goal : Option Key → Tree → List Member → State → Outcome
 run_goal (Some k) t rest s = selected (built_in k) k t rest s
 run_goal None t rest s = Goes (fails s)
 
--- A ball is thrown: what follows it in the list is passed over, and nothing catches it (7.8.10).
+-- The newest of these alternatives is the entry of a catch: its state comes back, and its catcher is to meet the ball; else it comes to the other.
+abbrev pub caught_at : Left → Alternative → List Alternative → Tree → State → Outcome → Outcome
+caught_at (Catching catcher recovery) a below ball s other =
+    Goes (record s { list = Meet ball catcher recovery ∷ a.list; subst = a.subst; next = a.next; built = a.built; stack = below })
+caught_at left a below ball s other = other
+
+abbrev pub caught : List Alternative → Tree → State → Outcome → Outcome
+caught [] ball s other = other
+caught (a ∷ below) ball s other = caught_at a.left a below ball s other
+
+-- A ball is thrown: it goes to the innermost catch whose goal has not ended, which is the first whose end follows in the list; where there is
+-- none it ends the search (7.8.9, 7.8.10).
 abbrev pub thrown : Tree → List Member → State → Outcome
 thrown ball [] s = Ends (Uncaught ball) s.world
+thrown ball (Leave height ∷ rest) s = caught (shortened (suc height) s.stack) ball s (thrown ball rest s)
 thrown ball (m ∷ rest) s = thrown ball rest s
+
+-- The catcher was unified with the ball, and the recovery is called; or not, and the ball is thrown on.
+abbrev pub met : Option Subst → Tree → Tree → List Member → State → State
+met None ball recovery rest s = record s { list = Raise ball ∷ rest }
+met (Some u) ball recovery rest s =
+    record s { list = Goal (Run (one (codes "call") recovery)) (length s.stack) ∷ rest; subst = u; next = s.next + variable_count ball }
+
+-- A catcher meets a copy of the ball, whose variables are numbered from the next number on (7.8.9).
+abbrev pub meets : Tree → Tree → Tree → List Member → State → State
+meets ball catcher recovery rest s =
+    met (under s.subst (unifier_of (apply s.subst catcher) (apply s.subst (copy_from ball s.next)))) ball recovery rest (record s { built = s.built + size ball })
 
 -- A goal is selected by its value under the substitution, which has the name and the arity that the goal was made with.
 abbrev pub run_value : Tree → List Member → State → Outcome
@@ -233,7 +264,9 @@ abbrev pub step_list : List Member → State → Outcome
 step_list [] s = Gives (Answered (values s)) (fails s)
 step_list (CutTo height ∷ rest) s = Goes (cut_back height rest s)
 step_list (Fail ∷ rest) s = backtracked s.stack s
+step_list (Leave height ∷ rest) s = Goes (record s { list = rest })
 step_list (Raise ball ∷ rest) s = thrown ball rest s
+step_list (Meet ball catcher recovery ∷ rest) s = Goes (meets ball catcher recovery rest s)
 step_list (Goal b mark ∷ rest) s = step_goal b mark rest s
 
 -- One step: it takes the first member of the list. An empty list is a solution, and failure comes next.

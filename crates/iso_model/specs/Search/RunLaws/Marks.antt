@@ -1,22 +1,29 @@
--- Cut marks: each is a height at which the stack stands still, and what follows a mark is marked over what the mark leaves of the stack. Every step
--- keeps this, so an engine may keep its alternatives in one stack, and a cut gives back the newest of them.
+-- Cut marks: each is a height at which the stack stands still, and what follows a mark is marked over what the mark leaves of the stack. The end of a
+-- catch's goal is marked by the height at which the catch's alternative stands. Every step keeps this, so an engine may keep its alternatives in one
+-- stack, a cut gives back the newest of them, and a thrown ball finds its catch.
 use Rattle.std.proofs.Common.{◌≡◌, ℕ, zero, suc, ◌+◌, ◌-◌, ◌≤◌, List, [], ◌∷◌, true, false, Option, Some, None, length, drop, refl, sym, ap, ◌∙◌, subst, arith, if◌then◌else◌}
 use Rattle.iso_ops.specs.declared.settings.Unknown.{Unknown}
 use Rattle.iso_ops.specs.declared.settings.Unknown.TheVariants as on_unknown
 use Rattle.iso_model.specs.Terms.Trees.{Tree, Variable}
+use Rattle.iso_model.specs.Terms.Sizes.{size}
 use Rattle.iso_model.specs.Terms.Substitutions.{Subst, apply}
 use Rattle.iso_model.specs.Terms.Unification.{unifier_of}
-use Rattle.iso_model.specs.Terms.Copies.{renamed}
+use Rattle.iso_model.specs.Terms.Copies.{copy_from, renamed}
 use Rattle.iso_model.specs.Search.Bodies.{Body, Cut, Run, And, Or, If, Choose, map_body, is_true, converted}
 use Rattle.iso_model.specs.Search.Databases.{Clause, Key, key_of, clauses_at}
-use Rattle.iso_model.specs.Search.BuiltIns.{Reply, Fails, Succeeds, Equates, Raises, Calls, CallsOnce, Refutes, Repeats, built_in, reply}
+use Rattle.iso_model.specs.Search.BuiltIns.{Reply, Fails, Succeeds, Equates, Raises, Calls, CallsOnce, Refutes, Repeats, Catches, Halts, built_in, reply}
 use Rattle.iso_model.specs.declared.built_ins.BuiltIn.{BuiltIn}
-use Rattle.iso_model.specs.Search.Walker.{State, World, Member, Goal, CutTo, Fail, Raise, Left, AsIs, Again, Clauses, Alternative, Outcome, Goes, Gives, Ends, charged, paid, before, entered, under, with_others, tried, retried, backtracked, unknown_called, called, equated, replied, selected, run_goal, run_value, thrown, clause_size, shortened, cut_back, pushed, step_goal, step_list, step, opening, started}
+use Rattle.iso_model.specs.Search.Walker.{State, World, Member, Goal, CutTo, Fail, Leave, Raise, Meet, Left, AsIs, Again, Clauses, Catching, Alternative, Outcome, Goes, Gives, Ends, charged, paid, before, entered, under, with_others, tried, retried, backtracked, unknown_called, called, equated, replied, selected, run_goal, run_value, caught_at, caught, thrown, met, meets, clause_size, shortened, cut_back, pushed, step_goal, step_list, step, opening, started}
 
 -- The first stack is what is left of the second when some of its newest alternatives are taken away.
 pub data Under : List Alternative → List Alternative → Type 0 where
   all : {low : List Alternative} → Under low low
   above : {low stack : List Alternative} {a : Alternative} → Under low stack → Under low (a ∷ stack)
+
+-- the alternative is the entry of a catch
+abbrev pub IsCatching : Left → Type 0
+IsCatching (Catching catcher recovery) = Unit {0}
+IsCatching left = ⊥
 
 -- Over this stack the list's marks are heights that stand, and what follows each is marked over what it leaves.
 pub data Marked : List Alternative → List Member → Type 0 where
@@ -24,7 +31,9 @@ pub data Marked : List Alternative → List Member → Type 0 where
   goal : {low stack : List Alternative} {b : Body} {m : ℕ} {rest : List Member} → Under low stack → length low ≡ m → Marked low rest → Marked stack (Goal b m ∷ rest)
   cut : {low stack : List Alternative} {m : ℕ} {rest : List Member} → Under low stack → length low ≡ m → Marked low rest → Marked stack (CutTo m ∷ rest)
   failing : {low stack : List Alternative} {rest : List Member} → Under low stack → Marked low rest → Marked stack (Fail ∷ rest)
+  leaving : {low stack : List Alternative} {a : Alternative} {h : ℕ} {rest : List Member} → Under (a ∷ low) stack → length low ≡ h → IsCatching a.left → Marked low rest → Marked stack (Leave h ∷ rest)
   raising : {low stack : List Alternative} {ball : Tree} {rest : List Member} → Under low stack → Marked low rest → Marked stack (Raise ball ∷ rest)
+  meeting : {low stack : List Alternative} {ball catcher recovery : Tree} {rest : List Member} → Under low stack → Marked low rest → Marked stack (Meet ball catcher recovery ∷ rest)
 
 -- the list of each alternative is marked over those below it
 pub data Stacked : List Alternative → Type 0 where
@@ -48,6 +57,10 @@ under_on : {low middle stack : List Alternative} → Under low middle → Under 
 under_on h all = h
 under_on h (above k) = above (under_on h k)
 
+under_below : {a : Alternative} {low stack : List Alternative} → Under (a ∷ low) stack → Under low stack
+under_below all = above all
+under_below (above h) = above (under_below h)
+
 under_length : {low stack : List Alternative} → Under low stack → length low ≤ length stack
 under_length all = omega arith
 under_length (above h) = let less = under_length h in omega arith
@@ -65,7 +78,9 @@ marked_on h done = done
 marked_on h (goal k e rest) = goal (under_on k h) e rest
 marked_on h (cut k e rest) = cut (under_on k h) e rest
 marked_on h (failing k rest) = failing (under_on k h) rest
+marked_on h (leaving k e c rest) = leaving (under_on k h) e c rest
 marked_on h (raising k rest) = raising (under_on k h) rest
+marked_on h (meeting k rest) = meeting (under_on k h) rest
 
 stacked_under : {low stack : List Alternative} → Under low stack → Stacked stack → Stacked low
 stacked_under all k = k
@@ -121,6 +136,7 @@ retried_marked : (l : Left) (s : State) → Marked s.stack s.list → Stacked s.
 retried_marked AsIs s marked k = record { list = marked; stack = k }
 retried_marked Again s marked k = paid_marked s.steps s (Goes (pushed s.list Again s)) (record { list = marked_on (above all) marked; stack = more marked k })
 retried_marked (Clauses call cs) s marked k = tried_marked call cs s.list s marked k
+retried_marked (Catching catcher recovery) s marked k = fails_marked s k
 
 backtracked_marked : (stack : List Alternative) (s : State) → Stacked stack → KeepsMarked (backtracked stack s)
 backtracked_marked [] s k = tt
@@ -146,6 +162,9 @@ replied_marked (Raises error) rest s marked k = record { list = raising all mark
 replied_marked (Calls b) rest s marked k = record { list = goal all refl marked; stack = k }
 replied_marked (CallsOnce b) rest s marked k = record { list = goal all refl (cut all refl marked); stack = k }
 replied_marked (Refutes b) rest s marked k = record { list = goal all refl (cut (above all) refl (failing all marked)); stack = more marked k }
+replied_marked (Catches inside catcher recovery) rest s marked k =
+    replied_marked inside (Leave (length s.stack) ∷ rest) (pushed rest (Catching catcher recovery) s) (leaving all refl tt marked) (more marked k)
+replied_marked (Halts status) rest s marked k = tt
 replied_marked Repeats rest s marked k = record { list = marked_on (above all) marked; stack = more marked k }
 
 selected_marked : (b : Option BuiltIn) (k : Key) (t : Tree) (rest : List Member) (s : State) → Marked s.stack rest → Stacked s.stack → KeepsMarked (selected b k t rest s)
@@ -164,15 +183,44 @@ goal_marked (Or a b) m rest s h e marked k = record { list = goal (above h) e ma
 goal_marked (If c t) m rest s h e marked k = record { list = goal all refl (cut all refl (goal h e marked)); stack = k }
 goal_marked (Choose c t x) m rest s h e marked k = record { list = goal all refl (cut (above all) refl (goal h e marked)); stack = more (goal h e marked) k }
 
-thrown_marked : (ball : Tree) (rest : List Member) (s : State) → KeepsMarked (thrown ball rest s)
-thrown_marked ball [] s = tt
-thrown_marked ball (m ∷ rest) s = thrown_marked ball rest s
+caught_at_marked : (l : Left) (a : Alternative) (below : List Alternative) (ball : Tree) (s : State) (o : Outcome) → Stacked (a ∷ below) → KeepsMarked o → KeepsMarked (caught_at l a below ball s o)
+caught_at_marked (Catching catcher recovery) a below ball s o (more marked k) other = record { list = meeting all marked; stack = k }
+caught_at_marked AsIs a below ball s o k other = other
+caught_at_marked Again a below ball s o k other = other
+caught_at_marked (Clauses call cs) a below ball s o k other = other
+
+caught_marked : (stack : List Alternative) (ball : Tree) (s : State) (o : Outcome) → Stacked stack → KeepsMarked o → KeepsMarked (caught stack ball s o)
+caught_marked [] ball s o k other = other
+caught_marked (a ∷ below) ball s o k other = caught_at_marked a.left a below ball s o k other
+
+dropped_stacked : (n : ℕ) (stack : List Alternative) → Stacked stack → Stacked (drop n stack)
+dropped_stacked zero stack k = k
+dropped_stacked (suc n) [] k = k
+dropped_stacked (suc n) (a ∷ below) (more marked k) = dropped_stacked n below k
+
+thrown_marked : (ball : Tree) (rest : List Member) (s : State) → Stacked s.stack → KeepsMarked (thrown ball rest s)
+thrown_marked ball [] s k = tt
+thrown_marked ball (Leave height ∷ rest) s k =
+    caught_marked (shortened (suc height) s.stack) ball s (thrown ball rest s) (dropped_stacked (length s.stack - suc height) s.stack k) (thrown_marked ball rest s k)
+thrown_marked ball (Goal b mark ∷ rest) s k = thrown_marked ball rest s k
+thrown_marked ball (CutTo height ∷ rest) s k = thrown_marked ball rest s k
+thrown_marked ball (Fail ∷ rest) s k = thrown_marked ball rest s k
+thrown_marked ball (Raise other ∷ rest) s k = thrown_marked ball rest s k
+thrown_marked ball (Meet other catcher recovery ∷ rest) s k = thrown_marked ball rest s k
+
+met_marked : (u : Option Subst) (ball recovery : Tree) {low : List Alternative} (rest : List Member) (s : State) → Under low s.stack → Marked low rest → Stacked s.stack → IsMarked (met u ball recovery rest s)
+met_marked None ball recovery rest s h marked k = record { list = raising h marked; stack = k }
+met_marked (Some u) ball recovery rest s h marked k = record { list = goal all refl (marked_on h marked); stack = k }
 
 list_marked : (ms : List Member) (s : State) → Marked s.stack ms → Stacked s.stack → KeepsMarked (step_list ms s)
 list_marked [] s marked k = fails_marked s k
 list_marked (CutTo m ∷ rest) s (cut h e marked) k = cut_marked s m rest h e marked k
 list_marked (Fail ∷ rest) s marked k = backtracked_marked s.stack s k
-list_marked (Raise ball ∷ rest) s marked k = thrown_marked ball rest s
+list_marked (Leave height ∷ rest) s (leaving h e c marked) k = record { list = marked_on (under_below h) marked; stack = k }
+list_marked (Raise ball ∷ rest) s marked k = thrown_marked ball rest s k
+list_marked (Meet ball catcher recovery ∷ rest) s (meeting h marked) k =
+    let t = met_marked (under s.subst (unifier_of (apply s.subst catcher) (apply s.subst (copy_from ball s.next)))) ball recovery rest (record s { built = s.built + size ball }) h marked k in
+    record { list = t.list; stack = t.stack }
 list_marked (Goal b m ∷ rest) s (goal h e marked) k = goal_marked b m rest s h e marked k
 
 -- a step keeps the marks

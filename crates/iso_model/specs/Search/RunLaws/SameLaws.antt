@@ -2,17 +2,19 @@
 use Rattle.std.proofs.Common.{◌≡◌, ℕ, List, [], ◌∷◌, refl, sym, ap, ◌∙◌, subst, arith}
 use Rattle.iso_model.specs.Terms.Substitutions.{Subst, apply}
 use Rattle.iso_model.specs.Search.Bodies.{Body, Cut, Run, And, Or, If, Choose}
-use Rattle.iso_model.specs.Search.Walker.{State, Member, Goal, CutTo, Fail, Raise, Alternative}
+use Rattle.iso_model.specs.Search.Walker.{State, Member, Goal, CutTo, Fail, Leave, Raise, Meet, Alternative}
 use Rattle.iso_model.specs.Search.RunLaws.SameSteps.{is_run}
-use Rattle.iso_model.specs.Search.RunLaws.Sameness.{put, flat, SameList, no_member, same_goal, same_construct, same_cut, same_failure, same_ball, Agree, SameStack, no_alternative, same_alternative, Beside, Same, going, failing}
+use Rattle.iso_model.specs.Search.RunLaws.Sameness.{put, flat, SameList, no_member, same_goal, same_construct, same_cut, same_failure, same_leave, same_ball, same_meeting, Agree, SameStack, no_alternative, same_alternative, Beside, Same, going, failing}
 
 pub list_back : {r q : Subst} {ms ns : List Member} → SameList r q ms ns → SameList q r ns ms
 list_back no_member = no_member
 list_back (same_goal same others) = same_goal (sym same) (list_back others)
 list_back (same_construct same others) = same_construct (sym same) (list_back others)
 list_back (same_cut others) = same_cut (list_back others)
-list_back same_failure = same_failure
-list_back same_ball = same_ball
+list_back (same_failure others) = same_failure (list_back others)
+list_back (same_leave others) = same_leave (list_back others)
+list_back (same_ball others) = same_ball (list_back others)
+list_back (same_meeting catcher recovery others) = same_meeting (sym catcher) (sym recovery) (list_back others)
 
 agree_back : {r q : Subst} {vs ws : List ℕ} (n m : ℕ) → n ≡ m → Agree r q vs ws n → Agree q r ws vs m
 agree_back n m e h = record { shown = sym h.shown; beyond = λ x more. sym (h.beyond x (omega (arith, e, more))); twice = h.other; other = h.twice }
@@ -39,8 +41,10 @@ list_on_list {r} {q} {p} (same_construct {b = b} {m = m} {ms = ms} same others) 
     let run = is_run r (apply q u) b (sym same) in
     subst (λ (d : Body). SameList r p (Goal d m ∷ ms) (Goal (Run w) k ∷ os)) (sym run.1) (same_goal (sym run.2 ∙ again) (list_on_list others more))
 list_on_list (same_cut others) (same_cut more) = same_cut (list_on_list others more)
-list_on_list same_failure same_failure = same_failure
-list_on_list same_ball same_ball = same_ball
+list_on_list (same_failure others) (same_failure more) = same_failure (list_on_list others more)
+list_on_list (same_leave others) (same_leave more) = same_leave (list_on_list others more)
+list_on_list (same_ball others) (same_ball more) = same_ball (list_on_list others more)
+list_on_list (same_meeting catcher recovery others) (same_meeting catcher' recovery' more) = same_meeting (catcher ∙ catcher') (recovery ∙ recovery') (list_on_list others more)
 
 agree_on_agree : {r q p : Subst} {us vs ws : List ℕ} (n m : ℕ) → n ≡ m → Agree r q us vs n → Agree q p vs ws m → Agree r p us ws n
 agree_on_agree n m e h k = record { shown = h.shown ∙ k.shown; beyond = λ x more. h.beyond x more ∙ k.beyond x (omega (arith, e, more)); twice = h.twice; other = k.other }
@@ -67,15 +71,19 @@ failure_first [] ns e = absurd (cc)
 failure_first (Goal b mark ∷ ms) ns e = absurd (body_no_failure b mark (flat ms) ns e)
 failure_first (CutTo height ∷ ms) ns e = absurd (cc)
 failure_first (Fail ∷ ms) ns e = (ms, refl)
+failure_first (Leave height ∷ ms) ns e = absurd (cc)
 failure_first (Raise ball ∷ ms) ns e = absurd (cc)
+failure_first (Meet ball catcher recovery ∷ ms) ns e = absurd (cc)
 
 fails_left : {r q : Subst} {ms ns : List Member} (others : List Member) → SameList r q ms ns → ns ≡ Fail ∷ others → (front : List Member) × (ms ≡ Fail ∷ front)
 fails_left others no_member e = absurd (cc)
 fails_left others (same_goal same more) e = absurd (cc)
 fails_left others (same_construct same more) e = absurd (cc)
 fails_left others (same_cut more) e = absurd (cc)
-fails_left others (same_failure {ms = ms}) e = (ms, refl)
-fails_left others same_ball e = absurd (cc)
+fails_left others (same_failure {ms = ms} more) e = (ms, refl)
+fails_left others (same_leave more) e = absurd (cc)
+fails_left others (same_ball more) e = absurd (cc)
+fails_left others (same_meeting catcher recovery more) e = absurd (cc)
 
 failing_left : (s t : State) (ns : List Member) → SameList s.subst t.subst (flat s.list) (flat t.list) → t.list ≡ Fail ∷ ns → (ms : List Member) × (s.list ≡ Fail ∷ ms)
 failing_left s t ns list is =

@@ -1,12 +1,12 @@
 -- States that are the same have one run.
 use Rattle.std.proofs.Common.{◌≡◌, ℕ, List, [], ◌∷◌, refl, sym, ap, ◌∙◌, subst, ◌⊎◌, inl, inr}
 use Rattle.iso_model.specs.Search.Bodies.{Body, Cut, Run, And, Or, If, Choose}
-use Rattle.iso_model.specs.Search.Walker.{State, World, Member, Goal, CutTo, Fail, Raise, Event, Ending, Outcome, Goes, Gives, Ends, idle, step_list, step}
+use Rattle.iso_model.specs.Search.Walker.{State, World, Member, Goal, CutTo, Fail, Leave, Raise, Meet, Event, Ending, Outcome, Goes, Gives, Ends, idle, step_list, step}
 use Rattle.iso_model.specs.Search.Runs.{Trace, Then, goes, gives, ends, Quiet, here, onward, Comes, Finishes}
 use Rattle.iso_model.specs.Search.Runs as runs
 use Rattle.iso_model.specs.Search.RunLaws.Named.{run_of, run_of_is, run_of_only}
 use Rattle.iso_model.specs.Search.RunLaws.Sameness.{flat, Same, going, failing}
-use Rattle.iso_model.specs.Search.RunLaws.SameSteps.{SameOut, both_go, both_give, both_end, Open, open_end, open_goal, open_cut, open_failure, open_ball, opened, opens, with_lists, list_is_open, same_opened, steps_alike}
+use Rattle.iso_model.specs.Search.RunLaws.SameSteps.{SameOut, both_go, both_give, both_end, Open, open_end, open_goal, open_other, opened, opens, with_lists, list_is_open, same_opened, steps_alike}
 
 -- what a step goes to, gives or ends with is what the other's does
 pub after_go : {s : State} {o : Outcome} → SameOut (Goes s) o → (t : State) × (o ≡ Goes t) × Same s t
@@ -34,10 +34,12 @@ begins (Goal (Run t) mark ∷ ms) = inr (open_goal refl)
 begins (Goal (Or a b) mark ∷ ms) = inr (open_goal refl)
 begins (Goal (If c t) mark ∷ ms) = inr (open_goal refl)
 begins (Goal (Choose c t e) mark ∷ ms) = inr (open_goal refl)
-begins (CutTo height ∷ ms) = inr open_cut
+begins (CutTo height ∷ ms) = inr (open_other refl)
 begins (Goal (And a b) mark ∷ ms) = inl (a, b, mark, ms, refl)
-begins (Fail ∷ ms) = inr open_failure
-begins (Raise ball ∷ ms) = inr open_ball
+begins (Fail ∷ ms) = inr (open_other refl)
+begins (Leave height ∷ ms) = inr (open_other refl)
+begins (Raise ball ∷ ms) = inr (open_other refl)
+begins (Meet ball catcher recovery ∷ ms) = inr (open_other refl)
 
 -- a conjunction is taken apart
 taken_apart : (s : State) (a b : Body) (mark : ℕ) (others : List Member) → s.list ≡ Goal (And a b) mark ∷ others → step s ≡ Goes (record s { list = Goal a mark ∷ Goal b mark ∷ others })

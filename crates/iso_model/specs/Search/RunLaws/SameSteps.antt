@@ -1,22 +1,23 @@
 -- What steps of states that are the same come to.
-use Rattle.std.proofs.Common.{◌≡◌, ℕ, zero, suc, ◌+◌, ◌≤◌, ◌-◌, List, [], ◌∷◌, Bool, true, false, Option, Some, None, map, length, drop, refl, sym, ap, ap₂, ◌∙◌, subst, arith, if◌then◌else◌}
+use Rattle.std.proofs.Common.{codes, ◌≡◌, ℕ, zero, suc, ◌+◌, ◌≤◌, ◌-◌, List, [], ◌∷◌, Bool, true, false, Option, Some, None, map, length, drop, refl, sym, ap, ap₂, ◌∙◌, subst, arith, if◌then◌else◌}
 use Rattle.iso_ops.specs.declared.settings.Unknown.{Unknown}
 use Rattle.iso_ops.specs.declared.settings.Unknown.TheVariants as on_unknown
 use Rattle.iso_model.specs.Terms.Trees.{Tree, Variable}
-use Rattle.iso_model.specs.Terms.Variables.{variables}
+use Rattle.iso_model.specs.Terms.Variables.{variables, variable_count}
+use Rattle.iso_model.specs.Terms.Sizes.{size}
 use Rattle.iso_model.specs.Terms.Substitutions.{Subst, apply, compose}
 use Rattle.iso_model.specs.Terms.Unifiers.{Unifier, IsUnifierOf}
 use Rattle.iso_model.specs.Terms.Unification.{unifier_of, unifier_of_is}
 use Rattle.iso_model.specs.Terms.Unification.Applied.{apply_apply, apply_same}
-use Rattle.iso_model.specs.Terms.Copies.{renamed}
-use Rattle.iso_model.specs.Search.Bodies.{Body, Cut, Run, And, Or, If, Choose, map_body, is_true}
+use Rattle.iso_model.specs.Terms.Copies.{copy_from, renamed, place_of}
+use Rattle.iso_model.specs.Search.Bodies.{Body, Cut, Run, And, Or, If, Choose, one, map_body, is_true}
 use Rattle.iso_model.specs.Search.Databases.{Clause, Key, key_of, clauses_at}
-use Rattle.iso_model.specs.Search.BuiltIns.{Reply, Fails, Succeeds, Equates, Raises, Calls, CallsOnce, Refutes, Repeats, built_in, reply}
+use Rattle.iso_model.specs.Search.BuiltIns.{Reply, Fails, Succeeds, Equates, Raises, Calls, CallsOnce, Refutes, Repeats, Catches, Halts, built_in, reply}
 use Rattle.iso_model.specs.declared.built_ins.BuiltIn.{BuiltIn}
-use Rattle.iso_model.specs.Search.Walker.{State, World, Member, Goal, CutTo, Fail, Raise, Left, AsIs, Again, Clauses, Alternative, Event, Ending, Outcome, Goes, Gives, Ends, Answered, NoMore, Budget, Uncaught, charged, paid, before, entered, under, tried_clause, with_others, tried, retried, backtracked, unknown_called, called, equated, with_goal, replied, selected, run_goal, run_value, thrown, fails, values, clause_size, shortened, cut_back, pushed, step_goal, step_list, step}
+use Rattle.iso_model.specs.Search.Walker.{State, World, Member, Goal, CutTo, Fail, Leave, Raise, Meet, Left, AsIs, Again, Clauses, Catching, Alternative, Event, Ending, Outcome, Goes, Gives, Ends, Answered, NoMore, Budget, Uncaught, Halted, charged, paid, before, entered, under, tried_clause, with_others, tried, retried, backtracked, unknown_called, called, equated, with_goal, replied, selected, run_goal, run_value, caught_at, caught, thrown, met, meets, fails, values, clause_size, shortened, cut_back, pushed, step_goal, step_list, step}
 use Rattle.iso_model.specs.Search.Runs.{Quiet, here, onward}
 use Rattle.iso_model.specs.Search.RunLaws.Values.{IsValue, IsOwnBody, IsOwnLeft, IsOwnReply, value_is, twice_on, reply_own}
-use Rattle.iso_model.specs.Search.RunLaws.Sameness.{put, flat, SameList, no_member, same_goal, same_construct, same_cut, same_failure, same_ball, Agree, SameStack, no_alternative, same_alternative, Beside, Around, Same, going, failing}
+use Rattle.iso_model.specs.Search.RunLaws.Sameness.{put, flat, SameList, no_member, same_goal, same_construct, same_cut, same_failure, same_leave, same_ball, same_meeting, Agree, SameStack, no_alternative, same_alternative, Beside, Around, Same, going, failing}
 
 -- ---- substitutions
 
@@ -44,8 +45,10 @@ list_on u no_member = no_member
 list_on {r} {q} u (same_goal {t = a} {u = b} same others) = same_goal (value_on r q u a b same) (list_on u others)
 list_on {r} {q} u (same_construct {b = a} {c = b} same others) = same_construct (body_on r q u a b same) (list_on u others)
 list_on u (same_cut others) = same_cut (list_on u others)
-list_on u same_failure = same_failure
-list_on u same_ball = same_ball
+list_on u (same_failure others) = same_failure (list_on u others)
+list_on u (same_leave others) = same_leave (list_on u others)
+list_on u (same_ball others) = same_ball (list_on u others)
+list_on {r} {q} u (same_meeting {c = c} {d = d} {x = x} {y = y} catcher recovery others) = same_meeting (value_on r q u c d catcher) (value_on r q u x y recovery) (list_on u others)
 
 map_on : (r u : Subst) (vs : List ℕ) → map (compose r u) vs ≡ map (apply u) (map r vs)
 map_on r u [] = refl
@@ -176,8 +179,10 @@ pub list_same : {r : Subst} (ms : List Member) → SameList r r (flat ms) (flat 
 list_same [] = no_member
 list_same {r} (Goal b mark ∷ ms) = put_alike r r (flat ms) (flat ms) b b mark refl (list_same ms)
 list_same (CutTo height ∷ ms) = same_cut (list_same ms)
-list_same (Fail ∷ ms) = same_failure
-list_same (Raise ball ∷ ms) = same_ball
+list_same (Fail ∷ ms) = same_failure (list_same ms)
+list_same (Leave height ∷ ms) = same_leave (list_same ms)
+list_same (Raise ball ∷ ms) = same_ball (list_same ms)
+list_same (Meet ball catcher recovery ∷ ms) = same_meeting refl refl (list_same ms)
 
 pub stack_length : {vs ws : List ℕ} {xs ys : List Alternative} → SameStack vs ws xs ys → length xs ≡ length ys
 stack_length no_alternative = refl
@@ -256,14 +261,15 @@ tried_same s t ms ns call (c ∷ cs) own other at list =
     let one = clause_same (with_others call cs ms s) (with_others call cs ns t) ms ns call c (length s.stack) (others_value call call cs ms s own) (others_value call call cs ns t other) (others_same s t ms ns call cs own other at list) (others_list s t ms ns call cs list) in
     subst (λ (h : ℕ). Same (tried call (c ∷ cs) ms s) (tried_clause call c h ns (with_others call cs ns t))) (stack_length at.beside.stack) one
 
-unknown_same : (s t : State) (ms ns : List Member) (u : Unknown) (k : Key) → Around s t → Same (unknown_called u k ms s) (unknown_called u k ns t)
-unknown_same s t ms ns on_unknown.Error k at = going (record { agree = at.agree; next = at.next; beside = record { stack = at.beside.stack; world = at.beside.world; steps = at.beside.steps } }) same_ball
-unknown_same s t ms ns on_unknown.Fail k at = fails_same at.beside
+unknown_same : (s t : State) (ms ns : List Member) (u : Unknown) (k : Key) → Around s t → SameList s.subst t.subst (flat ms) (flat ns) → Same (unknown_called u k ms s) (unknown_called u k ns t)
+unknown_same s t ms ns on_unknown.Error k at list =
+    going (record { agree = at.agree; next = at.next; beside = record { stack = at.beside.stack; world = at.beside.world; steps = at.beside.steps } }) (same_ball list)
+unknown_same s t ms ns on_unknown.Fail k at list = fails_same at.beside
 
 called_same : (s t : State) (ms ns : List Member) (cs : Option (List Clause)) (k : Key) (v : Tree) → IsValue s.subst v → IsValue t.subst v → Around s t → SameList s.subst t.subst (flat ms) (flat ns) → Same (called cs k v ms s) (called cs k v ns t)
 called_same s t ms ns (Some cs) k v own other at list = tried_same s t ms ns v cs own other at list
 called_same s t ms ns None k v own other at list =
-    subst (λ (w : World). Same (unknown_called s.world.flags.unknown k ms s) (unknown_called w.flags.unknown k ns t)) at.beside.world (unknown_same s t ms ns s.world.flags.unknown k at)
+    subst (λ (w : World). Same (unknown_called s.world.flags.unknown k ms s) (unknown_called w.flags.unknown k ns t)) at.beside.world (unknown_same s t ms ns s.world.flags.unknown k at list)
 
 equated_same : (s t : State) (ms ns : List Member) (o : Option Subst) (a b : Tree) → AreValues s.subst t.subst a b → IsUnifierOf a b o → Around s t → SameList s.subst t.subst (flat ms) (flat ns)
     → Same (equated (under s.subst o) ms (record s { built = s.built + 2 })) (equated (under t.subst o) ns (record t { built = t.built + 2 }))
@@ -293,7 +299,7 @@ replied_same s t ms ns Fails own other at list = both_go (fails_same at.beside)
 replied_same s t ms ns Succeeds own other at list = both_go (listed_same s t ms ns s.built t.built at list)
 replied_same s t ms ns (Equates a b) own other at list =
     both_go (equated_same s t ms ns (unifier_of a b) a b (record { first = own.0; second = own.1; third = other.0; fourth = other.1 }) (unifier_of_is a b) at list)
-replied_same s t ms ns (Raises error) own other at list = both_go (listed_same s t (Raise error ∷ ms) (Raise error ∷ ns) s.built t.built at same_ball)
+replied_same s t ms ns (Raises error) own other at list = both_go (listed_same s t (Raise error ∷ ms) (Raise error ∷ ns) s.built t.built at (same_ball list))
 replied_same s t ms ns (Calls b) own other at list =
     let h = length s.stack in
     subst (λ (k : ℕ). SameOut (replied (Calls b) ms s) (Goes (record (with_goal b t) { list = Goal b k ∷ ns }))) (stack_length at.beside.stack)
@@ -309,7 +315,21 @@ replied_same s t ms ns (Refutes b) own other at list =
     let around : Around u v = record { agree = at.agree; next = at.next; beside = record { stack = at.beside.stack; world = at.beside.world; steps = at.beside.steps } } in
     subst (λ (k : ℕ). SameOut (replied (Refutes b) ms s) (Goes (record (pushed ns AsIs v) { list = Goal b (suc k) ∷ CutTo k ∷ Fail ∷ ns }))) (stack_length at.beside.stack)
     (both_go (pushed_same u v AsIs ms ns (Goal b (suc h) ∷ CutTo h ∷ Fail ∷ ms) (Goal b (suc h) ∷ CutTo h ∷ Fail ∷ ns) tt tt around list
-    (own_put s.subst t.subst b (suc h) (CutTo h ∷ Fail ∷ ms) (CutTo h ∷ Fail ∷ ns) own other (same_cut same_failure))))
+    (own_put s.subst t.subst b (suc h) (CutTo h ∷ Fail ∷ ms) (CutTo h ∷ Fail ∷ ns) own other (same_cut (same_failure list)))))
+replied_same s t ms ns (Catches inside catcher recovery) own other at list =
+    let h = length s.stack in
+    let left = Catching catcher recovery in
+    let u = pushed ms left s in
+    let v = pushed ns left t in
+    let around : Around u v = record {
+      agree = at.agree;
+      next = at.next;
+      beside = record { stack = same_alternative at.agree at.next list refl (own.1, own.2) (other.1, other.2) at.beside.stack; world = at.beside.world; steps = at.beside.steps };
+    } in
+    subst (λ (k : ℕ). SameOut (replied inside (Leave h ∷ ms) u) (replied inside (Leave k ∷ ns) v)) (stack_length at.beside.stack)
+    (replied_same u v (Leave h ∷ ms) (Leave h ∷ ns) inside own.0 other.0 around (same_leave list))
+replied_same s t ms ns (Halts status) own other at list =
+    subst (λ (w : World). SameOut (Ends (Halted status) s.world) (Ends (Halted status) w)) at.beside.world both_end
 replied_same s t ms ns Repeats own other at list = both_go (pushed_same s t Again ms ns ms ns tt tt at list list)
 
 selected_same : (s t : State) (ms ns : List Member) (b : Option BuiltIn) (k : Key) (v : Tree) → IsValue s.subst v → IsValue t.subst v → Around s t → SameList s.subst t.subst (flat ms) (flat ns) → SameOut (selected b k v ms s) (selected b k v ns t)
@@ -347,6 +367,7 @@ retried_same s t ms ns Again own other first second at list =
 retried_same s t ms ns (Clauses call cs) own other first second at list =
     let here : SameList s.subst t.subst (flat s.list) (flat t.list) = rw (first, second) list in
     both_go (tried_same s t s.list t.list call cs own other at here)
+retried_same s t ms ns (Catching catcher recovery) own other first second at list = both_go (fails_same at.beside)
 
 backtracked_same : {vs ws : List ℕ} {xs ys : List Alternative} (s t : State) → variables s.query ≡ vs → variables t.query ≡ ws → s.world ≡ t.world → s.steps ≡ t.steps → SameStack vs ws xs ys
     → SameOut (backtracked xs s) (backtracked ys t)
@@ -363,10 +384,100 @@ backtracked_same {vs} {ws} s t first second world steps (same_alternative {a = a
 failing_same : (s t : State) → Beside s t → SameOut (backtracked s.stack s) (backtracked t.stack t)
 failing_same s t h = backtracked_same s t refl refl h.world h.steps h.stack
 
-thrown_same : (s t : State) (ball : Tree) (ms ns : List Member) → s.world ≡ t.world → SameOut (thrown ball ms s) (thrown ball ns t)
-thrown_same s t ball (m ∷ ms) ns world = thrown_same s t ball ms ns world
-thrown_same s t ball [] (n ∷ ns) world = thrown_same s t ball [] ns world
-thrown_same s t ball [] [] world = subst (λ (w : World). SameOut (Ends (Uncaught ball) s.world) (Ends (Uncaught ball) w)) world both_end
+-- ---- balls
+
+-- the entry of a catch, in both stacks
+caught_at_same : {vs ws : List ℕ} (s t : State) (l : Left) (a b : Alternative) (xs ys : List Alternative) (ball : Tree) (o p : Outcome) → variables s.query ≡ vs → variables t.query ≡ ws → Beside s t
+    → Agree a.subst b.subst vs ws a.next → a.next ≡ b.next → SameList a.subst b.subst (flat a.list) (flat b.list) → IsOwnLeft a.subst l → IsOwnLeft b.subst l → SameStack vs ws xs ys → SameOut o p
+    → SameOut (caught_at l a xs ball s o) (caught_at l b ys ball t p)
+caught_at_same {vs} {ws} s t (Catching catcher recovery) a b xs ys ball o p first second h agree next list own other others out =
+    let known : Agree a.subst b.subst (variables s.query) (variables t.query) a.next = rw (first, second) agree in
+    let stack : SameStack (variables s.query) (variables t.query) xs ys = rw (first, second) others in
+    both_go (going (record { agree = known; next = next; beside = record { stack = stack; world = h.world; steps = h.steps } })
+    (same_meeting (own.0 ∙ sym other.0) (own.1 ∙ sym other.1) list))
+caught_at_same s t AsIs a b xs ys ball o p first second h agree next list own other others out = out
+caught_at_same s t Again a b xs ys ball o p first second h agree next list own other others out = out
+caught_at_same s t (Clauses call cs) a b xs ys ball o p first second h agree next list own other others out = out
+
+caught_same : {vs ws : List ℕ} {xs ys : List Alternative} (s t : State) (ball : Tree) (o p : Outcome) → variables s.query ≡ vs → variables t.query ≡ ws → Beside s t → SameStack vs ws xs ys → SameOut o p
+    → SameOut (caught xs ball s o) (caught ys ball t p)
+caught_same s t ball o p first second h no_alternative out = out
+caught_same s t ball o p first second h (same_alternative {a = a} {b = b} {xs = xs} {ys = ys} agree next list left own other others) out =
+    let other_left : IsOwnLeft b.subst a.left = subst (λ (l : Left). IsOwnLeft b.subst l) (sym left) other in
+    subst (λ (l : Left). SameOut (caught_at a.left a xs ball s o) (caught_at l b ys ball t p)) left
+    (caught_at_same s t a.left a b xs ys ball o p first second h agree next list own other_left others out)
+
+-- goals are passed over, and so are conjunctions taken apart
+thrown_put : (ball : Tree) (b : Body) (mark : ℕ) (ms : List Member) (s : State) → thrown ball (put b mark ms) s ≡ thrown ball ms s
+thrown_put ball (And a b) mark ms s = thrown_put ball a mark (put b mark ms) s ∙ thrown_put ball b mark ms s
+thrown_put ball Cut mark ms s = refl
+thrown_put ball (Run t) mark ms s = refl
+thrown_put ball (Or a b) mark ms s = refl
+thrown_put ball (If c t) mark ms s = refl
+thrown_put ball (Choose c t e) mark ms s = refl
+
+thrown_flat : (ball : Tree) (ms : List Member) (s : State) → thrown ball (flat ms) s ≡ thrown ball ms s
+thrown_flat ball [] s = refl
+thrown_flat ball (Goal b mark ∷ ms) s = thrown_put ball b mark (flat ms) s ∙ thrown_flat ball ms s
+thrown_flat ball (CutTo height ∷ ms) s = thrown_flat ball ms s
+thrown_flat ball (Fail ∷ ms) s = thrown_flat ball ms s
+thrown_flat ball (Leave height ∷ ms) s = ap (caught (shortened (suc height) s.stack) ball s) (thrown_flat ball ms s)
+thrown_flat ball (Raise other ∷ ms) s = thrown_flat ball ms s
+thrown_flat ball (Meet other catcher recovery ∷ ms) s = thrown_flat ball ms s
+
+thrown_same : {r q : Subst} {ms ns : List Member} (s t : State) (ball : Tree) → Beside s t → SameList r q ms ns → SameOut (thrown ball ms s) (thrown ball ns t)
+thrown_same s t ball h no_member = subst (λ (w : World). SameOut (Ends (Uncaught ball) s.world) (Ends (Uncaught ball) w)) h.world both_end
+thrown_same s t ball h (same_goal value list) = thrown_same s t ball h list
+thrown_same s t ball h (same_construct same list) = thrown_same s t ball h list
+thrown_same s t ball h (same_cut list) = thrown_same s t ball h list
+thrown_same s t ball h (same_failure list) = thrown_same s t ball h list
+thrown_same s t ball h (same_leave {height = height} {ms = ms} {ns = ns} list) =
+    caught_same s t ball (thrown ball ms s) (thrown ball ns t) refl refl h (shortened_same (suc height) h.stack) (thrown_same s t ball h list)
+thrown_same s t ball h (same_ball list) = thrown_same s t ball h list
+thrown_same s t ball h (same_meeting catcher recovery list) = thrown_same s t ball h list
+
+thrown_lists : (s t : State) (ball : Tree) (ms ns : List Member) → Beside s t → SameList s.subst t.subst (flat ms) (flat ns) → SameOut (thrown ball ms s) (thrown ball ns t)
+thrown_lists s t ball ms ns h list = rw (thrown_flat ball ms s, thrown_flat ball ns t) at (thrown_same s t ball h list)
+
+-- a term with other variables, none of which is used yet
+copied_same : (r q : Subst) (n : ℕ) (t : Tree) → ((x : ℕ) → n ≤ x → r x ≡ q x) → apply r (copy_from t n) ≡ apply q (copy_from t n)
+copied_same r q n t beyond =
+    let new : Subst = λ x. Variable (n + place_of x (variables t)) in
+    apply_apply new r t ∙ (apply_same (compose new r) (compose new q) t (λ x o. beyond (n + place_of x (variables t)) (omega arith)) ∙ sym (apply_apply new q t))
+
+-- the catcher met the ball, or not
+met_same : (s t : State) (ms ns : List Member) (o : Option Subst) (a b ball x y : Tree) → AreValues s.subst t.subst a b → IsUnifierOf a b o → apply s.subst x ≡ apply t.subst y → Around s t → SameList s.subst t.subst (flat ms) (flat ns)
+    → Same (met (under s.subst o) ball x ms (record s { built = s.built + size ball })) (met (under t.subst o) ball y ns (record t { built = t.built + size ball }))
+met_same s t ms ns None a b ball x y are is recovery at list =
+    listed_same s t (Raise ball ∷ ms) (Raise ball ∷ ns) (s.built + size ball) (t.built + size ball) at (same_ball list)
+met_same s t ms ns (Some u) a b ball x y are is recovery at list =
+    let r = compose s.subst u in
+    let q = compose t.subst u in
+    let h = length s.stack in
+    let again : apply r x ≡ apply q y = value_on s.subst t.subst u x y recovery in
+    let call : apply r (one (codes "call") x) ≡ apply q (one (codes "call") y) = ap (λ (z : Tree). one (codes "call") z) again in
+    going (record {
+      agree = agree_more (variable_count ball) (agree_on u a b are is at.agree);
+      next = ap (λ (n : ℕ). n + variable_count ball) at.next;
+      beside = record { stack = at.beside.stack; world = at.beside.world; steps = at.beside.steps };
+    }) (same_goal call (list_on u list))
+
+meets_same : (s t : State) (ball c d x y : Tree) (ms ns : List Member) → apply s.subst c ≡ apply t.subst d → apply s.subst x ≡ apply t.subst y → Around s t → SameList s.subst t.subst (flat ms) (flat ns)
+    → Same (meets ball c x ms s) (meets ball d y ns t)
+meets_same s t ball c d x y ms ns catcher recovery at list =
+    let a = apply s.subst c in
+    let b = apply s.subst (copy_from ball s.next) in
+    let o = unifier_of a b in
+    let ball_same : b ≡ apply t.subst (copy_from ball t.next) = copied_same s.subst t.subst s.next ball at.agree.beyond ∙ ap (λ (n : ℕ). apply t.subst (copy_from ball n)) at.next in
+    let same : o ≡ unifier_of (apply t.subst d) (apply t.subst (copy_from ball t.next)) = ap₂ unifier_of catcher ball_same in
+    let are : AreValues s.subst t.subst a b = record {
+      first = value_is s.subst c at.agree.twice;
+      second = value_is s.subst (copy_from ball s.next) at.agree.twice;
+      third = subst (λ (z : Tree). IsValue t.subst z) (sym catcher) (value_is t.subst d at.agree.other);
+      fourth = subst (λ (z : Tree). IsValue t.subst z) (sym ball_same) (value_is t.subst (copy_from ball t.next) at.agree.other);
+    } in
+    subst (λ (p : Option Subst). Same (meets ball c x ms s) (met (under t.subst p) ball y ns (record t { built = t.built + size ball }))) same
+    (met_same s t ms ns o a b ball x y are (unifier_of_is a b) recovery at list)
 
 answered_same : (s t : State) → Around s t → SameOut (Gives (Answered (values s)) (fails s)) (Gives (Answered (values t)) (fails t))
 answered_same s t at = subst (λ (vs : List Tree). SameOut (Gives (Answered (values s)) (fails s)) (Gives (Answered vs) (fails t))) at.agree.shown (both_give (fails_same at.beside))
@@ -381,13 +492,19 @@ is_conjunction (Or a b) = false
 is_conjunction (If c t) = false
 is_conjunction (Choose c t e) = false
 
+abbrev pub is_goal : Member → Bool
+is_goal (Goal b mark) = true
+is_goal (CutTo height) = false
+is_goal Fail = false
+is_goal (Leave height) = false
+is_goal (Raise ball) = false
+is_goal (Meet ball catcher recovery) = false
+
 -- the list's first member is no conjunction
 pub data Open : List Member → Type 0 where
   open_end : Open []
   open_goal : {b : Body} {mark : ℕ} {ms : List Member} → is_conjunction b ≡ false → Open (Goal b mark ∷ ms)
-  open_cut : {height : ℕ} {ms : List Member} → Open (CutTo height ∷ ms)
-  open_failure : {ms : List Member} → Open (Fail ∷ ms)
-  open_ball : {ball : Tree} {ms : List Member} → Open (Raise ball ∷ ms)
+  open_other : {m : Member} {ms : List Member} → is_goal m ≡ false → Open (m ∷ ms)
 
 abbrev open_body : Body → ℕ → List Member → List Member
 open_body (And a b) mark ms = open_body a mark (Goal b mark ∷ ms)
@@ -402,7 +519,9 @@ open_list [] = []
 open_list (Goal b mark ∷ ms) = open_body b mark ms
 open_list (CutTo height ∷ ms) = CutTo height ∷ ms
 open_list (Fail ∷ ms) = Fail ∷ ms
+open_list (Leave height ∷ ms) = Leave height ∷ ms
 open_list (Raise ball ∷ ms) = Raise ball ∷ ms
+open_list (Meet ball catcher recovery ∷ ms) = Meet ball catcher recovery ∷ ms
 
 -- the state whose first member is no conjunction
 abbrev pub opened : State → State
@@ -419,9 +538,11 @@ body_is_open (Choose c t e) mark ms = open_goal refl
 pub list_is_open : (ms : List Member) → Open (open_list ms)
 list_is_open [] = open_end
 list_is_open (Goal b mark ∷ ms) = body_is_open b mark ms
-list_is_open (CutTo height ∷ ms) = open_cut
-list_is_open (Fail ∷ ms) = open_failure
-list_is_open (Raise ball ∷ ms) = open_ball
+list_is_open (CutTo height ∷ ms) = open_other refl
+list_is_open (Fail ∷ ms) = open_other refl
+list_is_open (Leave height ∷ ms) = open_other refl
+list_is_open (Raise ball ∷ ms) = open_other refl
+list_is_open (Meet ball catcher recovery ∷ ms) = open_other refl
 
 body_flat : (b : Body) (mark : ℕ) (ms : List Member) → flat (open_body b mark ms) ≡ put b mark (flat ms)
 body_flat (And a b) mark ms = body_flat a mark (Goal b mark ∷ ms)
@@ -436,7 +557,9 @@ list_flat [] = refl
 list_flat (Goal b mark ∷ ms) = body_flat b mark ms
 list_flat (CutTo height ∷ ms) = refl
 list_flat (Fail ∷ ms) = refl
+list_flat (Leave height ∷ ms) = refl
 list_flat (Raise ball ∷ ms) = refl
+list_flat (Meet ball catcher recovery ∷ ms) = refl
 
 parts_step : (s : State) (a b : Body) (mark : ℕ) (ms : List Member) → step (record s { list = Goal (And a b) mark ∷ ms }) ≡ Goes (record s { list = Goal a mark ∷ Goal b mark ∷ ms })
 unfolding step
@@ -459,7 +582,9 @@ list_quiet s [] = here
 list_quiet s (Goal b mark ∷ ms) = body_quiet s b mark ms
 list_quiet s (CutTo height ∷ ms) = here
 list_quiet s (Fail ∷ ms) = here
+list_quiet s (Leave height ∷ ms) = here
 list_quiet s (Raise ball ∷ ms) = here
+list_quiet s (Meet ball catcher recovery ∷ ms) = here
 
 -- a state comes quietly to the one whose first member is no conjunction
 pub opens : (s : State) → Quiet s (opened s)
@@ -542,49 +667,59 @@ goals_same : (s t : State) {b c : Body} {m n : ℕ} (ms ns : List Member) → is
 goals_same s t ms ns first at (same_goal {t = a} {u = b} value others) = goal_same s t a b ms ns value at others
 goals_same s t ms ns first at (same_construct {b = b} {c = c} {m = m} same others) = construct_same s t b c m ms ns first same at others
 
--- what a list begins with
-abbrev kind : List Member → ℕ
-kind [] = 0
-kind (Goal b mark ∷ ms) = 1
-kind (CutTo height ∷ ms) = 2
-kind (Fail ∷ ms) = 3
-kind (Raise ball ∷ ms) = 4
+-- a list whose first member is no goal is its own
+flat_other : (m : Member) (ms : List Member) → is_goal m ≡ false → flat (m ∷ ms) ≡ m ∷ flat ms
+flat_other (Goal b mark) ms other = absurd (cc)
+flat_other (CutTo height) ms other = refl
+flat_other Fail ms other = refl
+flat_other (Leave height) ms other = refl
+flat_other (Raise ball) ms other = refl
+flat_other (Meet ball catcher recovery) ms other = refl
 
-kinds_same : {r q : Subst} {ms ns : List Member} → SameList r q ms ns → kind ms ≡ kind ns
-kinds_same no_member = refl
-kinds_same (same_goal same others) = refl
-kinds_same (same_construct same others) = refl
-kinds_same (same_cut others) = refl
-kinds_same same_failure = refl
-kinds_same same_ball = refl
+others_alike : (s t : State) {m n : Member} (ms ns : List Member) → is_goal m ≡ false → Around s t → SameList s.subst t.subst (m ∷ flat ms) (n ∷ flat ns) → SameOut (step_list (m ∷ ms) s) (step_list (n ∷ ns) t)
+others_alike s t ms ns other at (same_goal value list) = absurd (cc)
+others_alike s t ms ns other at (same_construct same list) = absurd (cc)
+others_alike s t ms ns other at (same_cut {height = h} list) = cut_same s t h ms ns at list
+others_alike s t ms ns other at (same_failure list) = failing_same s t at.beside
+others_alike s t ms ns other at (same_leave list) = both_go (listed_same s t ms ns s.built t.built at list)
+others_alike s t ms ns other at (same_ball {ball = ball} list) = thrown_lists s t ball ms ns at.beside list
+others_alike s t ms ns other at (same_meeting {ball = ball} {c = c} {d = d} {x = x} {y = y} catcher recovery list) = both_go (meets_same s t ball c d x y ms ns catcher recovery at list)
+
+-- no list begins with a goal where the other doesn't
+abbrev begins_with_goal : List Member → Bool
+begins_with_goal [] = false
+begins_with_goal (m ∷ ms) = is_goal m
+
+firsts_same : {r q : Subst} {ms ns : List Member} → SameList r q ms ns → begins_with_goal ms ≡ begins_with_goal ns
+firsts_same no_member = refl
+firsts_same (same_goal same others) = refl
+firsts_same (same_construct same others) = refl
+firsts_same (same_cut others) = refl
+firsts_same (same_failure others) = refl
+firsts_same (same_leave others) = refl
+firsts_same (same_ball others) = refl
+firsts_same (same_meeting catcher recovery others) = refl
+
+no_first : {r q : Subst} {n : Member} {ns : List Member} → SameList r q [] (n ∷ ns) → ⊥
+no_first h = elim h [ ]
+
+no_second : {r q : Subst} {m : Member} {ms : List Member} → SameList r q (m ∷ ms) [] → ⊥
+no_second h = elim h [ ]
 
 lists_same : (s t : State) {ms ns : List Member} → Open ms → Open ns → Around s t → SameList s.subst t.subst (flat ms) (flat ns) → SameOut (step_list ms s) (step_list ns t)
 lists_same s t open_end open_end at list = answered_same s t at
 lists_same s t (open_goal {b = b} {mark = m} {ms = ms} first) (open_goal {b = c} {mark = n} {ms = ns} second) at list =
     goals_same s t ms ns first at (rw (put_alone b m (flat ms) first, put_alone c n (flat ns) second) at list)
-lists_same s t (open_cut {height = h} {ms = ms}) (open_cut {ms = ns}) at (same_cut others) = cut_same s t h ms ns at others
-lists_same s t open_failure open_failure at list = failing_same s t at.beside
-lists_same s t (open_ball {ball = ball} {ms = ms}) (open_ball {ms = ns}) at same_ball = thrown_same s t ball ms ns at.beside.world
-lists_same s t open_end (open_goal {b = c} {mark = n} {ms = ns} second) at list = let k = kinds_same (rw (put_alone c n (flat ns) second) at list) in absurd (cc)
-lists_same s t open_end open_cut at list = let k = kinds_same list in absurd (cc)
-lists_same s t open_end open_failure at list = let k = kinds_same list in absurd (cc)
-lists_same s t open_end open_ball at list = let k = kinds_same list in absurd (cc)
-lists_same s t (open_goal {b = b} {mark = m} {ms = ms} first) open_end at list = let k = kinds_same (rw (put_alone b m (flat ms) first) at list) in absurd (cc)
-lists_same s t (open_goal {b = b} {mark = m} {ms = ms} first) open_cut at list = let k = kinds_same (rw (put_alone b m (flat ms) first) at list) in absurd (cc)
-lists_same s t (open_goal {b = b} {mark = m} {ms = ms} first) open_failure at list = let k = kinds_same (rw (put_alone b m (flat ms) first) at list) in absurd (cc)
-lists_same s t (open_goal {b = b} {mark = m} {ms = ms} first) open_ball at list = let k = kinds_same (rw (put_alone b m (flat ms) first) at list) in absurd (cc)
-lists_same s t open_cut open_end at list = let k = kinds_same list in absurd (cc)
-lists_same s t open_cut (open_goal {b = c} {mark = n} {ms = ns} second) at list = let k = kinds_same (rw (put_alone c n (flat ns) second) at list) in absurd (cc)
-lists_same s t open_cut open_failure at list = let k = kinds_same list in absurd (cc)
-lists_same s t open_cut open_ball at list = let k = kinds_same list in absurd (cc)
-lists_same s t open_failure open_end at list = let k = kinds_same list in absurd (cc)
-lists_same s t open_failure (open_goal {b = c} {mark = n} {ms = ns} second) at list = let k = kinds_same (rw (put_alone c n (flat ns) second) at list) in absurd (cc)
-lists_same s t open_failure open_cut at list = let k = kinds_same list in absurd (cc)
-lists_same s t open_failure open_ball at list = let k = kinds_same list in absurd (cc)
-lists_same s t open_ball open_end at list = let k = kinds_same list in absurd (cc)
-lists_same s t open_ball (open_goal {b = c} {mark = n} {ms = ns} second) at list = let k = kinds_same (rw (put_alone c n (flat ns) second) at list) in absurd (cc)
-lists_same s t open_ball open_cut at list = let k = kinds_same list in absurd (cc)
-lists_same s t open_ball open_failure at list = let k = kinds_same list in absurd (cc)
+lists_same s t (open_other {m = m} {ms = ms} first) (open_other {m = n} {ms = ns} second) at list =
+    others_alike s t ms ns first at (rw (flat_other m ms first, flat_other n ns second) at list)
+lists_same s t open_end (open_goal {b = c} {mark = n} {ms = ns} second) at list = absurd (no_first (rw (put_alone c n (flat ns) second) at list))
+lists_same s t open_end (open_other {m = n} {ms = ns} second) at list = absurd (no_first (rw (flat_other n ns second) at list))
+lists_same s t (open_goal {b = b} {mark = m} {ms = ms} first) open_end at list = absurd (no_second (rw (put_alone b m (flat ms) first) at list))
+lists_same s t (open_other {m = m} {ms = ms} first) open_end at list = absurd (no_second (rw (flat_other m ms first) at list))
+lists_same s t (open_goal {b = b} {mark = m} {ms = ms} first) (open_other {m = n} {ms = ns} second) at list =
+    let k = firsts_same (rw (put_alone b m (flat ms) first, flat_other n ns second) at list) in absurd (cc)
+lists_same s t (open_other {m = m} {ms = ms} first) (open_goal {b = c} {mark = n} {ms = ns} second) at list =
+    let k = firsts_same (rw (flat_other m ms first, put_alone c n (flat ns) second) at list) in absurd (cc)
 
 -- the steps of states that are the same, neither of which begins with a conjunction
 pub steps_alike : (s t : State) → Open s.list → Open t.list → Same s t → SameOut (step s) (step t)

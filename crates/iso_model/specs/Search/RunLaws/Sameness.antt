@@ -6,7 +6,7 @@ use Rattle.iso_model.specs.Terms.Variables.{variables}
 use Rattle.iso_model.specs.Terms.Substitutions.{Subst, apply}
 use Rattle.iso_model.specs.Search.Bodies.{Body, Cut, Run, And, Or, If, Choose, map_body}
 use Rattle.iso_model.specs.Search.RunLaws.Values.{IsTwice, IsOwnLeft}
-use Rattle.iso_model.specs.Search.Walker.{State, Member, Goal, CutTo, Fail, Raise, Alternative}
+use Rattle.iso_model.specs.Search.Walker.{State, Member, Goal, CutTo, Fail, Leave, Raise, Meet, Alternative}
 
 -- a body's goals before what follows, its conjunctions taken apart
 abbrev pub put : Body → ℕ → List Member → List Member
@@ -23,17 +23,21 @@ flat [] = []
 flat (Goal b mark ∷ ms) = put b mark (flat ms)
 flat (CutTo height ∷ ms) = CutTo height ∷ flat ms
 flat (Fail ∷ ms) = Fail ∷ flat ms
+flat (Leave height ∷ ms) = Leave height ∷ flat ms
 flat (Raise ball ∷ ms) = Raise ball ∷ flat ms
+flat (Meet ball catcher recovery ∷ ms) = Meet ball catcher recovery ∷ flat ms
 
--- Two lists without conjunctions have the same goals under these substitutions. No goal but a control construct reads its mark, and what follows
--- failure or a ball is never run.
+-- Two lists without conjunctions have the same goals under these substitutions. No goal but a control construct reads its mark. What follows failure
+-- or a ball is never run, but a ball looks there for the ends of catches.
 pub data SameList (r q : Subst) : List Member → List Member → Type 0 where
   no_member : SameList r q [] []
   same_goal : {t u : Tree} {m n : ℕ} {ms ns : List Member} → apply r t ≡ apply q u → SameList r q ms ns → SameList r q (Goal (Run t) m ∷ ms) (Goal (Run u) n ∷ ns)
   same_construct : {b c : Body} {m : ℕ} {ms ns : List Member} → map_body r b ≡ map_body q c → SameList r q ms ns → SameList r q (Goal b m ∷ ms) (Goal c m ∷ ns)
   same_cut : {height : ℕ} {ms ns : List Member} → SameList r q ms ns → SameList r q (CutTo height ∷ ms) (CutTo height ∷ ns)
-  same_failure : {ms ns : List Member} → SameList r q (Fail ∷ ms) (Fail ∷ ns)
-  same_ball : {ball : Tree} {ms ns : List Member} → SameList r q (Raise ball ∷ ms) (Raise ball ∷ ns)
+  same_failure : {ms ns : List Member} → SameList r q ms ns → SameList r q (Fail ∷ ms) (Fail ∷ ns)
+  same_leave : {height : ℕ} {ms ns : List Member} → SameList r q ms ns → SameList r q (Leave height ∷ ms) (Leave height ∷ ns)
+  same_ball : {ball : Tree} {ms ns : List Member} → SameList r q ms ns → SameList r q (Raise ball ∷ ms) (Raise ball ∷ ns)
+  same_meeting : {ball c d x y : Tree} {ms ns : List Member} → apply r c ≡ apply q d → apply r x ≡ apply q y → SameList r q ms ns → SameList r q (Meet ball c x ∷ ms) (Meet ball d y ∷ ns)
 
 -- The substitutions give the queries' variables the same values, agree on the numbers that are not used yet, and leave their own terms as they are.
 pub record Agree (r q : Subst) (vs ws : List ℕ) (n : ℕ) : Type 0 where

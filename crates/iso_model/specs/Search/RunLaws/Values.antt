@@ -10,8 +10,8 @@ use Rattle.iso_model.specs.Terms.Unification.Applied.{apply_apply, apply_same}
 use Rattle.iso_model.specs.Search.Bodies.{Body, Cut, Run, And, Or, If, Choose, map_body, either, both, converted, converted_two, one, two}
 use Rattle.iso_model.specs.Search.Keys.{Key, key}
 use Rattle.iso_model.specs.Search.Errors.{max_arity_error}
-use Rattle.iso_model.specs.Search.BuiltIns.{Reply, Fails, Succeeds, Equates, Raises, Calls, CallsOnce, Refutes, Repeats, differ, converted_reply, goal_reply, called_reply, reply}
-use Rattle.iso_model.specs.Search.Walker.{Left, AsIs, Again, Clauses}
+use Rattle.iso_model.specs.Search.BuiltIns.{Reply, Fails, Succeeds, Equates, Raises, Calls, CallsOnce, Refutes, Repeats, Catches, Halts, differ, converted_reply, goal_reply, called_reply, reply}
+use Rattle.iso_model.specs.Search.Walker.{Left, AsIs, Again, Clauses, Catching}
 use Rattle.iso_model.specs.declared.built_ins.BuiltIn.{BuiltIn}
 use Rattle.iso_model.specs.declared.built_ins.BuiltIn.TheVariants as built_in
 
@@ -23,11 +23,12 @@ IsValue r t = apply r t ≡ t
 abbrev pub IsTwice : Subst → Type 0
 IsTwice r = (n : ℕ) → apply r (r n) ≡ r n
 
--- what is left at an alternative is for a call's value
+-- what is left at an alternative is for a call's value, or for those of a catch's goal
 abbrev pub IsOwnLeft : Subst → Left → Type 0
 IsOwnLeft r AsIs = Unit {0}
 IsOwnLeft r Again = Unit {0}
 IsOwnLeft r (Clauses call cs) = IsValue r call
+IsOwnLeft r (Catching catcher recovery) = IsValue r catcher × IsValue r recovery
 
 pub value_is : (r : Subst) (t : Tree) → IsTwice r → IsValue r (apply r t)
 value_is r t twice = apply_apply r r t ∙ apply_same (compose r r) r t (λ n o. twice n)
@@ -215,6 +216,8 @@ IsOwnReply r (Calls b) = IsOwnBody r b
 IsOwnReply r (CallsOnce b) = IsOwnBody r b
 IsOwnReply r (Refutes b) = IsOwnBody r b
 IsOwnReply r Repeats = Unit {0}
+IsOwnReply r (Catches inside catcher recovery) = IsOwnReply r inside × IsValue r catcher × IsValue r recovery
+IsOwnReply r (Halts status) = Unit {0}
 
 converted_reply_own : (r : Subst) (runs : Body → Reply) (o : Option Body) (goal : Tree) (k : Key) → ((b : Body) → IsOwnBody r b → IsOwnReply r (runs b)) → IsOwnOption r o → IsOwnReply r (converted_reply runs o goal k)
 converted_reply_own r runs (Some b) goal k keeps own = keeps b own

@@ -2,12 +2,13 @@
 -- substitution doesn't change it.
 use Rattle.std.proofs.Common.{◌≡◌, ◌<◌, ◌≤◌, ◌+◌, ℕ, zero, suc, List, [], ◌∷◌, true, false, Option, Some, None, ◌⊎◌, inl, inr, refl, ap, ap₂, ◌∙◌, subst, arith, length, drop, ◌-◌, if◌then◌else◌}
 use Rattle.iso_model.specs.Terms.Trees.{Tree, Variable}
+use Rattle.iso_model.specs.Terms.Sizes.{size}
 use Rattle.iso_model.specs.Terms.Substitutions.{Subst, apply}
 use Rattle.iso_model.specs.Terms.Unification.{unifier_of}
-use Rattle.iso_model.specs.Terms.Copies.{renamed}
+use Rattle.iso_model.specs.Terms.Copies.{copy_from, renamed}
 use Rattle.iso_model.specs.Search.Bodies.{Body, Cut, Run, And, Or, If, Choose, map_body, is_true}
 use Rattle.iso_model.specs.Search.Databases.{Clause}
-use Rattle.iso_model.specs.Search.Walker.{State, Member, Goal, CutTo, Fail, Raise, Left, AsIs, Again, Clauses, Alternative, Outcome, Goes, Gives, Ends, charged, paid, before, entered, pushed, with_others, tried, retried, backtracked, thrown, step_goal, step_list, step, run_value, under, clause_size}
+use Rattle.iso_model.specs.Search.Walker.{State, Member, Goal, CutTo, Fail, Leave, Raise, Meet, Left, AsIs, Again, Clauses, Catching, Alternative, Outcome, Goes, Gives, Ends, charged, paid, before, entered, pushed, with_others, tried, retried, backtracked, caught_at, caught, thrown, met, meets, shortened, step_goal, step_list, step, run_value, under, clause_size}
 
 -- a body, before what weighs r
 abbrev pub body_weight : Body → ℕ → ℕ
@@ -18,12 +19,14 @@ body_weight (Or a b) r = 2 + (body_weight a r + body_weight b r)
 body_weight (If c t) r = suc (body_weight c (suc (body_weight t r)))
 body_weight (Choose c t e) r = 2 + (body_weight c (suc (body_weight t r)) + body_weight e r)
 
--- failure and a thrown ball drop what follows them
+-- Failure drops what follows it, and so does a thrown ball: the list that it goes on with is that of a catch's alternative.
 abbrev pub list_weight : List Member → ℕ
 list_weight [] = 1
 list_weight (CutTo height ∷ rest) = suc (list_weight rest)
 list_weight (Fail ∷ rest) = 0
+list_weight (Leave height ∷ rest) = suc (list_weight rest)
 list_weight (Raise ball ∷ rest) = 1
+list_weight (Meet ball catcher recovery ∷ rest) = 2 + list_weight rest
 list_weight (Goal b mark ∷ rest) = body_weight b (list_weight rest)
 
 -- clauses, each before what weighs r
@@ -35,6 +38,7 @@ abbrev pub left_weight : Left → ℕ → ℕ
 left_weight AsIs r = suc r
 left_weight Again r = 1
 left_weight (Clauses call cs) r = clauses_weight cs r
+left_weight (Catching catcher recovery) r = 2 + r
 
 abbrev pub stack_weight : List Alternative → ℕ
 stack_weight [] = 0
@@ -134,14 +138,37 @@ retried_progress : (l : Left) (s : State) → Progress s.steps (left_weight l (l
 retried_progress AsIs s = inr (record { steps = refl; lighter = omega arith })
 retried_progress Again s = paid_progress s.steps (1 + stack_weight s.stack) s (Goes (pushed s.list Again s))
 retried_progress (Clauses call cs) s = inr (tried_lighter call cs s.list s)
+retried_progress (Catching catcher recovery) s = inr (record { steps = refl; lighter = omega arith })
 
 backtracked_progress : (stack : List Alternative) (s : State) → Progress s.steps (stack_weight stack) (backtracked stack s)
 backtracked_progress [] s = tt
 backtracked_progress (a ∷ below) s = retried_progress a.left (record s { list = a.list; subst = a.subst; next = a.next; built = a.built; stack = below })
 
-thrown_progress : (ball : Tree) (rest : List Member) (n w : ℕ) (s : State) → Progress n w (thrown ball rest s)
-thrown_progress ball [] n w s = tt
-thrown_progress ball (m ∷ rest) n w s = thrown_progress ball rest n w s
+caught_at_progress : (l : Left) (a : Alternative) (below : List Alternative) (ball : Tree) (s : State) (o : Outcome) (w : ℕ) → left_weight l (list_weight a.list) + stack_weight below < w → Progress s.steps w o
+    → Progress s.steps w (caught_at l a below ball s o)
+caught_at_progress (Catching catcher recovery) a below ball s o w less other = inr (record { steps = refl; lighter = less })
+caught_at_progress AsIs a below ball s o w less other = other
+caught_at_progress Again a below ball s o w less other = other
+caught_at_progress (Clauses call cs) a below ball s o w less other = other
+
+caught_progress : (stack : List Alternative) (ball : Tree) (s : State) (o : Outcome) (w : ℕ) → stack_weight stack < w → Progress s.steps w o → Progress s.steps w (caught stack ball s o)
+caught_progress [] ball s o w less other = other
+caught_progress (a ∷ below) ball s o w less other = caught_at_progress a.left a below ball s o w less other
+
+thrown_progress : (ball : Tree) (rest : List Member) (w : ℕ) (s : State) → stack_weight s.stack < w → Progress s.steps w (thrown ball rest s)
+thrown_progress ball [] w s less = tt
+thrown_progress ball (Leave height ∷ rest) w s less =
+    let fewer = dropped_weight (length s.stack - suc height) s.stack in
+    caught_progress (shortened (suc height) s.stack) ball s (thrown ball rest s) w (omega (arith, fewer, less)) (thrown_progress ball rest w s less)
+thrown_progress ball (Goal b mark ∷ rest) w s less = thrown_progress ball rest w s less
+thrown_progress ball (CutTo height ∷ rest) w s less = thrown_progress ball rest w s less
+thrown_progress ball (Fail ∷ rest) w s less = thrown_progress ball rest w s less
+thrown_progress ball (Raise other ∷ rest) w s less = thrown_progress ball rest w s less
+thrown_progress ball (Meet other catcher recovery ∷ rest) w s less = thrown_progress ball rest w s less
+
+met_lighter : (u : Option Subst) (ball recovery : Tree) (rest : List Member) (s : State) → Lighter s.steps (2 + list_weight rest + stack_weight s.stack) (met u ball recovery rest s)
+met_lighter None ball recovery rest s = record { steps = refl; lighter = omega arith }
+met_lighter (Some u) ball recovery rest s = record { steps = refl; lighter = omega arith }
 
 goal_progress : (b : Body) (mark : ℕ) (rest : List Member) (s : State)
     → Progress s.steps (body_weight b (list_weight rest) + stack_weight s.stack) (step_goal b mark rest s)
@@ -159,7 +186,11 @@ list_progress (CutTo height ∷ rest) s = let less = dropped_weight (length s.st
 list_progress (Fail ∷ rest) s =
     let none : stack_weight s.stack ≡ 0 + stack_weight s.stack = omega arith in
     subst (λ w. Progress s.steps w (backtracked s.stack s)) none (backtracked_progress s.stack s)
-list_progress (Raise ball ∷ rest) s = thrown_progress ball rest s.steps (1 + stack_weight s.stack) s
+list_progress (Leave height ∷ rest) s = inr (record { steps = refl; lighter = omega arith })
+list_progress (Raise ball ∷ rest) s = thrown_progress ball rest (1 + stack_weight s.stack) s (omega arith)
+list_progress (Meet ball catcher recovery ∷ rest) s =
+    let t = met_lighter (under s.subst (unifier_of (apply s.subst catcher) (apply s.subst (copy_from ball s.next)))) ball recovery rest (record s { built = s.built + size ball }) in
+    inr (record { steps = t.steps; lighter = t.lighter })
 list_progress (Goal b mark ∷ rest) s = goal_progress b mark rest s
 
 pub step_progress : (s : State) → Progress s.steps (weight s) (step s)
