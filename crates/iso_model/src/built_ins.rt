@@ -23,13 +23,21 @@ pub enum BuiltIn {
     Not,
     /// `repeat/0`: it succeeds again and again (8.15.3).
     Repeat,
+    /// `catch/3`: the first argument is run; a ball thrown inside that unifies with the second goes on with the third (7.8.9).
+    Catch,
+    /// `throw/1`: its argument is thrown (7.8.10).
+    Throw,
+    /// `halt/0`: the session ends (8.17.1).
+    Halt,
+    /// `halt/1`: the session ends with this status (8.17.2).
+    HaltWith,
 }
 
 // The name and the arity of a built-in.
 #[derive(Clone, Copy)]
 struct Row(&'static str, usize, BuiltIn);
 
-const ROWS: [Row; 16] = [
+const ROWS: [Row; 20] = [
     Row("true", 0, BuiltIn::True),
     Row("fail", 0, BuiltIn::Fail),
     Row("false", 0, BuiltIn::Fail),
@@ -42,6 +50,10 @@ const ROWS: [Row; 16] = [
     Row("call", 6, BuiltIn::Call),
     Row("call", 7, BuiltIn::Call),
     Row("call", 8, BuiltIn::Call),
+    Row("catch", 3, BuiltIn::Catch),
+    Row("throw", 1, BuiltIn::Throw),
+    Row("halt", 0, BuiltIn::Halt),
+    Row("halt", 1, BuiltIn::HaltWith),
     Row("once", 1, BuiltIn::Once),
     Row("\\+", 1, BuiltIn::Not),
     Row("=", 2, BuiltIn::Unify),

@@ -1,5 +1,5 @@
 //! Worked runs of control constructs. All are the contract of a function that does nothing.
-ghost use Rattle.iso_model.specs.Search.WorkedControl.{CutTakesAlternativesAway, CutIsLocalToCall, CutActsThroughConjunctions, CutInThenAndCondition, ConditionsDecideOnce, NegationTakesAStep, OnceIsOnce, RepeatTakesSteps, GoalsAreChecked, ArgumentsAreAdded};
+ghost use Rattle.iso_model.specs.Search.WorkedControl.{CutTakesAlternativesAway, CutIsLocalToCall, CutActsThroughConjunctions, CutInThenAndCondition, ConditionsDecideOnce, NegationTakesAStep, OnceIsOnce, RepeatTakesSteps, GoalsAreChecked, ArgumentsAreAdded, CatchRunsItsGoal, LeftCatchesDontCatch, HaltEnds};
 
 /// What goals without clauses answer, construct by construct.
 pub fn worked_control()
@@ -23,4 +23,10 @@ pub fn worked_control()
     ensures goal_errors { GoalsAreChecked }
     // `call((fail, 1), a)` calls the unknown procedure `','/3` (own).
     ensures added_arguments { ArgumentsAreAdded }
+    // A catch keeps its goal's alternatives, and a cut is local to it (7.8.9).
+    ensures catch { CatchRunsItsGoal }
+    // A catch that was left doesn't catch (7.8.9, 7.8.10).
+    ensures left_catch { LeftCatchesDontCatch }
+    // `halt` ends the search with its status (8.17.1, 8.17.2).
+    ensures halt { HaltEnds }
 {}

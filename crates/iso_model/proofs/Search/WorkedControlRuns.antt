@@ -2,7 +2,7 @@
 use Rattle.std.proofs.Common.{◌≡◌, ℕ, zero, suc, [], ◌∷◌, Option, Some, None, option_map, refl, sym, ap, ◌∙◌, subst}
 use Rattle.iso_model.specs.Search.Walker.{State, Event, Outcome, Goes, Gives, Ends, step}
 use Rattle.iso_model.specs.Search.Runs.{Trace, Then, Stops, Run, goes, gives, ends}
-use Rattle.iso_model.specs.Search.WorkedControl.{CutTakesAlternativesAway, CutIsLocalToCall, CutActsThroughConjunctions, CutInThenAndCondition, ConditionsDecideOnce, NegationTakesAStep, OnceIsOnce, RepeatTakesSteps, GoalsAreChecked, ArgumentsAreAdded}
+use Rattle.iso_model.specs.Search.WorkedControl.{CutTakesAlternativesAway, CutIsLocalToCall, CutActsThroughConjunctions, CutInThenAndCondition, ConditionsDecideOnce, NegationTakesAStep, OnceIsOnce, RepeatTakesSteps, GoalsAreChecked, ArgumentsAreAdded, CatchRunsItsGoal, LeftCatchesDontCatch, HaltEnds}
 
 abbrev walk_on : (State → Option Trace) → Outcome → Option Trace
 walk_on on (Goes t) = on t
@@ -71,3 +71,15 @@ checked_run = (run_walked 20 _ _ refl, run_walked 20 _ _ refl, run_walked 20 _ _
 pub added_run : ArgumentsAreAdded
 unfolding step walked
 added_run = run_walked 20 _ _ refl
+
+pub catch_run : CatchRunsItsGoal
+unfolding step walked
+catch_run = (run_walked 30 _ _ refl, run_walked 30 _ _ refl)
+
+pub left_run : LeftCatchesDontCatch
+unfolding step walked
+left_run = (run_walked 20 _ _ refl, run_walked 20 _ _ refl)
+
+pub halt_run : HaltEnds
+unfolding step walked
+halt_run = (run_walked 20 _ _ refl, run_walked 20 _ _ refl, run_walked 20 _ _ refl)

@@ -1,15 +1,15 @@
 -- The procedures of the language itself (ISO/IEC 13211-1:1995, 7.8 and 8): one table says which there are, and one function what a goal of
 -- each comes to.
-use Rattle.std.specs.Prelude.{ℕ, nat_lt, List, [], ◌∷◌, Bool, true, false, ◌||◌, Option, Some, None, codes, if◌then◌else◌}
-use Rattle.iso_model.specs.Terms.Trees.{Tree, Variable}
+use Rattle.std.specs.Prelude.{ℕ, nat_lt, int_lt, nat_abs, pos, List, [], ◌∷◌, Bool, true, false, ◌||◌, Option, Some, None, codes, if◌then◌else◌}
+use Rattle.iso_model.specs.Terms.Trees.{Tree, Variable, Integer}
 use Rattle.iso_model.specs.Terms.Substitutions.{Subst}
 use Rattle.iso_model.specs.Terms.Unification.{unifier_of}
 use Rattle.iso_model.specs.Search.Keys.{Key, key, same_key}
 use Rattle.iso_model.specs.Terms.Arguments.{argument, arguments, arity, others, with_arguments}
 use Rattle.iso_model.specs.Search.Bodies.{Body, converted}
-use Rattle.iso_model.specs.Search.Errors.{instantiation_error, type_error_callable, max_arity_error}
+use Rattle.iso_model.specs.Search.Errors.{instantiation_error, type_error_callable, type_error, domain_error, max_arity_error}
 use Rattle.iso_model.specs.declared.built_ins.BuiltIn.{BuiltIn}
-use Rattle.iso_model.specs.declared.built_ins.BuiltIn.TheVariants.{True, Fail, Unify, Differ, Call, Once, Not, Repeat}
+use Rattle.iso_model.specs.declared.built_ins.BuiltIn.TheVariants.{True, Fail, Unify, Differ, Call, Once, Not, Repeat, Catch, Throw, Halt, HaltWith}
 
 -- the built-ins by name and arity
 abbrev pub built_ins : List (Key × BuiltIn)
@@ -17,6 +17,7 @@ built_ins =
     (key (codes "true") 0, True) ∷ (key (codes "fail") 0, Fail) ∷ (key (codes "false") 0, Fail) ∷ (key (codes "repeat") 0, Repeat)
     ∷ (key (codes "call") 1, Call) ∷ (key (codes "call") 2, Call) ∷ (key (codes "call") 3, Call) ∷ (key (codes "call") 4, Call)
     ∷ (key (codes "call") 5, Call) ∷ (key (codes "call") 6, Call) ∷ (key (codes "call") 7, Call) ∷ (key (codes "call") 8, Call)
+    ∷ (key (codes "catch") 3, Catch) ∷ (key (codes "throw") 1, Throw) ∷ (key (codes "halt") 0, Halt) ∷ (key (codes "halt") 1, HaltWith)
     ∷ (key (codes "once") 1, Once) ∷ (key (codes "\\+") 1, Not)
     ∷ (key (codes "=") 2, Unify) ∷ (key (codes "\\=") 2, Differ) ∷ []
 
@@ -79,7 +80,19 @@ goal_reply runs goal k = converted_reply runs (converted goal) goal k
 abbrev pub called_reply : Tree → Key → Reply
 called_reply goal k = goal_reply (λ b. if nat_lt 255 (arity goal) then Raises (max_arity_error k) else Calls b) goal k
 
--- what this goal of the built-in comes to (7.8.1 to 7.8.3, 8.2.1, 8.2.3, 8.15.1, 8.15.2, 8.15.3; call/2 to call/8 are own)
+-- a ball is not to be unbound (7.8.10.3)
+abbrev pub throw_reply : Tree → Key → Reply
+throw_reply (Variable n) k = Raises (instantiation_error k)
+throw_reply ball k = Raises ball
+
+-- a status is an integer of 0 to 255 (8.17.2.3; the range is own)
+abbrev pub halt_reply : Tree → Key → Reply
+halt_reply (Variable n) k = Raises (instantiation_error k)
+halt_reply (Integer z) k = if int_lt z (pos 0) || int_lt (pos 255) z then Raises (domain_error (codes "exit_code") (Integer z) k) else Halts (nat_abs z)
+halt_reply t k = Raises (type_error (codes "integer") t k)
+
+-- what this goal of the built-in comes to (7.8.1 to 7.8.3, 7.8.9, 7.8.10, 8.2.1, 8.2.3, 8.15.1, 8.15.2, 8.15.3, 8.17.1, 8.17.2; call/2 to call/8
+-- are own)
 abbrev pub reply : BuiltIn → Tree → Reply
 reply True t = Succeeds
 reply Fail t = Fails
@@ -89,3 +102,7 @@ reply Call t = called_reply (with_arguments (argument 0 t) (others (arguments t)
 reply Once t = goal_reply CallsOnce (argument 0 t) (key (codes "once") 1)
 reply Not t = goal_reply Refutes (argument 0 t) (key (codes "\\+") 1)
 reply Repeat t = Repeats
+reply Catch t = Catches (goal_reply Calls (argument 0 t) (key (codes "catch") 3)) (argument 1 t) (argument 2 t)
+reply Throw t = throw_reply (argument 0 t) (key (codes "throw") 1)
+reply Halt t = Halts 0
+reply HaltWith t = halt_reply (argument 0 t) (key (codes "halt") 1)

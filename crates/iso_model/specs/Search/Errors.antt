@@ -1,5 +1,5 @@
 -- Error terms (ISO/IEC 13211-1:1995, 7.12.2); the second argument is the indicator of the procedure that raised it (own).
-use Rattle.std.specs.Prelude.{codes, pos}
+use Rattle.std.specs.Prelude.{ℕ, List, codes, pos}
 use Rattle.iso_model.specs.Terms.Trees.{Tree, Integer, Name, Apply, End, More}
 use Rattle.iso_model.specs.Search.Bodies.{one, two}
 pub use Rattle.iso_model.specs.Search.Keys.{Key, key}
@@ -14,8 +14,16 @@ raised what k = two (codes "error") what (indicator k)
 abbrev pub instantiation_error : Key → Tree
 instantiation_error k = raised (Name (codes "instantiation_error")) k
 
+-- the culprit is not of this type
+abbrev pub type_error : List ℕ → Tree → Key → Tree
+type_error type culprit k = raised (two (codes "type_error") (Name type) culprit) k
+
 abbrev pub type_error_callable : Tree → Key → Tree
-type_error_callable culprit k = raised (two (codes "type_error") (Name (codes "callable")) culprit) k
+type_error_callable culprit k = type_error (codes "callable") culprit k
+
+-- the culprit is of the type, but is none of its values that may stand there
+abbrev pub domain_error : List ℕ → Tree → Key → Tree
+domain_error domain culprit k = raised (two (codes "domain_error") (Name domain) culprit) k
 
 -- an unknown procedure is named by the error, and raises it itself
 abbrev pub existence_error : Key → Tree

@@ -1,8 +1,8 @@
 -- Worked runs of control constructs (ISO/IEC 13211-1:1995, 7.8 and 8.15): what goals without clauses answer by the definitions.
 use Rattle.std.specs.Prelude.{ℕ, List, [], ◌∷◌, codes}
-use Rattle.iso_model.specs.Terms.Trees.{Tree, Variable, Integer, Name}
+use Rattle.iso_model.specs.Terms.Trees.{Tree, Variable, Integer, Name, Apply, End, More}
 use Rattle.iso_model.specs.Search.Bodies.{one, two}
-use Rattle.iso_model.specs.Search.Walker.{Ending, NoMore, Budget, Uncaught, started}
+use Rattle.iso_model.specs.Search.Walker.{Ending, NoMore, Budget, Uncaught, Halted, started}
 use Rattle.iso_model.specs.Search.Runs.{Run}
 use Rattle.iso_model.specs.Search.WorkedRuns.{answers, empty, error, number}
 
@@ -87,3 +87,28 @@ abbrev pub ArgumentsAreAdded : Type 0
 ArgumentsAreAdded =
     Answers (two (codes "call") (and_goal fail_goal (number 1)) (Name (codes "a"))) 2 []
     (Uncaught (error (two (codes "existence_error") (Name (codes "procedure")) (two (codes "/") (Name (codes ",")) (number 3))) (codes ",") 3))
+
+abbrev pub catch_goal : Tree → Tree → Tree → Tree
+catch_goal goal catcher recovery = Apply (codes "catch") (More goal (More catcher (More recovery End)))
+
+abbrev pub throw_goal : Tree → Tree
+throw_goal ball = one (codes "throw") ball
+
+-- `catch((true ; true), a, fail)` has two answers, and so has `catch(!, a, fail) ; true`: a catch keeps its goal's alternatives, and a cut is local to it.
+abbrev pub CatchRunsItsGoal : Type 0
+CatchRunsItsGoal =
+    Answers (catch_goal (or_goal true_goal true_goal) (Name (codes "a")) fail_goal) 3 (yes ∷ yes ∷ []) NoMore
+    × Answers (or_goal (catch_goal cut (Name (codes "a")) fail_goal) true_goal) 2 (yes ∷ yes ∷ []) NoMore
+
+-- `throw(a)` ends with the ball `a`; so does `catch(true, a, true), throw(a)`, since that catch was left.
+abbrev pub LeftCatchesDontCatch : Type 0
+LeftCatchesDontCatch =
+    Answers (throw_goal (Name (codes "a"))) 1 [] (Uncaught (Name (codes "a")))
+    × Answers (and_goal (catch_goal true_goal (Name (codes "a")) true_goal) (throw_goal (Name (codes "a")))) 3 [] (Uncaught (Name (codes "a")))
+
+-- `halt` ends with the status 0, `true, halt(3)` with 3; a status of 256 is out of the domain.
+abbrev pub HaltEnds : Type 0
+HaltEnds =
+    Answers (Name (codes "halt")) 1 [] (Halted 0)
+    × Answers (and_goal true_goal (one (codes "halt") (number 3))) 2 [] (Halted 3)
+    × Answers (one (codes "halt") (number 256)) 1 [] (Uncaught (error (two (codes "domain_error") (Name (codes "exit_code")) (number 256)) (codes "halt") 1))

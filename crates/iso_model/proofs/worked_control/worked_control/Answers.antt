@@ -1,4 +1,4 @@
-use Rattle.iso_model.proofs.Search.WorkedControlRuns.{added_run}
+use Rattle.iso_model.proofs.Search.WorkedControlRuns.{added_run, catch_run, left_run, halt_run}
 use Rattle.iso_model.proofs.Search.WorkedControlRuns.{checked_run}
 use Rattle.iso_model.proofs.Search.WorkedControlRuns.{condition_run}
 use Rattle.iso_model.proofs.Search.WorkedControlRuns.{cut_run}
@@ -39,3 +39,12 @@ returns-clause-goal_errors c = checked_run
 
 pub returns-clause-added_arguments : goal.returns-clause-added_arguments
 returns-clause-added_arguments c = added_run
+
+pub returns-clause-catch : goal.returns-clause-catch
+returns-clause-catch c = catch_run
+
+pub returns-clause-left_catch : goal.returns-clause-left_catch
+returns-clause-left_catch c = left_run
+
+pub returns-clause-halt : goal.returns-clause-halt
+returns-clause-halt c = halt_run

@@ -1,5 +1,5 @@
 -- Values: terms that a substitution leaves as they are. What a goal's value runs is made of values.
-use Rattle.std.proofs.Common.{◌≡◌, ℕ, zero, suc, List, true, false, Option, Some, None, refl, sym, ap, ap₂, ◌∙◌, codes, if◌then◌else◌, nat_lt}
+use Rattle.std.proofs.Common.{◌≡◌, ℕ, zero, suc, List, true, false, Option, Some, None, refl, sym, ap, ap₂, ◌∙◌, codes, if◌then◌else◌, nat_lt, int_lt, nat_abs, pos, ◌||◌}
 use Rattle.std.specs.Str.{bytes_eq}
 use Rattle.iso_model.specs.Terms.Trees.{Tree, Variable, Integer, Name, Apply, End, More}
 use Rattle.iso_model.specs.Terms.Substitutions.{Subst, apply, compose}
@@ -9,8 +9,8 @@ use Rattle.iso_model.specs.Terms.Unification.{unifier_of}
 use Rattle.iso_model.specs.Terms.Unification.Applied.{apply_apply, apply_same}
 use Rattle.iso_model.specs.Search.Bodies.{Body, Cut, Run, And, Or, If, Choose, map_body, either, both, converted, converted_two, one, two}
 use Rattle.iso_model.specs.Search.Keys.{Key, key}
-use Rattle.iso_model.specs.Search.Errors.{max_arity_error}
-use Rattle.iso_model.specs.Search.BuiltIns.{Reply, Fails, Succeeds, Equates, Raises, Calls, CallsOnce, Refutes, Repeats, Catches, Halts, differ, converted_reply, goal_reply, called_reply, reply}
+use Rattle.iso_model.specs.Search.Errors.{domain_error, max_arity_error}
+use Rattle.iso_model.specs.Search.BuiltIns.{Reply, Fails, Succeeds, Equates, Raises, Calls, CallsOnce, Refutes, Repeats, Catches, Halts, differ, converted_reply, goal_reply, called_reply, throw_reply, halt_reply, reply}
 use Rattle.iso_model.specs.Search.Walker.{Left, AsIs, Again, Clauses, Catching}
 use Rattle.iso_model.specs.declared.built_ins.BuiltIn.{BuiltIn}
 use Rattle.iso_model.specs.declared.built_ins.BuiltIn.TheVariants as built_in
@@ -238,6 +238,25 @@ called_own r goal k own =
       | false ↦ inner
     ]) own
 
+throw_own : (r : Subst) (t : Tree) (k : Key) → IsOwnReply r (throw_reply t k)
+throw_own r (Variable n) k = tt
+throw_own r (Integer z) k = tt
+throw_own r (Name a) k = tt
+throw_own r (Apply f ts) k = tt
+throw_own r End k = tt
+throw_own r (More t ts) k = tt
+
+halt_own : (r : Subst) (t : Tree) (k : Key) → IsOwnReply r (halt_reply t k)
+halt_own r (Variable n) k = tt
+halt_own r (Integer z) k = elim (int_lt z (pos 0) || int_lt (pos 255) z) as (λ x. IsOwnReply r (if x then Raises (domain_error (codes "exit_code") (Integer z) k) else Halts (nat_abs z))) [
+  | true ↦ tt
+  | false ↦ tt
+]
+halt_own r (Name a) k = tt
+halt_own r (Apply f ts) k = tt
+halt_own r End k = tt
+halt_own r (More t ts) k = tt
+
 pub reply_own : (r : Subst) (b : BuiltIn) (v : Tree) → IsValue r v → IsOwnReply r (reply b v)
 reply_own r built_in.True v own = tt
 reply_own r built_in.Fail v own = tt
@@ -252,3 +271,8 @@ reply_own r built_in.Call v own =
 reply_own r built_in.Once v own = goal_reply_own r CallsOnce (argument 0 v) (key (codes "once") 1) (λ b inner. inner) (argument_value r 0 v own)
 reply_own r built_in.Not v own = goal_reply_own r Refutes (argument 0 v) (key (codes "\\+") 1) (λ b inner. inner) (argument_value r 0 v own)
 reply_own r built_in.Repeat v own = tt
+reply_own r built_in.Catch v own =
+    (goal_reply_own r Calls (argument 0 v) (key (codes "catch") 3) (λ b inner. inner) (argument_value r 0 v own), argument_value r 1 v own, argument_value r 2 v own)
+reply_own r built_in.Throw v own = throw_own r (argument 0 v) (key (codes "throw") 1)
+reply_own r built_in.Halt v own = tt
+reply_own r built_in.HaltWith v own = halt_own r (argument 0 v) (key (codes "halt") 1)
