@@ -36,6 +36,7 @@ abbrev pub todo_cost : Todo → ℕ → ℕ
 todo_cost (todo.Body k) rest = body_cost k rest
 todo_cost todo.CutBack rest = suc rest
 todo_cost todo.Fail rest = suc rest
+todo_cost todo.Leave rest = suc rest
 
 abbrev pub frame_cost : List ℕ → Frame → ℕ
 frame_cost costs f = todo_cost f.todo (rest_cost costs f.next)

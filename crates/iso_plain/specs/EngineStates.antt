@@ -60,7 +60,7 @@ phase_of now.Idle = Ready
 phase_of now.Failing = Ready
 phase_of now.Answering = Midway
 phase_of (now.Running frame) = Midway
-phase_of now.Raising = Midway
+phase_of (now.Raising place) = Midway
 phase_of (now.Spent limit) = engines.Spent limit
 
 -- the operators and the flags that an engine keeps, and those of a world
@@ -114,7 +114,7 @@ module _ {S W M : Type 0} (present : S → Present W) (stands : S → M → Pres
   StandsBy now.Failing e s = Represents e s
   StandsBy now.Answering e s = Represents e s
   StandsBy (now.Running frame) e s = Represents e s
-  StandsBy now.Raising e s = Represents e s
+  StandsBy (now.Raising place) e s = Represents e s
 
   -- the states that the engine stands for
   abbrev pub StandsFor : Plain S W M → State → Type 0
@@ -190,6 +190,7 @@ clauses_at_place (p ∷ ps) (suc i) = clauses_at_place ps i
 abbrev pub choice_cost : {W : Type 0} → List Procedure → List ℕ → Left W → ℕ
 choice_cost ps costs (left.AsIs place) = suc (rest_cost costs place)
 choice_cost ps costs (left.Again place) = suc (rest_cost costs place)
+choice_cost ps costs (left.Catching goal place) = left_cost 1 (rest_cost costs place)
 choice_cost ps costs (left.Clauses attempt) = left_cost (clauses_at_place ps attempt.procedure - attempt.clause) (rest_cost costs attempt.rest)
 
 abbrev pub choices_cost : {W M : Type 0} → List Procedure → List ℕ → List (kept.Choice W M) → ℕ
@@ -202,7 +203,7 @@ now_cost costs now.Idle = 0
 now_cost costs now.Failing = 0
 now_cost costs now.Answering = 1
 now_cost costs (now.Running frame) = frame_cost costs frame
-now_cost costs now.Raising = 1
+now_cost costs (now.Raising place) = 1
 now_cost costs (now.Spent limit) = 0
 
 -- before the next step

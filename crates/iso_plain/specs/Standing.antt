@@ -1,12 +1,13 @@
 -- How the engine's parts stand for a state of the search.
 use Rattle.std.specs.Prelude.{◌≡◌, ℕ, ◌+◌, ◌*◌, ◌-◌, ◌≤◌, ◌<◌, List, [], ◌∷◌, ◌++◌, length, take, Option, Some, None, true, ◌⊎◌}
 use Rattle.std.specs.List.{slice_get}
-use Rattle.iso_model.specs.Terms.Trees.{Tree, Variable}
+use Rattle.iso_model.specs.Terms.Trees.{Tree, Variable, arities_fit}
+use Rattle.iso_model.specs.Terms.Arguments.{arity, argument}
 use Rattle.iso_model.specs.Terms.Variables.{variables}
 use Rattle.iso_model.specs.Terms.Substitutions.{Subst}
 use Rattle.iso_model.specs.Search.Bodies.{Body}
 use Rattle.iso_model.specs.Search.Databases.{Clause}
-use Rattle.iso_model.specs.Search.Walker.{State, Member, Goal, CutTo, Fail, Raise, Alternative, AsIs, Again, Clauses, idle}
+use Rattle.iso_model.specs.Search.Walker.{State, Member, Goal, CutTo, Fail, Leave, Raise, Alternative, AsIs, Again, Clauses, Catching, idle}
 use Rattle.iso_model.specs.Search.Walker as walker
 use Rattle.iso_store_core.specs.Presents.{Present, meaning}
 use Rattle.iso_plain.specs.Callable.{IsGoal}
@@ -54,6 +55,7 @@ pub data IsMember {W : Type 0} (p : Present W) (nodes : List (Node W)) (f : Fram
   a_body : {i : ℕ} {b : Body} → f.todo ≡ todo.Body i → IsBody p nodes i b → IsMember p nodes f (Goal b f.mark)
   a_cut : f.todo ≡ todo.CutBack → IsMember p nodes f (CutTo f.mark)
   a_failure : f.todo ≡ todo.Fail → IsMember p nodes f Fail
+  an_end : f.todo ≡ todo.Leave → IsMember p nodes f (Leave f.mark)
 
 -- The place is before the i-th, or none.
 abbrev pub IsBefore : Option ℕ → ℕ → Type 0
@@ -114,11 +116,19 @@ module _ {W : Type 0} (left_at : ℕ → ℕ → List Clause) (query : List W) (
     pub on : OnList p links query named place a.list a.subst a.next
     pub is : a.left ≡ left
 
+  -- The alternative is the entry of a catch, whose goal this is, with the members from this place on behind it.
+  pub record HasCatch (p : Present W) (links : Links W) (goal : W) (place : Option ℕ) (a : Alternative) : Type 0 where
+    pub holds : p.holds goal ≡ true
+    pub three : arity (meaning p goal) ≡ 3
+    pub on : OnList p links query named place a.list a.subst a.next
+    pub is : a.left ≡ Catching (argument 1 (meaning p goal)) (argument 2 (meaning p goal))
+
   -- over this store, this is left to be tried at the alternative
   abbrev pub HasLeft : Present W → Links W → Left W → Alternative → Type 0
   HasLeft p links (left.Clauses attempt) a = HasClauses p links attempt a
   HasLeft p links (left.AsIs place) a = HasMembers p links place AsIs a
   HasLeft p links (left.Again place) a = HasMembers p links place Again a
+  HasLeft p links (left.Catching goal place) a = HasCatch p links goal place a
 
 -- Choices are made of an engine's marks (whether a mark stands for a store, and which is older), its mark for the empty store, the clauses left at a
 -- procedure from a place on, and the words of the query's variables with their numbers.
@@ -158,17 +168,18 @@ pub record GainsChoice {W M : Type 0} (old new : M → Present W → Type 0) (ol
 abbrev pub most_numbers : ℕ
 most_numbers = 4611686018427387904
 
--- a step uses at most so many
+-- a step uses at most so many: those of a clause that is entered, or of a ball that is caught
 abbrev pub numbers_a_step : ℕ
-numbers_a_step = 65535
+numbers_a_step = 536870912
 
--- how many clauses are entered at once where this is tried, without a step
+-- how many clauses are entered, or balls caught, at once where this is tried, without a step
 abbrev pub entered_at : walker.Left → ℕ
 entered_at AsIs = 0
 entered_at Again = 0
 entered_at (Clauses call cs) = 1
+entered_at (Catching catcher recovery) = 1
 
--- Room is left for the numbers of a clause entered at each alternative and in each step that is left.
+-- Room is left for the numbers of a clause entered or a ball caught at each alternative, and in each step that is left.
 abbrev pub HaveRoom : ℕ → List Alternative → Type 0
 HaveRoom steps [] = Unit {0}
 HaveRoom steps (a ∷ ks) = (a.next + numbers_a_step * (steps + entered_at a.left) ≤ most_numbers) × HaveRoom steps ks
@@ -186,5 +197,6 @@ DoesNext p links query now.Idle raised s = s ≡ idle s.world
 DoesNext p links query now.Failing raised s = (rest : List Member) × (s.list ≡ Fail ∷ rest)
 DoesNext p links query now.Answering raised s = (s.list ≡ []) × GoesOn p query s
 DoesNext p links query (now.Running f) raised s = First p links f s.list × GoesOn p query s
-DoesNext p links query now.Raising raised s = (ball : Tree) × (s.list ≡ Raise ball ∷ []) × (raised ≡ Some ball)
+DoesNext p links query (now.Raising place) raised s =
+    (ball : Tree) × (behind : List Member) × (s.list ≡ Raise ball ∷ behind) × Chain p links place behind × (raised ≡ Some ball) × (arities_fit ball ≡ true)
 DoesNext p links query (now.Spent limit) raised s = Unit {0}

@@ -18,6 +18,8 @@ pub enum Todo {
     CutBack,
     /// To go back to the newest choice.
     Fail,
+    /// To leave the catch whose choice has this mark for its place (7.8.9).
+    Leave,
 }
 
 /// A member of the list of goals, with its cut mark (how many choices stood when it came), and the place of the member
@@ -47,6 +49,8 @@ pub enum Left<W> {
     Again(Option<usize>),
     /// The clauses from this one on.
     Clauses(Attempt<W>),
+    /// Nothing: it is the entry of the catch that this goal calls, before the members from this place on (7.8.9).
+    Catching(W, Option<usize>),
 }
 
 /// What is left to be tried, and what to go back to first.
@@ -71,8 +75,8 @@ pub enum Now {
     Answering,
     /// Do what this member asks for.
     Running(Frame),
-    /// Raise the ball that was kept.
-    Raising,
+    /// Throw the ball that was kept, past the members from this place on (7.8.10).
+    Raising(Option<usize>),
     /// Nothing any more: this limit was met.
     Spent(Limit),
 }
