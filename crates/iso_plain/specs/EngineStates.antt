@@ -74,7 +74,7 @@ settings_in w = (w.operators, w.flags)
 abbrev pub links_of : {S W M : Type 0} → Plain S W M → Links W
 links_of e = record { nodes = e.nodes.items; frames = e.frames.items }
 
-module _ {S W M : Type 0} (present : S → Present W) (stands : S → M → Present W → Type 0) (older : M → M → Type 0) where
+module _ {S W M : Type 0} (names : S → List (List ℕ)) (present : S → Present W) (stands : S → M → Present W → Type 0) (older : M → M → Type 0) where
   -- The engine's choices are these alternatives, over a world and for a query with these variables.
   abbrev pub HasChoices : Plain S W M → World → List ℕ → List Alternative → Type 0
   HasChoices e w named ks = StandsForChoices (stands e.store) older e.base (left_at w.database.procedures) e.query.items named (links_of e) e.choices.items ks
