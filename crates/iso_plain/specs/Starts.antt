@@ -26,7 +26,7 @@ pub record IsQuery (p : Preparation) (t : Tree) : Type 0 where
 module _ {S W M : Type 0} (names : S → List (List ℕ)) (present : S → Present W) (stands : S → M → Present W → Type 0) (older : M → M → Type 0) where
   -- The engine has this world, its store is empty, and no choice stands.
   pub record IsFresh (e : Plain S W M) (w : World) : Type 0 where
-    pub world : IsWorld e w
+    pub world : IsWorld names e w
     pub base : IsBase (stands e.store) e.base
     pub choices : e.choices.items ≡ []
     pub substitution : (present e.store).substitution ≡ Variable

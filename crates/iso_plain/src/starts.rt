@@ -9,7 +9,8 @@ ghost use Rattle.iso_model.specs.Search.Walker.{World, first_world, idle, starte
 
 use super::parts::{Frame, Now, Todo};
 use super::plain::Plain;
-use super::{balls, bodies, clauses, entries, procedures};
+use super::procedures::{self, Name};
+use super::{balls, bodies, callables, clauses, entries, writing};
 use iso_model::{AddFault, Term};
 use iso_ops::{Flags, OpTable};
 use iso_prep::{Fault, Prepared};
@@ -37,11 +38,13 @@ impl<S: Store + Drop> Plain<S> {
         ensures within { IfOk result (λ e. IsWithin e) }
     {
         let ops = OpTable::initial(alloc)?;
+        let callables = callables::of_built_ins(alloc, &mut store)?;
         let base = store.mark();
         Ok(Plain {
             alloc,
             store,
             procedures: Vec::new(alloc),
+            callables,
             ops,
             flags: Flags::initial(),
             nodes: Vec::new(alloc),
@@ -84,12 +87,13 @@ impl<S: Store + Drop> Plain<S> {
         ensures stays { Stays S.names self.old self.new }
     {
         let parts = bodies::parts_of(self.alloc, query)?;
+        let written = writing::written_parts(self.alloc, &mut self.store, parts.as_slice())?;
         let count = query.variables();
         let variables = entries::new_variables(self.alloc, &mut self.store, count)?;
         entries::copy_parts(
             &mut self.store,
             &mut self.nodes,
-            parts.as_slice(),
+            written.as_slice(),
             variables.as_slice(),
         )?;
         self.query = variables;
@@ -134,11 +138,23 @@ impl<S: Store + Drop> Plain<S> {
         ensures now { self.new.now ≡ self.old.now }
         ensures limit { self.new.limit ≡ self.old.limit }
         ensures within { IsWithin self.old → IsWithin self.new }
-        ensures store { self.new.store ≡ self.old.store }
+        ensures present { S.present self.new.store ≡ S.present self.old.store }
         ensures base { self.new.base ≡ self.old.base }
     {
-        let prepared = clauses::prepare(self.alloc, clause)?;
-        procedures::add(self.alloc, &mut self.procedures, prepared)?;
+        let checked = clauses::prepare(self.alloc, clause)?;
+        let Some((text, arity)) = clauses::indicator_of(&checked.head) else {
+            unreachable!();
+        };
+        let kept = writing::written_clause(self.alloc, &mut self.store, &checked)?;
+        let atom = self.store.intern(text)?;
+        let name = Name { atom, text, arity };
+        procedures::add(
+            self.alloc,
+            &mut self.procedures,
+            &mut self.callables,
+            name,
+            kept,
+        )?;
         Ok(())
     }
 }
