@@ -45,15 +45,15 @@ back_costs {left_at = left_at} {query = query} {named = named} {links = links} {
     let new = ap (choices_cost ps (frame_costs front)) split ∙ choices_last ps (frame_costs front) before c in
     omega (arith, one, other, old, new)
 
-module _ {S W M : Type 0} (present : S → Present W) (stands : S → M → Present W → Type 0) (older : M → M → Type 0) where
+module _ {S W M : Type 0} (names : S → List (List ℕ)) (present : S → Present W) (stands : S → M → Present W → Type 0) (older : M → M → Type 0) where
   -- what going back makes of the engine
   pub record Back (e : Plain S W M) (store : S) (nodes : Vec (Node W) Global) (frames : Vec Frame Global) (c : kept.Choice W M) (s : State) : Type 0 where
     pub alternative : Alternative
     pub below : List Alternative
     pub is : s.stack ≡ alternative ∷ below
-    pub went : WentBack present stands older (record e { store = store; nodes = nodes; frames = frames }) c s alternative below
+    pub went : WentBack names present stands older (record e { store = store; nodes = nodes; frames = frames }) c s alternative below
 
-  pub goes_back : (e : Plain S W M) (store : S) (nodes : Vec (Node W) Global) (frames : Vec Frame Global) (c : kept.Choice W M) (s : State) → IsEngine present stands older e s
+  pub goes_back : (e : Plain S W M) (store : S) (nodes : Vec (Node W) Global) (frames : Vec Frame Global) (c : kept.Choice W M) (s : State) → IsEngine names present stands older e s
       → slice_get e.choices.items (length e.choices.items - 1) ≡ Some c
       → ((p : Present W) → stands e.store c.mark p → present store ≡ p) → ((p : Present W) → stands e.store c.mark p → stands store c.mark p)
       → ((m : M) (p : Present W) → older m c.mark → stands e.store m p → stands store m p) → nodes.items ≡ take c.nodes e.nodes.items → frames.items ≡ take c.frames e.frames.items → Back e store nodes frames c s

@@ -45,17 +45,17 @@ entered_least p q old nodes call clause frames mark rest behind (entered.Body pl
 
 -- ---- the choice of a call
 
-module _ {S W M : Type 0} (present : S → Present W) (stands : S → M → Present W → Type 0) (older : M → M → Type 0) where
+module _ {S W M : Type 0} (names : S → List (List ℕ)) (present : S → Present W) (stands : S → M → Present W → Type 0) (older : M → M → Type 0) where
   -- no clause behind the attempt's
   pub calls_last : (e : Plain S W M) (attempt : Attempt W) (s : State) (call : Tree) (c : databases.Clause) (cs : List databases.Clause) (behind : List Member)
-      → Calls present stands older e attempt s call c cs behind → length cs ≡ 0 → Calls present stands older e attempt (with_others call cs behind s) call c cs behind
+      → Calls names present stands older e attempt s call c cs behind → length cs ≡ 0 → Calls names present stands older e attempt (with_others call cs behind s) call c cs behind
   calls_last e attempt s call c [] behind t many = t
   calls_last e attempt s call c (d ∷ cs) behind t many = absurd (omega (arith, many))
 
   pub calls_later : (e : Plain S W M) (attempt : Attempt W) (s : State) (call : Tree) (c : databases.Clause) (cs : List databases.Clause) (behind : List Member) (store : S) (choices : Vec (kept.Choice W M) Global)
-      → Calls present stands older e attempt s call c cs behind → 0 < length cs → present store ≡ present e.store → KeepsMarks (stands e.store) (stands store)
+      → Calls names present stands older e attempt s call c cs behind → 0 < length cs → present store ≡ present e.store → KeepsMarks (stands e.store) (stands store)
       → GainsChoice (stands e.store) (stands store) older (present e.store) (length e.nodes.items) (length e.frames.items) (left.Clauses (record attempt { clause = attempt.clause + 1 })) e.choices.items choices.items
-      → Calls present stands older (record e { store = store; choices = choices }) attempt (with_others call cs behind s) call c cs behind
+      → Calls names present stands older (record e { store = store; choices = choices }) attempt (with_others call cs behind s) call c cs behind
   calls_later e attempt s call c [] behind store choices t many same keeps gains = absurd (omega (arith, many))
   calls_later e attempt s call c (d ∷ cs) behind store choices t many same keeps gains =
       let b = t.base in

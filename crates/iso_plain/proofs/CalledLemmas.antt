@@ -16,7 +16,8 @@ use Rattle.iso_plain.specs.declared.clauses.Clause.{Clause}
 use Rattle.iso_plain.specs.declared.procedures.Procedure.{Procedure}
 use Rattle.iso_plain.specs.declared.calls.Called.{Called}
 use Rattle.iso_plain.specs.declared.calls.Called.TheVariants as call
-use Rattle.iso_plain.specs.Programs.{IsDatabase, KeepsWorld, has_key, place_at, AreClauses, no_clauses, more_clauses, no_procedures, more_procedures}
+use Rattle.iso_plain.specs.Programs.{IsDatabase, KeepsWorld, AreClauses, no_clauses, more_clauses, no_procedures, more_procedures}
+use Rattle.iso_plain.specs.Callables.{has_key, place_at}
 use Rattle.iso_plain.specs.EngineStates.{left_at}
 use Rattle.iso_plain.specs.Called.{IsNamed, IsCalled, IsBuiltIn}
 use Rattle.iso_plain.proofs.ProgramLemmas.{found_procedure, no_procedure, found_cases, same_test}

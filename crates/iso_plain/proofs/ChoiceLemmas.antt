@@ -95,8 +95,8 @@ pub first_of : (cs : List databases.Clause) → 0 < length cs → First cs
 first_of [] h = absurd (omega (arith, h))
 first_of (c ∷ cs) h = record { clause = c; others = cs; is = refl }
 
-module _ {S W M : Type 0} (present : S → Present W) (stands : S → M → Present W → Type 0) (older : M → M → Type 0) where
-  module _ (e : Plain S W M) (c : kept.Choice W M) (attempt : Attempt W) (s : State) (a : Alternative) (below : List Alternative) (w : WentBack present stands older e c s a below) (tries : c.left ≡ left.Clauses attempt) where
+module _ {S W M : Type 0} (names : S → List (List ℕ)) (present : S → Present W) (stands : S → M → Present W → Type 0) (older : M → M → Type 0) where
+  module _ (e : Plain S W M) (c : kept.Choice W M) (attempt : Attempt W) (s : State) (a : Alternative) (below : List Alternative) (w : WentBack names present stands older e c s a below) (tries : c.left ≡ left.Clauses attempt) where
     -- the goal whose clauses are left
     abbrev pub has : HasClauses (left_at s.world.database.procedures) e.query.items (variables s.query) (present e.store) (links_of e) attempt a
     has = subst (λ (l : Left W). HasLeft (left_at s.world.database.procedures) e.query.items (variables s.query) (present e.store) (links_of e) l a) tries w.has
@@ -122,7 +122,7 @@ module _ {S W M : Type 0} (present : S → Present W) (stands : S → M → Pres
     next_calls : (xs : List databases.Clause) (choices : Vec (kept.Choice W M) Global) → left_at s.world.database.procedures attempt.procedure attempt.clause ≡ first.clause ∷ xs
         → left_at s.world.database.procedures attempt.procedure (attempt.clause + 1) ≡ xs → 0 < length xs
         → choices.items ≡ take (length e.choices.items - 1) e.choices.items ++ with_left c (left.Clauses (next_of attempt)) ∷ []
-        → Calls present stands older (record e { choices = choices }) attempt (with_others has.call xs a.list (went_back a below s)) has.call first.clause xs a.list
+        → Calls names present stands older (record e { choices = choices }) attempt (with_others has.call xs a.list (went_back a below s)) has.call first.clause xs a.list
     next_calls [] choices is next some made = absurd (omega (arith, some))
     next_calls (y ∷ ys) choices is next some made =
         let b : Alternative = record { list = a.list; subst = a.subst; next = a.next; built = a.built; left = Clauses has.call (y ∷ ys) } in
@@ -146,7 +146,7 @@ module _ {S W M : Type 0} (present : S → Present W) (stands : S → M → Pres
 
     -- the newest choice was left at its next clause
     pub retries_next : (choices : Vec (kept.Choice W M) Global) → attempt.clause + 1 < clauses_at_place e.procedures.items attempt.procedure
-        → choices.items ≡ take (length e.choices.items - 1) e.choices.items ++ with_left c (left.Clauses (next_of attempt)) ∷ [] → Retries present stands older (record e { choices = choices }) attempt s a below
+        → choices.items ≡ take (length e.choices.items - 1) e.choices.items ++ with_left c (left.Clauses (next_of attempt)) ∷ [] → Retries names present stands older (record e { choices = choices }) attempt s a below
     retries_next choices more made = record {
       call = has.call;
       clause = first.clause;
@@ -158,7 +158,7 @@ module _ {S W M : Type 0} (present : S → Present W) (stands : S → M → Pres
     last_calls : (xs : List databases.Clause) (store : S) (choices : Vec (kept.Choice W M) Global) → left_at s.world.database.procedures attempt.procedure attempt.clause ≡ first.clause ∷ xs → length xs ≡ 0
         → present store ≡ present e.store → ((m : M) (p : Present W) → older m c.mark → stands e.store m p → stands store m p)
         → choices.items ≡ take (length e.choices.items - 1) e.choices.items
-        → Calls present stands older (record e { store = store; choices = choices }) attempt (with_others has.call xs a.list (went_back a below s)) has.call first.clause xs a.list
+        → Calls names present stands older (record e { store = store; choices = choices }) attempt (with_others has.call xs a.list (went_back a below s)) has.call first.clause xs a.list
     last_calls (y ∷ ys) store choices is none same marks made = absurd (omega (arith, none))
     last_calls [] store choices is none same marks made =
         let b = w.base in
@@ -177,7 +177,7 @@ module _ {S W M : Type 0} (present : S → Present W) (stands : S → M → Pres
     -- the newest choice was taken away with its last clause
     pub retries_last : (store : S) (choices : Vec (kept.Choice W M) Global) → clauses_at_place e.procedures.items attempt.procedure ≤ attempt.clause + 1
         → present store ≡ present e.store → ((m : M) (p : Present W) → older m c.mark → stands e.store m p → stands store m p)
-        → choices.items ≡ take (length e.choices.items - 1) e.choices.items → Retries present stands older (record e { store = store; choices = choices }) attempt s a below
+        → choices.items ≡ take (length e.choices.items - 1) e.choices.items → Retries names present stands older (record e { store = store; choices = choices }) attempt s a below
     retries_last store choices none same marks made = record {
       call = has.call;
       clause = first.clause;

@@ -72,14 +72,14 @@ body_untrue n parts b h some =
       | inr other ↦ (true_renamed n b ∙ other, rw other at h)
     ]
 
-module _ {S W M : Type 0} (present : S → Present W) (stands : S → M → Present W → Type 0) (older : M → M → Type 0) where
+module _ {S W M : Type 0} (names : S → List (List ℕ)) (present : S → Present W) (stands : S → M → Present W → Type 0) (older : M → M → Type 0) where
   -- the engine with another store, other nodes and something else to do next
   abbrev pub onward : Plain S W M → S → Vec (Node W) Global → Now → Plain S W M
   onward e store nodes doing = record e { store = store; nodes = nodes; now = doing }
 
   -- The engine tried the clause, and these are the store and the nodes now.
   pub record Tried (e : Plain S W M) (attempt : Attempt W) (s : State) (call : Tree) (c : databases.Clause) (cs : List databases.Clause) (behind : List Member) (store : S) (nodes : Vec (Node W) Global) (k : Clause) : Type 0 where
-    pub calls : Calls present stands older e attempt s call c cs behind
+    pub calls : Calls names present stands older e attempt s call c cs behind
     pub keeps : KeepsMarks (stands e.store) (stands store)
     pub adds : Adds e.nodes.items nodes.items
     pub is : IsClause k c
@@ -97,7 +97,7 @@ module _ {S W M : Type 0} (present : S → Present W) (stands : S → M → Pres
 
     -- the parts that don't depend on what comes next
     with_next : (doing : Now) (v : State) → v.world ≡ s.world → v.steps ≡ s.steps → v.stack ≡ s.stack → v.query ≡ s.query
-        → DoesNext q links e.query.items doing (option_map (λ b. term_of b.term) e.raised) v → IsEngine present stands older (onward e store nodes doing) v
+        → DoesNext q links e.query.items doing (option_map (λ b. term_of b.term) e.raised) v → IsEngine names present stands older (onward e store nodes doing) v
     with_next doing v world steps stack query next =
         let h = t.calls in
         let w = h.world in
@@ -105,18 +105,18 @@ module _ {S W M : Type 0} (present : S → Present W) (stands : S → M → Pres
           world = rw world (record { procedures_are = w.procedures_are; operators_are = w.operators_are; flags_are = w.flags_are });
           steps = steps ∙ h.steps;
           base = base_kept (stands e.store) (stands store) e.base t.keeps h.base;
-          choices = rw (world, stack, query) (choices_on present stands older e store nodes e.frames s.world (variables s.query) s.stack t.keeps t.adds (adds_none e.frames.items) h.choices);
+          choices = rw (world, stack, query) (choices_on names present stands older e store nodes e.frames s.world (variables s.query) s.stack t.keeps t.adds (adds_none e.frames.items) h.choices);
           room = rw stack h.room;
           next = next;
         }
 
-    pub missed_engine : NeverEqual (apply p.substitution (p.term attempt.goal)) (apply p.substitution (renamed p.next (term_of k.head))) → IsEngine present stands older (onward e store nodes now.Failing) (tried_clause call c mark behind s)
+    pub missed_engine : NeverEqual (apply p.substitution (p.term attempt.goal)) (apply p.substitution (renamed p.next (term_of k.head))) → IsEngine names present stands older (onward e store nodes now.Failing) (tried_clause call c mark behind s)
     missed_engine never =
         let at = (t.calls).at in
         let P : Tree → Subst → ℕ → Tree → Type 0 = λ a r n h. NeverEqual a (apply r (renamed n h)) in
         let none : P call s.subst s.next c.head = rw (at.value, ← at.on.subst_is, ← at.on.next_is, ← t.is.head) never in
         let is = clause_missed call c mark behind s none in
-        subst (λ (v : State). IsEngine present stands older (onward e store nodes now.Failing) v) (sym is) (with_next now.Failing _ refl refl refl refl ([], refl))
+        subst (λ (v : State). IsEngine names present stands older (onward e store nodes now.Failing) v) (sym is) (with_next now.Failing _ refl refl refl refl ([], refl))
 
     -- where members are still to be run
     goes_on : (m : Meets p q (p.term attempt.goal) (term_of k.head) k.variables) (list : List Member)
@@ -141,17 +141,17 @@ module _ {S W M : Type 0} (present : S → Present W) (stands : S → M → Pres
     links_add = record { nodes = t.adds; frames = adds_none e.frames.items }
 
     pub fact_engine : Meets p q (p.term attempt.goal) (term_of k.head) k.variables → k.parts.items ≡ []
-        → IsEngine present stands older (onward e store nodes (now_behind e.frames.items attempt.rest)) (tried_clause call c mark behind s)
+        → IsEngine names present stands older (onward e store nodes (now_behind e.frames.items attempt.rest)) (tried_clause call c mark behind s)
     fact_engine m none =
         let fact = before_fact (map_body (renaming_from s.next) c.body) mark behind (fact_true s.next k.parts.items c.body t.is.parts none) in
         let v : State = record s { list = before (map_body (renaming_from s.next) c.body) mark behind; subst = compose s.subst m.unifier; next = s.next + c.variables; built = s.built + clause_size c } in
         let next : DoesNext q links e.query.items (now_behind e.frames.items attempt.rest) (option_map (λ b. term_of b.term) e.raised) v =
         next_behind q links e.query.items (option_map (λ b. term_of b.term) e.raised) v attempt.rest behind fact (chain_more links links_add m.words (t.calls).at.on.chain) (goes_on m v.list) in
-        subst (λ (x : State). IsEngine present stands older (onward e store nodes (now_behind e.frames.items attempt.rest)) x) (sym (clause_found call c mark behind s m.unifier (unifies m)))
+        subst (λ (x : State). IsEngine names present stands older (onward e store nodes (now_behind e.frames.items attempt.rest)) x) (sym (clause_found call c mark behind s m.unifier (unifies m)))
         (with_next (now_behind e.frames.items attempt.rest) v refl refl refl refl next)
 
     pub body_engine : (place : ℕ) → Meets p q (p.term attempt.goal) (term_of k.head) k.variables → Copies q (renaming_from p.next) e.nodes.items nodes.items k.parts.items → place + 1 ≡ length nodes.items → 0 < length k.parts.items
-        → IsEngine present stands older (onward e store nodes (now.Running (record { todo = todo.Body place; mark = mark; next = attempt.rest }))) (tried_clause call c mark behind s)
+        → IsEngine names present stands older (onward e store nodes (now.Running (record { todo = todo.Body place; mark = mark; next = attempt.rest }))) (tried_clause call c mark behind s)
     body_engine place m copies end some =
         let b = map_body (renaming_from s.next) c.body in
         let f : Frame = record { todo = todo.Body place; mark = mark; next = attempt.rest } in
@@ -161,11 +161,11 @@ module _ {S W M : Type 0} (present : S → Present W) (stands : S → M → Pres
         let here : IsBody q nodes.items place b = subst (λ (n : ℕ). IsBody q nodes.items place (map_body (renaming_from n) c.body)) (t.calls).at.on.next_is at in
         let next : DoesNext q links e.query.items (now.Running f) (option_map (λ b. term_of b.term) e.raised) v =
         (record { member = Goal b mark; behind = behind; is = before_body b mark behind body.0; stands = a_body refl here; chain = chain_more links links_add m.words (t.calls).at.on.chain }, goes_on m v.list) in
-        subst (λ (x : State). IsEngine present stands older (onward e store nodes (now.Running f)) x) (sym (clause_found call c mark behind s m.unifier (unifies m))) (with_next (now.Running f) v refl refl refl refl next)
+        subst (λ (x : State). IsEngine names present stands older (onward e store nodes (now.Running f)) x) (sym (clause_found call c mark behind s m.unifier (unifies m))) (with_next (now.Running f) v refl refl refl refl next)
 
     -- what an entry comes to
     pub tried_engine : (entered : Entered) → Enters p q e.nodes.items nodes.items (p.term attempt.goal) k entered
-        → IsEngine present stands older (onward e store nodes (now_entered e.frames.items entered mark attempt.rest)) (tried_clause call c mark behind s)
+        → IsEngine names present stands older (onward e store nodes (now_entered e.frames.items entered mark attempt.rest)) (tried_clause call c mark behind s)
     tried_engine entered.Missed never = missed_engine never
     tried_engine entered.Fact h = fact_engine h.0 h.1
     tried_engine (entered.Body place) h = body_engine place h.0 h.1 h.2 h.3

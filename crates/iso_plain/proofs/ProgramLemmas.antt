@@ -9,7 +9,8 @@ use Rattle.iso_model.specs.Search.Databases.{Key, Procedures, Static, same_key, 
 use Rattle.iso_plain.specs.declared.clauses.Clause.{Clause}
 use Rattle.iso_plain.specs.declared.procedures.Procedure.{Procedure}
 use Rattle.iso_plain.specs.Kept.{IsClause}
-use Rattle.iso_plain.specs.Programs.{AreClauses, no_clauses, more_clauses, IsProcedure, IsDatabase, no_procedures, more_procedures, has_key, place_at}
+use Rattle.iso_plain.specs.Programs.{AreClauses, no_clauses, more_clauses, IsProcedure, IsDatabase, no_procedures, more_procedures}
+use Rattle.iso_plain.specs.Callables.{has_key, place_at}
 
 -- ---- the first place that passes a test
 

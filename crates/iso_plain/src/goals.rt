@@ -9,13 +9,14 @@ ghost use Rattle.iso_model.specs.Search.Bodies.{Body, converted};
 ghost use Rattle.iso_model.specs.Search.BuiltIns.{goal_reply};
 ghost use Rattle.iso_model.specs.Search.Databases.{Key, key_of};
 ghost use Rattle.iso_model.specs.Search.Errors.{key};
+ghost use Rattle.iso_atoms.specs.Texts.{KeepsTexts};
 ghost use Rattle.iso_store_core.specs.Presents.{Holds, meaning, KeepsMarks};
 ghost use Rattle.iso_store_core.specs.Arguments.{members_from};
 ghost use Rattle.iso_plain.specs.Entering.{Adds};
 ghost use Rattle.iso_plain.specs.Replies.{Places, HasName, HasNoName, IsBound, IsGoalReady, IsRunAs, IsPlaced, called_of};
 
 use super::bodies::{self, Node};
-use super::{balls, entries};
+use super::{balls, entries, writing};
 use iso_model::{Ball, MAX_ARITY, NoMemory, Term};
 use iso_prep::{Fault, Prepared};
 use iso_store_core::{Shape, Store, StoreFault};
@@ -109,11 +110,13 @@ fn place_body<S: Store>(
         → converted t ≡ Some b → IfOk result (Places (S.present store.old) (S.present store.new) nodes.old.items nodes.new.items b) }
     ensures full { result ≡ Err StoreFault.Full → S.full store.new }
     ensures nodes { Adds nodes.old.items nodes.new.items }
+    ensures names { KeepsTexts (S.names store.old) (S.names store.new) }
     ensures marks { KeepsMarks (S.stands store.old) (S.stands store.new) }
 {
     let parts = bodies::parts_of(alloc, goal)?;
+    let written = writing::written_parts(alloc, store, parts.as_slice())?;
     let variables = store.variables(whole)?;
-    entries::copy_parts(store, nodes, parts.as_slice(), variables.as_slice())?;
+    entries::copy_parts(store, nodes, written.as_slice(), variables.as_slice())?;
     Ok(nodes.len() - 1)
 }
 
@@ -157,6 +160,7 @@ fn place_goal<S: Store>(
     ensures placed { IfOk result (IsPlaced (S.present store.old) (S.present store.new) nodes.old.items nodes.new.items (term_of goal.now) (key name.now arity)) }
     ensures full { result ≡ Err StoreFault.Full → S.full store.new }
     ensures nodes { Adds nodes.old.items nodes.new.items }
+    ensures names { KeepsTexts (S.names store.old) (S.names store.new) }
     ensures marks { KeepsMarks (S.stands store.old) (S.stands store.new) }
 {
     if is_unbound(goal) {
@@ -190,6 +194,7 @@ pub fn place_argument<S: Store>(
         (λ runs. goal_reply runs (arguments.argument 0 (meaning (S.present store.old) goal)) (key name.now 1))) }
     ensures full { result ≡ Err StoreFault.Full → S.full store.new }
     ensures nodes { Adds nodes.old.items nodes.new.items }
+    ensures names { KeepsTexts (S.names store.old) (S.names store.new) }
     ensures marks { KeepsMarks (S.stands store.old) (S.stands store.new) }
 {
     let argument = store.arg(goal, 0);
@@ -211,6 +216,7 @@ pub fn place_called<S: Store>(
         (called_of (meaning (S.present store.old) goal)) (key (codes "call") (arguments.arity (meaning (S.present store.old) goal)))) }
     ensures full { result ≡ Err StoreFault.Full → S.full store.new }
     ensures nodes { Adds nodes.old.items nodes.new.items }
+    ensures names { KeepsTexts (S.names store.old) (S.names store.new) }
     ensures marks { KeepsMarks (S.stands store.old) (S.stands store.new) }
 {
     let arity = argument_count(store, goal);

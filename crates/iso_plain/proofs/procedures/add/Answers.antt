@@ -2,7 +2,7 @@ use Rattle.std.proofs.Common.{◌≡◌, ◌∙◌, sym, ap, Some, None}
 use Rattle.std.specs.String.{string_bytes}
 use Rattle.std.proofs.lemmas.Result.{on_ok_weaker, on_err_weaker}
 use Rattle.iso_model.specs.Search.Errors.{key}
-use Rattle.iso_plain.specs.Programs.{place_at}
+use Rattle.iso_plain.specs.Callables.{place_at}
 use Rattle.iso_plain.proofs.ProgramLemmas.{clause_comes, procedure_comes, procedure_stays}
 use Rattle.iso_plain.proofs.procedures.add.Goals as goal
 

@@ -44,10 +44,10 @@ behind-self-requires g c = rw c.as_slice-2.ensures.value (chain_place c.args.att
 pub returns-clause-tried : goal.returns-clause-tried
 returns-clause-tried g c = λ s call k ks gs t.
     (let is = c.clause_at-clause.ensures s.world.database.procedures k ks (rw c.as_slice.ensures.value t.world.procedures_are) t.clauses in
-    let tried : Tried g.S.Store.present g.S.Store.stands g.S.Store.older c.args.self.now c.args.attempt s call k ks gs c.enter.new.store c.enter.new.nodes c.clause_at-clause.result.now =
+    let tried : Tried g.S.Store.names g.S.Store.present g.S.Store.stands g.S.Store.older c.args.self.now c.args.attempt s call k ks gs c.enter.new.store c.enter.new.nodes c.clause_at-clause.result.now =
     record { calls = t; keeps = c.in_ok-entered.ensures.marks; adds = c.in_ok-entered.ensures.nodes; is = is } in
     rw (c.behind-self.ensures, c.as_slice-2.ensures.value)
-    (tried_engine g.S.Store.present g.S.Store.stands g.S.Store.older c.args.self.now c.args.attempt s call k ks gs c.enter.new.store c.enter.new.nodes c.clause_at-clause.result.now c.args.mark tried c.in_ok-entered.entered c.in_ok-entered.ensures.enters))
+    (tried_engine g.S.Store.names g.S.Store.present g.S.Store.stands g.S.Store.older c.args.self.now c.args.attempt s call k ks gs c.enter.new.store c.enter.new.nodes c.clause_at-clause.result.now c.args.mark tried c.in_ok-entered.entered c.in_ok-entered.ensures.enters))
 
 pub returns-clause-awake : goal.returns-clause-awake
 returns-clause-awake g c = rw c.behind-self.ensures (awake_entered _ c.in_ok-entered.entered c.args.mark c.args.attempt.rest)
@@ -57,7 +57,7 @@ returns-in_err-entered-clause-kept g c = λ s call k ks gs t.
     behind_error c.from_residual.result (
       t.world,
       base_kept (g.S.Store.stands c.args.self.now.store) (g.S.Store.stands c.enter.new.store) c.args.self.now.base c.in_err-entered.ensures.marks t.base,
-      (variables s.query, choices_on g.S.Store.present g.S.Store.stands g.S.Store.older c.args.self.now c.enter.new.store c.enter.new.nodes c.args.self.now.frames s.world (variables s.query) s.stack c.in_err-entered.ensures.marks c.in_err-entered.ensures.nodes (adds_none _) t.choices),
+      (variables s.query, choices_on g.S.Store.names g.S.Store.present g.S.Store.stands g.S.Store.older c.args.self.now c.enter.new.store c.enter.new.nodes c.args.self.now.frames s.world (variables s.query) s.stack c.in_err-entered.ensures.marks c.in_err-entered.ensures.nodes (adds_none _) t.choices),
     )
 
 pub returns-clause-cost : goal.returns-clause-cost

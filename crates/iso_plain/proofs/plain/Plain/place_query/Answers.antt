@@ -83,16 +83,16 @@ returns-clause-started g c = λ t w q fresh.
     })
 
 pub returns-in_err-parts-clause-kept : goal.returns-in_err-parts-clause-kept
-returns-in_err-parts-clause-kept g c = λ w fresh. behind_error c.from_residual.result (keeps_none g.S.Store.present g.S.Store.stands g.S.Store.older c.args.self.now w fresh)
+returns-in_err-parts-clause-kept g c = λ w fresh. behind_error c.from_residual.result (keeps_none g.S.Store.names g.S.Store.present g.S.Store.stands g.S.Store.older c.args.self.now w fresh)
 
 pub returns-in_err-variables-clause-kept : goal.returns-in_err-variables-clause-kept
 returns-in_err-variables-clause-kept g c = λ w fresh.
     behind_error c.from_residual-in_err-variables.result
-    (keeps_store g.S.Store.present g.S.Store.stands g.S.Store.older c.args.self.now c.new_variables.new.store w [] (keeps_none g.S.Store.present g.S.Store.stands g.S.Store.older c.args.self.now w fresh) c.in_err-variables.ensures.marks)
+    (keeps_store g.S.Store.names g.S.Store.present g.S.Store.stands g.S.Store.older c.args.self.now c.new_variables.new.store w [] (keeps_none g.S.Store.names g.S.Store.present g.S.Store.stands g.S.Store.older c.args.self.now w fresh) c.in_err-variables.ensures.marks)
 
 pub returns-in_err-copy_parts-clause-kept : goal.returns-in_err-copy_parts-clause-kept
 returns-in_err-copy_parts-clause-kept g c = λ w fresh.
     (let e = c.args.self.now in
-    let made = keeps_store g.S.Store.present g.S.Store.stands g.S.Store.older e c.new_variables.new.store w [] (keeps_none g.S.Store.present g.S.Store.stands g.S.Store.older e w fresh) c.in_ok-variables.ensures.marks in
+    let made = keeps_store g.S.Store.names g.S.Store.present g.S.Store.stands g.S.Store.older e c.new_variables.new.store w [] (keeps_none g.S.Store.names g.S.Store.present g.S.Store.stands g.S.Store.older e w fresh) c.in_ok-variables.ensures.marks in
     behind_error c.from_residual-in_err-copy_parts.result
-    (keeps_more g.S.Store.present g.S.Store.stands g.S.Store.older (record e { store = c.new_variables.new.store }) c.copy_parts.new.store c.copy_parts.new.nodes e.frames w [] made c.in_err-copy_parts.ensures.marks c.in_err-copy_parts.ensures.nodes (adds_none e.frames.items)))
+    (keeps_more g.S.Store.names g.S.Store.present g.S.Store.stands g.S.Store.older (record e { store = c.new_variables.new.store }) c.copy_parts.new.store c.copy_parts.new.nodes e.frames w [] made c.in_err-copy_parts.ensures.marks c.in_err-copy_parts.ensures.nodes (adds_none e.frames.items)))

@@ -21,7 +21,7 @@ returns-clause-calls g c = λ s call k ks gs t many.
     (let e = c.args.self.now in
     let nodes : c.len.result ≡ length e.nodes.items = cc (c.len.ensures, e.nodes.ok.0) in
     let frames : c.len-2.result ≡ length e.frames.items = cc (c.len-2.ensures, e.frames.ok.0) in
-    calls_later g.S.Store.present g.S.Store.stands g.S.Store.older e c.args.attempt s call k ks gs c.keep_choice.new.store c.keep_choice.new.choices t many c.in_ok-keep_choice.ensures.present c.in_ok-keep_choice.ensures.marks (rw (nodes, frames) at c.in_ok-keep_choice.ensures.gains))
+    calls_later g.S.Store.names g.S.Store.present g.S.Store.stands g.S.Store.older e c.args.attempt s call k ks gs c.keep_choice.new.store c.keep_choice.new.choices t many c.in_ok-keep_choice.ensures.present c.in_ok-keep_choice.ensures.marks (rw (nodes, frames) at c.in_ok-keep_choice.ensures.gains))
 
 pub returns-clause-costs : goal.returns-clause-costs
 returns-clause-costs g c =

@@ -18,7 +18,7 @@ pub loop-pause-preserved : goal.loop-pause-preserved
 loop-pause-preserved g c =
     let before = c.loop-pause.invariant in
     let moves = c.in-Goes.ensures.moves in
-    let stands = represents_stands g.S.Store.present g.S.Store.stands g.S.Store.older c.advance.new.self.now c.advance.new.self in
+    let stands = represents_stands g.S.Store.names g.S.Store.present g.S.Store.stands g.S.Store.older c.advance.new.self.now c.advance.new.self in
     let first = moves before.stands.0 before.stands.1 in
     record {
       awake = first.3;
@@ -32,8 +32,8 @@ pub returns-in-Pauses-clause-pauses : goal.returns-in-Pauses-clause-pauses
 returns-in-Pauses-clause-pauses g c = λ s r.
     let q = c.loop-pause.invariant.quiet s r in
     let start = c.args.self.now in
-    let same = c.advance.ensures.stays.settings ∙ (c.loop-pause.invariant.stays.settings ∙ stands_settings g.S.Store.present g.S.Store.stands g.S.Store.older start.now start s r) in
-    pauses_behind g.S.Store.present g.S.Store.stands g.S.Store.older c.advance.new.self s q.0 c.in-Pauses.pause same q.1 (c.in-Pauses.ensures.moves q.0 q.2)
+    let same = c.advance.ensures.stays.settings ∙ (c.loop-pause.invariant.stays.settings ∙ stands_settings g.S.Store.names g.S.Store.present g.S.Store.stands g.S.Store.older start.now start s r) in
+    pauses_behind g.S.Store.names g.S.Store.present g.S.Store.stands g.S.Store.older c.advance.new.self s q.0 c.in-Pauses.pause same q.1 (c.in-Pauses.ensures.moves q.0 q.2)
 
 pub returns-in-Pauses-clause-stays : goal.returns-in-Pauses-clause-stays
 returns-in-Pauses-clause-stays g c = stays_on c.loop-pause.invariant.stays c.advance.ensures.stays
