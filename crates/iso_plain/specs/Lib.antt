@@ -12,3 +12,4 @@ pub mod Callable
 pub mod Replies
 pub mod Called
 pub mod Costs
+pub mod Controls

@@ -10,6 +10,7 @@ pub mod procedures;
 // the engine's parts, and its moves
 pub mod calls;
 pub mod control;
+pub mod controls;
 pub mod ends;
 pub mod entries;
 pub mod goals;
