@@ -8,7 +8,6 @@ pub mod EngineStates
 pub mod Limits
 pub mod Stays
 pub mod Starts
-pub mod Callable
 pub mod Replies
 pub mod Called
 pub mod Costs

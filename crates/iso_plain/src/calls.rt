@@ -5,7 +5,6 @@ ghost use Rattle.iso_model.specs.Search.Walker.{World};
 ghost use Rattle.iso_model.specs.Search.Errors.{key};
 ghost use Rattle.iso_store_core.specs.Presents.{Holds, meaning};
 ghost use Rattle.iso_plain.specs.Programs.{KeepsWorld, place_at};
-ghost use Rattle.iso_plain.specs.Callable.{IsGoal};
 ghost use Rattle.iso_plain.specs.Called.{IsNamed, IsCalled};
 
 use super::plain::Plain;
@@ -58,11 +57,10 @@ impl<S: Store + Drop> Plain<S> {
         }
     }
 
-    /// What the goal calls. The error is that memory was refused.
+    /// What the goal calls; one without a name fails. The error is that memory was refused.
     pub(crate) fn called(&self, goal: S::Word) -> Result<Called, AllocError>
         requires { Holds (S.present self.now.store) goal }
         ensures { (w : World) → KeepsWorld self.entry.now.procedures.items self.entry.now.ops self.entry.now.flags w
-            → IsGoal ((S.present self.entry.now.store).term goal)
             → IfOk result (IsCalled self.entry.now.procedures.items w (meaning (S.present self.entry.now.store) goal)) }
     {
         match self.store.shape(goal) {
