@@ -39,3 +39,4 @@ pub mod RunMoves
 pub mod ReplyMoves
 pub mod LimitLemmas
 pub mod StoppedLemmas
+pub mod ControlNames
