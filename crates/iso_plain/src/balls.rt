@@ -54,6 +54,23 @@ pub fn instantiation(alloc: Global, name: &str, arity: usize) -> Result<Ball, Al
     error(alloc, what, place)
 }
 
+/// `type_error(kind, culprit)`, raised by this procedure (7.12.2 b).
+pub fn wrong_type(
+    alloc: Global,
+    kind: &str,
+    culprit: Term,
+    name: &str,
+    arity: usize,
+) -> Result<Ball, AllocError>
+    requires { arity < 256 }
+    ensures { IfOk result (λ b. term_of b.term ≡ errors.type_error kind.now (term_of culprit) (key name.now arity)) }
+{
+    let kind = atom(alloc, kind)?;
+    let what = compound2(alloc, "type_error", kind, culprit)?;
+    let place = indicator(alloc, name, arity)?;
+    error(alloc, what, place)
+}
+
 /// `type_error(callable, culprit)`, raised by this procedure (7.12.2 b).
 pub fn not_callable(
     alloc: Global,
@@ -64,8 +81,22 @@ pub fn not_callable(
     requires { arity < 256 }
     ensures { IfOk result (λ b. term_of b.term ≡ errors.type_error_callable (term_of culprit) (key name.now arity)) }
 {
-    let kind = atom(alloc, "callable")?;
-    let what = compound2(alloc, "type_error", kind, culprit)?;
+    wrong_type(alloc, "callable", culprit, name, arity)
+}
+
+/// `domain_error(domain, culprit)`, raised by this procedure (7.12.2 c).
+pub fn out_of_domain(
+    alloc: Global,
+    domain: &str,
+    culprit: Term,
+    name: &str,
+    arity: usize,
+) -> Result<Ball, AllocError>
+    requires { arity < 256 }
+    ensures { IfOk result (λ b. term_of b.term ≡ errors.domain_error domain.now (term_of culprit) (key name.now arity)) }
+{
+    let domain = atom(alloc, domain)?;
+    let what = compound2(alloc, "domain_error", domain, culprit)?;
     let place = indicator(alloc, name, arity)?;
     error(alloc, what, place)
 }

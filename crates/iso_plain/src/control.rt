@@ -18,7 +18,7 @@ impl<S: Store + Drop> Plain<S> {
     ghost use Rattle.iso_plain.specs.declared.parts.Now.TheVariants as now;
 
     /// Takes the choices away that were made since so many stood.
-    fn cut_to(&mut self, height: usize)
+    pub(crate) fn cut_to(&mut self, height: usize)
         requires { (s : State) × (place : Option ℕ) × IsAhead S.names S.present S.stands S.older self.old s place }
         ensures cut { (s : State) (place : Option ℕ) → IsAhead S.names S.present S.stands S.older self.old s place
             → IsAhead S.names S.present S.stands S.older self.new (cut_back height s.list s) place }

@@ -1,7 +1,9 @@
 //! The engine's moves that give the caller an answer, or a ball that nothing catches (7.7).
-ghost use Rattle.std.specs.Prelude.{◌≡◌, ℕ, IfOk, OnErr, List, map};
+ghost use Rattle.std.specs.Prelude.{◌≡◌, ℕ, Option, IfOk, OnErr, List, ◌∷◌, map};
 ghost use Rattle.iso_model.specs.Terms.TermOf.{term_of};
-ghost use Rattle.iso_model.specs.Search.Walker.{State};
+ghost use Rattle.iso_model.specs.Terms.Trees.{Tree};
+ghost use Rattle.iso_model.specs.Search.Walker.{State, Member, Raise};
+ghost use Rattle.iso_plain.specs.Catches.{IsUncaught};
 ghost use Rattle.iso_plain.specs.Standing.{AreVariables};
 
 use super::parts::Now;
@@ -48,16 +50,17 @@ impl<S: Store + Drop> Plain<S> {
         Ok(Move::Pauses(Pause::Answer(values)))
     }
 
-    /// Raises the ball that was kept; nothing catches it.
-    pub(crate) fn raise(&mut self) -> Move
-        requires now { self.old.now ≡ Raising }
+    /// Ends the run with the ball that was kept, which nothing catches.
+    pub(crate) fn end_by_ball(&mut self) -> Move
+        requires now { (place : Option ℕ) × (self.old.now ≡ Raising place) }
         requires stands { (s : State) × Represents S.names S.present S.stands S.older self.old s }
-        ensures moves { (s : State) → Represents S.names S.present S.stands S.older self.old s → Moves S.names S.present S.stands S.older result s self.new }
+        ensures moves { (s : State) → Represents S.names S.present S.stands S.older self.old s
+            → ((ball : Tree) (behind : List Member) → s.list ≡ Raise ball ∷ behind → IsUncaught ball behind s)
+            → Moves S.names S.present S.stands S.older result s self.new }
         ensures falls { Falls result (weight self.old) (weight self.new) }
         ensures frames { MoveFull ⊥ result }
         ensures met { MoveMet S.full result self.new }
         ensures stays { Stays S.names self.old self.new }
-        ensures base { IsBase (S.stands self.old.store) self.old.base → IsBase (S.stands self.new.store) self.new.base }
     {
         let ball = self.raised.take();
         self.clear();

@@ -59,7 +59,7 @@ impl<S: Store + Drop> Plain<S> {
             Now::Failing => self.fail(),
             Now::Answering => self.answer(),
             Now::Running(frame) => self.run(frame),
-            Now::Raising => Ok(self.raise()),
+            Now::Raising(from) => self.raise(from),
         }
     }
 

@@ -179,19 +179,21 @@ fn place_goal<S: Store>(
     }
 }
 
-/// Appends the body of the goal that is the first argument of this one, for which the procedure of this name and one argument was
-/// called, or gives the error that it raises. The errors: the store is full, or memory was refused.
+/// Appends the body of the goal that is the first argument of this one, for which the procedure of this name and arity was called,
+/// or gives the error that it raises. The errors: the store is full, or memory was refused.
 pub fn place_argument<S: Store>(
     alloc: Global,
     store: &mut S,
     nodes: &mut Vec<Node<S::Word>>,
     goal: S::Word,
     name: &str,
+    arity: usize,
 ) -> Result<Placed, StoreFault>
     requires goal { Holds (S.present store.old) goal }
+    requires arity { arity < 256 }
     requires some { 0 < arguments.arity (meaning (S.present store.old) goal) }
     ensures placed { IfOk result (IsRunAs (S.present store.old) (S.present store.new) nodes.old.items nodes.new.items
-        (λ runs. goal_reply runs (arguments.argument 0 (meaning (S.present store.old) goal)) (key name.now 1))) }
+        (λ runs. goal_reply runs (arguments.argument 0 (meaning (S.present store.old) goal)) (key name.now arity))) }
     ensures full { result ≡ Err StoreFault.Full → S.full store.new }
     ensures nodes { Adds nodes.old.items nodes.new.items }
     ensures names { KeepsTexts (S.names store.old) (S.names store.new) }
@@ -199,7 +201,7 @@ pub fn place_argument<S: Store>(
 {
     let argument = store.arg(goal, 0);
     let called = store.copy_out(argument)?;
-    place_goal(alloc, store, nodes, &called, argument, name, 1)
+    place_goal(alloc, store, nodes, &called, argument, name, arity)
 }
 
 /// Appends the body of the goal that this goal of `call/N` is for (7.8.3), or gives the error that it raises. The errors: the store is

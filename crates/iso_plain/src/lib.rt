@@ -11,6 +11,7 @@ pub mod procedures;
 pub mod writing;
 // the engine's parts, and its moves
 pub mod calls;
+pub mod catches;
 pub mod control;
 pub mod controls;
 pub mod ends;
@@ -22,6 +23,7 @@ pub mod parts;
 pub mod plain;
 pub mod replies;
 pub mod runs;
+pub mod throws;
 // what the callers call
 pub mod engine;
 pub mod starts;

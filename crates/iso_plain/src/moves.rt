@@ -6,7 +6,7 @@ ghost use Rattle.iso_model.specs.Search.Databases.{Procedures};
 ghost use Rattle.iso_plain.specs.Kept.{IsClause};
 ghost use Rattle.iso_plain.specs.Programs.{IsDatabase};
 ghost use Rattle.iso_plain.specs.EngineStates.{left_at, went_back, clauses_at_place};
-ghost use Rattle.iso_model.specs.Search.Walker.{State, Member, Alternative, AsIs, Again, pushed, tried, tried_clause, with_others};
+ghost use Rattle.iso_model.specs.Search.Walker.{State, Member, Alternative, AsIs, Again, fails, pushed, tried, tried_clause, with_others};
 
 use super::clauses::Clause;
 use super::entries;
@@ -171,6 +171,23 @@ impl<S: Store + Drop> Plain<S> {
         self.now = at(self.frames.as_slice(), place);
     }
 
+    /// Takes the newest choice away, which is the entry of a catch: nothing is left to be tried there (7.8.9).
+    fn pass_catch(&mut self, choice: Choice<S::Word, S::Mark>)
+        requires some { 0 < length self.old.choices.items }
+        requires left { (goal : S.Word) × (place : Option ℕ) × (choice.left ≡ left.Catching goal place) }
+        requires back { (s : State) × (a : Alternative) × (below : List Alternative) × WentBack S.names S.present S.stands S.older self.old choice s a below }
+        ensures fails { (s : State) (a : Alternative) (below : List Alternative) → WentBack S.names S.present S.stands S.older self.old choice s a below
+            → IsEngine S.names S.present S.stands S.older self.new (fails (went_back a below s)) }
+        ensures awake { IsAwake (phase_of self.new.now) }
+        ensures steps { self.new.steps ≡ self.old.steps }
+        ensures stays { Stays S.names self.old self.new }
+        ensures costs { cost self.new < choices_cost self.old.procedures.items (frame_costs self.old.frames.items) self.old.choices.items }
+    {
+        self.choices.truncate(self.choices.len() - 1);
+        self.store.forget(choice.mark);
+        self.now = Now::Failing;
+    }
+
     /// Goes on with the members from this place on, which the newest choice keeps on; this takes a step (8.15.3).
     fn go_again(&mut self, choice: Choice<S::Word, S::Mark>, place: Option<usize>)
         requires some { 0 < length self.old.choices.items }
@@ -217,6 +234,10 @@ impl<S: Store + Drop> Plain<S> {
             }
             Left::Again(place) => {
                 self.go_again(choice, place);
+                Ok(Move::Goes)
+            }
+            Left::Catching(_, _) => {
+                self.pass_catch(choice);
                 Ok(Move::Goes)
             }
             Left::Clauses(attempt) => {

@@ -1,18 +1,23 @@
 //! What goals of the language's own procedures come to (7.8, 8).
-ghost use Rattle.std.specs.Prelude.{◌≡◌, IfOk, OnOk, Err, MatchBool, if◌then◌else◌};
+ghost use Rattle.std.specs.Prelude.{◌≡◌, ◌≢◌, ◌<◌, codes, true, IfOk, OnOk, Err, MatchBool, if◌then◌else◌};
 ghost use Rattle.iso_model.specs.Terms.Substitutions.{Subst};
 ghost use Rattle.iso_model.specs.Terms.Unifiers.{Unifier, NeverEqual};
 ghost use Rattle.iso_model.specs.Search.BuiltIns as table;
 ghost use Rattle.iso_atoms.specs.Texts.{KeepsTexts};
 ghost use Rattle.iso_store_core.specs.Presents.{Holds, meaning, KeepsMarks};
 ghost use Rattle.iso_plain.specs.Called.{IsBuiltIn};
-ghost use Rattle.iso_plain.specs.Replies.{IsReply};
+ghost use Rattle.iso_plain.specs.Replies.{IsReply, IsHalt};
+ghost use Rattle.iso_model.specs.Terms.Trees.{arities_fit};
+ghost use Rattle.iso_model.specs.Terms.TermOf.{term_of};
+ghost use Rattle.iso_model.specs.Terms.Arguments as arguments;
+ghost use Rattle.iso_model.specs.Search.Errors.{key};
 ghost use Rattle.iso_plain.specs.Entering.{Adds};
 
 use super::bodies::Node;
+use super::balls;
 use super::goals::{Placed, place_argument, place_called};
-use iso_model::{Ball, BuiltIn};
-use iso_store_core::{Store, StoreFault};
+use iso_model::{Ball, BuiltIn, NoMemory, Term};
+use iso_store_core::{Shape, Store, StoreFault};
 use std::alloc::Global;
 
 /// What a goal of a built-in comes to.
@@ -32,6 +37,10 @@ pub enum Replied {
     Refutes(usize),
     /// It succeeds each time that it is tried (8.15.3).
     Repeats,
+    /// The same as what it holds, inside a catch: a body is run, or an error raised (7.8.9).
+    Catches(Placed),
+    /// The session ends with this status (8.17.1, 8.17.2).
+    Halts(u8),
 }
 
 /// Runs the goal of this built-in: what it comes to. The errors: the store is full, or memory was refused.
@@ -67,14 +76,60 @@ pub fn reply<S: Store>(
             Placed::Body(place) => Ok(Replied::Calls(place)),
             Placed::Raises(ball) => Ok(Replied::Raises(ball)),
         },
-        BuiltIn::Once => match place_argument(alloc, store, nodes, goal, "once")? {
+        BuiltIn::Once => match place_argument(alloc, store, nodes, goal, "once", 1)? {
             Placed::Body(place) => Ok(Replied::CallsOnce(place)),
             Placed::Raises(ball) => Ok(Replied::Raises(ball)),
         },
-        BuiltIn::Not => match place_argument(alloc, store, nodes, goal, "\\+")? {
+        BuiltIn::Not => match place_argument(alloc, store, nodes, goal, "\\+", 1)? {
             Placed::Body(place) => Ok(Replied::Refutes(place)),
             Placed::Raises(ball) => Ok(Replied::Raises(ball)),
         },
+        BuiltIn::Catch => Ok(Replied::Catches(place_argument(
+            alloc, store, nodes, goal, "catch", 3,
+        )?)),
+        BuiltIn::Throw => Ok(Replied::Raises(thrown(alloc, store, goal)?)),
+        BuiltIn::Halt => Ok(Replied::Halts(0)),
+        BuiltIn::HaltWith => halted(alloc, store, goal),
+    }
+}
+
+/// The ball that a goal of `throw/1` throws, or the error where it is unbound (7.8.10). The error is that memory was refused.
+fn thrown<S: Store>(alloc: Global, store: &S, goal: S::Word) -> Result<Ball, NoMemory>
+    requires goal { Holds (S.present store.now) goal }
+    requires some { 0 < arguments.arity (meaning (S.present store.now) goal) }
+    ensures ball { IfOk result (λ b. table.throw_reply (arguments.argument 0 (meaning (S.present store.now) goal)) (key (codes "throw") 1) ≡ table.Raises (term_of b.term)) }
+    ensures fits { IfOk result (λ b. arities_fit (term_of b.term) ≡ true) }
+{
+    let argument = store.arg(goal, 0);
+    match store.shape(argument) {
+        Shape::Var(_) => balls::instantiation(alloc, "throw", 1),
+        Shape::Int(_) | Shape::Atom(_) | Shape::Compound(_, _) => Ok(Ball {
+            term: store.copy_out(argument)?,
+        }),
+    }
+}
+
+/// What a goal of `halt/1` comes to (8.17.2). The error is that memory was refused.
+fn halted<S: Store>(alloc: Global, store: &S, goal: S::Word) -> Result<Replied, StoreFault>
+    requires goal { Holds (S.present store.now) goal }
+    requires some { 0 < arguments.arity (meaning (S.present store.now) goal) }
+    ensures halts { IfOk result (IsHalt (table.halt_reply (arguments.argument 0 (meaning (S.present store.now) goal)) (key (codes "halt") 1))) }
+    ensures full { result ≢ Err StoreFault.Full }
+{
+    let argument = store.arg(goal, 0);
+    match store.shape(argument) {
+        Shape::Var(_) => Ok(Replied::Raises(balls::instantiation(alloc, "halt", 1)?)),
+        Shape::Int(status) if status < 0 || status > 255 => Ok(Replied::Raises(
+            balls::out_of_domain(alloc, "exit_code", Term::Int(status), "halt", 1)?,
+        )),
+        Shape::Int(status) => Ok(Replied::Halts(status as u8)),
+        Shape::Atom(_) | Shape::Compound(_, _) => Ok(Replied::Raises(balls::wrong_type(
+            alloc,
+            "integer",
+            store.copy_out(argument)?,
+            "halt",
+            1,
+        )?)),
     }
 }
 

@@ -11,6 +11,7 @@ ghost use Rattle.iso_plain.specs.declared.bodies.Node.TheVariants as node;
 use super::bodies::Node;
 use super::calls::Called;
 use super::parts::{Attempt, Frame, Now, Todo, at};
+use super::goals::Placed;
 use super::plain::{Move, Plain};
 use super::replies::{self, Replied};
 use iso_model::{BuiltIn, Limit, Pause};
@@ -44,6 +45,7 @@ impl<S: Store + Drop> Plain<S> {
                 self.now = Now::Failing;
                 Ok(Move::Goes)
             }
+            Todo::Leave => Ok(self.leave(frame)),
         }
     }
 
@@ -96,8 +98,9 @@ impl<S: Store + Drop> Plain<S> {
                 Ok(Move::Goes)
             }
             Called::Unknown(ball) => {
-                self.clear();
-                Ok(Move::Pauses(Pause::Uncaught(ball)))
+                self.steps -= 1;
+                self.throw(ball, frame.next);
+                Ok(Move::Goes)
             }
             Called::User(procedure) => {
                 self.steps -= 1;
@@ -144,8 +147,8 @@ impl<S: Store + Drop> Plain<S> {
                 Ok(Move::Goes)
             }
             Replied::Raises(ball) => {
-                self.clear();
-                Ok(Move::Pauses(Pause::Uncaught(ball)))
+                self.throw(ball, frame.next);
+                Ok(Move::Goes)
             }
             Replied::Calls(body) => {
                 self.now = Now::Running(Frame {
@@ -158,6 +161,12 @@ impl<S: Store + Drop> Plain<S> {
             Replied::CallsOnce(body) => self.call_once(body, frame.next),
             Replied::Refutes(body) => self.refute(body, frame.next),
             Replied::Repeats => self.repeat(frame.next),
+            Replied::Catches(Placed::Body(body)) => self.call_inside(body, goal, frame.next),
+            Replied::Catches(Placed::Raises(ball)) => self.throw_inside(ball, goal, frame.next),
+            Replied::Halts(status) => {
+                self.clear();
+                Ok(Move::Pauses(Pause::Halt(status)))
+            }
         }
     }
 

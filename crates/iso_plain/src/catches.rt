@@ -1,0 +1,147 @@
+//! The engine's moves into a catch and out of it (7.8.9).
+ghost use Rattle.std.specs.Prelude.{◌≡◌, ℕ, suc, ◌+◌, ◌≤◌, true, IfOk, OnErr, ◌∷◌, List, length, Option, MatchOption};
+ghost use Rattle.iso_model.specs.Terms.Trees.{Tree, arities_fit};
+ghost use Rattle.iso_model.specs.Terms.TermOf.{term_of};
+ghost use Rattle.iso_model.specs.Search.Bodies.{Body};
+ghost use Rattle.iso_model.specs.Search.Walker.{State, Catching, pushed};
+ghost use Rattle.iso_plain.specs.Catches.{catching, calling_inside, throwing, catcher_of, recovery_of};
+
+use super::parts::{Frame, Left, Now, Todo, at, keep_choice, push_frame};
+use super::plain::{Move, Plain};
+use iso_model::{Ball, Limit, Pause};
+use iso_store_core::{Store, StoreFault};
+use std::alloc::AllocError;
+
+impl<S: Store + Drop> Plain<S> {
+    ghost use Rattle.iso_plain.specs.Catches.{EntersCatch};
+    ghost use Rattle.iso_plain.specs.EngineStates.{IsAhead, Represents, Moves, WasRefused, WasCalled, Falls, choices_cost, weight};
+    ghost use Rattle.iso_plain.specs.Costs.{rest_cost, left_cost, frame_costs, whole_cost};
+    ghost use Rattle.iso_plain.specs.Standing.{IsBody};
+    ghost use Rattle.iso_plain.specs.Stays.{Stays};
+    ghost use Rattle.iso_plain.specs.Limits.{MoveMet, MoveFull, ResultMet, ResultFull};
+    ghost use Rattle.iso_plain.specs.declared.parts.Now.TheVariants as now;
+    ghost use Rattle.iso_plain.specs.declared.parts.Todo.TheVariants as todo;
+
+    /// Makes the entry of the catch that this goal calls, before the members from `next` on, and before them the catch's end, whose
+    /// place it answers; nothing where no choice may be made any more. The error is that memory was refused.
+    fn open_catch(
+        &mut self,
+        goal: S::Word,
+        next: Option<usize>,
+    ) -> Result<Option<usize>, AllocError>
+        requires { (s : State) × EntersCatch S.names S.present S.stands S.older self.old goal s next }
+        ensures opened { (s : State) → EntersCatch S.names S.present S.stands S.older self.old goal s next
+            → IfOk result (λ end. MatchOption end (self.new ≡ self.old) (λ place. IsAhead S.names S.present S.stands S.older self.new
+                (catching (catcher_of (S.present self.old.store) goal) (recovery_of (S.present self.old.store) goal) s) (Option.Some place))) }
+        ensures kept { (s : State) → EntersCatch S.names S.present S.stands S.older self.old goal s next
+            → OnErr result (WasRefused S.names S.present S.stands S.older self.new s
+                (pushed s.list (Catching (catcher_of (S.present self.old.store) goal) (recovery_of (S.present self.old.store) goal)) s)) }
+        ensures full { IfOk result (λ end. MatchOption end (self.old.limit ≤ length self.old.choices.items)
+            (λ place. length self.new.choices.items ≡ length self.old.choices.items + 1)) }
+        ensures costs { IfOk result (λ end. MatchOption end (self.new ≡ self.old) (λ place.
+            (choices_cost self.old.procedures.items (frame_costs self.new.frames.items) self.new.choices.items
+                ≡ choices_cost self.old.procedures.items (frame_costs self.old.frames.items) self.old.choices.items + left_cost 1 (rest_cost (frame_costs self.old.frames.items) next))
+            × (rest_cost (frame_costs self.new.frames.items) (Option.Some place) ≡ suc (rest_cost (frame_costs self.old.frames.items) next)))) }
+        ensures same { (self.new.steps ≡ self.old.steps) × (self.new.nodes ≡ self.old.nodes) × (S.present self.new.store ≡ S.present self.old.store) }
+        ensures stays { Stays S.names self.old self.new }
+    {
+        let height = self.choices.len();
+        if height >= self.limit as usize {
+            return Ok(None);
+        }
+        keep_choice(
+            &mut self.store,
+            &mut self.choices,
+            Left::Catching(goal, next),
+            self.nodes.len(),
+            self.frames.len(),
+        )?;
+        let end = push_frame(
+            &mut self.frames,
+            Frame {
+                todo: Todo::Leave,
+                mark: height,
+                next,
+            },
+        )?;
+        Ok(Some(end))
+    }
+
+    /// Runs the body at this place of the nodes inside the catch that this goal calls, before the members from `next` on (7.8.9). The
+    /// error is that memory was refused; where no choice may be made any more the engine is spent.
+    pub(crate) fn call_inside(
+        &mut self,
+        body: usize,
+        goal: S::Word,
+        next: Option<usize>,
+    ) -> Result<Move, StoreFault>
+        requires { (s : State) × (b : Body) × EntersCatch S.names S.present S.stands S.older self.old goal s next × IsBody (S.present self.old.store) self.old.nodes.items body b }
+        ensures called { (s : State) (b : Body) → EntersCatch S.names S.present S.stands S.older self.old goal s next → IsBody (S.present self.old.store) self.old.nodes.items body b
+            → IfOk result (λ m. WasCalled S.names S.present S.stands S.older m self.new s
+                (calling_inside b (catcher_of (S.present self.old.store) goal) (recovery_of (S.present self.old.store) goal) s)) }
+        ensures kept { (s : State) → EntersCatch S.names S.present S.stands S.older self.old goal s next
+            → OnErr result (WasRefused S.names S.present S.stands S.older self.new s
+                (pushed s.list (Catching (catcher_of (S.present self.old.store) goal) (recovery_of (S.present self.old.store) goal)) s)) }
+        ensures falls { (w : ℕ) → choices_cost self.old.procedures.items (frame_costs self.old.frames.items) self.old.choices.items
+            + rest_cost (frame_costs self.old.frames.items) next + 1 ≤ w → IfOk result (λ m. Falls m (whole_cost (suc self.old.steps) w) (weight self.new)) }
+        ensures frames { ResultFull (self.old.limit ≤ length self.old.choices.items) result }
+        ensures met { ResultMet S.full result self.new }
+        ensures stays { Stays S.names self.old self.new }
+    {
+        let Some(end) = self.open_catch(goal, next)? else {
+            self.now = Now::Spent(Limit::Frames);
+            return Ok(Move::Pauses(Pause::FramesFull));
+        };
+        self.now = Now::Running(Frame {
+            todo: Todo::Body(body),
+            mark: self.choices.len(),
+            next: Some(end),
+        });
+        Ok(Move::Goes)
+    }
+
+    /// Throws the ball inside the catch that this goal calls, before the members from `next` on: its goal can't be run (7.8.9). The
+    /// error is that memory was refused; where no choice may be made any more the engine is spent.
+    pub(crate) fn throw_inside(
+        &mut self,
+        ball: Ball,
+        goal: S::Word,
+        next: Option<usize>,
+    ) -> Result<Move, StoreFault>
+        requires fits { arities_fit (term_of ball.term) ≡ true }
+        requires enters { (s : State) × EntersCatch S.names S.present S.stands S.older self.old goal s next }
+        ensures called { (s : State) → EntersCatch S.names S.present S.stands S.older self.old goal s next
+            → IfOk result (λ m. WasCalled S.names S.present S.stands S.older m self.new s
+                (throwing (term_of ball.term) (catching (catcher_of (S.present self.old.store) goal) (recovery_of (S.present self.old.store) goal) s))) }
+        ensures kept { (s : State) → EntersCatch S.names S.present S.stands S.older self.old goal s next
+            → OnErr result (WasRefused S.names S.present S.stands S.older self.new s
+                (pushed s.list (Catching (catcher_of (S.present self.old.store) goal) (recovery_of (S.present self.old.store) goal)) s)) }
+        ensures falls { (w : ℕ) → choices_cost self.old.procedures.items (frame_costs self.old.frames.items) self.old.choices.items
+            + rest_cost (frame_costs self.old.frames.items) next + 1 ≤ w → IfOk result (λ m. Falls m (whole_cost (suc self.old.steps) w) (weight self.new)) }
+        ensures frames { ResultFull (self.old.limit ≤ length self.old.choices.items) result }
+        ensures met { ResultMet S.full result self.new }
+        ensures stays { Stays S.names self.old self.new }
+    {
+        let Some(end) = self.open_catch(goal, next)? else {
+            self.now = Now::Spent(Limit::Frames);
+            return Ok(Move::Pauses(Pause::FramesFull));
+        };
+        self.throw(ball, Some(end));
+        Ok(Move::Goes)
+    }
+
+    /// Goes on behind the catch whose goal has ended: it catches nothing any more, but its choice stays (7.8.9).
+    pub(crate) fn leave(&mut self, frame: Frame) -> Move
+        requires now { self.old.now ≡ now.Running frame }
+        requires leaves { frame.todo ≡ todo.Leave }
+        requires stands { (s : State) × Represents S.names S.present S.stands S.older self.old s }
+        ensures moves { (s : State) → Represents S.names S.present S.stands S.older self.old s → Moves S.names S.present S.stands S.older result s self.new }
+        ensures falls { Falls result (weight self.old) (weight self.new) }
+        ensures frames { MoveFull ⊥ result }
+        ensures met { MoveMet S.full result self.new }
+        ensures stays { Stays S.names self.old self.new }
+    {
+        self.now = at(self.frames.as_slice(), frame.next);
+        Move::Goes
+    }
+}

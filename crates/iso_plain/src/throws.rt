@@ -1,0 +1,194 @@
+//! The engine's moves at a thrown ball: the innermost catch whose goal has not ended comes back, and its catcher meets the ball
+//! (7.8.9, 7.8.10).
+ghost use Rattle.std.specs.Prelude.{◌≡◌, ℕ, ◌+◌, ◌<◌, ◌≤◌, true, IsTrue, ◌↔◌, IfOk, OnOk, OnErr, ◌∷◌, List, length, Option, MatchOption, Err, slice_get};
+ghost use Rattle.iso_model.specs.Terms.Trees.{Tree, arities_fit};
+ghost use Rattle.iso_model.specs.Terms.TermOf.{term_of};
+ghost use Rattle.iso_model.specs.Search.Walker.{State, Member, Alternative, meets};
+ghost use Rattle.iso_plain.specs.Catches.{GoesTo, IsUncaught, throwing, catcher_of, recovery_of};
+
+use super::bodies::Node;
+use super::parts::{Frame, Left, Now, Todo};
+use super::plain::{Move, Plain};
+use iso_model::{Ball, Pause};
+use iso_store_core::{Store, StoreFault};
+
+/// The most variables of a ball that is caught; one with more is refused as memory is.
+const MOST_VARIABLES: u64 = 536_870_912;
+
+impl<S: Store + Drop> Plain<S> {
+    ghost use Rattle.iso_plain.specs.Catches.{MeetsBall};
+    ghost use Rattle.iso_plain.specs.EngineStates.{IsAhead, IsEngine, Represents, Moves, Stopped, Keeps, Falls, cost, choices_cost, weight, links_of, phase_of};
+    ghost use Rattle.iso_plain.specs.Costs.{body_cost, most, rest_cost, frame_costs};
+    ghost use Rattle.iso_plain.specs.Standing.{Chain, StandsForChoices};
+    ghost use Rattle.iso_model.specs.Search.Engines.{IsAwake};
+    ghost use Rattle.iso_plain.specs.Stays.{Stays};
+    ghost use Rattle.iso_plain.specs.Limits.{ResultMet, ResultFull};
+    ghost use Rattle.iso_plain.specs.declared.parts.Now.TheVariants as now;
+
+    /// Throws the ball, past the members from `next` on.
+    pub(crate) fn throw(&mut self, ball: Ball, next: Option<usize>)
+        requires { arities_fit (term_of ball.term) ≡ true }
+        ensures thrown { (s : State) → IsAhead S.names S.present S.stands S.older self.old s next
+            → IsEngine S.names S.present S.stands S.older self.new (throwing (term_of ball.term) s) }
+        ensures now { self.new.now ≡ now.Raising next }
+        ensures same { (self.new.steps ≡ self.old.steps) × (self.new.choices ≡ self.old.choices) × (self.new.frames ≡ self.old.frames) × (self.new.store ≡ self.old.store) }
+        ensures stays { Stays S.names self.old self.new }
+    {
+        self.raised = Some(ball);
+        self.now = Now::Raising(next);
+    }
+
+    /// Whether the frame is the end of a catch whose choice stands at its mark.
+    fn ends_catch(&self, frame: Frame) -> bool
+        ensures { (result ≡ true) ↔ IsEndOfCatch self.now.choices.items frame }
+    {
+        if !matches!(frame.todo, Todo::Leave) {
+            return false;
+        }
+        match self.choices.get(frame.mark) {
+            Some(choice) => matches!(choice.left, Left::Catching(_, _)),
+            None => false,
+        }
+    }
+
+    /// The place of the choice of the catch to which a ball goes that is thrown past the members from this place on.
+    fn find_catch(&self, from: Option<usize>) -> Option<usize>
+        requires { (behind : List Member) × Chain (S.present self.now.store) (links_of self.now) from behind }
+        ensures { (s : State) (ball : Tree) (behind : List Member) → HasStack S.stands S.older self.entry.now s
+            → Chain (S.present self.entry.now.store) (links_of self.entry.now) from behind
+            → MatchOption result (IsUncaught ball behind s) (GoesTo ball behind s) }
+    {
+        let mut at = from;
+        while let Some(place) = at {
+            let frame = self.frames[place];
+            if self.ends_catch(frame) {
+                return Some(frame.mark);
+            }
+            at = frame.next;
+        }
+        None
+    }
+
+    /// Goes back to the entry of the catch whose choice is at this place, and takes its choice away with those above it: the goal of
+    /// `catch/3`, and the place of the member behind it (7.8.9).
+    fn back_to_catch(&mut self, height: usize) -> (S::Word, Option<usize>)
+        requires { (s : State) × (ball : Tree) × (behind : List Member) × IsEngine S.names S.present S.stands S.older self.old s
+            × (s.list ≡ Raise ball ∷ behind) × GoesTo ball behind s height }
+        ensures back { (s : State) (ball : Tree) (behind : List Member) → IsEngine S.names S.present S.stands S.older self.old s
+            → s.list ≡ Raise ball ∷ behind → (g : GoesTo ball behind s height)
+            → IsCaught S.names S.present S.stands S.older self.new result.0 ball g.catcher g.recovery (went_back g.alternative g.below s) result.1 }
+        ensures costs { choices_cost self.old.procedures.items (frame_costs self.new.frames.items) self.new.choices.items
+            + left_cost 1 (rest_cost (frame_costs self.new.frames.items) result.1) ≤ choices_cost self.old.procedures.items (frame_costs self.old.frames.items) self.old.choices.items }
+        ensures steps { self.new.steps ≡ self.old.steps }
+        ensures stays { Stays S.names self.old self.new }
+    {
+        self.now = Now::Failing;
+        self.cut_to(height + 1);
+        let choice = self.go_back();
+        self.choices.truncate(height);
+        self.store.forget(choice.mark);
+        match choice.left {
+            Left::Catching(goal, next) => (goal, next),
+            _ => unreachable!(),
+        }
+    }
+
+    /// Calls the recovery of this goal of `catch/3`, before the members from `next` on (7.8.9). The errors: the store is full, or memory
+    /// was refused.
+    fn call_recovery(&mut self, goal: S::Word, next: Option<usize>) -> Result<(), StoreFault>
+        requires { (s : State) × Recovers S.names S.present S.stands S.older self.old goal s next }
+        ensures called { (s : State) → Recovers S.names S.present S.stands S.older self.old goal s next
+            → OnOk result (IsEngine S.names S.present S.stands S.older self.new (calling (recovery_of (S.present self.old.store) goal) s)) }
+        ensures kept { (s : State) → Recovers S.names S.present S.stands S.older self.old goal s next
+            → OnErr result (Keeps S.names S.present S.stands S.older self.new s.world s.stack) }
+        ensures full { result ≡ Err StoreFault.Full → S.full self.new.store }
+        ensures costs { OnOk result (cost self.new ≤ choices_cost self.old.procedures.items (frame_costs self.old.frames.items) self.old.choices.items
+            + body_cost most (rest_cost (frame_costs self.old.frames.items) next)) }
+        ensures awake { OnOk result (IsAwake (phase_of self.new.now)) }
+        ensures steps { self.new.steps ≡ self.old.steps }
+        ensures stays { Stays S.names self.old self.new }
+    {
+        let recovery = self.store.arg(goal, 2);
+        let call = self.store.compound(self.controls.call, &[recovery])?;
+        let place = self.nodes.len();
+        self.nodes.push(Node::Run(call))?;
+        self.now = Now::Running(Frame {
+            todo: Todo::Body(place),
+            mark: self.choices.len(),
+            next,
+        });
+        Ok(())
+    }
+
+    /// Whether a copy of the ball that was kept unifies with the catcher of this goal of `catch/3`; then their unifier is bound. The
+    /// errors: the store is full, or memory was refused, as it is for a ball of more than 536,870,912 variables.
+    fn meets(&mut self, goal: S::Word) -> Result<bool, StoreFault>
+        requires { (s : State) × (ball : Tree) × (next : Option ℕ) × MeetsBall S.names S.present S.stands S.older self.old goal ball s next }
+        ensures met { (s : State) (ball : Tree) (next : Option ℕ) → MeetsBall S.names S.present S.stands S.older self.old goal ball s next
+            → IfOk result (λ unified. HasMet (S.present self.old.store) (S.present self.new.store) goal ball unified) }
+        ensures kept { (s : State) (ball : Tree) (next : Option ℕ) → MeetsBall S.names S.present S.stands S.older self.old goal ball s next
+            → Keeps S.names S.present S.stands S.older self.new s.world s.stack }
+        ensures full { result ≡ Err StoreFault.Full → S.full self.new.store }
+        ensures marks { KeepsMarks (S.stands self.old.store) (S.stands self.new.store) }
+        ensures same { self.new ≡ record self.old { store = self.new.store } }
+        ensures names { KeepsTexts (S.names self.old.store) (S.names self.new.store) }
+    {
+        let Some(ball) = &self.raised else {
+            unreachable!();
+        };
+        let before = self.store.reserve(0);
+        let copy = self.store.build(&ball.term)?;
+        if self.store.reserve(0) - before > MOST_VARIABLES {
+            return Err(StoreFault::NoMemory);
+        }
+        let catcher = self.store.arg(goal, 1);
+        self.store.unify(catcher, copy)
+    }
+
+    /// Has the ball met by the catcher of this goal of `catch/3`: its recovery is called, or the ball is thrown on, past the members from
+    /// `next` on (7.8.9). The errors: the store is full, or memory was refused, as it is for a ball of more than 536,870,912 variables.
+    fn meet(&mut self, goal: S::Word, next: Option<usize>) -> Result<(), StoreFault>
+        requires { (s : State) × (ball : Tree) × MeetsBall S.names S.present S.stands S.older self.old goal ball s next }
+        ensures met { (s : State) (ball : Tree) → MeetsBall S.names S.present S.stands S.older self.old goal ball s next
+            → OnOk result (IsEngine S.names S.present S.stands S.older self.new (meets ball (catcher_of (S.present self.old.store) goal) (recovery_of (S.present self.old.store) goal) s.list s)) }
+        ensures kept { (s : State) (ball : Tree) → MeetsBall S.names S.present S.stands S.older self.old goal ball s next
+            → OnErr result (Keeps S.names S.present S.stands S.older self.new s.world s.stack) }
+        ensures full { result ≡ Err StoreFault.Full → S.full self.new.store }
+        ensures costs { OnOk result (cost self.new ≤ choices_cost self.old.procedures.items (frame_costs self.old.frames.items) self.old.choices.items
+            + body_cost most (rest_cost (frame_costs self.old.frames.items) next)) }
+        ensures awake { OnOk result (IsAwake (phase_of self.new.now)) }
+        ensures steps { self.new.steps ≡ self.old.steps }
+        ensures stays { Stays S.names self.old self.new }
+    {
+        let mark = self.store.mark();
+        if self.meets(goal)? {
+            self.store.forget(mark);
+            return self.call_recovery(goal, next);
+        }
+        self.store.undo(mark);
+        self.store.forget(mark);
+        self.now = Now::Raising(next);
+        Ok(())
+    }
+
+    /// The ball that was kept goes to the innermost catch whose goal has not ended; where there is none it ends the run (7.8.10). The
+    /// errors are those of `meet`.
+    pub(crate) fn raise(&mut self, from: Option<usize>) -> Result<Move, StoreFault>
+        requires now { self.old.now ≡ now.Raising from }
+        requires stands { (s : State) × Represents S.names S.present S.stands S.older self.old s }
+        ensures moves { (s : State) → Represents S.names S.present S.stands S.older self.old s
+            → IfOk result (λ m. Moves S.names S.present S.stands S.older m s self.new) }
+        ensures stopped { (s : State) → Represents S.names S.present S.stands S.older self.old s → OnErr result (Stopped S.names S.present S.stands S.older self.new s) }
+        ensures falls { IfOk result (λ m. Falls m (weight self.old) (weight self.new)) }
+        ensures frames { ResultFull ⊥ result }
+        ensures met { ResultMet S.full result self.new }
+        ensures stays { Stays S.names self.old self.new }
+    {
+        let Some(height) = self.find_catch(from) else {
+            return Ok(self.end_by_ball());
+        };
+        let (goal, next) = self.back_to_catch(height);
+        self.meet(goal, next)?;
+        Ok(Move::Goes)
+    }
+}
