@@ -117,7 +117,7 @@ named_calls ps ops flags w t k (call.User place) is named h =
     let at = clauses_there k place (first_of ps (found_procedure k place is.procedures_are h.1).within) is.procedures_are h.1 in
     record { key = k; first = at.first; others = at.others; user = record { named = named; none = h.0 }; within = (found_procedure k place is.procedures_are h.1).within; found = at.found; left = at.there }
 named_calls ps ops flags w t k call.Fails is named h =
-    (k, record { named = named; none = h.0 }, no_procedure k is.procedures_are h.1, ap (λ (f : Flags). f.unknown) (sym is.flags_are) ∙ h.2)
+    inr (k, record { named = named; none = h.0 }, no_procedure k is.procedures_are h.1, ap (λ (f : Flags). f.unknown) (sym is.flags_are) ∙ h.2)
 named_calls ps ops flags w t k (call.Unknown ball) is named h =
     (k, record { named = named; none = h.0 }, no_procedure k is.procedures_are h.1, ap (λ (f : Flags). f.unknown) (sym is.flags_are) ∙ h.2, h.3)
 

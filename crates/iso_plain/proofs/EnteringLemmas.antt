@@ -13,7 +13,6 @@ use Rattle.iso_plain.specs.Standing.{AreVariables, no_word, one_word, IsGoalWord
 use Rattle.iso_plain.specs.Entering.{Extends, Adds, IsMade, Copies, CopiesPart, Meets, GoalFits, PartsFit}
 use Rattle.iso_plain.specs.Nodes.{EndsWith, IfGoal, AreAlike, EachGoal, IsTermOf}
 use Rattle.iso_plain.specs.Kept.{IsKeptGoal}
-use Rattle.iso_plain.specs.Callable.{IsGoal}
 use Rattle.iso_plain.specs.declared.bodies.Node.{Node}
 use Rattle.iso_plain.proofs.NodeLemmas.{alike_so, alike_push, alike_length, any_goal, tree_alike}
 use Rattle.std.proofs.lemmas.Bool.{eqb-true, eq-eqb, true≢false}
@@ -149,23 +148,13 @@ copies_some {p = p} {s = s} {old = old} {new = new} {parts = parts} h some =
 
 -- ---- the copied parts of a body are the body, under the substitution
 
-goal_applied : (s : Subst) (t : Tree) → IsGoal t → IsGoal (apply s t)
-goal_applied s (Variable n) h = absurd (let e = h.key.1 in cc e)
-goal_applied s (Integer z) h = absurd (let e = h.key.1 in cc e)
-goal_applied s (Name a) h = record { key = h.key }
-goal_applied s (Apply f ts) h = record { key = (record { name = f; arity = count (apply s ts) }, refl) }
-goal_applied s End h = absurd (let e = h.key.1 in cc e)
-goal_applied s (More t ts) h = absurd (let e = h.key.1 in cc e)
-
 module _ {W : Type 0} (q : Present W) (s : Subst) (n : ℕ) where
   -- a goal that can be kept was made
   abbrev IsKeptMade : Term → W → Type 0
   IsKeptMade g w = IsKeptGoal n g × IsMade q s g w
 
   kept_means : (g : Term) (w : W) (t : Tree) → IsKeptMade g w → IsTermOf g t → IsGoalWord q w (apply s t)
-  kept_means g w t h is =
-      let goal : IsGoal t = record { key = (h.0.key.0, ap key_of is ∙ h.0.key.1) } in
-      (h.1.0, ap (apply s) is ∙ sym h.1.1, goal_applied s t goal)
+  kept_means g w t h is = (h.1.0, ap (apply s) is ∙ sym h.1.1)
 
   pub placed_body : (old new : List (Node W)) (parts : List (Node Term)) (b : Body) (place : ℕ) → EndsWith IsTermOf parts b → EachGoal (IsKeptGoal n) parts → Copies q s old new parts → place + 1 ≡ length new
       → IsBody q new place (map_body s b)

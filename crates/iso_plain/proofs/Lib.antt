@@ -39,3 +39,5 @@ pub mod RunMoves
 pub mod ReplyMoves
 pub mod LimitLemmas
 pub mod StoppedLemmas
+pub mod ControlNames
+pub mod CallableLemmas

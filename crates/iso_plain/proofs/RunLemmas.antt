@@ -7,7 +7,6 @@ use Rattle.iso_model.specs.Search.Bodies.{Body, Run}
 use Rattle.iso_model.specs.Search.Databases as databases
 use Rattle.iso_model.specs.Search.Walker.{State, Member, Goal, Alternative}
 use Rattle.iso_store_core.specs.Presents.{Present, KeepsMarks, KeepsWords, meaning}
-use Rattle.iso_plain.specs.Callable.{IsGoal}
 use Rattle.iso_plain.specs.declared.bodies.Node.{Node}
 use Rattle.iso_plain.specs.declared.bodies.Node.TheVariants as node
 use Rattle.iso_plain.specs.declared.parts.Frame.{Frame}
@@ -38,7 +37,6 @@ module _ {S W M : Type 0} (names : S → List (List ℕ)) (present : S → Prese
     pub behind : List Member
     pub list : s.list ≡ Goal (Run term) f.mark ∷ behind
     pub holds : (present e.store).holds w ≡ true
-    pub goal : IsGoal ((present e.store).term w)
     pub value : apply s.subst term ≡ meaning (present e.store) w
     pub ahead : IsAhead names present stands older e (record s { list = behind }) f.next
 
@@ -51,7 +49,6 @@ module _ {S W M : Type 0} (names : S → List (List ℕ)) (present : S → Prese
         behind = b.behind;
         list = b.list ∙ ap (λ (c : Body). Goal c f.mark ∷ b.behind) g.1;
         holds = (g.2).0;
-        goal = subst (λ (t : Tree). IsGoal t) (g.2).1 (g.2).2;
         value = ap (apply s.subst) (g.2).1 ∙ ap (λ (r : Subst). apply r ((present e.store).term w)) (sym (b.ahead.goes).subst);
         ahead = b.ahead;
       }

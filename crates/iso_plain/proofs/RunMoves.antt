@@ -1,11 +1,11 @@
 -- What running a goal comes to.
-use Rattle.std.proofs.Common.{◌≡◌, ◌≢◌, ◌<◌, ◌≤◌, ◌-◌, ℕ, suc, List, [], ◌∷◌, None, Some, length, refl, ap, ◌∙◌, subst, arith, inl, inr, Result, Ok, Err, IfOk, Vec, Global}
+use Rattle.std.proofs.Common.{◌≡◌, ◌≢◌, ◌<◌, ◌≤◌, ◌-◌, ℕ, suc, List, [], ◌∷◌, Option, None, Some, length, refl, ap, ◌∙◌, subst, arith, inl, inr, Result, Ok, Err, IfOk, Vec, Global}
 use Rattle.iso_ops.specs.declared.settings.Unknown.TheVariants as on_unknown
 use Rattle.iso_model.specs.Terms.Trees.{Tree}
 use Rattle.iso_model.specs.Search.Databases as databases
 use Rattle.iso_model.specs.Search.Databases.{Key, clauses_at}
 use Rattle.iso_model.specs.Search.Errors.{existence_error}
-use Rattle.iso_model.specs.Search.Walker.{State, World, Member, Fail, Raise, Alternative, Goes, Budget, Uncaught, idle, fails, run_value, tried, with_others, step}
+use Rattle.iso_model.specs.Search.Walker.{State, World, Member, Fail, Raise, Alternative, Goes, Budget, Uncaught, idle, fails, run_goal, run_value, tried, with_others, step}
 use Rattle.iso_model.specs.Search.Runs.{Finishes, ComesOver}
 use Rattle.iso_model.specs.Search.RunLaws.{finishes_behind}
 use Rattle.iso_model.specs.Search.RunLaws.SameRuns.{onward_same}
@@ -20,7 +20,7 @@ use Rattle.iso_plain.specs.declared.parts.Now.TheVariants as now
 use Rattle.iso_plain.specs.declared.plain.Move.{Move}
 use Rattle.iso_plain.specs.declared.plain.Move.TheVariants as move
 use Rattle.iso_plain.specs.declared.plain.Plain.{Plain}
-use Rattle.iso_plain.specs.Called.{IsUser}
+use Rattle.iso_plain.specs.Called.{IsUser, FailsAt}
 use Rattle.iso_plain.specs.Entering.{Adds}
 use Rattle.iso_plain.specs.Programs.{IsWorld}
 use Rattle.iso_plain.specs.Standing.{IsAt, HaveRoom}
@@ -119,10 +119,13 @@ module _ {S W M : Type 0} (names : S → List (List ℕ)) (present : S → Prese
         rw is.4 (raises new (existence_error is.0) more idles rests (unknown_goal call at.behind own is.0 on_unknown.Error is.1 is.2 is.3))
 
     -- one that fails
-    pub fails_unknown : e.steps ≢ 0 → (k : Key) × IsUser call k × (clauses_at own.world.database.procedures k ≡ None) × (own.world.flags.unknown ≡ on_unknown.Fail)
-        → Moves names present stands older move.Goes s (record e { steps = e.steps - 1; now = now.Failing })
+    goes_nowhere : FailsAt own.world call → run_value call at.behind own ≡ Goes (fails own)
+    goes_nowhere (inl unnamed) = ap (λ (x : Option Key). run_goal x call at.behind own) unnamed
+    goes_nowhere (inr is) = unknown_goal call at.behind own is.0 on_unknown.Fail is.1 is.2 is.3
+
+    pub fails_unknown : e.steps ≢ 0 → FailsAt own.world call → Moves names present stands older move.Goes s (record e { steps = e.steps - 1; now = now.Failing })
     fails_unknown more is =
-        goes names present stands older e (record e { steps = e.steps - 1; now = now.Failing }) s r (record (fails own) { steps = e.steps - 1 }) (runs_to (fails own) more (unknown_goal call at.behind own is.0 on_unknown.Fail is.1 is.2 is.3))
+        goes names present stands older e (record e { steps = e.steps - 1; now = now.Failing }) s r (record (fails own) { steps = e.steps - 1 }) (runs_to (fails own) more (goes_nowhere is))
         (failed_engine e e.store e.nodes own (e.steps - 1) own.built (one_less e.steps more) (λ m p h. h) (adds_none e.nodes.items) r.engine) tt
 
     -- ---- a call of a procedure with these clauses

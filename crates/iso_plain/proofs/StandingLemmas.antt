@@ -59,7 +59,7 @@ tree_within {parts = parts} (chooses {k = k} at first second third some also a b
 
 -- a store that keeps its words
 pub body_keep : {W : Type 0} {p q : Present W} {nodes : List (Node W)} {i : ℕ} {b : Body} → KeepsWords p q → IsBody p nodes i b → IsBody q nodes i b
-body_keep keeps body = tree_keep (λ w t h. (keeps.stand w h.0, h.1 ∙ sym (keeps.terms w h.0), h.2)) body
+body_keep keeps body = tree_keep (λ w t h. (keeps.stand w h.0, h.1 ∙ sym (keeps.terms w h.0))) body
 
 -- more nodes, and a store that keeps its words
 pub body_more : {W : Type 0} {p q : Present W} {nodes : List (Node W)} {i : ℕ} {b : Body} (more : List (Node W)) → KeepsWords p q → IsBody p nodes i b → IsBody q (nodes ++ more) i b

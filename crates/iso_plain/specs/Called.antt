@@ -1,5 +1,5 @@
 -- What a goal calls.
-use Rattle.std.specs.Prelude.{◌≡◌, ◌<◌, List, ◌∷◌, length, Some, None}
+use Rattle.std.specs.Prelude.{◌≡◌, ◌<◌, List, ◌∷◌, length, Some, None, ◌⊎◌}
 use Rattle.iso_ops.specs.declared.settings.Flags.{Flags}
 use Rattle.iso_ops.specs.declared.settings.Unknown.TheVariants as on_unknown
 use Rattle.iso_model.specs.Terms.Trees.{Tree}
@@ -44,9 +44,13 @@ pub record CallsAt (ps : List Procedure) (w : World) (t : Tree) (place : _) : Ty
   pub found : clauses_at w.database.procedures key ≡ Some (first ∷ others)
   pub left : left_at w.database.procedures place 0 ≡ first ∷ others
 
+-- The goal fails as it is: it has no name, or no procedure where unknown ones fail.
+abbrev pub FailsAt : World → Tree → Type 0
+FailsAt w t = (key_of t ≡ None) ⊎ ((k : Key) × IsUser t k × (clauses_at w.database.procedures k ≡ None) × (w.flags.unknown ≡ on_unknown.Fail))
+
 -- what the goal, by its value, calls over this world, whose procedures these are
 abbrev pub IsCalled : List Procedure → World → Tree → Called → Type 0
 IsCalled ps w t (call.BuiltIn b) = IsBuiltIn t b
 IsCalled ps w t (call.User place) = CallsAt ps w t place
-IsCalled ps w t call.Fails = (k : Key) × IsUser t k × (clauses_at w.database.procedures k ≡ None) × (w.flags.unknown ≡ on_unknown.Fail)
+IsCalled ps w t call.Fails = FailsAt w t
 IsCalled ps w t (call.Unknown ball) = (k : Key) × IsUser t k × (clauses_at w.database.procedures k ≡ None) × (w.flags.unknown ≡ on_unknown.Error) × (term_of ball.term ≡ existence_error k)

@@ -11,7 +11,7 @@ pub mod EngineStates
 pub mod Limits
 pub mod Stays
 pub mod Starts
-pub mod Callable
 pub mod Replies
 pub mod Called
 pub mod Costs
+pub mod Controls

@@ -9,7 +9,6 @@ use Rattle.iso_model.specs.Search.Databases.{Clause}
 use Rattle.iso_model.specs.Search.Walker.{State, Member, Goal, CutTo, Fail, Raise, Alternative, AsIs, Again, Clauses, idle}
 use Rattle.iso_model.specs.Search.Walker as walker
 use Rattle.iso_store_core.specs.Presents.{Present, meaning}
-use Rattle.iso_plain.specs.Callable.{IsGoal}
 use Rattle.iso_plain.specs.Nodes.{At, IsTree}
 use Rattle.iso_plain.specs.declared.bodies.Node.{Node}
 use Rattle.iso_plain.specs.declared.bodies.Node.TheVariants as node
@@ -41,11 +40,11 @@ pub record Links (W : Type 0) : Type 0 where
   pub nodes : List (Node W)
   pub frames : List Frame
 
--- The word is a goal that can be run, made with this term.
+-- The word is a goal, made with this term.
 abbrev pub IsGoalWord : {W : Type 0} → Present W → W → Tree → Type 0
-IsGoalWord p w t = (p.holds w ≡ true) × (t ≡ p.term w) × IsGoal t
+IsGoalWord p w t = (p.holds w ≡ true) × (t ≡ p.term w)
 
--- The node at this place is this body's, each goal of which can be run.
+-- The node at this place is this body's.
 abbrev pub IsBody : {W : Type 0} → Present W → List (Node W) → ℕ → Body → Type 0
 IsBody p nodes = IsTree (IsGoalWord p) nodes
 

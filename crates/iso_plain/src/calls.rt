@@ -7,7 +7,6 @@ ghost use Rattle.iso_atoms.specs.Texts.{EachOnce, text_at};
 ghost use Rattle.iso_store_core.specs.Presents.{Holds, meaning};
 ghost use Rattle.iso_plain.specs.Programs.{IsWorld};
 ghost use Rattle.iso_plain.specs.Callables.{Indexes, callee_of, place_at};
-ghost use Rattle.iso_plain.specs.Callable.{IsGoal};
 ghost use Rattle.iso_plain.specs.Called.{IsNamed, IsCalled};
 
 use super::balls;
@@ -63,12 +62,11 @@ impl<S: Store + Drop> Plain<S> {
         }
     }
 
-    /// What the goal calls. The error is that memory was refused.
+    /// What the goal calls; one without a name fails. The error is that memory was refused.
     pub(crate) fn called(&self, goal: S::Word) -> Result<Called, AllocError>
         requires goal { Holds (S.present self.now.store) goal }
         requires found { Indexes (S.names self.now.store) self.now.callables.items (callee_of self.now.procedures.items) }
         ensures { (w : World) → IsWorld S.names self.entry.now w
-            → IsGoal ((S.present self.entry.now.store).term goal)
             → IfOk result (IsCalled self.entry.now.procedures.items w (meaning (S.present self.entry.now.store) goal)) }
     {
         match self.store.shape(goal) {

@@ -12,6 +12,7 @@ pub mod writing;
 // the engine's parts, and its moves
 pub mod calls;
 pub mod control;
+pub mod controls;
 pub mod ends;
 pub mod entries;
 pub mod goals;

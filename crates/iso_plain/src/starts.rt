@@ -7,6 +7,7 @@ ghost use Rattle.iso_model.specs.Search.Bodies.{converted};
 ghost use Rattle.iso_model.specs.Search.Additions.{consulted};
 ghost use Rattle.iso_model.specs.Search.Walker.{World, first_world, idle, started};
 
+use super::controls::Controls;
 use super::parts::{Frame, Now, Todo};
 use super::plain::Plain;
 use super::procedures::{self, Name};
@@ -39,12 +40,14 @@ impl<S: Store + Drop> Plain<S> {
     {
         let ops = OpTable::initial(alloc)?;
         let callables = callables::of_built_ins(alloc, &mut store)?;
+        let controls = Controls::new(&mut store)?;
         let base = store.mark();
         Ok(Plain {
             alloc,
             store,
             procedures: Vec::new(alloc),
             callables,
+            controls,
             ops,
             flags: Flags::initial(),
             nodes: Vec::new(alloc),

@@ -7,13 +7,13 @@ use Rattle.iso_plain.proofs.CalledLemmas.{calls_shown}
 use Rattle.iso_plain.proofs.plain.Plain.called.Goals as goal
 
 pub returns-in-Atom : goal.returns-in-Atom
-returns-in-Atom g c = λ w is callable.
+returns-in-Atom g c = λ w is.
     (let p = g.S.Store.present c.args.self.now.store in
     let text = text-is (g.S.Store.names c.args.self.now.store) c.in-Atom.name _ c.text.ensures in
     calls_shown c.args.self.now.procedures.items c.args.self.now.ops c.args.self.now.flags w (meaning p c.args.goal) (key c.text.result.now 0) c.named.result is (ap key_of c.in-Atom.ensures.shape.1 ∙ ap (λ f. Some (key f 0)) text) c.named.ensures)
 
 pub returns-in-Compound : goal.returns-in-Compound
-returns-in-Compound g c = λ w is callable.
+returns-in-Compound g c = λ w is.
     (let p = g.S.Store.present c.args.self.now.store in
     let shape = c.in-Compound.ensures.shape in
     let text = text-is (g.S.Store.names c.args.self.now.store) c.in-Compound.name _ c.text-in-Compound.ensures in

@@ -24,14 +24,14 @@ returns-in_err-called-clause-stopped g c = λ s r.
 pub run_built_in-requires-clause-built_in : goal.run_built_in-requires-clause-built_in
 run_built_in-requires-clause-built_in g c =
     let r = c.requires.stands.1 in
-    let what = c.in_ok-called.ensures r.own.world r.engine.world (at g.S.Store.names g.S.Store.present g.S.Store.stands g.S.Store.older c.args.self.now c.requires.stands.0 c.args.frame c.args.place c.args.goal c.requires.now c.requires.there c.requires.stands.1).goal in
+    let what = c.in_ok-called.ensures r.own.world r.engine.world in
     rw c.in-BuiltIn.is at what
 
 -- ---- an unknown procedure
 
 pub returns-in-Fails-clause-moves : goal.returns-in-Fails-clause-moves
 returns-in-Fails-clause-moves g c = λ s r.
-    (let what = c.in_ok-called.ensures r.own.world r.engine.world (at g.S.Store.names g.S.Store.present g.S.Store.stands g.S.Store.older c.args.self.now s c.args.frame c.args.place c.args.goal c.requires.now c.requires.there r).goal in
+    (let what = c.in_ok-called.ensures r.own.world r.engine.world in
     fails_unknown g.S.Store.names g.S.Store.present g.S.Store.stands g.S.Store.older c.args.self.now s c.args.frame c.args.place c.args.goal c.requires.now c.requires.there r c.if-self-eq0.false (rw c.in-Fails.is at what))
 
 pub returns-in-Fails-clause-falls : goal.returns-in-Fails-clause-falls
@@ -39,7 +39,7 @@ returns-in-Fails-clause-falls g c = fails_falls g.S.Store.names g.S.Store.presen
 
 pub returns-in-Unknown-clause-moves : goal.returns-in-Unknown-clause-moves
 returns-in-Unknown-clause-moves g c = λ s r.
-    (let what = c.in_ok-called.ensures r.own.world r.engine.world (at g.S.Store.names g.S.Store.present g.S.Store.stands g.S.Store.older c.args.self.now s c.args.frame c.args.place c.args.goal c.requires.now c.requires.there r).goal in
+    (let what = c.in_ok-called.ensures r.own.world r.engine.world in
     (raises_error g.S.Store.names g.S.Store.present g.S.Store.stands g.S.Store.older c.args.self.now s c.args.frame c.args.place c.args.goal c.requires.now c.requires.there r c.clear-in-Unknown.new.self (term_of c.in-Unknown.ball.term) c.if-self-eq0.false c.clear-in-Unknown.ensures.idle c.clear-in-Unknown.ensures.now (rw c.in-Unknown.is at what), ap phase_of c.clear-in-Unknown.ensures.now))
 
 -- ---- a procedure
@@ -49,7 +49,7 @@ call_first-requires g c =
     let e = c.args.self.now in
     let r = c.requires.stands.1 in
     let a = at g.S.Store.names g.S.Store.present g.S.Store.stands g.S.Store.older c.args.self.now c.requires.stands.0 c.args.frame c.args.place c.args.goal c.requires.now c.requires.there c.requires.stands.1 in
-    let what = c.in_ok-called.ensures r.own.world r.engine.world a.goal in
+    let what = c.in_ok-called.ensures r.own.world r.engine.world in
     let user = rw c.in-User.is at what in
     let calls = calls_engine g.S.Store.names g.S.Store.present g.S.Store.stands g.S.Store.older e r.own c.args.frame c.args.goal c.in-User.procedure (e.steps - 1) user.first user.others a (one_less e.steps c.if-self-eq0.false) user.left in
     (record r.own { steps = e.steps - 1 }, meaning (g.S.Store.present e.store) c.args.goal, user.first, user.others, a.behind, calls)
@@ -58,7 +58,7 @@ pub returns-in-User-clause-moves : goal.returns-in-User-clause-moves
 returns-in-User-clause-moves g c = λ s r.
     (let e = c.args.self.now in
     let a = at g.S.Store.names g.S.Store.present g.S.Store.stands g.S.Store.older c.args.self.now s c.args.frame c.args.place c.args.goal c.requires.now c.requires.there r in
-    let what = c.in_ok-called.ensures r.own.world r.engine.world a.goal in
+    let what = c.in_ok-called.ensures r.own.world r.engine.world in
     let user = rw c.in-User.is at what in
     let calls = calls_engine g.S.Store.names g.S.Store.present g.S.Store.stands g.S.Store.older e r.own c.args.frame c.args.goal c.in-User.procedure (e.steps - 1) user.first user.others a (one_less e.steps c.if-self-eq0.false) user.left in
     if_ok_map _ _ c.call_first.result (called_on g.S.Store.names g.S.Store.present g.S.Store.stands g.S.Store.older c.args.self.now s c.args.frame c.args.place c.args.goal c.requires.now c.requires.there r c.if-self-eq0.false user.key user.first user.others user.user user.found c.call_first.new.self) (c.call_first.ensures.called _ _ user.first user.others a.behind calls))
@@ -67,7 +67,7 @@ pub returns-in-User-clause-frames : goal.returns-in-User-clause-frames
 returns-in-User-clause-frames g c = λ s r.
     (let e = c.args.self.now in
     let a = at g.S.Store.names g.S.Store.present g.S.Store.stands g.S.Store.older c.args.self.now s c.args.frame c.args.place c.args.goal c.requires.now c.requires.there r in
-    let what = c.in_ok-called.ensures r.own.world r.engine.world a.goal in
+    let what = c.in_ok-called.ensures r.own.world r.engine.world in
     let user = rw c.in-User.is at what in
     let calls = calls_engine g.S.Store.names g.S.Store.present g.S.Store.stands g.S.Store.older e r.own c.args.frame c.args.goal c.in-User.procedure (e.steps - 1) user.first user.others a (one_less e.steps c.if-self-eq0.false) user.left in
     result_full c.call_first.result (λ h. over g.S.Store.names g.S.Store.present g.S.Store.stands g.S.Store.older c.args.self.now s c.args.frame c.args.place c.args.goal c.requires.now c.requires.there r c.if-self-eq0.false user.key user.first user.others user.user user.found h.0 h.1) (c.call_first.ensures.frames _ _ user.first user.others a.behind calls))
@@ -76,7 +76,7 @@ pub returns-in-User-clause-stopped : goal.returns-in-User-clause-stopped
 returns-in-User-clause-stopped g c = λ s r.
     (let e = c.args.self.now in
     let a = at g.S.Store.names g.S.Store.present g.S.Store.stands g.S.Store.older c.args.self.now s c.args.frame c.args.place c.args.goal c.requires.now c.requires.there r in
-    let what = c.in_ok-called.ensures r.own.world r.engine.world a.goal in
+    let what = c.in_ok-called.ensures r.own.world r.engine.world in
     let user = rw c.in-User.is at what in
     let calls = calls_engine g.S.Store.names g.S.Store.present g.S.Store.stands g.S.Store.older e r.own c.args.frame c.args.goal c.in-User.procedure (e.steps - 1) user.first user.others a (one_less e.steps c.if-self-eq0.false) user.left in
     on_err_weaker c.call_first.result (λ was. refused_on g.S.Store.names g.S.Store.present g.S.Store.stands g.S.Store.older c.args.self.now s c.args.frame c.args.place c.args.goal c.requires.now c.requires.there r c.if-self-eq0.false user.key user.first user.others user.user user.found c.call_first.new.self was) (c.call_first.ensures.kept _ _ user.first user.others a.behind calls))
