@@ -40,3 +40,4 @@ pub mod ReplyMoves
 pub mod LimitLemmas
 pub mod StoppedLemmas
 pub mod ControlNames
+pub mod CallableLemmas

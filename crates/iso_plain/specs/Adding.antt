@@ -24,4 +24,4 @@ pub record AddsProcedure (name : Name) (clause : Clause) (old new : List Procedu
   pub text : string_bytes procedure.name ≡ name.text.now
   pub arity : procedure.arity ≡ name.arity
   pub clauses : procedure.clauses.items ≡ clause ∷ []
-  pub found : (a n : ℕ) → callee_at more a n ≡ option_or (callee_at rows a n) (where_holds (a == name.atom && n == name.arity) (callee.User (length old)))
+  pub found : (a n : ℕ) → callee_at more a n ≡ option_or (callee_at rows a n) (where_holds (a == name.atom && name.arity == n) (callee.User (length old)))

@@ -6,7 +6,9 @@ use Rattle.std.specs.String.{string_bytes}
 use Rattle.std.specs.Str.{bytes_eq}
 use Rattle.iso_atoms.specs.Texts.{text_at}
 use Rattle.iso_model.specs.Search.Databases.{Key, key}
-use Rattle.iso_model.specs.Search.BuiltIns.{built_in}
+use Rattle.iso_model.specs.Search.BuiltIns.{built_in, built_in_among}
+use Rattle.iso_model.specs.Search.Rows.{entries_of}
+use Rattle.iso_model.specs.declared.built_ins.Row.{Row}
 use Rattle.iso_plain.specs.declared.callables.Callable.{Callable}
 use Rattle.iso_plain.specs.declared.callables.Callee.{Callee}
 use Rattle.iso_plain.specs.declared.callables.Callee.TheVariants as callee
@@ -44,6 +46,10 @@ has_key k p = p.arity == k.arity && bytes_eq (string_bytes p.name) k.name
 -- the place of the procedure with this key
 abbrev pub place_at : List Procedure → Key → Option ℕ
 place_at ps k = position (has_key k) ps
+
+-- what a goal with this key calls among these built-ins
+abbrev pub callee_among : List Row → Key → Option Callee
+callee_among rows k = option_map callee.BuiltIn (built_in_among (entries_of rows) k)
 
 -- what a goal with this key calls: a built-in before a procedure
 abbrev pub callee_of : List Procedure → Key → Option Callee

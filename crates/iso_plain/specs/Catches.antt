@@ -1,15 +1,26 @@
 -- Catches and thrown balls, as the engine comes to them.
-use Rattle.std.specs.Prelude.{◌≡◌, ℕ, suc, ◌+◌, ◌*◌, ◌≤◌, List, [], ◌∷◌, length, true, Option, Some}
+use Rattle.std.specs.Prelude.{◌≡◌, ℕ, suc, ◌+◌, ◌*◌, ◌≤◌, List, [], ◌∷◌, length, true, Bool, MatchBool, Option, Some, codes, ◌⊎◌}
+use Rattle.std.specs.List.{slice_get}
 use Rattle.iso_model.specs.Terms.Trees.{Tree, arities_fit}
 use Rattle.iso_model.specs.Terms.TermOf.{term_of}
 use Rattle.iso_model.specs.Terms.Arguments.{arity, argument}
-use Rattle.iso_model.specs.Search.Bodies.{Body}
+use Rattle.iso_model.specs.Terms.Variables.{variable_count}
+use Rattle.iso_model.specs.Terms.Substitutions.{Subst, apply, compose}
+use Rattle.iso_model.specs.Terms.Unifiers.{Unifier, NeverEqual}
+use Rattle.iso_model.specs.Terms.Copies.{copy_from}
+use Rattle.iso_model.specs.Search.Bodies.{Body, Run, one}
+use Rattle.iso_model.specs.Search.BuiltIns.{Reply, Raises, Halts}
 use Rattle.iso_model.specs.Search.Walker.{State, Member, Alternative, Outcome, Goes, Ends, Goal, Leave, Raise, Meet, Catching, Uncaught, pushed, thrown, shortened}
 use Rattle.iso_model.specs.declared.pauses.Ball.{Ball}
-use Rattle.iso_store_core.specs.Presents.{Present, meaning}
+use Rattle.iso_store_core.specs.Presents.{Present, KeepsWords, meaning}
+use Rattle.iso_plain.specs.declared.parts.Frame.{Frame}
+use Rattle.iso_plain.specs.declared.parts.Todo.TheVariants as todo
+use Rattle.iso_plain.specs.declared.parts.Left.{Left}
+use Rattle.iso_plain.specs.declared.parts.Left.TheVariants as left
+use Rattle.iso_plain.specs.declared.parts.Choice as kept
 use Rattle.iso_plain.specs.declared.plain.Plain.{Plain}
 use Rattle.iso_plain.specs.Standing.{most_numbers, numbers_a_step}
-use Rattle.iso_plain.specs.EngineStates.{IsAhead, went_back}
+use Rattle.iso_plain.specs.EngineStates.{IsEngine, IsAhead, HasChoices, went_back}
 
 -- The word is a goal of `catch/3`.
 pub record IsCatchGoal {W : Type 0} (p : Present W) (goal : W) : Type 0 where
@@ -53,6 +64,35 @@ pub record GoesTo (ball : Tree) (behind : List Member) (s : State) (height : ℕ
 abbrev pub IsUncaught : Tree → List Member → State → Type 0
 IsUncaught ball behind s = thrown ball behind s ≡ Ends (Uncaught ball) s.world
 
+-- this goal is run, before the list
+abbrev pub calling : Tree → State → State
+calling t s = record s { list = Goal (Run t) (length s.stack) ∷ s.list }
+
+-- what is left at a choice is the entry of a catch
+abbrev pub IsEntry : {W : Type 0} → Left W → Type 0
+IsEntry (left.Catching goal place) = Unit {0}
+IsEntry l = ⊥
+
+-- The frame is the end of a catch, whose choice stands at its mark.
+pub record IsEndOfCatch {W M : Type 0} (choices : List (kept.Choice W M)) (f : Frame) : Type 0 where
+  pub asks : f.todo ≡ todo.Leave
+  pub choice : kept.Choice W M
+  pub stands : slice_get choices f.mark ≡ Some choice
+  pub entry : IsEntry choice.left
+
+-- A copy of the ball was unified with the catcher of this goal.
+pub record Unified {W : Type 0} (p q : Present W) (goal : W) (ball : Tree) : Type 0 where
+  pub unifier : Subst
+  pub is : Unifier (catcher_of p goal) (apply p.substitution (copy_from ball p.next)) unifier
+  pub substitution : q.substitution ≡ compose p.substitution unifier
+  pub next : q.next ≡ p.next + variable_count ball
+  pub words : KeepsWords p q
+  pub few : variable_count ball ≤ numbers_a_step
+
+-- the ball met the catcher of this goal: they were unified, or can't be
+abbrev pub HasMet : {W : Type 0} → Present W → Present W → W → Tree → Bool → Type 0
+HasMet p q goal ball answer = MatchBool answer (Unified p q goal ball) (NeverEqual (catcher_of p goal) (apply p.substitution (copy_from ball p.next)))
+
 module _ {S W M : Type 0} (names : S → List (List ℕ)) (present : S → Present W) (stands : S → M → Present W → Type 0) (older : M → M → Type 0) where
   -- The engine, in this state, is about to enter the catch that this goal calls, with its members from this place of the frames on behind it.
   pub record EntersCatch (e : Plain S W M) (goal : W) (s : State) (place : Option ℕ) : Type 0 where
@@ -67,3 +107,31 @@ module _ {S W M : Type 0} (names : S → List (List ℕ)) (present : S → Prese
     pub goal : IsCatchGoal (present e.store) goal
     pub fits : arities_fit ball ≡ true
     pub kept : (b : Ball) × (e.raised ≡ Some b) × (term_of b.term ≡ ball)
+
+  -- The engine, in this state, went back to the entry of the catch that this goal calls, whose catcher and recovery these are.
+  pub record IsCaught (e : Plain S W M) (goal : W) (ball catcher recovery : Tree) (s : State) (place : Option ℕ) : Type 0 where
+    pub meets : MeetsBall e goal ball s place
+    pub catcher_is : catcher ≡ catcher_of (present e.store) goal
+    pub recovery_is : recovery ≡ recovery_of (present e.store) goal
+
+  -- The engine, in this state, is about to call the recovery of this goal.
+  pub record Recovers (e : Plain S W M) (goal : W) (s : State) (place : Option ℕ) : Type 0 where
+    pub ahead : IsAhead names present stands older e s place
+    pub goal : IsCatchGoal (present e.store) goal
+
+  -- The engine, in this state, is to run this goal first, which it has as a term of the same value.
+  pub record Calling (e : Plain S W M) (goal : Tree) (s : State) : Type 0 where
+    pub term : Tree
+    pub value : apply s.subst term ≡ apply s.subst goal
+    pub engine : IsEngine names present stands older e (calling term s)
+
+  -- The engine's choices are this state's alternatives.
+  abbrev pub HasStack : Plain S W M → State → Type 0
+  HasStack e s = (named : List ℕ) × HasChoices names present stands older e s.world named s.stack
+
+  -- The ball met the catcher of this goal: its recovery is to be called, or the ball was thrown on.
+  abbrev pub HasThrown : Plain S W M → Present W → W → Tree → State → Type 0
+  HasThrown e p goal ball s =
+      ((u : Subst) × Unifier (catcher_of p goal) (apply p.substitution (copy_from ball p.next)) u
+          × Calling e (one (codes "call") (recovery_of p goal)) (record s { subst = compose s.subst u; next = s.next + variable_count ball }))
+      ⊎ (NeverEqual (catcher_of p goal) (apply p.substitution (copy_from ball p.next)) × IsEngine names present stands older e (throwing ball s))

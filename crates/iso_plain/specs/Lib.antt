@@ -10,6 +10,7 @@ pub mod Next
 pub mod EngineStates
 pub mod Limits
 pub mod Stays
+pub mod Catches
 pub mod Starts
 pub mod Replies
 pub mod Called

@@ -1,6 +1,7 @@
 -- What running a goal of a built-in makes of a store and of the nodes, and what comes next.
 use Rattle.std.specs.Prelude.{◌≡◌, ◌+◌, ℕ, List, length, Some, true, nat_lt, if◌then◌else◌}
-use Rattle.iso_model.specs.Terms.Trees.{Tree, Variable, Name, Apply}
+use Rattle.iso_model.specs.Terms.Trees.{Tree, Variable, Name, Apply, arities_fit}
+use Rattle.iso_model.specs.declared.pauses.Ball.{Ball}
 use Rattle.iso_model.specs.Terms.TermOf.{term_of}
 use Rattle.iso_model.specs.Terms.Sorts.{is_term}
 use Rattle.iso_model.specs.Terms.Copies.{copy_from}
@@ -8,7 +9,7 @@ use Rattle.iso_model.specs.Terms.Arguments.{argument, arguments, arity, others, 
 use Rattle.iso_model.specs.Terms.Substitutions.{Subst}
 use Rattle.iso_model.specs.Terms.Unifiers.{Unifier, NeverEqual}
 use Rattle.iso_model.specs.Search.Bodies.{Body, converted, map_body}
-use Rattle.iso_model.specs.Search.BuiltIns.{Reply, Fails, Succeeds, Equates, Raises, Calls, CallsOnce, Refutes, Repeats, goal_reply}
+use Rattle.iso_model.specs.Search.BuiltIns.{Reply, Fails, Succeeds, Equates, Raises, Calls, CallsOnce, Refutes, Repeats, Catches, Halts, goal_reply}
 use Rattle.iso_model.specs.Search.Errors.{Key, max_arity_error}
 use Rattle.iso_store_core.specs.Presents.{Present, Binds, KeepsWords}
 use Rattle.iso_prep.specs.Preparations.{Preparation}
@@ -70,13 +71,40 @@ IsRunAs p q old new replied (placed.Raises ball) = (runs : Body → Reply) → r
 abbrev pub IsPlaced : {W : Type 0} → Present W → Present W → List (Node W) → List (Node W) → Tree → Key → Placed → Type 0
 IsPlaced p q old new goal k answer = IsRunAs p q old new (λ runs. goal_reply (limited goal k runs) goal k) answer
 
+-- Nothing was bound: words may have come.
+pub record IsUnbound {W : Type 0} (p q : Present W) : Type 0 where
+  pub words : KeepsWords p q
+  pub substitution : q.substitution ≡ p.substitution
+  pub next : q.next ≡ p.next
+
+-- This error was raised, which a store can hold.
+pub record IsRaised {W : Type 0} (p q : Present W) (old new : List (Node W)) (error : Tree) (ball : Ball) : Type 0 where
+  pub is : term_of ball.term ≡ error
+  pub fits : arities_fit (term_of ball.term) ≡ true
+  pub unbound : IsUnbound p q
+  pub adds : Adds old new
+
+-- what a goal of `halt/1` comes to
+abbrev pub IsHalt : Reply → Replied → Type 0
+IsHalt (Raises error) (replied.Raises ball) = (term_of ball.term ≡ error) × (arities_fit (term_of ball.term) ≡ true)
+IsHalt (Halts n) (replied.Halts status) = status ≡ n
+IsHalt reply answer = ⊥
+
+-- what is inside a catch
+abbrev pub IsInside : {W : Type 0} → Present W → Present W → List (Node W) → List (Node W) → Reply → Placed → Type 0
+IsInside p q old new (Calls b) (placed.Body place) = Places p q old new b place
+IsInside p q old new (Raises error) (placed.Raises ball) = IsRaised p q old new error ball
+IsInside p q old new reply placed = ⊥
+
 -- The answer is the one that the reply asks for. Where it fails nothing is said of the store; where a goal goes on the store is as before, or the unifier is bound.
 abbrev pub IsReply : {W : Type 0} → Present W → Present W → List (Node W) → List (Node W) → Reply → Replied → Type 0
 IsReply p q old new Fails replied.Fails = Adds old new
 IsReply p q old new Succeeds replied.GoesOn = (q ≡ p) × (new ≡ old)
 IsReply p q old new (Equates a b) replied.GoesOn = ((s : Subst) × Unifier a b s × Binds p q s) × (new ≡ old)
 IsReply p q old new (Equates a b) replied.Fails = NeverEqual a b × Adds old new
-IsReply p q old new (Raises error) (replied.Raises ball) = term_of ball.term ≡ error
+IsReply p q old new (Raises error) (replied.Raises ball) = IsRaised p q old new error ball
+IsReply p q old new (Catches inside catcher recovery) (replied.Catches placed) = IsInside p q old new inside placed
+IsReply p q old new (Halts n) (replied.Halts status) = status ≡ n
 IsReply p q old new (Calls b) (replied.Calls place) = Places p q old new b place
 IsReply p q old new (CallsOnce b) (replied.CallsOnce place) = Places p q old new b place
 IsReply p q old new (Refutes b) (replied.Refutes place) = Places p q old new b place

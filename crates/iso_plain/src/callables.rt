@@ -1,11 +1,11 @@
 //! What is callable under each name, by the numbers of atoms: no name is compared as text where a goal is run (7.7.7).
-ghost use Rattle.std.specs.Prelude.{◌≡◌, ◌<◌, ◌&&◌, ◌==◌, ℕ, IfOk, OnOk, OnErr, option_map, length};
+ghost use Rattle.std.specs.Prelude.{◌≡◌, ◌<◌, ◌&&◌, ◌==◌, ℕ, List, [], ◌∷◌, ◌++◌, IfOk, OnOk, OnErr, option_map, length};
 ghost use Rattle.std.specs.Option.{option_or};
 ghost use Rattle.iso_model.specs.Search.BuiltIns.{built_in};
-ghost use Rattle.iso_plain.specs.Callables.{Indexes, callee_in, callee_at, where_holds};
+ghost use Rattle.iso_plain.specs.Callables.{Indexes, callee_in, callee_at, callee_among, where_holds};
 
 use iso_atoms::Atom;
-use iso_model::{BuiltIn, built_in_rows};
+use iso_model::{BuiltIn, Row, built_in_rows};
 use iso_store_core::Store;
 use std::alloc::{AllocError, Global};
 
@@ -84,15 +84,31 @@ pub fn insert(
     Ok(())
 }
 
+/// Adds what a goal of a procedure of the language itself calls, whose name gets an atom. The error is that memory was refused.
+fn insert_built_in<S: Store>(
+    alloc: Global,
+    store: &mut S,
+    callables: &mut Vec<Vec<Callable>>,
+    row: &Row,
+) -> Result<(), AllocError>
+    ensures found { (rows : List Row) → Indexes (S.names store.old) callables.old.items (callee_among rows)
+        → OnOk result (Indexes (S.names store.new) callables.new.items (callee_among (rows ++ row.now ∷ []))) }
+    ensures present { S.present store.new ≡ S.present store.old }
+{
+    let Row(text, arity, built_in) = *row;
+    let name = store.intern(text)?;
+    insert(alloc, callables, name, arity, Callee::BuiltIn(built_in))
+}
+
 /// The language's own procedures, whose names get atoms. The error is that memory was refused.
 pub fn of_built_ins<S: Store>(alloc: Global, store: &mut S) -> Result<Vec<Vec<Callable>>, AllocError>
     ensures found { IfOk result (λ rows. Indexes (S.names store.new) rows.items (λ k. option_map Callee.BuiltIn (built_in k))) }
     ensures present { S.present store.new ≡ S.present store.old }
 {
     let mut callables = Vec::new(alloc);
-    for row in built_in_rows() {
-        let name = store.intern(row.0)?;
-        insert(alloc, &mut callables, name, row.1, Callee::BuiltIn(row.2))?;
+    let rows = built_in_rows();
+    for row in rows {
+        insert_built_in(alloc, store, &mut callables, row)?;
     }
     Ok(callables)
 }

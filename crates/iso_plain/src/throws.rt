@@ -1,10 +1,13 @@
 //! The engine's moves at a thrown ball: the innermost catch whose goal has not ended comes back, and its catcher meets the ball
 //! (7.8.9, 7.8.10).
-ghost use Rattle.std.specs.Prelude.{◌≡◌, ℕ, ◌+◌, ◌<◌, ◌≤◌, true, IsTrue, ◌↔◌, IfOk, OnOk, OnErr, ◌∷◌, List, length, Option, MatchOption, Err, slice_get};
+ghost use Rattle.std.specs.Prelude.{◌≡◌, ℕ, ◌+◌, ◌<◌, ◌≤◌, true, codes, IfOk, OnOk, OnErr, ◌∷◌, List, Option, MatchBool, MatchOption, Err};
 ghost use Rattle.iso_model.specs.Terms.Trees.{Tree, arities_fit};
 ghost use Rattle.iso_model.specs.Terms.TermOf.{term_of};
-ghost use Rattle.iso_model.specs.Search.Walker.{State, Member, Alternative, meets};
-ghost use Rattle.iso_plain.specs.Catches.{GoesTo, IsUncaught, throwing, catcher_of, recovery_of};
+ghost use Rattle.iso_model.specs.Search.Walker.{State, Member, Raise};
+ghost use Rattle.iso_plain.specs.Catches.{GoesTo, IsUncaught, IsEndOfCatch, HasMet, throwing, catcher_of, recovery_of};
+ghost use Rattle.iso_model.specs.Search.Bodies.{one};
+ghost use Rattle.iso_atoms.specs.Texts.{KeepsTexts};
+ghost use Rattle.iso_store_core.specs.Presents.{KeepsMarks};
 
 use super::bodies::Node;
 use super::parts::{Frame, Left, Now, Todo};
@@ -16,10 +19,10 @@ use iso_store_core::{Store, StoreFault};
 const MOST_VARIABLES: u64 = 536_870_912;
 
 impl<S: Store + Drop> Plain<S> {
-    ghost use Rattle.iso_plain.specs.Catches.{MeetsBall};
-    ghost use Rattle.iso_plain.specs.EngineStates.{IsAhead, IsEngine, Represents, Moves, Stopped, Keeps, Falls, cost, choices_cost, weight, links_of, phase_of};
-    ghost use Rattle.iso_plain.specs.Costs.{body_cost, most, rest_cost, frame_costs};
-    ghost use Rattle.iso_plain.specs.Standing.{Chain, StandsForChoices};
+    ghost use Rattle.iso_plain.specs.Catches.{MeetsBall, IsCaught, Recovers, Calling, HasStack, HasThrown};
+    ghost use Rattle.iso_plain.specs.EngineStates.{IsAhead, IsEngine, Represents, Moves, Stopped, Keeps, Falls, cost, choices_cost, weight, links_of, phase_of, went_back};
+    ghost use Rattle.iso_plain.specs.Costs.{body_cost, left_cost, most, rest_cost, frame_costs};
+    ghost use Rattle.iso_plain.specs.Standing.{Chain};
     ghost use Rattle.iso_model.specs.Search.Engines.{IsAwake};
     ghost use Rattle.iso_plain.specs.Stays.{Stays};
     ghost use Rattle.iso_plain.specs.Limits.{ResultMet, ResultFull};
@@ -40,7 +43,7 @@ impl<S: Store + Drop> Plain<S> {
 
     /// Whether the frame is the end of a catch whose choice stands at its mark.
     fn ends_catch(&self, frame: Frame) -> bool
-        ensures { (result ≡ true) ↔ IsEndOfCatch self.now.choices.items frame }
+        ensures { MatchBool result (IsEndOfCatch self.now.choices.items frame) (IsEndOfCatch self.now.choices.items frame → ⊥) }
     {
         if !matches!(frame.todo, Todo::Leave) {
             return false;
@@ -54,7 +57,7 @@ impl<S: Store + Drop> Plain<S> {
     /// The place of the choice of the catch to which a ball goes that is thrown past the members from this place on.
     fn find_catch(&self, from: Option<usize>) -> Option<usize>
         requires { (behind : List Member) × Chain (S.present self.now.store) (links_of self.now) from behind }
-        ensures { (s : State) (ball : Tree) (behind : List Member) → HasStack S.stands S.older self.entry.now s
+        ensures { (s : State) (ball : Tree) (behind : List Member) → HasStack S.names S.present S.stands S.older self.entry.now s
             → Chain (S.present self.entry.now.store) (links_of self.entry.now) from behind
             → MatchOption result (IsUncaught ball behind s) (GoesTo ball behind s) }
     {
@@ -98,7 +101,7 @@ impl<S: Store + Drop> Plain<S> {
     fn call_recovery(&mut self, goal: S::Word, next: Option<usize>) -> Result<(), StoreFault>
         requires { (s : State) × Recovers S.names S.present S.stands S.older self.old goal s next }
         ensures called { (s : State) → Recovers S.names S.present S.stands S.older self.old goal s next
-            → OnOk result (IsEngine S.names S.present S.stands S.older self.new (calling (recovery_of (S.present self.old.store) goal) s)) }
+            → OnOk result (Calling S.names S.present S.stands S.older self.new (one (codes "call") (recovery_of (S.present self.old.store) goal)) s) }
         ensures kept { (s : State) → Recovers S.names S.present S.stands S.older self.old goal s next
             → OnErr result (Keeps S.names S.present S.stands S.older self.new s.world s.stack) }
         ensures full { result ≡ Err StoreFault.Full → S.full self.new.store }
@@ -150,7 +153,7 @@ impl<S: Store + Drop> Plain<S> {
     fn meet(&mut self, goal: S::Word, next: Option<usize>) -> Result<(), StoreFault>
         requires { (s : State) × (ball : Tree) × MeetsBall S.names S.present S.stands S.older self.old goal ball s next }
         ensures met { (s : State) (ball : Tree) → MeetsBall S.names S.present S.stands S.older self.old goal ball s next
-            → OnOk result (IsEngine S.names S.present S.stands S.older self.new (meets ball (catcher_of (S.present self.old.store) goal) (recovery_of (S.present self.old.store) goal) s.list s)) }
+            → OnOk result (HasThrown S.names S.present S.stands S.older self.new (S.present self.old.store) goal ball s) }
         ensures kept { (s : State) (ball : Tree) → MeetsBall S.names S.present S.stands S.older self.old goal ball s next
             → OnErr result (Keeps S.names S.present S.stands S.older self.new s.world s.stack) }
         ensures full { result ≡ Err StoreFault.Full → S.full self.new.store }
