@@ -1,5 +1,5 @@
 -- The standard's search, step by step (ISO/IEC 13211-1:1995, 7.7): depth first, clauses in their order, goals from left to right.
-use Rattle.std.specs.Prelude.{ℕ, zero, suc, ◌+◌, ◌-◌, List, [], ◌∷◌, length, drop, map, Option, Some, None, option_map, codes, if◌then◌else◌}
+use Rattle.std.specs.Prelude.{ℕ, zero, suc, ◌+◌, ◌-◌, List, [], ◌∷◌, length, drop, map, Option, Some, None, option_map, codes, ◌==◌, if◌then◌else◌}
 use Rattle.iso_ops.specs.Operators.{Operator}
 use Rattle.iso_ops.specs.InitialOperators.{initial_entries}
 use Rattle.iso_ops.specs.declared.settings.Flags.{Flags}
@@ -218,21 +218,22 @@ abbrev pub run_goal : Option Key → Tree → List Member → State → Outcome
 run_goal (Some k) t rest s = selected (built_in k) k t rest s
 run_goal None t rest s = Goes (fails s)
 
--- The newest of these alternatives is the entry of a catch: its state comes back, and its catcher is to meet the ball; else it comes to the other.
+-- The alternative is the entry of a catch: its state comes back, and its catcher is to meet the ball; else it comes to the other.
 abbrev pub caught_at : Left → Alternative → List Alternative → Tree → State → Outcome → Outcome
 caught_at (Catching catcher recovery) a below ball s other =
     Goes (record s { list = Meet ball catcher recovery ∷ a.list; subst = a.subst; next = a.next; built = a.built; stack = below })
 caught_at left a below ball s other = other
 
-abbrev pub caught : List Alternative → Tree → State → Outcome → Outcome
-caught [] ball s other = other
-caught (a ∷ below) ball s other = caught_at a.left a below ball s other
+-- so with the alternative at this height
+abbrev pub caught : ℕ → List Alternative → Tree → State → Outcome → Outcome
+caught height [] ball s other = other
+caught height (a ∷ below) ball s other = if length below == height then caught_at a.left a below ball s other else caught height below ball s other
 
 -- A ball is thrown: it goes to the innermost catch whose goal has not ended, which is the first whose end follows in the list; where there is
 -- none it ends the search (7.8.9, 7.8.10).
 abbrev pub thrown : Tree → List Member → State → Outcome
 thrown ball [] s = Ends (Uncaught ball) s.world
-thrown ball (Leave height ∷ rest) s = caught (shortened (suc height) s.stack) ball s (thrown ball rest s)
+thrown ball (Leave height ∷ rest) s = caught height s.stack ball s (thrown ball rest s)
 thrown ball (m ∷ rest) s = thrown ball rest s
 
 -- The catcher was unified with the ball, and the recovery is called; or not, and the ball is thrown on.

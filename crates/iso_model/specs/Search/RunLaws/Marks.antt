@@ -1,7 +1,7 @@
 -- Cut marks: each is a height at which the stack stands still, and what follows a mark is marked over what the mark leaves of the stack. The end of a
 -- catch's goal is marked by the height at which the catch's alternative stands. Every step keeps this, so an engine may keep its alternatives in one
 -- stack, a cut gives back the newest of them, and a thrown ball finds its catch.
-use Rattle.std.proofs.Common.{◌≡◌, ℕ, zero, suc, ◌+◌, ◌-◌, ◌≤◌, List, [], ◌∷◌, true, false, Option, Some, None, length, drop, refl, sym, ap, ◌∙◌, subst, arith, if◌then◌else◌}
+use Rattle.std.proofs.Common.{◌≡◌, ℕ, zero, suc, ◌+◌, ◌-◌, ◌≤◌, List, [], ◌∷◌, true, false, Option, Some, None, length, drop, refl, sym, ap, ◌∙◌, subst, arith, ◌==◌, if◌then◌else◌}
 use Rattle.iso_ops.specs.declared.settings.Unknown.{Unknown}
 use Rattle.iso_ops.specs.declared.settings.Unknown.TheVariants as on_unknown
 use Rattle.iso_model.specs.Terms.Trees.{Tree, Variable}
@@ -189,19 +189,18 @@ caught_at_marked AsIs a below ball s o k other = other
 caught_at_marked Again a below ball s o k other = other
 caught_at_marked (Clauses call cs) a below ball s o k other = other
 
-caught_marked : (stack : List Alternative) (ball : Tree) (s : State) (o : Outcome) → Stacked stack → KeepsMarked o → KeepsMarked (caught stack ball s o)
-caught_marked [] ball s o k other = other
-caught_marked (a ∷ below) ball s o k other = caught_at_marked a.left a below ball s o k other
-
-dropped_stacked : (n : ℕ) (stack : List Alternative) → Stacked stack → Stacked (drop n stack)
-dropped_stacked zero stack k = k
-dropped_stacked (suc n) [] k = k
-dropped_stacked (suc n) (a ∷ below) (more marked k) = dropped_stacked n below k
+caught_marked : (height : ℕ) (stack : List Alternative) (ball : Tree) (s : State) (o : Outcome) → Stacked stack → KeepsMarked o → KeepsMarked (caught height stack ball s o)
+caught_marked height [] ball s o k other = other
+caught_marked height (a ∷ below) ball s o (more marked k) other =
+    elim (length below == height) as (λ here. KeepsMarked (if here then caught_at a.left a below ball s o else caught height below ball s o)) [
+      | true ↦ caught_at_marked a.left a below ball s o (more marked k) other
+      | false ↦ caught_marked height below ball s o k other
+    ]
 
 thrown_marked : (ball : Tree) (rest : List Member) (s : State) → Stacked s.stack → KeepsMarked (thrown ball rest s)
 thrown_marked ball [] s k = tt
 thrown_marked ball (Leave height ∷ rest) s k =
-    caught_marked (shortened (suc height) s.stack) ball s (thrown ball rest s) (dropped_stacked (length s.stack - suc height) s.stack k) (thrown_marked ball rest s k)
+    caught_marked height s.stack ball s (thrown ball rest s) k (thrown_marked ball rest s k)
 thrown_marked ball (Goal b mark ∷ rest) s k = thrown_marked ball rest s k
 thrown_marked ball (CutTo height ∷ rest) s k = thrown_marked ball rest s k
 thrown_marked ball (Fail ∷ rest) s k = thrown_marked ball rest s k

@@ -1,5 +1,5 @@
 -- What steps of states that are the same come to.
-use Rattle.std.proofs.Common.{codes, ◌≡◌, ℕ, zero, suc, ◌+◌, ◌≤◌, ◌-◌, List, [], ◌∷◌, Bool, true, false, Option, Some, None, map, length, drop, refl, sym, ap, ap₂, ◌∙◌, subst, arith, if◌then◌else◌}
+use Rattle.std.proofs.Common.{codes, ◌≡◌, ℕ, zero, suc, ◌+◌, ◌≤◌, ◌-◌, List, [], ◌∷◌, Bool, true, false, Option, Some, None, map, length, drop, refl, sym, ap, ap₂, ◌∙◌, subst, arith, ◌==◌, if◌then◌else◌}
 use Rattle.iso_ops.specs.declared.settings.Unknown.{Unknown}
 use Rattle.iso_ops.specs.declared.settings.Unknown.TheVariants as on_unknown
 use Rattle.iso_model.specs.Terms.Trees.{Tree, Variable}
@@ -399,13 +399,20 @@ caught_at_same s t AsIs a b xs ys ball o p first second h agree next list own ot
 caught_at_same s t Again a b xs ys ball o p first second h agree next list own other others out = out
 caught_at_same s t (Clauses call cs) a b xs ys ball o p first second h agree next list own other others out = out
 
-caught_same : {vs ws : List ℕ} {xs ys : List Alternative} (s t : State) (ball : Tree) (o p : Outcome) → variables s.query ≡ vs → variables t.query ≡ ws → Beside s t → SameStack vs ws xs ys → SameOut o p
-    → SameOut (caught xs ball s o) (caught ys ball t p)
-caught_same s t ball o p first second h no_alternative out = out
-caught_same s t ball o p first second h (same_alternative {a = a} {b = b} {xs = xs} {ys = ys} agree next list left own other others) out =
+caught_same : {vs ws : List ℕ} {xs ys : List Alternative} (s t : State) (height : ℕ) (ball : Tree) (o p : Outcome) → variables s.query ≡ vs → variables t.query ≡ ws → Beside s t → SameStack vs ws xs ys → SameOut o p
+    → SameOut (caught height xs ball s o) (caught height ys ball t p)
+caught_same s t height ball o p first second h no_alternative out = out
+caught_same s t height ball o p first second h (same_alternative {a = a} {b = b} {xs = xs} {ys = ys} agree next list left own other others) out =
     let other_left : IsOwnLeft b.subst a.left = subst (λ (l : Left). IsOwnLeft b.subst l) (sym left) other in
+    let here : SameOut (caught_at a.left a xs ball s o) (caught_at b.left b ys ball t p) =
     subst (λ (l : Left). SameOut (caught_at a.left a xs ball s o) (caught_at l b ys ball t p)) left
-    (caught_at_same s t a.left a b xs ys ball o p first second h agree next list own other_left others out)
+    (caught_at_same s t a.left a b xs ys ball o p first second h agree next list own other_left others out) in
+    let below = caught_same s t height ball o p first second h others out in
+    subst (λ (n : ℕ). SameOut (caught height (a ∷ xs) ball s o) (if n == height then caught_at b.left b ys ball t p else caught height ys ball t p)) (stack_length others)
+    (elim (length xs == height) as (λ x. SameOut (if x then caught_at a.left a xs ball s o else caught height xs ball s o) (if x then caught_at b.left b ys ball t p else caught height ys ball t p)) [
+      | true ↦ here
+      | false ↦ below
+    ])
 
 -- goals are passed over, and so are conjunctions taken apart
 thrown_put : (ball : Tree) (b : Body) (mark : ℕ) (ms : List Member) (s : State) → thrown ball (put b mark ms) s ≡ thrown ball ms s
@@ -421,7 +428,7 @@ thrown_flat ball [] s = refl
 thrown_flat ball (Goal b mark ∷ ms) s = thrown_put ball b mark (flat ms) s ∙ thrown_flat ball ms s
 thrown_flat ball (CutTo height ∷ ms) s = thrown_flat ball ms s
 thrown_flat ball (Fail ∷ ms) s = thrown_flat ball ms s
-thrown_flat ball (Leave height ∷ ms) s = ap (caught (shortened (suc height) s.stack) ball s) (thrown_flat ball ms s)
+thrown_flat ball (Leave height ∷ ms) s = ap (caught height s.stack ball s) (thrown_flat ball ms s)
 thrown_flat ball (Raise other ∷ ms) s = thrown_flat ball ms s
 thrown_flat ball (Meet other catcher recovery ∷ ms) s = thrown_flat ball ms s
 
@@ -432,7 +439,7 @@ thrown_same s t ball h (same_construct same list) = thrown_same s t ball h list
 thrown_same s t ball h (same_cut list) = thrown_same s t ball h list
 thrown_same s t ball h (same_failure list) = thrown_same s t ball h list
 thrown_same s t ball h (same_leave {height = height} {ms = ms} {ns = ns} list) =
-    caught_same s t ball (thrown ball ms s) (thrown ball ns t) refl refl h (shortened_same (suc height) h.stack) (thrown_same s t ball h list)
+    caught_same s t height ball (thrown ball ms s) (thrown ball ns t) refl refl h h.stack (thrown_same s t ball h list)
 thrown_same s t ball h (same_ball list) = thrown_same s t ball h list
 thrown_same s t ball h (same_meeting catcher recovery list) = thrown_same s t ball h list
 

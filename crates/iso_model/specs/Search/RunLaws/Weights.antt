@@ -1,6 +1,6 @@
 -- A number that falls at each step that takes none of the budget: it counts the control constructs and the clauses that are left. A
 -- substitution doesn't change it.
-use Rattle.std.proofs.Common.{◌≡◌, ◌<◌, ◌≤◌, ◌+◌, ℕ, zero, suc, List, [], ◌∷◌, true, false, Option, Some, None, ◌⊎◌, inl, inr, refl, ap, ap₂, ◌∙◌, subst, arith, length, drop, ◌-◌, if◌then◌else◌}
+use Rattle.std.proofs.Common.{◌≡◌, ◌<◌, ◌≤◌, ◌+◌, ℕ, zero, suc, List, [], ◌∷◌, true, false, Option, Some, None, ◌⊎◌, inl, inr, refl, ap, ap₂, ◌∙◌, subst, arith, length, drop, ◌-◌, ◌==◌, if◌then◌else◌}
 use Rattle.iso_model.specs.Terms.Trees.{Tree, Variable}
 use Rattle.iso_model.specs.Terms.Sizes.{size}
 use Rattle.iso_model.specs.Terms.Substitutions.{Subst, apply}
@@ -8,7 +8,7 @@ use Rattle.iso_model.specs.Terms.Unification.{unifier_of}
 use Rattle.iso_model.specs.Terms.Copies.{copy_from, renamed}
 use Rattle.iso_model.specs.Search.Bodies.{Body, Cut, Run, And, Or, If, Choose, map_body, is_true}
 use Rattle.iso_model.specs.Search.Databases.{Clause}
-use Rattle.iso_model.specs.Search.Walker.{State, Member, Goal, CutTo, Fail, Leave, Raise, Meet, Left, AsIs, Again, Clauses, Catching, Alternative, Outcome, Goes, Gives, Ends, charged, paid, before, entered, pushed, with_others, tried, retried, backtracked, caught_at, caught, thrown, met, meets, shortened, step_goal, step_list, step, run_value, under, clause_size}
+use Rattle.iso_model.specs.Search.Walker.{State, Member, Goal, CutTo, Fail, Leave, Raise, Meet, Left, AsIs, Again, Clauses, Catching, Alternative, Outcome, Goes, Gives, Ends, charged, paid, before, entered, pushed, with_others, tried, retried, backtracked, caught_at, caught, thrown, met, meets, step_goal, step_list, step, run_value, under, clause_size}
 
 -- a body, before what weighs r
 abbrev pub body_weight : Body → ℕ → ℕ
@@ -151,15 +151,18 @@ caught_at_progress AsIs a below ball s o w less other = other
 caught_at_progress Again a below ball s o w less other = other
 caught_at_progress (Clauses call cs) a below ball s o w less other = other
 
-caught_progress : (stack : List Alternative) (ball : Tree) (s : State) (o : Outcome) (w : ℕ) → stack_weight stack < w → Progress s.steps w o → Progress s.steps w (caught stack ball s o)
-caught_progress [] ball s o w less other = other
-caught_progress (a ∷ below) ball s o w less other = caught_at_progress a.left a below ball s o w less other
+caught_progress : (height : ℕ) (stack : List Alternative) (ball : Tree) (s : State) (o : Outcome) (w : ℕ) → stack_weight stack < w → Progress s.steps w o → Progress s.steps w (caught height stack ball s o)
+caught_progress height [] ball s o w less other = other
+caught_progress height (a ∷ below) ball s o w less other =
+    elim (length below == height) as (λ here. Progress s.steps w (if here then caught_at a.left a below ball s o else caught height below ball s o)) [
+      | true ↦ caught_at_progress a.left a below ball s o w less other
+      | false ↦ caught_progress height below ball s o w (omega (arith, less)) other
+    ]
 
 thrown_progress : (ball : Tree) (rest : List Member) (w : ℕ) (s : State) → stack_weight s.stack < w → Progress s.steps w (thrown ball rest s)
 thrown_progress ball [] w s less = tt
 thrown_progress ball (Leave height ∷ rest) w s less =
-    let fewer = dropped_weight (length s.stack - suc height) s.stack in
-    caught_progress (shortened (suc height) s.stack) ball s (thrown ball rest s) w (omega (arith, fewer, less)) (thrown_progress ball rest w s less)
+    caught_progress height s.stack ball s (thrown ball rest s) w less (thrown_progress ball rest w s less)
 thrown_progress ball (Goal b mark ∷ rest) w s less = thrown_progress ball rest w s less
 thrown_progress ball (CutTo height ∷ rest) w s less = thrown_progress ball rest w s less
 thrown_progress ball (Fail ∷ rest) w s less = thrown_progress ball rest w s less
