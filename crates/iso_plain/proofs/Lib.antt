@@ -39,5 +39,6 @@ pub mod RunMoves
 pub mod ReplyMoves
 pub mod LimitLemmas
 pub mod StoppedLemmas
+pub mod ThrowLemmas
 pub mod ControlNames
 pub mod CallableLemmas

@@ -100,7 +100,7 @@ chain_place {links = links} (Some i) (leads at below member others) = slice_get_
 
 -- ---- lists that end in an item
 
-last_is : {X : Type 0} (xs : List X) (x : X) → slice_get (xs ++ x ∷ []) (length xs) ≡ Some x
+pub last_is : {X : Type 0} (xs : List X) (x : X) → slice_get (xs ++ x ∷ []) (length xs) ≡ Some x
 last_is xs x = (at_last xs x).is
 
 front_is : {X : Type 0} (xs : List X) (x : X) → take (length xs) (xs ++ x ∷ []) ≡ xs
@@ -132,7 +132,7 @@ last_split (x ∷ y ∷ ys) zero c at all = absurd (omega arith)
 last_split (x ∷ xs) (suc i) c at all = ap (λ (ys : List _). x ∷ ys) (last_split xs i c at (omega arith))
 
 -- an item before the last
-at_front : {X : Type 0} (xs : List X) (y : X) (i : ℕ) → i < length xs → slice_get (xs ++ y ∷ []) i ≡ slice_get xs i
+pub at_front : {X : Type 0} (xs : List X) (y : X) (i : ℕ) → i < length xs → slice_get (xs ++ y ∷ []) i ≡ slice_get xs i
 at_front [] y i less = absurd (omega arith)
 at_front (x ∷ xs) y zero less = refl
 at_front (x ∷ xs) y (suc i) less = at_front xs y i (omega arith)
@@ -146,7 +146,7 @@ take_whole : {X : Type 0} (xs : List X) → take (length xs) xs ≡ xs
 take_whole [] = refl
 take_whole (x ∷ xs) = ap (λ (ys : List _). x ∷ ys) (take_whole xs)
 
-some_same : {X : Type 0} {x y : X} → Some x ≡ Some y → x ≡ y
+pub some_same : {X : Type 0} {x y : X} → Some x ≡ Some y → x ≡ y
 some_same h = cc
 
 -- ---- choices

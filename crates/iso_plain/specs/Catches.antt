@@ -98,13 +98,13 @@ module _ {S W M : Type 0} (names : S → List (List ℕ)) (present : S → Prese
   pub record EntersCatch (e : Plain S W M) (goal : W) (s : State) (place : Option ℕ) : Type 0 where
     pub ahead : IsAhead names present stands older e s place
     pub space : s.next + numbers_a_step * (e.steps + 1) ≤ most_numbers
-    pub goal : IsCatchGoal (present e.store) goal
+    pub catches : IsCatchGoal (present e.store) goal
 
   -- The engine, in this state, is about to have the ball that it keeps met by the catcher of this goal.
   pub record MeetsBall (e : Plain S W M) (goal : W) (ball : Tree) (s : State) (place : Option ℕ) : Type 0 where
     pub ahead : IsAhead names present stands older e s place
     pub space : s.next + numbers_a_step * (e.steps + 1) ≤ most_numbers
-    pub goal : IsCatchGoal (present e.store) goal
+    pub catches : IsCatchGoal (present e.store) goal
     pub fits : arities_fit ball ≡ true
     pub kept : (b : Ball) × (e.raised ≡ Some b) × (term_of b.term ≡ ball)
 
@@ -117,7 +117,7 @@ module _ {S W M : Type 0} (names : S → List (List ℕ)) (present : S → Prese
   -- The engine, in this state, is about to call the recovery of this goal.
   pub record Recovers (e : Plain S W M) (goal : W) (s : State) (place : Option ℕ) : Type 0 where
     pub ahead : IsAhead names present stands older e s place
-    pub goal : IsCatchGoal (present e.store) goal
+    pub catches : IsCatchGoal (present e.store) goal
 
   -- The engine, in this state, is to run this goal first, which it has as a term of the same value.
   pub record Calling (e : Plain S W M) (goal : Tree) (s : State) : Type 0 where

@@ -43,7 +43,7 @@ impl<S: Store + Drop> Plain<S> {
 
     /// Whether the frame is the end of a catch whose choice stands at its mark.
     fn ends_catch(&self, frame: Frame) -> bool
-        ensures { MatchBool result (IsEndOfCatch self.now.choices.items frame) (IsEndOfCatch self.now.choices.items frame → ⊥) }
+        ensures { MatchBool result (IsEndOfCatch self.entry.now.choices.items frame) (IsEndOfCatch self.entry.now.choices.items frame → ⊥) }
     {
         if !matches!(frame.todo, Todo::Leave) {
             return false;
