@@ -40,5 +40,6 @@ pub mod ReplyMoves
 pub mod LimitLemmas
 pub mod StoppedLemmas
 pub mod ThrowLemmas
+pub mod FindLemmas
 pub mod ControlNames
 pub mod CallableLemmas
