@@ -41,5 +41,6 @@ pub mod LimitLemmas
 pub mod StoppedLemmas
 pub mod ThrowLemmas
 pub mod FindLemmas
+pub mod MeetLemmas
 pub mod ControlNames
 pub mod CallableLemmas
