@@ -1,5 +1,6 @@
 -- Terms, bodies and clauses written out for the store: they stay what they are where names come.
-use Rattle.std.proofs.Common.{◌≡◌, ℕ, ◌+◌, ◌-◌, ◌<◌, List, [], ◌∷◌, length, refl, sym, ap, ◌∙◌, subst, arith, true, false, inl, inr, slice_index_or}
+use Rattle.std.proofs.Common.{◌≡◌, ℕ, ◌+◌, ◌-◌, ◌<◌, List, [], ◌∷◌, ◌++◌, length, take, get_or, add-one, refl, sym, ap, ◌∙◌, subst, arith, true, false, inl, inr, slice_index_or}
+use Rattle.std.proofs.Math.Seq.{take-suc}
 use Rattle.std.proofs.lemmas.Bool.{cases_Bool}
 use Rattle.iso_atoms.specs.Texts.{KeepsTexts}
 use Rattle.iso_model.specs.declared.terms.Term.{Term}
@@ -15,10 +16,10 @@ use Rattle.iso_plain.specs.declared.bodies.Node.{Node}
 use Rattle.iso_plain.specs.declared.bodies.Node.TheVariants as node
 use Rattle.iso_plain.specs.declared.clauses.Checked.{Checked}
 use Rattle.iso_plain.specs.declared.clauses.Clause.{Clause}
-use Rattle.iso_plain.specs.Nodes.{IsTree, EndsWith, ArePartsOf, AreAlike, EachGoal, IsTermOf}
+use Rattle.iso_plain.specs.Nodes.{IsTree, EndsWith, ArePartsOf, IsAlike, AreAlike, EachGoal, IsTermOf}
 use Rattle.iso_plain.specs.Written.{IsPatternOf, IsWritten, IsWrittenFor, term_in}
 use Rattle.iso_plain.specs.Kept.{IsTemplate, IsCheckedGoal, IsChecked, IsKeptGoal, IsClause}
-use Rattle.iso_plain.proofs.NodeLemmas.{alike_length, tree_alike, map_none, each_goal, tree_keep}
+use Rattle.iso_plain.proofs.NodeLemmas.{alike_length, alike_push, alike_so, any_goal, tree_alike, map_none, each_goal, tree_keep}
 
 -- ---- the term of a pattern
 
@@ -120,3 +121,12 @@ module _ (names : List (List ℕ)) where
     head_template = is.head_template;
     goal_templates = goals_written c.variables checked.parts.items kept.parts.items is.goal_templates parts;
   }
+
+-- one part more
+pub written_push : (old new : List (List ℕ)) → KeepsTexts old new → (parts : List (Node Term)) (ws : List (Node Pattern)) (i : ℕ) (part : Node Term) (w : Node Pattern) → i < length parts → part ≡ get_or parts i part
+    → AreAlike (IsWrittenFor old) (take i parts) ws → IsAlike (IsWrittenFor new) part w → AreAlike (IsWrittenFor new) (take (i + 1) parts) (ws ++ w ∷ [])
+written_push old new keeps parts ws i part w within is h here =
+    let next : take (i + 1) parts ≡ take i parts ++ part ∷ [] = rw (add-one, take-suc parts i part within, ← is) refl in
+    let on : (g : Term) (w : Pattern) → Unit {0} → IsWrittenFor old g w → IsWrittenFor new g w = λ g w u written. written_kept old new keeps w (term_of g) written in
+    let before : AreAlike (IsWrittenFor new) (take i parts) ws = alike_so on (take i parts) ws (any_goal (take i parts)) h in
+    subst (λ xs. AreAlike (IsWrittenFor new) xs (ws ++ w ∷ [])) (sym next) (alike_push (IsWrittenFor new) (take i parts) ws part w before here)
