@@ -2,6 +2,7 @@
 use Rattle.std.proofs.Common.{◌≡◌, ℕ, zero, suc, ◌-◌, ◌≤◌, ◌++◌, List, [], ◌∷◌, length, take, drop, Option, Some, None, refl, ap, sym, ◌∙◌, subst, arith, Vec, Global}
 use Rattle.std.specs.Prelude.{option_map}
 use Rattle.std.specs.List.{slice_get}
+use Rattle.iso_atoms.specs.Texts.{KeepsTexts}
 use Rattle.iso_model.specs.Terms.TermOf.{term_of}
 use Rattle.iso_model.specs.Terms.Variables.{variables}
 use Rattle.iso_model.specs.Search.Bodies.{Body}
@@ -23,6 +24,7 @@ use Rattle.iso_plain.specs.EngineStates.{IsEngine, IsAhead, Keeps, left_at, link
 use Rattle.iso_plain.proofs.EnteringLemmas.{words_same, adds_none}
 use Rattle.iso_plain.proofs.StandingLemmas.{AddsLinks, at_last, chain_more, chain_place, choices_more, choices_keep, choices_length, choices_push, lower, marks_stand, next_behind}
 use Rattle.iso_plain.proofs.StoppedLemmas.{base_kept}
+use Rattle.iso_plain.proofs.WorldLemmas.{world_on}
 
 -- ---- what a frame asks for
 
@@ -83,7 +85,7 @@ module _ {S W M : Type 0} (names : S → List (List ℕ)) (present : S → Prese
         list = first.is;
         stands_for = first.stands;
         ahead = record {
-          world = record { procedures_are = is.world.procedures_are; operators_are = is.world.operators_are; flags_are = is.world.flags_are };
+          world = is.world;
           steps = is.steps;
           base = is.base;
           choices = is.choices;
@@ -112,7 +114,7 @@ module _ {S W M : Type 0} (names : S → List (List ℕ)) (present : S → Prese
   pub engine_frame : (e : Plain S W M) (s : State) (f : Frame) (m : Member) → IsAhead names present stands older e s f.next → IsMember (present e.store) e.nodes.items f m
       → IsEngine names present stands older (record e { now = now.Running f }) (record s { list = m ∷ s.list })
   engine_frame e s f m h is = record {
-    world = record { procedures_are = h.world.procedures_are; operators_are = h.world.operators_are; flags_are = h.world.flags_are };
+    world = h.world;
     steps = h.steps;
     base = h.base;
     choices = h.choices;
@@ -122,7 +124,7 @@ module _ {S W M : Type 0} (names : S → List (List ℕ)) (present : S → Prese
 
   pub engine_place : (e : Plain S W M) (s : State) (place : Option ℕ) → IsAhead names present stands older e s place → IsEngine names present stands older (record e { now = now_behind e.frames.items place }) s
   engine_place e s place h = record {
-    world = record { procedures_are = h.world.procedures_are; operators_are = h.world.operators_are; flags_are = h.world.flags_are };
+    world = h.world;
     steps = h.steps;
     base = h.base;
     choices = h.choices;
@@ -139,7 +141,7 @@ module _ {S W M : Type 0} (names : S → List (List ℕ)) (present : S → Prese
   pub ahead_other : (e : Plain S W M) (s : State) (place other : Option ℕ) (ms : List Member) → IsAhead names present stands older e s place → Chain (present e.store) (links_of e) other ms
       → IsAhead names present stands older e (record s { list = ms }) other
   ahead_other e s place other ms h chain = record {
-    world = record { procedures_are = h.world.procedures_are; operators_are = h.world.operators_are; flags_are = h.world.flags_are };
+    world = h.world;
     steps = h.steps;
     base = h.base;
     choices = h.choices;
@@ -160,7 +162,7 @@ module _ {S W M : Type 0} (names : S → List (List ℕ)) (present : S → Prese
       let links : Links W = record { nodes = e.nodes.items; frames = frames.items } in
       let adds : AddsLinks (links_of e) links = record { nodes = adds_none e.nodes.items; frames = (f ∷ [], pushed) } in
       record {
-        world = record { procedures_are = h.world.procedures_are; operators_are = h.world.operators_are; flags_are = h.world.flags_are };
+        world = h.world;
         steps = h.steps;
         base = h.base;
         choices = choices_more links adds h.choices;
@@ -177,10 +179,10 @@ module _ {S W M : Type 0} (names : S → List (List ℕ)) (present : S → Prese
   -- a choice with this left to be tried of the members ahead
   pub ahead_choice : (e : Plain S W M) (s : State) (place : Option ℕ) (store : S) (choices : Vec (kept.Choice W M) Global) (left : Left W) (l : walker.Left) → IsAhead names present stands older e s place
       → HasLeft (left_at s.world.database.procedures) e.query.items (variables s.query) (present e.store) (links_of e) left (record { list = s.list; subst = s.subst; next = s.next; built = s.built; left = l }) → entered_at l ≡ 0
-      → present store ≡ present e.store → KeepsMarks (stands e.store) (stands store)
+      → present store ≡ present e.store → KeepsMarks (stands e.store) (stands store) → KeepsTexts (names e.store) (names store)
       → GainsChoice (stands e.store) (stands store) older (present e.store) (length e.nodes.items) (length e.frames.items) left e.choices.items choices.items
       → IsAhead names present stands older (record e { store = store; choices = choices }) (pushed s.list l s) place
-  ahead_choice e s place store choices left l h has none same keeps gains =
+  ahead_choice e s place store choices left l h has none same keeps texts gains =
       let b = h.base in
       let c : kept.Choice W M = record { mark = gains.mark; nodes = length e.nodes.items; frames = length e.frames.items; left = left } in
       let a : Alternative = record { list = s.list; subst = s.subst; next = s.next; built = s.built; left = l } in
@@ -196,7 +198,7 @@ module _ {S W M : Type 0} (names : S → List (List ℕ)) (present : S → Prese
       (let there = marks_stand x h.choices among in gains.newer x.mark there.0 there.1) in
       let goes = goes_with {p = present e.store} {query = e.query.items} {s = s} s.list (a ∷ s.stack) h.goes in
       record {
-        world = record { procedures_are = h.world.procedures_are; operators_are = h.world.operators_are; flags_are = h.world.flags_are };
+        world = world_on texts h.world;
         steps = h.steps;
         base = base_kept (stands e.store) (stands store) e.base keeps b;
         choices = rw gains.are (choices_push c a refl refl here newer old);
@@ -210,16 +212,16 @@ module _ {S W M : Type 0} (names : S → List (List ℕ)) (present : S → Prese
   -- those above a height
   pub ahead_cut : (e : Plain S W M) (s : State) (place : Option ℕ) (height : ℕ) (store : S) (choices : Vec (kept.Choice W M) Global) (c : kept.Choice W M) → IsAhead names present stands older e s place
       → slice_get e.choices.items height ≡ Some c → choices.items ≡ take height e.choices.items → present store ≡ present e.store
-      → ((m : M) (p : Present W) → older m c.mark → stands e.store m p → stands store m p)
+      → ((m : M) (p : Present W) → older m c.mark → stands e.store m p → stands store m p) → KeepsTexts (names e.store) (names store)
       → IsAhead names present stands older (record e { store = store; choices = choices }) (cut_back height s.list s) place
-  ahead_cut e s place height store choices c h there taken same marks =
+  ahead_cut e s place height store choices c h there taken same marks texts =
       let b = h.base in
       let l = lower height c there h.choices in
       let stood : StandsForChoices (stands store) older e.base (left_at s.world.database.procedures) e.query.items (variables s.query) (links_of e) (take height e.choices.items) (shortened height s.stack) =
       choices_keep (λ d p among standing. marks d.mark p (l.newer d among) standing) l.stand in
       let goes = goes_with {p = present e.store} {query = e.query.items} {s = s} s.list (shortened height s.stack) h.goes in
       record {
-        world = record { procedures_are = h.world.procedures_are; operators_are = h.world.operators_are; flags_are = h.world.flags_are };
+        world = world_on texts h.world;
         steps = h.steps;
         base = record { present = b.present; stands_for = marks e.base b.present l.newer_base b.stands_for; substitution = b.substitution; next = b.next };
         choices = rw taken stood;
@@ -235,7 +237,7 @@ module _ {S W M : Type 0} (names : S → List (List ℕ)) (present : S → Prese
       let none : 0 ≡ length s.stack - height = omega (arith, many, less) in
       let same : State = s in
       subst (λ (n : ℕ). IsAhead names present stands older e (record s { stack = drop n s.stack }) place) none (record {
-        world = record { procedures_are = h.world.procedures_are; operators_are = h.world.operators_are; flags_are = h.world.flags_are };
+        world = h.world;
         steps = h.steps;
         base = h.base;
         choices = h.choices;

@@ -40,7 +40,7 @@ module _ {S W M : Type 0} (names : S → List (List ℕ)) (present : S → Prese
 
   failing_engine : (e : Plain S W M) (s : State) → IsEngine names present stands older e s → IsEngine names present stands older (record e { now = now.Failing }) (fails s)
   failing_engine e s is = record {
-    world = record { procedures_are = is.world.procedures_are; operators_are = is.world.operators_are; flags_are = is.world.flags_are };
+    world = is.world;
     steps = is.steps;
     base = is.base;
     choices = is.choices;
@@ -66,7 +66,7 @@ module _ {S W M : Type 0} (names : S → List (List ℕ)) (present : S → Prese
       cc (ap (option_map (λ b. term_of b.term)) none, next.2)
 
   pub raises_engine : (e new : Plain S W M) (s : State) (ball : Ball) → e.now ≡ now.Raising → e.raised ≡ Some ball
-      → ((w : World) → IsWorld e w → IsEngine names present stands older new (idle w)) → new.now ≡ now.Idle
+      → ((w : World) → IsWorld names e w → IsEngine names present stands older new (idle w)) → new.now ≡ now.Idle
       → Represents names present stands older e s → Moves names present stands older (move.Pauses (pause.Uncaught ball)) s new
   raises_engine e new s ball doing kept cleared rests r =
       let o = r.own in

@@ -48,7 +48,7 @@ module _ {S W M : Type 0} (names : S → List (List ℕ)) (present : S → Prese
 
   -- no choice is left: the run ends
   pub ends_run : (e new : Plain S W M) (s : State) (r : Represents names present stands older e s) → e.now ≡ now.Failing → length e.choices.items ≡ 0
-      → ((w : World) → IsWorld e w → IsEngine names present stands older new (idle w)) → new.now ≡ now.Idle
+      → ((w : World) → IsWorld names e w → IsEngine names present stands older new (idle w)) → new.now ≡ now.Idle
       → Moves names present stands older (move.Pauses pause.NoMore) s new
   ends_run e new s r is none idles rests =
       let first = failing e r.own is r.engine in

@@ -1,5 +1,6 @@
 -- A goal of a built-in: whatever its reply is, the engine's move is a step.
 use Rattle.std.proofs.Common.{◌≡◌, ◌≢◌, ◌+◌, ◌-◌, ◌≤◌, ℕ, suc, List, [], ◌∷◌, length, refl, ap, sym, ◌∙◌, subst, arith, inl, inr, Vec, Global}
+use Rattle.iso_atoms.specs.Texts.{KeepsTexts}
 use Rattle.iso_model.specs.Terms.Trees.{Tree}
 use Rattle.iso_model.specs.Terms.TermOf.{term_of}
 use Rattle.iso_model.specs.Terms.Substitutions.{Subst, compose}
@@ -126,7 +127,7 @@ repeats_by p q old new (Refutes b) h = absurd h
 
 module _ {S W M : Type 0} (names : S → List (List ℕ)) (present : S → Present W) (stands : S → M → Present W → Type 0) (older : M → M → Type 0) where
   module _ (e : Plain S W M) (store : S) (nodes : Vec (Node W) Global) (s : State) (f : Frame) (k : ℕ) (w : W) (doing : e.now ≡ now.Running f) (there : IsAt e.nodes.items f k (node.Run w)) (r : Represents names present stands older e s)
-      (more : e.steps ≢ 0) (b : BuiltIn) (is_own : IsBuiltIn (meaning (present e.store) w) b) (keeps : KeepsMarks (stands e.store) (stands store)) (adds : Adds e.nodes.items nodes.items) where
+      (more : e.steps ≢ 0) (b : BuiltIn) (is_own : IsBuiltIn (meaning (present e.store) w) b) (keeps : KeepsMarks (stands e.store) (stands store)) (texts : KeepsTexts (names e.store) (names store)) (adds : Adds e.nodes.items nodes.items) where
     abbrev n : ℕ
     n = e.steps - 1
 
@@ -151,14 +152,14 @@ module _ {S W M : Type 0} (names : S → List (List ℕ)) (present : S → Prese
     pub behind_ahead : (built : ℕ) → KeepsWords (present e.store) (present store) → (present store).substitution ≡ (present e.store).substitution → (present store).next ≡ (present e.store).next
         → IsAhead names present stands older mid (behind built) f.next
     behind_ahead built words substitution next =
-        ahead_step names present stands older e store nodes (record o { list = a.behind }) f.next n built o.subst a.ahead (one_less e.steps more) keeps adds words (substitution ∙ a.ahead.goes.subst) next
+        ahead_step names present stands older e store nodes (record o { list = a.behind }) f.next n built o.subst a.ahead (one_less e.steps more) keeps texts adds words (substitution ∙ a.ahead.goes.subst) next
 
     -- ---- it succeeded
 
     went : (built : ℕ) (v : Subst) → KeepsWords (present e.store) (present store) → (present store).substitution ≡ v → (present store).next ≡ (present e.store).next
         → step o ≡ Goes (record o { list = a.behind; subst = v; built = built; steps = n }) → Moves names present stands older move.Goes s (record mid { now = now_behind e.frames.items f.next })
     went built v words substitution number h =
-        let ahead = ahead_step names present stands older e store nodes (record o { list = a.behind }) f.next n built v a.ahead (one_less e.steps more) keeps adds words substitution number in
+        let ahead = ahead_step names present stands older e store nodes (record o { list = a.behind }) f.next n built v a.ahead (one_less e.steps more) keeps texts adds words substitution number in
         goes names present stands older e (record mid { now = now_behind e.frames.items f.next }) s r (record o { list = a.behind; subst = v; built = built; steps = n }) h
         (engine_place names present stands older mid (record o { list = a.behind; subst = v; built = built; steps = n }) f.next ahead) (awake_behind e.frames.items f.next)
 
@@ -180,7 +181,7 @@ module _ {S W M : Type 0} (names : S → List (List ℕ)) (present : S → Prese
 
     failed : (built : ℕ) → step o ≡ Goes (record o { list = Fail ∷ []; built = built; steps = n }) → Moves names present stands older move.Goes s (record mid { now = now.Failing })
     failed built h =
-        goes names present stands older e (record mid { now = now.Failing }) s r (record o { list = Fail ∷ []; built = built; steps = n }) h (failed_engine names present stands older e store nodes o n built (one_less e.steps more) keeps adds r.engine) tt
+        goes names present stands older e (record mid { now = now.Failing }) s r (record o { list = Fail ∷ []; built = built; steps = n }) h (failed_engine names present stands older e store nodes o n built (one_less e.steps more) keeps texts adds r.engine) tt
 
     pub fails_now : (x : Reply) → reply b t ≡ x → Failed x → Moves names present stands older move.Goes s (record mid { now = now.Failing })
     fails_now Fails is at_once = failed o.built (runs_to names present stands older e s f k w doing there r (fails o) more (own_goal t a.behind o b Fails is_own is))
@@ -195,7 +196,7 @@ module _ {S W M : Type 0} (names : S → List (List ℕ)) (present : S → Prese
 
     -- ---- an error is raised
 
-    pub raises_now : (new : Plain S W M) (error : Tree) → reply b t ≡ Raises error → ((v : World) → IsWorld e v → IsEngine names present stands older new (idle v)) → new.now ≡ now.Idle
+    pub raises_now : (new : Plain S W M) (error : Tree) → reply b t ≡ Raises error → ((v : World) → IsWorld names e v → IsEngine names present stands older new (idle v)) → new.now ≡ now.Idle
         → Finishes s (Uncaught error) (StandsFor names present stands older new)
     raises_now new error is idles rests = raises names present stands older e s f k w doing there r new error more idles rests (own_goal t a.behind o b (Raises error) is_own is)
 

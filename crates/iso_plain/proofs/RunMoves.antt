@@ -1,6 +1,7 @@
 -- What running a goal comes to.
 use Rattle.std.proofs.Common.{◌≡◌, ◌≢◌, ◌<◌, ◌≤◌, ◌-◌, ℕ, suc, List, [], ◌∷◌, Option, None, Some, length, refl, ap, ◌∙◌, subst, arith, inl, inr, Result, Ok, Err, IfOk, Vec, Global}
 use Rattle.iso_ops.specs.declared.settings.Unknown.TheVariants as on_unknown
+use Rattle.iso_atoms.specs.Texts.{KeepsTexts}
 use Rattle.iso_model.specs.Terms.Trees.{Tree}
 use Rattle.iso_model.specs.Search.Databases as databases
 use Rattle.iso_model.specs.Search.Databases.{Key, clauses_at}
@@ -35,6 +36,7 @@ use Rattle.iso_plain.proofs.SearchMoves.{goes, ends, stops, stops_here, comes_ov
 use Rattle.iso_plain.proofs.SearchSteps.{goal_step, budget_step, raise_step, procedure_goal, unknown_goal, tried_steps, others_keep, one_more}
 use Rattle.iso_plain.proofs.StandingLemmas.{choices_length}
 use Rattle.iso_plain.proofs.StoppedLemmas.{base_kept, choices_on}
+use Rattle.iso_plain.proofs.WorldLemmas.{world_on}
 
 pub if_ok_map : {T E : Type 0} (P Q : T → Type 0) (result : Result T E) → ((t : T) → P t → Q t) → IfOk result P → IfOk result Q
 if_ok_map P Q (Ok t) f h = f t h
@@ -57,7 +59,7 @@ module _ {S W M : Type 0} (names : S → List (List ℕ)) (present : S → Prese
         record {
           own = r.own;
           engine = record {
-            world = record { procedures_are = h.world.procedures_are; operators_are = h.world.operators_are; flags_are = h.world.flags_are };
+            world = h.world;
             steps = h.steps;
             base = h.base;
             choices = h.choices;
@@ -70,10 +72,10 @@ module _ {S W M : Type 0} (names : S → List (List ℕ)) (present : S → Prese
       )
 
   -- A goal took a step and failed, whatever is bound now, and whatever nodes came.
-  pub failed_engine : (e : Plain S W M) (store : S) (nodes : Vec (Node W) Global) (s : State) (n built : ℕ) → e.steps ≡ suc n → KeepsMarks (stands e.store) (stands store) → Adds e.nodes.items nodes.items → IsEngine names present stands older e s
+  pub failed_engine : (e : Plain S W M) (store : S) (nodes : Vec (Node W) Global) (s : State) (n built : ℕ) → e.steps ≡ suc n → KeepsMarks (stands e.store) (stands store) → KeepsTexts (names e.store) (names store) → Adds e.nodes.items nodes.items → IsEngine names present stands older e s
       → IsEngine names present stands older (record e { store = store; nodes = nodes; steps = n; now = now.Failing }) (record s { list = Fail ∷ []; built = built; steps = n })
-  failed_engine e store nodes s n built many keeps adds is = record {
-    world = record { procedures_are = is.world.procedures_are; operators_are = is.world.operators_are; flags_are = is.world.flags_are };
+  failed_engine e store nodes s n built many keeps texts adds is = record {
+    world = world_on texts is.world;
     steps = refl;
     base = base_kept (stands e.store) (stands store) e.base keeps is.base;
     choices = choices_on names present stands older e store nodes e.frames s.world (variables s.query) s.stack keeps adds (adds_none e.frames.items) is.choices;
@@ -94,7 +96,7 @@ module _ {S W M : Type 0} (names : S → List (List ℕ)) (present : S → Prese
     call = meaning (present e.store) w
 
     -- no step is left
-    pub spends : (new : Plain S W M) → e.steps ≡ 0 → ((v : World) → IsWorld e v → IsEngine names present stands older new (idle v)) → new.now ≡ now.Idle → Finishes s Budget (StandsFor names present stands older new)
+    pub spends : (new : Plain S W M) → e.steps ≡ 0 → ((v : World) → IsWorld names e v → IsEngine names present stands older new (idle v)) → new.now ≡ now.Idle → Finishes s Budget (StandsFor names present stands older new)
     spends new none idles rests =
         ends names present stands older new own s Budget r.same (budget_step own at.term f.mark at.behind at.list (r.engine.steps ∙ none)) rests (idles own.world r.engine.world)
 
@@ -104,7 +106,7 @@ module _ {S W M : Type 0} (names : S → List (List ℕ)) (present : S → Prese
         goal_step own at.term f.mark at.behind (e.steps - 1) v at.list (r.engine.steps ∙ one_less e.steps more) (ap (λ (t : Tree). run_value t at.behind own) at.value ∙ h)
 
     -- an error is raised, which nothing catches
-    pub raises : (new : Plain S W M) (ball : Tree) → e.steps ≢ 0 → ((v : World) → IsWorld e v → IsEngine names present stands older new (idle v)) → new.now ≡ now.Idle
+    pub raises : (new : Plain S W M) (ball : Tree) → e.steps ≢ 0 → ((v : World) → IsWorld names e v → IsEngine names present stands older new (idle v)) → new.now ≡ now.Idle
         → run_value call at.behind own ≡ Goes (record own { list = Raise ball ∷ at.behind }) → Finishes s (Uncaught ball) (StandsFor names present stands older new)
     raises new ball more idles rests h =
         let v : State = record own { list = Raise ball ∷ at.behind; steps = e.steps - 1 } in
@@ -112,7 +114,7 @@ module _ {S W M : Type 0} (names : S → List (List ℕ)) (present : S → Prese
         finishes_behind k.1 (ends names present stands older new v k.0 (Uncaught ball) k.2 (raise_step v ball at.behind refl) rests (idles own.world r.engine.world))
 
     -- an unknown procedure
-    pub raises_error : (new : Plain S W M) (ball : Tree) → e.steps ≢ 0 → ((v : World) → IsWorld e v → IsEngine names present stands older new (idle v)) → new.now ≡ now.Idle
+    pub raises_error : (new : Plain S W M) (ball : Tree) → e.steps ≢ 0 → ((v : World) → IsWorld names e v → IsEngine names present stands older new (idle v)) → new.now ≡ now.Idle
         → (k : Key) × IsUser call k × (clauses_at own.world.database.procedures k ≡ None) × (own.world.flags.unknown ≡ on_unknown.Error) × (ball ≡ existence_error k)
         → Finishes s (Uncaught ball) (StandsFor names present stands older new)
     raises_error new ball more idles rests is =
@@ -126,7 +128,7 @@ module _ {S W M : Type 0} (names : S → List (List ℕ)) (present : S → Prese
     pub fails_unknown : e.steps ≢ 0 → FailsAt own.world call → Moves names present stands older move.Goes s (record e { steps = e.steps - 1; now = now.Failing })
     fails_unknown more is =
         goes names present stands older e (record e { steps = e.steps - 1; now = now.Failing }) s r (record (fails own) { steps = e.steps - 1 }) (runs_to (fails own) more (goes_nowhere is))
-        (failed_engine e e.store e.nodes own (e.steps - 1) own.built (one_less e.steps more) (λ m p h. h) (adds_none e.nodes.items) r.engine) tt
+        (failed_engine e e.store e.nodes own (e.steps - 1) own.built (one_less e.steps more) (λ m p h. h) (λ place text h. h) (adds_none e.nodes.items) r.engine) tt
 
     -- ---- a call of a procedure with these clauses
     module _ (more : e.steps ≢ 0) (key : Key) (c : databases.Clause) (cs : List databases.Clause) (user : IsUser call key) (found : clauses_at own.world.database.procedures key ≡ Some (c ∷ cs)) where
