@@ -3,6 +3,7 @@ use Rattle.std.proofs.Common.{◌≡◌, ℕ, zero, suc, ◌-◌, ◌<◌, ◌�
 use Rattle.std.specs.List.{slice_get}
 use Rattle.iso_model.specs.Terms.Variables.{variables}
 use Rattle.iso_model.specs.Search.Walker.{State, Alternative}
+use Rattle.iso_atoms.specs.Texts.{KeepsTexts}
 use Rattle.iso_store_core.specs.Presents.{Present}
 use Rattle.iso_plain.specs.declared.bodies.Node.{Node}
 use Rattle.iso_plain.specs.declared.parts.Frame.{Frame}
@@ -11,6 +12,7 @@ use Rattle.iso_plain.specs.declared.plain.Plain.{Plain}
 use Rattle.iso_plain.specs.Standing.{Links, HasLeft, StandsForChoices, HaveRoom, links_at}
 use Rattle.iso_plain.specs.EngineStates.{IsEngine, WentBack, choice_cost, choices_cost, left_at, links_of}
 use Rattle.iso_plain.proofs.StandingLemmas.{newest, choices_keep, last_split}
+use Rattle.iso_plain.proofs.WorldLemmas.{world_on}
 use Rattle.iso_plain.proofs.CostLemmas.{choices_last, choices_on_more, left_place}
 use Rattle.std.proofs.lemmas.List.{take-append-drop}
 use Rattle.std.proofs.lemmas.Option.{slice_get_within}
@@ -56,8 +58,8 @@ module _ {S W M : Type 0} (names : S → List (List ℕ)) (present : S → Prese
   pub goes_back : (e : Plain S W M) (store : S) (nodes : Vec (Node W) Global) (frames : Vec Frame Global) (c : kept.Choice W M) (s : State) → IsEngine names present stands older e s
       → slice_get e.choices.items (length e.choices.items - 1) ≡ Some c
       → ((p : Present W) → stands e.store c.mark p → present store ≡ p) → ((p : Present W) → stands e.store c.mark p → stands store c.mark p)
-      → ((m : M) (p : Present W) → older m c.mark → stands e.store m p → stands store m p) → nodes.items ≡ take c.nodes e.nodes.items → frames.items ≡ take c.frames e.frames.items → Back e store nodes frames c s
-  goes_back e store nodes frames c s is last back same marks kept_nodes kept_frames =
+      → ((m : M) (p : Present W) → older m c.mark → stands e.store m p → stands store m p) → KeepsTexts (names e.store) (names store) → nodes.items ≡ take c.nodes e.nodes.items → frames.items ≡ take c.frames e.frames.items → Back e store nodes frames c s
+  goes_back e store nodes frames c s is last back same marks texts kept_nodes kept_frames =
       let n = newest c last is.choices in
       let h = n.here in
       let at : h.present ≡ present store = sym (back h.present h.mark) in
@@ -73,7 +75,7 @@ module _ {S W M : Type 0} (names : S → List (List ℕ)) (present : S → Prese
         below = n.below;
         is = n.is;
         went = record {
-          world = record { procedures_are = is.world.procedures_are; operators_are = is.world.operators_are; flags_are = is.world.flags_are };
+          world = world_on names e store s.world texts is.world;
           steps = is.steps;
           base = record { present = b.present; stands_for = marks e.base b.present h.newer b.stands_for; substitution = b.substitution; next = b.next };
           mark = subst (λ (p : Present W). stands store c.mark p) at (same h.present h.mark);

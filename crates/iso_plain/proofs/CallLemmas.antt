@@ -5,6 +5,7 @@ use Rattle.iso_model.specs.Terms.Trees.{Tree}
 use Rattle.iso_model.specs.Search.Databases as databases
 use Rattle.iso_model.specs.Search.Databases.{Procedures}
 use Rattle.iso_model.specs.Search.Walker.{State, Member, Alternative, Clauses, with_others}
+use Rattle.iso_atoms.specs.Texts.{KeepsTexts}
 use Rattle.iso_store_core.specs.Presents.{Present, KeepsMarks}
 use Rattle.iso_plain.specs.declared.parts.Attempt.{Attempt}
 use Rattle.iso_plain.specs.declared.parts.Choice as kept
@@ -22,6 +23,7 @@ use Rattle.iso_plain.specs.Standing.{Among, AtGoal, GainsChoice, StandsForChoice
 use Rattle.iso_plain.specs.EngineStates.{Calls, now_cost, left_at, links_of}
 use Rattle.iso_plain.proofs.CountLemmas.{left_next}
 use Rattle.iso_plain.proofs.CostLemmas.{cost_above, cost_higher, left_higher, below_most}
+use Rattle.iso_plain.proofs.WorldLemmas.{world_on}
 use Rattle.iso_plain.proofs.StandingLemmas.{choices_keep, choices_push, marks_stand}
 
 -- ---- what is left to be done
@@ -53,11 +55,11 @@ module _ {S W M : Type 0} (names : S → List (List ℕ)) (present : S → Prese
   calls_last e attempt s call c (d ∷ cs) behind t many = absurd (omega (arith, many))
 
   pub calls_later : (e : Plain S W M) (attempt : Attempt W) (s : State) (call : Tree) (c : databases.Clause) (cs : List databases.Clause) (behind : List Member) (store : S) (choices : Vec (kept.Choice W M) Global)
-      → Calls names present stands older e attempt s call c cs behind → 0 < length cs → present store ≡ present e.store → KeepsMarks (stands e.store) (stands store)
+      → Calls names present stands older e attempt s call c cs behind → 0 < length cs → present store ≡ present e.store → KeepsMarks (stands e.store) (stands store) → KeepsTexts (names e.store) (names store)
       → GainsChoice (stands e.store) (stands store) older (present e.store) (length e.nodes.items) (length e.frames.items) (left.Clauses (record attempt { clause = attempt.clause + 1 })) e.choices.items choices.items
       → Calls names present stands older (record e { store = store; choices = choices }) attempt (with_others call cs behind s) call c cs behind
-  calls_later e attempt s call c [] behind store choices t many same keeps gains = absurd (omega (arith, many))
-  calls_later e attempt s call c (d ∷ cs) behind store choices t many same keeps gains =
+  calls_later e attempt s call c [] behind store choices t many same keeps texts gains = absurd (omega (arith, many))
+  calls_later e attempt s call c (d ∷ cs) behind store choices t many same keeps texts gains =
       let b = t.base in
       let later : kept.Choice W M = record { mark = gains.mark; nodes = length e.nodes.items; frames = length e.frames.items; left = left.Clauses (record attempt { clause = attempt.clause + 1 }) } in
       let next = left_next s.world.database.procedures attempt.procedure attempt.clause c (d ∷ cs) t.clauses in
@@ -73,7 +75,7 @@ module _ {S W M : Type 0} (names : S → List (List ℕ)) (present : S → Prese
       let newer : (x : kept.Choice W M) → Among x e.choices.items → older x.mark gains.mark = λ x among.
       (let there = marks_stand x t.choices among in gains.newer x.mark there.0 there.1) in
       record {
-        world = record { procedures_are = t.world.procedures_are; operators_are = t.world.operators_are; flags_are = t.world.flags_are };
+        world = world_on names e store s.world texts t.world;
         steps = t.steps;
         base = record { present = b.present; stands_for = keeps e.base b.present b.stands_for; substitution = b.substitution; next = b.next };
         choices = rw gains.are (choices_push later a refl refl here newer old);

@@ -5,6 +5,7 @@ use Rattle.iso_model.specs.Terms.Variables.{variables}
 use Rattle.iso_model.specs.Search.Databases as databases
 use Rattle.iso_model.specs.Search.Databases.{Procedures}
 use Rattle.iso_model.specs.Search.Walker.{State, Alternative, Clauses, with_others}
+use Rattle.iso_atoms.specs.Texts.{KeepsTexts}
 use Rattle.iso_store_core.specs.Presents.{Present}
 use Rattle.iso_plain.specs.declared.procedures.Procedure.{Procedure}
 use Rattle.iso_plain.specs.declared.parts.Choice as kept
@@ -19,6 +20,7 @@ use Rattle.iso_plain.specs.EngineStates.{Calls, WentBack, Retries, left_at, link
 use Rattle.iso_plain.proofs.KeptLemmas.{kept_at}
 use Rattle.iso_plain.proofs.CountLemmas.{clauses_counted, left_next}
 use Rattle.iso_plain.proofs.CostLemmas.{left_step, choices_last}
+use Rattle.iso_plain.proofs.WorldLemmas.{world_on}
 use Rattle.iso_plain.proofs.StandingLemmas.{choices_push, choices_keep, item_is, last_split}
 
 -- The clauses behind the one at this place.
@@ -27,7 +29,7 @@ pub record Rest (ps : List Procedure) (db : Procedures) (i j : ℕ) (cs : List d
   pub next : left_at db i (j + 1) ≡ cs
   pub count : clauses_at_place ps i ≡ j + 1 + length cs
 
-pub rest_at : (ps : List Procedure) (db : Procedures) (i j : ℕ) (c : databases.Clause) (cs : List databases.Clause) → IsDatabase ps db → left_at db i j ≡ c ∷ cs → Rest ps db i j cs
+pub rest_at : {names : List (List ℕ)} (ps : List Procedure) (db : Procedures) (i j : ℕ) (c : databases.Clause) (cs : List databases.Clause) → IsDatabase names ps db → left_at db i j ≡ c ∷ cs → Rest ps db i j cs
 rest_at ps db i j c cs is h = record {
   within = (kept_at ps db i j c cs is h).within;
   next = left_next db i j c cs h;
@@ -127,7 +129,7 @@ module _ {S W M : Type 0} (names : S → List (List ℕ)) (present : S → Prese
     next_calls (y ∷ ys) choices is next some made =
         let b : Alternative = record { list = a.list; subst = a.subst; next = a.next; built = a.built; left = Clauses has.call (y ∷ ys) } in
         record {
-          world = record { procedures_are = w.world.procedures_are; operators_are = w.world.operators_are; flags_are = w.world.flags_are };
+          world = w.world;
           steps = w.steps;
           base = w.base;
           choices = subst (λ (ds : List (kept.Choice W M)). StandsForChoices (stands e.store) older e.base (left_at s.world.database.procedures) e.query.items (variables s.query) (links_of e) ds (b ∷ below)) (sym made)
@@ -156,14 +158,14 @@ module _ {S W M : Type 0} (names : S → List (List ℕ)) (present : S → Prese
     }
 
     last_calls : (xs : List databases.Clause) (store : S) (choices : Vec (kept.Choice W M) Global) → left_at s.world.database.procedures attempt.procedure attempt.clause ≡ first.clause ∷ xs → length xs ≡ 0
-        → present store ≡ present e.store → ((m : M) (p : Present W) → older m c.mark → stands e.store m p → stands store m p)
+        → present store ≡ present e.store → ((m : M) (p : Present W) → older m c.mark → stands e.store m p → stands store m p) → KeepsTexts (names e.store) (names store)
         → choices.items ≡ take (length e.choices.items - 1) e.choices.items
         → Calls names present stands older (record e { store = store; choices = choices }) attempt (with_others has.call xs a.list (went_back a below s)) has.call first.clause xs a.list
-    last_calls (y ∷ ys) store choices is none same marks made = absurd (omega (arith, none))
-    last_calls [] store choices is none same marks made =
+    last_calls (y ∷ ys) store choices is none same marks texts made = absurd (omega (arith, none))
+    last_calls [] store choices is none same marks texts made =
         let b = w.base in
         record {
-          world = record { procedures_are = w.world.procedures_are; operators_are = w.world.operators_are; flags_are = w.world.flags_are };
+          world = world_on names e store s.world texts w.world;
           steps = w.steps;
           base = record { present = b.present; stands_for = marks e.base b.present w.newer_base b.stands_for; substitution = b.substitution; next = b.next };
           choices = subst (λ (ds : List (kept.Choice W M)). StandsForChoices (stands store) older e.base (left_at s.world.database.procedures) e.query.items (variables s.query) (links_of e) ds below) (sym made)
@@ -176,12 +178,12 @@ module _ {S W M : Type 0} (names : S → List (List ℕ)) (present : S → Prese
 
     -- the newest choice was taken away with its last clause
     pub retries_last : (store : S) (choices : Vec (kept.Choice W M) Global) → clauses_at_place e.procedures.items attempt.procedure ≤ attempt.clause + 1
-        → present store ≡ present e.store → ((m : M) (p : Present W) → older m c.mark → stands e.store m p → stands store m p)
+        → present store ≡ present e.store → ((m : M) (p : Present W) → older m c.mark → stands e.store m p → stands store m p) → KeepsTexts (names e.store) (names store)
         → choices.items ≡ take (length e.choices.items - 1) e.choices.items → Retries names present stands older (record e { store = store; choices = choices }) attempt s a below
-    retries_last store choices none same marks made = record {
+    retries_last store choices none same marks texts made = record {
       call = has.call;
       clause = first.clause;
       others = first.others;
       left = has.left ∙ ap (Clauses has.call) first.is;
-      calls = last_calls first.others store choices first.is (let many = rest.count in omega (arith, many, none)) same marks made;
+      calls = last_calls first.others store choices first.is (let many = rest.count in omega (arith, many, none)) same marks texts made;
     }

@@ -3,6 +3,7 @@ use Rattle.std.proofs.Common.{◌≡◌, ℕ, suc, ◌+◌, ◌-◌, ◌<◌, �
 use Rattle.iso_model.specs.Search.Bodies.{Body, And, Or, If}
 use Rattle.iso_model.specs.Search.Walker.{State, Goal, CutTo, Alternative, AsIs, Goes, pushed, step}
 use Rattle.iso_model.specs.Search.Runs.{ComesOver}
+use Rattle.iso_atoms.specs.Texts.{KeepsTexts}
 use Rattle.iso_store_core.specs.Presents.{Present, KeepsMarks}
 use Rattle.iso_plain.specs.declared.bodies.Node.TheVariants as node
 use Rattle.iso_plain.specs.declared.parts.Todo.TheVariants as todo
@@ -85,27 +86,27 @@ module _ {S W M : Type 0} (names : S → List (List ℕ)) (present : S → Prese
 
     -- the second body's choice came
     or_ahead : (d : ℕ) (frames : Vec Frame Global) (store : S) (choices : Vec (kept.Choice W M) Global) (h : IsAt e.nodes.items f k (node.Or d)) → frames.items ≡ e.frames.items ++ body_frame f (k - 1) ∷ []
-        → present store ≡ present e.store → KeepsMarks (stands e.store) (stands store)
+        → present store ≡ present e.store → KeepsMarks (stands e.store) (stands store) → KeepsTexts (names e.store) (names store)
         → GainsChoice (stands e.store) (stands store) older (present e.store) (length e.nodes.items) (length frames.items) (left.AsIs (Some (length e.frames.items))) e.choices.items choices.items
         → IsAhead names present stands older (record e { frames = frames; store = store; choices = choices }) (record (pushed (Goal ((or_parts d h).3).second f.mark ∷ (at h.asks).behind) AsIs own) { list = (at h.asks).behind }) f.next
-    or_ahead d frames store choices h come same keeps gains =
+    or_ahead d frames store choices h come same keeps texts gains =
         let a = at h.asks in
         let p = (or_parts d h).3 in
         let one = ahead_frame names present stands older e (record own { list = a.behind }) (body_frame f (k - 1)) (Goal p.second f.mark) frames a.ahead (a_body refl p.second_body) come in
         let has = members_left names present stands older (record e { frames = frames }) (record own { list = Goal p.second f.mark ∷ a.behind }) (Some (length e.frames.items)) AsIs one in
         let two = ahead_choice names present stands older (record e { frames = frames }) (record own { list = Goal p.second f.mark ∷ a.behind }) (Some (length e.frames.items)) store choices
-        (left.AsIs (Some (length e.frames.items))) AsIs one has refl same keeps gains in
+        (left.AsIs (Some (length e.frames.items))) AsIs one has refl same keeps texts gains in
         let chain = subst (λ (q : Present W). Chain q (record { nodes = e.nodes.items; frames = frames.items }) f.next a.behind) (sym same) (chain_pushed names present stands older e frames (body_frame f (k - 1)) f.next a.behind come a.ahead.chain) in
         ahead_other names present stands older (record e { frames = frames; store = store; choices = choices }) (pushed (Goal p.second f.mark ∷ a.behind) AsIs (record own { list = Goal p.second f.mark ∷ a.behind })) (Some (length e.frames.items)) f.next a.behind two chain
 
     pub takes_either : (d : ℕ) (frames : Vec Frame Global) (store : S) (choices : Vec (kept.Choice W M) Global) (h : IsAt e.nodes.items f k (node.Or d)) → frames.items ≡ e.frames.items ++ body_frame f (k - 1) ∷ []
-        → present store ≡ present e.store → KeepsMarks (stands e.store) (stands store)
+        → present store ≡ present e.store → KeepsMarks (stands e.store) (stands store) → KeepsTexts (names e.store) (names store)
         → GainsChoice (stands e.store) (stands store) older (present e.store) (length e.nodes.items) (length frames.items) (left.AsIs (Some (length e.frames.items))) e.choices.items choices.items
         → Moves names present stands older move.Goes s (record e { frames = frames; store = store; choices = choices; now = now.Running (body_frame f (k - d)) })
-    takes_either d frames store choices h come same keeps gains =
+    takes_either d frames store choices h come same keeps texts gains =
         let a = at h.asks in
         let p = (or_parts d h).3 in
-        let ahead = or_ahead d frames store choices h come same keeps gains in
+        let ahead = or_ahead d frames store choices h come same keeps texts gains in
         let body = subst (λ (q : Present W). IsBody q e.nodes.items (k - d) p.first) (sym same) p.first_body in
         goes names present stands older e (record e { frames = frames; store = store; choices = choices; now = now.Running (body_frame f (k - d)) }) s r
         (record (pushed (Goal p.second f.mark ∷ a.behind) AsIs own) { list = Goal p.first f.mark ∷ a.behind }) (or_step d h)
@@ -142,7 +143,7 @@ module _ {S W M : Type 0} (names : S → List (List ℕ)) (present : S → Prese
         (choose_goes c d h) refl (omega (arith, many, full))
 
     module _ (c d : ℕ) (frames : Vec Frame Global) (store : S) (choices : Vec (kept.Choice W M) Global) (h : IsAt e.nodes.items f k (node.Choose c d)) (come : frames.items ≡ e.frames.items ++ body_frame f (k - 1) ∷ [])
-        (same : present store ≡ present e.store) (keeps : KeepsMarks (stands e.store) (stands store))
+        (same : present store ≡ present e.store) (keeps : KeepsMarks (stands e.store) (stands store)) (texts : KeepsTexts (names e.store) (names store))
         (gains : GainsChoice (stands e.store) (stands store) older (present e.store) (length e.nodes.items) (length frames.items) (left.AsIs (Some (length e.frames.items))) e.choices.items choices.items) where
       -- the alternative for where the condition fails
       abbrev pub other : List Alternative
@@ -155,7 +156,7 @@ module _ {S W M : Type 0} (names : S → List (List ℕ)) (present : S → Prese
           let one = ahead_frame names present stands older e (record own { list = a.behind }) (body_frame f (k - 1)) (Goal p.third f.mark) frames a.ahead (a_body refl p.third_body) come in
           let has = members_left names present stands older (record e { frames = frames }) (record own { list = Goal p.third f.mark ∷ a.behind }) (Some (length e.frames.items)) AsIs one in
           let two = ahead_choice names present stands older (record e { frames = frames }) (record own { list = Goal p.third f.mark ∷ a.behind }) (Some (length e.frames.items)) store choices
-          (left.AsIs (Some (length e.frames.items))) AsIs one has refl same keeps gains in
+          (left.AsIs (Some (length e.frames.items))) AsIs one has refl same keeps texts gains in
           let chain = subst (λ (q : Present W). Chain q (record { nodes = e.nodes.items; frames = frames.items }) f.next a.behind) (sym same) (chain_pushed names present stands older e frames (body_frame f (k - 1)) f.next a.behind come a.ahead.chain) in
           ahead_other names present stands older (record e { frames = frames; store = store; choices = choices }) (pushed (Goal p.third f.mark ∷ a.behind) AsIs (record own { list = Goal p.third f.mark ∷ a.behind })) (Some (length e.frames.items)) f.next a.behind two chain
 

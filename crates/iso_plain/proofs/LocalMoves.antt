@@ -2,6 +2,7 @@
 use Rattle.std.proofs.Common.{◌≡◌, ℕ, suc, ◌+◌, ◌<◌, ◌≤◌, ◌++◌, List, [], ◌∷◌, length, Option, Some, refl, ap, sym, ◌∙◌, subst, arith, Vec, Global}
 use Rattle.iso_model.specs.Search.Bodies.{Body}
 use Rattle.iso_model.specs.Search.Walker.{State, Goal, CutTo, Fail, AsIs, Again, pushed}
+use Rattle.iso_atoms.specs.Texts.{KeepsTexts}
 use Rattle.iso_store_core.specs.Presents.{Present, KeepsMarks}
 use Rattle.iso_plain.specs.declared.parts.Todo.TheVariants as todo
 use Rattle.iso_plain.specs.declared.parts.Frame.{Frame}
@@ -94,12 +95,12 @@ module _ {S W M : Type 0} (names : S → List (List ℕ)) (present : S → Prese
 
     -- ---- again and again
 
-    pub repeat_engine : (store : S) (choices : Vec (kept.Choice W M) Global) → present store ≡ present e.store → KeepsMarks (stands e.store) (stands store)
+    pub repeat_engine : (store : S) (choices : Vec (kept.Choice W M) Global) → present store ≡ present e.store → KeepsMarks (stands e.store) (stands store) → KeepsTexts (names e.store) (names store)
         → GainsChoice (stands e.store) (stands store) older (present e.store) (length e.nodes.items) (length e.frames.items) (left.Again next) e.choices.items choices.items
         → IsEngine names present stands older (record e { store = store; choices = choices; now = now_behind e.frames.items next }) (pushed s.list Again s)
-    repeat_engine store choices same keeps gains =
+    repeat_engine store choices same keeps texts gains =
         let has = members_left names present stands older e s next Again h in
-        let ahead = ahead_choice names present stands older e s next store choices (left.Again next) Again h has refl same keeps gains in
+        let ahead = ahead_choice names present stands older e s next store choices (left.Again next) Again h has refl same keeps texts gains in
         engine_place names present stands older (record e { store = store; choices = choices }) (pushed s.list Again s) next ahead
 
     pub repeat_falls : {old new : M → Present W → Type 0} {p : Present W} {nodes stood : ℕ} (store : S) (choices : Vec (kept.Choice W M) Global) (w : ℕ)
@@ -113,10 +114,10 @@ module _ {S W M : Type 0} (names : S → List (List ℕ)) (present : S → Prese
 
     -- ---- where a body has no solution
 
-    module _ (store : S) (choices : Vec (kept.Choice W M) Global) (same : present store ≡ present e.store) (keeps : KeepsMarks (stands e.store) (stands store))
+    module _ (store : S) (choices : Vec (kept.Choice W M) Global) (same : present store ≡ present e.store) (keeps : KeepsMarks (stands e.store) (stands store)) (texts : KeepsTexts (names e.store) (names store))
         (gains : GainsChoice (stands e.store) (stands store) older (present e.store) (length e.nodes.items) (length e.frames.items) (left.AsIs next) e.choices.items choices.items) where
       pub refute_ahead : IsAhead names present stands older (record e { store = store; choices = choices }) (pushed s.list AsIs s) next
-      refute_ahead = ahead_choice names present stands older e s next store choices (left.AsIs next) AsIs h (members_left names present stands older e s next AsIs h) refl same keeps gains
+      refute_ahead = ahead_choice names present stands older e s next store choices (left.AsIs next) AsIs h (members_left names present stands older e s next AsIs h) refl same keeps texts gains
 
       module _ (k mark : ℕ) (b : Body) (frames more : Vec Frame Global) (body : IsBody (present e.store) e.nodes.items k b) (come : frames.items ≡ e.frames.items ++ record { todo = todo.Fail; mark = mark; next = next } ∷ [])
           (come_more : more.items ≡ frames.items ++ record { todo = todo.CutBack; mark = length e.choices.items; next = Some (length e.frames.items) } ∷ []) where

@@ -6,6 +6,7 @@ use Rattle.iso_model.specs.Terms.Substitutions.{Subst, apply}
 use Rattle.iso_model.specs.Search.Bodies.{Body, Run}
 use Rattle.iso_model.specs.Search.Databases as databases
 use Rattle.iso_model.specs.Search.Walker.{State, Member, Goal, Alternative}
+use Rattle.iso_atoms.specs.Texts.{KeepsTexts}
 use Rattle.iso_store_core.specs.Presents.{Present, KeepsMarks, KeepsWords, meaning}
 use Rattle.iso_plain.specs.declared.bodies.Node.{Node}
 use Rattle.iso_plain.specs.declared.bodies.Node.TheVariants as node
@@ -20,6 +21,7 @@ use Rattle.iso_plain.proofs.EnteringLemmas.{adds_none}
 use Rattle.iso_plain.proofs.PlaceLemmas.{goal_at}
 use Rattle.iso_plain.proofs.StandingLemmas.{AddsLinks, chain_more, variables_more}
 use Rattle.iso_plain.proofs.StoppedLemmas.{base_kept, choices_on}
+use Rattle.iso_plain.proofs.WorldLemmas.{world_on}
 
 pub one_less : (n : ℕ) → n ≢ 0 → n ≡ suc (n - 1)
 one_less zero h = absurd (h refl)
@@ -60,7 +62,7 @@ module _ {S W M : Type 0} (names : S → List (List ℕ)) (present : S → Prese
   calls_engine e s f w procedure n c cs a many clauses =
       let h = a.ahead in
       record {
-        world = record { procedures_are = h.world.procedures_are; operators_are = h.world.operators_are; flags_are = h.world.flags_are };
+        world = h.world;
         steps = refl;
         base = h.base;
         choices = h.choices;
@@ -72,12 +74,12 @@ module _ {S W M : Type 0} (names : S → List (List ℕ)) (present : S → Prese
 
   -- a step was taken, bindings came and nodes, and the goals behind the goal come next
   pub ahead_step : (e : Plain S W M) (store : S) (nodes : Vec (Node W) Global) (s : State) (place : Option ℕ) (n built : ℕ) (q : Subst) → IsAhead names present stands older e s place → e.steps ≡ suc n
-      → KeepsMarks (stands e.store) (stands store) → Adds e.nodes.items nodes.items → KeepsWords (present e.store) (present store) → (present store).substitution ≡ q → (present store).next ≡ (present e.store).next
+      → KeepsMarks (stands e.store) (stands store) → KeepsTexts (names e.store) (names store) → Adds e.nodes.items nodes.items → KeepsWords (present e.store) (present store) → (present store).substitution ≡ q → (present store).next ≡ (present e.store).next
       → IsAhead names present stands older (record e { store = store; nodes = nodes; steps = n }) (record s { subst = q; built = built; steps = n }) place
-  ahead_step e store nodes s place n built q h many keeps adds words substitution next =
+  ahead_step e store nodes s place n built q h many keeps texts adds words substitution next =
       let more : AddsLinks (links_of e) (record { nodes = nodes.items; frames = e.frames.items }) = record { nodes = adds; frames = adds_none e.frames.items } in
       record {
-        world = record { procedures_are = h.world.procedures_are; operators_are = h.world.operators_are; flags_are = h.world.flags_are };
+        world = world_on names e store s.world texts h.world;
         steps = refl;
         base = base_kept (stands e.store) (stands store) e.base keeps h.base;
         choices = choices_on names present stands older e store nodes e.frames s.world (variables s.query) s.stack keeps adds (adds_none e.frames.items) h.choices;

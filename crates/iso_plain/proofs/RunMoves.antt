@@ -1,16 +1,16 @@
 -- What running a goal comes to.
-use Rattle.std.proofs.Common.{◌≡◌, ◌≢◌, ◌<◌, ◌≤◌, ◌-◌, ℕ, suc, List, [], ◌∷◌, Option, None, Some, length, refl, ap, ◌∙◌, subst, arith, inl, inr, Result, Ok, Err, IfOk, Vec, Global}
+use Rattle.std.proofs.Common.{◌≡◌, ◌≢◌, ◌<◌, ◌≤◌, ◌-◌, ℕ, suc, List, [], ◌∷◌, Option, None, Some, length, refl, ap, sym, ◌∙◌, subst, arith, inl, inr, Result, Ok, Err, IfOk, Vec, Global}
 use Rattle.iso_ops.specs.declared.settings.Unknown.TheVariants as on_unknown
 use Rattle.iso_model.specs.Terms.Trees.{Tree}
 use Rattle.iso_model.specs.Search.Databases as databases
 use Rattle.iso_model.specs.Search.Databases.{Key, clauses_at}
 use Rattle.iso_model.specs.Search.Errors.{existence_error}
-use Rattle.iso_model.specs.Search.Walker.{State, World, Member, Fail, Raise, Alternative, Goes, Budget, Uncaught, idle, fails, run_goal, run_value, tried, with_others, step}
+use Rattle.iso_model.specs.Search.Walker.{State, World, Member, Fail, Raise, Alternative, Goes, Budget, idle, fails, run_goal, run_value, tried, with_others, step}
+use Rattle.iso_model.specs.Search.Engines.{IsAwake}
 use Rattle.iso_model.specs.Search.Runs.{Finishes, ComesOver}
-use Rattle.iso_model.specs.Search.RunLaws.{finishes_behind}
-use Rattle.iso_model.specs.Search.RunLaws.SameRuns.{onward_same}
 use Rattle.iso_model.proofs.Search.CallLemmas.{clause_keeps}
 use Rattle.iso_model.specs.declared.limit.Limit.TheVariants as limit
+use Rattle.iso_atoms.specs.Texts.{KeepsTexts}
 use Rattle.iso_store_core.specs.Presents.{Present, KeepsMarks, meaning}
 use Rattle.iso_plain.specs.declared.bodies.Node.{Node}
 use Rattle.iso_plain.specs.declared.bodies.Node.TheVariants as node
@@ -21,6 +21,7 @@ use Rattle.iso_plain.specs.declared.plain.Move.{Move}
 use Rattle.iso_plain.specs.declared.plain.Move.TheVariants as move
 use Rattle.iso_plain.specs.declared.plain.Plain.{Plain}
 use Rattle.iso_plain.specs.Called.{IsUser, FailsAt}
+use Rattle.iso_plain.specs.Catches.{throwing}
 use Rattle.iso_plain.specs.Entering.{Adds}
 use Rattle.iso_plain.specs.Programs.{IsWorld}
 use Rattle.iso_plain.specs.Standing.{IsAt, HaveRoom}
@@ -32,9 +33,10 @@ use Rattle.iso_plain.proofs.EngineMoves.{spent_stands}
 use Rattle.iso_plain.proofs.EnteringLemmas.{adds_none}
 use Rattle.iso_plain.proofs.RunLemmas.{AtRun, at_run, room_less, one_less}
 use Rattle.iso_plain.proofs.SearchMoves.{goes, ends, stops, stops_here, comes_over}
-use Rattle.iso_plain.proofs.SearchSteps.{goal_step, budget_step, raise_step, procedure_goal, unknown_goal, tried_steps, others_keep, one_more}
+use Rattle.iso_plain.proofs.SearchSteps.{goal_step, budget_step, procedure_goal, unknown_goal, tried_steps, others_keep, one_more}
 use Rattle.iso_plain.proofs.StandingLemmas.{choices_length}
 use Rattle.iso_plain.proofs.StoppedLemmas.{base_kept, choices_on}
+use Rattle.iso_plain.proofs.WorldLemmas.{world_on}
 
 pub if_ok_map : {T E : Type 0} (P Q : T → Type 0) (result : Result T E) → ((t : T) → P t → Q t) → IfOk result P → IfOk result Q
 if_ok_map P Q (Ok t) f h = f t h
@@ -57,7 +59,7 @@ module _ {S W M : Type 0} (names : S → List (List ℕ)) (present : S → Prese
         record {
           own = r.own;
           engine = record {
-            world = record { procedures_are = h.world.procedures_are; operators_are = h.world.operators_are; flags_are = h.world.flags_are };
+            world = h.world;
             steps = h.steps;
             base = h.base;
             choices = h.choices;
@@ -70,10 +72,10 @@ module _ {S W M : Type 0} (names : S → List (List ℕ)) (present : S → Prese
       )
 
   -- A goal took a step and failed, whatever is bound now, and whatever nodes came.
-  pub failed_engine : (e : Plain S W M) (store : S) (nodes : Vec (Node W) Global) (s : State) (n built : ℕ) → e.steps ≡ suc n → KeepsMarks (stands e.store) (stands store) → Adds e.nodes.items nodes.items → IsEngine names present stands older e s
+  pub failed_engine : (e : Plain S W M) (store : S) (nodes : Vec (Node W) Global) (s : State) (n built : ℕ) → e.steps ≡ suc n → KeepsMarks (stands e.store) (stands store) → KeepsTexts (names e.store) (names store) → Adds e.nodes.items nodes.items → IsEngine names present stands older e s
       → IsEngine names present stands older (record e { store = store; nodes = nodes; steps = n; now = now.Failing }) (record s { list = Fail ∷ []; built = built; steps = n })
-  failed_engine e store nodes s n built many keeps adds is = record {
-    world = record { procedures_are = is.world.procedures_are; operators_are = is.world.operators_are; flags_are = is.world.flags_are };
+  failed_engine e store nodes s n built many keeps texts adds is = record {
+    world = world_on names e store s.world texts is.world;
     steps = refl;
     base = base_kept (stands e.store) (stands store) e.base keeps is.base;
     choices = choices_on names present stands older e store nodes e.frames s.world (variables s.query) s.stack keeps adds (adds_none e.frames.items) is.choices;
@@ -94,7 +96,7 @@ module _ {S W M : Type 0} (names : S → List (List ℕ)) (present : S → Prese
     call = meaning (present e.store) w
 
     -- no step is left
-    pub spends : (new : Plain S W M) → e.steps ≡ 0 → ((v : World) → IsWorld e v → IsEngine names present stands older new (idle v)) → new.now ≡ now.Idle → Finishes s Budget (StandsFor names present stands older new)
+    pub spends : (new : Plain S W M) → e.steps ≡ 0 → ((v : World) → IsWorld names e v → IsEngine names present stands older new (idle v)) → new.now ≡ now.Idle → Finishes s Budget (StandsFor names present stands older new)
     spends new none idles rests =
         ends names present stands older new own s Budget r.same (budget_step own at.term f.mark at.behind at.list (r.engine.steps ∙ none)) rests (idles own.world r.engine.world)
 
@@ -103,20 +105,18 @@ module _ {S W M : Type 0} (names : S → List (List ℕ)) (present : S → Prese
     runs_to v more h =
         goal_step own at.term f.mark at.behind (e.steps - 1) v at.list (r.engine.steps ∙ one_less e.steps more) (ap (λ (t : Tree). run_value t at.behind own) at.value ∙ h)
 
-    -- an error is raised, which nothing catches
-    pub raises : (new : Plain S W M) (ball : Tree) → e.steps ≢ 0 → ((v : World) → IsWorld e v → IsEngine names present stands older new (idle v)) → new.now ≡ now.Idle
-        → run_value call at.behind own ≡ Goes (record own { list = Raise ball ∷ at.behind }) → Finishes s (Uncaught ball) (StandsFor names present stands older new)
-    raises new ball more idles rests h =
-        let v : State = record own { list = Raise ball ∷ at.behind; steps = e.steps - 1 } in
-        let k = onward_same own v s (runs_to (record own { list = Raise ball ∷ at.behind }) more h) r.same in
-        finishes_behind k.1 (ends names present stands older new v k.0 (Uncaught ball) k.2 (raise_step v ball at.behind refl) rests (idles own.world r.engine.world))
+    -- a ball is thrown
+    pub throws : (new : Plain S W M) (ball : Tree) → e.steps ≢ 0 → run_value call at.behind own ≡ Goes (record own { list = Raise ball ∷ at.behind })
+        → IsEngine names present stands older new (throwing ball (record own { list = at.behind; steps = e.steps - 1 })) → IsAwake (phase_of new.now) → Moves names present stands older move.Goes s new
+    throws new ball more h is awake =
+        goes names present stands older e new s r (record own { list = Raise ball ∷ at.behind; steps = e.steps - 1 }) (runs_to (record own { list = Raise ball ∷ at.behind }) more h) is awake
 
-    -- an unknown procedure
-    pub raises_error : (new : Plain S W M) (ball : Tree) → e.steps ≢ 0 → ((v : World) → IsWorld e v → IsEngine names present stands older new (idle v)) → new.now ≡ now.Idle
+    -- that of an unknown procedure
+    pub throws_unknown : (new : Plain S W M) (ball : Tree) → e.steps ≢ 0
         → (k : Key) × IsUser call k × (clauses_at own.world.database.procedures k ≡ None) × (own.world.flags.unknown ≡ on_unknown.Error) × (ball ≡ existence_error k)
-        → Finishes s (Uncaught ball) (StandsFor names present stands older new)
-    raises_error new ball more idles rests is =
-        rw is.4 (raises new (existence_error is.0) more idles rests (unknown_goal call at.behind own is.0 on_unknown.Error is.1 is.2 is.3))
+        → IsEngine names present stands older new (throwing ball (record own { list = at.behind; steps = e.steps - 1 })) → IsAwake (phase_of new.now) → Moves names present stands older move.Goes s new
+    throws_unknown new ball more is engine awake =
+        throws new ball more (unknown_goal call at.behind own is.0 on_unknown.Error is.1 is.2 is.3 ∙ ap (λ (t : Tree). Goes (record own { list = Raise t ∷ at.behind })) (sym is.4)) engine awake
 
     -- one that fails
     goes_nowhere : FailsAt own.world call → run_value call at.behind own ≡ Goes (fails own)
@@ -126,7 +126,7 @@ module _ {S W M : Type 0} (names : S → List (List ℕ)) (present : S → Prese
     pub fails_unknown : e.steps ≢ 0 → FailsAt own.world call → Moves names present stands older move.Goes s (record e { steps = e.steps - 1; now = now.Failing })
     fails_unknown more is =
         goes names present stands older e (record e { steps = e.steps - 1; now = now.Failing }) s r (record (fails own) { steps = e.steps - 1 }) (runs_to (fails own) more (goes_nowhere is))
-        (failed_engine e e.store e.nodes own (e.steps - 1) own.built (one_less e.steps more) (λ m p h. h) (adds_none e.nodes.items) r.engine) tt
+        (failed_engine e e.store e.nodes own (e.steps - 1) own.built (one_less e.steps more) (λ m p h. h) (λ place text h. h) (adds_none e.nodes.items) r.engine) tt
 
     -- ---- a call of a procedure with these clauses
     module _ (more : e.steps ≢ 0) (key : Key) (c : databases.Clause) (cs : List databases.Clause) (user : IsUser call key) (found : clauses_at own.world.database.procedures key ≡ Some (c ∷ cs)) where

@@ -25,7 +25,7 @@ same_idle w = failing [] [] refl refl (record { stack = no_alternative; world = 
 
 module _ {S W M : Type 0} (names : S → List (List ℕ)) (present : S → Present W) (stands : S → M → Present W → Type 0) (older : M → M → Type 0) where
   -- an engine keeps the operators and the flags of its world
-  pub world_settings : (e : Plain S W M) (w : World) → IsWorld e w → settings_of e ≡ settings_in w
+  pub world_settings : (e : Plain S W M) (w : World) → IsWorld names e w → settings_of e ≡ settings_in w
   world_settings e w is = ap₂ (λ (ops : List Operator) (flags : Flags). (ops, flags)) is.operators_are is.flags_are
 
   -- a move goes on

@@ -35,12 +35,12 @@ returns-in_err-other-clause-stopped g c = λ s r.
     (let e = c.args.self.now in
     let same : c.push_frame.new.frames.items ≡ e.frames.items ++ [] = c.in_err-other.ensures.kept ∙ sym (append-nil e.frames.items) in
     behind_error c.from_residual.result (stops_here g.S.Store.names g.S.Store.present g.S.Store.stands g.S.Store.older (record e { frames = c.push_frame.new.frames }) r.own s r.same
-    (keeps_more g.S.Store.names g.S.Store.present g.S.Store.stands g.S.Store.older e e.store e.nodes c.push_frame.new.frames r.own.world r.own.stack (keeps_all g.S.Store.names g.S.Store.present g.S.Store.stands g.S.Store.older e r.own r.engine) (λ m p h. h) (adds_none e.nodes.items) ([], same))))
+    (keeps_more g.S.Store.names g.S.Store.present g.S.Store.stands g.S.Store.older e e.store e.nodes c.push_frame.new.frames r.own.world r.own.stack (keeps_all g.S.Store.names g.S.Store.present g.S.Store.stands g.S.Store.older e r.own r.engine) (λ m p h. h) (λ place text h. h) (adds_none e.nodes.items) ([], same))))
 
 pub returns-in_err-keep_choice-clause-stopped : goal.returns-in_err-keep_choice-clause-stopped
 returns-in_err-keep_choice-clause-stopped g c = λ s r.
     (let e = c.args.self.now in
-    let made = keeps_more g.S.Store.names g.S.Store.present g.S.Store.stands g.S.Store.older e c.keep_choice.new.store e.nodes c.push_frame.new.frames r.own.world r.own.stack (keeps_all g.S.Store.names g.S.Store.present g.S.Store.stands g.S.Store.older e r.own r.engine) c.in_err-keep_choice.ensures.marks (adds_none e.nodes.items)
+    let made = keeps_more g.S.Store.names g.S.Store.present g.S.Store.stands g.S.Store.older e c.keep_choice.new.store e.nodes c.push_frame.new.frames r.own.world r.own.stack (keeps_all g.S.Store.names g.S.Store.present g.S.Store.stands g.S.Store.older e r.own r.engine) c.in_err-keep_choice.ensures.marks c.in_err-keep_choice.ensures.names (adds_none e.nodes.items)
     (body_frame c.args.frame _ ∷ [], c.in_ok-other.ensures.pushed) in
     behind_error c.from_residual-in_err-keep_choice.result (stops_here g.S.Store.names g.S.Store.present g.S.Store.stands g.S.Store.older (record e { store = c.keep_choice.new.store; frames = c.push_frame.new.frames; choices = c.keep_choice.new.choices }) r.own s r.same
     (keeps_choices g.S.Store.names g.S.Store.present g.S.Store.stands g.S.Store.older (record e { store = c.keep_choice.new.store; frames = c.push_frame.new.frames }) c.keep_choice.new.choices r.own.world r.own.stack c.in_err-keep_choice.ensures.kept made)))
@@ -52,15 +52,15 @@ returns-in_err-behind-clause-stopped g c = λ s r.
     let frames : c.len-2.result ≡ length c.push_frame.new.frames.items = cc (c.len-2.ensures, c.push_frame.new.frames.ok.0) in
     let gains = rw (nodes, frames, c.in_ok-other.ensures.place) at c.in_ok-keep_choice.ensures.gains in
     let ahead = choose_ahead g.S.Store.names g.S.Store.present g.S.Store.stands g.S.Store.older e s c.args.frame c.args.place c.requires.now r c.args.condition c.args.next c.push_frame.new.frames c.keep_choice.new.store c.keep_choice.new.choices c.requires.there c.in_ok-other.ensures.pushed
-    c.in_ok-keep_choice.ensures.present c.in_ok-keep_choice.ensures.marks gains in
+    c.in_ok-keep_choice.ensures.present c.in_ok-keep_choice.ensures.marks c.in_ok-keep_choice.ensures.names gains in
     let same : c.push_frame-2.new.frames.items ≡ c.push_frame.new.frames.items ++ [] = c.in_err-behind.ensures.kept ∙ sym (append-nil c.push_frame.new.frames.items) in
     let mid = record e { store = c.keep_choice.new.store; frames = c.push_frame.new.frames; choices = c.keep_choice.new.choices } in
     let stack = other g.S.Store.names g.S.Store.present g.S.Store.stands g.S.Store.older e s c.args.frame c.args.place c.requires.now r c.args.condition c.args.next c.push_frame.new.frames c.keep_choice.new.store c.keep_choice.new.choices c.requires.there c.in_ok-other.ensures.pushed
-    c.in_ok-keep_choice.ensures.present c.in_ok-keep_choice.ensures.marks gains in
+    c.in_ok-keep_choice.ensures.present c.in_ok-keep_choice.ensures.marks c.in_ok-keep_choice.ensures.names gains in
     behind_error c.from_residual-in_err-behind.result
     (choose_stops g.S.Store.names g.S.Store.present g.S.Store.stands g.S.Store.older e s c.args.frame c.args.place c.requires.now r c.args.condition c.args.next c.push_frame.new.frames c.keep_choice.new.store c.keep_choice.new.choices c.requires.there c.in_ok-other.ensures.pushed
-    c.in_ok-keep_choice.ensures.present c.in_ok-keep_choice.ensures.marks gains (record mid { frames = c.push_frame-2.new.frames })
-    (keeps_more g.S.Store.names g.S.Store.present g.S.Store.stands g.S.Store.older mid mid.store mid.nodes c.push_frame-2.new.frames r.own.world stack (keeps_ahead g.S.Store.names g.S.Store.present g.S.Store.stands g.S.Store.older mid _ c.args.frame.next ahead) (λ m p h. h) (adds_none e.nodes.items) ([], same))))
+    c.in_ok-keep_choice.ensures.present c.in_ok-keep_choice.ensures.marks c.in_ok-keep_choice.ensures.names gains (record mid { frames = c.push_frame-2.new.frames })
+    (keeps_more g.S.Store.names g.S.Store.present g.S.Store.stands g.S.Store.older mid mid.store mid.nodes c.push_frame-2.new.frames r.own.world stack (keeps_ahead g.S.Store.names g.S.Store.present g.S.Store.stands g.S.Store.older mid _ c.args.frame.next ahead) (λ m p h. h) (λ place text h. h) (adds_none e.nodes.items) ([], same))))
 
 pub returns-in_err-once-clause-stopped : goal.returns-in_err-once-clause-stopped
 returns-in_err-once-clause-stopped g c = λ s r.
@@ -69,15 +69,15 @@ returns-in_err-once-clause-stopped g c = λ s r.
     let frames : c.len-2.result ≡ length c.push_frame.new.frames.items = cc (c.len-2.ensures, c.push_frame.new.frames.ok.0) in
     let gains = rw (nodes, frames, c.in_ok-other.ensures.place) at c.in_ok-keep_choice.ensures.gains in
     let ahead = choose_ahead g.S.Store.names g.S.Store.present g.S.Store.stands g.S.Store.older e s c.args.frame c.args.place c.requires.now r c.args.condition c.args.next c.push_frame.new.frames c.keep_choice.new.store c.keep_choice.new.choices c.requires.there c.in_ok-other.ensures.pushed
-    c.in_ok-keep_choice.ensures.present c.in_ok-keep_choice.ensures.marks gains in
+    c.in_ok-keep_choice.ensures.present c.in_ok-keep_choice.ensures.marks c.in_ok-keep_choice.ensures.names gains in
     let same : c.push_frame-3.new.frames.items ≡ c.push_frame.new.frames.items ++ body_frame c.args.frame _ ∷ [] = c.in_err-once.ensures.kept ∙ c.in_ok-behind.ensures.pushed in
     let mid = record e { store = c.keep_choice.new.store; frames = c.push_frame.new.frames; choices = c.keep_choice.new.choices } in
     let stack = other g.S.Store.names g.S.Store.present g.S.Store.stands g.S.Store.older e s c.args.frame c.args.place c.requires.now r c.args.condition c.args.next c.push_frame.new.frames c.keep_choice.new.store c.keep_choice.new.choices c.requires.there c.in_ok-other.ensures.pushed
-    c.in_ok-keep_choice.ensures.present c.in_ok-keep_choice.ensures.marks gains in
+    c.in_ok-keep_choice.ensures.present c.in_ok-keep_choice.ensures.marks c.in_ok-keep_choice.ensures.names gains in
     behind_error c.from_residual-in_err-once.result
     (choose_stops g.S.Store.names g.S.Store.present g.S.Store.stands g.S.Store.older e s c.args.frame c.args.place c.requires.now r c.args.condition c.args.next c.push_frame.new.frames c.keep_choice.new.store c.keep_choice.new.choices c.requires.there c.in_ok-other.ensures.pushed
-    c.in_ok-keep_choice.ensures.present c.in_ok-keep_choice.ensures.marks gains (record mid { frames = c.push_frame-3.new.frames })
-    (keeps_more g.S.Store.names g.S.Store.present g.S.Store.stands g.S.Store.older mid mid.store mid.nodes c.push_frame-3.new.frames r.own.world stack (keeps_ahead g.S.Store.names g.S.Store.present g.S.Store.stands g.S.Store.older mid _ c.args.frame.next ahead) (λ m p h. h) (adds_none e.nodes.items) (body_frame c.args.frame _ ∷ [], same))))
+    c.in_ok-keep_choice.ensures.present c.in_ok-keep_choice.ensures.marks c.in_ok-keep_choice.ensures.names gains (record mid { frames = c.push_frame-3.new.frames })
+    (keeps_more g.S.Store.names g.S.Store.present g.S.Store.stands g.S.Store.older mid mid.store mid.nodes c.push_frame-3.new.frames r.own.world stack (keeps_ahead g.S.Store.names g.S.Store.present g.S.Store.stands g.S.Store.older mid _ c.args.frame.next ahead) (λ m p h. h) (λ place text h. h) (adds_none e.nodes.items) (body_frame c.args.frame _ ∷ [], same))))
 
 pub returns-clause-moves : goal.returns-clause-moves
 returns-clause-moves g c = λ s r.
@@ -87,7 +87,7 @@ returns-clause-moves g c = λ s r.
     let frames : c.len-2.result ≡ length c.push_frame.new.frames.items = cc (c.len-2.ensures, c.push_frame.new.frames.ok.0) in
     let gains = rw (nodes, frames, c.in_ok-other.ensures.place) at c.in_ok-keep_choice.ensures.gains in
     rw (height, c.in_ok-once.ensures.place) (chooses g.S.Store.names g.S.Store.present g.S.Store.stands g.S.Store.older e s c.args.frame c.args.place c.requires.now r c.args.condition c.args.next c.push_frame.new.frames c.keep_choice.new.store c.keep_choice.new.choices c.requires.there
-    c.in_ok-other.ensures.pushed c.in_ok-keep_choice.ensures.present c.in_ok-keep_choice.ensures.marks gains c.push_frame-2.new.frames c.push_frame-3.new.frames c.in_ok-behind.ensures.pushed
+    c.in_ok-other.ensures.pushed c.in_ok-keep_choice.ensures.present c.in_ok-keep_choice.ensures.marks c.in_ok-keep_choice.ensures.names gains c.push_frame-2.new.frames c.push_frame-3.new.frames c.in_ok-behind.ensures.pushed
     (rw (height, c.in_ok-behind.ensures.place) at c.in_ok-once.ensures.pushed)))
 
 pub returns-clause-falls : goal.returns-clause-falls

@@ -21,7 +21,7 @@ returns-clause-calls g c = λ s call k ks gs t many.
     (let e = c.args.self.now in
     let nodes : c.len.result ≡ length e.nodes.items = cc (c.len.ensures, e.nodes.ok.0) in
     let frames : c.len-2.result ≡ length e.frames.items = cc (c.len-2.ensures, e.frames.ok.0) in
-    calls_later g.S.Store.names g.S.Store.present g.S.Store.stands g.S.Store.older e c.args.attempt s call k ks gs c.keep_choice.new.store c.keep_choice.new.choices t many c.in_ok-keep_choice.ensures.present c.in_ok-keep_choice.ensures.marks (rw (nodes, frames) at c.in_ok-keep_choice.ensures.gains))
+    calls_later g.S.Store.names g.S.Store.present g.S.Store.stands g.S.Store.older e c.args.attempt s call k ks gs c.keep_choice.new.store c.keep_choice.new.choices t many c.in_ok-keep_choice.ensures.present c.in_ok-keep_choice.ensures.marks c.in_ok-keep_choice.ensures.names (rw (nodes, frames) at c.in_ok-keep_choice.ensures.gains))
 
 pub returns-clause-costs : goal.returns-clause-costs
 returns-clause-costs g c =
@@ -40,6 +40,6 @@ pub returns-in_err-keep_choice-clause-kept : goal.returns-in_err-keep_choice-cla
 returns-in_err-keep_choice-clause-kept g c = λ s call k ks gs t.
     behind_error c.from_residual.result (
       t.world,
-      base_kept (g.S.Store.stands c.args.self.now.store) (g.S.Store.stands c.keep_choice.new.store) c.args.self.now.base c.in_err-keep_choice.ensures.marks t.base,
-      (variables s.query, rw c.in_err-keep_choice.ensures.kept (choices_keep (λ d p among stood. c.in_err-keep_choice.ensures.marks d.mark p stood) t.choices)),
+      base_kept (g.S.Store.stands c.args.self.now.store) (g.S.Store.stands c.keep_choice.new.store) c.args.self.now.base c.in_err-keep_choice.ensures.marks c.in_err-keep_choice.ensures.names t.base,
+      (variables s.query, rw c.in_err-keep_choice.ensures.kept (choices_keep (λ d p among stood. c.in_err-keep_choice.ensures.marks c.in_err-keep_choice.ensures.names d.mark p stood) t.choices)),
     )

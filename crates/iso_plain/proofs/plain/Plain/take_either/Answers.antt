@@ -31,12 +31,12 @@ returns-in_err-second-clause-stopped g c = λ s r.
     (let e = c.args.self.now in
     let same : c.push_frame.new.frames.items ≡ e.frames.items ++ [] = c.in_err-second.ensures.kept ∙ sym (append-nil e.frames.items) in
     behind_error c.from_residual.result (stops_here g.S.Store.names g.S.Store.present g.S.Store.stands g.S.Store.older (record e { frames = c.push_frame.new.frames }) r.own s r.same
-    (keeps_more g.S.Store.names g.S.Store.present g.S.Store.stands g.S.Store.older e e.store e.nodes c.push_frame.new.frames r.own.world r.own.stack (keeps_all g.S.Store.names g.S.Store.present g.S.Store.stands g.S.Store.older e r.own r.engine) (λ m p h. h) (adds_none e.nodes.items) ([], same))))
+    (keeps_more g.S.Store.names g.S.Store.present g.S.Store.stands g.S.Store.older e e.store e.nodes c.push_frame.new.frames r.own.world r.own.stack (keeps_all g.S.Store.names g.S.Store.present g.S.Store.stands g.S.Store.older e r.own r.engine) (λ m p h. h) (λ place text h. h) (adds_none e.nodes.items) ([], same))))
 
 pub returns-in_err-keep_choice-clause-stopped : goal.returns-in_err-keep_choice-clause-stopped
 returns-in_err-keep_choice-clause-stopped g c = λ s r.
     (let e = c.args.self.now in
-    let made = keeps_more g.S.Store.names g.S.Store.present g.S.Store.stands g.S.Store.older e c.keep_choice.new.store e.nodes c.push_frame.new.frames r.own.world r.own.stack (keeps_all g.S.Store.names g.S.Store.present g.S.Store.stands g.S.Store.older e r.own r.engine) c.in_err-keep_choice.ensures.marks (adds_none e.nodes.items)
+    let made = keeps_more g.S.Store.names g.S.Store.present g.S.Store.stands g.S.Store.older e c.keep_choice.new.store e.nodes c.push_frame.new.frames r.own.world r.own.stack (keeps_all g.S.Store.names g.S.Store.present g.S.Store.stands g.S.Store.older e r.own r.engine) c.in_err-keep_choice.ensures.marks c.in_err-keep_choice.ensures.names (adds_none e.nodes.items)
     (body_frame c.args.frame _ ∷ [], c.in_ok-second.ensures.pushed) in
     behind_error c.from_residual-in_err-keep_choice.result (stops_here g.S.Store.names g.S.Store.present g.S.Store.stands g.S.Store.older (record e { store = c.keep_choice.new.store; frames = c.push_frame.new.frames; choices = c.keep_choice.new.choices }) r.own s r.same
     (keeps_choices g.S.Store.names g.S.Store.present g.S.Store.stands g.S.Store.older (record e { store = c.keep_choice.new.store; frames = c.push_frame.new.frames }) c.keep_choice.new.choices r.own.world r.own.stack c.in_err-keep_choice.ensures.kept made)))
@@ -47,7 +47,7 @@ returns-clause-moves g c = λ s r.
     let nodes : c.len-2.result ≡ length e.nodes.items = cc (c.len-2.ensures, e.nodes.ok.0) in
     let frames : c.len-3.result ≡ length c.push_frame.new.frames.items = cc (c.len-3.ensures, c.push_frame.new.frames.ok.0) in
     takes_either g.S.Store.names g.S.Store.present g.S.Store.stands g.S.Store.older e s c.args.frame c.args.place c.requires.now r c.args.distance c.push_frame.new.frames c.keep_choice.new.store c.keep_choice.new.choices c.requires.there c.in_ok-second.ensures.pushed
-    c.in_ok-keep_choice.ensures.present c.in_ok-keep_choice.ensures.marks (rw (nodes, frames, c.in_ok-second.ensures.place) at c.in_ok-keep_choice.ensures.gains))
+    c.in_ok-keep_choice.ensures.present c.in_ok-keep_choice.ensures.marks c.in_ok-keep_choice.ensures.names (rw (nodes, frames, c.in_ok-second.ensures.place) at c.in_ok-keep_choice.ensures.gains))
 
 pub returns-clause-falls : goal.returns-clause-falls
 returns-clause-falls g c =
