@@ -41,5 +41,6 @@ pub mod LimitLemmas
 pub mod StoppedLemmas
 pub mod WorldLemmas
 pub mod ThrowLemmas
+pub mod FindLemmas
 pub mod ControlNames
 pub mod CallableLemmas

@@ -29,7 +29,7 @@ caught_below height a below ball s o less =
     ]
 
 -- no alternative stands there
-caught_above : (height : ℕ) (stack : List Alternative) (ball : Tree) (s : State) (o : Outcome) → length stack ≤ height → caught height stack ball s o ≡ o
+pub caught_above : (height : ℕ) (stack : List Alternative) (ball : Tree) (s : State) (o : Outcome) → length stack ≤ height → caught height stack ball s o ≡ o
 caught_above height [] ball s o h = refl
 caught_above height (a ∷ below) ball s o h =
     elim (cases_Bool (length below == height)) [
@@ -38,7 +38,7 @@ caught_above height (a ∷ below) ball s o h =
           ap (λ (x : Bool). if x then caught_at a.left a below ball s o else caught height below ball s o) other ∙ inner)
     ]
 
-module _ {W M : Type 0} {stands : M → Present W → Type 0} {older : M → M → Type 0} {base : M} {left_at : ℕ → ℕ → List Clause} {query : List W} {named : List ℕ} where
+module _ {W M : Type 0} (left_at : ℕ → ℕ → List Clause) (query : List W) (named : List ℕ) where
   -- The choice at this height is an alternative of the stack.
   pub record AtHeight (ks : List Alternative) (height : ℕ) (c : kept.Choice W M) : Type 0 where
     pub alternative : Alternative
@@ -49,10 +49,11 @@ module _ {W M : Type 0} {stands : M → Present W → Type 0} {older : M → M �
     pub has : HasLeft left_at query named present links c.left alternative
     pub caught_is : (ball : Tree) (s : State) (o : Outcome) → caught height ks ball s o ≡ caught_at alternative.left alternative below ball s o
 
-  at_height_by : {links : Links W} {before : List (kept.Choice W M)} {ks : List Alternative} (height : ℕ) (c d : kept.Choice W M) (a : Alternative)
+module _ {W M : Type 0} {stands : M → Present W → Type 0} {older : M → M → Type 0} {base : M} {left_at : ℕ → ℕ → List Clause} {query : List W} {named : List ℕ} where
+  at_height_by : (links : Links W) {before : List (kept.Choice W M)} {ks : List Alternative} (height : ℕ) (c d : kept.Choice W M) (a : Alternative)
       → StandsForChoice stands older base left_at query named (links_at d links) d a → StandsForChoices stands older base left_at query named (links_at d links) before ks → slice_get (before ++ d ∷ []) height ≡ Some c
-      → (height < length before → AtHeight ks height c) → (height ≡ length before) ⊎ (height < length before) → AtHeight (a ∷ ks) height c
-  at_height_by {before = before} {ks = ks} height c d a here below there inner (inr less) =
+      → (height < length before → AtHeight left_at query named ks height c) → (height ≡ length before) ⊎ (height < length before) → AtHeight left_at query named (a ∷ ks) height c
+  at_height_by links {before = before} {ks = ks} height c d a here below there inner (inr less) =
       let h = inner less in
       let many = choices_length below in
       let back : suc (length ks - suc height) ≡ suc (length ks) - suc height = omega (arith, less, many) in
@@ -65,7 +66,7 @@ module _ {W M : Type 0} {stands : M → Present W → Type 0} {older : M → M �
         has = h.has;
         caught_is = λ ball s o. caught_below height a ks ball s o (omega (arith, less, many)) ∙ h.caught_is ball s o;
       }
-  at_height_by {links = links} {before = before} {ks = ks} height c d a here below there inner (inl same) =
+  at_height_by links {before = before} {ks = ks} height c d a here below there inner (inl same) =
       let many = choices_length below in
       let none : suc (length ks) - suc height ≡ 0 = omega (arith, same, many) in
       let is : d ≡ c = some_same (sym (last_is before d) ∙ (ap (slice_get (before ++ d ∷ [])) (sym same) ∙ there)) in
@@ -80,17 +81,18 @@ module _ {W M : Type 0} {stands : M → Present W → Type 0} {older : M → M �
       }
 
   pub at_height : {links : Links W} {cs : List (kept.Choice W M)} {ks : List Alternative} (height : ℕ) (c : kept.Choice W M) → slice_get cs height ≡ Some c
-      → StandsForChoices stands older base left_at query named links cs ks → AtHeight ks height c
+      → StandsForChoices stands older base left_at query named links cs ks → AtHeight left_at query named ks height c
   at_height height c at none_kept = absurd (cc)
-  at_height height c at (one_kept {before = before} {c = d} {a = a} {ks = ks} is on here newer below) =
+  at_height {links = links} height c at (one_kept {before = before} {c = d} {a = a} {ks = ks} is on here newer below) =
       let there : slice_get (before ++ d ∷ []) height ≡ Some c = subst (λ (ds : List (kept.Choice W M)). slice_get ds height ≡ Some c) is at in
       let within = slice_get_within (before ++ d ∷ []) height c there in
       let long = length_last before d in
       let shorter : (height < length before) → slice_get before height ≡ Some c = λ less. sym (at_front before d height less) ∙ there in
-      at_height_by height c d a here below there (λ less. at_height height c (shorter less) below) (eq-or-lt_of_le (omega (arith, within, long)))
+      at_height_by links height c d a here below there (λ less. at_height height c (shorter less) below) (eq-or-lt_of_le (omega (arith, within, long)))
 
+module _ {W M : Type 0} {left_at : ℕ → ℕ → List Clause} {query : List W} {named : List ℕ} where
   -- one that is the entry of a catch, at which the ball is caught
-  pub entry_catches : {links : Links W} {cs : List (kept.Choice W M)} {ks : List Alternative} (height : ℕ) (c : kept.Choice W M) (at : AtHeight ks height c) → IsEntry c.left
+  pub entry_catches : {ks : List Alternative} (height : ℕ) (c : kept.Choice W M) (at : AtHeight left_at query named ks height c) → IsEntry c.left
       → (catcher : Tree) × (recovery : Tree) × (at.alternative.left ≡ Catching catcher recovery)
   entry_catches height c at entry = by_left c.left entry at.has where
     by_left : (l : engine.Left W) → IsEntry l → HasLeft left_at query named at.present at.links l at.alternative → (catcher : Tree) × (recovery : Tree) × (at.alternative.left ≡ Catching catcher recovery)
@@ -100,7 +102,7 @@ module _ {W M : Type 0} {stands : M → Present W → Type 0} {older : M → M �
     by_left (left.Clauses attempt) e has = absurd e
 
   -- any other
-  pub other_passes : {links : Links W} {cs : List (kept.Choice W M)} {ks : List Alternative} (height : ℕ) (c : kept.Choice W M) (at : AtHeight ks height c) → (IsEntry c.left → ⊥)
+  pub other_passes : {ks : List Alternative} (height : ℕ) (c : kept.Choice W M) (at : AtHeight left_at query named ks height c) → (IsEntry c.left → ⊥)
       → (ball : Tree) (s : State) (o : Outcome) → caught_at at.alternative.left at.alternative at.below ball s o ≡ o
   other_passes height c at none ball s o = by_left c.left none at.has where
     passes : (l : Left) → at.alternative.left ≡ l → caught_at l at.alternative at.below ball s o ≡ o → caught_at at.alternative.left at.alternative at.below ball s o ≡ o
@@ -110,3 +112,14 @@ module _ {W M : Type 0} {stands : M → Present W → Type 0} {older : M → M �
     by_left (left.AsIs place) e has = passes AsIs has.is refl
     by_left (left.Again place) e has = passes Again has.is refl
     by_left (left.Clauses attempt) e has = passes (Clauses has.call (left_at attempt.procedure attempt.clause)) has.left refl
+
+-- a choice that is no entry of a catch
+pub no_entry : {W M : Type 0} (choices : List (kept.Choice W M)) (f : Frame) (c : kept.Choice W M) → slice_get choices f.mark ≡ Some c → ((goal : W) (place : Option ℕ) → c.left ≡ left.Catching goal place → ⊥) → IsEndOfCatch choices f → ⊥
+no_entry {W} {M} choices f c there none h =
+    let same : h.choice ≡ c = some_same (sym h.stands ∙ there) in
+    by_left c.left none (subst (λ (d : kept.Choice W M). IsEntry d.left) same h.entry) where
+      by_left : (l : engine.Left W) → ((goal : W) (place : Option ℕ) → l ≡ left.Catching goal place → ⊥) → IsEntry l → ⊥
+      by_left (left.Catching goal place) never e = never goal place refl
+      by_left (left.AsIs place) never e = e
+      by_left (left.Again place) never e = e
+      by_left (left.Clauses attempt) never e = e

@@ -45,13 +45,10 @@ impl<S: Store + Drop> Plain<S> {
     fn ends_catch(&self, frame: Frame) -> bool
         ensures { MatchBool result (IsEndOfCatch self.entry.now.choices.items frame) (IsEndOfCatch self.entry.now.choices.items frame → ⊥) }
     {
-        if !matches!(frame.todo, Todo::Leave) {
+        if !matches!(frame.todo, Todo::Leave) || frame.mark >= self.choices.len() {
             return false;
         }
-        match self.choices.get(frame.mark) {
-            Some(choice) => matches!(choice.left, Left::Catching(_, _)),
-            None => false,
-        }
+        matches!(self.choices[frame.mark].left, Left::Catching(_, _))
     }
 
     /// The place of the choice of the catch to which a ball goes that is thrown past the members from this place on.
