@@ -1,16 +1,17 @@
 -- The engine, as it goes on with the members from a place on, and as frames and choices come and go.
-use Rattle.std.proofs.Common.{◌≡◌, ℕ, zero, suc, ◌-◌, ◌≤◌, ◌++◌, List, [], ◌∷◌, length, take, drop, Option, Some, None, refl, ap, sym, ◌∙◌, subst, arith, Vec, Global}
+use Rattle.std.proofs.Common.{◌≡◌, ℕ, zero, suc, ◌-◌, ◌≤◌, ◌++◌, List, [], ◌∷◌, length, take, drop, Option, Some, None, true, refl, ap, sym, ◌∙◌, subst, arith, Vec, Global}
 use Rattle.std.specs.Prelude.{option_map}
 use Rattle.std.specs.List.{slice_get}
 use Rattle.iso_atoms.specs.Texts.{KeepsTexts}
+use Rattle.iso_model.specs.Terms.Trees.{arities_fit}
 use Rattle.iso_model.specs.Terms.TermOf.{term_of}
 use Rattle.iso_model.specs.Terms.Variables.{variables}
 use Rattle.iso_model.specs.Search.Bodies.{Body}
-use Rattle.iso_model.specs.Search.Walker.{State, World, Member, Goal, CutTo, Fail, Alternative, pushed, cut_back, shortened}
+use Rattle.iso_model.specs.Search.Walker.{State, World, Member, Goal, CutTo, Fail, Leave, Alternative, pushed, cut_back, shortened}
 use Rattle.iso_model.specs.Search.Walker as walker
 use Rattle.iso_store_core.specs.Presents.{Present, KeepsMarks}
+use Rattle.iso_model.specs.declared.pauses.Ball.{Ball}
 use Rattle.iso_plain.specs.declared.bodies.Node.{Node}
-use Rattle.iso_plain.specs.declared.parts.Todo.{Todo}
 use Rattle.iso_plain.specs.declared.parts.Todo.TheVariants as todo
 use Rattle.iso_plain.specs.declared.parts.Frame.{Frame}
 use Rattle.iso_plain.specs.declared.parts.Left.{Left}
@@ -19,7 +20,8 @@ use Rattle.iso_plain.specs.declared.parts.Now.{Now}
 use Rattle.iso_plain.specs.declared.parts.Now.TheVariants as now
 use Rattle.iso_plain.specs.declared.plain.Plain.{Plain}
 use Rattle.iso_plain.specs.Next.{IsPlace, now_behind}
-use Rattle.iso_plain.specs.Standing.{Among, Links, IsBefore, IsBody, IsMember, a_body, a_cut, a_failure, Chain, leads, HasMembers, HasLeft, StandsForChoice, StandsForChoices, GainsChoice, HaveRoom, GoesOn, DoesNext, entered_at}
+use Rattle.iso_plain.specs.Standing.{Among, Links, IsBefore, IsBody, IsMember, a_body, a_cut, a_failure, an_end, Chain, leads, HasMembers, HasLeft, StandsForChoice, StandsForChoices, GainsChoice, HaveRoom, GoesOn, DoesNext, entered_at, most_numbers, numbers_a_step}
+use Rattle.iso_plain.specs.Catches.{throwing}
 use Rattle.iso_plain.specs.EngineStates.{IsEngine, IsAhead, Keeps, left_at, links_of}
 use Rattle.iso_plain.proofs.EnteringLemmas.{words_same, adds_none}
 use Rattle.iso_plain.proofs.StandingLemmas.{AddsLinks, at_last, chain_more, chain_place, choices_more, choices_keep, choices_length, choices_push, lower, marks_stand, next_behind}
@@ -27,11 +29,6 @@ use Rattle.iso_plain.proofs.StoppedLemmas.{base_kept}
 use Rattle.iso_plain.proofs.WorldLemmas.{world_on}
 
 -- ---- what a frame asks for
-
-todo_number : Todo → ℕ
-todo_number (todo.Body k) = 0
-todo_number todo.CutBack = 1
-todo_number todo.Fail = 2
 
 -- a body at this place
 pub body_of : {W : Type 0} (p : Present W) (nodes : List (Node W)) (f : Frame) (m : Member) (k : ℕ) → f.todo ≡ todo.Body k → IsMember p nodes f m → (b : Body) × (m ≡ Goal b f.mark) × IsBody p nodes k b
@@ -41,16 +38,25 @@ body_of p nodes f m k asks (a_body {i = i} {b = b} is body) =
     (b, refl, subst (λ (n : ℕ). IsBody p nodes n b) place body)
 body_of p nodes f m k asks (a_cut is) = absurd (let other : todo.CutBack ≡ todo.Body k = sym is ∙ asks in cc)
 body_of p nodes f m k asks (a_failure is) = absurd (let other : todo.Fail ≡ todo.Body k = sym is ∙ asks in cc)
+body_of p nodes f m k asks (an_end is) = absurd (let other : todo.Leave ≡ todo.Body k = sym is ∙ asks in cc)
 
 pub cut_of : {W : Type 0} (p : Present W) (nodes : List (Node W)) (f : Frame) (m : Member) → f.todo ≡ todo.CutBack → IsMember p nodes f m → m ≡ CutTo f.mark
 cut_of p nodes f m asks (a_body {i = i} is body) = absurd (let other : todo.Body i ≡ todo.CutBack = sym is ∙ asks in cc)
 cut_of p nodes f m asks (a_cut is) = refl
 cut_of p nodes f m asks (a_failure is) = absurd (let other : todo.Fail ≡ todo.CutBack = sym is ∙ asks in cc)
+cut_of p nodes f m asks (an_end is) = absurd (let other : todo.Leave ≡ todo.CutBack = sym is ∙ asks in cc)
 
 pub fail_of : {W : Type 0} (p : Present W) (nodes : List (Node W)) (f : Frame) (m : Member) → f.todo ≡ todo.Fail → IsMember p nodes f m → m ≡ Fail
 fail_of p nodes f m asks (a_body {i = i} is body) = absurd (let other : todo.Body i ≡ todo.Fail = sym is ∙ asks in cc)
 fail_of p nodes f m asks (a_cut is) = absurd (let other : todo.CutBack ≡ todo.Fail = sym is ∙ asks in cc)
 fail_of p nodes f m asks (a_failure is) = refl
+fail_of p nodes f m asks (an_end is) = absurd (let other : todo.Leave ≡ todo.Fail = sym is ∙ asks in cc)
+
+pub end_of : {W : Type 0} (p : Present W) (nodes : List (Node W)) (f : Frame) (m : Member) → f.todo ≡ todo.Leave → IsMember p nodes f m → m ≡ Leave f.mark
+end_of p nodes f m asks (a_body {i = i} is body) = absurd (let other : todo.Body i ≡ todo.Leave = sym is ∙ asks in cc)
+end_of p nodes f m asks (a_cut is) = absurd (let other : todo.CutBack ≡ todo.Leave = sym is ∙ asks in cc)
+end_of p nodes f m asks (a_failure is) = absurd (let other : todo.Fail ≡ todo.Leave = sym is ∙ asks in cc)
+end_of p nodes f m asks (an_end is) = refl
 
 place_before : (frames : List Frame) (place : Option ℕ) → IsPlace frames place → IsBefore place (length frames)
 place_before frames None within = tt
@@ -132,6 +138,18 @@ module _ {S W M : Type 0} (names : S → List (List ℕ)) (present : S → Prese
     next = next_behind (present e.store) (links_of e) e.query.items (option_map (λ b. term_of b.term) e.raised) s place s.list refl h.chain h.goes;
   }
 
+  -- the ball that is kept is thrown, past the members from a place on
+  pub engine_throws : (e : Plain S W M) (s : State) (place : Option ℕ) (ball : Ball) → arities_fit (term_of ball.term) ≡ true → IsAhead names present stands older e s place
+      → IsEngine names present stands older (record e { raised = Some ball; now = now.Raising place }) (throwing (term_of ball.term) s)
+  engine_throws e s place ball fits h = record {
+    world = h.world;
+    steps = h.steps;
+    base = h.base;
+    choices = h.choices;
+    room = h.room;
+    next = (term_of ball.term, s.list, refl, h.chain, refl, fits);
+  }
+
   pub keeps_ahead : (e : Plain S W M) (s : State) (place : Option ℕ) → IsAhead names present stands older e s place → Keeps names present stands older e s.world s.stack
   keeps_ahead e s place h = (h.world, h.base, (variables s.query, h.choices))
 
@@ -177,12 +195,12 @@ module _ {S W M : Type 0} (names : S → List (List ℕ)) (present : S → Prese
   members_left e s place l h = record { on = record { subst_is = h.goes.subst; next_is = h.goes.next; chain = h.chain; words = h.goes.words }; is = refl }
 
   -- a choice with this left to be tried of the members ahead
-  pub ahead_choice : (e : Plain S W M) (s : State) (place : Option ℕ) (store : S) (choices : Vec (kept.Choice W M) Global) (left : Left W) (l : walker.Left) → IsAhead names present stands older e s place
-      → HasLeft (left_at s.world.database.procedures) e.query.items (variables s.query) (present e.store) (links_of e) left (record { list = s.list; subst = s.subst; next = s.next; built = s.built; left = l }) → entered_at l ≡ 0
+  pub ahead_left : (e : Plain S W M) (s : State) (place : Option ℕ) (store : S) (choices : Vec (kept.Choice W M) Global) (left : Left W) (l : walker.Left) → IsAhead names present stands older e s place
+      → HasLeft (left_at s.world.database.procedures) e.query.items (variables s.query) (present e.store) (links_of e) left (record { list = s.list; subst = s.subst; next = s.next; built = s.built; left = l }) → s.next + numbers_a_step * (e.steps + entered_at l) ≤ most_numbers
       → present store ≡ present e.store → KeepsMarks (stands e.store) (stands store) → KeepsTexts (names e.store) (names store)
       → GainsChoice (stands e.store) (stands store) older (present e.store) (length e.nodes.items) (length e.frames.items) left e.choices.items choices.items
       → IsAhead names present stands older (record e { store = store; choices = choices }) (pushed s.list l s) place
-  ahead_choice e s place store choices left l h has none same keeps texts gains =
+  ahead_left e s place store choices left l h has space same keeps texts gains =
       let b = h.base in
       let c : kept.Choice W M = record { mark = gains.mark; nodes = length e.nodes.items; frames = length e.frames.items; left = left } in
       let a : Alternative = record { list = s.list; subst = s.subst; next = s.next; built = s.built; left = l } in
@@ -202,10 +220,19 @@ module _ {S W M : Type 0} (names : S → List (List ℕ)) (present : S → Prese
         steps = h.steps;
         base = base_kept (stands e.store) (stands store) e.base keeps b;
         choices = rw gains.are (choices_push c a refl refl here newer old);
-        room = ((let room = h.goes.room in let steps = h.steps in omega (arith, room, steps, none)), h.room);
+        room = (space, h.room);
         goes = subst (λ (p : Present W). GoesOn p e.query.items (pushed s.list l s)) (sym same) goes;
         chain = subst (λ (p : Present W). Chain p (links_of e) place s.list) (sym same) h.chain;
       }
+
+  -- one at which no clause is entered and no ball is caught
+  pub ahead_choice : (e : Plain S W M) (s : State) (place : Option ℕ) (store : S) (choices : Vec (kept.Choice W M) Global) (left : Left W) (l : walker.Left) → IsAhead names present stands older e s place
+      → HasLeft (left_at s.world.database.procedures) e.query.items (variables s.query) (present e.store) (links_of e) left (record { list = s.list; subst = s.subst; next = s.next; built = s.built; left = l }) → entered_at l ≡ 0
+      → present store ≡ present e.store → KeepsMarks (stands e.store) (stands store) → KeepsTexts (names e.store) (names store)
+      → GainsChoice (stands e.store) (stands store) older (present e.store) (length e.nodes.items) (length e.frames.items) left e.choices.items choices.items
+      → IsAhead names present stands older (record e { store = store; choices = choices }) (pushed s.list l s) place
+  ahead_choice e s place store choices left l h has none same keeps texts gains =
+      ahead_left e s place store choices left l h has (let room = h.goes.room in let steps = h.steps in omega (arith, room, steps, none)) same keeps texts gains
 
   -- ---- choices that go
 

@@ -23,8 +23,8 @@ use Rattle.iso_plain.specs.Standing.{Among, AtGoal, GainsChoice, StandsForChoice
 use Rattle.iso_plain.specs.EngineStates.{Calls, now_cost, left_at, links_of}
 use Rattle.iso_plain.proofs.CountLemmas.{left_next}
 use Rattle.iso_plain.proofs.CostLemmas.{cost_above, cost_higher, left_higher, below_most}
-use Rattle.iso_plain.proofs.StandingLemmas.{choices_keep, choices_push, marks_stand}
 use Rattle.iso_plain.proofs.WorldLemmas.{world_on}
+use Rattle.iso_plain.proofs.StandingLemmas.{choices_keep, choices_push, marks_stand}
 
 -- ---- what is left to be done
 

@@ -20,8 +20,8 @@ use Rattle.iso_plain.specs.EngineStates.{Calls, WentBack, Retries, left_at, link
 use Rattle.iso_plain.proofs.KeptLemmas.{kept_at}
 use Rattle.iso_plain.proofs.CountLemmas.{clauses_counted, left_next}
 use Rattle.iso_plain.proofs.CostLemmas.{left_step, choices_last}
-use Rattle.iso_plain.proofs.StandingLemmas.{choices_push, choices_keep, item_is, last_split}
 use Rattle.iso_plain.proofs.WorldLemmas.{world_on}
+use Rattle.iso_plain.proofs.StandingLemmas.{choices_push, choices_keep, item_is, last_split}
 
 -- The clauses behind the one at this place.
 pub record Rest (ps : List Procedure) (db : Procedures) (i j : ℕ) (cs : List databases.Clause) : Type 0 where
@@ -29,7 +29,7 @@ pub record Rest (ps : List Procedure) (db : Procedures) (i j : ℕ) (cs : List d
   pub next : left_at db i (j + 1) ≡ cs
   pub count : clauses_at_place ps i ≡ j + 1 + length cs
 
-pub rest_at : (ps : List Procedure) (db : Procedures) (i j : ℕ) (c : databases.Clause) (cs : List databases.Clause) → IsDatabase ps db → left_at db i j ≡ c ∷ cs → Rest ps db i j cs
+pub rest_at : {names : List (List ℕ)} (ps : List Procedure) (db : Procedures) (i j : ℕ) (c : databases.Clause) (cs : List databases.Clause) → IsDatabase names ps db → left_at db i j ≡ c ∷ cs → Rest ps db i j cs
 rest_at ps db i j c cs is h = record {
   within = (kept_at ps db i j c cs is h).within;
   next = left_next db i j c cs h;

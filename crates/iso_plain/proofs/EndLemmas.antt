@@ -1,10 +1,11 @@
 -- What is true behind an answer, behind a ball that nothing catches, and in an idle engine.
-use Rattle.std.proofs.Common.{◌≡◌, ℕ, zero, suc, ◌<◌, List, [], ◌∷◌, length, get_or, map, Some, None, true, refl, ap, sym, ◌∙◌, subst, arith, Vec, Global}
+use Rattle.std.proofs.Common.{◌≡◌, ℕ, zero, suc, ◌<◌, List, [], ◌∷◌, length, get_or, map, Option, Some, None, true, refl, ap, sym, ◌∙◌, subst, arith, Vec, Global}
 use Rattle.std.specs.Prelude.{option_map}
 use Rattle.iso_model.specs.Terms.Variables.{variables}
+use Rattle.iso_model.specs.Terms.Trees.{Tree}
 use Rattle.iso_model.specs.Terms.TermOf.{term_of}
 use Rattle.iso_model.specs.Terms.Substitutions.{Subst}
-use Rattle.iso_model.specs.Search.Walker.{State, World, Answered, NoMore, Uncaught, fails, idle}
+use Rattle.iso_model.specs.Search.Walker.{State, World, Member, Raise, Answered, NoMore, Uncaught, fails, idle}
 use Rattle.iso_model.specs.declared.terms.Term.{Term}
 use Rattle.iso_model.specs.declared.pauses.Ball.{Ball}
 use Rattle.iso_model.specs.declared.pauses.Pause.TheVariants as pause
@@ -15,6 +16,7 @@ use Rattle.iso_plain.specs.declared.plain.Move.TheVariants as move
 use Rattle.iso_plain.specs.declared.plain.Plain.{Plain}
 use Rattle.iso_plain.specs.Standing.{AreVariables, no_word, one_word, DoesNext}
 use Rattle.iso_plain.specs.Programs.{IsWorld}
+use Rattle.iso_plain.specs.Catches.{IsUncaught}
 use Rattle.iso_plain.specs.EngineStates.{IsEngine, Represents, Moves, phase_of, links_of}
 use Rattle.iso_plain.proofs.SearchSteps.{last_step, answer_step, raise_step}
 use Rattle.iso_plain.proofs.SearchMoves.{ends, gives}
@@ -60,19 +62,20 @@ module _ {S W M : Type 0} (names : S → List (List ℕ)) (present : S → Prese
   -- ---- a ball
 
   -- a ball that is to be raised was kept
-  pub raised_some : (e : Plain S W M) (s : State) → e.now ≡ now.Raising → Represents names present stands older e s → e.raised ≡ None → ⊥
-  raised_some e s doing r none =
-      let next = next_is e r.own now.Raising doing r.engine in
-      cc (ap (option_map (λ b. term_of b.term)) none, next.2)
+  pub raised_some : (e : Plain S W M) (s : State) (place : Option ℕ) → e.now ≡ now.Raising place → Represents names present stands older e s → e.raised ≡ None → ⊥
+  raised_some e s place doing r none =
+      let next = next_is e r.own (now.Raising place) doing r.engine in
+      cc (ap (option_map (λ b. term_of b.term)) none, next.4)
 
-  pub raises_engine : (e new : Plain S W M) (s : State) (ball : Ball) → e.now ≡ now.Raising → e.raised ≡ Some ball
+  -- nothing catches it
+  pub uncaught_engine : (e new : Plain S W M) (s : State) (place : Option ℕ) (ball : Ball) (r : Represents names present stands older e s) → e.now ≡ now.Raising place → e.raised ≡ Some ball
       → ((w : World) → IsWorld names e w → IsEngine names present stands older new (idle w)) → new.now ≡ now.Idle
-      → Represents names present stands older e s → Moves names present stands older (move.Pauses (pause.Uncaught ball)) s new
-  raises_engine e new s ball doing kept cleared rests r =
+      → ((t : Tree) (behind : List Member) → r.own.list ≡ Raise t ∷ behind → IsUncaught t behind r.own) → Moves names present stands older (move.Pauses (pause.Uncaught ball)) s new
+  uncaught_engine e new s place ball r doing kept cleared rests uncaught =
       let o = r.own in
-      let next = next_is e o now.Raising doing r.engine in
-      let same : term_of ball.term ≡ next.0 = cc (ap (option_map (λ b. term_of b.term)) kept, next.2) in
-      (rw same (ends names present stands older new o s (Uncaught next.0) r.same (raise_step o next.0 [] next.1) rests (cleared o.world r.engine.world)), ap phase_of rests)
+      let next = next_is e o (now.Raising place) doing r.engine in
+      let same : term_of ball.term ≡ next.0 = cc (ap (option_map (λ b. term_of b.term)) kept, next.4) in
+      (rw same (ends names present stands older new o s (Uncaught next.0) r.same (raise_step o next.0 next.1 next.2 ∙ uncaught next.0 next.1 next.2) rests (cleared o.world r.engine.world)), ap phase_of rests)
 
   -- ---- an idle engine
 

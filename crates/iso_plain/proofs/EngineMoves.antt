@@ -27,7 +27,7 @@ module _ {S W M : Type 0} (names : S → List (List ℕ)) (present : S → Prese
   awake_stands now.Failing e s awake r = r
   awake_stands now.Answering e s awake r = r
   awake_stands (now.Running frame) e s awake r = r
-  awake_stands now.Raising e s awake r = r
+  awake_stands (now.Raising place) e s awake r = r
   awake_stands (now.Spent limit) e s awake r = absurd awake
 
   pub ready_stands : (n : Now) (e : Plain S W M) (s : State) → phase_of n ≡ engines.Ready → StandsBy names present stands older n e s → Represents names present stands older e s
@@ -35,7 +35,7 @@ module _ {S W M : Type 0} (names : S → List (List ℕ)) (present : S → Prese
   ready_stands now.Failing e s ready r = r
   ready_stands now.Answering e s ready r = r
   ready_stands (now.Running frame) e s ready r = r
-  ready_stands now.Raising e s ready r = r
+  ready_stands (now.Raising place) e s ready r = r
   ready_stands (now.Spent limit) e s ready r = absurd (cc)
 
   -- an engine keeps the operators and the flags of the states that it stands for
@@ -47,7 +47,7 @@ module _ {S W M : Type 0} (names : S → List (List ℕ)) (present : S → Prese
   stands_settings now.Failing e s r = represents_settings e s r
   stands_settings now.Answering e s r = represents_settings e s r
   stands_settings (now.Running frame) e s r = represents_settings e s r
-  stands_settings now.Raising e s r = represents_settings e s r
+  stands_settings (now.Raising place) e s r = represents_settings e s r
   stands_settings (now.Spent limit) e s r = r.settings
 
   pub represents_stands : (n : Now) (e : Plain S W M) (s : State) → Represents names present stands older e s → StandsBy names present stands older n e s
@@ -55,7 +55,7 @@ module _ {S W M : Type 0} (names : S → List (List ℕ)) (present : S → Prese
   represents_stands now.Failing e s r = r
   represents_stands now.Answering e s r = r
   represents_stands (now.Running frame) e s r = r
-  represents_stands now.Raising e s r = r
+  represents_stands (now.Raising place) e s r = r
   represents_stands (now.Spent limit) e s r = stops_here names present stands older e r.own s r.same (keeps_all names present stands older e r.own r.engine)
 
   -- a spent engine
@@ -64,7 +64,7 @@ module _ {S W M : Type 0} (names : S → List (List ℕ)) (present : S → Prese
   spent_stands limit now.Failing e s h stopped = absurd (cc h)
   spent_stands limit now.Answering e s h stopped = absurd (cc h)
   spent_stands limit (now.Running frame) e s h stopped = absurd (cc h)
-  spent_stands limit now.Raising e s h stopped = absurd (cc h)
+  spent_stands limit (now.Raising place) e s h stopped = absurd (cc h)
   spent_stands limit (now.Spent k) e s h stopped = stopped
 
   spent_behind : (limit : Limit) (n : Now) (e : Plain S W M) (s t : State) → phase_of n ≡ engines.Spent limit → settings_of e ≡ settings_in s.world → Quiet s t → StandsBy names present stands older n e t → StandsBy names present stands older n e s
@@ -72,7 +72,7 @@ module _ {S W M : Type 0} (names : S → List (List ℕ)) (present : S → Prese
   spent_behind limit now.Failing e s t h same q stopped = absurd (cc h)
   spent_behind limit now.Answering e s t h same q stopped = absurd (cc h)
   spent_behind limit (now.Running frame) e s t h same q stopped = absurd (cc h)
-  spent_behind limit now.Raising e s t h same q stopped = absurd (cc h)
+  spent_behind limit (now.Raising place) e s t h same q stopped = absurd (cc h)
   spent_behind limit (now.Spent k) e s t h same q stopped = stopped_behind names present stands older e s t same q stopped
 
   -- what comes behind steps without an event

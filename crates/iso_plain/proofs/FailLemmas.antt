@@ -2,8 +2,9 @@
 use Rattle.std.proofs.Common.{◌≡◌, ◌+◌, ℕ, suc, List, [], ◌∷◌, length, Option, Some, None, refl, ap, ◌∙◌, subst, arith}
 use Rattle.std.specs.Prelude.{option_map}
 use Rattle.std.specs.List.{slice_get}
+use Rattle.iso_model.specs.Terms.Trees.{Tree}
 use Rattle.iso_model.specs.Terms.TermOf.{term_of}
-use Rattle.iso_model.specs.Search.Walker.{State, World, Member, Alternative, AsIs, Again, Fail, NoMore, Budget, idle, pushed, tried, tried_clause, with_others}
+use Rattle.iso_model.specs.Search.Walker.{State, World, Member, Alternative, AsIs, Again, Catching, Fail, NoMore, Budget, fails, idle, pushed, tried, tried_clause, with_others}
 use Rattle.iso_model.specs.Search.Engines.{IsAwake}
 use Rattle.iso_model.specs.declared.pauses.Pause.TheVariants as pause
 use Rattle.iso_model.proofs.Search.CallLemmas.{clause_keeps}
@@ -21,7 +22,7 @@ use Rattle.iso_plain.specs.Programs.{IsWorld}
 use Rattle.iso_plain.specs.Next.{now_at, now_behind, now_entered}
 use Rattle.iso_plain.specs.EngineStates.{IsEngine, Represents, Keeps, Stopped, Retries, Moves, went_back, phase_of, links_of}
 use Rattle.iso_plain.proofs.StandingLemmas.{no_choices}
-use Rattle.iso_plain.proofs.SearchSteps.{retry_step, resume_step, again_step, spent_step, last_step, others_keep}
+use Rattle.iso_plain.proofs.SearchSteps.{retry_step, resume_step, pass_step, again_step, spent_step, last_step, others_keep}
 use Rattle.iso_plain.proofs.SearchMoves.{goes, ends, stops}
 
 awake_at : (f : Option Frame) → IsAwake (phase_of (now_at f))
@@ -68,6 +69,12 @@ module _ {S W M : Type 0} (names : S → List (List ℕ)) (present : S → Prese
         let first = failing e r.own is r.engine in
         let steps : (r.own).steps ≡ suc new.steps = (let all = r.engine.steps in omega (arith, all, more)) in
         goes names present stands older e new s r (record (pushed a.list Again (went_back a below r.own)) { steps = new.steps }) (again_step r.own first.0 a below new.steps first.1 stack left steps) engine awake
+
+    -- nothing is left at the entry of a catch
+    pub passes_on : (catcher recovery : Tree) → a.left ≡ Catching catcher recovery → IsEngine names present stands older new (fails (went_back a below r.own)) → IsAwake (phase_of new.now) → Moves names present stands older move.Goes s new
+    passes_on catcher recovery left engine awake =
+        let first = failing e r.own is r.engine in
+        goes names present stands older e new s r (fails (went_back a below r.own)) (pass_step r.own first.0 a below catcher recovery first.1 stack left) engine awake
 
     -- no step is left for that
     pub spends_on : a.left ≡ Again → e.steps ≡ 0 → IsEngine names present stands older new (idle (r.own).world) → new.now ≡ now.Idle → Moves names present stands older (move.Pauses pause.Budget) s new

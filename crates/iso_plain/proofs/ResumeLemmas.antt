@@ -2,19 +2,20 @@
 use Rattle.std.proofs.Common.{◌≡◌, ℕ, suc, ◌+◌, ◌-◌, ◌<◌, ◌≤◌, ◌++◌, List, [], ◌∷◌, length, take, Option, refl, ap, sym, ◌∙◌, subst, arith, Vec, Global}
 use Rattle.iso_atoms.specs.Texts.{KeepsTexts}
 use Rattle.iso_model.specs.Terms.Variables.{variables}
-use Rattle.iso_model.specs.Search.Walker.{State, Alternative, AsIs, Again, pushed}
+use Rattle.iso_model.specs.Search.Walker.{State, Alternative, AsIs, Again, fails, pushed}
 use Rattle.iso_model.specs.Search.Walker as walker
 use Rattle.iso_store_core.specs.Presents.{Present}
 use Rattle.iso_plain.specs.declared.parts.Left.{Left}
 use Rattle.iso_plain.specs.declared.parts.Left.TheVariants as left
 use Rattle.iso_plain.specs.declared.parts.Choice as kept
+use Rattle.iso_plain.specs.declared.parts.Now.TheVariants as now
 use Rattle.iso_plain.specs.declared.plain.Plain.{Plain}
-use Rattle.iso_plain.specs.Costs.{frame_costs}
+use Rattle.iso_plain.specs.Costs.{frame_costs, rest_cost}
 use Rattle.iso_plain.specs.Next.{now_behind}
 use Rattle.iso_plain.specs.Standing.{Chain, HasMembers, HasLeft, StandsForChoices, HaveRoom, GoesOn}
 use Rattle.iso_plain.specs.EngineStates.{IsEngine, IsAhead, WentBack, went_back, left_at, links_of, choice_cost, choices_cost, cost}
 use Rattle.iso_plain.proofs.AheadLemmas.{engine_place}
-use Rattle.iso_plain.proofs.CostLemmas.{choices_last, behind_cost}
+use Rattle.iso_plain.proofs.CostLemmas.{choices_last, behind_cost, left_step}
 use Rattle.iso_plain.proofs.RunLemmas.{room_less}
 use Rattle.iso_plain.proofs.StandingLemmas.{choices_push, choices_keep, last_split}
 use Rattle.iso_plain.proofs.WorldLemmas.{world_on}
@@ -68,6 +69,32 @@ module _ {S W M : Type 0} (names : S → List (List ℕ)) (present : S → Prese
         let new = ap (choices_cost e.procedures.items costs) made in
         let next = behind_cost place h.on.chain in
         omega (arith, old, here, new, next)
+
+    -- the choice is gone, and nothing was left at it
+    pub passed : (store : S) (choices : Vec (kept.Choice W M) Global) → ((m : M) (p : Present W) → older m c.mark → stands e.store m p → stands store m p) → KeepsTexts (names e.store) (names store)
+        → choices.items ≡ take (length e.choices.items - 1) e.choices.items → IsEngine names present stands older (record e { store = store; choices = choices; now = now.Failing }) (fails (went_back a below s))
+    passed store choices marks texts made =
+        let b = w.base in
+        record {
+          world = world_on texts w.world;
+          steps = w.steps;
+          base = record { present = b.present; stands_for = marks e.base b.present w.newer_base b.stands_for; substitution = b.substitution; next = b.next };
+          choices = subst (λ (ds : List (kept.Choice W M)). StandsForChoices (stands store) older e.base (left_at s.world.database.procedures) e.query.items (variables s.query) (links_of e) ds below) (sym made)
+              (choices_keep (λ d p among stood. marks d.mark p (w.newer d among) stood) w.stands_below);
+          room = w.room.1;
+          next = ([], refl);
+        }
+
+    pub passed_cost : (goal : W) (place : Option ℕ) (store : S) (choices : Vec (kept.Choice W M) Global) → 0 < length e.choices.items → c.left ≡ left.Catching goal place → choices.items ≡ take (length e.choices.items - 1) e.choices.items
+        → cost (record e { store = store; choices = choices; now = now.Failing }) < choices_cost e.procedures.items (frame_costs e.frames.items) e.choices.items
+    passed_cost goal place store choices some catches made =
+        let costs = frame_costs e.frames.items in
+        let before = take (length e.choices.items - 1) e.choices.items in
+        let old = ap (choices_cost e.procedures.items costs) (choices_are some) ∙ choices_last e.procedures.items costs before c in
+        let here = ap (choice_cost e.procedures.items costs) catches in
+        let step = left_step 0 (rest_cost costs place) in
+        let new = ap (choices_cost e.procedures.items costs) made in
+        omega (arith, old, here, step, new)
 
     -- the choice stays, and a step was taken
     pub repeated : (place : Option ℕ) (n : ℕ) → 0 < length e.choices.items → c.left ≡ left.Again place → n + 1 ≡ e.steps

@@ -1,15 +1,14 @@
 -- What running a goal comes to.
-use Rattle.std.proofs.Common.{◌≡◌, ◌≢◌, ◌<◌, ◌≤◌, ◌-◌, ℕ, suc, List, [], ◌∷◌, Option, None, Some, length, refl, ap, ◌∙◌, subst, arith, inl, inr, Result, Ok, Err, IfOk, Vec, Global}
+use Rattle.std.proofs.Common.{◌≡◌, ◌≢◌, ◌<◌, ◌≤◌, ◌-◌, ℕ, suc, List, [], ◌∷◌, Option, None, Some, length, refl, ap, sym, ◌∙◌, subst, arith, inl, inr, Result, Ok, Err, IfOk, Vec, Global}
 use Rattle.iso_ops.specs.declared.settings.Unknown.TheVariants as on_unknown
 use Rattle.iso_atoms.specs.Texts.{KeepsTexts}
 use Rattle.iso_model.specs.Terms.Trees.{Tree}
 use Rattle.iso_model.specs.Search.Databases as databases
 use Rattle.iso_model.specs.Search.Databases.{Key, clauses_at}
 use Rattle.iso_model.specs.Search.Errors.{existence_error}
-use Rattle.iso_model.specs.Search.Walker.{State, World, Member, Fail, Raise, Alternative, Goes, Budget, Uncaught, idle, fails, run_goal, run_value, tried, with_others, step}
+use Rattle.iso_model.specs.Search.Walker.{State, World, Member, Fail, Raise, Alternative, Goes, Budget, idle, fails, run_goal, run_value, tried, with_others, step}
+use Rattle.iso_model.specs.Search.Engines.{IsAwake}
 use Rattle.iso_model.specs.Search.Runs.{Finishes, ComesOver}
-use Rattle.iso_model.specs.Search.RunLaws.{finishes_behind}
-use Rattle.iso_model.specs.Search.RunLaws.SameRuns.{onward_same}
 use Rattle.iso_model.proofs.Search.CallLemmas.{clause_keeps}
 use Rattle.iso_model.specs.declared.limit.Limit.TheVariants as limit
 use Rattle.iso_store_core.specs.Presents.{Present, KeepsMarks, meaning}
@@ -22,6 +21,7 @@ use Rattle.iso_plain.specs.declared.plain.Move.{Move}
 use Rattle.iso_plain.specs.declared.plain.Move.TheVariants as move
 use Rattle.iso_plain.specs.declared.plain.Plain.{Plain}
 use Rattle.iso_plain.specs.Called.{IsUser, FailsAt}
+use Rattle.iso_plain.specs.Catches.{throwing}
 use Rattle.iso_plain.specs.Entering.{Adds}
 use Rattle.iso_plain.specs.Programs.{IsWorld}
 use Rattle.iso_plain.specs.Standing.{IsAt, HaveRoom}
@@ -33,7 +33,7 @@ use Rattle.iso_plain.proofs.EngineMoves.{spent_stands}
 use Rattle.iso_plain.proofs.EnteringLemmas.{adds_none}
 use Rattle.iso_plain.proofs.RunLemmas.{AtRun, at_run, room_less, one_less}
 use Rattle.iso_plain.proofs.SearchMoves.{goes, ends, stops, stops_here, comes_over}
-use Rattle.iso_plain.proofs.SearchSteps.{goal_step, budget_step, raise_step, procedure_goal, unknown_goal, tried_steps, others_keep, one_more}
+use Rattle.iso_plain.proofs.SearchSteps.{goal_step, budget_step, procedure_goal, unknown_goal, tried_steps, others_keep, one_more}
 use Rattle.iso_plain.proofs.StandingLemmas.{choices_length}
 use Rattle.iso_plain.proofs.StoppedLemmas.{base_kept, choices_on}
 use Rattle.iso_plain.proofs.WorldLemmas.{world_on}
@@ -105,20 +105,18 @@ module _ {S W M : Type 0} (names : S → List (List ℕ)) (present : S → Prese
     runs_to v more h =
         goal_step own at.term f.mark at.behind (e.steps - 1) v at.list (r.engine.steps ∙ one_less e.steps more) (ap (λ (t : Tree). run_value t at.behind own) at.value ∙ h)
 
-    -- an error is raised, which nothing catches
-    pub raises : (new : Plain S W M) (ball : Tree) → e.steps ≢ 0 → ((v : World) → IsWorld names e v → IsEngine names present stands older new (idle v)) → new.now ≡ now.Idle
-        → run_value call at.behind own ≡ Goes (record own { list = Raise ball ∷ at.behind }) → Finishes s (Uncaught ball) (StandsFor names present stands older new)
-    raises new ball more idles rests h =
-        let v : State = record own { list = Raise ball ∷ at.behind; steps = e.steps - 1 } in
-        let k = onward_same own v s (runs_to (record own { list = Raise ball ∷ at.behind }) more h) r.same in
-        finishes_behind k.1 (ends names present stands older new v k.0 (Uncaught ball) k.2 (raise_step v ball at.behind refl) rests (idles own.world r.engine.world))
+    -- a ball is thrown
+    pub throws : (new : Plain S W M) (ball : Tree) → e.steps ≢ 0 → run_value call at.behind own ≡ Goes (record own { list = Raise ball ∷ at.behind })
+        → IsEngine names present stands older new (throwing ball (record own { list = at.behind; steps = e.steps - 1 })) → IsAwake (phase_of new.now) → Moves names present stands older move.Goes s new
+    throws new ball more h is awake =
+        goes names present stands older e new s r (record own { list = Raise ball ∷ at.behind; steps = e.steps - 1 }) (runs_to (record own { list = Raise ball ∷ at.behind }) more h) is awake
 
-    -- an unknown procedure
-    pub raises_error : (new : Plain S W M) (ball : Tree) → e.steps ≢ 0 → ((v : World) → IsWorld names e v → IsEngine names present stands older new (idle v)) → new.now ≡ now.Idle
+    -- that of an unknown procedure
+    pub throws_unknown : (new : Plain S W M) (ball : Tree) → e.steps ≢ 0
         → (k : Key) × IsUser call k × (clauses_at own.world.database.procedures k ≡ None) × (own.world.flags.unknown ≡ on_unknown.Error) × (ball ≡ existence_error k)
-        → Finishes s (Uncaught ball) (StandsFor names present stands older new)
-    raises_error new ball more idles rests is =
-        rw is.4 (raises new (existence_error is.0) more idles rests (unknown_goal call at.behind own is.0 on_unknown.Error is.1 is.2 is.3))
+        → IsEngine names present stands older new (throwing ball (record own { list = at.behind; steps = e.steps - 1 })) → IsAwake (phase_of new.now) → Moves names present stands older move.Goes s new
+    throws_unknown new ball more is engine awake =
+        throws new ball more (unknown_goal call at.behind own is.0 on_unknown.Error is.1 is.2 is.3 ∙ ap (λ (t : Tree). Goes (record own { list = Raise t ∷ at.behind })) (sym is.4)) engine awake
 
     -- one that fails
     goes_nowhere : FailsAt own.world call → run_value call at.behind own ≡ Goes (fails own)

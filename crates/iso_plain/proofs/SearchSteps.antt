@@ -9,7 +9,7 @@ use Rattle.iso_model.specs.Search.Bodies.{Body, Cut, Run, And, Or, If, Choose}
 use Rattle.iso_model.specs.Search.Databases.{Clause, Key, clauses_at}
 use Rattle.iso_model.specs.Search.BuiltIns.{Reply, reply}
 use Rattle.iso_model.specs.declared.built_ins.BuiltIn.{BuiltIn}
-use Rattle.iso_model.specs.Search.Walker.{State, Member, Goal, CutTo, Fail, Raise, Alternative, Left, AsIs, Again, Clauses, pushed, cut_back, Outcome, Goes, Gives, Ends, Answered, NoMore, Budget, Uncaught, charged, paid, fails, values, under, entered, with_others, tried, retried, backtracked, unknown_called, called, replied, selected, run_goal, run_value, thrown, clause_size, step_list, step}
+use Rattle.iso_model.specs.Search.Walker.{State, Member, Goal, CutTo, Fail, Leave, Raise, Alternative, Left, AsIs, Again, Clauses, Catching, pushed, cut_back, Outcome, Goes, Gives, Ends, Answered, NoMore, Budget, charged, paid, fails, values, under, entered, with_others, tried, retried, backtracked, unknown_called, called, replied, selected, run_goal, run_value, thrown, clause_size, step_list, step}
 use Rattle.iso_plain.specs.Called.{IsBuiltIn, IsUser}
 use Rattle.iso_plain.specs.EngineStates.{went_back}
 
@@ -32,6 +32,11 @@ retry_step s rest a below call cs list stack left = back_step s rest a below (Cl
 pub resume_step : (s : State) (rest : List Member) (a : Alternative) (below : List Alternative) → s.list ≡ Fail ∷ rest → s.stack ≡ a ∷ below → a.left ≡ AsIs → step s ≡ Goes (went_back a below s)
 resume_step s rest a below list stack left = back_step s rest a below AsIs list stack left
 
+-- nothing is left at the entry of a catch
+pub pass_step : (s : State) (rest : List Member) (a : Alternative) (below : List Alternative) (catcher recovery : Tree) → s.list ≡ Fail ∷ rest → s.stack ≡ a ∷ below → a.left ≡ Catching catcher recovery
+    → step s ≡ Goes (fails (went_back a below s))
+pass_step s rest a below catcher recovery list stack left = back_step s rest a below (Catching catcher recovery) list stack left
+
 -- and again, for which a step is needed
 pub again_step : (s : State) (rest : List Member) (a : Alternative) (below : List Alternative) (n : ℕ) → s.list ≡ Fail ∷ rest → s.stack ≡ a ∷ below → a.left ≡ Again → s.steps ≡ suc n
     → step s ≡ Goes (record (pushed a.list Again (went_back a below s)) { steps = n })
@@ -51,12 +56,13 @@ last_step s rest list stack = step_is s (Fail ∷ rest) list ∙ ap (λ (xs : Li
 pub answer_step : (s : State) → s.list ≡ [] → step s ≡ Gives (Answered (values s)) (fails s)
 answer_step s list = step_is s [] list
 
-thrown_is : (ball : Tree) (ms : List Member) (s : State) → thrown ball ms s ≡ Ends (Uncaught ball) s.world
-thrown_is ball [] s = refl
-thrown_is ball (m ∷ ms) s = thrown_is ball ms s
+pub raise_step : (s : State) (ball : Tree) (rest : List Member) → s.list ≡ Raise ball ∷ rest → step s ≡ thrown ball rest s
+raise_step s ball rest list = step_is s (Raise ball ∷ rest) list
 
-pub raise_step : (s : State) (ball : Tree) (rest : List Member) → s.list ≡ Raise ball ∷ rest → step s ≡ Ends (Uncaught ball) s.world
-raise_step s ball rest list = step_is s (Raise ball ∷ rest) list ∙ thrown_is ball rest s
+-- ---- the end of a catch's goal
+
+pub leave_step : (s : State) (height : ℕ) (rest : List Member) → s.list ≡ Leave height ∷ rest → step s ≡ Goes (record s { list = rest })
+leave_step s height rest list = step_is s (Leave height ∷ rest) list
 
 -- ---- a body
 

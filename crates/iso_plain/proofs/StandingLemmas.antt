@@ -14,7 +14,7 @@ use Rattle.iso_plain.specs.declared.bodies.Node.{Node}
 use Rattle.iso_plain.specs.declared.parts.Frame.{Frame}
 use Rattle.iso_plain.specs.declared.parts.Choice as kept
 use Rattle.iso_plain.specs.Nodes.{At, IsTree, runs, cuts, joins, branches, commits, chooses}
-use Rattle.iso_plain.specs.Standing.{Among, Links, IsBody, IsMember, a_body, a_cut, a_failure, Chain, ends, leads, First, StandsOn, StandsForChoice, StandsForChoices, none_kept, one_kept, links_at, Newest, AreVariables, no_word, one_word, GoesOn, DoesNext}
+use Rattle.iso_plain.specs.Standing.{Among, Links, IsBody, IsMember, a_body, a_cut, a_failure, an_end, Chain, ends, leads, First, StandsOn, StandsForChoice, StandsForChoices, none_kept, one_kept, links_at, Newest, AreVariables, no_word, one_word, GoesOn, DoesNext}
 use Rattle.iso_plain.specs.Entering.{Adds}
 use Rattle.iso_plain.proofs.NodeLemmas.{tree_keep}
 
@@ -64,11 +64,13 @@ pub member_more : {W : Type 0} {p q : Present W} {nodes : List (Node W)} {f : Fr
 member_more more keeps (a_body is body) = a_body is (body_more more keeps body)
 member_more more keeps (a_cut is) = a_cut is
 member_more more keeps (a_failure is) = a_failure is
+member_more more keeps (an_end is) = an_end is
 
 pub member_keep : {W : Type 0} {p q : Present W} {nodes : List (Node W)} {f : Frame} {m : Member} → KeepsWords p q → IsMember p nodes f m → IsMember q nodes f m
 member_keep keeps (a_body is body) = a_body is (body_keep keeps body)
 member_keep keeps (a_cut is) = a_cut is
 member_keep keeps (a_failure is) = a_failure is
+member_keep keeps (an_end is) = an_end is
 
 -- nodes and frames that were added at the end
 pub record AddsLinks {W : Type 0} (old new : Links W) : Type 0 where

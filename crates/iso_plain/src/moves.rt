@@ -1,5 +1,5 @@
 //! The engine's moves: each is some steps of the standard's search (7.7).
-ghost use Rattle.std.specs.Prelude.{◌≡◌, ◌≢◌, ℕ, ◌<◌, ◌≤◌, ◌+◌, true, false, IfOk, OnOk, OnErr, Ok, List, ◌∷◌, length, Err};
+ghost use Rattle.std.specs.Prelude.{◌≡◌, ◌≢◌, ℕ, ◌<◌, ◌≤◌, ◌+◌, true, false, IfOk, OnOk, OnErr, Ok, List, ◌∷◌, length, Option, Err};
 ghost use Rattle.iso_model.specs.Terms.Trees.{Tree};
 ghost use Rattle.iso_model.specs.Search.Databases as databases;
 ghost use Rattle.iso_model.specs.Search.Databases.{Procedures};
@@ -20,9 +20,9 @@ use std::alloc::AllocError;
 /// The clause at this place of the procedure at this place.
 fn clause_at(procedures: &[Procedure], place: usize, index: usize) -> &Clause
     requires within { place < length procedures.now }
-    requires found { (db : Procedures) × (c : databases.Clause) × (cs : List databases.Clause) × IsDatabase procedures.now db × (left_at db place index ≡ c ∷ cs) }
-    ensures { (db : Procedures) (c : databases.Clause) (cs : List databases.Clause) → IsDatabase procedures.now db
-        → left_at db place index ≡ c ∷ cs → IsClause result.now c }
+    requires found { (names : List (List ℕ)) × (db : Procedures) × (c : databases.Clause) × (cs : List databases.Clause) × IsDatabase names procedures.now db × (left_at db place index ≡ c ∷ cs) }
+    ensures { (names : List (List ℕ)) (db : Procedures) (c : databases.Clause) (cs : List databases.Clause) → IsDatabase names procedures.now db
+        → left_at db place index ≡ c ∷ cs → IsClause names result.now c }
 {
     let procedure = &procedures[place];
     &procedure.clauses[index]
