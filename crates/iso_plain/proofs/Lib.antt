@@ -14,6 +14,7 @@ pub mod RenamingLemmas
 pub mod PrepareLemmas
 pub mod ProgramLemmas
 pub mod WorldLemmas
+pub mod AddingLemmas
 pub mod KeptLemmas
 pub mod CountLemmas
 pub mod EngineLemmas

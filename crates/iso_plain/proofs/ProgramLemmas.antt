@@ -1,5 +1,5 @@
 -- The database as the engine keeps it: how a procedure is found, and how a clause comes to it.
-use Rattle.std.proofs.Common.{◌≡◌, ◌<◌, ◌≤◌, ◌+◌, ◌==◌, ◌⊎◌, ℕ, zero, suc, List, [], ◌∷◌, ◌++◌, length, get_or, set, refl, sym, ap, ap₂, ◌∙◌, arith, Bool, true, false, ◌&&◌, Some, None, inl, inr, position, nat_lt, length-append}
+use Rattle.std.proofs.Common.{◌≡◌, ◌<◌, ◌≤◌, ◌+◌, ◌==◌, ◌⊎◌, ℕ, zero, suc, List, [], ◌∷◌, ◌++◌, length, get_or, set, refl, sym, ap, ap₂, ◌∙◌, arith, Bool, true, false, ◌&&◌, Option, Some, None, option_map, if◌then◌else◌, inl, inr, position, nat_lt, length-append}
 use Rattle.std.specs.String.{string_bytes}
 use Rattle.std.specs.Str.{bytes_eq}
 use Rattle.std.specs.List.{position_or_len}
@@ -50,6 +50,27 @@ none_from p xs h =
       | inl below ↦ (let less = ltb-true _ _ below in absurd (omega arith))
       | inr above ↦ rw above refl
     ]
+
+-- a place that was found is one of the list
+pub position_within : {X : Type 0} (p : X → Bool) (xs : List X) (n : ℕ) → position p xs ≡ Some n → n < length xs
+position_within p xs n h = (position_of p xs n h).1
+
+-- the first place, by a list's first element
+pub position_cons : {X : Type 0} (p : X → Bool) (x : X) (xs : List X) → position p (x ∷ xs) ≡ (if p x then Some 0 else option_map suc (position p xs))
+position_cons p x xs =
+    elim (cases_Bool (p x)) [
+      | inl here ↦ position_from p (x ∷ xs) 0 (here_first p x xs here) (omega arith) ∙ sym (ap (λ b. if b then Some 0 else option_map suc (position p xs)) here)
+      | inr later ↦ by_rest (position p xs) refl later ∙ sym (ap (λ b. if b then Some 0 else option_map suc (position p xs)) later)
+    ] where
+  by_rest : (o : Option ℕ) → position p xs ≡ o → p x ≡ false → position p (x ∷ xs) ≡ option_map suc o
+  by_rest (Some n) h later =
+      let at = position_of p xs n h in
+      let first = later_first p x xs later in
+      position_from p (x ∷ xs) (suc n) (omega (arith, first, at.0)) (omega (arith, at.1))
+  by_rest None h later =
+      let past = position_none p xs h in
+      let first = later_first p x xs later in
+      none_from p (x ∷ xs) (omega (arith, first, past))
 
 -- where a list's first place that passes is, by its first element
 pub found_cases : {X : Type 0} (p : X → Bool) (x : X) (xs : List X) (n : ℕ) → position p (x ∷ xs) ≡ Some n
