@@ -17,4 +17,4 @@ module _ {S W M : Type 0} (names : S → List (List ℕ)) (present : S → Prese
   -- the engine, however far its store came
   pub keeps_met : (e : Plain S W M) (goal : W) (ball : Tree) (s : State) (place : Option ℕ) (store : S) → MeetsBall names present stands older e goal ball s place → KeepsTexts (names e.store) (names store)
       → KeepsMarks (stands e.store) (stands store) → Keeps names present stands older (record e { store = store }) s.world s.stack
-  keeps_met e goal ball s place store h texts keeps = keeps_store names present stands older e store s.world s.stack texts keeps (keeps_ahead names present stands older e s place h.ahead)
+  keeps_met e goal ball s place store h texts keeps = keeps_store names present stands older e store s.world s.stack (keeps_ahead names present stands older e s place h.ahead) keeps texts
