@@ -40,3 +40,5 @@ pub mod ReplyMoves
 pub mod LimitLemmas
 pub mod StoppedLemmas
 pub mod ControlNames
+pub mod ConvertedLemmas
+pub mod ConversionLemmas

@@ -11,6 +11,7 @@ pub mod procedures;
 pub mod calls;
 pub mod control;
 pub mod controls;
+pub mod conversion;
 pub mod ends;
 pub mod entries;
 pub mod goals;
