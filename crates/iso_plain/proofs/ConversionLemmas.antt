@@ -1,23 +1,24 @@
 -- Goals are converted part by part, where they stand.
-use Rattle.std.proofs.Common.{◌≡◌, ℕ, ◌+◌, ◌-◌, ◌*◌, ◌<◌, List, [], ◌∷◌, ◌++◌, length, true, refl, sym, ap, ap₂, ◌∙◌, subst, arith, length-append, Option, Some, None, codes}
-use Rattle.iso_model.specs.Terms.Trees.{Tree, Variable}
+use Rattle.std.proofs.Common.{◌≡◌, ℕ, ◌+◌, ◌-◌, ◌*◌, ◌<◌, List, [], ◌∷◌, ◌++◌, length, true, refl, sym, ap, ap₂, ◌∙◌, subst, arith, length-append, Option, Some, None}
+use Rattle.iso_model.specs.Terms.Trees.{Tree}
 use Rattle.iso_model.specs.Terms.Sizes.{size}
 use Rattle.iso_model.specs.Terms.Substitutions.{apply}
 use Rattle.iso_model.specs.Search.Bodies as bodies
-use Rattle.iso_model.specs.Search.Bodies.{Body, Run, one, two, converted, map_body}
-use Rattle.iso_store_core.specs.Presents.{Present, Makes, meaning}
+use Rattle.iso_model.specs.Search.Bodies.{Body, Run, two, converted, map_body}
+use Rattle.iso_store_core.specs.Presents.{Present, meaning}
 use Rattle.iso_prep.specs.declared.connectives.Connective.{Connective}
 use Rattle.iso_prep.specs.declared.connectives.Connective.TheVariants as connective
 use Rattle.iso_prep.specs.Connectives.{text_of}
 use Rattle.iso_prep.specs.Readings.{NoChoice}
 use Rattle.iso_plain.specs.declared.bodies.Node.{Node}
 use Rattle.iso_plain.specs.declared.bodies.Node.TheVariants as node
+use Rattle.iso_plain.specs.declared.conversion.Construct.{Construct}
 use Rattle.iso_plain.specs.declared.conversion.Task.{Task}
 use Rattle.iso_plain.specs.declared.conversion.Task.TheVariants.{Second, Join, Next, Other, Choose}
 use Rattle.iso_plain.specs.Entering.{Extends}
 use Rattle.iso_plain.specs.Nodes.{IsTree, EndsWith, runs, cuts, joins, branches, commits, chooses}
 use Rattle.iso_plain.specs.Standing.{IsBody}
-use Rattle.iso_plain.specs.Conversions.{joined, chosen, joint, IsValue, IsLeaf, Does, Leads, Works, task_load, tasks_load, next_load, GoesOn}
+use Rattle.iso_plain.specs.Conversions.{joined, chosen, joint, IsConstruct, IsValue, IsLeaf, Does, Leads, Works, task_load, tasks_load, next_load, GoesOn}
 use Rattle.iso_plain.proofs.StandingLemmas.{at_last, tree_more, tree_keep, tree_within}
 use Rattle.iso_plain.proofs.ConvertedLemmas.{converted_joined}
 
@@ -154,13 +155,6 @@ leaf_ends q nodes (node.Or d) b h = absurd h
 leaf_ends q nodes (node.If d) b h = absurd h
 leaf_ends q nodes (node.Choose c d) b h = absurd h
 
--- a variable is called
-pub variable_leaf : {W : Type 0} (p q : Present W) (w v : W) (n : ℕ) → meaning p w ≡ Variable n → Makes p q v (one (codes "call") (p.term w))
-    → (b : Body) × (converted (meaning p w) ≡ Some b) × IsLeaf q (node.Run v) b
-variable_leaf p q w v n is made =
-    let value : meaning q v ≡ one (codes "call") (Variable n) = ap₂ apply made.substitution made.term ∙ ap (one (codes "call")) is in
-    (Run (one (codes "call") (Variable n)), ap converted is, made.holds, ap Run (sym value))
-
 -- a part without parts was appended
 pub leaf_read : {W : Type 0} {p q : Present W} (more : Extends p q 0) (nodes new : List (Node W)) (tasks : List (Task W)) (t : Tree) (x : Node W) (b : Body) (whole : Option Body)
     → IsLeaf q x b → converted t ≡ Some b → new ≡ nodes ++ x ∷ [] → Leads p nodes tasks (converted t) whole → GoesOn q new tasks None whole (1 + 4 * size t + tasks_load p tasks)
@@ -173,26 +167,26 @@ leaf_read {p = p} {q = q} more nodes new tasks t x b whole leaf is come leads =
     }
 
 -- the first of two parts is read next
-module _ {W : Type 0} (q : Present W) (nodes : List (Node W)) (xs ys : List (Task W)) (t : Tree) (k : Connective) (first second : W) (is : t ≡ two (text_of k) (meaning q first) (meaning q second))
-    (one : q.holds first ≡ true) (other : q.holds second ≡ true) (whole : Option Body) (leads : Leads q nodes xs (converted t) whole) where
-  pub second_left : NoChoice k (meaning q first) → ys ≡ xs ++ Second k second ∷ [] → GoesOn q nodes ys (Some first) whole (1 + 4 * size t + tasks_load q xs)
+module _ {W : Type 0} (q : Present W) (nodes : List (Node W)) (xs ys : List (Task W)) (t : Tree) (c : Construct W) (is : IsConstruct q t c) (whole : Option Body) (leads : Leads q nodes xs (converted t) whole) where
+  pub second_left : NoChoice c.connective (meaning q c.first) → ys ≡ xs ++ Second c.connective c.second ∷ [] → GoesOn q nodes ys (Some c.first) whole (1 + 4 * size t + tasks_load q xs)
   second_left plain more =
-      let all = loads_more q xs ys (Second k second) more in
-      let parts = ap size is in
+      let all = loads_more q xs ys (Second c.connective c.second) more in
+      let parts = ap size is.is in
       record {
-        works = (one, rw more (leads_push q nodes xs (Second k second) (converted (meaning q first)) (converted t) whole (other, ap converted is ∙ converted_joined k (meaning q first) (meaning q second) plain) leads));
+        works = (is.first, rw more (leads_push q nodes xs (Second c.connective c.second) (converted (meaning q c.first)) (converted t) whole (is.second, ap converted is.is ∙ converted_joined c.connective (meaning q c.first) (meaning q c.second) plain) leads));
         less = omega (arith, all, parts);
       }
 
   -- or the condition, where it is an if-then-else
-  pub next_left : (condition next : W) → k ≡ connective.Or → meaning q first ≡ two (text_of connective.If) (meaning q condition) (meaning q next) → q.holds condition ≡ true → q.holds next ≡ true
-      → ys ≡ xs ++ Next next second ∷ [] → GoesOn q nodes ys (Some condition) whole (1 + 4 * size t + tasks_load q xs)
-  next_left condition next kind inner before then more =
-      let whole_is : t ≡ two (text_of connective.Or) (two (text_of connective.If) (meaning q condition) (meaning q next)) (meaning q second) = is ∙ ap₂ (λ j u. two (text_of j) u (meaning q second)) kind inner in
-      let all = loads_more q xs ys (Next next second) more in
+  pub next_left : (front : Construct W) → c.connective ≡ connective.Or → front.connective ≡ connective.If → IsConstruct q (meaning q c.first) front
+      → ys ≡ xs ++ Next front.second c.second ∷ [] → GoesOn q nodes ys (Some front.first) whole (1 + 4 * size t + tasks_load q xs)
+  next_left front kind inside inner more =
+      let first_is : meaning q c.first ≡ two (text_of connective.If) (meaning q front.first) (meaning q front.second) = inner.is ∙ ap (λ j. two (text_of j) (meaning q front.first) (meaning q front.second)) inside in
+      let whole_is : t ≡ two (text_of connective.Or) (two (text_of connective.If) (meaning q front.first) (meaning q front.second)) (meaning q c.second) = is.is ∙ ap₂ (λ j u. two (text_of j) u (meaning q c.second)) kind first_is in
+      let all = loads_more q xs ys (Next front.second c.second) more in
       let parts = ap size whole_is in
       record {
-        works = (before, rw more (leads_push q nodes xs (Next next second) (converted (meaning q condition)) (converted t) whole (then, other, ap converted whole_is) leads));
+        works = (inner.first, rw more (leads_push q nodes xs (Next front.second c.second) (converted (meaning q front.first)) (converted t) whole (inner.second, is.second, ap converted whole_is) leads));
         less = omega (arith, all, parts);
       }
 

@@ -3,14 +3,16 @@ use Rattle.std.specs.Prelude.{◌≡◌, ℕ, ◌+◌, ◌*◌, ◌<◌, List, [
 use Rattle.iso_model.specs.Terms.Trees.{Tree}
 use Rattle.iso_model.specs.Terms.Sizes.{size}
 use Rattle.iso_model.specs.Search.Bodies as bodies
-use Rattle.iso_model.specs.Search.Bodies.{Body, both, either, converted}
+use Rattle.iso_model.specs.Search.Bodies.{Body, two, both, either, converted}
 use Rattle.iso_prep.specs.declared.connectives.Connective.{Connective}
 use Rattle.iso_prep.specs.declared.connectives.Connective.TheVariants as connective
+use Rattle.iso_prep.specs.Connectives.{text_of}
 use Rattle.iso_store_core.specs.Presents.{Present, meaning}
 use Rattle.iso_plain.specs.declared.bodies.Node.{Node}
 use Rattle.iso_plain.specs.declared.bodies.Node.TheVariants as node
 use Rattle.iso_plain.specs.declared.conversion.Task.{Task}
 use Rattle.iso_plain.specs.declared.conversion.Task.TheVariants.{Second, Join, Next, Other, Choose}
+use Rattle.iso_plain.specs.declared.conversion.Construct.{Construct}
 use Rattle.iso_plain.specs.declared.conversion.Read.{Read}
 use Rattle.iso_plain.specs.declared.conversion.Read.TheVariants.{Into, Whole, Number}
 use Rattle.iso_plain.specs.Nodes.{IsTree, EndsWith}
@@ -36,6 +38,12 @@ module _ {W : Type 0} (q : Present W) where
   -- the word stands for this term
   abbrev pub IsValue : W → Tree → Type 0
   IsValue w t = (q.holds w ≡ true) × (t ≡ meaning q w)
+
+  -- The term is this control construct of two parts.
+  pub record IsConstruct (t : Tree) (c : Construct W) : Type 0 where
+    pub is : t ≡ two (text_of c.connective) (meaning q c.first) (meaning q c.second)
+    pub first : q.holds c.first ≡ true
+    pub second : q.holds c.second ≡ true
 
   -- The node has no parts, and is this body.
   abbrev pub IsLeaf : Node W → Body → Type 0

@@ -1,16 +1,16 @@
 //! Goals are converted where they stand in the store (7.6.2), by the atoms of their control constructs' names.
 ghost use Rattle.std.specs.Prelude.{◌≡◌, ◌+◌, ◌*◌, Option, None, Some, Err, IfOk, OnOk, MatchOption, codes};
 ghost use Rattle.iso_model.specs.Terms.Sizes.{size};
-ghost use Rattle.iso_model.specs.Search.Bodies.{Body, one, two, converted};
+ghost use Rattle.iso_model.specs.Search.Bodies.{Body, one, converted};
 ghost use Rattle.iso_store_core.specs.Presents.{Present, Holds, meaning, Makes, KeepsNumbers, KeepsMarks};
 ghost use Rattle.iso_prep.specs.declared.connectives.Connective.TheVariants as connective;
-ghost use Rattle.iso_prep.specs.Connectives.{text_of, control_of};
+ghost use Rattle.iso_prep.specs.Connectives.{control_of};
 ghost use Rattle.iso_prep.specs.Readings.{NoChoice};
 ghost use Rattle.iso_plain.specs.Controls.{AreControls};
 ghost use Rattle.iso_plain.specs.Entering.{Adds, Extends};
 ghost use Rattle.iso_plain.specs.Nodes.{EndsWith};
 ghost use Rattle.iso_plain.specs.Replies.{Places};
-ghost use Rattle.iso_plain.specs.Conversions.{joint, IsValue, IsLeaf, Does, Leads, GoesOn, IsRead, task_load, tasks_load};
+ghost use Rattle.iso_plain.specs.Conversions.{joint, IsConstruct, IsValue, IsLeaf, Does, Leads, GoesOn, IsRead, task_load, tasks_load};
 
 use super::bodies::Node;
 use super::controls::Controls;
@@ -44,17 +44,23 @@ enum Read<W> {
     Number,
 }
 
-/// A control construct with its two parts, where the word stands for one.
+/// A control construct of two parts.
+#[derive(Clone, Copy)]
+struct Construct<W> {
+    connective: Connective,
+    first: W,
+    second: W,
+}
+
+/// The control construct that the word stands for, where it is one.
 fn control<S: Store>(
     store: &S,
     controls: &Controls,
     word: S::Word,
-) -> Option<(Connective, S::Word, S::Word)>
+) -> Option<Construct<S::Word>>
     requires word { Holds (S.present store.now) word }
     requires controls { AreControls (S.names store.now) controls.now }
-    ensures { MatchOption result (control_of (meaning (S.present store.now) word) ≡ None)
-        (λ c. (meaning (S.present store.now) word ≡ two (text_of c.0) (meaning (S.present store.now) c.1) (meaning (S.present store.now) c.2))
-        × Holds (S.present store.now) c.1 × Holds (S.present store.now) c.2) }
+    ensures { MatchOption result (control_of (meaning (S.present store.now) word) ≡ None) (IsConstruct (S.present store.now) (meaning (S.present store.now) word)) }
 {
     match store.shape(word) {
         Shape::Compound(name, count) => {
@@ -62,32 +68,37 @@ fn control<S: Store>(
                 return None;
             }
             let connective = controls.connective(name)?;
-            Some((connective, store.arg(word, 0), store.arg(word, 1)))
+            let (first, second) = (store.arg(word, 0), store.arg(word, 1));
+            Some(Construct {
+                connective,
+                first,
+                second,
+            })
         }
         Shape::Var(_) | Shape::Int(_) | Shape::Atom(_) => None,
     }
 }
 
-/// The condition and the next of an if-then-else, where the connective and its first part are one's.
-fn choice<S: Store>(
+/// The if-then that makes an if-then-else of a construct with this connective, whose first part the word is.
+fn if_then<S: Store>(
     store: &S,
     controls: &Controls,
     joint: Connective,
     first: S::Word,
-) -> Option<(S::Word, S::Word)>
+) -> Option<Construct<S::Word>>
     requires first { Holds (S.present store.now) first }
     requires controls { AreControls (S.names store.now) controls.now }
     ensures { MatchOption result (NoChoice joint (meaning (S.present store.now) first))
-        (λ c. (joint ≡ connective.Or) × (meaning (S.present store.now) first ≡ two (text_of connective.If) (meaning (S.present store.now) c.0) (meaning (S.present store.now) c.1))
-        × Holds (S.present store.now) c.0 × Holds (S.present store.now) c.1) }
+        (λ c. (joint ≡ connective.Or) × (c.connective ≡ connective.If) × IsConstruct (S.present store.now) (meaning (S.present store.now) first) c) }
 {
     if joint != Connective::Or {
         return None;
     }
-    match control(store, controls, first) {
-        Some((Connective::If, condition, next)) => Some((condition, next)),
-        _ => None,
+    let front = control(store, controls, first)?;
+    if front.connective != Connective::If {
+        return None;
     }
+    Some(front)
 }
 
 /// The goal `call(X)`, where the word is the one of X. The errors: the store is full, or memory was refused.
@@ -156,19 +167,19 @@ fn read_part<S: Store>(
     ensures names { S.names store.new ≡ S.names store.old }
     ensures marks { KeepsMarks (S.stands store.old) (S.stands store.new) }
 {
-    let Some((connective, first, second)) = control(store, controls, word) else {
+    let Some(whole) = control(store, controls, word) else {
         let Some(node) = leaf(alloc, store, controls, word)? else {
             return Ok(Read::Number);
         };
         nodes.push(node)?;
         return Ok(Read::Whole);
     };
-    if let Some((condition, next)) = choice(store, controls, connective, first) {
-        tasks.push(Task::Next(next, second))?;
-        return Ok(Read::Into(condition));
+    if let Some(front) = if_then(store, controls, whole.connective, whole.first) {
+        tasks.push(Task::Next(front.second, whole.second))?;
+        return Ok(Read::Into(front.first));
     }
-    tasks.push(Task::Second(connective, second))?;
-    Ok(Read::Into(first))
+    tasks.push(Task::Second(whole.connective, whole.second))?;
+    Ok(Read::Into(whole.first))
 }
 
 /// The construct of two parts, the first of which ends so far back.
@@ -188,9 +199,9 @@ fn go_on<W: Copy>(
     tasks: &mut Vec<Task<W>>,
     nodes: &mut Vec<Node<W>>,
 ) -> Result<Option<W>, AllocError>
-    ensures goes_on { IfOk result (λ next. (q : Present W) (b : Body) (m whole : Option Body) → EndsWith (IsValue q) nodes.old.items b → Does q nodes.old.items task.entry (Some b) m
+    ensures goes_on { IfOk result (λ next. (q : Present W) (b : Body) (m whole : Option Body) → EndsWith (IsValue q) nodes.old.items b → Does q nodes.old.items task (Some b) m
         → Leads q nodes.old.items tasks.old.items m whole
-        → GoesOn q nodes.new.items tasks.new.items next whole (task_load q task.entry + tasks_load q tasks.old.items)) }
+        → GoesOn q nodes.new.items tasks.new.items next whole (task_load q task + tasks_load q tasks.old.items)) }
     ensures nodes { Adds nodes.old.items nodes.new.items }
 {
     let count = nodes.len();

@@ -12,4 +12,8 @@ returns-in_ok-connective-in-Compound g c =
     let s = c.in-Compound.ensures.shape in
     let named : connective_of (text_at (g.S.Store.names c.args.store.now) c.in-Compound.name) ≡ Some c.in_ok-connective-in-Compound.connective
     = sym (c.connective.ensures _ c.requires.controls c.shape.ensures.each_once s.0) ∙ c.in_ok-connective-in-Compound.was in
-    (control_parts t _ s.1 c.in_ok-connective-in-Compound.connective _ _ c.shape.ensures.term s.2 (s.3 ∙ c.if-count-ne2.false) named c.arg.ensures.value c.arg-in-Compound.ensures.value, c.arg.ensures.holds, c.arg-in-Compound.ensures.holds)
+    record {
+      is = control_parts t _ s.1 c.in_ok-connective-in-Compound.connective _ _ c.shape.ensures.term s.2 (s.3 ∙ c.if-count-ne2.false) named c.arg-first.ensures.value c.arg-second.ensures.value;
+      first = c.arg-first.ensures.holds;
+      second = c.arg-second.ensures.holds;
+    }
