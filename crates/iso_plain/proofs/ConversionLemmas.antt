@@ -1,5 +1,5 @@
 -- Goals are converted part by part, where they stand.
-use Rattle.std.proofs.Common.{◌≡◌, ℕ, ◌+◌, ◌-◌, ◌*◌, ◌<◌, List, [], ◌∷◌, ◌++◌, length, true, refl, sym, ap, ap₂, ◌∙◌, subst, arith, length-append, Option, Some, None}
+use Rattle.std.proofs.Common.{◌≡◌, ℕ, ◌+◌, ◌-◌, ◌*◌, ◌<◌, List, [], ◌∷◌, ◌++◌, length, true, refl, sym, ap, ap₂, ◌∙◌, subst, arith, length-append, append_assoc, Option, Some, None}
 use Rattle.iso_model.specs.Terms.Trees.{Tree}
 use Rattle.iso_model.specs.Terms.Sizes.{size}
 use Rattle.iso_model.specs.Terms.Substitutions.{apply}
@@ -15,12 +15,17 @@ use Rattle.iso_plain.specs.declared.bodies.Node.TheVariants as node
 use Rattle.iso_plain.specs.declared.conversion.Construct.{Construct}
 use Rattle.iso_plain.specs.declared.conversion.Task.{Task}
 use Rattle.iso_plain.specs.declared.conversion.Task.TheVariants.{Second, Join, Next, Other, Choose}
-use Rattle.iso_plain.specs.Entering.{Extends}
+use Rattle.iso_plain.specs.Entering.{Adds, Extends}
 use Rattle.iso_plain.specs.Nodes.{IsTree, EndsWith, runs, cuts, joins, branches, commits, chooses}
+use Rattle.iso_plain.specs.Replies.{Places}
 use Rattle.iso_plain.specs.Standing.{IsBody}
 use Rattle.iso_plain.specs.Conversions.{joined, chosen, joint, IsConstruct, IsValue, IsLeaf, Does, Leads, Works, task_load, tasks_load, next_load, GoesOn}
 use Rattle.iso_plain.proofs.StandingLemmas.{at_last, tree_more, tree_keep, tree_within}
 use Rattle.iso_plain.proofs.ConvertedLemmas.{converted_joined}
+
+-- items that were added to those that were
+pub adds_on : {X : Type 0} (xs ys zs : List X) → Adds xs ys → Adds ys zs → Adds xs zs
+adds_on xs ys zs first second = (first.0 ++ second.0, second.1 ∙ ap (λ us. us ++ second.0) first.1 ∙ append_assoc xs first.0 second.0)
 
 -- ---- a store to which words came
 
@@ -285,3 +290,26 @@ body_meant q (chooses at one two three some also x y z) =
     let b = body_meant q y in
     let c = body_meant q z in
     (bodies.Choose a.0 b.0 c.0, chooses at one two three some also a.1 b.1 c.1, λ i. bodies.Choose (a.2 i) (b.2 i) (c.2 i))
+
+-- nothing is left to be done: the last of the nodes is the body
+pub all_read : {W : Type 0} (p q : Present W) (old nodes : List (Node W)) (tasks : List (Task W)) (next : Option W) (whole : Option Body) (place : ℕ)
+    → Works q nodes tasks next whole → next ≡ None → tasks ≡ [] → Extends p q 0 → Adds old nodes → place ≡ length nodes - 1
+    → (b : Body) × (whole ≡ Some b) × Places p q old nodes b place
+all_read p q old nodes tasks next whole place works none done more adds last =
+    let w = rw (none, done) at works in
+    let some = (w.1).some in
+    let at = body_meant q (w.1).last in
+    (
+      w.0,
+      sym w.2,
+      record {
+        adds = adds;
+        words = more.words;
+        substitution = more.substitution;
+        next = (let same = more.next in omega (arith, same));
+        last = omega (arith, some, last);
+        body = at.0;
+        stands = subst (λ k. IsBody q nodes k at.0) (sym last) at.1;
+        values = ap (λ s. map_body s at.0) (sym more.substitution) ∙ at.2;
+      },
+    )

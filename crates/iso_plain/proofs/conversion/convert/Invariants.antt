@@ -8,7 +8,7 @@ use Rattle.iso_plain.proofs.conversion.convert.Given as goal
 
 abbrev pub invariant-reading : goal.invariant-reading
 invariant-reading g l =
-    Works (g.S.Store.present l.store) l.nodes.items l.tasks.items l.next (converted (meaning (g.S.Store.present l.fn.store) l.goal))
+    Works (g.S.Store.present l.store) l.nodes.items l.tasks.items l.next (converted (meaning (g.S.Store.present l.fn.store) l.fn.goal))
     × Extends (g.S.Store.present l.fn.store) (g.S.Store.present l.store) 0
     × Adds l.fn.nodes.items l.nodes.items
     × (g.S.Store.names l.store ≡ g.S.Store.names l.fn.store)
