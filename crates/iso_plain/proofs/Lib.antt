@@ -48,3 +48,5 @@ pub mod FindLemmas
 pub mod MeetLemmas
 pub mod ControlNames
 pub mod CallableLemmas
+pub mod ConvertedLemmas
+pub mod ConversionLemmas
