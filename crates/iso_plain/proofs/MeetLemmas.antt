@@ -1,20 +1,84 @@
 -- A catcher meets a ball.
-use Rattle.std.proofs.Common.{◌≡◌, ℕ, ◌+◌, ◌≤◌, List, [], ◌∷◌, Option, Some, Bool, true, false, refl, ap, sym, ◌∙◌, subst, arith, inl, inr}
+use Rattle.std.proofs.Common.{◌≡◌, ℕ, ◌+◌, ◌*◌, ◌<◌, ◌≤◌, ◌++◌, length, Vec, Global, codes, List, [], ◌∷◌, Option, Some, Bool, true, false, refl, ap, sym, ◌∙◌, subst, arith, inl, inr}
 use Rattle.iso_atoms.specs.Texts.{KeepsTexts}
 use Rattle.iso_model.specs.Terms.Trees.{Tree}
 use Rattle.iso_model.specs.Terms.Variables.{variables, variable_count}
 use Rattle.iso_model.specs.Terms.Substitutions.{Subst, apply, compose}
 use Rattle.iso_model.specs.Terms.Copies.{copy_from}
-use Rattle.iso_model.specs.Search.Walker.{State, Alternative}
+use Rattle.iso_model.specs.Search.Bodies.{Body, Run, one}
+use Rattle.iso_model.specs.Search.Walker.{State, Alternative, Goal}
 use Rattle.iso_store_core.specs.Presents.{Present, KeepsMarks, KeepsWords, Makes, MovesOn, IsUnification, meaning}
 use Rattle.iso_plain.specs.declared.plain.Plain.{Plain}
-use Rattle.iso_plain.specs.EngineStates.{IsAhead, Keeps}
-use Rattle.iso_plain.specs.Catches.{MeetsBall, HasMet, Unified, catcher_of}
-use Rattle.iso_plain.proofs.AheadLemmas.{keeps_ahead}
-use Rattle.iso_plain.proofs.StoppedLemmas.{keeps_store}
+use Rattle.iso_plain.specs.EngineStates.{IsEngine, IsAhead, Keeps, cost, choices_cost, links_of}
+use Rattle.iso_plain.specs.declared.bodies.Node.{Node}
+use Rattle.iso_plain.specs.declared.bodies.Node.TheVariants as node
+use Rattle.iso_plain.specs.declared.parts.Todo.TheVariants as todo
+use Rattle.iso_plain.specs.declared.parts.Frame.{Frame}
+use Rattle.iso_plain.specs.declared.parts.Now.TheVariants as now
+use Rattle.iso_plain.specs.Entering.{Adds}
+use Rattle.iso_plain.specs.Nodes.{IsTree, runs, At}
+use Rattle.iso_plain.specs.Standing.{IsBody, IsMember, a_body, most_numbers, numbers_a_step}
+use Rattle.iso_plain.specs.Costs.{body_cost, most, rest_cost, frame_costs}
+use Rattle.iso_plain.specs.Catches.{MeetsBall, Recovers, Calling, HasMet, Unified, catcher_of, recovery_of, calling}
+use Rattle.iso_plain.proofs.AheadLemmas.{keeps_ahead, engine_frame}
+use Rattle.iso_plain.proofs.CostLemmas.{cost_higher, below_words}
+use Rattle.iso_plain.proofs.EnteringLemmas.{adds_none}
+use Rattle.iso_plain.proofs.StandingLemmas.{AddsLinks, at_last, chain_more, choices_length, variables_more}
+use Rattle.iso_plain.proofs.StoppedLemmas.{base_kept, choices_on, keeps_more, keeps_store}
+use Rattle.iso_plain.proofs.WorldLemmas.{world_on}
 
 module _ {S W M : Type 0} (names : S → List (List ℕ)) (present : S → Present W) (stands : S → M → Present W → Type 0) (older : M → M → Type 0) where
   -- the engine, however far its store came
   pub keeps_met : (e : Plain S W M) (goal : W) (ball : Tree) (s : State) (place : Option ℕ) (store : S) → MeetsBall names present stands older e goal ball s place → KeepsTexts (names e.store) (names store)
       → KeepsMarks (stands e.store) (stands store) → Keeps names present stands older (record e { store = store }) s.world s.stack
   keeps_met e goal ball s place store h texts keeps = keeps_store names present stands older e store s.world s.stack (keeps_ahead names present stands older e s place h.ahead) keeps texts
+
+  -- ---- nodes and bindings that come
+
+  pub ahead_bound : (e : Plain S W M) (store : S) (nodes : Vec (Node W) Global) (s : State) (place : Option ℕ) (m : ℕ) (q : Subst) → IsAhead names present stands older e s place
+      → KeepsMarks (stands e.store) (stands store) → KeepsTexts (names e.store) (names store) → Adds e.nodes.items nodes.items → KeepsWords (present e.store) (present store) → (present store).substitution ≡ q → (present store).next ≡ (present e.store).next + m
+      → s.next + m + numbers_a_step * e.steps ≤ most_numbers → IsAhead names present stands older (record e { store = store; nodes = nodes }) (record s { subst = q; next = s.next + m }) place
+  ahead_bound e store nodes s place m q h keeps texts adds words substitution next space =
+      let more : AddsLinks (links_of e) (record { nodes = nodes.items; frames = e.frames.items }) = record { nodes = adds; frames = adds_none e.frames.items } in
+      let steps = h.steps in
+      record {
+        world = world_on texts h.world;
+        steps = h.steps;
+        base = base_kept (stands e.store) (stands store) e.base keeps h.base;
+        choices = choices_on names present stands older e store nodes e.frames s.world (variables s.query) s.stack keeps adds (adds_none e.frames.items) h.choices;
+        room = h.room;
+        goes = record {
+          subst = substitution;
+          next = next ∙ ap (λ (n : ℕ). n + m) h.goes.next;
+          room = omega (arith, space, steps);
+          words = variables_more words h.goes.words;
+        };
+        chain = chain_more (record { nodes = nodes.items; frames = e.frames.items }) more words h.chain;
+      }
+
+  -- ---- the recovery is called
+
+  module _ (e : Plain S W M) (goal : W) (s : State) (place : Option ℕ) (h : Recovers names present stands older e goal s place) (store : S) (nodes : Vec (Node W) Global) (call recovery : W)
+      (keeps : KeepsMarks (stands e.store) (stands store)) (texts : KeepsTexts (names e.store) (names store)) (is : meaning (present e.store) recovery ≡ recovery_of (present e.store) goal)
+      (made : Makes (present e.store) (present store) call (one (codes "call") ((present e.store).term recovery))) (same : (present store).next ≡ (present e.store).next) (come : nodes.items ≡ e.nodes.items ++ node.Run call ∷ []) where
+    first : Frame
+    first = record { todo = todo.Body (length e.nodes.items); mark = length e.choices.items; next = place }
+
+    behind : IsAhead names present stands older (record e { store = store; nodes = nodes }) s place
+    behind =
+        let room = h.ahead.goes.room in
+        let steps = h.ahead.steps in
+        let none : s.next + 0 ≡ s.next = omega arith in
+        subst (λ (n : ℕ). IsAhead names present stands older (record e { store = store; nodes = nodes }) (record s { next = n }) place) none
+        (ahead_bound e store nodes s place 0 s.subst h.ahead keeps texts (node.Run call ∷ [], come) made.words (made.substitution ∙ h.ahead.goes.subst) (omega (arith, same)) (omega (arith, room, steps)))
+
+    stands_there : IsBody (present store) nodes.items (length e.nodes.items) (Run ((present store).term call))
+    stands_there = runs (rw come (at_last e.nodes.items (node.Run call))) (made.holds, refl)
+
+    pub calls_recovery : Calling names present stands older (record e { store = store; nodes = nodes; now = now.Running first }) (one (codes "call") (recovery_of (present e.store) goal)) s
+    calls_recovery = record {
+      term = (present store).term call;
+      value = ap (apply s.subst) made.term ∙ ap (λ (r : Subst). one (codes "call") (apply r ((present e.store).term recovery))) (sym h.ahead.goes.subst) ∙ ap (one (codes "call")) is;
+      engine = subst (λ (n : ℕ). IsEngine names present stands older (record e { store = store; nodes = nodes; now = now.Running first }) (record s { list = Goal (Run ((present store).term call)) n ∷ s.list })) (choices_length h.ahead.choices)
+          (engine_frame names present stands older (record e { store = store; nodes = nodes }) s first (Goal (Run ((present store).term call)) (length e.choices.items)) behind (a_body refl stands_there));
+    }

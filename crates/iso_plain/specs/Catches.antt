@@ -119,10 +119,10 @@ module _ {S W M : Type 0} (names : S → List (List ℕ)) (present : S → Prese
     pub ahead : IsAhead names present stands older e s place
     pub catches : IsCatchGoal (present e.store) goal
 
-  -- The engine, in this state, is to run this goal first, which it has as a term of the same value.
+  -- The engine, in this state, is to run this goal first, which it has as a term of this value.
   pub record Calling (e : Plain S W M) (goal : Tree) (s : State) : Type 0 where
     pub term : Tree
-    pub value : apply s.subst term ≡ apply s.subst goal
+    pub value : apply s.subst term ≡ goal
     pub engine : IsEngine names present stands older e (calling term s)
 
   -- The engine's choices are this state's alternatives.
@@ -133,5 +133,5 @@ module _ {S W M : Type 0} (names : S → List (List ℕ)) (present : S → Prese
   abbrev pub HasThrown : Plain S W M → Present W → W → Tree → State → Type 0
   HasThrown e p goal ball s =
       ((u : Subst) × Unifier (catcher_of p goal) (apply p.substitution (copy_from ball p.next)) u
-          × Calling e (one (codes "call") (recovery_of p goal)) (record s { subst = compose s.subst u; next = s.next + variable_count ball }))
+          × Calling e (one (codes "call") (apply u (recovery_of p goal))) (record s { subst = compose s.subst u; next = s.next + variable_count ball }))
       ⊎ (NeverEqual (catcher_of p goal) (apply p.substitution (copy_from ball p.next)) × IsEngine names present stands older e (throwing ball s))

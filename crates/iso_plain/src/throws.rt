@@ -11,6 +11,7 @@ ghost use Rattle.iso_atoms.specs.Texts.{KeepsTexts};
 ghost use Rattle.iso_store_core.specs.Presents.{KeepsMarks};
 
 use super::bodies::Node;
+use super::conversion::call_of;
 use super::parts::{Frame, Left, Now, Todo};
 use super::plain::{Move, Plain};
 use iso_model::{Ball, Numbering, Term};
@@ -120,7 +121,7 @@ impl<S: Store + Drop> Plain<S> {
         ensures stays { Stays S.names self.old self.new }
     {
         let recovery = self.store.arg(goal, 2);
-        let call = self.store.compound(self.controls.call, &[recovery])?;
+        let call = call_of(self.alloc, &mut self.store, &self.controls, recovery)?;
         let place = self.nodes.len();
         self.nodes.push(Node::Run(call))?;
         self.now = Now::Running(Frame {
