@@ -27,9 +27,9 @@ pub enum BuiltIn {
     Catch,
     /// `throw/1`: its argument is thrown (7.8.10).
     Throw,
-    /// `halt/0`: the session ends (8.17.1).
+    /// `halt/0`: the session ends (8.17.3).
     Halt,
-    /// `halt/1`: the session ends with this status (8.17.2).
+    /// `halt/1`: the session ends with this status (8.17.4).
     HaltWith,
 }
 

@@ -27,6 +27,6 @@ pub fn worked_control()
     ensures catch { CatchRunsItsGoal }
     // A catch that was left doesn't catch (7.8.9, 7.8.10).
     ensures left_catch { LeftCatchesDontCatch }
-    // `halt` ends the search with its status (8.17.1, 8.17.2).
+    // `halt` ends the search with its status (8.17.3, 8.17.4).
     ensures halt { HaltEnds }
 {}

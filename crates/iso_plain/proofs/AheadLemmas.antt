@@ -2,13 +2,13 @@
 use Rattle.std.proofs.Common.{◌≡◌, ℕ, zero, suc, ◌+◌, ◌*◌, ◌-◌, ◌≤◌, ◌++◌, List, [], ◌∷◌, length, take, drop, Option, Some, None, true, refl, ap, sym, ◌∙◌, subst, arith, Vec, Global}
 use Rattle.std.specs.Prelude.{option_map}
 use Rattle.std.specs.List.{slice_get}
+use Rattle.iso_atoms.specs.Texts.{KeepsTexts}
 use Rattle.iso_model.specs.Terms.Trees.{arities_fit}
 use Rattle.iso_model.specs.Terms.TermOf.{term_of}
 use Rattle.iso_model.specs.Terms.Variables.{variables}
 use Rattle.iso_model.specs.Search.Bodies.{Body}
 use Rattle.iso_model.specs.Search.Walker.{State, World, Member, Goal, CutTo, Fail, Leave, Alternative, pushed, cut_back, shortened}
 use Rattle.iso_model.specs.Search.Walker as walker
-use Rattle.iso_atoms.specs.Texts.{KeepsTexts}
 use Rattle.iso_store_core.specs.Presents.{Present, KeepsMarks}
 use Rattle.iso_model.specs.declared.pauses.Ball.{Ball}
 use Rattle.iso_plain.specs.declared.bodies.Node.{Node}
@@ -216,7 +216,7 @@ module _ {S W M : Type 0} (names : S → List (List ℕ)) (present : S → Prese
       (let there = marks_stand x h.choices among in gains.newer x.mark there.0 there.1) in
       let goes = goes_with {p = present e.store} {query = e.query.items} {s = s} s.list (a ∷ s.stack) h.goes in
       record {
-        world = world_on names e store s.world texts h.world;
+        world = world_on texts h.world;
         steps = h.steps;
         base = base_kept (stands e.store) (stands store) e.base keeps b;
         choices = rw gains.are (choices_push c a refl refl here newer old);
@@ -248,7 +248,7 @@ module _ {S W M : Type 0} (names : S → List (List ℕ)) (present : S → Prese
       choices_keep (λ d p among standing. marks d.mark p (l.newer d among) standing) l.stand in
       let goes = goes_with {p = present e.store} {query = e.query.items} {s = s} s.list (shortened height s.stack) h.goes in
       record {
-        world = world_on names e store s.world texts h.world;
+        world = world_on texts h.world;
         steps = h.steps;
         base = record { present = b.present; stands_for = marks e.base b.present l.newer_base b.stands_for; substitution = b.substitution; next = b.next };
         choices = rw taken stood;

@@ -1,9 +1,9 @@
 -- The engine goes back to its newest choice.
 use Rattle.std.proofs.Common.{◌≡◌, ℕ, zero, suc, ◌-◌, ◌<◌, ◌≤◌, List, [], ◌∷◌, length, take, drop, get_or, Some, refl, ap, sym, ◌∙◌, subst, arith, Vec, Global}
 use Rattle.std.specs.List.{slice_get}
+use Rattle.iso_atoms.specs.Texts.{KeepsTexts}
 use Rattle.iso_model.specs.Terms.Variables.{variables}
 use Rattle.iso_model.specs.Search.Walker.{State, Alternative}
-use Rattle.iso_atoms.specs.Texts.{KeepsTexts}
 use Rattle.iso_store_core.specs.Presents.{Present}
 use Rattle.iso_plain.specs.declared.bodies.Node.{Node}
 use Rattle.iso_plain.specs.declared.parts.Frame.{Frame}
@@ -75,7 +75,7 @@ module _ {S W M : Type 0} (names : S → List (List ℕ)) (present : S → Prese
         below = n.below;
         is = n.is;
         went = record {
-          world = world_on names e store s.world texts is.world;
+          world = world_on texts is.world;
           steps = is.steps;
           base = record { present = b.present; stands_for = marks e.base b.present h.newer b.stands_for; substitution = b.substitution; next = b.next };
           mark = subst (λ (p : Present W). stands store c.mark p) at (same h.present h.mark);

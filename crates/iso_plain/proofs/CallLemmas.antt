@@ -1,11 +1,11 @@
 -- The engine calls a procedure: the clauses behind the first are kept as a choice.
 use Rattle.std.proofs.Common.{◌≡◌, ℕ, ◌+◌, ◌<◌, ◌≤◌, List, [], ◌∷◌, ◌-◌, ◌^◌, length, Option, refl, ap, sym, subst, arith, Vec, Global}
+use Rattle.iso_atoms.specs.Texts.{KeepsTexts}
 use Rattle.iso_model.specs.Terms.Variables.{variables}
 use Rattle.iso_model.specs.Terms.Trees.{Tree}
 use Rattle.iso_model.specs.Search.Databases as databases
 use Rattle.iso_model.specs.Search.Databases.{Procedures}
 use Rattle.iso_model.specs.Search.Walker.{State, Member, Alternative, Clauses, with_others}
-use Rattle.iso_atoms.specs.Texts.{KeepsTexts}
 use Rattle.iso_store_core.specs.Presents.{Present, KeepsMarks}
 use Rattle.iso_plain.specs.declared.parts.Attempt.{Attempt}
 use Rattle.iso_plain.specs.declared.parts.Choice as kept
@@ -75,7 +75,7 @@ module _ {S W M : Type 0} (names : S → List (List ℕ)) (present : S → Prese
       let newer : (x : kept.Choice W M) → Among x e.choices.items → older x.mark gains.mark = λ x among.
       (let there = marks_stand x t.choices among in gains.newer x.mark there.0 there.1) in
       record {
-        world = world_on names e store s.world texts t.world;
+        world = world_on texts t.world;
         steps = t.steps;
         base = record { present = b.present; stands_for = keeps e.base b.present b.stands_for; substitution = b.substitution; next = b.next };
         choices = rw gains.are (choices_push later a refl refl here newer old);

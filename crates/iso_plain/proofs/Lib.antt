@@ -4,6 +4,7 @@ pub mod StandingLemmas
 pub mod CostLemmas
 pub mod WeightLemmas
 pub mod NodeLemmas
+pub mod WrittenLemmas
 pub mod PatternLemmas
 pub mod PlaceLemmas
 pub mod EnteringLemmas
@@ -12,6 +13,8 @@ pub mod ClauseLemmas
 pub mod RenamingLemmas
 pub mod PrepareLemmas
 pub mod ProgramLemmas
+pub mod WorldLemmas
+pub mod AddingLemmas
 pub mod KeptLemmas
 pub mod CountLemmas
 pub mod EngineLemmas
@@ -43,5 +46,8 @@ pub mod StoppedLemmas
 pub mod WorldLemmas
 pub mod ThrowLemmas
 pub mod FindLemmas
+pub mod MeetLemmas
 pub mod ControlNames
 pub mod CallableLemmas
+pub mod ConvertedLemmas
+pub mod ConversionLemmas

@@ -1,9 +1,9 @@
 -- Members that the newest choice kept are gone on with: the choice goes, or stays.
 use Rattle.std.proofs.Common.{◌≡◌, ℕ, suc, ◌+◌, ◌-◌, ◌<◌, ◌≤◌, ◌++◌, List, [], ◌∷◌, length, take, Option, refl, ap, sym, ◌∙◌, subst, arith, Vec, Global}
+use Rattle.iso_atoms.specs.Texts.{KeepsTexts}
 use Rattle.iso_model.specs.Terms.Variables.{variables}
 use Rattle.iso_model.specs.Search.Walker.{State, Alternative, AsIs, Again, fails, pushed}
 use Rattle.iso_model.specs.Search.Walker as walker
-use Rattle.iso_atoms.specs.Texts.{KeepsTexts}
 use Rattle.iso_store_core.specs.Presents.{Present}
 use Rattle.iso_plain.specs.declared.parts.Left.{Left}
 use Rattle.iso_plain.specs.declared.parts.Left.TheVariants as left
@@ -47,7 +47,7 @@ module _ {S W M : Type 0} (names : S → List (List ℕ)) (present : S → Prese
         let b = w.base in
         let on = goes AsIs place s.steps (let all = w.steps in omega (arith, all)) h in
         let ahead : IsAhead names present stands older (record e { store = store; choices = choices }) (went_back a below s) place = record {
-          world = world_on names e store s.world texts w.world;
+          world = world_on texts w.world;
           steps = w.steps;
           base = record { present = b.present; stands_for = marks e.base b.present w.newer_base b.stands_for; substitution = b.substitution; next = b.next };
           choices = subst (λ (ds : List (kept.Choice W M)). StandsForChoices (stands store) older e.base (left_at s.world.database.procedures) e.query.items (variables s.query) (links_of e) ds below) (sym made)
@@ -76,7 +76,7 @@ module _ {S W M : Type 0} (names : S → List (List ℕ)) (present : S → Prese
     passed store choices marks texts made =
         let b = w.base in
         record {
-          world = world_on names e store s.world texts w.world;
+          world = world_on texts w.world;
           steps = w.steps;
           base = record { present = b.present; stands_for = marks e.base b.present w.newer_base b.stands_for; substitution = b.substitution; next = b.next };
           choices = subst (λ (ds : List (kept.Choice W M)). StandsForChoices (stands store) older e.base (left_at s.world.database.procedures) e.query.items (variables s.query) (links_of e) ds below) (sym made)

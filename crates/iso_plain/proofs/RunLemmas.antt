@@ -1,12 +1,12 @@
 -- The engine is at a goal.
 use Rattle.std.proofs.Common.{◌≡◌, ◌≢◌, ◌-◌, ℕ, zero, suc, List, [], ◌∷◌, Option, true, refl, ap, sym, ◌∙◌, subst, arith, Vec, Global}
+use Rattle.iso_atoms.specs.Texts.{KeepsTexts}
 use Rattle.iso_model.specs.Terms.Trees.{Tree}
 use Rattle.iso_model.specs.Terms.Variables.{variables}
 use Rattle.iso_model.specs.Terms.Substitutions.{Subst, apply}
 use Rattle.iso_model.specs.Search.Bodies.{Body, Run}
 use Rattle.iso_model.specs.Search.Databases as databases
 use Rattle.iso_model.specs.Search.Walker.{State, Member, Goal, Alternative}
-use Rattle.iso_atoms.specs.Texts.{KeepsTexts}
 use Rattle.iso_store_core.specs.Presents.{Present, KeepsMarks, KeepsWords, meaning}
 use Rattle.iso_plain.specs.declared.bodies.Node.{Node}
 use Rattle.iso_plain.specs.declared.bodies.Node.TheVariants as node
@@ -79,7 +79,7 @@ module _ {S W M : Type 0} (names : S → List (List ℕ)) (present : S → Prese
   ahead_step e store nodes s place n built q h many keeps texts adds words substitution next =
       let more : AddsLinks (links_of e) (record { nodes = nodes.items; frames = e.frames.items }) = record { nodes = adds; frames = adds_none e.frames.items } in
       record {
-        world = world_on names e store s.world texts h.world;
+        world = world_on texts h.world;
         steps = refl;
         base = base_kept (stands e.store) (stands store) e.base keeps h.base;
         choices = choices_on names present stands older e store nodes e.frames s.world (variables s.query) s.stack keeps adds (adds_none e.frames.items) h.choices;

@@ -1,6 +1,7 @@
 -- What running a goal comes to.
 use Rattle.std.proofs.Common.{◌≡◌, ◌≢◌, ◌<◌, ◌≤◌, ◌-◌, ℕ, suc, List, [], ◌∷◌, Option, None, Some, length, refl, ap, sym, ◌∙◌, subst, arith, inl, inr, Result, Ok, Err, IfOk, Vec, Global}
 use Rattle.iso_ops.specs.declared.settings.Unknown.TheVariants as on_unknown
+use Rattle.iso_atoms.specs.Texts.{KeepsTexts}
 use Rattle.iso_model.specs.Terms.Trees.{Tree}
 use Rattle.iso_model.specs.Search.Databases as databases
 use Rattle.iso_model.specs.Search.Databases.{Key, clauses_at}
@@ -10,7 +11,6 @@ use Rattle.iso_model.specs.Search.Engines.{IsAwake}
 use Rattle.iso_model.specs.Search.Runs.{Finishes, ComesOver}
 use Rattle.iso_model.proofs.Search.CallLemmas.{clause_keeps}
 use Rattle.iso_model.specs.declared.limit.Limit.TheVariants as limit
-use Rattle.iso_atoms.specs.Texts.{KeepsTexts}
 use Rattle.iso_store_core.specs.Presents.{Present, KeepsMarks, meaning}
 use Rattle.iso_plain.specs.declared.bodies.Node.{Node}
 use Rattle.iso_plain.specs.declared.bodies.Node.TheVariants as node
@@ -75,7 +75,7 @@ module _ {S W M : Type 0} (names : S → List (List ℕ)) (present : S → Prese
   pub failed_engine : (e : Plain S W M) (store : S) (nodes : Vec (Node W) Global) (s : State) (n built : ℕ) → e.steps ≡ suc n → KeepsMarks (stands e.store) (stands store) → KeepsTexts (names e.store) (names store) → Adds e.nodes.items nodes.items → IsEngine names present stands older e s
       → IsEngine names present stands older (record e { store = store; nodes = nodes; steps = n; now = now.Failing }) (record s { list = Fail ∷ []; built = built; steps = n })
   failed_engine e store nodes s n built many keeps texts adds is = record {
-    world = world_on names e store s.world texts is.world;
+    world = world_on texts is.world;
     steps = refl;
     base = base_kept (stands e.store) (stands store) e.base keeps is.base;
     choices = choices_on names present stands older e store nodes e.frames s.world (variables s.query) s.stack keeps adds (adds_none e.frames.items) is.choices;

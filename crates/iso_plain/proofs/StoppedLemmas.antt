@@ -1,9 +1,9 @@
 -- What is left of an engine that stops.
 use Rattle.std.proofs.Common.{◌≡◌, ℕ, List, [], refl, inr, Vec, Global, Result, Ok, Err, OnErr}
+use Rattle.iso_atoms.specs.Texts.{KeepsTexts}
 use Rattle.iso_model.specs.Terms.Variables.{variables}
 use Rattle.iso_model.specs.Search.Walker.{State, World, Alternative}
 use Rattle.iso_model.specs.Search.Runs.{here}
-use Rattle.iso_atoms.specs.Texts.{KeepsTexts}
 use Rattle.iso_store_core.specs.Presents.{Present, KeepsMarks}
 use Rattle.iso_plain.specs.declared.bodies.Node.{Node}
 use Rattle.iso_plain.specs.declared.parts.Frame.{Frame}
@@ -47,12 +47,12 @@ module _ {S W M : Type 0} (names : S → List (List ℕ)) (present : S → Prese
   pub keeps_more : (e : Plain S W M) (store : S) (nodes : Vec (Node W) Global) (frames : Vec Frame Global) (w : World) (ks : List Alternative) → Keeps names present stands older e w ks → KeepsMarks (stands e.store) (stands store) → KeepsTexts (names e.store) (names store)
       → Adds e.nodes.items nodes.items → Adds e.frames.items frames.items → Keeps names present stands older (record e { store = store; nodes = nodes; frames = frames }) w ks
   keeps_more e store nodes frames w ks k keeps texts nodes_add frames_add =
-      (world_on names e store w texts k.0, base_kept (stands e.store) (stands store) e.base keeps k.1, (k.2.0, choices_on e store nodes frames w k.2.0 ks keeps nodes_add frames_add k.2.1))
+      (world_on texts k.0, base_kept (stands e.store) (stands store) e.base keeps k.1, (k.2.0, choices_on e store nodes frames w k.2.0 ks keeps nodes_add frames_add k.2.1))
 
   pub keeps_store : (e : Plain S W M) (store : S) (w : World) (ks : List Alternative) → Keeps names present stands older e w ks → KeepsMarks (stands e.store) (stands store) → KeepsTexts (names e.store) (names store)
       → Keeps names present stands older (record e { store = store }) w ks
   keeps_store e store w ks k keeps texts =
-      (world_on names e store w texts k.0, base_kept (stands e.store) (stands store) e.base keeps k.1, (k.2.0, choices_keep (λ d p among stood. keeps d.mark p stood) k.2.1))
+      (world_on texts k.0, base_kept (stands e.store) (stands store) e.base keeps k.1, (k.2.0, choices_keep (λ d p among stood. keeps d.mark p stood) k.2.1))
 
   -- no choice came
   pub keeps_choices : (e : Plain S W M) (choices : Vec (kept.Choice W M) Global) (w : World) (ks : List Alternative) → choices.items ≡ e.choices.items → Keeps names present stands older e w ks → Keeps names present stands older (record e { choices = choices }) w ks

@@ -16,3 +16,4 @@ pub mod Replies
 pub mod Called
 pub mod Costs
 pub mod Controls
+pub mod Conversions

@@ -14,6 +14,7 @@ pub mod calls;
 pub mod catches;
 pub mod control;
 pub mod controls;
+pub mod conversion;
 pub mod ends;
 pub mod entries;
 pub mod goals;

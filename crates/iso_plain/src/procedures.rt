@@ -23,11 +23,10 @@ pub struct Procedure {
     pub clauses: Vec<Clause>,
 }
 
-/// The name of a procedure: its atom, its text, and how many arguments goals of it have.
+/// The name of a procedure, by its atom, and how many arguments goals of it have.
 #[derive(Clone, Copy)]
-pub struct Name<'a> {
-    pub atom: Atom,
-    pub text: &'a str,
+pub struct Functor {
+    pub name: Atom,
     pub arity: usize,
 }
 
@@ -57,52 +56,57 @@ fn push_clause(procedure: &mut Procedure, clause: Clause) -> Result<(), AllocErr
     Ok(())
 }
 
-/// Adds a procedure of this name and arity that has this one clause. The error is that memory was refused; the procedures and the
+/// Adds a procedure of this name, whose text this is, and arity that has this one clause. The error is that memory was refused; the procedures and the
 /// callables are as they were then.
 fn add_procedure(
     alloc: Global,
     database: &mut Vec<Procedure>,
     callables: &mut Vec<Vec<Callable>>,
-    name: Name<'_>,
+    functor: Functor,
+    text: &str,
     clause: Clause,
 ) -> Result<(), AllocError>
-    ensures ok { OnOk result (AddsProcedure name clause database.old.items database.new.items callables.old.items callables.new.items) }
+    ensures ok { OnOk result (AddsProcedure functor text.now clause database.old.items database.new.items callables.old.items callables.new.items) }
     ensures err { OnErr result ((database.new.items ≡ database.old.items)
         × ((a n : ℕ) → callee_at callables.new.items a n ≡ callee_at callables.old.items a n)) }
 {
     let place = database.len();
-    let text = String::from_str(alloc, name.text)?;
-    let procedure = made(alloc, text, name.arity, clause)?;
+    let name = String::from_str(alloc, text)?;
+    let procedure = made(alloc, name, functor.arity, clause)?;
     database.push(procedure)?;
-    if let Err(fault) = callables::insert(alloc, callables, name.atom, name.arity, Callee::User(place)) {
+    let calls = Callee::User(place);
+    if let Err(fault) = callables::insert(alloc, callables, functor.name, functor.arity, calls) {
         database.truncate(place);
         return Err(fault);
     }
     Ok(())
 }
 
-/// Adds the clause at the end of its procedure, which is made where there is none.
+/// Adds the clause at the end of its procedure, whose name has this text, and which is made where there is none.
 /// The error is that memory was refused; the procedures are as they were then.
 pub fn add(
     alloc: Global,
     database: &mut Vec<Procedure>,
     callables: &mut Vec<Vec<Callable>>,
-    name: Name<'_>,
+    functor: Functor,
+    text: &str,
     clause: Clause,
 ) -> Result<(), AllocError>
-    requires named { (names : List (List ℕ)) × IsFound names name database.old.items callables.old.items }
-    requires user { built_in (key name.text.now name.arity) ≡ None }
-    ensures ok { OnOk result ((names : List (List ℕ)) (db : Procedures) (c : databases.Clause) → IsFound names name database.old.items callables.old.items
+    requires named { (names : List (List ℕ)) × IsFound names functor text.now database.old.items callables.old.items }
+    requires user { built_in (key text.now functor.arity) ≡ None }
+    ensures ok { OnOk result ((names : List (List ℕ)) (db : Procedures) (c : databases.Clause) → IsFound names functor text.now database.old.items callables.old.items
         → IsDatabase names database.old.items db → IsClause names clause c
-        → IsDatabase names database.new.items (with_clause at_end db (key name.text.now name.arity) c)
+        → IsDatabase names database.new.items (with_clause at_end db (key text.now functor.arity) c)
         × Indexes names callables.new.items (callee_of database.new.items)) }
     ensures err { OnErr result ((names : List (List ℕ)) (db : Procedures) → IsDatabase names database.old.items db
         → Indexes names callables.old.items (callee_of database.old.items)
         → IsDatabase names database.new.items db × Indexes names callables.new.items (callee_of database.new.items)) }
 {
-    match callables::find(callables.as_slice(), name.atom, name.arity) {
-        Some(Callee::User(place)) => push_clause(&mut database[place], clause),
-        Some(Callee::BuiltIn(_)) => unreachable!(),
-        None => add_procedure(alloc, database, callables, name, clause),
+    let Some(callee) = callables::find(callables.as_slice(), functor.name, functor.arity) else {
+        return add_procedure(alloc, database, callables, functor, text, clause);
+    };
+    match callee {
+        Callee::User(place) => push_clause(&mut database[place], clause),
+        Callee::BuiltIn(_) => unreachable!(),
     }
 }

@@ -39,7 +39,7 @@ pub enum Replied {
     Repeats,
     /// The same as what it holds, inside a catch: a body is run, or an error raised (7.8.9).
     Catches(Placed),
-    /// The session ends with this status (8.17.1, 8.17.2).
+    /// The session ends with this status (8.17.3, 8.17.4).
     Halts(u8),
 }
 
@@ -109,7 +109,7 @@ fn thrown<S: Store>(alloc: Global, store: &S, goal: S::Word) -> Result<Ball, NoM
     }
 }
 
-/// What a goal of `halt/1` comes to (8.17.2). The error is that memory was refused.
+/// What a goal of `halt/1` comes to (8.17.4). The error is that memory was refused.
 fn halted<S: Store>(alloc: Global, store: &S, goal: S::Word) -> Result<Replied, StoreFault>
     requires goal { Holds (S.present store.now) goal }
     requires some { 0 < arguments.arity (meaning (S.present store.now) goal) }

@@ -10,7 +10,7 @@ ghost use Rattle.iso_model.specs.Search.Walker.{World, first_world, idle, starte
 use super::controls::Controls;
 use super::parts::{Frame, Now, Todo};
 use super::plain::Plain;
-use super::procedures::{self, Name};
+use super::procedures::{self, Functor};
 use super::{balls, bodies, callables, clauses, entries, writing};
 use iso_model::{AddFault, Term};
 use iso_ops::{Flags, OpTable};
@@ -149,13 +149,13 @@ impl<S: Store + Drop> Plain<S> {
             unreachable!();
         };
         let kept = writing::written_clause(self.alloc, &mut self.store, &checked)?;
-        let atom = self.store.intern(text)?;
-        let name = Name { atom, text, arity };
+        let name = self.store.intern(text)?;
         procedures::add(
             self.alloc,
             &mut self.procedures,
             &mut self.callables,
-            name,
+            Functor { name, arity },
+            text,
             kept,
         )?;
         Ok(())

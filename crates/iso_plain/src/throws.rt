@@ -3,6 +3,7 @@
 ghost use Rattle.std.specs.Prelude.{◌≡◌, ℕ, ◌+◌, ◌<◌, ◌≤◌, true, codes, IfOk, OnOk, OnErr, ◌∷◌, List, Option, MatchBool, MatchOption, Err};
 ghost use Rattle.iso_model.specs.Terms.Trees.{Tree, arities_fit};
 ghost use Rattle.iso_model.specs.Terms.TermOf.{term_of};
+ghost use Rattle.iso_model.specs.Terms.Variables.{variable_count};
 ghost use Rattle.iso_model.specs.Search.Walker.{State, Member, Raise};
 ghost use Rattle.iso_plain.specs.Catches.{GoesTo, IsUncaught, IsEndOfCatch, HasMet, throwing, catcher_of, recovery_of};
 ghost use Rattle.iso_model.specs.Search.Bodies.{one};
@@ -12,11 +13,21 @@ ghost use Rattle.iso_store_core.specs.Presents.{KeepsMarks};
 use super::bodies::Node;
 use super::parts::{Frame, Left, Now, Todo};
 use super::plain::{Move, Plain};
-use iso_model::{Ball, Pause};
+use iso_model::{Ball, Numbering, Term};
 use iso_store_core::{Store, StoreFault};
+use std::alloc::{AllocError, Global};
 
 /// The most variables of a ball that is caught; one with more is refused as memory is.
-const MOST_VARIABLES: u64 = 536_870_912;
+const MOST_VARIABLES: usize = 536_870_912;
+
+/// How many distinct variables the term has. The error is that memory was refused.
+fn count_variables(alloc: Global, term: &Term) -> Result<usize, AllocError>
+    ensures { IfOk result (λ count. count ≡ variable_count (term_of term.now)) }
+{
+    let mut variables = Numbering::new(alloc);
+    variables.note_all(alloc, term)?;
+    Ok(variables.len())
+}
 
 impl<S: Store + Drop> Plain<S> {
     ghost use Rattle.iso_plain.specs.Catches.{MeetsBall, IsCaught, Recovers, Calling, HasStack, HasThrown};
@@ -136,11 +147,10 @@ impl<S: Store + Drop> Plain<S> {
         let Some(ball) = &self.raised else {
             unreachable!();
         };
-        let before = self.store.reserve(0);
-        let copy = self.store.build(&ball.term)?;
-        if self.store.reserve(0) - before > MOST_VARIABLES {
+        if count_variables(self.alloc, &ball.term)? > MOST_VARIABLES {
             return Err(StoreFault::NoMemory);
         }
+        let copy = self.store.build(&ball.term)?;
         let catcher = self.store.arg(goal, 1);
         self.store.unify(catcher, copy)
     }

@@ -2,7 +2,7 @@ use Rattle.std.proofs.Common.{◌≡◌, length}
 use Rattle.iso_plain.proofs.FailLemmas.{awake_behind}
 use Rattle.iso_plain.proofs.ResumeLemmas.{has_members, resumed, resumed_cost}
 use Rattle.iso_plain.proofs.StandingLemmas.{chain_place}
-use Rattle.iso_plain.proofs.WorldLemmas.{texts_same}
+use Rattle.iso_plain.proofs.WorldLemmas.{same_texts}
 use Rattle.iso_plain.proofs.plain.Plain.go_on.Goals as goal
 
 pub at-self-requires : goal.at-self-requires
@@ -14,7 +14,7 @@ pub returns-clause-goes : goal.returns-clause-goes
 returns-clause-goes g c = λ s a below w.
     (let choices = c.args.self.now.choices.items in
     let many : c.len.result ≡ length choices = cc (c.len.ensures, c.args.self.now.choices.ok.0) in
-    rw (c.at-self.ensures, c.as_slice.ensures.value) (resumed g.S.Store.names g.S.Store.present g.S.Store.stands g.S.Store.older c.args.self.now c.args.choice s a below w c.args.place c.forget.new.self c.truncate.new.self c.requires.left c.forget.ensures.present c.forget.ensures.marks (texts_same c.forget.ensures.names) (rw many at c.truncate.ensures.items)))
+    rw (c.at-self.ensures, c.as_slice.ensures.value) (resumed g.S.Store.names g.S.Store.present g.S.Store.stands g.S.Store.older c.args.self.now c.args.choice s a below w c.args.place c.forget.new.self c.truncate.new.self c.requires.left c.forget.ensures.present c.forget.ensures.marks (same_texts c.forget.ensures.names) (rw many at c.truncate.ensures.items)))
 
 pub returns-clause-awake : goal.returns-clause-awake
 returns-clause-awake g c = rw c.at-self.ensures (awake_behind _ c.args.place)

@@ -5,7 +5,7 @@ use Rattle.iso_plain.specs.Costs.{frame_costs}
 use Rattle.iso_plain.specs.EngineStates.{clauses_at_place, choices_cost}
 use Rattle.iso_plain.proofs.CountLemmas.{count_fits}
 use Rattle.iso_plain.proofs.ChoiceLemmas.{rest, within, choices_are, with_left, next_of, set_left, retries_next, retries_last, fewer_next, fewer_choices}
-use Rattle.iso_plain.proofs.WorldLemmas.{texts_same}
+use Rattle.iso_plain.proofs.WorldLemmas.{same_texts}
 use Rattle.iso_plain.proofs.plain.Plain.leave_choice.Goals as goal
 
 pub overflow_add-clause : goal.overflow_add-clause
@@ -52,7 +52,7 @@ returns-else-clause-clause_count-clause-calls g c = λ s a below w.
     let count : c.clause_count.result ≡ clauses_at_place c.args.self.now.procedures.items c.args.attempt.procedure = rw c.as_slice.ensures.value at c.clause_count.ensures in
     let none = c.if-clause-clause_count.false in
     retries_last g.S.Store.names g.S.Store.present g.S.Store.stands g.S.Store.older c.args.self.now c.args.choice c.args.attempt s a below w c.requires.left c.forget.new.self c.truncate.new.self (omega (arith, count, none))
-    c.forget.ensures.present c.forget.ensures.marks (texts_same c.forget.ensures.names) (rw many at c.truncate.ensures.items))
+    c.forget.ensures.present c.forget.ensures.marks (same_texts c.forget.ensures.names) (rw many at c.truncate.ensures.items))
 
 pub returns-else-clause-clause_count-clause-costs : goal.returns-else-clause-clause_count-clause-costs
 returns-else-clause-clause_count-clause-costs g c =

@@ -7,6 +7,7 @@ use Rattle.iso_plain.proofs.StoppedLemmas.{behind_error, base_kept}
 use Rattle.iso_plain.proofs.ControlCosts.{gained_cost}
 use Rattle.iso_plain.proofs.CountLemmas.{clauses_counted, count_fits}
 use Rattle.iso_plain.proofs.CallLemmas.{calls_later, later_cost}
+use Rattle.iso_plain.proofs.WorldLemmas.{world_on}
 use Rattle.iso_plain.proofs.plain.Plain.push_later.Goals as goal
 
 pub overflow_add-clause : goal.overflow_add-clause
@@ -39,7 +40,7 @@ returns-in_err-keep_choice-clause-costs g c =
 pub returns-in_err-keep_choice-clause-kept : goal.returns-in_err-keep_choice-clause-kept
 returns-in_err-keep_choice-clause-kept g c = λ s call k ks gs t.
     behind_error c.from_residual.result (
-      t.world,
-      base_kept (g.S.Store.stands c.args.self.now.store) (g.S.Store.stands c.keep_choice.new.store) c.args.self.now.base c.in_err-keep_choice.ensures.marks c.in_err-keep_choice.ensures.names t.base,
-      (variables s.query, rw c.in_err-keep_choice.ensures.kept (choices_keep (λ d p among stood. c.in_err-keep_choice.ensures.marks c.in_err-keep_choice.ensures.names d.mark p stood) t.choices)),
+      world_on c.in_err-keep_choice.ensures.names t.world,
+      base_kept (g.S.Store.stands c.args.self.now.store) (g.S.Store.stands c.keep_choice.new.store) c.args.self.now.base c.in_err-keep_choice.ensures.marks t.base,
+      (variables s.query, rw c.in_err-keep_choice.ensures.kept (choices_keep (λ d p among stood. c.in_err-keep_choice.ensures.marks d.mark p stood) t.choices)),
     )

@@ -14,7 +14,7 @@ invariant-loop-pause g l = record {
   quiet : (s : State) → StandsFor g.S.Store.names g.S.Store.present g.S.Store.stands g.S.Store.older l.fn.self s
       → (t : State) × Quiet s t × StandsFor g.S.Store.names g.S.Store.present g.S.Store.stands g.S.Store.older l.self t;
   less : weight l.self ≤ weight l.fn.self;
-  stays : Stays l.fn.self l.self;
+  stays : Stays g.S.Store.names l.fn.self l.self;
 }
 
 abbrev pub decreases-loop-pause : goal.decreases-loop-pause
