@@ -10,7 +10,7 @@ use Rattle.iso_model.specs.Search.Databases.{Key, Procedures, key, key_of, same_
 use Rattle.iso_model.specs.Terms.Arguments.{arity}
 use Rattle.iso_model.specs.Search.BuiltIns.{built_ins, built_in_among}
 use Rattle.iso_model.specs.declared.built_ins.BuiltIn.{BuiltIn}
-use Rattle.iso_model.specs.declared.built_ins.BuiltIn.TheVariants.{True, Fail, Unify, Differ, Call, Once, Not, Repeat}
+use Rattle.iso_model.specs.declared.built_ins.BuiltIn.TheVariants.{True, Fail, Unify, Differ, Call, Once, Not, Repeat, Catch, Throw, Halt, HaltWith}
 use Rattle.iso_model.specs.Search.Walker.{World}
 use Rattle.iso_plain.specs.declared.clauses.Clause.{Clause}
 use Rattle.iso_plain.specs.declared.procedures.Procedure.{Procedure}
@@ -48,6 +48,10 @@ HasArity Call n = (0 < n) × (n < 256)
 HasArity Once n = n ≡ 1
 HasArity Not n = n ≡ 1
 HasArity Repeat n = n ≡ 0
+HasArity Catch n = n ≡ 3
+HasArity Throw n = n ≡ 1
+HasArity Halt n = n ≡ 0
+HasArity HaltWith n = n ≡ 1
 
 abbrev FitRows : List (Key × BuiltIn) → Type 0
 FitRows [] = Unit {0}
@@ -56,7 +60,7 @@ FitRows (e ∷ es) = HasArity e.1 (e.0).arity × FitRows es
 rows_fit : FitRows built_ins
 rows_fit =
     let call : (n : ℕ) → 0 < n → n < 256 → HasArity Call n = λ n some few. (some, few) in
-    (refl, (refl, (refl, (refl, (call 1 (omega arith) (omega arith), (call 2 (omega arith) (omega arith), (call 3 (omega arith) (omega arith), (call 4 (omega arith) (omega arith), (call 5 (omega arith) (omega arith), (call 6 (omega arith) (omega arith), (call 7 (omega arith) (omega arith), (call 8 (omega arith) (omega arith), (refl, (refl, (refl, (refl, tt))))))))))))))))
+    (refl, (refl, (refl, (refl, (call 1 (omega arith) (omega arith), (call 2 (omega arith) (omega arith), (call 3 (omega arith) (omega arith), (call 4 (omega arith) (omega arith), (call 5 (omega arith) (omega arith), (call 6 (omega arith) (omega arith), (call 7 (omega arith) (omega arith), (call 8 (omega arith) (omega arith), (refl, (refl, (refl, (refl, (refl, (refl, (refl, (refl, tt))))))))))))))))))))
 
 arity_among : (es : List (Key × BuiltIn)) → FitRows es → (k : Key) (b : BuiltIn) → built_in_among es k ≡ Some b → HasArity b k.arity
 arity_among [] fit k b h = absurd cc

@@ -24,6 +24,7 @@ pub mod AheadLemmas
 pub mod ControlMoves
 pub mod ControlCosts
 pub mod CutMoves
+pub mod CatchMoves
 pub mod LocalMoves
 pub mod SameBodies
 pub mod ResumeLemmas

@@ -3,7 +3,6 @@ use Rattle.std.proofs.Common.{◌≡◌, ℕ, suc, ◌+◌, ◌<◌, ◌≤◌, 
 use Rattle.iso_atoms.specs.Texts.{KeepsTexts}
 use Rattle.iso_model.specs.Search.Bodies.{Body}
 use Rattle.iso_model.specs.Search.Walker.{State, Goal, CutTo, Fail, AsIs, Again, pushed}
-use Rattle.iso_atoms.specs.Texts.{KeepsTexts}
 use Rattle.iso_store_core.specs.Presents.{Present, KeepsMarks}
 use Rattle.iso_plain.specs.declared.parts.Todo.TheVariants as todo
 use Rattle.iso_plain.specs.declared.parts.Frame.{Frame}

@@ -1,12 +1,14 @@
 -- What goals of built-ins come to is the table's reply.
-use Rattle.std.proofs.Common.{◌≡◌, List, Bool, true, false, refl, sym, subst, codes, MatchBool, if◌then◌else◌}
-use Rattle.iso_model.specs.Terms.Trees.{Tree}
+use Rattle.std.proofs.Common.{◌≡◌, ℕ, List, Bool, true, false, ◌||◌, nat_lt, nat_abs, int_lt, pos, Option, Some, None, refl, sym, subst, codes, MatchBool, if◌then◌else◌}
+use Rattle.iso_model.specs.Terms.Trees.{Tree, Variable, Integer, Name, Apply, End, More}
 use Rattle.iso_model.specs.Terms.Arguments.{argument, arity}
 use Rattle.iso_model.specs.Terms.Substitutions.{Subst}
 use Rattle.iso_model.specs.Terms.Unifiers.{Unifier, NeverEqual}
 use Rattle.iso_model.specs.Terms.Unification.{unifier_of}
-use Rattle.iso_model.specs.Search.BuiltIns.{Calls, CallsOnce, Refutes, differ, goal_reply, reply}
-use Rattle.iso_model.specs.Search.Errors.{key}
+use Rattle.iso_model.specs.Search.BuiltIns.{Reply, Raises, Calls, CallsOnce, Refutes, Catches, Halts, differ, converted_reply, goal_reply, throw_reply, halt_reply, reply}
+use Rattle.iso_model.specs.Search.Bodies.{Body, converted}
+use Rattle.iso_model.specs.Search.Errors.{Key, key, domain_error, max_arity_error}
+use Rattle.iso_model.specs.declared.built_ins.BuiltIn.{BuiltIn}
 use Rattle.iso_model.specs.declared.built_ins.BuiltIn.TheVariants as built_in
 use Rattle.iso_model.specs.declared.pauses.Ball.{Ball}
 use Rattle.iso_model.proofs.OnTerms.UnifierLemmas.{unifier_of_some, unifier_of_none}
@@ -41,3 +43,73 @@ pub differ_replied : {W : Type 0} (p q : Present W) (old : List (Node W)) (a b :
     → IsReply p q old old (differ (unifier_of a b)) (if answer then replied.GoesOn else replied.Fails)
 differ_replied p q old a b true h same = rw (unifier_of_none a b h) (same, refl)
 differ_replied p q old a b false h same = rw (unifier_of_some h.1) (adds_none old)
+
+-- ---- which goals are run inside a catch
+
+abbrev IsCatches : Reply → Type 0
+IsCatches (Catches inside catcher recovery) = Unit {0}
+IsCatches x = ⊥
+
+no_catch_differ : (o : Option Subst) → IsCatches (differ o) → ⊥
+no_catch_differ None h = h
+no_catch_differ (Some u) h = h
+
+no_catch_converted : (runs : Body → Reply) (o : Option Body) (goal : Tree) (k : Key) → ((b : Body) → IsCatches (runs b) → ⊥) → IsCatches (converted_reply runs o goal k) → ⊥
+no_catch_converted runs None goal k none h = h
+no_catch_converted runs (Some b) goal k none h = none b h
+
+no_catch_goal : (runs : Body → Reply) (goal : Tree) (k : Key) → ((b : Body) → IsCatches (runs b) → ⊥) → IsCatches (goal_reply runs goal k) → ⊥
+no_catch_goal runs (Variable n) k none h = h
+no_catch_goal runs (Integer z) k none h = no_catch_converted runs (converted (Integer z)) (Integer z) k none h
+no_catch_goal runs (Name a) k none h = no_catch_converted runs (converted (Name a)) (Name a) k none h
+no_catch_goal runs (Apply f ts) k none h = no_catch_converted runs (converted (Apply f ts)) (Apply f ts) k none h
+no_catch_goal runs End k none h = no_catch_converted runs (converted End) End k none h
+no_catch_goal runs (More t ts) k none h = no_catch_converted runs (converted (More t ts)) (More t ts) k none h
+
+no_catch_limited : (goal : Tree) (k : Key) (x : Bool) (b : Body) → IsCatches (if x then Raises (max_arity_error k) else Calls b) → ⊥
+no_catch_limited goal k true b h = h
+no_catch_limited goal k false b h = h
+
+no_catch_throw : (t : Tree) (k : Key) → IsCatches (throw_reply t k) → ⊥
+no_catch_throw (Variable n) k h = h
+no_catch_throw (Integer z) k h = h
+no_catch_throw (Name a) k h = h
+no_catch_throw (Apply f ts) k h = h
+no_catch_throw End k h = h
+no_catch_throw (More t ts) k h = h
+
+no_catch_status : (x : Bool) (error : Tree) (n : ℕ) → IsCatches (if x then Raises error else Halts n) → ⊥
+no_catch_status true error n h = h
+no_catch_status false error n h = h
+
+no_catch_halt : (t : Tree) (k : Key) → IsCatches (halt_reply t k) → ⊥
+no_catch_halt (Variable n) k h = h
+no_catch_halt (Integer z) k h = no_catch_status (int_lt z (pos 0) || int_lt (pos 255) z) (domain_error (codes "exit_code") (Integer z) k) (nat_abs z) h
+no_catch_halt (Name a) k h = h
+no_catch_halt (Apply f ts) k h = h
+no_catch_halt End k h = h
+no_catch_halt (More t ts) k h = h
+
+only_catch : (b : BuiltIn) (t : Tree) → IsCatches (reply b t) → b ≡ built_in.Catch
+only_catch built_in.True t h = absurd h
+only_catch built_in.Fail t h = absurd h
+only_catch built_in.Unify t h = absurd h
+only_catch built_in.Differ t h = absurd (no_catch_differ (unifier_of (argument 0 t) (argument 1 t)) h)
+only_catch built_in.Call t h =
+    let goal = called_of t in
+    absurd (no_catch_goal (λ b. if nat_lt 255 (arity goal) then Raises (max_arity_error (key (codes "call") (arity t))) else Calls b) goal (key (codes "call") (arity t))
+    (λ b. no_catch_limited goal (key (codes "call") (arity t)) (nat_lt 255 (arity goal)) b) h)
+only_catch built_in.Once t h = absurd (no_catch_goal CallsOnce (argument 0 t) (key (codes "once") 1) (λ b none. none) h)
+only_catch built_in.Not t h = absurd (no_catch_goal Refutes (argument 0 t) (key (codes "\\+") 1) (λ b none. none) h)
+only_catch built_in.Repeat t h = absurd h
+only_catch built_in.Catch t h = refl
+only_catch built_in.Throw t h = absurd (no_catch_throw (argument 0 t) (key (codes "throw") 1) h)
+only_catch built_in.Halt t h = absurd h
+only_catch built_in.HaltWith t h = absurd (no_catch_halt (argument 0 t) (key (codes "halt") 1) h)
+
+-- a catch's parts are the goal's arguments
+pub catch_parts : (b : BuiltIn) (t : Tree) (inside : Reply) (catcher recovery : Tree) → reply b t ≡ Catches inside catcher recovery → (b ≡ built_in.Catch) × (catcher ≡ argument 1 t) × (recovery ≡ argument 2 t)
+catch_parts b t inside catcher recovery is =
+    let own : b ≡ built_in.Catch = only_catch b t (subst (λ (x : Reply). IsCatches x) (sym is) tt) in
+    let there : Catches (goal_reply Calls (argument 0 t) (key (codes "catch") 3)) (argument 1 t) (argument 2 t) ≡ Catches inside catcher recovery = subst (λ (x : BuiltIn). reply x t ≡ Catches inside catcher recovery) own is in
+    (own, cc, cc)

@@ -1,19 +1,23 @@
 -- A goal of a built-in: whatever its reply is, the engine's move is a step.
-use Rattle.std.proofs.Common.{◌≡◌, ◌≢◌, ◌+◌, ◌-◌, ◌≤◌, ℕ, suc, List, [], ◌∷◌, length, refl, ap, sym, ◌∙◌, subst, arith, inl, inr, Vec, Global}
-use Rattle.iso_atoms.specs.Texts.{KeepsTexts}
-use Rattle.iso_model.specs.Terms.Trees.{Tree}
+use Rattle.std.proofs.Common.{◌≡◌, ◌≢◌, ◌+◌, ◌-◌, ◌≤◌, ℕ, suc, List, [], ◌∷◌, length, refl, ap, ap₂, sym, ◌∙◌, subst, arith, inl, inr, true, Vec, Global}
+use Rattle.iso_model.specs.Terms.Trees.{Tree, arities_fit}
 use Rattle.iso_model.specs.Terms.TermOf.{term_of}
-use Rattle.iso_model.specs.Terms.Substitutions.{Subst, compose}
+use Rattle.iso_model.specs.Terms.Arguments.{arity, argument}
+use Rattle.iso_model.specs.Terms.Substitutions.{Subst, apply, compose}
 use Rattle.iso_model.specs.Terms.Unifiers.{Unifier, NeverEqual}
 use Rattle.iso_model.specs.Search.Bodies.{Body, Run, map_body}
-use Rattle.iso_model.specs.Search.BuiltIns.{Reply, Fails, Succeeds, Equates, Raises, Calls, CallsOnce, Refutes, Repeats, reply}
+use Rattle.iso_model.specs.Search.BuiltIns.{Reply, Fails, Succeeds, Equates, Raises, Calls, CallsOnce, Refutes, Repeats, Catches, Halts, reply}
 use Rattle.iso_model.specs.declared.built_ins.BuiltIn.{BuiltIn}
+use Rattle.iso_model.specs.declared.built_ins.BuiltIn.TheVariants as built_in
+use Rattle.iso_model.specs.declared.pauses.Pause.{Pause}
 use Rattle.iso_model.specs.declared.limit.Limit.TheVariants as limit
-use Rattle.iso_model.specs.Search.Walker.{State, Goal, CutTo, Fail, World, Goes, AsIs, Again, Uncaught, idle, fails, with_goal, pushed, step}
+use Rattle.iso_model.specs.Search.Walker.{State, World, Goal, CutTo, Fail, Leave, Raise, Goes, AsIs, Again, Catching, Halted, idle, fails, with_goal, pushed, step}
+use Rattle.iso_model.specs.Search.Engines.{IsAwake}
 use Rattle.iso_model.specs.Search.Runs.{Finishes, ComesOver}
 use Rattle.iso_model.specs.Search.RunLaws.Sameness.{Around}
 use Rattle.iso_model.specs.Search.RunLaws.Values.{IsValue, IsOwnBody, IsOwnReply, value_is, reply_own}
 use Rattle.iso_model.proofs.Search.CallLemmas.{run_equation, run_equation_missed}
+use Rattle.iso_atoms.specs.Texts.{KeepsTexts}
 use Rattle.iso_store_core.specs.Presents.{Present, KeepsMarks, KeepsWords, Binds, meaning}
 use Rattle.iso_plain.specs.declared.bodies.Node.{Node}
 use Rattle.iso_plain.specs.declared.bodies.Node.TheVariants as node
@@ -23,13 +27,16 @@ use Rattle.iso_plain.specs.declared.parts.Now.TheVariants as now
 use Rattle.iso_plain.specs.declared.plain.Move.{Move}
 use Rattle.iso_plain.specs.declared.plain.Move.TheVariants as move
 use Rattle.iso_plain.specs.declared.plain.Plain.{Plain}
+use Rattle.iso_plain.specs.declared.goals.Placed.{Placed}
+use Rattle.iso_plain.specs.declared.goals.Placed.TheVariants as placed
 use Rattle.iso_plain.specs.declared.replies.Replied.TheVariants as replied
 use Rattle.iso_model.specs.declared.pauses.Ball.{Ball}
 use Rattle.iso_plain.specs.Next.{now_behind}
 use Rattle.iso_plain.specs.Called.{IsBuiltIn}
 use Rattle.iso_plain.specs.Entering.{Adds}
+use Rattle.iso_plain.specs.Catches.{EntersCatch, throwing, catching, calling_inside, catcher_of, recovery_of}
 use Rattle.iso_plain.specs.Programs.{IsWorld}
-use Rattle.iso_plain.specs.Replies.{IsReply, Places}
+use Rattle.iso_plain.specs.Replies.{IsReply, IsInside, IsUnbound, Places}
 use Rattle.iso_plain.specs.Standing.{IsAt, a_body}
 use Rattle.iso_plain.specs.EngineStates.{IsEngine, IsAhead, Represents, StandsFor, Stopped, Keeps, WasCalled, WasRefused, Moves, calling_once, refuting, phase_of}
 use Rattle.iso_plain.proofs.AheadLemmas.{engine_frame, engine_place}
@@ -37,8 +44,10 @@ use Rattle.iso_plain.proofs.EngineMoves.{spent_stands}
 use Rattle.iso_plain.proofs.EnteringLemmas.{words_same}
 use Rattle.iso_plain.proofs.FailLemmas.{awake_behind}
 use Rattle.iso_plain.proofs.RunLemmas.{AtRun, ahead_step, one_less}
-use Rattle.iso_plain.proofs.RunMoves.{failed_engine, at, runs_to, raises}
-use Rattle.iso_plain.proofs.SameBodies.{around_own, around_steps, around_pushed, same_first}
+use Rattle.iso_plain.proofs.RunMoves.{failed_engine, at, runs_to, throws, ends_by}
+use Rattle.iso_plain.proofs.CalledLemmas.{HasArity, built_in_arguments}
+use Rattle.iso_plain.proofs.ReplyLemmas.{catch_parts}
+use Rattle.iso_plain.proofs.SameBodies.{around_own, around_steps, around_pushed, same_first, same_inside}
 use Rattle.iso_plain.proofs.SearchMoves.{goes, goes_as, stops, stops_here, comes_over}
 use Rattle.iso_plain.proofs.SearchSteps.{own_goal}
 use Rattle.iso_plain.proofs.StandingLemmas.{choices_length}
@@ -59,6 +68,8 @@ went_on p q old new (Calls b) h = absurd h
 went_on p q old new (CallsOnce b) h = absurd h
 went_on p q old new (Refutes b) h = absurd h
 went_on p q old new Repeats h = absurd h
+went_on p q old new (Catches inside catcher recovery) h = absurd h
+went_on p q old new (Halts n) h = absurd h
 
 -- The goal failed.
 pub data Failed : Reply → Type 0 where
@@ -74,9 +85,11 @@ failed_on p q old new (Calls b) h = absurd h
 failed_on p q old new (CallsOnce b) h = absurd h
 failed_on p q old new (Refutes b) h = absurd h
 failed_on p q old new Repeats h = absurd h
+failed_on p q old new (Catches inside catcher recovery) h = absurd h
+failed_on p q old new (Halts n) h = absurd h
 
-pub raised_by : {W : Type 0} (p q : Present W) (old new : List (Node W)) (x : Reply) (ball : Ball) → IsReply p q old new x (replied.Raises ball) → x ≡ Raises (term_of ball.term)
-raised_by p q old new (Raises error) ball h = ap Raises (sym h)
+pub raised_by : {W : Type 0} (p q : Present W) (old new : List (Node W)) (x : Reply) (ball : Ball) → IsReply p q old new x (replied.Raises ball) → (x ≡ Raises (term_of ball.term)) × (arities_fit (term_of ball.term) ≡ true) × IsUnbound p q
+raised_by p q old new (Raises error) ball h = (ap Raises (sym h.is), h.fits, h.unbound)
 raised_by p q old new Fails ball h = absurd h
 raised_by p q old new Succeeds ball h = absurd h
 raised_by p q old new (Equates a b) ball h = absurd h
@@ -84,6 +97,8 @@ raised_by p q old new (Calls b) ball h = absurd h
 raised_by p q old new (CallsOnce b) ball h = absurd h
 raised_by p q old new (Refutes b) ball h = absurd h
 raised_by p q old new Repeats ball h = absurd h
+raised_by p q old new (Catches inside catcher recovery) ball h = absurd h
+raised_by p q old new (Halts n) ball h = absurd h
 
 pub calls_by : {W : Type 0} (p q : Present W) (old new : List (Node W)) (x : Reply) (place : ℕ) → IsReply p q old new x (replied.Calls place) → (b : Body) × (x ≡ Calls b) × Places p q old new b place
 calls_by p q old new (Calls b) place h = (b, refl, h)
@@ -94,6 +109,8 @@ calls_by p q old new (Raises error) place h = absurd h
 calls_by p q old new (CallsOnce b) place h = absurd h
 calls_by p q old new (Refutes b) place h = absurd h
 calls_by p q old new Repeats place h = absurd h
+calls_by p q old new (Catches inside catcher recovery) place h = absurd h
+calls_by p q old new (Halts n) place h = absurd h
 
 pub once_by : {W : Type 0} (p q : Present W) (old new : List (Node W)) (x : Reply) (place : ℕ) → IsReply p q old new x (replied.CallsOnce place) → (b : Body) × (x ≡ CallsOnce b) × Places p q old new b place
 once_by p q old new (CallsOnce b) place h = (b, refl, h)
@@ -104,6 +121,8 @@ once_by p q old new (Raises error) place h = absurd h
 once_by p q old new (Calls b) place h = absurd h
 once_by p q old new (Refutes b) place h = absurd h
 once_by p q old new Repeats place h = absurd h
+once_by p q old new (Catches inside catcher recovery) place h = absurd h
+once_by p q old new (Halts n) place h = absurd h
 
 pub refutes_by : {W : Type 0} (p q : Present W) (old new : List (Node W)) (x : Reply) (place : ℕ) → IsReply p q old new x (replied.Refutes place) → (b : Body) × (x ≡ Refutes b) × Places p q old new b place
 refutes_by p q old new (Refutes b) place h = (b, refl, h)
@@ -114,6 +133,8 @@ refutes_by p q old new (Raises error) place h = absurd h
 refutes_by p q old new (Calls b) place h = absurd h
 refutes_by p q old new (CallsOnce b) place h = absurd h
 refutes_by p q old new Repeats place h = absurd h
+refutes_by p q old new (Catches inside catcher recovery) place h = absurd h
+refutes_by p q old new (Halts n) place h = absurd h
 
 pub repeats_by : {W : Type 0} (p q : Present W) (old new : List (Node W)) (x : Reply) → IsReply p q old new x replied.Repeats → (x ≡ Repeats) × (q ≡ p)
 repeats_by p q old new Repeats h = (refl, h.0)
@@ -124,6 +145,59 @@ repeats_by p q old new (Raises error) h = absurd h
 repeats_by p q old new (Calls b) h = absurd h
 repeats_by p q old new (CallsOnce b) h = absurd h
 repeats_by p q old new (Refutes b) h = absurd h
+repeats_by p q old new (Catches inside catcher recovery) h = absurd h
+repeats_by p q old new (Halts n) h = absurd h
+
+pub catches_by : {W : Type 0} (p q : Present W) (old new : List (Node W)) (x : Reply) (placed : Placed) → IsReply p q old new x (replied.Catches placed)
+    → (inside : Reply) × (catcher : Tree) × (recovery : Tree) × (x ≡ Catches inside catcher recovery) × IsInside p q old new inside placed
+catches_by p q old new (Catches inside catcher recovery) placed h = (inside, catcher, recovery, refl, h)
+catches_by p q old new Fails placed h = absurd h
+catches_by p q old new Succeeds placed h = absurd h
+catches_by p q old new (Equates a b) placed h = absurd h
+catches_by p q old new (Raises error) placed h = absurd h
+catches_by p q old new (Calls b) placed h = absurd h
+catches_by p q old new (CallsOnce b) placed h = absurd h
+catches_by p q old new (Refutes b) placed h = absurd h
+catches_by p q old new Repeats placed h = absurd h
+catches_by p q old new (Halts n) placed h = absurd h
+
+pub halts_by : {W : Type 0} (p q : Present W) (old new : List (Node W)) (x : Reply) (status : ℕ) → IsReply p q old new x (replied.Halts status) → x ≡ Halts status
+halts_by p q old new (Halts n) status h = ap Halts (sym h)
+halts_by p q old new Fails status h = absurd h
+halts_by p q old new Succeeds status h = absurd h
+halts_by p q old new (Equates a b) status h = absurd h
+halts_by p q old new (Raises error) status h = absurd h
+halts_by p q old new (Calls b) status h = absurd h
+halts_by p q old new (CallsOnce b) status h = absurd h
+halts_by p q old new (Refutes b) status h = absurd h
+halts_by p q old new Repeats status h = absurd h
+halts_by p q old new (Catches inside catcher recovery) status h = absurd h
+
+-- what is inside a catch
+pub inside_calls : {W : Type 0} (p q : Present W) (old new : List (Node W)) (x : Reply) (place : ℕ) → IsInside p q old new x (placed.Body place) → (b : Body) × (x ≡ Calls b) × Places p q old new b place
+inside_calls p q old new (Calls b) place h = (b, refl, h)
+inside_calls p q old new Fails place h = absurd h
+inside_calls p q old new Succeeds place h = absurd h
+inside_calls p q old new (Equates a b) place h = absurd h
+inside_calls p q old new (Raises error) place h = absurd h
+inside_calls p q old new (CallsOnce b) place h = absurd h
+inside_calls p q old new (Refutes b) place h = absurd h
+inside_calls p q old new Repeats place h = absurd h
+inside_calls p q old new (Catches inside catcher recovery) place h = absurd h
+inside_calls p q old new (Halts n) place h = absurd h
+
+pub inside_raises : {W : Type 0} (p q : Present W) (old new : List (Node W)) (x : Reply) (ball : Ball) → IsInside p q old new x (placed.Raises ball)
+    → (x ≡ Raises (term_of ball.term)) × (arities_fit (term_of ball.term) ≡ true) × IsUnbound p q
+inside_raises p q old new (Raises error) ball h = (ap Raises (sym h.is), h.fits, h.unbound)
+inside_raises p q old new Fails ball h = absurd h
+inside_raises p q old new Succeeds ball h = absurd h
+inside_raises p q old new (Equates a b) ball h = absurd h
+inside_raises p q old new (Calls b) ball h = absurd h
+inside_raises p q old new (CallsOnce b) ball h = absurd h
+inside_raises p q old new (Refutes b) ball h = absurd h
+inside_raises p q old new Repeats ball h = absurd h
+inside_raises p q old new (Catches inside catcher recovery) ball h = absurd h
+inside_raises p q old new (Halts n) ball h = absurd h
 
 module _ {S W M : Type 0} (names : S → List (List ℕ)) (present : S → Present W) (stands : S → M → Present W → Type 0) (older : M → M → Type 0) where
   module _ (e : Plain S W M) (store : S) (nodes : Vec (Node W) Global) (s : State) (f : Frame) (k : ℕ) (w : W) (doing : e.now ≡ now.Running f) (there : IsAt e.nodes.items f k (node.Run w)) (r : Represents names present stands older e s)
@@ -176,6 +250,8 @@ module _ {S W M : Type 0} (names : S → List (List ℕ)) (present : S → Prese
     goes_on (CallsOnce goal) is x6 = elim x6 [ ]
     goes_on (Refutes goal) is x7 = elim x7 [ ]
     goes_on Repeats is x8 = elim x8 [ ]
+    goes_on (Catches inside catcher recovery) is x9 = elim x9 [ ]
+    goes_on (Halts status) is x10 = elim x10 [ ]
 
     -- ---- it failed
 
@@ -193,12 +269,24 @@ module _ {S W M : Type 0} (names : S → List (List ℕ)) (present : S → Prese
     fails_now (CallsOnce goal) is x6 = elim x6 [ ]
     fails_now (Refutes goal) is x7 = elim x7 [ ]
     fails_now Repeats is x8 = elim x8 [ ]
+    fails_now (Catches inside catcher recovery) is x9 = elim x9 [ ]
+    fails_now (Halts status) is x10 = elim x10 [ ]
 
-    -- ---- an error is raised
+    -- ---- a ball is thrown
 
-    pub raises_now : (new : Plain S W M) (error : Tree) → reply b t ≡ Raises error → ((v : World) → IsWorld names e v → IsEngine names present stands older new (idle v)) → new.now ≡ now.Idle
-        → Finishes s (Uncaught error) (StandsFor names present stands older new)
-    raises_now new error is idles rests = raises names present stands older e s f k w doing there r new error more idles rests (own_goal t a.behind o b (Raises error) is_own is)
+    -- the engine about to throw it
+    pub unbound_ahead : IsUnbound (present e.store) (present store) → IsAhead names present stands older mid (behind o.built) f.next
+    unbound_ahead h = behind_ahead o.built h.words h.substitution h.next
+
+    pub raises_now : (new : Plain S W M) (ball : Tree) → reply b t ≡ Raises ball → IsEngine names present stands older new (throwing ball (behind o.built)) → IsAwake (phase_of new.now)
+        → Moves names present stands older move.Goes s new
+    raises_now new ball is engine awake = throws names present stands older e s f k w doing there r new ball more (own_goal t a.behind o b (Raises ball) is_own is) engine awake
+
+    -- ---- the search is ended
+
+    pub halts_now : (new : Plain S W M) (status : ℕ) → reply b t ≡ Halts status → ((v : World) → IsWorld names e v → IsEngine names present stands older new (idle v)) → new.now ≡ now.Idle
+        → Finishes s (Halted status) (StandsFor names present stands older new)
+    halts_now new status is idles rests = ends_by names present stands older e s f k w doing there r new (Halted status) more (own_goal t a.behind o b (Halts status) is_own is) idles rests
 
     -- ---- a goal is run
 
@@ -301,3 +389,111 @@ module _ {S W M : Type 0} (names : S → List (List ℕ)) (present : S → Prese
       repeat_over full =
           let many = choices_length r.engine.choices in
           comes_over names present stands older e s r (pushed repeating.list Again repeating) e.limit repeat_step refl (omega (arith, many, full))
+
+    -- ---- inside a catch
+
+    module _ (inside : Reply) (catcher recovery : Tree) (is : reply b t ≡ Catches inside catcher recovery) (h : IsUnbound (present e.store) (present store)) where
+      -- the state behind the goal
+      abbrev pub after : State
+      after = behind o.built
+
+      -- the goal's word stands for what it did
+      still : meaning (present store) w ≡ t
+      still = ap₂ (λ (v : Subst) (x : Tree). apply v x) h.substitution (h.words.terms w a.holds)
+
+      parts : (b ≡ built_in.Catch) × (catcher ≡ argument 1 t) × (recovery ≡ argument 2 t)
+      parts = catch_parts b t inside catcher recovery is
+
+      catcher_same : catcher_of (present store) w ≡ catcher
+      catcher_same = ap (argument 1) still ∙ sym parts.1
+
+      recovery_same : recovery_of (present store) w ≡ recovery
+      recovery_same = ap (argument 2) still ∙ sym parts.2
+
+      pub enters_catch : EntersCatch names present stands older mid w after f.next
+      enters_catch = record {
+        ahead = behind_ahead o.built h.words h.substitution h.next;
+        space = (let room = a.ahead.goes.room in let all = a.ahead.steps in let one = one_less e.steps more in omega (arith, room, all, one));
+        catches = record {
+          holds = h.words.stand w a.holds;
+          three = ap arity still ∙ subst (λ (x : BuiltIn). HasArity x (arity t)) parts.0 (built_in_arguments t b is_own);
+        };
+      }
+
+      -- where no choice may be made any more
+      refused_now : (new : Plain S W M) (p : Pause) (v : State) → WasCalled names present stands older (move.Pauses p) new after v → Moves names present stands older (move.Pauses p) s new
+      refused_now new p v was =
+          rw was.0 (spent_stands names present stands older limit.Frames new.now new s (ap phase_of was.1) (stops_here names present stands older new o s r.same was.2), ap phase_of was.1)
+
+      -- memory was refused
+      stops_inside : (v : State) → step o ≡ Goes v → v.stack ≡ (pushed a.behind (Catching catcher recovery) o).stack → v.world ≡ o.world → (new : Plain S W M)
+          → WasRefused names present stands older new after (pushed after.list (Catching (catcher_of (present store) w) (recovery_of (present store) w)) after) → Stopped names present stands older new s
+      stops_inside v goes_to stack world new (inl kept) = stops_here names present stands older new o s r.same kept
+      stops_inside v goes_to stack world new (inr kept) =
+          stops names present stands older new o v s (pushed a.behind (Catching catcher recovery) o).stack r.same goes_to stack world
+          (subst (λ (x : Tree). Keeps names present stands older new o.world (pushed a.behind (Catching catcher x) o).stack) recovery_same
+          (subst (λ (x : Tree). Keeps names present stands older new o.world (pushed a.behind (Catching x (recovery_of (present store) w)) o).stack) catcher_same kept))
+
+      over_inside : (v : State) → step o ≡ Goes v → length v.stack ≡ suc (length o.stack) → e.limit ≤ length e.choices.items → ComesOver e.limit s
+      over_inside v goes_to longer full =
+          let many = choices_length r.engine.choices in
+          comes_over names present stands older e s r v e.limit goes_to longer (omega (arith, many, full))
+
+      -- ---- an error
+
+      module _ (ball : Tree) (raises_is : inside ≡ Raises ball) where
+        abbrev thrown_inside : State
+        thrown_inside = throwing ball (catching catcher recovery after)
+
+        throws_to : step o ≡ Goes thrown_inside
+        throws_to =
+            runs_to names present stands older e s f k w doing there r (record (pushed a.behind (Catching catcher recovery) o) { list = Raise ball ∷ Leave (length o.stack) ∷ a.behind }) more
+            (own_goal t a.behind o b (Catches (Raises ball) catcher recovery) is_own (is ∙ ap (λ (x : Reply). Catches x catcher recovery) raises_is))
+
+        pub throws_inside_now : (new : Plain S W M) (m : Move) → WasCalled names present stands older m new after (throwing ball (catching (catcher_of (present store) w) (recovery_of (present store) w) after))
+            → Moves names present stands older m s new
+        throws_inside_now new move.Goes was =
+            let engine = subst (λ (x : Tree). IsEngine names present stands older new (throwing ball (catching catcher x after))) recovery_same
+            (subst (λ (x : Tree). IsEngine names present stands older new (throwing ball (catching x (recovery_of (present store) w) after))) catcher_same was.0) in
+            goes names present stands older e new s r thrown_inside throws_to engine was.1
+        throws_inside_now new (move.Pauses p) was = refused_now new p (throwing ball (catching (catcher_of (present store) w) (recovery_of (present store) w) after)) was
+
+        pub throw_inside_stops : (new : Plain S W M) → WasRefused names present stands older new after (pushed after.list (Catching (catcher_of (present store) w) (recovery_of (present store) w)) after)
+            → Stopped names present stands older new s
+        throw_inside_stops = stops_inside thrown_inside throws_to refl refl
+
+        pub throw_inside_over : e.limit ≤ length e.choices.items → ComesOver e.limit s
+        throw_inside_over = over_inside thrown_inside throws_to refl
+
+      -- ---- a goal
+
+      module _ (c : Body) (calls_is : inside ≡ Calls c) where
+        -- the state that the walker comes to
+        abbrev called_inside : State
+        called_inside = record (pushed a.behind (Catching catcher recovery) after) { list = Goal c (suc (length o.stack)) ∷ Leave (length o.stack) ∷ a.behind; built = (with_goal c o).built }
+
+        inside_is : reply b t ≡ Catches (Calls c) catcher recovery
+        inside_is = is ∙ ap (λ (x : Reply). Catches x catcher recovery) calls_is
+
+        calls_to : step o ≡ Goes called_inside
+        calls_to =
+            runs_to names present stands older e s f k w doing there r (record (with_goal c (pushed a.behind (Catching catcher recovery) o)) { list = Goal c (suc (length o.stack)) ∷ Leave (length o.stack) ∷ a.behind }) more
+            (own_goal t a.behind o b (Catches (Calls c) catcher recovery) is_own inside_is)
+
+        pub calls_inside_now : (placed : ℕ) (there_placed : Places (present e.store) (present store) e.nodes.items nodes.items c placed) (new : Plain S W M) (m : Move)
+            → WasCalled names present stands older m new after (calling_inside there_placed.body (catcher_of (present store) w) (recovery_of (present store) w) after) → Moves names present stands older m s new
+        calls_inside_now placed q new move.Goes was =
+            let own = own_reply (Catches (Calls c) catcher recovery) inside_is in
+            let engine = subst (λ (x : Tree). IsEngine names present stands older new (calling_inside q.body catcher x after)) recovery_same
+            (subst (λ (x : Tree). IsEngine names present stands older new (calling_inside q.body x (recovery_of (present store) w) after)) catcher_same was.0) in
+            goes_as names present stands older e new s r called_inside (calling_inside q.body catcher recovery after) calls_to
+            (same_inside after q.body c catcher recovery (suc (length o.stack)) (with_goal c o).built a.behind (Leave (length o.stack) ∷ a.behind) (same_values c placed q own.0) own.1 own.2 (around_steps o a.behind o.built n around))
+            engine was.1
+        calls_inside_now placed q new (move.Pauses p) was = refused_now new p (calling_inside q.body (catcher_of (present store) w) (recovery_of (present store) w) after) was
+
+        pub call_inside_stops : (new : Plain S W M) → WasRefused names present stands older new after (pushed after.list (Catching (catcher_of (present store) w) (recovery_of (present store) w)) after)
+            → Stopped names present stands older new s
+        call_inside_stops = stops_inside called_inside calls_to refl refl
+
+        pub call_inside_over : e.limit ≤ length e.choices.items → ComesOver e.limit s
+        call_inside_over = over_inside called_inside calls_to refl

@@ -6,7 +6,7 @@ use Rattle.iso_model.specs.Terms.Trees.{Tree}
 use Rattle.iso_model.specs.Search.Databases as databases
 use Rattle.iso_model.specs.Search.Databases.{Key, clauses_at}
 use Rattle.iso_model.specs.Search.Errors.{existence_error}
-use Rattle.iso_model.specs.Search.Walker.{State, World, Member, Fail, Raise, Alternative, Goes, Budget, idle, fails, run_goal, run_value, tried, with_others, step}
+use Rattle.iso_model.specs.Search.Walker.{State, World, Member, Fail, Raise, Alternative, Ending, Goes, Ends, Budget, idle, fails, run_goal, run_value, tried, with_others, step}
 use Rattle.iso_model.specs.Search.Engines.{IsAwake}
 use Rattle.iso_model.specs.Search.Runs.{Finishes, ComesOver}
 use Rattle.iso_model.proofs.Search.CallLemmas.{clause_keeps}
@@ -33,7 +33,7 @@ use Rattle.iso_plain.proofs.EngineMoves.{spent_stands}
 use Rattle.iso_plain.proofs.EnteringLemmas.{adds_none}
 use Rattle.iso_plain.proofs.RunLemmas.{AtRun, at_run, room_less, one_less}
 use Rattle.iso_plain.proofs.SearchMoves.{goes, ends, stops, stops_here, comes_over}
-use Rattle.iso_plain.proofs.SearchSteps.{goal_step, budget_step, procedure_goal, unknown_goal, tried_steps, others_keep, one_more}
+use Rattle.iso_plain.proofs.SearchSteps.{goal_step, goal_end, budget_step, procedure_goal, unknown_goal, tried_steps, others_keep, one_more}
 use Rattle.iso_plain.proofs.StandingLemmas.{choices_length}
 use Rattle.iso_plain.proofs.StoppedLemmas.{base_kept, choices_on}
 use Rattle.iso_plain.proofs.WorldLemmas.{world_on}
@@ -110,6 +110,13 @@ module _ {S W M : Type 0} (names : S → List (List ℕ)) (present : S → Prese
         → IsEngine names present stands older new (throwing ball (record own { list = at.behind; steps = e.steps - 1 })) → IsAwake (phase_of new.now) → Moves names present stands older move.Goes s new
     throws new ball more h is awake =
         goes names present stands older e new s r (record own { list = Raise ball ∷ at.behind; steps = e.steps - 1 }) (runs_to (record own { list = Raise ball ∷ at.behind }) more h) is awake
+
+    -- the search is ended
+    pub ends_by : (new : Plain S W M) (ending : Ending) → e.steps ≢ 0 → run_value call at.behind own ≡ Ends ending own.world → ((v : World) → IsWorld names e v → IsEngine names present stands older new (idle v)) → new.now ≡ now.Idle
+        → Finishes s ending (StandsFor names present stands older new)
+    ends_by new ending more h idles rests =
+        ends names present stands older new own s ending r.same
+        (goal_end own at.term f.mark at.behind (e.steps - 1) ending own.world at.list (r.engine.steps ∙ one_less e.steps more) (ap (λ (t : Tree). run_value t at.behind own) at.value ∙ h)) rests (idles own.world r.engine.world)
 
     -- that of an unknown procedure
     pub throws_unknown : (new : Plain S W M) (ball : Tree) → e.steps ≢ 0

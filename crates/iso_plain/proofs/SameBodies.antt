@@ -1,9 +1,11 @@
 -- Bodies with the same values come to states that are the same.
 use Rattle.std.proofs.Common.{◌≡◌, ℕ, List, ◌∷◌, refl, sym, ◌∙◌}
+use Rattle.iso_model.specs.Terms.Trees.{Tree}
 use Rattle.iso_model.specs.Search.Bodies.{Body, map_body}
-use Rattle.iso_model.specs.Search.Walker.{State, Member, Goal, Fail, AsIs, pushed}
+use Rattle.iso_model.specs.Search.Walker.{State, Member, Goal, Fail, AsIs, Catching, pushed}
 use Rattle.iso_model.specs.Search.RunLaws.Sameness.{flat, Around, Same, going, failing, same_alternative}
 use Rattle.iso_model.specs.Search.RunLaws.SameSteps.{put_alike, list_same}
+use Rattle.iso_model.specs.Search.RunLaws.Values.{IsValue}
 use Rattle.iso_model.specs.Search.RunLaws.SameLaws.{same_back, same_on}
 
 goal_no_failure : {b : Body} {m : ℕ} {ms ns : List Member} → Goal b m ∷ ms ≡ Fail ∷ ns → ⊥
@@ -27,3 +29,15 @@ around_pushed s list at = record { agree = at.agree; next = refl; beside = recor
 pub same_first : (s : State) (b c : Body) (mark : ℕ) (ms : List Member) → map_body s.subst b ≡ map_body s.subst c → Around s s → Same (record s { list = Goal b mark ∷ ms }) (record s { list = Goal c mark ∷ ms })
 same_first s b c mark ms same at =
     going (record { agree = at.agree; next = refl; beside = record { stack = at.beside.stack; world = refl; steps = refl } }) (put_alike s.subst s.subst (flat ms) (flat ms) b c mark same (list_same ms))
+
+-- also before other alternatives, and with something else built
+pub same_inside : (s : State) (b c : Body) (catcher recovery : Tree) (mark built : ℕ) (rest ms : List Member) → map_body s.subst b ≡ map_body s.subst c → IsValue s.subst catcher → IsValue s.subst recovery → Around s s
+    → Same (record (pushed rest (Catching catcher recovery) s) { list = Goal b mark ∷ ms }) (record (pushed rest (Catching catcher recovery) s) { list = Goal c mark ∷ ms; built = built })
+same_inside s b c catcher recovery mark built rest ms same one other at =
+    going
+    (record {
+      agree = at.agree;
+      next = refl;
+      beside = record { stack = same_alternative at.agree refl (list_same rest) refl (one, other) (one, other) at.beside.stack; world = refl; steps = refl };
+    })
+    (put_alike s.subst s.subst (flat ms) (flat ms) b c mark same (list_same ms))

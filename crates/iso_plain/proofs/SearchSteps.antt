@@ -9,7 +9,7 @@ use Rattle.iso_model.specs.Search.Bodies.{Body, Cut, Run, And, Or, If, Choose}
 use Rattle.iso_model.specs.Search.Databases.{Clause, Key, clauses_at}
 use Rattle.iso_model.specs.Search.BuiltIns.{Reply, reply}
 use Rattle.iso_model.specs.declared.built_ins.BuiltIn.{BuiltIn}
-use Rattle.iso_model.specs.Search.Walker.{State, Member, Goal, CutTo, Fail, Leave, Raise, Alternative, Left, AsIs, Again, Clauses, Catching, pushed, cut_back, Outcome, Goes, Gives, Ends, Answered, NoMore, Budget, charged, paid, fails, values, under, entered, with_others, tried, retried, backtracked, unknown_called, called, replied, selected, run_goal, run_value, thrown, clause_size, step_list, step}
+use Rattle.iso_model.specs.Search.Walker.{State, World, Ending, Member, Goal, CutTo, Fail, Leave, Raise, Alternative, Left, AsIs, Again, Clauses, Catching, pushed, cut_back, Outcome, Goes, Gives, Ends, Answered, NoMore, Budget, charged, paid, fails, values, under, entered, with_others, tried, retried, backtracked, unknown_called, called, replied, selected, run_goal, run_value, thrown, clause_size, step_list, step}
 use Rattle.iso_plain.specs.Called.{IsBuiltIn, IsUser}
 use Rattle.iso_plain.specs.EngineStates.{went_back}
 
@@ -99,6 +99,11 @@ pub goal_step : (s : State) (t : Tree) (mark : ℕ) (rest : List Member) (n : �
     → step s ≡ Goes (record v { steps = n })
 goal_step s t mark rest n v list left goes =
     step_is s (Goal (Run t) mark ∷ rest) list ∙ (ap (λ (k : ℕ). paid k s (run_value (apply s.subst t) rest s)) left ∙ ap (λ (o : Outcome). charged n o) goes)
+
+-- or that it ends the search
+pub goal_end : (s : State) (t : Tree) (mark : ℕ) (rest : List Member) (n : ℕ) (ending : Ending) (w : World) → s.list ≡ Goal (Run t) mark ∷ rest → s.steps ≡ suc n → run_value (apply s.subst t) rest s ≡ Ends ending w → step s ≡ Ends ending w
+goal_end s t mark rest n ending w list left is =
+    step_is s (Goal (Run t) mark ∷ rest) list ∙ (ap (λ (k : ℕ). paid k s (run_value (apply s.subst t) rest s)) left ∙ ap (λ (o : Outcome). charged n o) is)
 
 -- ---- what a goal runs
 
