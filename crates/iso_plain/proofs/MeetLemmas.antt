@@ -61,7 +61,7 @@ module _ {S W M : Type 0} (names : S → List (List ℕ)) (present : S → Prese
   module _ (e : Plain S W M) (goal : W) (s : State) (place : Option ℕ) (h : Recovers names present stands older e goal s place) (store : S) (nodes : Vec (Node W) Global) (call recovery : W)
       (keeps : KeepsMarks (stands e.store) (stands store)) (texts : KeepsTexts (names e.store) (names store)) (is : meaning (present e.store) recovery ≡ recovery_of (present e.store) goal)
       (made : Makes (present e.store) (present store) call (one (codes "call") ((present e.store).term recovery))) (same : (present store).next ≡ (present e.store).next) (come : nodes.items ≡ e.nodes.items ++ node.Run call ∷ []) where
-    first : Frame
+    abbrev pub first : Frame
     first = record { todo = todo.Body (length e.nodes.items); mark = length e.choices.items; next = place }
 
     behind : IsAhead names present stands older (record e { store = store; nodes = nodes }) s place
