@@ -1,7 +1,10 @@
 -- A catcher meets a ball.
-use Rattle.std.proofs.Common.{◌≡◌, ℕ, ◌+◌, ◌*◌, ◌<◌, ◌≤◌, ◌++◌, length, Vec, Global, codes, List, [], ◌∷◌, Option, Some, Bool, true, false, refl, ap, sym, ◌∙◌, subst, arith, inl, inr}
+use Rattle.std.proofs.Common.{◌≡◌, ℕ, ◌+◌, ◌*◌, ◌<◌, ◌≤◌, ◌++◌, length, Vec, Global, codes, List, [], ◌∷◌, Option, Some, true, refl, ap, sym, ◌∙◌, subst, arith, inl, inr}
 use Rattle.iso_atoms.specs.Texts.{KeepsTexts}
-use Rattle.iso_model.specs.Terms.Trees.{Tree}
+use Rattle.iso_model.specs.Terms.Trees.{Tree, arities_fit}
+use Rattle.iso_model.specs.Terms.TermOf.{term_of}
+use Rattle.iso_model.specs.Terms.Unification.Applied.{apply_apply}
+use Rattle.iso_model.specs.declared.pauses.Ball.{Ball}
 use Rattle.iso_model.specs.Terms.Variables.{variables, variable_count}
 use Rattle.iso_model.specs.Terms.Substitutions.{Subst, apply, compose}
 use Rattle.iso_model.specs.Terms.Copies.{copy_from}
@@ -17,13 +20,13 @@ use Rattle.iso_plain.specs.declared.parts.Frame.{Frame}
 use Rattle.iso_plain.specs.declared.parts.Now.TheVariants as now
 use Rattle.iso_plain.specs.Entering.{Adds}
 use Rattle.iso_plain.specs.Nodes.{IsTree, runs, At}
-use Rattle.iso_plain.specs.Standing.{IsBody, IsMember, a_body, most_numbers, numbers_a_step}
+use Rattle.iso_plain.specs.Standing.{IsBody, IsMember, a_body, Chain, GoesOn, most_numbers, numbers_a_step}
 use Rattle.iso_plain.specs.Costs.{body_cost, most, rest_cost, frame_costs}
-use Rattle.iso_plain.specs.Catches.{MeetsBall, Recovers, Calling, HasMet, Unified, catcher_of, recovery_of, calling}
-use Rattle.iso_plain.proofs.AheadLemmas.{keeps_ahead, engine_frame}
+use Rattle.iso_plain.specs.Catches.{IsCatchGoal, MeetsBall, Recovers, Calling, Unified, recovery_of, calling, throwing}
+use Rattle.iso_plain.proofs.AheadLemmas.{keeps_ahead, engine_frame, engine_throws}
 use Rattle.iso_plain.proofs.CostLemmas.{cost_higher, below_words}
 use Rattle.iso_plain.proofs.EnteringLemmas.{adds_none}
-use Rattle.iso_plain.proofs.StandingLemmas.{AddsLinks, at_last, chain_more, choices_length, variables_more}
+use Rattle.iso_plain.proofs.StandingLemmas.{AddsLinks, at_last, chain_more, choices_keep, choices_length, variables_more}
 use Rattle.iso_plain.proofs.StoppedLemmas.{base_kept, choices_on, keeps_more, keeps_store}
 use Rattle.iso_plain.proofs.WorldLemmas.{world_on}
 
@@ -58,8 +61,8 @@ module _ {S W M : Type 0} (names : S → List (List ℕ)) (present : S → Prese
 
   -- ---- the recovery is called
 
-  module _ (e : Plain S W M) (goal : W) (s : State) (place : Option ℕ) (h : Recovers names present stands older e goal s place) (store : S) (nodes : Vec (Node W) Global) (call recovery : W)
-      (keeps : KeepsMarks (stands e.store) (stands store)) (texts : KeepsTexts (names e.store) (names store)) (is : meaning (present e.store) recovery ≡ recovery_of (present e.store) goal)
+  module _ (e : Plain S W M) (recovery : W) (s : State) (place : Option ℕ) (h : Recovers names present stands older e recovery s place) (store : S) (nodes : Vec (Node W) Global) (call : W)
+      (keeps : KeepsMarks (stands e.store) (stands store)) (texts : KeepsTexts (names e.store) (names store))
       (made : Makes (present e.store) (present store) call (one (codes "call") ((present e.store).term recovery))) (same : (present store).next ≡ (present e.store).next) (come : nodes.items ≡ e.nodes.items ++ node.Run call ∷ []) where
     abbrev pub first : Frame
     first = record { todo = todo.Body (length e.nodes.items); mark = length e.choices.items; next = place }
@@ -75,10 +78,57 @@ module _ {S W M : Type 0} (names : S → List (List ℕ)) (present : S → Prese
     stands_there : IsBody (present store) nodes.items (length e.nodes.items) (Run ((present store).term call))
     stands_there = runs (rw come (at_last e.nodes.items (node.Run call))) (made.holds, refl)
 
-    pub calls_recovery : Calling names present stands older (record e { store = store; nodes = nodes; now = now.Running first }) (one (codes "call") (recovery_of (present e.store) goal)) s
+    pub calls_recovery : Calling names present stands older (record e { store = store; nodes = nodes; now = now.Running first }) (one (codes "call") (meaning (present e.store) recovery)) s
     calls_recovery = record {
       term = (present store).term call;
-      value = ap (apply s.subst) made.term ∙ ap (λ (r : Subst). one (codes "call") (apply r ((present e.store).term recovery))) (sym h.ahead.goes.subst) ∙ ap (one (codes "call")) is;
+      value = ap (apply s.subst) made.term ∙ ap (λ (r : Subst). one (codes "call") (apply r ((present e.store).term recovery))) (sym h.ahead.goes.subst);
       engine = subst (λ (n : ℕ). IsEngine names present stands older (record e { store = store; nodes = nodes; now = now.Running first }) (record s { list = Goal (Run ((present store).term call)) n ∷ s.list })) (choices_length h.ahead.choices)
           (engine_frame names present stands older (record e { store = store; nodes = nodes }) s first (Goal (Run ((present store).term call)) (length e.choices.items)) behind (a_body refl stands_there));
     }
+
+  -- ---- the ball meets the catcher
+
+  module _ (e : Plain S W M) (goal : W) (ball : Tree) (s : State) (place : Option ℕ) (h : MeetsBall names present stands older e goal ball s place) (store : S)
+      (keeps : KeepsMarks (stands e.store) (stands store)) (texts : KeepsTexts (names e.store) (names store)) where
+    -- over a store that is as it was
+    same_ahead : present store ≡ present e.store → IsAhead names present stands older (record e { store = store }) s place
+    same_ahead same =
+        let a = h.ahead in
+        record {
+          world = world_on texts a.world;
+          steps = a.steps;
+          base = base_kept (stands e.store) (stands store) e.base keeps a.base;
+          choices = choices_keep (λ d p among stood. keeps d.mark p stood) a.choices;
+          room = a.room;
+          goes = subst (λ (p : Present W). GoesOn p e.query.items s) (sym same) a.goes;
+          chain = subst (λ (p : Present W). Chain p (links_of e) place s.list) (sym same) a.chain;
+        }
+
+    pub same_meets : present store ≡ present e.store → MeetsBall names present stands older (record e { store = store }) goal ball s place
+    same_meets same = record { ahead = same_ahead same; space = h.space; catches = subst (λ (p : Present W). IsCatchGoal p goal) (sym same) h.catches; fits = h.fits; kept = h.kept }
+
+    -- they were unified, and the recovery is called
+    pub unified_recovers : (recovery : W) → (present e.store).holds recovery ≡ true → (u : Unified (present e.store) (present store) goal ball)
+        → Recovers names present stands older (record e { store = store }) recovery (record s { subst = compose s.subst u.unifier; next = s.next + variable_count ball }) place
+    unified_recovers recovery holds u =
+        let space = h.space in
+        let few = u.few in
+        let steps = h.ahead.steps in
+        record {
+          ahead = ahead_bound e store e.nodes s place (variable_count ball) (compose s.subst u.unifier) h.ahead keeps texts (adds_none e.nodes.items) u.words (u.substitution ∙ ap (λ (r : Subst). compose r u.unifier) h.ahead.goes.subst) u.next (omega (arith, space, few));
+          holds = u.words.stand recovery holds;
+        }
+
+    -- what the recovery means then
+    pub recovery_moved : (recovery : W) → (present e.store).holds recovery ≡ true → meaning (present e.store) recovery ≡ recovery_of (present e.store) goal → (u : Unified (present e.store) (present store) goal ball)
+        → meaning (present store) recovery ≡ apply u.unifier (recovery_of (present e.store) goal)
+    recovery_moved recovery holds is u =
+        ap (λ (r : Subst). apply r ((present store).term recovery)) u.substitution ∙ ap (apply (compose (present e.store).substitution u.unifier)) (u.words.terms recovery holds)
+        ∙ sym (apply_apply (present e.store).substitution u.unifier ((present e.store).term recovery)) ∙ ap (apply u.unifier) is
+
+    -- they can't be, and the ball is thrown on
+    pub thrown_on : present store ≡ present e.store → IsEngine names present stands older (record e { store = store; now = now.Raising place }) (throwing ball s)
+    thrown_on same =
+        let thrown = engine_throws names present stands older (record e { store = store }) s place h.kept.0 (subst (λ (t : Tree). arities_fit t ≡ true) (sym h.kept.2) h.fits) (same_ahead same) in
+        subst (λ (t : Tree). IsEngine names present stands older (record e { store = store; now = now.Raising place }) (throwing t s)) h.kept.2
+        (subst (λ (b : Option Ball). IsEngine names present stands older (record e { store = store; raised = b; now = now.Raising place }) (throwing (term_of (h.kept.0).term) s)) (sym h.kept.1) thrown)

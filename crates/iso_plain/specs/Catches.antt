@@ -114,10 +114,10 @@ module _ {S W M : Type 0} (names : S → List (List ℕ)) (present : S → Prese
     pub catcher_is : catcher ≡ catcher_of (present e.store) goal
     pub recovery_is : recovery ≡ recovery_of (present e.store) goal
 
-  -- The engine, in this state, is about to call the recovery of this goal.
-  pub record Recovers (e : Plain S W M) (goal : W) (s : State) (place : Option ℕ) : Type 0 where
+  -- The engine, in this state, is about to call this recovery.
+  pub record Recovers (e : Plain S W M) (recovery : W) (s : State) (place : Option ℕ) : Type 0 where
     pub ahead : IsAhead names present stands older e s place
-    pub catches : IsCatchGoal (present e.store) goal
+    pub holds : (present e.store).holds recovery ≡ true
 
   -- The engine, in this state, is to run this goal first, which it has as a term of this value.
   pub record Calling (e : Plain S W M) (goal : Tree) (s : State) : Type 0 where

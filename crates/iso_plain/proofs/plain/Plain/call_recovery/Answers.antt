@@ -22,8 +22,8 @@ pub returns-clause-called : goal.returns-clause-called
 returns-clause-called g c = λ s h.
     (let place : c.len-place.result ≡ length c.args.self.now.nodes.items = cc (c.len-place.ensures, c.args.self.now.nodes.ok.0) in
     let mark : c.len.result ≡ length c.args.self.now.choices.items = cc (c.len.ensures, c.args.self.now.choices.ok.0) in
-    rw (place, mark) (calls_recovery g.S.Store.names g.S.Store.present g.S.Store.stands g.S.Store.older c.args.self.now c.args.goal s c.args.next h c.call_of.new.store c.push.new.self c.in_ok-call.call c.arg-recovery.result
-    c.call_of.ensures.marks (same_texts c.call_of.ensures.names) c.arg-recovery.ensures.value c.in_ok-call.ensures.made c.in_ok-call.ensures.numbers.next c.in_ok-push.ensures.items))
+    rw (place, mark) (calls_recovery g.S.Store.names g.S.Store.present g.S.Store.stands g.S.Store.older c.args.self.now c.args.recovery s c.args.next h c.call_of.new.store c.push.new.self c.in_ok-call.call
+    c.call_of.ensures.marks (same_texts c.call_of.ensures.names) c.in_ok-call.ensures.made c.in_ok-call.ensures.numbers.next c.in_ok-push.ensures.items))
 
 pub returns-clause-costs : goal.returns-clause-costs
 returns-clause-costs g c =
