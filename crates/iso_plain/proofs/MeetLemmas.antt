@@ -1,5 +1,5 @@
 -- A catcher meets a ball.
-use Rattle.std.proofs.Common.{◌≡◌, ℕ, ◌+◌, ◌*◌, ◌<◌, ◌≤◌, ◌++◌, length, Vec, Global, codes, List, [], ◌∷◌, Option, Some, true, refl, ap, sym, ◌∙◌, subst, arith, inl, inr}
+use Rattle.std.proofs.Common.{◌≡◌, ℕ, ◌+◌, ◌*◌, ◌<◌, ◌≤◌, ◌++◌, length, Vec, Global, codes, List, [], ◌∷◌, Option, Some, Bool, true, false, Result, Ok, Err, OnOk, refl, ap, sym, ◌∙◌, subst, arith, inl, inr}
 use Rattle.iso_atoms.specs.Texts.{KeepsTexts}
 use Rattle.iso_model.specs.Terms.Trees.{Tree, arities_fit}
 use Rattle.iso_model.specs.Terms.TermOf.{term_of}
@@ -7,6 +7,7 @@ use Rattle.iso_model.specs.Terms.Unification.Applied.{apply_apply}
 use Rattle.iso_model.specs.declared.pauses.Ball.{Ball}
 use Rattle.iso_model.specs.Terms.Variables.{variables, variable_count}
 use Rattle.iso_model.specs.Terms.Substitutions.{Subst, apply, compose}
+use Rattle.iso_model.specs.Terms.Unifiers.{NeverEqual}
 use Rattle.iso_model.specs.Terms.Copies.{copy_from}
 use Rattle.iso_model.specs.Search.Bodies.{Body, Run, one}
 use Rattle.iso_model.specs.Search.Walker.{State, Alternative, Goal}
@@ -22,7 +23,7 @@ use Rattle.iso_plain.specs.Entering.{Adds}
 use Rattle.iso_plain.specs.Nodes.{IsTree, runs, At}
 use Rattle.iso_plain.specs.Standing.{IsBody, IsMember, a_body, Chain, GoesOn, most_numbers, numbers_a_step}
 use Rattle.iso_plain.specs.Costs.{body_cost, most, rest_cost, frame_costs}
-use Rattle.iso_plain.specs.Catches.{IsCatchGoal, MeetsBall, Recovers, Calling, Unified, recovery_of, calling, throwing}
+use Rattle.iso_plain.specs.Catches.{IsCatchGoal, MeetsBall, Recovers, Calling, HasMet, Unified, catcher_of, recovery_of, calling, throwing}
 use Rattle.iso_plain.proofs.AheadLemmas.{keeps_ahead, engine_frame, engine_throws}
 use Rattle.iso_plain.proofs.CostLemmas.{cost_higher, below_words}
 use Rattle.iso_plain.proofs.EnteringLemmas.{adds_none}
@@ -132,3 +133,15 @@ module _ {S W M : Type 0} (names : S → List (List ℕ)) (present : S → Prese
         let thrown = engine_throws names present stands older (record e { store = store }) s place h.kept.0 (subst (λ (t : Tree). arities_fit t ≡ true) (sym h.kept.2) h.fits) (same_ahead same) in
         subst (λ (t : Tree). IsEngine names present stands older (record e { store = store; now = now.Raising place }) (throwing t s)) h.kept.2
         (subst (λ (b : Option Ball). IsEngine names present stands older (record e { store = store; raised = b; now = now.Raising place }) (throwing (term_of (h.kept.0).term) s)) (sym h.kept.1) thrown)
+
+-- what two stores make of a meeting is what others with the same terms make of it
+pub unified_same : {W : Type 0} {goal : W} {ball : Tree} (p q r t : Present W) (answer : Bool) → p ≡ r → t ≡ q → answer ≡ true → HasMet p q goal ball answer → Unified r t goal ball
+unified_same {goal = goal} {ball = ball} p q r t answer from to is h = subst (λ (x : Present _). Unified x t goal ball) from (subst (λ (y : Present _). Unified p y goal ball) (sym to) (rw is at h))
+
+pub never_same : {W : Type 0} (goal : W) (ball : Tree) (p q r : Present W) (answer : Bool) → p ≡ r → answer ≡ false → HasMet p q goal ball answer
+    → NeverEqual (catcher_of r goal) (apply r.substitution (copy_from ball r.next))
+never_same goal ball p q r answer from is h = subst (λ (x : Present _). NeverEqual (catcher_of x goal) (apply x.substitution (copy_from ball x.next))) from (rw is at h)
+
+pub on_ok_map : {T E : Type 0} {P Q : Type 0} (r : Result T E) → (P → Q) → OnOk r P → OnOk r Q
+on_ok_map (Ok t) f h = f h
+on_ok_map (Err e) f h = tt
