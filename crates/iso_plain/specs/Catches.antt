@@ -57,6 +57,7 @@ pub record GoesTo (ball : Tree) (behind : List Member) (s : State) (height : ℕ
   pub catcher : Tree
   pub recovery : Tree
   pub stack : shortened (suc height) s.stack ≡ alternative ∷ below
+  pub height_is : length below ≡ height
   pub left : alternative.left ≡ Catching catcher recovery
   pub goes : thrown ball behind s ≡ Goes (caught_by ball catcher recovery alternative below s)
 
