@@ -6,7 +6,7 @@ use Rattle.iso_atoms.specs.Texts.{KeepsTexts}
 use Rattle.iso_model.specs.Terms.Trees.{Tree, arities_fit}
 use Rattle.iso_model.specs.Terms.TermOf.{term_of}
 use Rattle.iso_model.specs.Terms.Variables.{variables}
-use Rattle.iso_model.specs.Search.Walker.{State, Member, Fail, Alternative, Catching, shortened}
+use Rattle.iso_model.specs.Search.Walker.{State, Member, Fail, Raise, Alternative, Catching, fails, shortened}
 use Rattle.iso_model.specs.declared.pauses.Ball.{Ball}
 use Rattle.iso_store_core.specs.Presents.{Present}
 use Rattle.iso_plain.specs.declared.parts.Left.{Left}
@@ -17,7 +17,7 @@ use Rattle.iso_plain.specs.declared.parts.Now.TheVariants as now
 use Rattle.iso_plain.specs.declared.plain.Plain.{Plain}
 use Rattle.iso_plain.specs.Standing.{Links, Chain, HasCatch, HasLeft, StandsForChoices, GoesOn, DoesNext, entered_at, most_numbers, numbers_a_step}
 use Rattle.iso_plain.specs.EngineStates.{IsEngine, IsAhead, WentBack, went_back, left_at, links_of}
-use Rattle.iso_plain.specs.Catches.{IsCatchGoal, MeetsBall, IsCaught, catcher_of, recovery_of}
+use Rattle.iso_plain.specs.Catches.{GoesTo, IsCatchGoal, MeetsBall, IsCaught, catcher_of, recovery_of}
 use Rattle.iso_plain.proofs.AheadLemmas.{room_dropped}
 use Rattle.iso_plain.proofs.StandingLemmas.{lower, choices_keep, choices_length}
 use Rattle.iso_plain.proofs.StoppedLemmas.{base_kept}
@@ -106,3 +106,48 @@ module _ {S W M : Type 0} (names : S → List (List ℕ)) (present : S → Prese
           catcher_is = subst (λ (p : Present W). catcher ≡ catcher_of p goal) (sym same) (cc both);
           recovery_is = subst (λ (p : Present W). recovery ≡ recovery_of p goal) (sym same) (cc both);
         }
+
+  -- ---- going back to a catch
+
+  -- The engine went back to the choice that is the catch's entry.
+  pub record BackAt (e : Plain S W M) (c : kept.Choice W M) (s : State) (ball : Tree) (behind : List Member) (height : ℕ) (g : GoesTo ball behind s height) : Type 0 where
+    pub went : WentBack names present stands older e c s g.alternative g.below
+    pub many : length e.choices.items ≡ height + 1
+
+  pub back_at : (e one two : Plain S W M) (c : kept.Choice W M) (s : State) (ball : Tree) (behind : List Member) (height : ℕ) (g : GoesTo ball behind s height)
+      → IsEngine names present stands older one (record (fails s) { stack = shortened (height + 1) s.stack }) → two.choices ≡ one.choices
+      → ((t : State) → IsEngine names present stands older one t → (a : Alternative) × (below : List Alternative) × (t.stack ≡ a ∷ below) × WentBack names present stands older two c t a below)
+      → BackAt two c s ball behind height g
+  back_at e one two c s ball behind height g is same back =
+      let t : State = record (fails s) { stack = shortened (height + 1) s.stack } in
+      let plus : height + 1 ≡ suc height = omega arith in
+      let stack : shortened (height + 1) s.stack ≡ g.alternative ∷ g.below = ap (λ (n : ℕ). shortened n s.stack) plus ∙ g.stack in
+      let b = back t is in
+      let both : b.0 ∷ b.1 ≡ g.alternative ∷ g.below = sym b.2 ∙ stack in
+      let first : b.0 ≡ g.alternative = cc in
+      let others : b.1 ≡ g.below = cc in
+      let there : WentBack names present stands older two c t g.alternative g.below =
+      subst (λ (x : Alternative). WentBack names present stands older two c t x g.below) first (subst (λ (ys : List Alternative). WentBack names present stands older two c t b.0 ys) others b.3) in
+      let all = choices_length is.choices in
+      let height_is = g.height_is in
+      let count : length (shortened (height + 1) s.stack) ≡ suc (length g.below) = ap length stack in
+      let kept_all = ap (λ (v : Vec (kept.Choice W M) Global). length v.items) same in
+      record {
+        went = record {
+          world = there.world; steps = there.steps; base = there.base; mark = there.mark; newest = there.newest; nodes = there.nodes; frames = there.frames; has = there.has;
+          newer_base = there.newer_base; newer = there.newer; stands_below = there.stands_below; room = there.room;
+        };
+        many = omega (arith, all, count, height_is, kept_all);
+      }
+
+  -- the ball that is thrown was kept, and a store can hold it
+  pub kept_ball : (e : Plain S W M) (s : State) (ball : Tree) (behind : List Member) (place : Option ℕ) → e.now ≡ now.Raising place → IsEngine names present stands older e s → s.list ≡ Raise ball ∷ behind
+      → (b : Ball) × (e.raised ≡ Some b) × (term_of b.term ≡ ball) × (arities_fit (term_of b.term) ≡ true)
+  kept_ball e s ball behind place doing is list =
+      let next = subst (λ (n : Now). DoesNext (present e.store) (links_of e) e.query.items n (option_map (λ b. term_of b.term) e.raised) s) doing is.next in
+      let both : Raise next.0 ∷ next.1 ≡ Raise ball ∷ behind = sym next.2 ∙ list in
+      let same : next.0 ≡ ball = cc in
+      by_raised e.raised refl (next.4 ∙ ap Some same) (subst (λ (t : Tree). arities_fit t ≡ true) same next.5) where
+        by_raised : (o : Option Ball) → e.raised ≡ o → option_map (λ b. term_of b.term) o ≡ Some ball → arities_fit ball ≡ true → (b : Ball) × (e.raised ≡ Some b) × (term_of b.term ≡ ball) × (arities_fit (term_of b.term) ≡ true)
+        by_raised (Some b) e h fits = let is : term_of b.term ≡ ball = cc in (b, e, is, subst (λ (t : Tree). arities_fit t ≡ true) (sym is) fits)
+        by_raised None e h fits = absurd (cc)
