@@ -1,20 +1,147 @@
 -- A catcher meets a ball.
-use Rattle.std.proofs.Common.{◌≡◌, ℕ, ◌+◌, ◌≤◌, List, [], ◌∷◌, Option, Some, Bool, true, false, refl, ap, sym, ◌∙◌, subst, arith, inl, inr}
+use Rattle.std.proofs.Common.{◌≡◌, ℕ, ◌+◌, ◌*◌, ◌<◌, ◌≤◌, ◌++◌, length, Vec, Global, codes, List, [], ◌∷◌, Option, Some, Bool, true, false, Result, Ok, Err, OnOk, refl, ap, sym, ◌∙◌, subst, arith, inl, inr}
 use Rattle.iso_atoms.specs.Texts.{KeepsTexts}
-use Rattle.iso_model.specs.Terms.Trees.{Tree}
+use Rattle.iso_model.specs.Terms.Trees.{Tree, arities_fit}
+use Rattle.iso_model.specs.Terms.TermOf.{term_of}
+use Rattle.iso_model.specs.Terms.Unification.Applied.{apply_apply}
+use Rattle.iso_model.specs.declared.pauses.Ball.{Ball}
 use Rattle.iso_model.specs.Terms.Variables.{variables, variable_count}
 use Rattle.iso_model.specs.Terms.Substitutions.{Subst, apply, compose}
+use Rattle.iso_model.specs.Terms.Unifiers.{NeverEqual}
 use Rattle.iso_model.specs.Terms.Copies.{copy_from}
-use Rattle.iso_model.specs.Search.Walker.{State, Alternative}
+use Rattle.iso_model.specs.Search.Bodies.{Body, Run, one}
+use Rattle.iso_model.specs.Search.Walker.{State, Alternative, Goal}
 use Rattle.iso_store_core.specs.Presents.{Present, KeepsMarks, KeepsWords, Makes, MovesOn, IsUnification, meaning}
 use Rattle.iso_plain.specs.declared.plain.Plain.{Plain}
-use Rattle.iso_plain.specs.EngineStates.{IsAhead, Keeps}
-use Rattle.iso_plain.specs.Catches.{MeetsBall, HasMet, Unified, catcher_of}
-use Rattle.iso_plain.proofs.AheadLemmas.{keeps_ahead}
-use Rattle.iso_plain.proofs.StoppedLemmas.{keeps_store}
+use Rattle.iso_plain.specs.EngineStates.{IsEngine, IsAhead, Keeps, cost, choices_cost, links_of}
+use Rattle.iso_plain.specs.declared.bodies.Node.{Node}
+use Rattle.iso_plain.specs.declared.bodies.Node.TheVariants as node
+use Rattle.iso_plain.specs.declared.parts.Todo.TheVariants as todo
+use Rattle.iso_plain.specs.declared.parts.Frame.{Frame}
+use Rattle.iso_plain.specs.declared.parts.Now.TheVariants as now
+use Rattle.iso_plain.specs.Entering.{Adds}
+use Rattle.iso_plain.specs.Nodes.{IsTree, runs, At}
+use Rattle.iso_plain.specs.Standing.{IsBody, IsMember, a_body, Chain, GoesOn, most_numbers, numbers_a_step}
+use Rattle.iso_plain.specs.Costs.{body_cost, most, rest_cost, frame_costs}
+use Rattle.iso_plain.specs.Catches.{IsCatchGoal, MeetsBall, Recovers, Calling, HasMet, Unified, catcher_of, recovery_of, calling, throwing}
+use Rattle.iso_plain.proofs.AheadLemmas.{keeps_ahead, engine_frame, engine_throws}
+use Rattle.iso_plain.proofs.CostLemmas.{cost_higher, below_words}
+use Rattle.iso_plain.proofs.EnteringLemmas.{adds_none}
+use Rattle.iso_plain.proofs.StandingLemmas.{AddsLinks, at_last, chain_more, choices_keep, choices_length, variables_more}
+use Rattle.iso_plain.proofs.StoppedLemmas.{base_kept, choices_on, keeps_more, keeps_store}
+use Rattle.iso_plain.proofs.WorldLemmas.{world_on}
 
 module _ {S W M : Type 0} (names : S → List (List ℕ)) (present : S → Present W) (stands : S → M → Present W → Type 0) (older : M → M → Type 0) where
   -- the engine, however far its store came
   pub keeps_met : (e : Plain S W M) (goal : W) (ball : Tree) (s : State) (place : Option ℕ) (store : S) → MeetsBall names present stands older e goal ball s place → KeepsTexts (names e.store) (names store)
       → KeepsMarks (stands e.store) (stands store) → Keeps names present stands older (record e { store = store }) s.world s.stack
   keeps_met e goal ball s place store h texts keeps = keeps_store names present stands older e store s.world s.stack (keeps_ahead names present stands older e s place h.ahead) keeps texts
+
+  -- ---- nodes and bindings that come
+
+  pub ahead_bound : (e : Plain S W M) (store : S) (nodes : Vec (Node W) Global) (s : State) (place : Option ℕ) (m : ℕ) (q : Subst) → IsAhead names present stands older e s place
+      → KeepsMarks (stands e.store) (stands store) → KeepsTexts (names e.store) (names store) → Adds e.nodes.items nodes.items → KeepsWords (present e.store) (present store) → (present store).substitution ≡ q → (present store).next ≡ (present e.store).next + m
+      → s.next + m + numbers_a_step * e.steps ≤ most_numbers → IsAhead names present stands older (record e { store = store; nodes = nodes }) (record s { subst = q; next = s.next + m }) place
+  ahead_bound e store nodes s place m q h keeps texts adds words substitution next space =
+      let more : AddsLinks (links_of e) (record { nodes = nodes.items; frames = e.frames.items }) = record { nodes = adds; frames = adds_none e.frames.items } in
+      let steps = h.steps in
+      record {
+        world = world_on texts h.world;
+        steps = h.steps;
+        base = base_kept (stands e.store) (stands store) e.base keeps h.base;
+        choices = choices_on names present stands older e store nodes e.frames s.world (variables s.query) s.stack keeps adds (adds_none e.frames.items) h.choices;
+        room = h.room;
+        goes = record {
+          subst = substitution;
+          next = next ∙ ap (λ (n : ℕ). n + m) h.goes.next;
+          room = omega (arith, space, steps);
+          words = variables_more words h.goes.words;
+        };
+        chain = chain_more (record { nodes = nodes.items; frames = e.frames.items }) more words h.chain;
+      }
+
+  -- ---- the recovery is called
+
+  module _ (e : Plain S W M) (recovery : W) (s : State) (place : Option ℕ) (h : Recovers names present stands older e recovery s place) (store : S) (nodes : Vec (Node W) Global) (call : W)
+      (keeps : KeepsMarks (stands e.store) (stands store)) (texts : KeepsTexts (names e.store) (names store))
+      (made : Makes (present e.store) (present store) call (one (codes "call") ((present e.store).term recovery))) (same : (present store).next ≡ (present e.store).next) (come : nodes.items ≡ e.nodes.items ++ node.Run call ∷ []) where
+    abbrev pub first : Frame
+    first = record { todo = todo.Body (length e.nodes.items); mark = length e.choices.items; next = place }
+
+    behind : IsAhead names present stands older (record e { store = store; nodes = nodes }) s place
+    behind =
+        let room = h.ahead.goes.room in
+        let steps = h.ahead.steps in
+        let none : s.next + 0 ≡ s.next = omega arith in
+        subst (λ (n : ℕ). IsAhead names present stands older (record e { store = store; nodes = nodes }) (record s { next = n }) place) none
+        (ahead_bound e store nodes s place 0 s.subst h.ahead keeps texts (node.Run call ∷ [], come) made.words (made.substitution ∙ h.ahead.goes.subst) (omega (arith, same)) (omega (arith, room, steps)))
+
+    stands_there : IsBody (present store) nodes.items (length e.nodes.items) (Run ((present store).term call))
+    stands_there = runs (rw come (at_last e.nodes.items (node.Run call))) (made.holds, refl)
+
+    pub calls_recovery : Calling names present stands older (record e { store = store; nodes = nodes; now = now.Running first }) (one (codes "call") (meaning (present e.store) recovery)) s
+    calls_recovery = record {
+      term = (present store).term call;
+      value = ap (apply s.subst) made.term ∙ ap (λ (r : Subst). one (codes "call") (apply r ((present e.store).term recovery))) (sym h.ahead.goes.subst);
+      engine = subst (λ (n : ℕ). IsEngine names present stands older (record e { store = store; nodes = nodes; now = now.Running first }) (record s { list = Goal (Run ((present store).term call)) n ∷ s.list })) (choices_length h.ahead.choices)
+          (engine_frame names present stands older (record e { store = store; nodes = nodes }) s first (Goal (Run ((present store).term call)) (length e.choices.items)) behind (a_body refl stands_there));
+    }
+
+  -- ---- the ball meets the catcher
+
+  module _ (e : Plain S W M) (goal : W) (ball : Tree) (s : State) (place : Option ℕ) (h : MeetsBall names present stands older e goal ball s place) (store : S)
+      (keeps : KeepsMarks (stands e.store) (stands store)) (texts : KeepsTexts (names e.store) (names store)) where
+    -- over a store that is as it was
+    same_ahead : present store ≡ present e.store → IsAhead names present stands older (record e { store = store }) s place
+    same_ahead same =
+        let a = h.ahead in
+        record {
+          world = world_on texts a.world;
+          steps = a.steps;
+          base = base_kept (stands e.store) (stands store) e.base keeps a.base;
+          choices = choices_keep (λ d p among stood. keeps d.mark p stood) a.choices;
+          room = a.room;
+          goes = subst (λ (p : Present W). GoesOn p e.query.items s) (sym same) a.goes;
+          chain = subst (λ (p : Present W). Chain p (links_of e) place s.list) (sym same) a.chain;
+        }
+
+    pub same_meets : present store ≡ present e.store → MeetsBall names present stands older (record e { store = store }) goal ball s place
+    same_meets same = record { ahead = same_ahead same; space = h.space; catches = subst (λ (p : Present W). IsCatchGoal p goal) (sym same) h.catches; fits = h.fits; kept = h.kept }
+
+    -- they were unified, and the recovery is called
+    pub unified_recovers : (recovery : W) → (present e.store).holds recovery ≡ true → (u : Unified (present e.store) (present store) goal ball)
+        → Recovers names present stands older (record e { store = store }) recovery (record s { subst = compose s.subst u.unifier; next = s.next + variable_count ball }) place
+    unified_recovers recovery holds u =
+        let space = h.space in
+        let few = u.few in
+        let steps = h.ahead.steps in
+        record {
+          ahead = ahead_bound e store e.nodes s place (variable_count ball) (compose s.subst u.unifier) h.ahead keeps texts (adds_none e.nodes.items) u.words (u.substitution ∙ ap (λ (r : Subst). compose r u.unifier) h.ahead.goes.subst) u.next (omega (arith, space, few));
+          holds = u.words.stand recovery holds;
+        }
+
+    -- what the recovery means then
+    pub recovery_moved : (recovery : W) → (present e.store).holds recovery ≡ true → meaning (present e.store) recovery ≡ recovery_of (present e.store) goal → (u : Unified (present e.store) (present store) goal ball)
+        → meaning (present store) recovery ≡ apply u.unifier (recovery_of (present e.store) goal)
+    recovery_moved recovery holds is u =
+        ap (λ (r : Subst). apply r ((present store).term recovery)) u.substitution ∙ ap (apply (compose (present e.store).substitution u.unifier)) (u.words.terms recovery holds)
+        ∙ sym (apply_apply (present e.store).substitution u.unifier ((present e.store).term recovery)) ∙ ap (apply u.unifier) is
+
+    -- they can't be, and the ball is thrown on
+    pub thrown_on : present store ≡ present e.store → IsEngine names present stands older (record e { store = store; now = now.Raising place }) (throwing ball s)
+    thrown_on same =
+        let thrown = engine_throws names present stands older (record e { store = store }) s place h.kept.0 (subst (λ (t : Tree). arities_fit t ≡ true) (sym h.kept.2) h.fits) (same_ahead same) in
+        subst (λ (t : Tree). IsEngine names present stands older (record e { store = store; now = now.Raising place }) (throwing t s)) h.kept.2
+        (subst (λ (b : Option Ball). IsEngine names present stands older (record e { store = store; raised = b; now = now.Raising place }) (throwing (term_of (h.kept.0).term) s)) (sym h.kept.1) thrown)
+
+-- what two stores make of a meeting is what others with the same terms make of it
+pub unified_same : {W : Type 0} {goal : W} {ball : Tree} (p q r t : Present W) (answer : Bool) → p ≡ r → t ≡ q → answer ≡ true → HasMet p q goal ball answer → Unified r t goal ball
+unified_same {goal = goal} {ball = ball} p q r t answer from to is h = subst (λ (x : Present _). Unified x t goal ball) from (subst (λ (y : Present _). Unified p y goal ball) (sym to) (rw is at h))
+
+pub never_same : {W : Type 0} (goal : W) (ball : Tree) (p q r : Present W) (answer : Bool) → p ≡ r → answer ≡ false → HasMet p q goal ball answer
+    → NeverEqual (catcher_of r goal) (apply r.substitution (copy_from ball r.next))
+never_same goal ball p q r answer from is h = subst (λ (x : Present _). NeverEqual (catcher_of x goal) (apply x.substitution (copy_from ball x.next))) from (rw is at h)
+
+pub on_ok_map : {T E : Type 0} {P Q : Type 0} (r : Result T E) → (P → Q) → OnOk r P → OnOk r Q
+on_ok_map (Ok t) f h = f h
+on_ok_map (Err e) f h = tt

@@ -114,15 +114,15 @@ module _ {S W M : Type 0} (names : S → List (List ℕ)) (present : S → Prese
     pub catcher_is : catcher ≡ catcher_of (present e.store) goal
     pub recovery_is : recovery ≡ recovery_of (present e.store) goal
 
-  -- The engine, in this state, is about to call the recovery of this goal.
-  pub record Recovers (e : Plain S W M) (goal : W) (s : State) (place : Option ℕ) : Type 0 where
+  -- The engine, in this state, is about to call this recovery.
+  pub record Recovers (e : Plain S W M) (recovery : W) (s : State) (place : Option ℕ) : Type 0 where
     pub ahead : IsAhead names present stands older e s place
-    pub catches : IsCatchGoal (present e.store) goal
+    pub holds : (present e.store).holds recovery ≡ true
 
-  -- The engine, in this state, is to run this goal first, which it has as a term of the same value.
+  -- The engine, in this state, is to run this goal first, which it has as a term of this value.
   pub record Calling (e : Plain S W M) (goal : Tree) (s : State) : Type 0 where
     pub term : Tree
-    pub value : apply s.subst term ≡ apply s.subst goal
+    pub value : apply s.subst term ≡ goal
     pub engine : IsEngine names present stands older e (calling term s)
 
   -- The engine's choices are this state's alternatives.
@@ -133,5 +133,5 @@ module _ {S W M : Type 0} (names : S → List (List ℕ)) (present : S → Prese
   abbrev pub HasThrown : Plain S W M → Present W → W → Tree → State → Type 0
   HasThrown e p goal ball s =
       ((u : Subst) × Unifier (catcher_of p goal) (apply p.substitution (copy_from ball p.next)) u
-          × Calling e (one (codes "call") (recovery_of p goal)) (record s { subst = compose s.subst u; next = s.next + variable_count ball }))
+          × Calling e (one (codes "call") (apply u (recovery_of p goal))) (record s { subst = compose s.subst u; next = s.next + variable_count ball }))
       ⊎ (NeverEqual (catcher_of p goal) (apply p.substitution (copy_from ball p.next)) × IsEngine names present stands older e (throwing ball s))

@@ -8,9 +8,10 @@ ghost use Rattle.iso_model.specs.Search.Walker.{State, Member, Raise};
 ghost use Rattle.iso_plain.specs.Catches.{GoesTo, IsUncaught, IsEndOfCatch, HasMet, throwing, catcher_of, recovery_of};
 ghost use Rattle.iso_model.specs.Search.Bodies.{one};
 ghost use Rattle.iso_atoms.specs.Texts.{KeepsTexts};
-ghost use Rattle.iso_store_core.specs.Presents.{KeepsMarks};
+ghost use Rattle.iso_store_core.specs.Presents.{KeepsMarks, meaning};
 
 use super::bodies::Node;
+use super::conversion::call_of;
 use super::parts::{Frame, Left, Now, Todo};
 use super::plain::{Move, Plain};
 use iso_model::{Ball, Numbering, Term};
@@ -104,13 +105,16 @@ impl<S: Store + Drop> Plain<S> {
         }
     }
 
-    /// Calls the recovery of this goal of `catch/3`, before the members from `next` on (7.8.9). The errors: the store is full, or memory
-    /// was refused.
-    fn call_recovery(&mut self, goal: S::Word, next: Option<usize>) -> Result<(), StoreFault>
-        requires { (s : State) × Recovers S.names S.present S.stands S.older self.old goal s next }
-        ensures called { (s : State) → Recovers S.names S.present S.stands S.older self.old goal s next
-            → OnOk result (Calling S.names S.present S.stands S.older self.new (one (codes "call") (recovery_of (S.present self.old.store) goal)) s) }
-        ensures kept { (s : State) → Recovers S.names S.present S.stands S.older self.old goal s next
+    /// Calls the recovery of a catch, before the members from `next` on (7.8.9). The errors: the store is full, or memory was refused.
+    fn call_recovery(
+        &mut self,
+        recovery: S::Word,
+        next: Option<usize>,
+    ) -> Result<(), StoreFault>
+        requires { (s : State) × Recovers S.names S.present S.stands S.older self.old recovery s next }
+        ensures called { (s : State) → Recovers S.names S.present S.stands S.older self.old recovery s next
+            → OnOk result (Calling S.names S.present S.stands S.older self.new (one (codes "call") (meaning (S.present self.old.store) recovery)) s) }
+        ensures kept { (s : State) → Recovers S.names S.present S.stands S.older self.old recovery s next
             → OnErr result (Keeps S.names S.present S.stands S.older self.new s.world s.stack) }
         ensures full { result ≡ Err StoreFault.Full → S.full self.new.store }
         ensures costs { OnOk result (cost self.new ≤ choices_cost self.old.procedures.items (frame_costs self.old.frames.items) self.old.choices.items
@@ -119,8 +123,7 @@ impl<S: Store + Drop> Plain<S> {
         ensures steps { self.new.steps ≡ self.old.steps }
         ensures stays { Stays S.names self.old self.new }
     {
-        let recovery = self.store.arg(goal, 2);
-        let call = self.store.compound(self.controls.call, &[recovery])?;
+        let call = call_of(self.alloc, &mut self.store, &self.controls, recovery)?;
         let place = self.nodes.len();
         self.nodes.push(Node::Run(call))?;
         self.now = Now::Running(Frame {
@@ -170,10 +173,11 @@ impl<S: Store + Drop> Plain<S> {
         ensures steps { self.new.steps ≡ self.old.steps }
         ensures stays { Stays S.names self.old self.new }
     {
+        let recovery = self.store.arg(goal, 2);
         let mark = self.store.mark();
         if self.meets(goal)? {
             self.store.forget(mark);
-            return self.call_recovery(goal, next);
+            return self.call_recovery(recovery, next);
         }
         self.store.undo(mark);
         self.store.forget(mark);
