@@ -27,7 +27,7 @@ use Rattle.iso_plain.proofs.FailLemmas.{awake_behind}
 use Rattle.iso_plain.proofs.SearchMoves.{goes}
 use Rattle.iso_plain.proofs.SearchSteps.{leave_step}
 use Rattle.iso_plain.proofs.StandingLemmas.{chain_place, choices_length, body_within}
-use Rattle.iso_plain.proofs.WeightLemmas.{falls_less}
+use Rattle.iso_plain.proofs.WeightLemmas.{falls_less, cost_as}
 
 -- ---- what is left to be done
 
@@ -143,8 +143,10 @@ module _ {S W M : Type 0} (names : S → List (List ℕ)) (present : S → Prese
     pub thrown_falls : (new : Plain S W M) (place : Option ℕ) → new.now ≡ now.Raising place → new.steps ≡ mid.steps → new.choices ≡ mid.choices → new.frames ≡ mid.frames → new.procedures ≡ mid.procedures
         → weight new < whole_cost (suc e.steps) w
     thrown_falls new place doing same_steps same_choices same_frames same_procedures =
-        let paid = thrown_paid e.steps (choices_cost e.procedures.items (frame_costs e.frames.items) e.choices.items) (place_cost e.frames.items next) w less in
-        rw (doing, same_steps, same_choices, same_frames, same_procedures, steps, all_choices) paid
+        let many = choices_cost e.procedures.items (frame_costs e.frames.items) e.choices.items in
+        let paid = thrown_paid e.steps many (place_cost e.frames.items next) w less in
+        let here : cost new ≡ many + left_cost 1 (place_cost e.frames.items next) + 1 = cost_as mid new (now.Raising place) doing same_choices same_frames same_procedures ∙ ap (λ (n : ℕ). n + 1) all_choices in
+        subst (λ (k : ℕ). whole_cost k (cost new) < whole_cost (suc e.steps) w) (sym (same_steps ∙ steps)) (subst (λ (v : ℕ). whole_cost e.steps v < whole_cost (suc e.steps) w) (sym here) paid)
 
   -- ---- out of a catch
 

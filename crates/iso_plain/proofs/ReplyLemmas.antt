@@ -1,11 +1,12 @@
 -- What goals of built-ins come to is the table's reply.
 use Rattle.std.proofs.Common.{◌≡◌, ℕ, List, Bool, true, false, ◌||◌, nat_lt, nat_abs, int_lt, pos, Option, Some, None, refl, sym, subst, codes, MatchBool, if◌then◌else◌}
-use Rattle.iso_model.specs.Terms.Trees.{Tree, Variable, Integer, Name, Apply, End, More}
+use Rattle.iso_model.specs.Terms.Trees.{Tree, Variable, Integer, Name, Apply, End, More, arities_fit}
+use Rattle.iso_model.specs.Terms.TermOf.{term_of}
 use Rattle.iso_model.specs.Terms.Arguments.{argument, arity}
 use Rattle.iso_model.specs.Terms.Substitutions.{Subst}
 use Rattle.iso_model.specs.Terms.Unifiers.{Unifier, NeverEqual}
 use Rattle.iso_model.specs.Terms.Unification.{unifier_of}
-use Rattle.iso_model.specs.Search.BuiltIns.{Reply, Raises, Calls, CallsOnce, Refutes, Catches, Halts, differ, converted_reply, goal_reply, throw_reply, halt_reply, reply}
+use Rattle.iso_model.specs.Search.BuiltIns.{Reply, Fails, Succeeds, Equates, Repeats, Raises, Calls, CallsOnce, Refutes, Catches, Halts, differ, converted_reply, goal_reply, throw_reply, halt_reply, reply}
 use Rattle.iso_model.specs.Search.Bodies.{Body, converted}
 use Rattle.iso_model.specs.Search.Errors.{Key, key, domain_error, max_arity_error}
 use Rattle.iso_model.specs.declared.built_ins.BuiltIn.{BuiltIn}
@@ -14,29 +15,83 @@ use Rattle.iso_model.specs.declared.pauses.Ball.{Ball}
 use Rattle.iso_model.proofs.OnTerms.UnifierLemmas.{unifier_of_some, unifier_of_none}
 use Rattle.iso_store_core.specs.Presents.{Present}
 use Rattle.iso_plain.specs.declared.bodies.Node.{Node}
+use Rattle.iso_plain.specs.declared.goals.Placed.{Placed}
 use Rattle.iso_plain.specs.declared.goals.Placed.TheVariants as placed
+use Rattle.iso_plain.specs.declared.replies.Replied.{Replied}
 use Rattle.iso_plain.specs.declared.replies.Replied.TheVariants as replied
-use Rattle.iso_plain.specs.Replies.{IsRunAs, IsPlaced, IsReply, called_of}
-use Rattle.iso_plain.proofs.EnteringLemmas.{adds_none}
+use Rattle.iso_plain.specs.Entering.{Adds}
+use Rattle.iso_plain.specs.Replies.{IsRunAs, IsPlaced, IsReply, IsInside, IsHalt, IsUnbound, called_of}
+use Rattle.iso_plain.proofs.EnteringLemmas.{adds_none, words_same}
 
 module _ {W : Type 0} (p q : Present W) (old new : List (Node W)) (t : Tree) where
   pub call_body : (place : _) → IsPlaced p q old new (called_of t) (key (codes "call") (arity t)) (placed.Body place) → IsReply p q old new (reply built_in.Call t) (replied.Calls place)
   call_body place h = subst (λ r. IsReply p q old new r (replied.Calls place)) (sym (h.1 Calls)) h.2
 
-  pub call_error : (ball : Ball) → IsPlaced p q old new (called_of t) (key (codes "call") (arity t)) (placed.Raises ball) → IsReply p q old new (reply built_in.Call t) (replied.Raises ball)
-  call_error ball h = subst (λ r. IsReply p q old new r (replied.Raises ball)) (sym (h Calls)) refl
+  pub call_error : (ball : Ball) → IsPlaced p q old new (called_of t) (key (codes "call") (arity t)) (placed.Raises ball) → arities_fit (term_of ball.term) ≡ true → IsUnbound p q → Adds old new → IsReply p q old new (reply built_in.Call t) (replied.Raises ball)
+  call_error ball h fits unbound adds = subst (λ r. IsReply p q old new r (replied.Raises ball)) (sym (h Calls)) (record { is = refl; fits = fits; unbound = unbound; adds = adds })
 
   pub once_body : (place : _) → IsRunAs p q old new (λ runs. goal_reply runs (argument 0 t) (key (codes "once") 1)) (placed.Body place) → IsReply p q old new (reply built_in.Once t) (replied.CallsOnce place)
   once_body place h = subst (λ r. IsReply p q old new r (replied.CallsOnce place)) (sym (h.1 CallsOnce)) h.2
 
-  pub once_error : (ball : Ball) → IsRunAs p q old new (λ runs. goal_reply runs (argument 0 t) (key (codes "once") 1)) (placed.Raises ball) → IsReply p q old new (reply built_in.Once t) (replied.Raises ball)
-  once_error ball h = subst (λ r. IsReply p q old new r (replied.Raises ball)) (sym (h CallsOnce)) refl
+  pub once_error : (ball : Ball) → IsRunAs p q old new (λ runs. goal_reply runs (argument 0 t) (key (codes "once") 1)) (placed.Raises ball) → arities_fit (term_of ball.term) ≡ true → IsUnbound p q → Adds old new → IsReply p q old new (reply built_in.Once t) (replied.Raises ball)
+  once_error ball h fits unbound adds = subst (λ r. IsReply p q old new r (replied.Raises ball)) (sym (h CallsOnce)) (record { is = refl; fits = fits; unbound = unbound; adds = adds })
 
   pub not_body : (place : _) → IsRunAs p q old new (λ runs. goal_reply runs (argument 0 t) (key (codes "\\+") 1)) (placed.Body place) → IsReply p q old new (reply built_in.Not t) (replied.Refutes place)
   not_body place h = subst (λ r. IsReply p q old new r (replied.Refutes place)) (sym (h.1 Refutes)) h.2
 
-  pub not_error : (ball : Ball) → IsRunAs p q old new (λ runs. goal_reply runs (argument 0 t) (key (codes "\\+") 1)) (placed.Raises ball) → IsReply p q old new (reply built_in.Not t) (replied.Raises ball)
-  not_error ball h = subst (λ r. IsReply p q old new r (replied.Raises ball)) (sym (h Refutes)) refl
+  pub not_error : (ball : Ball) → IsRunAs p q old new (λ runs. goal_reply runs (argument 0 t) (key (codes "\\+") 1)) (placed.Raises ball) → arities_fit (term_of ball.term) ≡ true → IsUnbound p q → Adds old new → IsReply p q old new (reply built_in.Not t) (replied.Raises ball)
+  not_error ball h fits unbound adds = subst (λ r. IsReply p q old new r (replied.Raises ball)) (sym (h Refutes)) (record { is = refl; fits = fits; unbound = unbound; adds = adds })
+
+  -- inside a catch
+  pub catch_body : (place : _) → IsRunAs p q old new (λ runs. goal_reply runs (argument 0 t) (key (codes "catch") 3)) (placed.Body place) → IsReply p q old new (reply built_in.Catch t) (replied.Catches (placed.Body place))
+  catch_body place h = subst (λ r. IsInside p q old new r (placed.Body place)) (sym (h.1 Calls)) h.2
+
+  pub catch_error : (ball : Ball) → IsRunAs p q old new (λ runs. goal_reply runs (argument 0 t) (key (codes "catch") 3)) (placed.Raises ball) → arities_fit (term_of ball.term) ≡ true → IsUnbound p q → Adds old new
+      → IsReply p q old new (reply built_in.Catch t) (replied.Catches (placed.Raises ball))
+  catch_error ball h fits unbound adds = subst (λ r. IsInside p q old new r (placed.Raises ball)) (sym (h Calls)) (record { is = refl; fits = fits; unbound = unbound; adds = adds })
+
+  pub catch_placed : (answer : Placed) → IsRunAs p q old new (λ runs. goal_reply runs (argument 0 t) (key (codes "catch") 3)) answer
+      → ((ball : Ball) → answer ≡ placed.Raises ball → (arities_fit (term_of ball.term) ≡ true) × IsUnbound p q) → Adds old new → IsReply p q old new (reply built_in.Catch t) (replied.Catches answer)
+  catch_placed (placed.Body place) h raised adds = catch_body place h
+  catch_placed (placed.Raises ball) h raised adds = (let kept = raised ball refl in catch_error ball h kept.0 kept.1 adds)
+
+-- ---- a ball is thrown, and the search is ended
+
+module _ {W : Type 0} (p : Present W) (old : List (Node W)) where
+  unbound_same : IsUnbound p p
+  unbound_same = record { words = words_same p; substitution = refl; next = refl }
+
+  pub throw_replied : (x : Reply) (ball : Ball) → x ≡ Raises (term_of ball.term) → arities_fit (term_of ball.term) ≡ true → IsReply p p old old x (replied.Raises ball)
+  throw_replied x ball is fits = subst (λ r. IsReply p p old old r (replied.Raises ball)) (sym is) (record { is = refl; fits = fits; unbound = unbound_same; adds = adds_none old })
+
+  -- what a goal of `halt/1` comes to
+  pub halt_replied : (x : Reply) (answer : Replied) → IsHalt x answer → IsReply p p old old x answer
+  halt_replied (Raises error) (replied.Raises ball) h = record { is = h.0; fits = h.1; unbound = unbound_same; adds = adds_none old }
+  halt_replied (Raises error) replied.GoesOn h = absurd h
+  halt_replied (Raises error) replied.Fails h = absurd h
+  halt_replied (Raises error) (replied.Calls place) h = absurd h
+  halt_replied (Raises error) (replied.CallsOnce place) h = absurd h
+  halt_replied (Raises error) (replied.Refutes place) h = absurd h
+  halt_replied (Raises error) replied.Repeats h = absurd h
+  halt_replied (Raises error) (replied.Catches placed) h = absurd h
+  halt_replied (Raises error) (replied.Halts status) h = absurd h
+  halt_replied (Halts n) (replied.Halts status) h = h
+  halt_replied (Halts n) replied.GoesOn h = absurd h
+  halt_replied (Halts n) replied.Fails h = absurd h
+  halt_replied (Halts n) (replied.Raises ball) h = absurd h
+  halt_replied (Halts n) (replied.Calls place) h = absurd h
+  halt_replied (Halts n) (replied.CallsOnce place) h = absurd h
+  halt_replied (Halts n) (replied.Refutes place) h = absurd h
+  halt_replied (Halts n) replied.Repeats h = absurd h
+  halt_replied (Halts n) (replied.Catches placed) h = absurd h
+  halt_replied Fails answer h = absurd h
+  halt_replied Succeeds answer h = absurd h
+  halt_replied (Equates a b) answer h = absurd h
+  halt_replied (Calls b) answer h = absurd h
+  halt_replied (CallsOnce b) answer h = absurd h
+  halt_replied (Refutes b) answer h = absurd h
+  halt_replied Repeats answer h = absurd h
+  halt_replied (Catches inside catcher recovery) answer h = absurd h
 
 -- whether terms differ
 pub differ_replied : {W : Type 0} (p q : Present W) (old : List (Node W)) (a b : Tree) (answer : Bool) → MatchBool answer (NeverEqual a b) ((s : Subst) × Unifier a b s) → q ≡ p

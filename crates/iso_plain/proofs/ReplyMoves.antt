@@ -199,6 +199,10 @@ inside_raises p q old new Repeats ball h = absurd h
 inside_raises p q old new (Catches inside catcher recovery) ball h = absurd h
 inside_raises p q old new (Halts n) ball h = absurd h
 
+-- a body came, and nothing was bound
+pub places_unbound : {W : Type 0} (p q : Present W) (old new : List (Node W)) (b : Body) (place : ℕ) → Places p q old new b place → IsUnbound p q
+places_unbound p q old new b place h = record { words = h.words; substitution = h.substitution; next = h.next }
+
 module _ {S W M : Type 0} (names : S → List (List ℕ)) (present : S → Present W) (stands : S → M → Present W → Type 0) (older : M → M → Type 0) where
   module _ (e : Plain S W M) (store : S) (nodes : Vec (Node W) Global) (s : State) (f : Frame) (k : ℕ) (w : W) (doing : e.now ≡ now.Running f) (there : IsAt e.nodes.items f k (node.Run w)) (r : Represents names present stands older e s)
       (more : e.steps ≢ 0) (b : BuiltIn) (is_own : IsBuiltIn (meaning (present e.store) w) b) (keeps : KeepsMarks (stands e.store) (stands store)) (texts : KeepsTexts (names e.store) (names store)) (adds : Adds e.nodes.items nodes.items) where

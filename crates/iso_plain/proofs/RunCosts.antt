@@ -1,5 +1,5 @@
 -- What a goal that took a step leaves to be done.
-use Rattle.std.proofs.Common.{◌≡◌, ◌≢◌, ◌+◌, ◌-◌, ◌<◌, ◌≤◌, ℕ, suc, refl, ap, sym, ◌∙◌, subst, arith, Vec, Global}
+use Rattle.std.proofs.Common.{◌≡◌, ◌≢◌, ◌+◌, ◌-◌, ◌<◌, ◌≤◌, ℕ, suc, List, Option, refl, ap, sym, ◌∙◌, subst, arith, Vec, Global}
 use Rattle.iso_store_core.specs.Presents.{Present}
 use Rattle.iso_model.specs.Search.Bodies.{Body}
 use Rattle.iso_model.specs.Search.Walker.{State}
@@ -20,7 +20,7 @@ use Rattle.iso_plain.proofs.CostLemmas.{cost_above, whole_paid, below_words, beh
 use Rattle.iso_plain.proofs.LocalMoves.{goal_paid, rest_paid}
 use Rattle.iso_plain.proofs.RunLemmas.{one_less}
 use Rattle.iso_plain.proofs.StandingLemmas.{body_within}
-use Rattle.iso_plain.proofs.WeightLemmas.{falls_less}
+use Rattle.iso_plain.proofs.WeightLemmas.{falls_less, cost_as}
 
 -- a frame that asks for failure
 pub failing_falls : {S W M : Type 0} (e : Plain S W M) (f : Frame) → e.now ≡ now.Running f → f.todo ≡ todo.Fail → weight (record e { now = now.Failing }) < weight e
@@ -55,6 +55,14 @@ module _ {S W M : Type 0} (names : S → List (List ℕ)) (present : S → Prese
         let all = behind_less in
         let paid = whole_paid (e.steps - 1) (cost e) (choices_cost e.procedures.items (frame_costs e.frames.items) e.choices.items + 0) (omega (arith, all)) in
         subst (λ x. weight (record e { store = store; nodes = nodes; steps = e.steps - 1; now = now.Failing }) < x) step_weight paid
+
+    -- a ball is thrown
+    pub throws_falls : (new : Plain S W M) (place : Option ℕ) → new.now ≡ now.Raising place → new.steps ≡ e.steps - 1 → new.choices ≡ e.choices → new.frames ≡ e.frames → new.procedures ≡ e.procedures → weight new < weight e
+    throws_falls new place doing steps choices frames procedures =
+        let all = behind_less in
+        let here = cost_as e new (now.Raising place) doing choices frames procedures in
+        let paid = whole_paid (e.steps - 1) (cost e) (cost new) (omega (arith, all, here)) in
+        subst (λ x. weight new < x) step_weight (subst (λ (k : ℕ). whole_cost k (cost new) < whole_cost (suc (e.steps - 1)) (cost e)) (sym steps) paid)
 
     pub calls_falls : (store : S) (nodes : Vec (Node W) Global) (place mark : ℕ) (b : Body) → IsBody (present store) nodes.items place b
         → weight (record e { store = store; nodes = nodes; steps = e.steps - 1; now = now.Running (record { todo = todo.Body place; mark = mark; next = f.next }) }) < weight e

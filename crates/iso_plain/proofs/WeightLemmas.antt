@@ -7,6 +7,15 @@ use Rattle.iso_plain.specs.Costs.{body_cost, most, left_cost, whole_cost, rest_c
 use Rattle.iso_plain.specs.EngineStates.{choices_cost, now_cost, cost, weight}
 use Rattle.iso_plain.proofs.CostLemmas.{whole_more, whole_paid, called_cost, left_step, cost_above}
 
+-- the cost of an engine whose choices and frames are those of another
+pub cost_as : {S W M : Type 0} (e new : Plain S W M) (n : Now) → new.now ≡ n → new.choices ≡ e.choices → new.frames ≡ e.frames → new.procedures ≡ e.procedures
+    → cost new ≡ choices_cost e.procedures.items (frame_costs e.frames.items) e.choices.items + now_cost (frame_costs e.frames.items) n
+cost_as e new n doing choices frames procedures =
+    ap (λ ps. choices_cost ps.items (frame_costs new.frames.items) new.choices.items + now_cost (frame_costs new.frames.items) new.now) procedures
+    ∙ (ap (λ fs. choices_cost e.procedures.items (frame_costs fs.items) new.choices.items + now_cost (frame_costs fs.items) new.now) frames
+    ∙ (ap (λ cs. choices_cost e.procedures.items (frame_costs e.frames.items) cs.items + now_cost (frame_costs e.frames.items) new.now) choices
+    ∙ ap (λ (m : Now). choices_cost e.procedures.items (frame_costs e.frames.items) e.choices.items + now_cost (frame_costs e.frames.items) m) doing))
+
 -- as many steps, and less to be done before the next
 pub falls_less : {S W M : Type 0} (e new : Plain S W M) → new.steps ≡ e.steps → cost new < cost e → weight new < weight e
 falls_less e new steps less = rw steps (whole_more e.steps (cost new) (cost e) less)

@@ -54,8 +54,8 @@ impl<S: Store + Drop> Plain<S> {
     pub(crate) fn end_by_ball(&mut self) -> Move
         requires now { (place : Option ℕ) × (self.old.now ≡ Raising place) }
         requires stands { (s : State) × Represents S.names S.present S.stands S.older self.old s }
-        ensures moves { (s : State) → Represents S.names S.present S.stands S.older self.old s
-            → ((ball : Tree) (behind : List Member) → s.list ≡ Raise ball ∷ behind → IsUncaught ball behind s)
+        ensures moves { (s : State) → (r : Represents S.names S.present S.stands S.older self.old s)
+            → ((ball : Tree) (behind : List Member) → r.own.list ≡ Raise ball ∷ behind → IsUncaught ball behind r.own)
             → Moves S.names S.present S.stands S.older result s self.new }
         ensures falls { Falls result (weight self.old) (weight self.new) }
         ensures frames { MoveFull ⊥ result }

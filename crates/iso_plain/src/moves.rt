@@ -3,6 +3,7 @@ ghost use Rattle.std.specs.Prelude.{◌≡◌, ◌≢◌, ℕ, ◌<◌, ◌≤�
 ghost use Rattle.iso_model.specs.Terms.Trees.{Tree};
 ghost use Rattle.iso_model.specs.Search.Databases as databases;
 ghost use Rattle.iso_model.specs.Search.Databases.{Procedures};
+ghost use Rattle.iso_atoms.specs.Texts.{KeepsTexts};
 ghost use Rattle.iso_plain.specs.Kept.{IsClause};
 ghost use Rattle.iso_plain.specs.Programs.{IsDatabase};
 ghost use Rattle.iso_plain.specs.EngineStates.{left_at, went_back, clauses_at_place};
@@ -118,6 +119,9 @@ impl<S: Store + Drop> Plain<S> {
         ensures limit { self.new.limit ≡ self.old.limit }
         ensures settings { settings_of self.new ≡ settings_of self.old }
         ensures procedures { self.new.procedures ≡ self.old.procedures }
+        ensures callables { self.new.callables ≡ self.old.callables }
+        ensures controls { self.new.controls ≡ self.old.controls }
+        ensures names { KeepsTexts (S.names self.old.store) (S.names self.new.store) }
     {
         let clause = attempt.clause + 1;
         keep_choice(

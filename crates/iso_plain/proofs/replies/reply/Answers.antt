@@ -2,7 +2,7 @@ use Rattle.std.proofs.Common.{◌≡◌, arith}
 use Rattle.iso_model.specs.Terms.Arguments.{arity}
 use Rattle.iso_store_core.specs.Presents.{meaning}
 use Rattle.iso_plain.proofs.CalledLemmas.{built_in_arguments}
-use Rattle.iso_plain.proofs.ReplyLemmas.{call_body, call_error, once_body, once_error, not_body, not_error, differ_replied}
+use Rattle.iso_plain.proofs.ReplyLemmas.{call_body, call_error, once_body, once_error, not_body, not_error, catch_placed, halt_replied, differ_replied}
 use Rattle.iso_plain.proofs.replies.reply.Goals as goal
 
 pub arg-left-requires-clause-index : goal.arg-left-requires-clause-index
@@ -50,7 +50,7 @@ returns-in-Body-clause-replies g c =
 
 pub returns-in-Raises-clause-replies : goal.returns-in-Raises-clause-replies
 returns-in-Raises-clause-replies g c =
-    rw c.in-Call.is (call_error _ _ _ _ (meaning (g.S.Store.present c.args.store.now) c.args.goal) c.in-Raises.ball (rw c.in-Raises.is at c.in_ok-place-in-Call.ensures.placed))
+    rw c.in-Call.is (call_error _ _ _ _ (meaning (g.S.Store.present c.args.store.now) c.args.goal) c.in-Raises.ball (rw c.in-Raises.is at c.in_ok-place-in-Call.ensures.placed) ? ? c.in_ok-place-in-Call.ensures.nodes)
 
 pub returns-in-Body-2-clause-replies : goal.returns-in-Body-2-clause-replies
 returns-in-Body-2-clause-replies g c =
@@ -58,7 +58,7 @@ returns-in-Body-2-clause-replies g c =
 
 pub returns-in-Raises-2-clause-replies : goal.returns-in-Raises-2-clause-replies
 returns-in-Raises-2-clause-replies g c =
-    rw c.in-Once.is (once_error _ _ _ _ (meaning (g.S.Store.present c.args.store.now) c.args.goal) c.in-Raises-2.ball (rw c.in-Raises-2.is at c.in_ok-place-in-Once.ensures.placed))
+    rw c.in-Once.is (once_error _ _ _ _ (meaning (g.S.Store.present c.args.store.now) c.args.goal) c.in-Raises-2.ball (rw c.in-Raises-2.is at c.in_ok-place-in-Once.ensures.placed) ? ? c.in_ok-place-in-Once.ensures.nodes)
 
 pub returns-in-Body-3-clause-replies : goal.returns-in-Body-3-clause-replies
 returns-in-Body-3-clause-replies g c =
@@ -66,4 +66,28 @@ returns-in-Body-3-clause-replies g c =
 
 pub returns-in-Raises-3-clause-replies : goal.returns-in-Raises-3-clause-replies
 returns-in-Raises-3-clause-replies g c =
-    rw c.in-Not.is (not_error _ _ _ _ (meaning (g.S.Store.present c.args.store.now) c.args.goal) c.in-Raises-3.ball (rw c.in-Raises-3.is at c.in_ok-place-in-Not.ensures.placed))
+    rw c.in-Not.is (not_error _ _ _ _ (meaning (g.S.Store.present c.args.store.now) c.args.goal) c.in-Raises-3.ball (rw c.in-Raises-3.is at c.in_ok-place-in-Not.ensures.placed) ? ? c.in_ok-place-in-Not.ensures.nodes)
+
+-- ---- catches, balls and the session's end
+
+pub place_argument-requires-in-Catch-clause-some : goal.place_argument-requires-in-Catch-clause-some
+place_argument-requires-in-Catch-clause-some g c =
+    let three : arity (meaning (g.S.Store.present c.args.store.now) c.args.goal) ≡ 3 = rw c.in-Catch.is at (built_in_arguments _ c.args.built_in c.requires.built_in) in
+    omega (arith, three)
+
+pub thrown-requires-clause-some : goal.thrown-requires-clause-some
+thrown-requires-clause-some g c =
+    let one : arity (meaning (g.S.Store.present c.args.store.now) c.args.goal) ≡ 1 = rw c.in-Throw.is at (built_in_arguments _ c.args.built_in c.requires.built_in) in
+    omega (arith, one)
+
+pub halted-requires-clause-some : goal.halted-requires-clause-some
+halted-requires-clause-some g c =
+    let one : arity (meaning (g.S.Store.present c.args.store.now) c.args.goal) ≡ 1 = rw c.in-HaltWith.is at (built_in_arguments _ c.args.built_in c.requires.built_in) in
+    omega (arith, one)
+
+pub returns-in_ok-place_argument-in-Catch-clause-replies : goal.returns-in_ok-place_argument-in-Catch-clause-replies
+returns-in_ok-place_argument-in-Catch-clause-replies g c =
+    rw c.in-Catch.is (catch_placed _ _ _ _ (meaning (g.S.Store.present c.args.store.now) c.args.goal) c.in_ok-place_argument-in-Catch.field-0 c.in_ok-place_argument-in-Catch.ensures.placed ? c.in_ok-place_argument-in-Catch.ensures.nodes)
+
+pub returns-in-HaltWith-clause-replies : goal.returns-in-HaltWith-clause-replies
+returns-in-HaltWith-clause-replies g c = ?

@@ -5,7 +5,7 @@ use Rattle.iso_plain.specs.Costs.{frame_costs}
 use Rattle.iso_plain.proofs.StoppedLemmas.{behind_error}
 use Rattle.iso_plain.proofs.StandingLemmas.{choices_length}
 use Rattle.iso_plain.proofs.WeightLemmas.{falls_less, back_cost, entered_cost, falls_again}
-use Rattle.iso_plain.proofs.FailLemmas.{ends_run, resumes_on, repeats_on, spends_on, tries_on, stops_on}
+use Rattle.iso_plain.proofs.FailLemmas.{ends_run, resumes_on, passes_on, repeats_on, spends_on, tries_on, stops_on}
 use Rattle.iso_plain.proofs.ResumeLemmas.{has_members}
 use Rattle.iso_plain.proofs.plain.Plain.fail.Goals as goal
 
@@ -47,6 +47,21 @@ returns-in-Again-2-clause-falls g c =
     let mid = c.go_back-choice.new.self in
     let all = back_cost c.args.self.now mid back.choices back.stays.procedures back.costs in
     falls_again c.args.self.now c.go_again.new.self (choices_cost mid.procedures.items (frame_costs mid.frames.items) mid.choices.items) (c.go_again.ensures.step ∙ back.steps) c.go_again.ensures.costs all
+
+-- ---- the entry of a catch
+
+pub returns-in-Catching-clause-moves : goal.returns-in-Catching-clause-moves
+returns-in-Catching-clause-moves g c = λ s r.
+    (let b = c.go_back-choice.ensures.back r.own r.engine in
+    let h = has_members g.S.Store.names g.S.Store.present g.S.Store.stands g.S.Store.older c.go_back-choice.new.self c.go_back-choice.result r.own b.0 b.1 b.3 _ c.in-Catching.is in
+    passes_on g.S.Store.names g.S.Store.present g.S.Store.stands g.S.Store.older c.args.self.now c.pass_catch.new.self s r b.0 b.1 c.requires.failing b.2 _ _ h.is (c.pass_catch.ensures.fails r.own b.0 b.1 b.3) c.pass_catch.ensures.awake)
+
+pub returns-in-Catching-clause-falls : goal.returns-in-Catching-clause-falls
+returns-in-Catching-clause-falls g c =
+    let back = c.go_back-choice.ensures in
+    let all = back_cost c.args.self.now c.go_back-choice.new.self back.choices back.stays.procedures back.costs in
+    let less = c.pass_catch.ensures.costs in
+    falls_less c.args.self.now c.pass_catch.new.self (c.pass_catch.ensures.steps ∙ back.steps) (omega (arith, all, less))
 
 -- ---- clauses that it kept
 

@@ -1,6 +1,6 @@
 use Rattle.iso_plain.proofs.EngineMoves.{awake_stands}
 use Rattle.iso_plain.proofs.EndLemmas.{idle_moves}
-use Rattle.iso_plain.proofs.LimitLemmas.{move_full, result_full}
+use Rattle.iso_plain.proofs.LimitLemmas.{result_full}
 use Rattle.iso_plain.proofs.plain.Plain.moved.Goals as goal
 
 pub returns-in-Idle-clause-moves : goal.returns-in-Idle-clause-moves
@@ -12,4 +12,4 @@ pub returns-in-Answering-clause-frames : goal.returns-in-Answering-clause-frames
 returns-in-Answering-clause-frames g c = λ s r. result_full c.answer.result (λ h. absurd h) c.answer.ensures.frames
 
 pub returns-in-Raising-clause-frames : goal.returns-in-Raising-clause-frames
-returns-in-Raising-clause-frames g c = λ s r. move_full c.raise.result (λ h. absurd h) c.raise.ensures.frames
+returns-in-Raising-clause-frames g c = λ s r. result_full c.raise.result (λ h. absurd h) c.raise.ensures.frames

@@ -15,3 +15,6 @@ returns-in-Fail-clause-moves g c = λ s r. fails_next g.S.Store.names g.S.Store.
 
 pub returns-in-Fail-clause-falls : goal.returns-in-Fail-clause-falls
 returns-in-Fail-clause-falls g c = failing_falls c.args.self.now c.args.frame c.requires.now c.in-Fail.is
+
+pub returns-in-Leave-clause-frames : goal.returns-in-Leave-clause-frames
+returns-in-Leave-clause-frames g c = λ s r. move_full c.leave.result (λ h. absurd h) c.leave.ensures.frames

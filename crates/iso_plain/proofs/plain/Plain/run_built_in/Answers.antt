@@ -10,8 +10,8 @@ use Rattle.iso_plain.proofs.StandingLemmas.{chain_place}
 use Rattle.iso_plain.proofs.StoppedLemmas.{behind_error, keeps_all, keeps_more}
 use Rattle.iso_plain.proofs.SearchMoves.{stops_here}
 use Rattle.iso_plain.proofs.RunMoves.{at, if_ok_map}
-use Rattle.iso_plain.proofs.RunCosts.{behind_less, step_weight, goes_falls, fails_falls, calls_falls}
-use Rattle.iso_plain.proofs.ReplyMoves.{went_on, failed_on, raised_by, calls_by, once_by, refutes_by, repeats_by, goes_on, fails_now, raises_now, called, called_ahead, calls_now, once_now, once_stops, refutes_now, refute_stops, refute_over, repeating, repeating_ahead, repeats_now, repeat_stops, repeat_over}
+use Rattle.iso_plain.proofs.RunCosts.{behind_less, step_weight, goes_falls, fails_falls, throws_falls, calls_falls}
+use Rattle.iso_plain.proofs.ReplyMoves.{went_on, failed_on, raised_by, calls_by, once_by, refutes_by, repeats_by, catches_by, halts_by, inside_calls, inside_raises, places_unbound, goes_on, fails_now, unbound_ahead, raises_now, halts_now, after, enters_catch, calls_inside_now, call_inside_stops, call_inside_over, throws_inside_now, throw_inside_stops, throw_inside_over, called, called_ahead, calls_now, once_now, once_stops, refutes_now, refute_stops, refute_over, repeating, repeating_ahead, repeats_now, repeat_stops, repeat_over}
 use Rattle.iso_plain.proofs.plain.Plain.run_built_in.Goals as goal
 
 pub reply-requires-clause-goal : goal.reply-requires-clause-goal
@@ -41,11 +41,21 @@ returns-in-Fails-clause-moves g c = λ s r. fails_now g.S.Store.names g.S.Store.
 pub returns-in-Fails-clause-falls : goal.returns-in-Fails-clause-falls
 returns-in-Fails-clause-falls g c = fails_falls g.S.Store.names g.S.Store.present g.S.Store.stands g.S.Store.older c.args.self.now c.requires.stands.0 c.args.frame c.args.place c.requires.now c.requires.there.asks c.requires.stands.1 c.requires.steps c.reply.new.store c.reply.new.nodes
 
+pub throw-requires : goal.throw-requires
+throw-requires g c =
+    let by = raised_by (g.S.Store.present c.args.self.now.store) (g.S.Store.present c.reply.new.store) c.args.self.now.nodes.items c.reply.new.nodes.items (reply c.args.built_in (meaning (g.S.Store.present c.args.self.now.store) c.args.goal)) c.in-Raises.ball (rw c.in-Raises.is at c.in_ok-replied.ensures.replies) in
+    by.1
+
 pub returns-in-Raises-clause-moves : goal.returns-in-Raises-clause-moves
-returns-in-Raises-clause-moves g c = λ s r. (
-  raises_now g.S.Store.names g.S.Store.present g.S.Store.stands g.S.Store.older c.args.self.now c.reply.new.store c.reply.new.nodes s c.args.frame c.args.place c.args.goal c.requires.now c.requires.there r c.requires.steps c.args.built_in c.requires.built_in c.in_ok-replied.ensures.marks c.in_ok-replied.ensures.names c.in_ok-replied.ensures.nodes c.clear.new.self (term_of c.in-Raises.ball.term) (raised_by (g.S.Store.present c.args.self.now.store) (g.S.Store.present c.reply.new.store) c.args.self.now.nodes.items c.reply.new.nodes.items (reply c.args.built_in (meaning (g.S.Store.present c.args.self.now.store) c.args.goal)) c.in-Raises.ball (rw c.in-Raises.is at c.in_ok-replied.ensures.replies)) c.clear.ensures.idle c.clear.ensures.now,
-  ap phase_of c.clear.ensures.now,
-)
+returns-in-Raises-clause-moves g c = λ s r.
+    (let by = raised_by (g.S.Store.present c.args.self.now.store) (g.S.Store.present c.reply.new.store) c.args.self.now.nodes.items c.reply.new.nodes.items (reply c.args.built_in (meaning (g.S.Store.present c.args.self.now.store) c.args.goal)) c.in-Raises.ball (rw c.in-Raises.is at c.in_ok-replied.ensures.replies) in
+    let ahead = unbound_ahead g.S.Store.names g.S.Store.present g.S.Store.stands g.S.Store.older c.args.self.now c.reply.new.store c.reply.new.nodes s c.args.frame c.args.place c.args.goal c.requires.now c.requires.there r c.requires.steps c.args.built_in c.requires.built_in c.in_ok-replied.ensures.marks c.in_ok-replied.ensures.names c.in_ok-replied.ensures.nodes by.2 in
+    raises_now g.S.Store.names g.S.Store.present g.S.Store.stands g.S.Store.older c.args.self.now c.reply.new.store c.reply.new.nodes s c.args.frame c.args.place c.args.goal c.requires.now c.requires.there r c.requires.steps c.args.built_in c.requires.built_in c.in_ok-replied.ensures.marks c.in_ok-replied.ensures.names c.in_ok-replied.ensures.nodes c.throw.new.self (term_of c.in-Raises.ball.term) by.0 (c.throw.ensures.thrown _ ahead) (rw c.throw.ensures.now tt))
+
+pub returns-in-Raises-clause-falls : goal.returns-in-Raises-clause-falls
+returns-in-Raises-clause-falls g c =
+    let same = c.throw.ensures.same in
+    throws_falls g.S.Store.names g.S.Store.present g.S.Store.stands g.S.Store.older c.args.self.now c.requires.stands.0 c.args.frame c.args.place c.requires.now c.requires.there.asks c.requires.stands.1 c.requires.steps c.throw.new.self c.args.frame.next c.throw.ensures.now same.0 same.1 same.2 c.throw.ensures.stays.procedures
 
 -- ---- a goal is run
 
@@ -139,3 +149,88 @@ pub returns-in-Repeats-clause-frames : goal.returns-in-Repeats-clause-frames
 returns-in-Repeats-clause-frames g c = λ s r.
     (let by = repeats_by (g.S.Store.present c.args.self.now.store) (g.S.Store.present c.reply.new.store) c.args.self.now.nodes.items c.reply.new.nodes.items (reply c.args.built_in (meaning (g.S.Store.present c.args.self.now.store) c.args.goal)) (rw c.in-Repeats.is at c.in_ok-replied.ensures.replies) in
     result_full c.repeat.result (repeat_over g.S.Store.names g.S.Store.present g.S.Store.stands g.S.Store.older c.args.self.now c.reply.new.store c.reply.new.nodes s c.args.frame c.args.place c.args.goal c.requires.now c.requires.there r c.requires.steps c.args.built_in c.requires.built_in c.in_ok-replied.ensures.marks c.in_ok-replied.ensures.names c.in_ok-replied.ensures.nodes by.0 by.1) c.repeat.ensures.frames)
+
+-- ---- inside a catch
+
+pub call_inside-requires : goal.call_inside-requires
+call_inside-requires g c =
+    let by = catches_by (g.S.Store.present c.args.self.now.store) (g.S.Store.present c.reply.new.store) c.args.self.now.nodes.items c.reply.new.nodes.items (reply c.args.built_in (meaning (g.S.Store.present c.args.self.now.store) c.args.goal)) c.in-Catches-Body.field-0 (rw c.in-Catches-Body.is at c.in_ok-replied.ensures.replies) in
+    let inside = inside_calls (g.S.Store.present c.args.self.now.store) (g.S.Store.present c.reply.new.store) c.args.self.now.nodes.items c.reply.new.nodes.items by.0 c.in-Catches-Body.body (rw c.in-Catches-Body.field-0-is at by.4) in
+    let unbound = places_unbound (g.S.Store.present c.args.self.now.store) (g.S.Store.present c.reply.new.store) c.args.self.now.nodes.items c.reply.new.nodes.items inside.0 c.in-Catches-Body.body inside.2 in
+    (after g.S.Store.names g.S.Store.present g.S.Store.stands g.S.Store.older c.args.self.now c.reply.new.store c.reply.new.nodes c.requires.stands.0 c.args.frame c.args.place c.args.goal c.requires.now c.requires.there c.requires.stands.1 c.requires.steps c.args.built_in c.requires.built_in c.in_ok-replied.ensures.marks c.in_ok-replied.ensures.names c.in_ok-replied.ensures.nodes by.0 by.1 by.2 by.3 unbound, inside.2.body, enters_catch g.S.Store.names g.S.Store.present g.S.Store.stands g.S.Store.older c.args.self.now c.reply.new.store c.reply.new.nodes c.requires.stands.0 c.args.frame c.args.place c.args.goal c.requires.now c.requires.there c.requires.stands.1 c.requires.steps c.args.built_in c.requires.built_in c.in_ok-replied.ensures.marks c.in_ok-replied.ensures.names c.in_ok-replied.ensures.nodes by.0 by.1 by.2 by.3 unbound, inside.2.stands)
+
+pub returns-in-Catches-Body-clause-moves : goal.returns-in-Catches-Body-clause-moves
+returns-in-Catches-Body-clause-moves g c = λ s r.
+    (let by = catches_by (g.S.Store.present c.args.self.now.store) (g.S.Store.present c.reply.new.store) c.args.self.now.nodes.items c.reply.new.nodes.items (reply c.args.built_in (meaning (g.S.Store.present c.args.self.now.store) c.args.goal)) c.in-Catches-Body.field-0 (rw c.in-Catches-Body.is at c.in_ok-replied.ensures.replies) in
+    let inside = inside_calls (g.S.Store.present c.args.self.now.store) (g.S.Store.present c.reply.new.store) c.args.self.now.nodes.items c.reply.new.nodes.items by.0 c.in-Catches-Body.body (rw c.in-Catches-Body.field-0-is at by.4) in
+    let unbound = places_unbound (g.S.Store.present c.args.self.now.store) (g.S.Store.present c.reply.new.store) c.args.self.now.nodes.items c.reply.new.nodes.items inside.0 c.in-Catches-Body.body inside.2 in
+    let enters = enters_catch g.S.Store.names g.S.Store.present g.S.Store.stands g.S.Store.older c.args.self.now c.reply.new.store c.reply.new.nodes s c.args.frame c.args.place c.args.goal c.requires.now c.requires.there r c.requires.steps c.args.built_in c.requires.built_in c.in_ok-replied.ensures.marks c.in_ok-replied.ensures.names c.in_ok-replied.ensures.nodes by.0 by.1 by.2 by.3 unbound in
+    if_ok_map _ _ c.call_inside.result (calls_inside_now g.S.Store.names g.S.Store.present g.S.Store.stands g.S.Store.older c.args.self.now c.reply.new.store c.reply.new.nodes s c.args.frame c.args.place c.args.goal c.requires.now c.requires.there r c.requires.steps c.args.built_in c.requires.built_in c.in_ok-replied.ensures.marks c.in_ok-replied.ensures.names c.in_ok-replied.ensures.nodes by.0 by.1 by.2 by.3 unbound inside.0 inside.1 c.in-Catches-Body.body inside.2 c.call_inside.new.self) (c.call_inside.ensures.called _ inside.2.body enters inside.2.stands))
+
+pub returns-in-Catches-Body-clause-stopped : goal.returns-in-Catches-Body-clause-stopped
+returns-in-Catches-Body-clause-stopped g c = λ s r.
+    (let by = catches_by (g.S.Store.present c.args.self.now.store) (g.S.Store.present c.reply.new.store) c.args.self.now.nodes.items c.reply.new.nodes.items (reply c.args.built_in (meaning (g.S.Store.present c.args.self.now.store) c.args.goal)) c.in-Catches-Body.field-0 (rw c.in-Catches-Body.is at c.in_ok-replied.ensures.replies) in
+    let inside = inside_calls (g.S.Store.present c.args.self.now.store) (g.S.Store.present c.reply.new.store) c.args.self.now.nodes.items c.reply.new.nodes.items by.0 c.in-Catches-Body.body (rw c.in-Catches-Body.field-0-is at by.4) in
+    let unbound = places_unbound (g.S.Store.present c.args.self.now.store) (g.S.Store.present c.reply.new.store) c.args.self.now.nodes.items c.reply.new.nodes.items inside.0 c.in-Catches-Body.body inside.2 in
+    let enters = enters_catch g.S.Store.names g.S.Store.present g.S.Store.stands g.S.Store.older c.args.self.now c.reply.new.store c.reply.new.nodes s c.args.frame c.args.place c.args.goal c.requires.now c.requires.there r c.requires.steps c.args.built_in c.requires.built_in c.in_ok-replied.ensures.marks c.in_ok-replied.ensures.names c.in_ok-replied.ensures.nodes by.0 by.1 by.2 by.3 unbound in
+    on_err_weaker c.call_inside.result (call_inside_stops g.S.Store.names g.S.Store.present g.S.Store.stands g.S.Store.older c.args.self.now c.reply.new.store c.reply.new.nodes s c.args.frame c.args.place c.args.goal c.requires.now c.requires.there r c.requires.steps c.args.built_in c.requires.built_in c.in_ok-replied.ensures.marks c.in_ok-replied.ensures.names c.in_ok-replied.ensures.nodes by.0 by.1 by.2 by.3 unbound inside.0 inside.1 c.call_inside.new.self) (c.call_inside.ensures.kept _ enters))
+
+pub returns-in-Catches-Body-clause-falls : goal.returns-in-Catches-Body-clause-falls
+returns-in-Catches-Body-clause-falls g c =
+    if_ok_map _ _ c.call_inside.result (λ m. subst (λ x. Falls m x (weight c.call_inside.new.self)) (step_weight g.S.Store.names g.S.Store.present g.S.Store.stands g.S.Store.older c.args.self.now c.requires.stands.0 c.args.frame c.args.place c.requires.now c.requires.there.asks c.requires.stands.1 c.requires.steps)) (c.call_inside.ensures.falls (cost c.args.self.now) (behind_less g.S.Store.names g.S.Store.present g.S.Store.stands g.S.Store.older c.args.self.now c.requires.stands.0 c.args.frame c.args.place c.requires.now c.requires.there.asks c.requires.stands.1 c.requires.steps))
+
+pub returns-in-Catches-Body-clause-frames : goal.returns-in-Catches-Body-clause-frames
+returns-in-Catches-Body-clause-frames g c = λ s r.
+    (let by = catches_by (g.S.Store.present c.args.self.now.store) (g.S.Store.present c.reply.new.store) c.args.self.now.nodes.items c.reply.new.nodes.items (reply c.args.built_in (meaning (g.S.Store.present c.args.self.now.store) c.args.goal)) c.in-Catches-Body.field-0 (rw c.in-Catches-Body.is at c.in_ok-replied.ensures.replies) in
+    let inside = inside_calls (g.S.Store.present c.args.self.now.store) (g.S.Store.present c.reply.new.store) c.args.self.now.nodes.items c.reply.new.nodes.items by.0 c.in-Catches-Body.body (rw c.in-Catches-Body.field-0-is at by.4) in
+    let unbound = places_unbound (g.S.Store.present c.args.self.now.store) (g.S.Store.present c.reply.new.store) c.args.self.now.nodes.items c.reply.new.nodes.items inside.0 c.in-Catches-Body.body inside.2 in
+    result_full c.call_inside.result (call_inside_over g.S.Store.names g.S.Store.present g.S.Store.stands g.S.Store.older c.args.self.now c.reply.new.store c.reply.new.nodes s c.args.frame c.args.place c.args.goal c.requires.now c.requires.there r c.requires.steps c.args.built_in c.requires.built_in c.in_ok-replied.ensures.marks c.in_ok-replied.ensures.names c.in_ok-replied.ensures.nodes by.0 by.1 by.2 by.3 unbound inside.0 inside.1) c.call_inside.ensures.frames)
+
+pub throw_inside-requires-clause-fits : goal.throw_inside-requires-clause-fits
+throw_inside-requires-clause-fits g c =
+    let by = catches_by (g.S.Store.present c.args.self.now.store) (g.S.Store.present c.reply.new.store) c.args.self.now.nodes.items c.reply.new.nodes.items (reply c.args.built_in (meaning (g.S.Store.present c.args.self.now.store) c.args.goal)) c.in-Catches-Raises.field-0 (rw c.in-Catches-Raises.is at c.in_ok-replied.ensures.replies) in
+    let inside = inside_raises (g.S.Store.present c.args.self.now.store) (g.S.Store.present c.reply.new.store) c.args.self.now.nodes.items c.reply.new.nodes.items by.0 c.in-Catches-Raises.ball (rw c.in-Catches-Raises.field-0-is at by.4) in
+    let unbound = inside.2 in
+    inside.1
+
+pub throw_inside-requires-clause-enters : goal.throw_inside-requires-clause-enters
+throw_inside-requires-clause-enters g c =
+    let by = catches_by (g.S.Store.present c.args.self.now.store) (g.S.Store.present c.reply.new.store) c.args.self.now.nodes.items c.reply.new.nodes.items (reply c.args.built_in (meaning (g.S.Store.present c.args.self.now.store) c.args.goal)) c.in-Catches-Raises.field-0 (rw c.in-Catches-Raises.is at c.in_ok-replied.ensures.replies) in
+    let inside = inside_raises (g.S.Store.present c.args.self.now.store) (g.S.Store.present c.reply.new.store) c.args.self.now.nodes.items c.reply.new.nodes.items by.0 c.in-Catches-Raises.ball (rw c.in-Catches-Raises.field-0-is at by.4) in
+    let unbound = inside.2 in
+    (after g.S.Store.names g.S.Store.present g.S.Store.stands g.S.Store.older c.args.self.now c.reply.new.store c.reply.new.nodes c.requires.stands.0 c.args.frame c.args.place c.args.goal c.requires.now c.requires.there c.requires.stands.1 c.requires.steps c.args.built_in c.requires.built_in c.in_ok-replied.ensures.marks c.in_ok-replied.ensures.names c.in_ok-replied.ensures.nodes by.0 by.1 by.2 by.3 unbound, enters_catch g.S.Store.names g.S.Store.present g.S.Store.stands g.S.Store.older c.args.self.now c.reply.new.store c.reply.new.nodes c.requires.stands.0 c.args.frame c.args.place c.args.goal c.requires.now c.requires.there c.requires.stands.1 c.requires.steps c.args.built_in c.requires.built_in c.in_ok-replied.ensures.marks c.in_ok-replied.ensures.names c.in_ok-replied.ensures.nodes by.0 by.1 by.2 by.3 unbound)
+
+pub returns-in-Catches-Raises-clause-moves : goal.returns-in-Catches-Raises-clause-moves
+returns-in-Catches-Raises-clause-moves g c = λ s r.
+    (let by = catches_by (g.S.Store.present c.args.self.now.store) (g.S.Store.present c.reply.new.store) c.args.self.now.nodes.items c.reply.new.nodes.items (reply c.args.built_in (meaning (g.S.Store.present c.args.self.now.store) c.args.goal)) c.in-Catches-Raises.field-0 (rw c.in-Catches-Raises.is at c.in_ok-replied.ensures.replies) in
+    let inside = inside_raises (g.S.Store.present c.args.self.now.store) (g.S.Store.present c.reply.new.store) c.args.self.now.nodes.items c.reply.new.nodes.items by.0 c.in-Catches-Raises.ball (rw c.in-Catches-Raises.field-0-is at by.4) in
+    let unbound = inside.2 in
+    let enters = enters_catch g.S.Store.names g.S.Store.present g.S.Store.stands g.S.Store.older c.args.self.now c.reply.new.store c.reply.new.nodes s c.args.frame c.args.place c.args.goal c.requires.now c.requires.there r c.requires.steps c.args.built_in c.requires.built_in c.in_ok-replied.ensures.marks c.in_ok-replied.ensures.names c.in_ok-replied.ensures.nodes by.0 by.1 by.2 by.3 unbound in
+    if_ok_map _ _ c.throw_inside.result (throws_inside_now g.S.Store.names g.S.Store.present g.S.Store.stands g.S.Store.older c.args.self.now c.reply.new.store c.reply.new.nodes s c.args.frame c.args.place c.args.goal c.requires.now c.requires.there r c.requires.steps c.args.built_in c.requires.built_in c.in_ok-replied.ensures.marks c.in_ok-replied.ensures.names c.in_ok-replied.ensures.nodes by.0 by.1 by.2 by.3 unbound (term_of c.in-Catches-Raises.ball.term) inside.0 c.throw_inside.new.self) (c.throw_inside.ensures.called _ enters))
+
+pub returns-in-Catches-Raises-clause-stopped : goal.returns-in-Catches-Raises-clause-stopped
+returns-in-Catches-Raises-clause-stopped g c = λ s r.
+    (let by = catches_by (g.S.Store.present c.args.self.now.store) (g.S.Store.present c.reply.new.store) c.args.self.now.nodes.items c.reply.new.nodes.items (reply c.args.built_in (meaning (g.S.Store.present c.args.self.now.store) c.args.goal)) c.in-Catches-Raises.field-0 (rw c.in-Catches-Raises.is at c.in_ok-replied.ensures.replies) in
+    let inside = inside_raises (g.S.Store.present c.args.self.now.store) (g.S.Store.present c.reply.new.store) c.args.self.now.nodes.items c.reply.new.nodes.items by.0 c.in-Catches-Raises.ball (rw c.in-Catches-Raises.field-0-is at by.4) in
+    let unbound = inside.2 in
+    let enters = enters_catch g.S.Store.names g.S.Store.present g.S.Store.stands g.S.Store.older c.args.self.now c.reply.new.store c.reply.new.nodes s c.args.frame c.args.place c.args.goal c.requires.now c.requires.there r c.requires.steps c.args.built_in c.requires.built_in c.in_ok-replied.ensures.marks c.in_ok-replied.ensures.names c.in_ok-replied.ensures.nodes by.0 by.1 by.2 by.3 unbound in
+    on_err_weaker c.throw_inside.result (throw_inside_stops g.S.Store.names g.S.Store.present g.S.Store.stands g.S.Store.older c.args.self.now c.reply.new.store c.reply.new.nodes s c.args.frame c.args.place c.args.goal c.requires.now c.requires.there r c.requires.steps c.args.built_in c.requires.built_in c.in_ok-replied.ensures.marks c.in_ok-replied.ensures.names c.in_ok-replied.ensures.nodes by.0 by.1 by.2 by.3 unbound (term_of c.in-Catches-Raises.ball.term) inside.0 c.throw_inside.new.self) (c.throw_inside.ensures.kept _ enters))
+
+pub returns-in-Catches-Raises-clause-falls : goal.returns-in-Catches-Raises-clause-falls
+returns-in-Catches-Raises-clause-falls g c =
+    if_ok_map _ _ c.throw_inside.result (λ m. subst (λ x. Falls m x (weight c.throw_inside.new.self)) (step_weight g.S.Store.names g.S.Store.present g.S.Store.stands g.S.Store.older c.args.self.now c.requires.stands.0 c.args.frame c.args.place c.requires.now c.requires.there.asks c.requires.stands.1 c.requires.steps)) (c.throw_inside.ensures.falls (cost c.args.self.now) (behind_less g.S.Store.names g.S.Store.present g.S.Store.stands g.S.Store.older c.args.self.now c.requires.stands.0 c.args.frame c.args.place c.requires.now c.requires.there.asks c.requires.stands.1 c.requires.steps))
+
+pub returns-in-Catches-Raises-clause-frames : goal.returns-in-Catches-Raises-clause-frames
+returns-in-Catches-Raises-clause-frames g c = λ s r.
+    (let by = catches_by (g.S.Store.present c.args.self.now.store) (g.S.Store.present c.reply.new.store) c.args.self.now.nodes.items c.reply.new.nodes.items (reply c.args.built_in (meaning (g.S.Store.present c.args.self.now.store) c.args.goal)) c.in-Catches-Raises.field-0 (rw c.in-Catches-Raises.is at c.in_ok-replied.ensures.replies) in
+    let inside = inside_raises (g.S.Store.present c.args.self.now.store) (g.S.Store.present c.reply.new.store) c.args.self.now.nodes.items c.reply.new.nodes.items by.0 c.in-Catches-Raises.ball (rw c.in-Catches-Raises.field-0-is at by.4) in
+    let unbound = inside.2 in
+    result_full c.throw_inside.result (throw_inside_over g.S.Store.names g.S.Store.present g.S.Store.stands g.S.Store.older c.args.self.now c.reply.new.store c.reply.new.nodes s c.args.frame c.args.place c.args.goal c.requires.now c.requires.there r c.requires.steps c.args.built_in c.requires.built_in c.in_ok-replied.ensures.marks c.in_ok-replied.ensures.names c.in_ok-replied.ensures.nodes by.0 by.1 by.2 by.3 unbound (term_of c.in-Catches-Raises.ball.term) inside.0) c.throw_inside.ensures.frames)
+
+-- ---- the search is ended
+
+pub returns-in-Halts-clause-moves : goal.returns-in-Halts-clause-moves
+returns-in-Halts-clause-moves g c = λ s r. (
+  halts_now g.S.Store.names g.S.Store.present g.S.Store.stands g.S.Store.older c.args.self.now c.reply.new.store c.reply.new.nodes s c.args.frame c.args.place c.args.goal c.requires.now c.requires.there r c.requires.steps c.args.built_in c.requires.built_in c.in_ok-replied.ensures.marks c.in_ok-replied.ensures.names c.in_ok-replied.ensures.nodes c.clear.new.self c.in-Halts.status (halts_by (g.S.Store.present c.args.self.now.store) (g.S.Store.present c.reply.new.store) c.args.self.now.nodes.items c.reply.new.nodes.items (reply c.args.built_in (meaning (g.S.Store.present c.args.self.now.store) c.args.goal)) c.in-Halts.status (rw c.in-Halts.is at c.in_ok-replied.ensures.replies)) c.clear.ensures.idle c.clear.ensures.now,
+  ap phase_of c.clear.ensures.now,
+)

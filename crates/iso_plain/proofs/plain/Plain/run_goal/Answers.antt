@@ -1,13 +1,15 @@
-use Rattle.std.proofs.Common.{◌-◌, ap, subst, arith}
+use Rattle.std.proofs.Common.{◌-◌, ap, refl, subst, arith}
 use Rattle.iso_model.specs.Terms.TermOf.{term_of}
 use Rattle.std.proofs.lemmas.Result.{on_err_weaker}
 use Rattle.iso_store_core.specs.Presents.{meaning}
 use Rattle.iso_plain.specs.EngineStates.{Falls, cost, weight, phase_of}
+use Rattle.iso_plain.proofs.EnteringLemmas.{adds_none, words_same}
+use Rattle.iso_plain.proofs.ErrorLemmas.{existence_fits}
 use Rattle.iso_plain.proofs.StoppedLemmas.{behind_error, keeps_all}
 use Rattle.iso_plain.proofs.SearchMoves.{stops_here}
-use Rattle.iso_plain.proofs.RunLemmas.{calls_engine, one_less}
-use Rattle.iso_plain.proofs.RunMoves.{at, spends, raises_error, fails_unknown, called_on, refused_on, over, if_ok_map}
-use Rattle.iso_plain.proofs.RunCosts.{behind_less, step_weight, fails_falls}
+use Rattle.iso_plain.proofs.RunLemmas.{calls_engine, ahead_step, one_less}
+use Rattle.iso_plain.proofs.RunMoves.{at, spends, throws_unknown, fails_unknown, called_on, refused_on, over, if_ok_map}
+use Rattle.iso_plain.proofs.RunCosts.{behind_less, step_weight, fails_falls, throws_falls}
 use Rattle.iso_plain.proofs.LimitLemmas.{result_full}
 use Rattle.iso_plain.proofs.plain.Plain.run_goal.Goals as goal
 
@@ -37,10 +39,26 @@ returns-in-Fails-clause-moves g c = λ s r.
 pub returns-in-Fails-clause-falls : goal.returns-in-Fails-clause-falls
 returns-in-Fails-clause-falls g c = fails_falls g.S.Store.names g.S.Store.present g.S.Store.stands g.S.Store.older c.args.self.now c.requires.stands.0 c.args.frame c.args.place c.requires.now c.requires.there.asks c.requires.stands.1 c.if-self-eq0.false c.args.self.now.store c.args.self.now.nodes
 
+pub throw-requires : goal.throw-requires
+throw-requires g c =
+    let r = c.requires.stands.1 in
+    let what = rw c.in-Unknown.is at (c.in_ok-called.ensures r.own.world r.engine.world) in
+    rw what.4 (existence_fits what.0)
+
 pub returns-in-Unknown-clause-moves : goal.returns-in-Unknown-clause-moves
 returns-in-Unknown-clause-moves g c = λ s r.
-    (let what = c.in_ok-called.ensures r.own.world r.engine.world in
-    (raises_error g.S.Store.names g.S.Store.present g.S.Store.stands g.S.Store.older c.args.self.now s c.args.frame c.args.place c.args.goal c.requires.now c.requires.there r c.clear-in-Unknown.new.self (term_of c.in-Unknown.ball.term) c.if-self-eq0.false c.clear-in-Unknown.ensures.idle c.clear-in-Unknown.ensures.now (rw c.in-Unknown.is at what), ap phase_of c.clear-in-Unknown.ensures.now))
+    (let e = c.args.self.now in
+    let a = at g.S.Store.names g.S.Store.present g.S.Store.stands g.S.Store.older c.args.self.now s c.args.frame c.args.place c.args.goal c.requires.now c.requires.there r in
+    let what = c.in_ok-called.ensures r.own.world r.engine.world in
+    let one = one_less e.steps c.if-self-eq0.false in
+    let ahead = ahead_step g.S.Store.names g.S.Store.present g.S.Store.stands g.S.Store.older c.args.self.now e.store e.nodes (record r.own { list = a.behind }) c.args.frame.next (e.steps - 1) r.own.built r.own.subst a.ahead one (λ m p h. h) (λ place text h. h) (adds_none e.nodes.items) (words_same (g.S.Store.present e.store)) a.ahead.goes.subst refl in
+    throws_unknown g.S.Store.names g.S.Store.present g.S.Store.stands g.S.Store.older c.args.self.now s c.args.frame c.args.place c.args.goal c.requires.now c.requires.there r c.throw.new.self (term_of c.in-Unknown.ball.term) c.if-self-eq0.false (rw c.in-Unknown.is at what)
+    (c.throw.ensures.thrown _ ahead) (rw c.throw.ensures.now tt))
+
+pub returns-in-Unknown-clause-falls : goal.returns-in-Unknown-clause-falls
+returns-in-Unknown-clause-falls g c =
+    let same = c.throw.ensures.same in
+    throws_falls g.S.Store.names g.S.Store.present g.S.Store.stands g.S.Store.older c.args.self.now c.requires.stands.0 c.args.frame c.args.place c.requires.now c.requires.there.asks c.requires.stands.1 c.if-self-eq0.false c.throw.new.self c.args.frame.next c.throw.ensures.now same.0 same.1 same.2 c.throw.ensures.stays.procedures
 
 -- ---- a procedure
 
