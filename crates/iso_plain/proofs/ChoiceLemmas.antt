@@ -29,7 +29,7 @@ pub record Rest (ps : List Procedure) (db : Procedures) (i j : ℕ) (cs : List d
   pub next : left_at db i (j + 1) ≡ cs
   pub count : clauses_at_place ps i ≡ j + 1 + length cs
 
-pub rest_at : (ps : List Procedure) (db : Procedures) (i j : ℕ) (c : databases.Clause) (cs : List databases.Clause) → IsDatabase ps db → left_at db i j ≡ c ∷ cs → Rest ps db i j cs
+pub rest_at : {names : List (List ℕ)} (ps : List Procedure) (db : Procedures) (i j : ℕ) (c : databases.Clause) (cs : List databases.Clause) → IsDatabase names ps db → left_at db i j ≡ c ∷ cs → Rest ps db i j cs
 rest_at ps db i j c cs is h = record {
   within = (kept_at ps db i j c cs is h).within;
   next = left_next db i j c cs h;

@@ -15,7 +15,7 @@ ghost use Rattle.iso_store_core.specs.Arguments.{members_from};
 ghost use Rattle.iso_plain.specs.Entering.{Adds};
 ghost use Rattle.iso_plain.specs.Replies.{Places, HasName, HasNoName, IsBound, IsGoalReady, IsRunAs, IsPlaced, called_of};
 
-use super::bodies::{self, Node};
+use super::bodies::Node;
 use super::{balls, entries, writing};
 use iso_model::{Ball, MAX_ARITY, NoMemory, Term};
 use iso_prep::{Fault, Prepared};
@@ -113,10 +113,9 @@ fn place_body<S: Store>(
     ensures names { KeepsTexts (S.names store.old) (S.names store.new) }
     ensures marks { KeepsMarks (S.stands store.old) (S.stands store.new) }
 {
-    let parts = bodies::parts_of(alloc, goal)?;
-    let written = writing::written_parts(alloc, store, parts.as_slice())?;
+    let parts = writing::written_body(alloc, store, goal)?;
     let variables = store.variables(whole)?;
-    entries::copy_parts(store, nodes, written.as_slice(), variables.as_slice())?;
+    entries::copy_parts(store, nodes, parts.as_slice(), variables.as_slice())?;
     Ok(nodes.len() - 1)
 }
 

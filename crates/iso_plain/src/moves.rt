@@ -20,9 +20,9 @@ use std::alloc::AllocError;
 /// The clause at this place of the procedure at this place.
 fn clause_at(procedures: &[Procedure], place: usize, index: usize) -> &Clause
     requires within { place < length procedures.now }
-    requires found { (db : Procedures) × (c : databases.Clause) × (cs : List databases.Clause) × IsDatabase procedures.now db × (left_at db place index ≡ c ∷ cs) }
-    ensures { (db : Procedures) (c : databases.Clause) (cs : List databases.Clause) → IsDatabase procedures.now db
-        → left_at db place index ≡ c ∷ cs → IsClause result.now c }
+    requires found { (names : List (List ℕ)) × (db : Procedures) × (c : databases.Clause) × (cs : List databases.Clause) × IsDatabase names procedures.now db × (left_at db place index ≡ c ∷ cs) }
+    ensures { (names : List (List ℕ)) (db : Procedures) (c : databases.Clause) (cs : List databases.Clause) → IsDatabase names procedures.now db
+        → left_at db place index ≡ c ∷ cs → IsClause names result.now c }
 {
     let procedure = &procedures[place];
     &procedure.clauses[index]
