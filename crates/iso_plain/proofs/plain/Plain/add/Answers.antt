@@ -1,18 +1,27 @@
-use Rattle.std.proofs.Common.{refl}
+use Rattle.std.proofs.Common.{◌≡◌, ℕ, List, Some, refl, sym, ap, ap₂, ◌∙◌, subst}
+use Rattle.iso_atoms.specs.Texts.{KeepsTexts}
 use Rattle.iso_model.specs.Terms.TermOf.{term_of}
-use Rattle.iso_model.specs.Search.Additions.{clause_of}
-use Rattle.iso_plain.proofs.StartLemmas.{idle_again, refused}
+use Rattle.iso_model.specs.Search.Additions.{clause_of, consulted}
+use Rattle.iso_model.specs.Search.Databases.{Key, with_clause, at_end}
+use Rattle.iso_model.specs.Search.BuiltIns.{is_built_in}
+use Rattle.iso_model.specs.Search.Errors.{key}
+use Rattle.iso_store_core.proofs.AtomLemmas.{keeps-then}
+use Rattle.iso_plain.specs.Adding.{IsFound}
+use Rattle.iso_plain.specs.Callables.{callee_of}
+use Rattle.iso_plain.specs.declared.procedures.Functor.{Functor}
+use Rattle.iso_plain.proofs.ControlNames.{controls-kept}
+use Rattle.iso_plain.proofs.StartLemmas.{idle_again, refused, unadded}
+use Rattle.iso_plain.proofs.WorldLemmas.{world_on, database_kept}
+use Rattle.iso_plain.proofs.WrittenLemmas.{clause_kept}
+use Rattle.iso_plain.proofs.AddingLemmas.{user_alone}
 use Rattle.iso_plain.proofs.plain.Plain.add.Goals as goal
 
-pub returns-clause-comes : goal.returns-clause-comes
-returns-clause-comes g c = λ w h.
-    (let added = c.in_ok-prepared.ensures in
-    rw added.fits (idle_again h c.requires.now refl refl refl refl
-    (record {
-      procedures_are = c.in_ok-add.ensures.ok w.database.procedures (clause_of (term_of c.args.clause.now) added.body w.database.added) added.key h.world.procedures_are (added.clause w.database.added) added.named;
-      operators_are = h.world.operators_are;
-      flags_are = h.world.flags_are;
-    })))
+-- the key of a head that has one
+one_key : (k j : Key) → Some k ≡ Some j → k ≡ j
+one_key k j h = cc h
 
-pub returns-in_err-prepared-clause-comes : goal.returns-in_err-prepared-clause-comes
-returns-in_err-prepared-clause-comes g c = λ w h. refused (term_of c.args.clause.now) w c.from_residual.result _ c.args.self.now c.in_err-prepared.ensures c.from_residual.ensures.1 h
+pub add-requires-clause-user : goal.add-requires-clause-user
+add-requires-clause-user g c =
+    let added = c.in_ok-checked.ensures in
+    let same = one_key (key c.in-Some.text.now c.in-Some.arity) added.key (sym c.in-Some.ensures ∙ added.named) in
+    user_alone (key c.in-Some.text.now c.in-Some.arity) (ap is_built_in same ∙ added.user)
