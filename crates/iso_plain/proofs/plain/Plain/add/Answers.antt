@@ -75,3 +75,28 @@ returns-clause-comes g c = λ w h.
 
 pub returns-in_err-checked-clause-comes : goal.returns-in_err-checked-clause-comes
 returns-in_err-checked-clause-comes g c = λ w h. refused (term_of c.args.clause.now) w c.from_residual.result _ c.args.self.now c.in_err-checked.ensures c.from_residual.ensures.1 h
+
+-- memory was refused before the clause came
+pub returns-in_err-kept-clause-comes : goal.returns-in_err-kept-clause-comes
+returns-in_err-kept-clause-comes g c = λ w h.
+    (let ensures = c.in_err-kept.ensures in
+    unadded (consulted (term_of c.args.clause.now) w.database) w c.from_residual-in_err-kept.result _ c.from_residual-in_err-kept.ensures.1
+    (idle_again h c.requires.now ensures.present ensures.marks refl refl refl (world_on ensures.names h.world)))
+
+pub returns-in_err-name-clause-comes : goal.returns-in_err-name-clause-comes
+returns-in_err-name-clause-comes g c = λ w h.
+    (let before = c.in_ok-kept.ensures in
+    let ensures = c.in_err-name.ensures in
+    unadded (consulted (term_of c.args.clause.now) w.database) w c.from_residual-in_err-name.result _ c.from_residual-in_err-name.ensures.1
+    (idle_again h c.requires.now (ensures.present ∙ before.present) (λ m p k. ensures.marks m p (before.marks m p k)) refl refl refl (world_on ensures.names (world_on before.names h.world))))
+
+pub returns-in_err-add-clause-comes : goal.returns-in_err-add-clause-comes
+returns-in_err-add-clause-comes g c = λ w h.
+    (let before = c.in_ok-kept.ensures in
+    let ensures = c.in_ok-name.ensures in
+    let last = g.S.Store.names c.intern.new.self in
+    let stood = world_on ensures.names (world_on before.names h.world) in
+    let same = c.in_err-add.ensures.err last w.database.procedures stood.procedures_are stood.found in
+    unadded (consulted (term_of c.args.clause.now) w.database) w c.from_residual-in_err-add.result _ c.from_residual-in_err-add.ensures.1
+    (idle_again h c.requires.now (ensures.present ∙ before.present) (λ m p k. ensures.marks m p (before.marks m p k)) refl refl refl
+    (record { procedures_are = same.0; found = same.1; controls_are = stood.controls_are; operators_are = stood.operators_are; flags_are = stood.flags_are })))
