@@ -26,6 +26,15 @@ impl Model for Atom {
     ghost inverse = { λ place. record { 0 = place } };
 }
 
+impl Atom {
+    /// The number of the name.
+    pub fn number(self) -> usize
+        ensures { result ≡ self }
+    {
+        self.0
+    }
+}
+
 /// The names that have a number, each once, in the order of their numbers.
 #[derive(Drop)]
 pub struct Atoms {

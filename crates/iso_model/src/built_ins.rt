@@ -25,9 +25,9 @@ pub enum BuiltIn {
     Repeat,
 }
 
-// The name and the arity of a built-in.
+/// The name and the arity of a built-in.
 #[derive(Clone, Copy)]
-struct Row(&'static str, usize, BuiltIn);
+pub struct Row(pub &'static str, pub usize, pub BuiltIn);
 
 const ROWS: [Row; 16] = [
     Row("true", 0, BuiltIn::True),
@@ -47,6 +47,13 @@ const ROWS: [Row; 16] = [
     Row("=", 2, BuiltIn::Unify),
     Row("\\=", 2, BuiltIn::Differ),
 ];
+
+/// The built-ins, each with its name and arity.
+pub fn built_in_rows() -> &'static [Row]
+    ensures { entries_of result.now ≡ table.built_ins }
+{
+    &ROWS
+}
 
 // The built-in of this name and arity among these rows.
 fn among(rows: &[Row], name: &str, arity: usize) -> Option<BuiltIn>

@@ -21,7 +21,7 @@ pub mod worked_runs;
 pub mod worked_terms;
 pub mod worked_texts;
 
-pub use built_ins::{BuiltIn, built_in, is_built_in};
+pub use built_ins::{BuiltIn, Row, built_in, built_in_rows, is_built_in};
 pub use engines::Engine;
 pub use limit::{Limit, Limits};
 pub use numbering::Numbering;

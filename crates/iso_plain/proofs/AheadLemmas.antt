@@ -2,6 +2,7 @@
 use Rattle.std.proofs.Common.{◌≡◌, ℕ, zero, suc, ◌-◌, ◌≤◌, ◌++◌, List, [], ◌∷◌, length, take, drop, Option, Some, None, refl, ap, sym, ◌∙◌, subst, arith, Vec, Global}
 use Rattle.std.specs.Prelude.{option_map}
 use Rattle.std.specs.List.{slice_get}
+use Rattle.iso_atoms.specs.Texts.{KeepsTexts}
 use Rattle.iso_model.specs.Terms.TermOf.{term_of}
 use Rattle.iso_model.specs.Terms.Variables.{variables}
 use Rattle.iso_model.specs.Search.Bodies.{Body}
@@ -23,6 +24,7 @@ use Rattle.iso_plain.specs.EngineStates.{IsEngine, IsAhead, Keeps, left_at, link
 use Rattle.iso_plain.proofs.EnteringLemmas.{words_same, adds_none}
 use Rattle.iso_plain.proofs.StandingLemmas.{AddsLinks, at_last, chain_more, chain_place, choices_more, choices_keep, choices_length, choices_push, lower, marks_stand, next_behind}
 use Rattle.iso_plain.proofs.StoppedLemmas.{base_kept}
+use Rattle.iso_plain.proofs.WorldLemmas.{world_on}
 
 -- ---- what a frame asks for
 
@@ -63,16 +65,16 @@ room_dropped steps zero ks h = h
 room_dropped steps (suc n) [] h = h
 room_dropped steps (suc n) (k ∷ ks) h = room_dropped steps n ks h.1
 
-module _ {S W M : Type 0} (present : S → Present W) (stands : S → M → Present W → Type 0) (older : M → M → Type 0) where
+module _ {S W M : Type 0} (names : S → List (List ℕ)) (present : S → Present W) (stands : S → M → Present W → Type 0) (older : M → M → Type 0) where
   -- The engine, in this state, is to do what this frame asks for.
   pub record AtFrame (e : Plain S W M) (s : State) (f : Frame) : Type 0 where
     pub member : Member
     pub behind : List Member
     pub list : s.list ≡ member ∷ behind
     pub stands_for : IsMember (present e.store) e.nodes.items f member
-    pub ahead : IsAhead present stands older e (record s { list = behind }) f.next
+    pub ahead : IsAhead names present stands older e (record s { list = behind }) f.next
 
-  pub at_frame : (e : Plain S W M) (s : State) (f : Frame) → e.now ≡ now.Running f → IsEngine present stands older e s → AtFrame e s f
+  pub at_frame : (e : Plain S W M) (s : State) (f : Frame) → e.now ≡ now.Running f → IsEngine names present stands older e s → AtFrame e s f
   at_frame e s f doing is =
       let next : DoesNext (present e.store) (links_of e) e.query.items (now.Running f) (option_map (λ b. term_of b.term) e.raised) s =
       subst (λ (n : Now). DoesNext (present e.store) (links_of e) e.query.items n (option_map (λ b. term_of b.term) e.raised) s) doing is.next in
@@ -83,7 +85,7 @@ module _ {S W M : Type 0} (present : S → Present W) (stands : S → M → Pres
         list = first.is;
         stands_for = first.stands;
         ahead = record {
-          world = record { procedures_are = is.world.procedures_are; operators_are = is.world.operators_are; flags_are = is.world.flags_are };
+          world = is.world;
           steps = is.steps;
           base = is.base;
           choices = is.choices;
@@ -99,9 +101,9 @@ module _ {S W M : Type 0} (present : S → Present W) (stands : S → M → Pres
     pub behind : List Member
     pub list : s.list ≡ Goal body f.mark ∷ behind
     pub stands_for : IsBody (present e.store) e.nodes.items k body
-    pub ahead : IsAhead present stands older e (record s { list = behind }) f.next
+    pub ahead : IsAhead names present stands older e (record s { list = behind }) f.next
 
-  pub at_body : (e : Plain S W M) (s : State) (f : Frame) (k : ℕ) → e.now ≡ now.Running f → f.todo ≡ todo.Body k → IsEngine present stands older e s → AtBody e s f k
+  pub at_body : (e : Plain S W M) (s : State) (f : Frame) (k : ℕ) → e.now ≡ now.Running f → f.todo ≡ todo.Body k → IsEngine names present stands older e s → AtBody e s f k
   at_body e s f k doing asks is =
       let a = at_frame e s f doing is in
       let b = body_of (present e.store) e.nodes.items f a.member k asks a.stands_for in
@@ -109,10 +111,10 @@ module _ {S W M : Type 0} (present : S → Present W) (stands : S → M → Pres
 
   -- ---- what comes next
 
-  pub engine_frame : (e : Plain S W M) (s : State) (f : Frame) (m : Member) → IsAhead present stands older e s f.next → IsMember (present e.store) e.nodes.items f m
-      → IsEngine present stands older (record e { now = now.Running f }) (record s { list = m ∷ s.list })
+  pub engine_frame : (e : Plain S W M) (s : State) (f : Frame) (m : Member) → IsAhead names present stands older e s f.next → IsMember (present e.store) e.nodes.items f m
+      → IsEngine names present stands older (record e { now = now.Running f }) (record s { list = m ∷ s.list })
   engine_frame e s f m h is = record {
-    world = record { procedures_are = h.world.procedures_are; operators_are = h.world.operators_are; flags_are = h.world.flags_are };
+    world = h.world;
     steps = h.steps;
     base = h.base;
     choices = h.choices;
@@ -120,9 +122,9 @@ module _ {S W M : Type 0} (present : S → Present W) (stands : S → M → Pres
     next = (record { member = m; behind = s.list; is = refl; stands = is; chain = h.chain }, goes_with (m ∷ s.list) s.stack h.goes);
   }
 
-  pub engine_place : (e : Plain S W M) (s : State) (place : Option ℕ) → IsAhead present stands older e s place → IsEngine present stands older (record e { now = now_behind e.frames.items place }) s
+  pub engine_place : (e : Plain S W M) (s : State) (place : Option ℕ) → IsAhead names present stands older e s place → IsEngine names present stands older (record e { now = now_behind e.frames.items place }) s
   engine_place e s place h = record {
-    world = record { procedures_are = h.world.procedures_are; operators_are = h.world.operators_are; flags_are = h.world.flags_are };
+    world = h.world;
     steps = h.steps;
     base = h.base;
     choices = h.choices;
@@ -130,16 +132,16 @@ module _ {S W M : Type 0} (present : S → Present W) (stands : S → M → Pres
     next = next_behind (present e.store) (links_of e) e.query.items (option_map (λ b. term_of b.term) e.raised) s place s.list refl h.chain h.goes;
   }
 
-  pub keeps_ahead : (e : Plain S W M) (s : State) (place : Option ℕ) → IsAhead present stands older e s place → Keeps present stands older e s.world s.stack
+  pub keeps_ahead : (e : Plain S W M) (s : State) (place : Option ℕ) → IsAhead names present stands older e s place → Keeps names present stands older e s.world s.stack
   keeps_ahead e s place h = (h.world, h.base, (variables s.query, h.choices))
 
   -- ---- frames and choices that come
 
   -- other members
-  pub ahead_other : (e : Plain S W M) (s : State) (place other : Option ℕ) (ms : List Member) → IsAhead present stands older e s place → Chain (present e.store) (links_of e) other ms
-      → IsAhead present stands older e (record s { list = ms }) other
+  pub ahead_other : (e : Plain S W M) (s : State) (place other : Option ℕ) (ms : List Member) → IsAhead names present stands older e s place → Chain (present e.store) (links_of e) other ms
+      → IsAhead names present stands older e (record s { list = ms }) other
   ahead_other e s place other ms h chain = record {
-    world = record { procedures_are = h.world.procedures_are; operators_are = h.world.operators_are; flags_are = h.world.flags_are };
+    world = h.world;
     steps = h.steps;
     base = h.base;
     choices = h.choices;
@@ -154,13 +156,13 @@ module _ {S W M : Type 0} (present : S → Present W) (stands : S → M → Pres
       let adds : AddsLinks (links_of e) (record { nodes = e.nodes.items; frames = frames.items }) = record { nodes = adds_none e.nodes.items; frames = (f ∷ [], pushed) } in
       chain_more (record { nodes = e.nodes.items; frames = frames.items }) adds (words_same (present e.store)) chain
 
-  pub ahead_frame : (e : Plain S W M) (s : State) (f : Frame) (m : Member) (frames : Vec Frame Global) → IsAhead present stands older e s f.next → IsMember (present e.store) e.nodes.items f m
-      → frames.items ≡ e.frames.items ++ f ∷ [] → IsAhead present stands older (record e { frames = frames }) (record s { list = m ∷ s.list }) (Some (length e.frames.items))
+  pub ahead_frame : (e : Plain S W M) (s : State) (f : Frame) (m : Member) (frames : Vec Frame Global) → IsAhead names present stands older e s f.next → IsMember (present e.store) e.nodes.items f m
+      → frames.items ≡ e.frames.items ++ f ∷ [] → IsAhead names present stands older (record e { frames = frames }) (record s { list = m ∷ s.list }) (Some (length e.frames.items))
   ahead_frame e s f m frames h is pushed =
       let links : Links W = record { nodes = e.nodes.items; frames = frames.items } in
       let adds : AddsLinks (links_of e) links = record { nodes = adds_none e.nodes.items; frames = (f ∷ [], pushed) } in
       record {
-        world = record { procedures_are = h.world.procedures_are; operators_are = h.world.operators_are; flags_are = h.world.flags_are };
+        world = h.world;
         steps = h.steps;
         base = h.base;
         choices = choices_more links adds h.choices;
@@ -170,17 +172,17 @@ module _ {S W M : Type 0} (present : S → Present W) (stands : S → M → Pres
       }
 
   -- the members ahead, as what is left at a choice
-  pub members_left : (e : Plain S W M) (s : State) (place : Option ℕ) (l : walker.Left) → IsAhead present stands older e s place
+  pub members_left : (e : Plain S W M) (s : State) (place : Option ℕ) (l : walker.Left) → IsAhead names present stands older e s place
       → HasMembers (left_at s.world.database.procedures) e.query.items (variables s.query) (present e.store) (links_of e) place l (record { list = s.list; subst = s.subst; next = s.next; built = s.built; left = l })
   members_left e s place l h = record { on = record { subst_is = h.goes.subst; next_is = h.goes.next; chain = h.chain; words = h.goes.words }; is = refl }
 
   -- a choice with this left to be tried of the members ahead
-  pub ahead_choice : (e : Plain S W M) (s : State) (place : Option ℕ) (store : S) (choices : Vec (kept.Choice W M) Global) (left : Left W) (l : walker.Left) → IsAhead present stands older e s place
+  pub ahead_choice : (e : Plain S W M) (s : State) (place : Option ℕ) (store : S) (choices : Vec (kept.Choice W M) Global) (left : Left W) (l : walker.Left) → IsAhead names present stands older e s place
       → HasLeft (left_at s.world.database.procedures) e.query.items (variables s.query) (present e.store) (links_of e) left (record { list = s.list; subst = s.subst; next = s.next; built = s.built; left = l }) → entered_at l ≡ 0
-      → present store ≡ present e.store → KeepsMarks (stands e.store) (stands store)
+      → present store ≡ present e.store → KeepsMarks (stands e.store) (stands store) → KeepsTexts (names e.store) (names store)
       → GainsChoice (stands e.store) (stands store) older (present e.store) (length e.nodes.items) (length e.frames.items) left e.choices.items choices.items
-      → IsAhead present stands older (record e { store = store; choices = choices }) (pushed s.list l s) place
-  ahead_choice e s place store choices left l h has none same keeps gains =
+      → IsAhead names present stands older (record e { store = store; choices = choices }) (pushed s.list l s) place
+  ahead_choice e s place store choices left l h has none same keeps texts gains =
       let b = h.base in
       let c : kept.Choice W M = record { mark = gains.mark; nodes = length e.nodes.items; frames = length e.frames.items; left = left } in
       let a : Alternative = record { list = s.list; subst = s.subst; next = s.next; built = s.built; left = l } in
@@ -196,7 +198,7 @@ module _ {S W M : Type 0} (present : S → Present W) (stands : S → M → Pres
       (let there = marks_stand x h.choices among in gains.newer x.mark there.0 there.1) in
       let goes = goes_with {p = present e.store} {query = e.query.items} {s = s} s.list (a ∷ s.stack) h.goes in
       record {
-        world = record { procedures_are = h.world.procedures_are; operators_are = h.world.operators_are; flags_are = h.world.flags_are };
+        world = world_on texts h.world;
         steps = h.steps;
         base = base_kept (stands e.store) (stands store) e.base keeps b;
         choices = rw gains.are (choices_push c a refl refl here newer old);
@@ -208,18 +210,18 @@ module _ {S W M : Type 0} (present : S → Present W) (stands : S → M → Pres
   -- ---- choices that go
 
   -- those above a height
-  pub ahead_cut : (e : Plain S W M) (s : State) (place : Option ℕ) (height : ℕ) (store : S) (choices : Vec (kept.Choice W M) Global) (c : kept.Choice W M) → IsAhead present stands older e s place
+  pub ahead_cut : (e : Plain S W M) (s : State) (place : Option ℕ) (height : ℕ) (store : S) (choices : Vec (kept.Choice W M) Global) (c : kept.Choice W M) → IsAhead names present stands older e s place
       → slice_get e.choices.items height ≡ Some c → choices.items ≡ take height e.choices.items → present store ≡ present e.store
-      → ((m : M) (p : Present W) → older m c.mark → stands e.store m p → stands store m p)
-      → IsAhead present stands older (record e { store = store; choices = choices }) (cut_back height s.list s) place
-  ahead_cut e s place height store choices c h there taken same marks =
+      → ((m : M) (p : Present W) → older m c.mark → stands e.store m p → stands store m p) → KeepsTexts (names e.store) (names store)
+      → IsAhead names present stands older (record e { store = store; choices = choices }) (cut_back height s.list s) place
+  ahead_cut e s place height store choices c h there taken same marks texts =
       let b = h.base in
       let l = lower height c there h.choices in
       let stood : StandsForChoices (stands store) older e.base (left_at s.world.database.procedures) e.query.items (variables s.query) (links_of e) (take height e.choices.items) (shortened height s.stack) =
       choices_keep (λ d p among standing. marks d.mark p (l.newer d among) standing) l.stand in
       let goes = goes_with {p = present e.store} {query = e.query.items} {s = s} s.list (shortened height s.stack) h.goes in
       record {
-        world = record { procedures_are = h.world.procedures_are; operators_are = h.world.operators_are; flags_are = h.world.flags_are };
+        world = world_on texts h.world;
         steps = h.steps;
         base = record { present = b.present; stands_for = marks e.base b.present l.newer_base b.stands_for; substitution = b.substitution; next = b.next };
         choices = rw taken stood;
@@ -229,13 +231,13 @@ module _ {S W M : Type 0} (present : S → Present W) (stands : S → M → Pres
       }
 
   -- none is above it
-  pub ahead_uncut : (e : Plain S W M) (s : State) (place : Option ℕ) (height : ℕ) → IsAhead present stands older e s place → length e.choices.items ≤ height → IsAhead present stands older e (cut_back height s.list s) place
+  pub ahead_uncut : (e : Plain S W M) (s : State) (place : Option ℕ) (height : ℕ) → IsAhead names present stands older e s place → length e.choices.items ≤ height → IsAhead names present stands older e (cut_back height s.list s) place
   ahead_uncut e s place height h less =
       let many = choices_length h.choices in
       let none : 0 ≡ length s.stack - height = omega (arith, many, less) in
       let same : State = s in
-      subst (λ (n : ℕ). IsAhead present stands older e (record s { stack = drop n s.stack }) place) none (record {
-        world = record { procedures_are = h.world.procedures_are; operators_are = h.world.operators_are; flags_are = h.world.flags_are };
+      subst (λ (n : ℕ). IsAhead names present stands older e (record s { stack = drop n s.stack }) place) none (record {
+        world = h.world;
         steps = h.steps;
         base = h.base;
         choices = h.choices;

@@ -1,6 +1,7 @@
 -- The engine goes back to its newest choice.
 use Rattle.std.proofs.Common.{◌≡◌, ℕ, zero, suc, ◌-◌, ◌<◌, ◌≤◌, List, [], ◌∷◌, length, take, drop, get_or, Some, refl, ap, sym, ◌∙◌, subst, arith, Vec, Global}
 use Rattle.std.specs.List.{slice_get}
+use Rattle.iso_atoms.specs.Texts.{KeepsTexts}
 use Rattle.iso_model.specs.Terms.Variables.{variables}
 use Rattle.iso_model.specs.Search.Walker.{State, Alternative}
 use Rattle.iso_store_core.specs.Presents.{Present}
@@ -17,6 +18,7 @@ use Rattle.std.proofs.lemmas.Option.{slice_get_within}
 use Rattle.iso_model.specs.Search.Databases.{Clause}
 use Rattle.iso_plain.specs.Costs.{frame_costs}
 use Rattle.iso_plain.specs.declared.procedures.Procedure.{Procedure}
+use Rattle.iso_plain.proofs.WorldLemmas.{world_on}
 
 pub get_at : {X : Type 0} (xs : List X) (i : ℕ) (x : X) → i < length xs → x ≡ get_or xs i x → slice_get xs i ≡ Some x
 get_at [] i x within is = absurd (omega arith)
@@ -45,19 +47,19 @@ back_costs {left_at = left_at} {query = query} {named = named} {links = links} {
     let new = ap (choices_cost ps (frame_costs front)) split ∙ choices_last ps (frame_costs front) before c in
     omega (arith, one, other, old, new)
 
-module _ {S W M : Type 0} (present : S → Present W) (stands : S → M → Present W → Type 0) (older : M → M → Type 0) where
+module _ {S W M : Type 0} (names : S → List (List ℕ)) (present : S → Present W) (stands : S → M → Present W → Type 0) (older : M → M → Type 0) where
   -- what going back makes of the engine
   pub record Back (e : Plain S W M) (store : S) (nodes : Vec (Node W) Global) (frames : Vec Frame Global) (c : kept.Choice W M) (s : State) : Type 0 where
     pub alternative : Alternative
     pub below : List Alternative
     pub is : s.stack ≡ alternative ∷ below
-    pub went : WentBack present stands older (record e { store = store; nodes = nodes; frames = frames }) c s alternative below
+    pub went : WentBack names present stands older (record e { store = store; nodes = nodes; frames = frames }) c s alternative below
 
-  pub goes_back : (e : Plain S W M) (store : S) (nodes : Vec (Node W) Global) (frames : Vec Frame Global) (c : kept.Choice W M) (s : State) → IsEngine present stands older e s
+  pub goes_back : (e : Plain S W M) (store : S) (nodes : Vec (Node W) Global) (frames : Vec Frame Global) (c : kept.Choice W M) (s : State) → IsEngine names present stands older e s
       → slice_get e.choices.items (length e.choices.items - 1) ≡ Some c
       → ((p : Present W) → stands e.store c.mark p → present store ≡ p) → ((p : Present W) → stands e.store c.mark p → stands store c.mark p)
-      → ((m : M) (p : Present W) → older m c.mark → stands e.store m p → stands store m p) → nodes.items ≡ take c.nodes e.nodes.items → frames.items ≡ take c.frames e.frames.items → Back e store nodes frames c s
-  goes_back e store nodes frames c s is last back same marks kept_nodes kept_frames =
+      → ((m : M) (p : Present W) → older m c.mark → stands e.store m p → stands store m p) → KeepsTexts (names e.store) (names store) → nodes.items ≡ take c.nodes e.nodes.items → frames.items ≡ take c.frames e.frames.items → Back e store nodes frames c s
+  goes_back e store nodes frames c s is last back same marks texts kept_nodes kept_frames =
       let n = newest c last is.choices in
       let h = n.here in
       let at : h.present ≡ present store = sym (back h.present h.mark) in
@@ -73,7 +75,7 @@ module _ {S W M : Type 0} (present : S → Present W) (stands : S → M → Pres
         below = n.below;
         is = n.is;
         went = record {
-          world = record { procedures_are = is.world.procedures_are; operators_are = is.world.operators_are; flags_are = is.world.flags_are };
+          world = world_on texts is.world;
           steps = is.steps;
           base = record { present = b.present; stands_for = marks e.base b.present h.newer b.stands_for; substitution = b.substitution; next = b.next };
           mark = subst (λ (p : Present W). stands store c.mark p) at (same h.present h.mark);

@@ -1,5 +1,6 @@
 -- The engine calls a procedure: the clauses behind the first are kept as a choice.
 use Rattle.std.proofs.Common.{◌≡◌, ℕ, ◌+◌, ◌<◌, ◌≤◌, List, [], ◌∷◌, ◌-◌, ◌^◌, length, Option, refl, ap, sym, subst, arith, Vec, Global}
+use Rattle.iso_atoms.specs.Texts.{KeepsTexts}
 use Rattle.iso_model.specs.Terms.Variables.{variables}
 use Rattle.iso_model.specs.Terms.Trees.{Tree}
 use Rattle.iso_model.specs.Search.Databases as databases
@@ -23,6 +24,7 @@ use Rattle.iso_plain.specs.EngineStates.{Calls, now_cost, left_at, links_of}
 use Rattle.iso_plain.proofs.CountLemmas.{left_next}
 use Rattle.iso_plain.proofs.CostLemmas.{cost_above, cost_higher, left_higher, below_most}
 use Rattle.iso_plain.proofs.StandingLemmas.{choices_keep, choices_push, marks_stand}
+use Rattle.iso_plain.proofs.WorldLemmas.{world_on}
 
 -- ---- what is left to be done
 
@@ -31,8 +33,8 @@ pub later_cost : (n j r : ℕ) → n < 2 ^ 63 → left_cost (n - j) r ≤ left_c
 later_cost n j r few = left_higher most (n - j) r (below_most (n - j) (omega (arith, few)))
 
 -- what comes next behind a clause that was tried
-pub entered_least : {W : Type 0} (p q : Present W) (old : List (Node W)) (nodes : Vec (Node W) Global) (call : Tree) (clause : Clause) (frames : List Frame) (mark : ℕ) (rest : Option ℕ)
-    → now_cost (frame_costs frames) (now_behind frames rest) ≡ place_cost frames rest → (entered : Entered) → Enters p q old nodes.items call clause entered
+pub entered_least : {names : List (List ℕ)} {W : Type 0} (p q : Present W) (old : List (Node W)) (nodes : Vec (Node W) Global) (call : Tree) (clause : Clause) (frames : List Frame) (mark : ℕ) (rest : Option ℕ)
+    → now_cost (frame_costs frames) (now_behind frames rest) ≡ place_cost frames rest → (entered : Entered) → Enters names p q old nodes.items call clause entered
     → now_cost (frame_costs frames) (now_entered frames entered mark rest) ≤ body_cost most (place_cost frames rest)
 entered_least p q old nodes call clause frames mark rest behind entered.Missed h = omega arith
 entered_least p q old nodes call clause frames mark rest behind entered.Fact h = (let up = cost_above most (place_cost frames rest) in omega (arith, behind, up))
@@ -45,19 +47,19 @@ entered_least p q old nodes call clause frames mark rest behind (entered.Body pl
 
 -- ---- the choice of a call
 
-module _ {S W M : Type 0} (present : S → Present W) (stands : S → M → Present W → Type 0) (older : M → M → Type 0) where
+module _ {S W M : Type 0} (names : S → List (List ℕ)) (present : S → Present W) (stands : S → M → Present W → Type 0) (older : M → M → Type 0) where
   -- no clause behind the attempt's
   pub calls_last : (e : Plain S W M) (attempt : Attempt W) (s : State) (call : Tree) (c : databases.Clause) (cs : List databases.Clause) (behind : List Member)
-      → Calls present stands older e attempt s call c cs behind → length cs ≡ 0 → Calls present stands older e attempt (with_others call cs behind s) call c cs behind
+      → Calls names present stands older e attempt s call c cs behind → length cs ≡ 0 → Calls names present stands older e attempt (with_others call cs behind s) call c cs behind
   calls_last e attempt s call c [] behind t many = t
   calls_last e attempt s call c (d ∷ cs) behind t many = absurd (omega (arith, many))
 
   pub calls_later : (e : Plain S W M) (attempt : Attempt W) (s : State) (call : Tree) (c : databases.Clause) (cs : List databases.Clause) (behind : List Member) (store : S) (choices : Vec (kept.Choice W M) Global)
-      → Calls present stands older e attempt s call c cs behind → 0 < length cs → present store ≡ present e.store → KeepsMarks (stands e.store) (stands store)
+      → Calls names present stands older e attempt s call c cs behind → 0 < length cs → present store ≡ present e.store → KeepsMarks (stands e.store) (stands store) → KeepsTexts (names e.store) (names store)
       → GainsChoice (stands e.store) (stands store) older (present e.store) (length e.nodes.items) (length e.frames.items) (left.Clauses (record attempt { clause = attempt.clause + 1 })) e.choices.items choices.items
-      → Calls present stands older (record e { store = store; choices = choices }) attempt (with_others call cs behind s) call c cs behind
-  calls_later e attempt s call c [] behind store choices t many same keeps gains = absurd (omega (arith, many))
-  calls_later e attempt s call c (d ∷ cs) behind store choices t many same keeps gains =
+      → Calls names present stands older (record e { store = store; choices = choices }) attempt (with_others call cs behind s) call c cs behind
+  calls_later e attempt s call c [] behind store choices t many same keeps texts gains = absurd (omega (arith, many))
+  calls_later e attempt s call c (d ∷ cs) behind store choices t many same keeps texts gains =
       let b = t.base in
       let later : kept.Choice W M = record { mark = gains.mark; nodes = length e.nodes.items; frames = length e.frames.items; left = left.Clauses (record attempt { clause = attempt.clause + 1 }) } in
       let next = left_next s.world.database.procedures attempt.procedure attempt.clause c (d ∷ cs) t.clauses in
@@ -73,7 +75,7 @@ module _ {S W M : Type 0} (present : S → Present W) (stands : S → M → Pres
       let newer : (x : kept.Choice W M) → Among x e.choices.items → older x.mark gains.mark = λ x among.
       (let there = marks_stand x t.choices among in gains.newer x.mark there.0 there.1) in
       record {
-        world = record { procedures_are = t.world.procedures_are; operators_are = t.world.operators_are; flags_are = t.world.flags_are };
+        world = world_on texts t.world;
         steps = t.steps;
         base = record { present = b.present; stands_for = keeps e.base b.present b.stands_for; substitution = b.substitution; next = b.next };
         choices = rw gains.are (choices_push later a refl refl here newer old);

@@ -1,6 +1,7 @@
 -- The newest choice is left at its next clause, or is taken away with its last one.
 use Rattle.std.proofs.Common.{◌≡◌, ℕ, zero, suc, ◌+◌, ◌*◌, ◌-◌, ◌<◌, ◌≤◌, List, [], ◌∷◌, ◌++◌, length, take, get_or, slice_set, Some, refl, ap, sym, ◌∙◌, subst, arith, Vec, Global}
 use Rattle.std.specs.List.{slice_get}
+use Rattle.iso_atoms.specs.Texts.{KeepsTexts}
 use Rattle.iso_model.specs.Terms.Variables.{variables}
 use Rattle.iso_model.specs.Search.Databases as databases
 use Rattle.iso_model.specs.Search.Databases.{Procedures}
@@ -20,6 +21,7 @@ use Rattle.iso_plain.proofs.KeptLemmas.{kept_at}
 use Rattle.iso_plain.proofs.CountLemmas.{clauses_counted, left_next}
 use Rattle.iso_plain.proofs.CostLemmas.{left_step, choices_last}
 use Rattle.iso_plain.proofs.StandingLemmas.{choices_push, choices_keep, item_is, last_split}
+use Rattle.iso_plain.proofs.WorldLemmas.{world_on}
 
 -- The clauses behind the one at this place.
 pub record Rest (ps : List Procedure) (db : Procedures) (i j : ℕ) (cs : List databases.Clause) : Type 0 where
@@ -27,7 +29,7 @@ pub record Rest (ps : List Procedure) (db : Procedures) (i j : ℕ) (cs : List d
   pub next : left_at db i (j + 1) ≡ cs
   pub count : clauses_at_place ps i ≡ j + 1 + length cs
 
-pub rest_at : (ps : List Procedure) (db : Procedures) (i j : ℕ) (c : databases.Clause) (cs : List databases.Clause) → IsDatabase ps db → left_at db i j ≡ c ∷ cs → Rest ps db i j cs
+pub rest_at : {names : List (List ℕ)} (ps : List Procedure) (db : Procedures) (i j : ℕ) (c : databases.Clause) (cs : List databases.Clause) → IsDatabase names ps db → left_at db i j ≡ c ∷ cs → Rest ps db i j cs
 rest_at ps db i j c cs is h = record {
   within = (kept_at ps db i j c cs is h).within;
   next = left_next db i j c cs h;
@@ -95,8 +97,8 @@ pub first_of : (cs : List databases.Clause) → 0 < length cs → First cs
 first_of [] h = absurd (omega (arith, h))
 first_of (c ∷ cs) h = record { clause = c; others = cs; is = refl }
 
-module _ {S W M : Type 0} (present : S → Present W) (stands : S → M → Present W → Type 0) (older : M → M → Type 0) where
-  module _ (e : Plain S W M) (c : kept.Choice W M) (attempt : Attempt W) (s : State) (a : Alternative) (below : List Alternative) (w : WentBack present stands older e c s a below) (tries : c.left ≡ left.Clauses attempt) where
+module _ {S W M : Type 0} (names : S → List (List ℕ)) (present : S → Present W) (stands : S → M → Present W → Type 0) (older : M → M → Type 0) where
+  module _ (e : Plain S W M) (c : kept.Choice W M) (attempt : Attempt W) (s : State) (a : Alternative) (below : List Alternative) (w : WentBack names present stands older e c s a below) (tries : c.left ≡ left.Clauses attempt) where
     -- the goal whose clauses are left
     abbrev pub has : HasClauses (left_at s.world.database.procedures) e.query.items (variables s.query) (present e.store) (links_of e) attempt a
     has = subst (λ (l : Left W). HasLeft (left_at s.world.database.procedures) e.query.items (variables s.query) (present e.store) (links_of e) l a) tries w.has
@@ -122,12 +124,12 @@ module _ {S W M : Type 0} (present : S → Present W) (stands : S → M → Pres
     next_calls : (xs : List databases.Clause) (choices : Vec (kept.Choice W M) Global) → left_at s.world.database.procedures attempt.procedure attempt.clause ≡ first.clause ∷ xs
         → left_at s.world.database.procedures attempt.procedure (attempt.clause + 1) ≡ xs → 0 < length xs
         → choices.items ≡ take (length e.choices.items - 1) e.choices.items ++ with_left c (left.Clauses (next_of attempt)) ∷ []
-        → Calls present stands older (record e { choices = choices }) attempt (with_others has.call xs a.list (went_back a below s)) has.call first.clause xs a.list
+        → Calls names present stands older (record e { choices = choices }) attempt (with_others has.call xs a.list (went_back a below s)) has.call first.clause xs a.list
     next_calls [] choices is next some made = absurd (omega (arith, some))
     next_calls (y ∷ ys) choices is next some made =
         let b : Alternative = record { list = a.list; subst = a.subst; next = a.next; built = a.built; left = Clauses has.call (y ∷ ys) } in
         record {
-          world = record { procedures_are = w.world.procedures_are; operators_are = w.world.operators_are; flags_are = w.world.flags_are };
+          world = w.world;
           steps = w.steps;
           base = w.base;
           choices = subst (λ (ds : List (kept.Choice W M)). StandsForChoices (stands e.store) older e.base (left_at s.world.database.procedures) e.query.items (variables s.query) (links_of e) ds (b ∷ below)) (sym made)
@@ -146,7 +148,7 @@ module _ {S W M : Type 0} (present : S → Present W) (stands : S → M → Pres
 
     -- the newest choice was left at its next clause
     pub retries_next : (choices : Vec (kept.Choice W M) Global) → attempt.clause + 1 < clauses_at_place e.procedures.items attempt.procedure
-        → choices.items ≡ take (length e.choices.items - 1) e.choices.items ++ with_left c (left.Clauses (next_of attempt)) ∷ [] → Retries present stands older (record e { choices = choices }) attempt s a below
+        → choices.items ≡ take (length e.choices.items - 1) e.choices.items ++ with_left c (left.Clauses (next_of attempt)) ∷ [] → Retries names present stands older (record e { choices = choices }) attempt s a below
     retries_next choices more made = record {
       call = has.call;
       clause = first.clause;
@@ -156,14 +158,14 @@ module _ {S W M : Type 0} (present : S → Present W) (stands : S → M → Pres
     }
 
     last_calls : (xs : List databases.Clause) (store : S) (choices : Vec (kept.Choice W M) Global) → left_at s.world.database.procedures attempt.procedure attempt.clause ≡ first.clause ∷ xs → length xs ≡ 0
-        → present store ≡ present e.store → ((m : M) (p : Present W) → older m c.mark → stands e.store m p → stands store m p)
+        → present store ≡ present e.store → ((m : M) (p : Present W) → older m c.mark → stands e.store m p → stands store m p) → KeepsTexts (names e.store) (names store)
         → choices.items ≡ take (length e.choices.items - 1) e.choices.items
-        → Calls present stands older (record e { store = store; choices = choices }) attempt (with_others has.call xs a.list (went_back a below s)) has.call first.clause xs a.list
-    last_calls (y ∷ ys) store choices is none same marks made = absurd (omega (arith, none))
-    last_calls [] store choices is none same marks made =
+        → Calls names present stands older (record e { store = store; choices = choices }) attempt (with_others has.call xs a.list (went_back a below s)) has.call first.clause xs a.list
+    last_calls (y ∷ ys) store choices is none same marks texts made = absurd (omega (arith, none))
+    last_calls [] store choices is none same marks texts made =
         let b = w.base in
         record {
-          world = record { procedures_are = w.world.procedures_are; operators_are = w.world.operators_are; flags_are = w.world.flags_are };
+          world = world_on texts w.world;
           steps = w.steps;
           base = record { present = b.present; stands_for = marks e.base b.present w.newer_base b.stands_for; substitution = b.substitution; next = b.next };
           choices = subst (λ (ds : List (kept.Choice W M)). StandsForChoices (stands store) older e.base (left_at s.world.database.procedures) e.query.items (variables s.query) (links_of e) ds below) (sym made)
@@ -176,12 +178,12 @@ module _ {S W M : Type 0} (present : S → Present W) (stands : S → M → Pres
 
     -- the newest choice was taken away with its last clause
     pub retries_last : (store : S) (choices : Vec (kept.Choice W M) Global) → clauses_at_place e.procedures.items attempt.procedure ≤ attempt.clause + 1
-        → present store ≡ present e.store → ((m : M) (p : Present W) → older m c.mark → stands e.store m p → stands store m p)
-        → choices.items ≡ take (length e.choices.items - 1) e.choices.items → Retries present stands older (record e { store = store; choices = choices }) attempt s a below
-    retries_last store choices none same marks made = record {
+        → present store ≡ present e.store → ((m : M) (p : Present W) → older m c.mark → stands e.store m p → stands store m p) → KeepsTexts (names e.store) (names store)
+        → choices.items ≡ take (length e.choices.items - 1) e.choices.items → Retries names present stands older (record e { store = store; choices = choices }) attempt s a below
+    retries_last store choices none same marks texts made = record {
       call = has.call;
       clause = first.clause;
       others = first.others;
       left = has.left ∙ ap (Clauses has.call) first.is;
-      calls = last_calls first.others store choices first.is (let many = rest.count in omega (arith, many, none)) same marks made;
+      calls = last_calls first.others store choices first.is (let many = rest.count in omega (arith, many, none)) same marks texts made;
     }

@@ -21,7 +21,7 @@ use Rattle.iso_prep.proofs.GoalLemmas.{goals_joined}
 use Rattle.iso_plain.specs.declared.bodies.Node.{Node}
 use Rattle.iso_plain.specs.declared.bodies.Node.TheVariants as node
 use Rattle.iso_plain.specs.Nodes.{EachGoal, goals_in}
-use Rattle.iso_plain.specs.Kept.{IsTemplate, AreTemplates, IsKeptGoal}
+use Rattle.iso_plain.specs.Kept.{IsTemplate, AreTemplates, IsCheckedGoal}
 
 pub key_of_compound : (t : Term) (f : String Global) (v : Vec Term Global) → t ≡ Compound f v → key_of (term_of t) ≡ Some (key (string_bytes f) (vec_len v))
 key_of_compound t f v is =
@@ -73,7 +73,7 @@ body_templates n End b e fits below = cc
 body_templates n (More t ts) b e fits below = cc
 
 -- the goals among the parts
-pub kept_goals : (n : ℕ) (parts : List (Node Term)) → AreTemplates n (goals_in parts) → EachGoal (IsKeptGoal n) parts
+pub kept_goals : (n : ℕ) (parts : List (Node Term)) → AreTemplates n (goals_in parts) → EachGoal (IsCheckedGoal n) parts
 kept_goals n [] h = tt
 kept_goals n (node.Run g ∷ parts) h = (h.0, kept_goals n parts h.1)
 kept_goals n (node.Cut ∷ parts) h = (tt, kept_goals n parts h)

@@ -65,8 +65,8 @@ three_left k h i j r first second third =
     let b = cost_more h (suc (body_cost i r)) (body_cost i r + 2) (omega arith) in
     omega (arith, a, b)
 
-module _ {S W M : Type 0} (present : S → Present W) (stands : S → M → Present W → Type 0) (older : M → M → Type 0) where
-  module _ (e : Plain S W M) (s : State) (f : Frame) (k : ℕ) (doing : e.now ≡ now.Running f) (r : Represents present stands older e s) where
+module _ {S W M : Type 0} (names : S → List (List ℕ)) (present : S → Present W) (stands : S → M → Present W → Type 0) (older : M → M → Type 0) where
+  module _ (e : Plain S W M) (s : State) (f : Frame) (k : ℕ) (doing : e.now ≡ now.Running f) (r : Represents names present stands older e s) where
     rest : ℕ
     rest = place_cost e.frames.items f.next
 
@@ -86,7 +86,7 @@ module _ {S W M : Type 0} (present : S → Present W) (stands : S → M → Pres
     pub apart_falls : (d : ℕ) (frames : Vec Frame Global) → IsAt e.nodes.items f k (node.And d) → frames.items ≡ e.frames.items ++ body_frame f (k - 1) ∷ []
         → weight (record e { frames = frames; now = now.Running (record { todo = todo.Body (k - d); mark = f.mark; next = Some (length e.frames.items) }) }) < weight e
     apart_falls d frames h come =
-        let p = and_parts present stands older e s f k doing r d h in
+        let p = and_parts names present stands older e s f k doing r d h in
         let rest = place_cost e.frames.items f.next in
         let old = cost_at h.asks in
         let all = choices_same frames.items (body_frame f (k - 1) ∷ []) come in
@@ -99,7 +99,7 @@ module _ {S W M : Type 0} (present : S → Present W) (stands : S → M → Pres
         → more.items ≡ frames.items ++ record { todo = todo.CutBack; mark = mark; next = Some (length e.frames.items) } ∷ []
         → weight (record e { frames = more; now = now.Running (record { todo = todo.Body (k - d); mark = mark; next = Some (length frames.items) }) }) < weight e
     condition_falls d mark frames more h come come_more =
-        let p = if_parts present stands older e s f k doing r d h in
+        let p = if_parts names present stands older e s f k doing r d h in
         let rest = place_cost e.frames.items f.next in
         let once : Frame = record { todo = todo.CutBack; mark = mark; next = Some (length e.frames.items) } in
         let old = cost_at h.asks in
@@ -114,13 +114,13 @@ module _ {S W M : Type 0} (present : S → Present W) (stands : S → M → Pres
         → GainsChoice old new older p nodes stood (left.AsIs (Some (length e.frames.items))) e.choices.items choices.items
         → weight (record e { frames = frames; store = store; choices = choices; now = now.Running (body_frame f (k - d)) }) < weight e
     either_falls d frames store choices h come gains =
-        let p = or_parts present stands older e s f k doing r d h in
+        let p = or_parts names present stands older e s f k doing r d h in
         let rest = place_cost e.frames.items f.next in
         let old = cost_at h.asks in
         let all = choices_same frames.items (body_frame f (k - 1) ∷ []) come in
         let next = new_place e.frames.items frames.items (body_frame f (k - 1)) come in
         let gained = gained_cost e.procedures.items (frame_costs frames.items) gains in
-        let same = old_place e.frames.items frames.items (body_frame f (k - 1) ∷ []) f.next come (chain_place f.next ((at present stands older e s f k doing r h.asks).ahead).chain) in
+        let same = old_place e.frames.items frames.items (body_frame f (k - 1) ∷ []) f.next come (chain_place f.next ((at names present stands older e s f k doing r h.asks).ahead).chain) in
         let here = ap (body_cost (k - d)) same in
         let less = two_left k (k - d) (k - 1) rest (let some = p.2 in let more = p.1 in omega (arith, some, more)) (let some = p.2 in omega (arith, some)) in
         falls_less e (record e { frames = frames; store = store; choices = choices; now = now.Running (body_frame f (k - d)) }) refl (omega (arith, old, all, next, gained, here, less))
@@ -130,7 +130,7 @@ module _ {S W M : Type 0} (present : S → Present W) (stands : S → M → Pres
         → more.items ≡ frames.items ++ body_frame f (k - d) ∷ [] → most.items ≡ more.items ++ record { todo = todo.CutBack; mark = mark; next = Some (length frames.items) } ∷ []
         → weight (record e { frames = most; store = store; choices = choices; now = now.Running (record { todo = todo.Body (k - c); mark = mark + 1; next = Some (length more.items) }) }) < weight e
     choose_falls c d mark frames more most store choices h come gains come_more come_most =
-        let p = choose_parts present stands older e s f k doing r c d h in
+        let p = choose_parts names present stands older e s f k doing r c d h in
         let rest = place_cost e.frames.items f.next in
         let once : Frame = record { todo = todo.CutBack; mark = mark; next = Some (length frames.items) } in
         let old = cost_at h.asks in
@@ -140,7 +140,7 @@ module _ {S W M : Type 0} (present : S → Present W) (stands : S → M → Pres
         let all = choices_same most.items (body_frame f (k - 1) ∷ body_frame f (k - d) ∷ once ∷ []) three in
         let long : length frames.items ≡ length e.frames.items + 1 = ap length come ∙ length_last e.frames.items (body_frame f (k - 1)) in
         let other = old_place frames.items most.items (body_frame f (k - d) ∷ once ∷ []) (Some (length e.frames.items)) behind (omega (arith, long)) ∙ new_place e.frames.items frames.items (body_frame f (k - 1)) come in
-        let same = old_place e.frames.items frames.items (body_frame f (k - 1) ∷ []) f.next come (chain_place f.next ((at present stands older e s f k doing r h.asks).ahead).chain) in
+        let same = old_place e.frames.items frames.items (body_frame f (k - 1) ∷ []) f.next come (chain_place f.next ((at names present stands older e s f k doing r h.asks).ahead).chain) in
         let gained = gained_cost e.procedures.items (frame_costs most.items) gains in
         let next = new_place more.items most.items once come_most ∙ ap suc (new_place frames.items more.items (body_frame f (k - d)) come_more ∙ ap (body_cost (k - d)) same) in
         let here = ap (body_cost (k - c)) next in

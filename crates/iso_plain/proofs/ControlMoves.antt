@@ -1,5 +1,6 @@
 -- Moves at control constructs.
 use Rattle.std.proofs.Common.{◌≡◌, ℕ, suc, ◌+◌, ◌-◌, ◌<◌, ◌≤◌, ◌++◌, List, [], ◌∷◌, length, Some, refl, ap, sym, ◌∙◌, subst, arith, Vec, Global}
+use Rattle.iso_atoms.specs.Texts.{KeepsTexts}
 use Rattle.iso_model.specs.Search.Bodies.{Body, And, Or, If}
 use Rattle.iso_model.specs.Search.Walker.{State, Goal, CutTo, Alternative, AsIs, Goes, pushed, step}
 use Rattle.iso_model.specs.Search.Runs.{ComesOver}
@@ -24,13 +25,13 @@ use Rattle.iso_plain.proofs.StandingLemmas.{choices_length}
 abbrev pub body_frame : Frame → ℕ → Frame
 body_frame f k = record { todo = todo.Body k; mark = f.mark; next = f.next }
 
-module _ {S W M : Type 0} (present : S → Present W) (stands : S → M → Present W → Type 0) (older : M → M → Type 0) where
-  module _ (e : Plain S W M) (s : State) (f : Frame) (k : ℕ) (doing : e.now ≡ now.Running f) (r : Represents present stands older e s) where
+module _ {S W M : Type 0} (names : S → List (List ℕ)) (present : S → Present W) (stands : S → M → Present W → Type 0) (older : M → M → Type 0) where
+  module _ (e : Plain S W M) (s : State) (f : Frame) (k : ℕ) (doing : e.now ≡ now.Running f) (r : Represents names present stands older e s) where
     abbrev pub own : State
     own = r.own
 
-    abbrev pub at : f.todo ≡ todo.Body k → AtBody present stands older e own f k
-    at asks = at_body present stands older e own f k doing asks r.engine
+    abbrev pub at : f.todo ≡ todo.Body k → AtBody names present stands older e own f k
+    at asks = at_body names present stands older e own f k doing asks r.engine
 
     -- ---- a conjunction
 
@@ -38,15 +39,15 @@ module _ {S W M : Type 0} (present : S → Present W) (stands : S → M → Pres
     and_parts d h = and_at (present e.store) d h.there (at h.asks).stands_for
 
     pub takes_apart : (d : ℕ) (frames : Vec Frame Global) → IsAt e.nodes.items f k (node.And d) → frames.items ≡ e.frames.items ++ body_frame f (k - 1) ∷ []
-        → Moves present stands older move.Goes s (record e { frames = frames; now = now.Running (record { todo = todo.Body (k - d); mark = f.mark; next = Some (length e.frames.items) }) })
+        → Moves names present stands older move.Goes s (record e { frames = frames; now = now.Running (record { todo = todo.Body (k - d); mark = f.mark; next = Some (length e.frames.items) }) })
     takes_apart d frames h come =
         let a = at h.asks in
         let p = (and_parts d h).3 in
         let first : Frame = record { todo = todo.Body (k - d); mark = f.mark; next = Some (length e.frames.items) } in
-        let ahead = ahead_frame present stands older e (record own { list = a.behind }) (body_frame f (k - 1)) (Goal p.second f.mark) frames a.ahead (a_body refl p.second_body) come in
-        goes present stands older e (record e { frames = frames; now = now.Running first }) s r (record own { list = Goal p.first f.mark ∷ Goal p.second f.mark ∷ a.behind })
+        let ahead = ahead_frame names present stands older e (record own { list = a.behind }) (body_frame f (k - 1)) (Goal p.second f.mark) frames a.ahead (a_body refl p.second_body) come in
+        goes names present stands older e (record e { frames = frames; now = now.Running first }) s r (record own { list = Goal p.first f.mark ∷ Goal p.second f.mark ∷ a.behind })
         (parts_step own p.first p.second f.mark a.behind (a.list ∙ ap (λ (b : Body). Goal b f.mark ∷ a.behind) p.is))
-        (engine_frame present stands older (record e { frames = frames }) (record own { list = Goal p.second f.mark ∷ a.behind }) first (Goal p.first f.mark) ahead (a_body refl p.first_body)) tt
+        (engine_frame names present stands older (record e { frames = frames }) (record own { list = Goal p.second f.mark ∷ a.behind }) first (Goal p.first f.mark) ahead (a_body refl p.first_body)) tt
 
     -- ---- an if-then
 
@@ -55,7 +56,7 @@ module _ {S W M : Type 0} (present : S → Present W) (stands : S → M → Pres
 
     pub takes_condition : (d : ℕ) (frames more : Vec Frame Global) → IsAt e.nodes.items f k (node.If d) → frames.items ≡ e.frames.items ++ body_frame f (k - 1) ∷ []
         → more.items ≡ frames.items ++ record { todo = todo.CutBack; mark = length e.choices.items; next = Some (length e.frames.items) } ∷ []
-        → Moves present stands older move.Goes s (record e { frames = more; now = now.Running (record { todo = todo.Body (k - d); mark = length e.choices.items; next = Some (length frames.items) }) })
+        → Moves names present stands older move.Goes s (record e { frames = more; now = now.Running (record { todo = todo.Body (k - d); mark = length e.choices.items; next = Some (length frames.items) }) })
     takes_condition d frames more h come come_more =
         let a = at h.asks in
         let p = (if_parts d h).3 in
@@ -63,13 +64,13 @@ module _ {S W M : Type 0} (present : S → Present W) (stands : S → M → Pres
         let same : height ≡ length own.stack = choices_length r.engine.choices in
         let once : Frame = record { todo = todo.CutBack; mark = height; next = Some (length e.frames.items) } in
         let first : Frame = record { todo = todo.Body (k - d); mark = height; next = Some (length frames.items) } in
-        let one = ahead_frame present stands older e (record own { list = a.behind }) (body_frame f (k - 1)) (Goal p.second f.mark) frames a.ahead (a_body refl p.second_body) come in
-        let two = ahead_frame present stands older (record e { frames = frames }) (record own { list = Goal p.second f.mark ∷ a.behind }) once (CutTo height) more one (a_cut refl) come_more in
-        let engine = engine_frame present stands older (record e { frames = more }) (record own { list = CutTo height ∷ Goal p.second f.mark ∷ a.behind }) first (Goal p.first height) two (a_body refl p.first_body) in
+        let one = ahead_frame names present stands older e (record own { list = a.behind }) (body_frame f (k - 1)) (Goal p.second f.mark) frames a.ahead (a_body refl p.second_body) come in
+        let two = ahead_frame names present stands older (record e { frames = frames }) (record own { list = Goal p.second f.mark ∷ a.behind }) once (CutTo height) more one (a_cut refl) come_more in
+        let engine = engine_frame names present stands older (record e { frames = more }) (record own { list = CutTo height ∷ Goal p.second f.mark ∷ a.behind }) first (Goal p.first height) two (a_body refl p.first_body) in
         let new : Plain S W M = record e { frames = more; now = now.Running first } in
-        goes present stands older e new s r (record own { list = Goal p.first (length own.stack) ∷ CutTo (length own.stack) ∷ Goal p.second f.mark ∷ a.behind })
+        goes names present stands older e new s r (record own { list = Goal p.first (length own.stack) ∷ CutTo (length own.stack) ∷ Goal p.second f.mark ∷ a.behind })
         (condition_step own p.first p.second f.mark a.behind (a.list ∙ ap (λ (b : Body). Goal b f.mark ∷ a.behind) p.is))
-        (subst (λ (n : ℕ). IsEngine present stands older new (record own { list = Goal p.first n ∷ CutTo n ∷ Goal p.second f.mark ∷ a.behind })) same engine) tt
+        (subst (λ (n : ℕ). IsEngine names present stands older new (record own { list = Goal p.first n ∷ CutTo n ∷ Goal p.second f.mark ∷ a.behind })) same engine) tt
 
     -- ---- a disjunction
 
@@ -85,31 +86,31 @@ module _ {S W M : Type 0} (present : S → Present W) (stands : S → M → Pres
 
     -- the second body's choice came
     or_ahead : (d : ℕ) (frames : Vec Frame Global) (store : S) (choices : Vec (kept.Choice W M) Global) (h : IsAt e.nodes.items f k (node.Or d)) → frames.items ≡ e.frames.items ++ body_frame f (k - 1) ∷ []
-        → present store ≡ present e.store → KeepsMarks (stands e.store) (stands store)
+        → present store ≡ present e.store → KeepsMarks (stands e.store) (stands store) → KeepsTexts (names e.store) (names store)
         → GainsChoice (stands e.store) (stands store) older (present e.store) (length e.nodes.items) (length frames.items) (left.AsIs (Some (length e.frames.items))) e.choices.items choices.items
-        → IsAhead present stands older (record e { frames = frames; store = store; choices = choices }) (record (pushed (Goal ((or_parts d h).3).second f.mark ∷ (at h.asks).behind) AsIs own) { list = (at h.asks).behind }) f.next
-    or_ahead d frames store choices h come same keeps gains =
+        → IsAhead names present stands older (record e { frames = frames; store = store; choices = choices }) (record (pushed (Goal ((or_parts d h).3).second f.mark ∷ (at h.asks).behind) AsIs own) { list = (at h.asks).behind }) f.next
+    or_ahead d frames store choices h come same keeps texts gains =
         let a = at h.asks in
         let p = (or_parts d h).3 in
-        let one = ahead_frame present stands older e (record own { list = a.behind }) (body_frame f (k - 1)) (Goal p.second f.mark) frames a.ahead (a_body refl p.second_body) come in
-        let has = members_left present stands older (record e { frames = frames }) (record own { list = Goal p.second f.mark ∷ a.behind }) (Some (length e.frames.items)) AsIs one in
-        let two = ahead_choice present stands older (record e { frames = frames }) (record own { list = Goal p.second f.mark ∷ a.behind }) (Some (length e.frames.items)) store choices
-        (left.AsIs (Some (length e.frames.items))) AsIs one has refl same keeps gains in
-        let chain = subst (λ (q : Present W). Chain q (record { nodes = e.nodes.items; frames = frames.items }) f.next a.behind) (sym same) (chain_pushed present stands older e frames (body_frame f (k - 1)) f.next a.behind come a.ahead.chain) in
-        ahead_other present stands older (record e { frames = frames; store = store; choices = choices }) (pushed (Goal p.second f.mark ∷ a.behind) AsIs (record own { list = Goal p.second f.mark ∷ a.behind })) (Some (length e.frames.items)) f.next a.behind two chain
+        let one = ahead_frame names present stands older e (record own { list = a.behind }) (body_frame f (k - 1)) (Goal p.second f.mark) frames a.ahead (a_body refl p.second_body) come in
+        let has = members_left names present stands older (record e { frames = frames }) (record own { list = Goal p.second f.mark ∷ a.behind }) (Some (length e.frames.items)) AsIs one in
+        let two = ahead_choice names present stands older (record e { frames = frames }) (record own { list = Goal p.second f.mark ∷ a.behind }) (Some (length e.frames.items)) store choices
+        (left.AsIs (Some (length e.frames.items))) AsIs one has refl same keeps texts gains in
+        let chain = subst (λ (q : Present W). Chain q (record { nodes = e.nodes.items; frames = frames.items }) f.next a.behind) (sym same) (chain_pushed names present stands older e frames (body_frame f (k - 1)) f.next a.behind come a.ahead.chain) in
+        ahead_other names present stands older (record e { frames = frames; store = store; choices = choices }) (pushed (Goal p.second f.mark ∷ a.behind) AsIs (record own { list = Goal p.second f.mark ∷ a.behind })) (Some (length e.frames.items)) f.next a.behind two chain
 
     pub takes_either : (d : ℕ) (frames : Vec Frame Global) (store : S) (choices : Vec (kept.Choice W M) Global) (h : IsAt e.nodes.items f k (node.Or d)) → frames.items ≡ e.frames.items ++ body_frame f (k - 1) ∷ []
-        → present store ≡ present e.store → KeepsMarks (stands e.store) (stands store)
+        → present store ≡ present e.store → KeepsMarks (stands e.store) (stands store) → KeepsTexts (names e.store) (names store)
         → GainsChoice (stands e.store) (stands store) older (present e.store) (length e.nodes.items) (length frames.items) (left.AsIs (Some (length e.frames.items))) e.choices.items choices.items
-        → Moves present stands older move.Goes s (record e { frames = frames; store = store; choices = choices; now = now.Running (body_frame f (k - d)) })
-    takes_either d frames store choices h come same keeps gains =
+        → Moves names present stands older move.Goes s (record e { frames = frames; store = store; choices = choices; now = now.Running (body_frame f (k - d)) })
+    takes_either d frames store choices h come same keeps texts gains =
         let a = at h.asks in
         let p = (or_parts d h).3 in
-        let ahead = or_ahead d frames store choices h come same keeps gains in
+        let ahead = or_ahead d frames store choices h come same keeps texts gains in
         let body = subst (λ (q : Present W). IsBody q e.nodes.items (k - d) p.first) (sym same) p.first_body in
-        goes present stands older e (record e { frames = frames; store = store; choices = choices; now = now.Running (body_frame f (k - d)) }) s r
+        goes names present stands older e (record e { frames = frames; store = store; choices = choices; now = now.Running (body_frame f (k - d)) }) s r
         (record (pushed (Goal p.second f.mark ∷ a.behind) AsIs own) { list = Goal p.first f.mark ∷ a.behind }) (or_step d h)
-        (engine_frame present stands older (record e { frames = frames; store = store; choices = choices }) (record (pushed (Goal p.second f.mark ∷ a.behind) AsIs own) { list = a.behind }) (body_frame f (k - d)) (Goal p.first f.mark) ahead
+        (engine_frame names present stands older (record e { frames = frames; store = store; choices = choices }) (record (pushed (Goal p.second f.mark ∷ a.behind) AsIs own) { list = a.behind }) (body_frame f (k - d)) (Goal p.first f.mark) ahead
         (a_body refl body)) tt
 
     -- the choice would be one too many
@@ -118,7 +119,7 @@ module _ {S W M : Type 0} (present : S → Present W) (stands : S → M → Pres
         let a = at h.asks in
         let p = (or_parts d h).3 in
         let many = choices_length r.engine.choices in
-        comes_over present stands older e s r (record (pushed (Goal p.second f.mark ∷ a.behind) AsIs own) { list = Goal p.first f.mark ∷ a.behind }) e.limit (or_step d h) refl (omega (arith, many, full))
+        comes_over names present stands older e s r (record (pushed (Goal p.second f.mark ∷ a.behind) AsIs own) { list = Goal p.first f.mark ∷ a.behind }) e.limit (or_step d h) refl (omega (arith, many, full))
 
     -- ---- an if-then-else
 
@@ -138,52 +139,52 @@ module _ {S W M : Type 0} (present : S → Present W) (stands : S → M → Pres
         let a = at h.asks in
         let p = (choose_parts c d h).5 in
         let many = choices_length r.engine.choices in
-        comes_over present stands older e s r (record (pushed (Goal p.third f.mark ∷ a.behind) AsIs own) { list = Goal p.first (suc (length own.stack)) ∷ CutTo (length own.stack) ∷ Goal p.second f.mark ∷ a.behind }) e.limit
+        comes_over names present stands older e s r (record (pushed (Goal p.third f.mark ∷ a.behind) AsIs own) { list = Goal p.first (suc (length own.stack)) ∷ CutTo (length own.stack) ∷ Goal p.second f.mark ∷ a.behind }) e.limit
         (choose_goes c d h) refl (omega (arith, many, full))
 
     module _ (c d : ℕ) (frames : Vec Frame Global) (store : S) (choices : Vec (kept.Choice W M) Global) (h : IsAt e.nodes.items f k (node.Choose c d)) (come : frames.items ≡ e.frames.items ++ body_frame f (k - 1) ∷ [])
-        (same : present store ≡ present e.store) (keeps : KeepsMarks (stands e.store) (stands store))
+        (same : present store ≡ present e.store) (keeps : KeepsMarks (stands e.store) (stands store)) (texts : KeepsTexts (names e.store) (names store))
         (gains : GainsChoice (stands e.store) (stands store) older (present e.store) (length e.nodes.items) (length frames.items) (left.AsIs (Some (length e.frames.items))) e.choices.items choices.items) where
       -- the alternative for where the condition fails
       abbrev pub other : List Alternative
       other = (pushed (Goal ((choose_parts c d h).5).third f.mark ∷ (at h.asks).behind) AsIs own).stack
 
-      pub choose_ahead : IsAhead present stands older (record e { frames = frames; store = store; choices = choices }) (record own { list = (at h.asks).behind; stack = other }) f.next
+      pub choose_ahead : IsAhead names present stands older (record e { frames = frames; store = store; choices = choices }) (record own { list = (at h.asks).behind; stack = other }) f.next
       choose_ahead =
           let a = at h.asks in
           let p = (choose_parts c d h).5 in
-          let one = ahead_frame present stands older e (record own { list = a.behind }) (body_frame f (k - 1)) (Goal p.third f.mark) frames a.ahead (a_body refl p.third_body) come in
-          let has = members_left present stands older (record e { frames = frames }) (record own { list = Goal p.third f.mark ∷ a.behind }) (Some (length e.frames.items)) AsIs one in
-          let two = ahead_choice present stands older (record e { frames = frames }) (record own { list = Goal p.third f.mark ∷ a.behind }) (Some (length e.frames.items)) store choices
-          (left.AsIs (Some (length e.frames.items))) AsIs one has refl same keeps gains in
-          let chain = subst (λ (q : Present W). Chain q (record { nodes = e.nodes.items; frames = frames.items }) f.next a.behind) (sym same) (chain_pushed present stands older e frames (body_frame f (k - 1)) f.next a.behind come a.ahead.chain) in
-          ahead_other present stands older (record e { frames = frames; store = store; choices = choices }) (pushed (Goal p.third f.mark ∷ a.behind) AsIs (record own { list = Goal p.third f.mark ∷ a.behind })) (Some (length e.frames.items)) f.next a.behind two chain
+          let one = ahead_frame names present stands older e (record own { list = a.behind }) (body_frame f (k - 1)) (Goal p.third f.mark) frames a.ahead (a_body refl p.third_body) come in
+          let has = members_left names present stands older (record e { frames = frames }) (record own { list = Goal p.third f.mark ∷ a.behind }) (Some (length e.frames.items)) AsIs one in
+          let two = ahead_choice names present stands older (record e { frames = frames }) (record own { list = Goal p.third f.mark ∷ a.behind }) (Some (length e.frames.items)) store choices
+          (left.AsIs (Some (length e.frames.items))) AsIs one has refl same keeps texts gains in
+          let chain = subst (λ (q : Present W). Chain q (record { nodes = e.nodes.items; frames = frames.items }) f.next a.behind) (sym same) (chain_pushed names present stands older e frames (body_frame f (k - 1)) f.next a.behind come a.ahead.chain) in
+          ahead_other names present stands older (record e { frames = frames; store = store; choices = choices }) (pushed (Goal p.third f.mark ∷ a.behind) AsIs (record own { list = Goal p.third f.mark ∷ a.behind })) (Some (length e.frames.items)) f.next a.behind two chain
 
       -- memory was refused behind that
-      pub choose_stops : (new : Plain S W M) → Keeps present stands older new own.world other → Stopped present stands older new s
+      pub choose_stops : (new : Plain S W M) → Keeps names present stands older new own.world other → Stopped names present stands older new s
       choose_stops new keeps_other =
           let a = at h.asks in
           let p = (choose_parts c d h).5 in
-          stops present stands older new own (record own { list = Goal p.first (suc (length own.stack)) ∷ CutTo (length own.stack) ∷ Goal p.second f.mark ∷ a.behind; stack = other }) s other r.same (choose_goes c d h) refl refl keeps_other
+          stops names present stands older new own (record own { list = Goal p.first (suc (length own.stack)) ∷ CutTo (length own.stack) ∷ Goal p.second f.mark ∷ a.behind; stack = other }) s other r.same (choose_goes c d h) refl refl keeps_other
 
       module _ (more most : Vec Frame Global) (come_more : more.items ≡ frames.items ++ body_frame f (k - d) ∷ [])
           (come_most : most.items ≡ more.items ++ record { todo = todo.CutBack; mark = length e.choices.items; next = Some (length frames.items) } ∷ []) where
-        pub one_more : IsAhead present stands older (record e { frames = more; store = store; choices = choices }) (record own { list = Goal ((choose_parts c d h).5).second f.mark ∷ (at h.asks).behind; stack = other }) (Some (length frames.items))
+        pub one_more : IsAhead names present stands older (record e { frames = more; store = store; choices = choices }) (record own { list = Goal ((choose_parts c d h).5).second f.mark ∷ (at h.asks).behind; stack = other }) (Some (length frames.items))
         one_more =
             let a = at h.asks in
             let p = (choose_parts c d h).5 in
             let body = subst (λ (q : Present W). IsBody q e.nodes.items (k - d) p.second) (sym same) p.second_body in
-            ahead_frame present stands older (record e { frames = frames; store = store; choices = choices }) (record own { list = a.behind; stack = other }) (body_frame f (k - d)) (Goal p.second f.mark) more choose_ahead (a_body refl body) come_more
+            ahead_frame names present stands older (record e { frames = frames; store = store; choices = choices }) (record own { list = a.behind; stack = other }) (body_frame f (k - d)) (Goal p.second f.mark) more choose_ahead (a_body refl body) come_more
 
-        pub two_more : IsAhead present stands older (record e { frames = most; store = store; choices = choices })
+        pub two_more : IsAhead names present stands older (record e { frames = most; store = store; choices = choices })
             (record own { list = CutTo (length e.choices.items) ∷ Goal ((choose_parts c d h).5).second f.mark ∷ (at h.asks).behind; stack = other }) (Some (length more.items))
         two_more =
             let a = at h.asks in
             let p = (choose_parts c d h).5 in
             let once : Frame = record { todo = todo.CutBack; mark = length e.choices.items; next = Some (length frames.items) } in
-            ahead_frame present stands older (record e { frames = more; store = store; choices = choices }) (record own { list = Goal p.second f.mark ∷ a.behind; stack = other }) once (CutTo (length e.choices.items)) most one_more (a_cut refl) come_most
+            ahead_frame names present stands older (record e { frames = more; store = store; choices = choices }) (record own { list = Goal p.second f.mark ∷ a.behind; stack = other }) once (CutTo (length e.choices.items)) most one_more (a_cut refl) come_most
 
-        pub chooses : Moves present stands older move.Goes s
+        pub chooses : Moves names present stands older move.Goes s
             (record e { frames = most; store = store; choices = choices; now = now.Running (record { todo = todo.Body (k - c); mark = length e.choices.items + 1; next = Some (length more.items) }) })
         chooses =
             let a = at h.asks in
@@ -194,8 +195,8 @@ module _ {S W M : Type 0} (present : S → Present W) (stands : S → M → Pres
             let first : Frame = record { todo = todo.Body (k - c); mark = height + 1; next = Some (length more.items) } in
             let new : Plain S W M = record e { frames = most; store = store; choices = choices; now = now.Running first } in
             let body = subst (λ (q : Present W). IsBody q e.nodes.items (k - c) p.first) (sym same) p.first_body in
-            let engine = engine_frame present stands older (record e { frames = most; store = store; choices = choices }) (record own { list = CutTo height ∷ Goal p.second f.mark ∷ a.behind; stack = other }) first (Goal p.first (height + 1)) two_more
+            let engine = engine_frame names present stands older (record e { frames = most; store = store; choices = choices }) (record own { list = CutTo height ∷ Goal p.second f.mark ∷ a.behind; stack = other }) first (Goal p.first (height + 1)) two_more
             (a_body refl body) in
-            goes present stands older e new s r (record own { list = Goal p.first (suc (length own.stack)) ∷ CutTo (length own.stack) ∷ Goal p.second f.mark ∷ a.behind; stack = other }) (choose_goes c d h)
-            (subst (λ (n : ℕ). IsEngine present stands older new (record own { list = Goal p.first n ∷ CutTo (length own.stack) ∷ Goal p.second f.mark ∷ a.behind; stack = other })) over
-            (subst (λ (n : ℕ). IsEngine present stands older new (record own { list = Goal p.first (height + 1) ∷ CutTo n ∷ Goal p.second f.mark ∷ a.behind; stack = other })) alike engine)) tt
+            goes names present stands older e new s r (record own { list = Goal p.first (suc (length own.stack)) ∷ CutTo (length own.stack) ∷ Goal p.second f.mark ∷ a.behind; stack = other }) (choose_goes c d h)
+            (subst (λ (n : ℕ). IsEngine names present stands older new (record own { list = Goal p.first n ∷ CutTo (length own.stack) ∷ Goal p.second f.mark ∷ a.behind; stack = other })) over
+            (subst (λ (n : ℕ). IsEngine names present stands older new (record own { list = Goal p.first (height + 1) ∷ CutTo n ∷ Goal p.second f.mark ∷ a.behind; stack = other })) alike engine)) tt

@@ -16,7 +16,7 @@ count_at (q ∷ ps) zero p within is = ap (λ (r : Procedure). length r.clauses.
 count_at (q ∷ ps) (suc i) p within is = count_at ps i p (omega arith) is
 
 -- as many are kept as there are
-as_many : (ks : List Clause) (cs : List databases.Clause) → AreClauses ks cs → length ks ≡ length cs
+as_many : {names : List (List ℕ)} (ks : List Clause) (cs : List databases.Clause) → AreClauses names ks cs → length ks ≡ length cs
 as_many ks cs no_clauses = refl
 as_many ks cs (more_clauses {ks = ks'} {cs = cs'} is more) = ap suc (as_many ks' cs' more)
 
@@ -33,7 +33,7 @@ dropped_next (d ∷ cs) zero c others h = cc
 dropped_next (d ∷ cs) (suc j) c others h = dropped_next cs j c others h
 
 -- The clauses of the procedure at a place: those before the attempt's, that one and those behind it.
-pub clauses_counted : (ps : List Procedure) (db : Procedures) (i j : ℕ) (c : databases.Clause) (others : List databases.Clause) → IsDatabase ps db → left_at db i j ≡ c ∷ others
+pub clauses_counted : {names : List (List ℕ)} (ps : List Procedure) (db : Procedures) (i j : ℕ) (c : databases.Clause) (others : List databases.Clause) → IsDatabase names ps db → left_at db i j ≡ c ∷ others
     → clauses_at_place ps i ≡ j + 1 + length others
 clauses_counted ps db i j c others no_procedures h = absurd (cc)
 clauses_counted ps db zero j c others (more_procedures {kept = p} {p = q} is more) h = as_many p.clauses.items q.clauses is.clauses ∙ length_dropped q.clauses j c others h

@@ -27,13 +27,13 @@ cut_cost : {W : Type 0} (nodes : List (Node W)) (f : Frame) (rest : ℕ) → IsC
 cut_cost nodes f rest (inl asks) = subst (λ (t : Todo). rest < todo_cost t rest) (sym asks) (omega arith)
 cut_cost nodes f rest (inr h) = subst (λ (t : Todo). rest < todo_cost t rest) (sym (h.1).asks) (cost_above h.0 rest)
 
-module _ {S W M : Type 0} (present : S → Present W) (stands : S → M → Present W → Type 0) (older : M → M → Type 0) where
-  module _ (e : Plain S W M) (s : State) (f : Frame) (doing : e.now ≡ now.Running f) (r : Represents present stands older e s) where
+module _ {S W M : Type 0} (names : S → List (List ℕ)) (present : S → Present W) (stands : S → M → Present W → Type 0) (older : M → M → Type 0) where
+  module _ (e : Plain S W M) (s : State) (f : Frame) (doing : e.now ≡ now.Running f) (r : Represents names present stands older e s) where
     abbrev own : State
     own = r.own
 
-    abbrev pub at : AtFrame present stands older e own f
-    at = at_frame present stands older e own f doing r.engine
+    abbrev pub at : AtFrame names present stands older e own f
+    at = at_frame names present stands older e own f doing r.engine
 
     cut_goes : IsCut e.nodes.items f → step own ≡ Goes (cut_back f.mark at.behind own)
     cut_goes (inl asks) =
@@ -44,11 +44,11 @@ module _ {S W M : Type 0} (present : S → Present W) (stands : S → M → Pres
         let is = cut_at (present e.store) (h.1).there b.2 in
         cut_step own f.mark at.behind (at.list ∙ ap (λ (m : Member). m ∷ at.behind) (b.1 ∙ ap (λ (c : Body). Goal c f.mark) is))
 
-    pub cuts : (mid : Plain S W M) → IsCut e.nodes.items f → IsAhead present stands older mid (cut_back f.mark at.behind own) f.next
-        → Moves present stands older move.Goes s (record mid { now = now_behind mid.frames.items f.next })
+    pub cuts : (mid : Plain S W M) → IsCut e.nodes.items f → IsAhead names present stands older mid (cut_back f.mark at.behind own) f.next
+        → Moves names present stands older move.Goes s (record mid { now = now_behind mid.frames.items f.next })
     cuts mid h ahead =
-        goes present stands older e (record mid { now = now_behind mid.frames.items f.next }) s r (cut_back f.mark at.behind own) (cut_goes h)
-        (engine_place present stands older mid (cut_back f.mark at.behind own) f.next ahead) (awake_behind mid.frames.items f.next)
+        goes names present stands older e (record mid { now = now_behind mid.frames.items f.next }) s r (cut_back f.mark at.behind own) (cut_goes h)
+        (engine_place names present stands older mid (cut_back f.mark at.behind own) f.next ahead) (awake_behind mid.frames.items f.next)
 
     pub cut_falls : (mid : Plain S W M) → IsCut e.nodes.items f → mid.steps ≡ e.steps → mid.frames ≡ e.frames → mid.procedures ≡ e.procedures
         → choices_cost e.procedures.items (frame_costs e.frames.items) mid.choices.items ≤ choices_cost e.procedures.items (frame_costs e.frames.items) e.choices.items

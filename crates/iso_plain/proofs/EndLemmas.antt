@@ -31,16 +31,16 @@ variable_holds [] ns i w h within is = absurd (omega arith)
 variable_holds {p = p} (v ∷ ws) ns zero w (one_word holds named others) within is = subst (λ (x : _). p.holds x ≡ true) (sym is) holds
 variable_holds (v ∷ ws) ns (suc i) w (one_word {ns = ms} holds named others) within is = variable_holds ws ms i w others (omega arith) is
 
-module _ {S W M : Type 0} (present : S → Present W) (stands : S → M → Present W → Type 0) (older : M → M → Type 0) where
+module _ {S W M : Type 0} (names : S → List (List ℕ)) (present : S → Present W) (stands : S → M → Present W → Type 0) (older : M → M → Type 0) where
   -- what comes next, by the engine's phase
-  pub next_is : (e : Plain S W M) (s : State) (n : Now) → e.now ≡ n → IsEngine present stands older e s → DoesNext (present e.store) (links_of e) e.query.items n (option_map (λ b. term_of b.term) e.raised) s
+  pub next_is : (e : Plain S W M) (s : State) (n : Now) → e.now ≡ n → IsEngine names present stands older e s → DoesNext (present e.store) (links_of e) e.query.items n (option_map (λ b. term_of b.term) e.raised) s
   next_is e s n is engine = subst (λ (x : Now). DoesNext (present e.store) (links_of e) e.query.items x (option_map (λ b. term_of b.term) e.raised) s) is engine.next
 
   -- ---- an answer
 
-  failing_engine : (e : Plain S W M) (s : State) → IsEngine present stands older e s → IsEngine present stands older (record e { now = now.Failing }) (fails s)
+  failing_engine : (e : Plain S W M) (s : State) → IsEngine names present stands older e s → IsEngine names present stands older (record e { now = now.Failing }) (fails s)
   failing_engine e s is = record {
-    world = record { procedures_are = is.world.procedures_are; operators_are = is.world.operators_are; flags_are = is.world.flags_are };
+    world = is.world;
     steps = is.steps;
     base = is.base;
     choices = is.choices;
@@ -50,35 +50,35 @@ module _ {S W M : Type 0} (present : S → Present W) (stands : S → M → Pres
 
   pub answers_engine : (e : Plain S W M) (s : State) (values : Vec Term Global) → e.now ≡ now.Answering
       → ((ns : List ℕ) → AreVariables (present e.store) e.query.items ns → map term_of values.items ≡ map (present e.store).substitution ns)
-      → Represents present stands older e s → Moves present stands older (move.Pauses (pause.Answer values)) s (record e { now = now.Failing })
+      → Represents names present stands older e s → Moves names present stands older (move.Pauses (pause.Answer values)) s (record e { now = now.Failing })
   answers_engine e s values doing are r =
       let o = r.own in
       let next = next_is e o now.Answering doing r.engine in
       let shown : map term_of values.items ≡ map o.subst (variables o.query) = are (variables o.query) next.1.words ∙ ap (λ (f : Subst). map f (variables o.query)) next.1.subst in
-      (rw shown (gives present stands older (record e { now = now.Failing }) o (fails o) s (Answered (map o.subst (variables o.query))) r.same (answer_step o next.0) refl (failing_engine e o r.engine)), refl)
+      (rw shown (gives names present stands older (record e { now = now.Failing }) o (fails o) s (Answered (map o.subst (variables o.query))) r.same (answer_step o next.0) refl (failing_engine e o r.engine)), refl)
 
   -- ---- a ball
 
   -- a ball that is to be raised was kept
-  pub raised_some : (e : Plain S W M) (s : State) → e.now ≡ now.Raising → Represents present stands older e s → e.raised ≡ None → ⊥
+  pub raised_some : (e : Plain S W M) (s : State) → e.now ≡ now.Raising → Represents names present stands older e s → e.raised ≡ None → ⊥
   raised_some e s doing r none =
       let next = next_is e r.own now.Raising doing r.engine in
       cc (ap (option_map (λ b. term_of b.term)) none, next.2)
 
   pub raises_engine : (e new : Plain S W M) (s : State) (ball : Ball) → e.now ≡ now.Raising → e.raised ≡ Some ball
-      → ((w : World) → IsWorld e w → IsEngine present stands older new (idle w)) → new.now ≡ now.Idle
-      → Represents present stands older e s → Moves present stands older (move.Pauses (pause.Uncaught ball)) s new
+      → ((w : World) → IsWorld names e w → IsEngine names present stands older new (idle w)) → new.now ≡ now.Idle
+      → Represents names present stands older e s → Moves names present stands older (move.Pauses (pause.Uncaught ball)) s new
   raises_engine e new s ball doing kept cleared rests r =
       let o = r.own in
       let next = next_is e o now.Raising doing r.engine in
       let same : term_of ball.term ≡ next.0 = cc (ap (option_map (λ b. term_of b.term)) kept, next.2) in
-      (rw same (ends present stands older new o s (Uncaught next.0) r.same (raise_step o next.0 [] next.1) rests (cleared o.world r.engine.world)), ap phase_of rests)
+      (rw same (ends names present stands older new o s (Uncaught next.0) r.same (raise_step o next.0 [] next.1) rests (cleared o.world r.engine.world)), ap phase_of rests)
 
   -- ---- an idle engine
 
-  pub idle_moves : (e : Plain S W M) (s : State) → Represents present stands older e s → e.now ≡ now.Idle → Moves present stands older (move.Pauses pause.NoMore) s e
+  pub idle_moves : (e : Plain S W M) (s : State) → Represents names present stands older e s → e.now ≡ now.Idle → Moves names present stands older (move.Pauses pause.NoMore) s e
   idle_moves e s r doing =
       let o = r.own in
       let same = next_is e o now.Idle doing r.engine in
-      let is : IsEngine present stands older e (idle o.world) = subst (λ (m : State). IsEngine present stands older e m) same r.engine in
-      (ends present stands older e o s NoMore r.same (last_step o [] (ap (λ (m : State). m.list) same) (ap (λ (m : State). m.stack) same)) doing is, ap phase_of doing)
+      let is : IsEngine names present stands older e (idle o.world) = subst (λ (m : State). IsEngine names present stands older e m) same r.engine in
+      (ends names present stands older e o s NoMore r.same (last_step o [] (ap (λ (m : State). m.list) same) (ap (λ (m : State). m.stack) same)) doing is, ap phase_of doing)

@@ -2,7 +2,7 @@
 use Rattle.std.proofs.Common.{◌≡◌, ◌<◌, ℕ, ◌+◌, List, [], ◌∷◌, true, false, inl, inr, length, refl, ap, ◌∙◌, sym, subst, arith, Vec, Global}
 use Rattle.std.specs.Prelude.{option_map}
 use Rattle.std.proofs.lemmas.Bool.{cases_Bool}
-use Rattle.iso_model.specs.declared.terms.Term.{Term}
+use Rattle.iso_atoms.specs.Texts.{KeepsTexts}
 use Rattle.iso_model.specs.Terms.Variables.{variables}
 use Rattle.iso_model.specs.Terms.Trees.{Tree, Variable, Integer, Name, Apply, End, More}
 use Rattle.iso_model.specs.Terms.TermOf.{term_of}
@@ -14,7 +14,8 @@ use Rattle.iso_model.specs.Search.Databases as databases
 use Rattle.iso_model.specs.Search.Walker.{State, Member, Goal, tried_clause, before, clause_size}
 use Rattle.iso_model.proofs.Search.CallLemmas.{clause_found, clause_missed}
 use Rattle.iso_store_core.specs.Presents.{Present, KeepsMarks}
-use Rattle.iso_plain.specs.Nodes.{EndsWith, ArePartsOf, IsTermOf}
+use Rattle.iso_plain.specs.Nodes.{EndsWith, ArePartsOf}
+use Rattle.iso_plain.specs.Written.{term_in}
 use Rattle.iso_plain.specs.declared.bodies.Node.{Node}
 use Rattle.iso_plain.specs.declared.clauses.Clause.{Clause}
 use Rattle.iso_plain.specs.declared.entries.Entered.{Entered}
@@ -33,6 +34,8 @@ use Rattle.iso_plain.specs.EngineStates.{IsEngine, Calls, links_of}
 use Rattle.iso_plain.proofs.StandingLemmas.{AddsLinks, chain_more, variables_more, next_behind}
 use Rattle.iso_plain.proofs.EnteringLemmas.{adds_none, placed_body}
 use Rattle.iso_plain.proofs.StoppedLemmas.{base_kept, choices_on}
+use Rattle.iso_plain.proofs.WorldLemmas.{world_on}
+use Rattle.iso_plain.proofs.WrittenLemmas.{term_is}
 
 -- the members that a clause brings: its body where it isn't `true`
 before_fact : (b : Body) (mark : ℕ) (rest : List Member) → is_true b ≡ true → before b mark rest ≡ rest
@@ -57,32 +60,33 @@ true_renamed n (If a b) = refl
 true_renamed n (Choose a b c) = refl
 
 -- a clause without parts has the body `true`, also with its variables renamed
-fact_true : (n : ℕ) (parts : List (Node Term)) (b : Body) → ArePartsOf IsTermOf parts b → parts ≡ [] → is_true (map_body (renaming_from n) b) ≡ true
-fact_true n parts b h none =
+fact_true : {G : Type 0} {Stands : G → Tree → Type 0} (n : ℕ) (parts : List (Node G)) (b : Body) → ArePartsOf Stands parts b → parts ≡ [] → is_true (map_body (renaming_from n) b) ≡ true
+fact_true {Stands = Stands} n parts b h none =
     elim (cases_Bool (is_true b)) [
       | inl fact ↦ true_renamed n b ∙ fact
-      | inr other ↦ absurd (let ends : EndsWith IsTermOf parts b = rw other at h in let some = ends.some in let many = ap length none in omega (arith, some, many))
+      | inr other ↦ absurd (let ends : EndsWith Stands parts b = rw other at h in let some = ends.some in let many = ap length none in omega (arith, some, many))
     ]
 
 -- one with parts has another
-body_untrue : (n : ℕ) (parts : List (Node Term)) (b : Body) → ArePartsOf IsTermOf parts b → 0 < length parts → (is_true (map_body (renaming_from n) b) ≡ false) × EndsWith IsTermOf parts b
-body_untrue n parts b h some =
+body_untrue : {G : Type 0} {Stands : G → Tree → Type 0} (n : ℕ) (parts : List (Node G)) (b : Body) → ArePartsOf Stands parts b → 0 < length parts → (is_true (map_body (renaming_from n) b) ≡ false) × EndsWith Stands parts b
+body_untrue {Stands = Stands} n parts b h some =
     elim (cases_Bool (is_true b)) [
       | inl fact ↦ absurd (let none : parts ≡ [] = rw fact at h in let many = ap length none in omega (arith, some, many))
       | inr other ↦ (true_renamed n b ∙ other, rw other at h)
     ]
 
-module _ {S W M : Type 0} (present : S → Present W) (stands : S → M → Present W → Type 0) (older : M → M → Type 0) where
+module _ {S W M : Type 0} (names : S → List (List ℕ)) (present : S → Present W) (stands : S → M → Present W → Type 0) (older : M → M → Type 0) where
   -- the engine with another store, other nodes and something else to do next
   abbrev pub onward : Plain S W M → S → Vec (Node W) Global → Now → Plain S W M
   onward e store nodes doing = record e { store = store; nodes = nodes; now = doing }
 
   -- The engine tried the clause, and these are the store and the nodes now.
   pub record Tried (e : Plain S W M) (attempt : Attempt W) (s : State) (call : Tree) (c : databases.Clause) (cs : List databases.Clause) (behind : List Member) (store : S) (nodes : Vec (Node W) Global) (k : Clause) : Type 0 where
-    pub calls : Calls present stands older e attempt s call c cs behind
+    pub calls : Calls names present stands older e attempt s call c cs behind
     pub keeps : KeepsMarks (stands e.store) (stands store)
+    pub texts : KeepsTexts (names e.store) (names store)
     pub adds : Adds e.nodes.items nodes.items
-    pub is : IsClause k c
+    pub is : IsClause (names e.store) k c
 
   module _ (e : Plain S W M) (attempt : Attempt W) (s : State) (call : Tree) (c : databases.Clause) (cs : List databases.Clause) (behind : List Member) (store : S) (nodes : Vec (Node W) Global) (k : Clause) (mark : ℕ)
       (t : Tried e attempt s call c cs behind store nodes k) where
@@ -92,34 +96,37 @@ module _ {S W M : Type 0} (present : S → Present W) (stands : S → M → Pres
     abbrev q : Present W
     q = present store
 
+    head_is : term_in (names e.store) k.head ≡ c.head
+    head_is = term_is (names e.store) k.head c.head t.is.head
+
     abbrev links : Links W
     links = record { nodes = nodes.items; frames = e.frames.items }
 
     -- the parts that don't depend on what comes next
     with_next : (doing : Now) (v : State) → v.world ≡ s.world → v.steps ≡ s.steps → v.stack ≡ s.stack → v.query ≡ s.query
-        → DoesNext q links e.query.items doing (option_map (λ b. term_of b.term) e.raised) v → IsEngine present stands older (onward e store nodes doing) v
+        → DoesNext q links e.query.items doing (option_map (λ b. term_of b.term) e.raised) v → IsEngine names present stands older (onward e store nodes doing) v
     with_next doing v world steps stack query next =
         let h = t.calls in
         let w = h.world in
         record {
-          world = rw world (record { procedures_are = w.procedures_are; operators_are = w.operators_are; flags_are = w.flags_are });
+          world = rw world (world_on t.texts w);
           steps = steps ∙ h.steps;
           base = base_kept (stands e.store) (stands store) e.base t.keeps h.base;
-          choices = rw (world, stack, query) (choices_on present stands older e store nodes e.frames s.world (variables s.query) s.stack t.keeps t.adds (adds_none e.frames.items) h.choices);
+          choices = rw (world, stack, query) (choices_on names present stands older e store nodes e.frames s.world (variables s.query) s.stack t.keeps t.adds (adds_none e.frames.items) h.choices);
           room = rw stack h.room;
           next = next;
         }
 
-    pub missed_engine : NeverEqual (apply p.substitution (p.term attempt.goal)) (apply p.substitution (renamed p.next (term_of k.head))) → IsEngine present stands older (onward e store nodes now.Failing) (tried_clause call c mark behind s)
+    pub missed_engine : NeverEqual (apply p.substitution (p.term attempt.goal)) (apply p.substitution (renamed p.next (term_in (names e.store) k.head))) → IsEngine names present stands older (onward e store nodes now.Failing) (tried_clause call c mark behind s)
     missed_engine never =
         let at = (t.calls).at in
         let P : Tree → Subst → ℕ → Tree → Type 0 = λ a r n h. NeverEqual a (apply r (renamed n h)) in
-        let none : P call s.subst s.next c.head = rw (at.value, ← at.on.subst_is, ← at.on.next_is, ← t.is.head) never in
+        let none : P call s.subst s.next c.head = rw (at.value, ← at.on.subst_is, ← at.on.next_is, ← head_is) never in
         let is = clause_missed call c mark behind s none in
-        subst (λ (v : State). IsEngine present stands older (onward e store nodes now.Failing) v) (sym is) (with_next now.Failing _ refl refl refl refl ([], refl))
+        subst (λ (v : State). IsEngine names present stands older (onward e store nodes now.Failing) v) (sym is) (with_next now.Failing _ refl refl refl refl ([], refl))
 
     -- where members are still to be run
-    goes_on : (m : Meets p q (p.term attempt.goal) (term_of k.head) k.variables) (list : List Member)
+    goes_on : (m : Meets p q (p.term attempt.goal) (term_in (names e.store) k.head) k.variables) (list : List Member)
         → GoesOn q e.query.items (record s { list = list; subst = compose s.subst m.unifier; next = s.next + c.variables; built = s.built + clause_size c })
     goes_on m list =
         let at = (t.calls).at in
@@ -130,42 +137,42 @@ module _ {S W M : Type 0} (present : S → Present W) (stands : S → M → Pres
           words = variables_more m.words at.on.words;
         }
 
-    unifies : (m : Meets p q (p.term attempt.goal) (term_of k.head) k.variables) → Unifier call (apply s.subst (renamed s.next c.head)) m.unifier
+    unifies : (m : Meets p q (p.term attempt.goal) (term_in (names e.store) k.head) k.variables) → Unifier call (apply s.subst (renamed s.next c.head)) m.unifier
     unifies m =
         let at = (t.calls).at in
         let P : Tree → Subst → ℕ → Tree → Type 0 = λ a r n h. Unifier a (apply r (renamed n h)) m.unifier in
-        let here : P call s.subst s.next c.head = rw (at.value, ← at.on.subst_is, ← at.on.next_is, ← t.is.head) m.is in
+        let here : P call s.subst s.next c.head = rw (at.value, ← at.on.subst_is, ← at.on.next_is, ← head_is) m.is in
         here
 
     links_add : AddsLinks (links_of e) links
     links_add = record { nodes = t.adds; frames = adds_none e.frames.items }
 
-    pub fact_engine : Meets p q (p.term attempt.goal) (term_of k.head) k.variables → k.parts.items ≡ []
-        → IsEngine present stands older (onward e store nodes (now_behind e.frames.items attempt.rest)) (tried_clause call c mark behind s)
+    pub fact_engine : Meets p q (p.term attempt.goal) (term_in (names e.store) k.head) k.variables → k.parts.items ≡ []
+        → IsEngine names present stands older (onward e store nodes (now_behind e.frames.items attempt.rest)) (tried_clause call c mark behind s)
     fact_engine m none =
         let fact = before_fact (map_body (renaming_from s.next) c.body) mark behind (fact_true s.next k.parts.items c.body t.is.parts none) in
         let v : State = record s { list = before (map_body (renaming_from s.next) c.body) mark behind; subst = compose s.subst m.unifier; next = s.next + c.variables; built = s.built + clause_size c } in
         let next : DoesNext q links e.query.items (now_behind e.frames.items attempt.rest) (option_map (λ b. term_of b.term) e.raised) v =
         next_behind q links e.query.items (option_map (λ b. term_of b.term) e.raised) v attempt.rest behind fact (chain_more links links_add m.words (t.calls).at.on.chain) (goes_on m v.list) in
-        subst (λ (x : State). IsEngine present stands older (onward e store nodes (now_behind e.frames.items attempt.rest)) x) (sym (clause_found call c mark behind s m.unifier (unifies m)))
+        subst (λ (x : State). IsEngine names present stands older (onward e store nodes (now_behind e.frames.items attempt.rest)) x) (sym (clause_found call c mark behind s m.unifier (unifies m)))
         (with_next (now_behind e.frames.items attempt.rest) v refl refl refl refl next)
 
-    pub body_engine : (place : ℕ) → Meets p q (p.term attempt.goal) (term_of k.head) k.variables → Copies q (renaming_from p.next) e.nodes.items nodes.items k.parts.items → place + 1 ≡ length nodes.items → 0 < length k.parts.items
-        → IsEngine present stands older (onward e store nodes (now.Running (record { todo = todo.Body place; mark = mark; next = attempt.rest }))) (tried_clause call c mark behind s)
+    pub body_engine : (place : ℕ) → Meets p q (p.term attempt.goal) (term_in (names e.store) k.head) k.variables → Copies (names e.store) q (renaming_from p.next) e.nodes.items nodes.items k.parts.items → place + 1 ≡ length nodes.items → 0 < length k.parts.items
+        → IsEngine names present stands older (onward e store nodes (now.Running (record { todo = todo.Body place; mark = mark; next = attempt.rest }))) (tried_clause call c mark behind s)
     body_engine place m copies end some =
         let b = map_body (renaming_from s.next) c.body in
         let f : Frame = record { todo = todo.Body place; mark = mark; next = attempt.rest } in
         let body = body_untrue s.next k.parts.items c.body t.is.parts some in
         let v : State = record s { list = before b mark behind; subst = compose s.subst m.unifier; next = s.next + c.variables; built = s.built + clause_size c } in
-        let at : IsBody q nodes.items place (map_body (renaming_from p.next) c.body) = placed_body q (renaming_from p.next) c.variables e.nodes.items nodes.items k.parts.items c.body place body.1 t.is.goal_templates copies end in
+        let at : IsBody q nodes.items place (map_body (renaming_from p.next) c.body) = placed_body (names e.store) q (renaming_from p.next) c.variables e.nodes.items nodes.items k.parts.items c.body place body.1 t.is.goal_templates copies end in
         let here : IsBody q nodes.items place b = subst (λ (n : ℕ). IsBody q nodes.items place (map_body (renaming_from n) c.body)) (t.calls).at.on.next_is at in
         let next : DoesNext q links e.query.items (now.Running f) (option_map (λ b. term_of b.term) e.raised) v =
         (record { member = Goal b mark; behind = behind; is = before_body b mark behind body.0; stands = a_body refl here; chain = chain_more links links_add m.words (t.calls).at.on.chain }, goes_on m v.list) in
-        subst (λ (x : State). IsEngine present stands older (onward e store nodes (now.Running f)) x) (sym (clause_found call c mark behind s m.unifier (unifies m))) (with_next (now.Running f) v refl refl refl refl next)
+        subst (λ (x : State). IsEngine names present stands older (onward e store nodes (now.Running f)) x) (sym (clause_found call c mark behind s m.unifier (unifies m))) (with_next (now.Running f) v refl refl refl refl next)
 
     -- what an entry comes to
-    pub tried_engine : (entered : Entered) → Enters p q e.nodes.items nodes.items (p.term attempt.goal) k entered
-        → IsEngine present stands older (onward e store nodes (now_entered e.frames.items entered mark attempt.rest)) (tried_clause call c mark behind s)
+    pub tried_engine : (entered : Entered) → Enters (names e.store) p q e.nodes.items nodes.items (p.term attempt.goal) k entered
+        → IsEngine names present stands older (onward e store nodes (now_entered e.frames.items entered mark attempt.rest)) (tried_clause call c mark behind s)
     tried_engine entered.Missed never = missed_engine never
     tried_engine entered.Fact h = fact_engine h.0 h.1
     tried_engine (entered.Body place) h = body_engine place h.0 h.1 h.2 h.3

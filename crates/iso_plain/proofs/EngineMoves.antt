@@ -20,9 +20,9 @@ use Rattle.iso_model.specs.Search.RunLaws.SameRuns.{same_world}
 use Rattle.iso_plain.proofs.StoppedLemmas.{keeps_all}
 use Rattle.iso_plain.proofs.SearchMoves.{same_idle, world_settings, stops_here, stopped_behind}
 
-module _ {S W M : Type 0} (present : S → Present W) (stands : S → M → Present W → Type 0) (older : M → M → Type 0) where
+module _ {S W M : Type 0} (names : S → List (List ℕ)) (present : S → Present W) (stands : S → M → Present W → Type 0) (older : M → M → Type 0) where
   -- an engine that is awake stands for what it represents
-  pub awake_stands : (n : Now) (e : Plain S W M) (s : State) → engines.IsAwake (phase_of n) → StandsBy present stands older n e s → Represents present stands older e s
+  pub awake_stands : (n : Now) (e : Plain S W M) (s : State) → engines.IsAwake (phase_of n) → StandsBy names present stands older n e s → Represents names present stands older e s
   awake_stands now.Idle e s awake r = r
   awake_stands now.Failing e s awake r = r
   awake_stands now.Answering e s awake r = r
@@ -30,7 +30,7 @@ module _ {S W M : Type 0} (present : S → Present W) (stands : S → M → Pres
   awake_stands now.Raising e s awake r = r
   awake_stands (now.Spent limit) e s awake r = absurd awake
 
-  pub ready_stands : (n : Now) (e : Plain S W M) (s : State) → phase_of n ≡ engines.Ready → StandsBy present stands older n e s → Represents present stands older e s
+  pub ready_stands : (n : Now) (e : Plain S W M) (s : State) → phase_of n ≡ engines.Ready → StandsBy names present stands older n e s → Represents names present stands older e s
   ready_stands now.Idle e s ready r = r
   ready_stands now.Failing e s ready r = r
   ready_stands now.Answering e s ready r = r
@@ -39,10 +39,10 @@ module _ {S W M : Type 0} (present : S → Present W) (stands : S → M → Pres
   ready_stands (now.Spent limit) e s ready r = absurd (cc)
 
   -- an engine keeps the operators and the flags of the states that it stands for
-  represents_settings : (e : Plain S W M) (s : State) → Represents present stands older e s → settings_of e ≡ settings_in s.world
-  represents_settings e s r = world_settings present stands older e r.own.world r.engine.world ∙ ap settings_in (same_world r.same)
+  represents_settings : (e : Plain S W M) (s : State) → Represents names present stands older e s → settings_of e ≡ settings_in s.world
+  represents_settings e s r = world_settings names present stands older e r.own.world r.engine.world ∙ ap settings_in (same_world r.same)
 
-  pub stands_settings : (n : Now) (e : Plain S W M) (s : State) → StandsBy present stands older n e s → settings_of e ≡ settings_in s.world
+  pub stands_settings : (n : Now) (e : Plain S W M) (s : State) → StandsBy names present stands older n e s → settings_of e ≡ settings_in s.world
   stands_settings now.Idle e s r = represents_settings e s r
   stands_settings now.Failing e s r = represents_settings e s r
   stands_settings now.Answering e s r = represents_settings e s r
@@ -50,16 +50,16 @@ module _ {S W M : Type 0} (present : S → Present W) (stands : S → M → Pres
   stands_settings now.Raising e s r = represents_settings e s r
   stands_settings (now.Spent limit) e s r = r.settings
 
-  pub represents_stands : (n : Now) (e : Plain S W M) (s : State) → Represents present stands older e s → StandsBy present stands older n e s
+  pub represents_stands : (n : Now) (e : Plain S W M) (s : State) → Represents names present stands older e s → StandsBy names present stands older n e s
   represents_stands now.Idle e s r = r
   represents_stands now.Failing e s r = r
   represents_stands now.Answering e s r = r
   represents_stands (now.Running frame) e s r = r
   represents_stands now.Raising e s r = r
-  represents_stands (now.Spent limit) e s r = stops_here present stands older e r.own s r.same (keeps_all present stands older e r.own r.engine)
+  represents_stands (now.Spent limit) e s r = stops_here names present stands older e r.own s r.same (keeps_all names present stands older e r.own r.engine)
 
   -- a spent engine
-  pub spent_stands : (limit : Limit) (n : Now) (e : Plain S W M) (s : State) → phase_of n ≡ engines.Spent limit → Stopped present stands older e s → StandsBy present stands older n e s
+  pub spent_stands : (limit : Limit) (n : Now) (e : Plain S W M) (s : State) → phase_of n ≡ engines.Spent limit → Stopped names present stands older e s → StandsBy names present stands older n e s
   spent_stands limit now.Idle e s h stopped = absurd (cc h)
   spent_stands limit now.Failing e s h stopped = absurd (cc h)
   spent_stands limit now.Answering e s h stopped = absurd (cc h)
@@ -67,17 +67,17 @@ module _ {S W M : Type 0} (present : S → Present W) (stands : S → M → Pres
   spent_stands limit now.Raising e s h stopped = absurd (cc h)
   spent_stands limit (now.Spent k) e s h stopped = stopped
 
-  spent_behind : (limit : Limit) (n : Now) (e : Plain S W M) (s t : State) → phase_of n ≡ engines.Spent limit → settings_of e ≡ settings_in s.world → Quiet s t → StandsBy present stands older n e t → StandsBy present stands older n e s
+  spent_behind : (limit : Limit) (n : Now) (e : Plain S W M) (s t : State) → phase_of n ≡ engines.Spent limit → settings_of e ≡ settings_in s.world → Quiet s t → StandsBy names present stands older n e t → StandsBy names present stands older n e s
   spent_behind limit now.Idle e s t h same q stopped = absurd (cc h)
   spent_behind limit now.Failing e s t h same q stopped = absurd (cc h)
   spent_behind limit now.Answering e s t h same q stopped = absurd (cc h)
   spent_behind limit (now.Running frame) e s t h same q stopped = absurd (cc h)
   spent_behind limit now.Raising e s t h same q stopped = absurd (cc h)
-  spent_behind limit (now.Spent k) e s t h same q stopped = stopped_behind present stands older e s t same q stopped
+  spent_behind limit (now.Spent k) e s t h same q stopped = stopped_behind names present stands older e s t same q stopped
 
   -- what comes behind steps without an event
-  pub pauses_behind : (e : Plain S W M) (s t : State) (p : Pause) → settings_of e ≡ settings_in s.world → Quiet s t → engines.Pauses t p (StandsFor present stands older e) (phase_of e.now)
-      → engines.Pauses s p (StandsFor present stands older e) (phase_of e.now)
+  pub pauses_behind : (e : Plain S W M) (s t : State) (p : Pause) → settings_of e ≡ settings_in s.world → Quiet s t → engines.Pauses t p (StandsFor names present stands older e) (phase_of e.now)
+      → engines.Pauses s p (StandsFor names present stands older e) (phase_of e.now)
   pauses_behind e s t (pause.Answer values) same q h = (comes_behind q h.0, h.1)
   pauses_behind e s t (pause.Output bytes) same q h = (comes_behind q h.0, h.1)
   pauses_behind e s t pause.NoMore same q h = (finishes_behind q h.0, h.1)
@@ -89,12 +89,12 @@ module _ {S W M : Type 0} (present : S → Present W) (stands : S → M → Pres
   pauses_behind e s t pause.NoMemory same q h = (spent_behind _ e.now e s t h.1 same q h.0, h.1)
   pauses_behind e s t pause.Spent same q h = absurd h
 
-  idle_stands : (e : Plain S W M) (w : World) → IsEngine present stands older e (idle w) → StandsFor present stands older e (idle w)
+  idle_stands : (e : Plain S W M) (w : World) → IsEngine names present stands older e (idle w) → StandsFor names present stands older e (idle w)
   idle_stands e w is = represents_stands e.now e (idle w) (record { own = idle w; engine = is; same = same_idle w })
 
   -- what adding a clause comes to
-  pub consults_stand : (a : Addition) (s : State) (result : Result Unit AddFault) (e : Plain S W M) → Comes present stands older a s.world result e
-      → engines.Consults a s result (StandsFor present stands older e)
+  pub consults_stand : (a : Addition) (s : State) (result : Result Unit AddFault) (e : Plain S W M) → Comes names present stands older a s.world result e
+      → engines.Consults a s result (StandsFor names present stands older e)
   consults_stand (Adds db) s (Ok u) e comes = idle_stands e (record s.world { database = db }) comes
   consults_stand (Refuses error) s (Ok u) e comes = absurd comes
   consults_stand (Adds db) s (Err (add.Refused ball)) e comes = absurd comes

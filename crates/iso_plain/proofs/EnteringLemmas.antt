@@ -1,7 +1,7 @@
 -- What makers add to a store, call by call.
 use Rattle.std.proofs.Common.{◌≡◌, ℕ, zero, suc, ◌+◌, ◌-◌, List, [], ◌∷◌, ◌++◌, Bool, true, false, ◌<◌, ◌≤◌, length, take, drop, get_or, add-one, append_assoc, append-nil, length-append, ◌==◌, refl, ap, sym, ◌∙◌, subst, arith}
 use Rattle.std.proofs.Math.Seq.{drop-cons, take-suc}
-use Rattle.iso_model.specs.declared.terms.Term.{Term}
+use Rattle.iso_store_core.specs.declared.patterns.Pattern.{Pattern}
 use Rattle.iso_model.specs.Terms.Trees.{Tree, Variable, Integer, Name, Apply, End, More, count}
 use Rattle.iso_model.specs.Search.Bodies.{Body, map_body}
 use Rattle.iso_model.specs.Search.Databases.{key_of}
@@ -11,10 +11,12 @@ use Rattle.iso_model.specs.Terms.Copies.{numbers_from, renamed}
 use Rattle.iso_store_core.specs.Presents.{Present, meaning, IsUnification, Binds, KeepsWords, Makes, MovesOn, KeepsNumbers}
 use Rattle.iso_plain.specs.Standing.{AreVariables, no_word, one_word, IsGoalWord, IsBody}
 use Rattle.iso_plain.specs.Entering.{Extends, Adds, IsMade, Copies, CopiesPart, Meets, GoalFits, PartsFit}
-use Rattle.iso_plain.specs.Nodes.{EndsWith, IfGoal, AreAlike, EachGoal, IsTermOf}
+use Rattle.iso_plain.specs.Nodes.{EndsWith, IfGoal, AreAlike, EachGoal}
+use Rattle.iso_plain.specs.Written.{IsPatternOf}
 use Rattle.iso_plain.specs.Kept.{IsKeptGoal}
 use Rattle.iso_plain.specs.declared.bodies.Node.{Node}
 use Rattle.iso_plain.proofs.NodeLemmas.{alike_so, alike_push, alike_length, any_goal, tree_alike}
+use Rattle.iso_plain.proofs.WrittenLemmas.{term_is}
 use Rattle.std.proofs.lemmas.Bool.{eqb-true, eq-eqb, true≢false}
 
 pub words_same : {W : Type 0} (p : Present W) → KeepsWords p p
@@ -110,27 +112,27 @@ meets {p = p} {q = q} {r = r} {s = s} {v = v} head t {count = count} e m k held 
 
 -- ---- parts are copied
 
-pub copies_none : {W : Type 0} (p : Present W) (s : Subst) (old : List (Node W)) → Copies p s old old []
+pub copies_none : {names : List (List ℕ)} {W : Type 0} (p : Present W) (s : Subst) (old : List (Node W)) → Copies names p s old old []
 copies_none p s old = record { more = []; are = sym (append-nil old); nodes = tt }
 
 -- a copied part more
-pub copies_push : {W : Type 0} {p q : Present W} {s : Subst} (old new : List (Node W)) (parts : List (Node Term)) (i : ℕ) (part : Node Term) (n : Node W) → i < length parts → part ≡ get_or parts i part
-    → Copies p s old new (take i parts) → CopiesPart p q s part n → Copies q s old (new ++ n ∷ []) (take (i + 1) parts)
-copies_push {p = p} {q = q} {s = s} old new parts i part n within is h made =
+pub copies_push : {names : List (List ℕ)} {W : Type 0} {p q : Present W} {s : Subst} (old new : List (Node W)) (parts : List (Node Pattern)) (i : ℕ) (part : Node Pattern) (n : Node W) → i < length parts → part ≡ get_or parts i part
+    → Copies names p s old new (take i parts) → CopiesPart names p q s part n → Copies names q s old (new ++ n ∷ []) (take (i + 1) parts)
+copies_push {names = names} {p = p} {q = q} {s = s} old new parts i part n within is h made =
     let next : take (i + 1) parts ≡ take i parts ++ part ∷ [] = rw (add-one, take-suc parts i part within, ← is) refl in
-    let on : (g : Term) (w : _) → Unit {0} → IsMade p s g w → IsMade q s g w = λ g w u m. (made.extends.words.stand w m.0, made.extends.words.terms w m.0 ∙ m.1) in
-    let before : AreAlike (IsMade q s) (take i parts) h.more = alike_so on (take i parts) h.more (any_goal (take i parts)) h.nodes in
+    let on : (g : Pattern) (w : _) → Unit {0} → IsMade names p s g w → IsMade names q s g w = λ g w u m. (made.extends.words.stand w m.0, made.extends.words.terms w m.0 ∙ m.1) in
+    let before : AreAlike (IsMade names q s) (take i parts) h.more = alike_so on (take i parts) h.more (any_goal (take i parts)) h.nodes in
     record {
       more = h.more ++ n ∷ [];
       are = ap (λ (xs : List (Node _)). xs ++ n ∷ []) h.are ∙ append_assoc old h.more (n ∷ []);
-      nodes = subst (λ xs. AreAlike (IsMade q s) xs (h.more ++ n ∷ [])) (sym next) (alike_push (IsMade q s) (take i parts) h.more part n before made.is);
+      nodes = subst (λ xs. AreAlike (IsMade names q s) xs (h.more ++ n ∷ [])) (sym next) (alike_push (IsMade names q s) (take i parts) h.more part n before made.is);
     }
 
 -- the next part fits
-pub fits_next : (n : ℕ) (parts : List (Node Term)) (i : ℕ) (part : Node Term) → i < length parts → part ≡ get_or parts i part → PartsFit n (drop i parts) → IfGoal (GoalFits n) part × PartsFit n (drop (i + 1) parts)
-fits_next n parts i part within is h =
+pub fits_next : (names : List (List ℕ)) (n : ℕ) (parts : List (Node Pattern)) (i : ℕ) (part : Node Pattern) → i < length parts → part ≡ get_or parts i part → PartsFit names n (drop i parts) → IfGoal (GoalFits names n) part × PartsFit names n (drop (i + 1) parts)
+fits_next names n parts i part within is h =
     let next : drop i parts ≡ part ∷ drop (i + 1) parts = rw (drop-cons parts i part within, ← is, add-one) refl in
-    subst (PartsFit n) next h
+    subst (PartsFit names n) next h
 
 -- whether there are parts
 pub no_parts : {X : Type 0} (xs : List X) (b : Bool) → b ≡ length xs == 0 → b ≡ true → xs ≡ []
@@ -142,24 +144,24 @@ some_parts [] b is e = absurd (true≢false (sym (eq-eqb 0 0 refl) ∙ (sym is �
 some_parts (x ∷ xs) b is e = omega arith
 
 -- where some parts were copied there are some nodes
-pub copies_some : {W : Type 0} {p : Present W} {s : Subst} {old new : List (Node W)} {parts : List (Node Term)} → Copies p s old new parts → 0 < length parts → 0 < length new
-copies_some {p = p} {s = s} {old = old} {new = new} {parts = parts} h some =
-    (let all = ap length h.are in let more = length-append old h.more in let same = alike_length (IsMade p s) parts h.more h.nodes in omega (arith, all, more, same, some))
+pub copies_some : {names : List (List ℕ)} {W : Type 0} {p : Present W} {s : Subst} {old new : List (Node W)} {parts : List (Node Pattern)} → Copies names p s old new parts → 0 < length parts → 0 < length new
+copies_some {names = names} {p = p} {s = s} {old = old} {new = new} {parts = parts} h some =
+    (let all = ap length h.are in let more = length-append old h.more in let same = alike_length (IsMade names p s) parts h.more h.nodes in omega (arith, all, more, same, some))
 
 -- ---- the copied parts of a body are the body, under the substitution
 
-module _ {W : Type 0} (q : Present W) (s : Subst) (n : ℕ) where
+module _ {W : Type 0} (names : List (List ℕ)) (q : Present W) (s : Subst) (n : ℕ) where
   -- a goal that can be kept was made
-  abbrev IsKeptMade : Term → W → Type 0
-  IsKeptMade g w = IsKeptGoal n g × IsMade q s g w
+  abbrev IsKeptMade : Pattern → W → Type 0
+  IsKeptMade g w = IsKeptGoal names n g × IsMade names q s g w
 
-  kept_means : (g : Term) (w : W) (t : Tree) → IsKeptMade g w → IsTermOf g t → IsGoalWord q w (apply s t)
-  kept_means g w t h is = (h.1.0, ap (apply s) is ∙ sym h.1.1)
+  kept_means : (g : Pattern) (w : W) (t : Tree) → IsKeptMade g w → IsPatternOf names g t → IsGoalWord q w (apply s t)
+  kept_means g w t h is = (h.1.0, ap (apply s) (sym (term_is names g t is)) ∙ sym h.1.1)
 
-  pub placed_body : (old new : List (Node W)) (parts : List (Node Term)) (b : Body) (place : ℕ) → EndsWith IsTermOf parts b → EachGoal (IsKeptGoal n) parts → Copies q s old new parts → place + 1 ≡ length new
+  pub placed_body : (old new : List (Node W)) (parts : List (Node Pattern)) (b : Body) (place : ℕ) → EndsWith (IsPatternOf names) parts b → EachGoal (IsKeptGoal names n) parts → Copies names q s old new parts → place + 1 ≡ length new
       → IsBody q new place (map_body s b)
   placed_body old new parts b place ends goals copies last =
-      let gives : (g : Term) (w : W) → IsKeptGoal n g → IsMade q s g w → IsKeptMade g w = λ g w kept made. (kept, made) in
+      let gives : (g : Pattern) (w : W) → IsKeptGoal names n g → IsMade names q s g w → IsKeptMade g w = λ g w kept made. (kept, made) in
       let alike : AreAlike IsKeptMade parts copies.more = alike_so gives parts copies.more goals copies.nodes in
       let tree : IsBody q (old ++ copies.more) (length old + (length parts - 1)) (map_body s b) = tree_alike IsKeptMade s kept_means old copies.more alike ends.last in
       let many = alike_length IsKeptMade parts copies.more alike in

@@ -1,27 +1,11 @@
--- Goals that are called: their arguments, their variables and what running them comes to.
-use Rattle.std.proofs.Common.{◌≡◌, ℕ, zero, suc, ◌+◌, ◌<◌, ◌≤◌, List, [], ◌∷◌, ◌++◌, true, false, refl, sym, ap, ap₂, ◌∙◌, subst, arith, inl, inr, Option, Some, None, option_map, nat_le, nat_lt, if◌then◌else◌, Err, Ok}
-use Rattle.std.proofs.lemmas.Bool.{cases_Bool, and_parts, false≢true, leb-true, le-leb, ltb-true, ltb-false}
-use Rattle.iso_model.specs.declared.terms.Term.{Term}
+-- Goals that are called, and their arguments.
+use Rattle.std.proofs.Common.{◌≡◌, ℕ, zero, suc, ◌+◌, ◌-◌, ◌<◌, ◌≤◌, List, [], ◌∷◌, ◌++◌, map, length, true, false, refl, sym, ap, ap₂, ◌∙◌, subst, arith, inl, inr, nat_le, nat_lt}
+use Rattle.std.proofs.lemmas.Bool.{cases_Bool, and_parts, false≢true, leb-true, ltb-true}
 use Rattle.iso_model.specs.Terms.Trees.{Tree, Variable, Integer, Name, Apply, End, More, count, row}
-use Rattle.iso_model.specs.Terms.TermOf.{term_of, row_of}
 use Rattle.iso_model.specs.Terms.Sorts.{is_term, is_row}
 use Rattle.iso_model.specs.Terms.Arguments.{arguments, arity, member, argument, others, joined, with_arguments}
-use Rattle.iso_model.specs.Terms.Variables.{distinct_from, variables}
-use Rattle.iso_model.specs.Terms.Copies.{place_of, copy_from}
-use Rattle.iso_model.specs.Search.Bodies.{Body, converted, map_body}
-use Rattle.iso_model.specs.Search.BuiltIns.{Reply, Raises, goal_reply, converted_reply}
-use Rattle.iso_model.specs.Search.Databases.{Key, key_of}
-use Rattle.iso_model.specs.Search.Errors.{type_error_callable, max_arity_error}
 use Rattle.iso_store_core.specs.Arguments.{members_from}
-use Rattle.iso_store_core.specs.Presents.{Present}
-use Rattle.iso_prep.specs.Conversions.{numbers}
-use Rattle.iso_prep.specs.declared.fault.Fault.TheVariants as fault
-use Rattle.iso_prep.specs.Preparations.{Preparation, PreparesGoal}
-use Rattle.iso_plain.specs.declared.bodies.Node.{Node}
-use Rattle.iso_plain.specs.declared.goals.Placed.{Placed}
-use Rattle.iso_plain.specs.declared.goals.Placed.TheVariants as placed
-use Rattle.iso_plain.specs.Replies.{HasName, IsBound, IsGoalReady, called_of, limited, IsRunAs}
-use Rattle.iso_plain.proofs.RenamingLemmas.{converted-renamed}
+use Rattle.iso_plain.specs.Replies.{HasName, HasNoName, called_of}
 
 -- ---- lists of terms
 
@@ -64,6 +48,10 @@ module _ {W : Type 0} (f : W → Tree) where
   pub joined_push : (ws : List W) (w : W) (m : Tree) → joined (row (map f (ws ++ w ∷ []))) m ≡ joined (row (map f ws)) (More (f w) m)
   joined_push [] w m = refl
   joined_push (v ∷ ws) w m = ap (More (f v)) (joined_push ws w m)
+
+pub row_length : {W : Type 0} (f : W → Tree) (ws : List W) → count (row (map f ws)) ≡ length ws
+row_length f [] = refl
+row_length f (w ∷ ws) = let more = row_length f ws in omega (arith, more)
 
 count_joined : (ts us : Tree) → is_row ts ≡ true → count (joined ts us) ≡ count ts + count us
 count_joined (Variable n) us h = absurd (false≢true h)
@@ -180,6 +168,13 @@ module _ (t : Tree) (fits : is_term t ≡ true) (some : 0 < arity t) where
       named_with f (Integer z) (More u us) h some r = absurd h
       named_with f End (More u us) h some r = absurd h
       named_with f (More v vs) (More u us) h some r = absurd h
+
+  -- made of the values of words, its own arguments first
+  pub called_row : {W : Type 0} (m : W → Tree) (f : List ℕ) (none own all : List W) (u : Tree) → HasName f u → u ≡ argument 0 t → (arity t - 1 ≡ 0 → ⊥) → none ≡ []
+      → row (map m own) ≡ joined (row (map m none)) (members_from 0 (arguments u)) → row (map m all) ≡ joined (row (map m own)) (members_from 1 (arguments t)) → Apply f (row (map m all)) ≡ called_of t
+  called_row m f none own all u named first many empty own_are all_are =
+      let begin : row (map m own) ≡ joined End (members_from 0 (arguments (argument 0 t))) = own_are ∙ ap₂ (λ ws v. joined (row (map m ws)) (members_from 0 (arguments v))) empty first in
+      called_named f (row (map m all)) (subst (HasName f) first named) many (all_are ∙ ap (λ us. joined us (members_from 1 (arguments t))) begin)
 
   -- and how many arguments it has then
   pub called_count : (f : List ℕ) → HasName f (argument 0 t) → (arity t - 1 ≡ 0 → ⊥) → arity (called_of t) ≡ arity (argument 0 t) + (arity t - 1)

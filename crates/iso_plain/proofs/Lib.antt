@@ -4,6 +4,7 @@ pub mod StandingLemmas
 pub mod CostLemmas
 pub mod WeightLemmas
 pub mod NodeLemmas
+pub mod WrittenLemmas
 pub mod PatternLemmas
 pub mod PlaceLemmas
 pub mod EnteringLemmas
@@ -12,6 +13,8 @@ pub mod ClauseLemmas
 pub mod RenamingLemmas
 pub mod PrepareLemmas
 pub mod ProgramLemmas
+pub mod WorldLemmas
+pub mod AddingLemmas
 pub mod KeptLemmas
 pub mod CountLemmas
 pub mod EngineLemmas
@@ -42,3 +45,4 @@ pub mod StoppedLemmas
 pub mod ControlNames
 pub mod ConvertedLemmas
 pub mod ConversionLemmas
+pub mod CallableLemmas

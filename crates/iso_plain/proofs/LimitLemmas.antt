@@ -1,5 +1,5 @@
 -- Where the frames are full the search has as many alternatives.
-use Rattle.std.proofs.Common.{refl, ◌∙◌, Result, Ok, Err}
+use Rattle.std.proofs.Common.{ℕ, List, refl, ◌∙◌, Result, Ok, Err}
 use Rattle.iso_model.specs.declared.pauses.Pause.{Pause}
 use Rattle.iso_model.specs.declared.pauses.Pause.TheVariants as pause
 use Rattle.iso_store_core.specs.declared.shapes.StoreFault.{StoreFault}
@@ -8,6 +8,8 @@ use Rattle.iso_plain.specs.declared.plain.Move.TheVariants as move
 use Rattle.iso_plain.specs.Stays.{Stays}
 use Rattle.iso_plain.specs.declared.plain.Plain.{Plain}
 use Rattle.iso_plain.specs.Limits.{WhereFull, MoveFull, ResultFull}
+use Rattle.iso_store_core.proofs.AtomLemmas.{keeps-then}
+use Rattle.iso_plain.proofs.WorldLemmas.{all_texts}
 
 -- ---- a fact for another
 
@@ -33,8 +35,16 @@ result_full (Err e) f h = tt
 
 -- ---- what stays
 
-pub stays_same : {S W M : Type 0} (e : Plain S W M) → Stays e e
-stays_same e = record { limit = refl; settings = refl; procedures = refl; within = λ h. h }
+pub stays_same : {S W M : Type 0} (names : S → List (List ℕ)) (e : Plain S W M) → Stays names e e
+stays_same names e = record { limit = refl; settings = refl; procedures = refl; callables = refl; controls = refl; names_kept = all_texts; within = λ h. h }
 
-pub stays_on : {S W M : Type 0} {old between new : Plain S W M} → Stays old between → Stays between new → Stays old new
-stays_on a b = record { limit = b.limit ∙ a.limit; settings = b.settings ∙ a.settings; procedures = b.procedures ∙ a.procedures; within = λ h. b.within (a.within h) }
+pub stays_on : {S W M : Type 0} (names : S → List (List ℕ)) {old between new : Plain S W M} → Stays names old between → Stays names between new → Stays names old new
+stays_on names {old = old} {between = between} {new = new} a b = record {
+  limit = b.limit ∙ a.limit;
+  settings = b.settings ∙ a.settings;
+  procedures = b.procedures ∙ a.procedures;
+  callables = b.callables ∙ a.callables;
+  controls = b.controls ∙ a.controls;
+  names_kept = keeps-then (names old.store) (names between.store) (names new.store) a.names_kept b.names_kept;
+  within = λ h. b.within (a.within h);
+}

@@ -1,5 +1,6 @@
 -- Goals that run a goal, or that succeed again and again.
 use Rattle.std.proofs.Common.{◌≡◌, ℕ, suc, ◌+◌, ◌<◌, ◌≤◌, ◌++◌, List, [], ◌∷◌, length, Option, Some, refl, ap, sym, ◌∙◌, subst, arith, Vec, Global}
+use Rattle.iso_atoms.specs.Texts.{KeepsTexts}
 use Rattle.iso_model.specs.Search.Bodies.{Body}
 use Rattle.iso_model.specs.Search.Walker.{State, Goal, CutTo, Fail, AsIs, Again, pushed}
 use Rattle.iso_store_core.specs.Presents.{Present, KeepsMarks}
@@ -51,8 +52,8 @@ repeated_paid n c r w less =
     let b = cost_above most w in
     whole_paid n w (c + suc r + r) (omega (arith, a, b, less))
 
-module _ {S W M : Type 0} (present : S → Present W) (stands : S → M → Present W → Type 0) (older : M → M → Type 0) where
-  module _ (e : Plain S W M) (s : State) (next : Option ℕ) (h : IsAhead present stands older e s next) where
+module _ {S W M : Type 0} (names : S → List (List ℕ)) (present : S → Present W) (stands : S → M → Present W → Type 0) (older : M → M → Type 0) where
+  module _ (e : Plain S W M) (s : State) (next : Option ℕ) (h : IsAhead names present stands older e s next) where
     rest : ℕ
     rest = place_cost e.frames.items next
 
@@ -71,16 +72,16 @@ module _ {S W M : Type 0} (present : S → Present W) (stands : S → M → Pres
     -- ---- for the first solution
 
     pub once_engine : (k : ℕ) (b : Body) (frames : Vec Frame Global) → IsBody (present e.store) e.nodes.items k b → frames.items ≡ e.frames.items ++ record { todo = todo.CutBack; mark = length e.choices.items; next = next } ∷ []
-        → IsEngine present stands older (record e { frames = frames; now = now.Running (record { todo = todo.Body k; mark = length e.choices.items; next = Some (length e.frames.items) }) }) (calling_once b s)
+        → IsEngine names present stands older (record e { frames = frames; now = now.Running (record { todo = todo.Body k; mark = length e.choices.items; next = Some (length e.frames.items) }) }) (calling_once b s)
     once_engine k b frames body come =
         let height = length e.choices.items in
         let same : height ≡ length s.stack = choices_length h.choices in
         let once : Frame = record { todo = todo.CutBack; mark = height; next = next } in
         let first : Frame = record { todo = todo.Body k; mark = height; next = Some (length e.frames.items) } in
         let new : Plain S W M = record e { frames = frames; now = now.Running first } in
-        let ahead = ahead_frame present stands older e s once (CutTo height) frames h (a_cut refl) come in
-        let engine = engine_frame present stands older (record e { frames = frames }) (record s { list = CutTo height ∷ s.list }) first (Goal b height) ahead (a_body refl body) in
-        subst (λ (n : ℕ). IsEngine present stands older new (record s { list = Goal b n ∷ CutTo n ∷ s.list })) same engine
+        let ahead = ahead_frame names present stands older e s once (CutTo height) frames h (a_cut refl) come in
+        let engine = engine_frame names present stands older (record e { frames = frames }) (record s { list = CutTo height ∷ s.list }) first (Goal b height) ahead (a_body refl body) in
+        subst (λ (n : ℕ). IsEngine names present stands older new (record s { list = Goal b n ∷ CutTo n ∷ s.list })) same engine
 
     pub once_falls : (k mark : ℕ) (b : Body) (frames : Vec Frame Global) (w : ℕ) → IsBody (present e.store) e.nodes.items k b → frames.items ≡ e.frames.items ++ record { todo = todo.CutBack; mark = mark; next = next } ∷ []
         → choices_cost e.procedures.items (frame_costs e.frames.items) e.choices.items + place_cost e.frames.items next + 1 ≤ w
@@ -94,13 +95,13 @@ module _ {S W M : Type 0} (present : S → Present W) (stands : S → M → Pres
 
     -- ---- again and again
 
-    pub repeat_engine : (store : S) (choices : Vec (kept.Choice W M) Global) → present store ≡ present e.store → KeepsMarks (stands e.store) (stands store)
+    pub repeat_engine : (store : S) (choices : Vec (kept.Choice W M) Global) → present store ≡ present e.store → KeepsMarks (stands e.store) (stands store) → KeepsTexts (names e.store) (names store)
         → GainsChoice (stands e.store) (stands store) older (present e.store) (length e.nodes.items) (length e.frames.items) (left.Again next) e.choices.items choices.items
-        → IsEngine present stands older (record e { store = store; choices = choices; now = now_behind e.frames.items next }) (pushed s.list Again s)
-    repeat_engine store choices same keeps gains =
-        let has = members_left present stands older e s next Again h in
-        let ahead = ahead_choice present stands older e s next store choices (left.Again next) Again h has refl same keeps gains in
-        engine_place present stands older (record e { store = store; choices = choices }) (pushed s.list Again s) next ahead
+        → IsEngine names present stands older (record e { store = store; choices = choices; now = now_behind e.frames.items next }) (pushed s.list Again s)
+    repeat_engine store choices same keeps texts gains =
+        let has = members_left names present stands older e s next Again h in
+        let ahead = ahead_choice names present stands older e s next store choices (left.Again next) Again h has refl same keeps texts gains in
+        engine_place names present stands older (record e { store = store; choices = choices }) (pushed s.list Again s) next ahead
 
     pub repeat_falls : {old new : M → Present W → Type 0} {p : Present W} {nodes stood : ℕ} (store : S) (choices : Vec (kept.Choice W M) Global) (w : ℕ)
         → GainsChoice old new older p nodes stood (left.Again next) e.choices.items choices.items → choices_cost e.procedures.items (frame_costs e.frames.items) e.choices.items + place_cost e.frames.items next + 1 ≤ w
@@ -113,14 +114,14 @@ module _ {S W M : Type 0} (present : S → Present W) (stands : S → M → Pres
 
     -- ---- where a body has no solution
 
-    module _ (store : S) (choices : Vec (kept.Choice W M) Global) (same : present store ≡ present e.store) (keeps : KeepsMarks (stands e.store) (stands store))
+    module _ (store : S) (choices : Vec (kept.Choice W M) Global) (same : present store ≡ present e.store) (keeps : KeepsMarks (stands e.store) (stands store)) (texts : KeepsTexts (names e.store) (names store))
         (gains : GainsChoice (stands e.store) (stands store) older (present e.store) (length e.nodes.items) (length e.frames.items) (left.AsIs next) e.choices.items choices.items) where
-      pub refute_ahead : IsAhead present stands older (record e { store = store; choices = choices }) (pushed s.list AsIs s) next
-      refute_ahead = ahead_choice present stands older e s next store choices (left.AsIs next) AsIs h (members_left present stands older e s next AsIs h) refl same keeps gains
+      pub refute_ahead : IsAhead names present stands older (record e { store = store; choices = choices }) (pushed s.list AsIs s) next
+      refute_ahead = ahead_choice names present stands older e s next store choices (left.AsIs next) AsIs h (members_left names present stands older e s next AsIs h) refl same keeps texts gains
 
       module _ (k mark : ℕ) (b : Body) (frames more : Vec Frame Global) (body : IsBody (present e.store) e.nodes.items k b) (come : frames.items ≡ e.frames.items ++ record { todo = todo.Fail; mark = mark; next = next } ∷ [])
           (come_more : more.items ≡ frames.items ++ record { todo = todo.CutBack; mark = length e.choices.items; next = Some (length e.frames.items) } ∷ []) where
-        pub refute_engine : IsEngine present stands older (record e { store = store; choices = choices; frames = more; now = now.Running (record { todo = todo.Body k; mark = length e.choices.items + 1; next = Some (length frames.items) }) }) (refuting b s)
+        pub refute_engine : IsEngine names present stands older (record e { store = store; choices = choices; frames = more; now = now.Running (record { todo = todo.Body k; mark = length e.choices.items + 1; next = Some (length frames.items) }) }) (refuting b s)
         refute_engine =
             let height = length e.choices.items in
             let alike : height ≡ length s.stack = choices_length h.choices in
@@ -131,12 +132,12 @@ module _ {S W M : Type 0} (present : S → Present W) (stands : S → M → Pres
             let mid : Plain S W M = record e { store = store; choices = choices } in
             let new : Plain S W M = record mid { frames = more; now = now.Running first } in
             let u : State = pushed s.list AsIs s in
-            let one = ahead_frame present stands older mid u fail Fail frames refute_ahead (a_failure refl) come in
-            let two = ahead_frame present stands older (record mid { frames = frames }) (record u { list = Fail ∷ s.list }) once (CutTo height) more one (a_cut refl) come_more in
+            let one = ahead_frame names present stands older mid u fail Fail frames refute_ahead (a_failure refl) come in
+            let two = ahead_frame names present stands older (record mid { frames = frames }) (record u { list = Fail ∷ s.list }) once (CutTo height) more one (a_cut refl) come_more in
             let there = subst (λ (q : Present W). IsBody q e.nodes.items k b) (sym same) body in
-            let engine = engine_frame present stands older (record mid { frames = more }) (record u { list = CutTo height ∷ Fail ∷ s.list }) first (Goal b (height + 1)) two (a_body refl there) in
-            subst (λ (n : ℕ). IsEngine present stands older new (record u { list = Goal b n ∷ CutTo (length s.stack) ∷ Fail ∷ s.list })) over
-            (subst (λ (n : ℕ). IsEngine present stands older new (record u { list = Goal b (height + 1) ∷ CutTo n ∷ Fail ∷ s.list })) alike engine)
+            let engine = engine_frame names present stands older (record mid { frames = more }) (record u { list = CutTo height ∷ Fail ∷ s.list }) first (Goal b (height + 1)) two (a_body refl there) in
+            subst (λ (n : ℕ). IsEngine names present stands older new (record u { list = Goal b n ∷ CutTo (length s.stack) ∷ Fail ∷ s.list })) over
+            (subst (λ (n : ℕ). IsEngine names present stands older new (record u { list = Goal b (height + 1) ∷ CutTo n ∷ Fail ∷ s.list })) alike engine)
 
     pub refute_falls : {old new : M → Present W → Type 0} {p : Present W} {nodes stood : ℕ} (store : S) (choices : Vec (kept.Choice W M) Global) (k mark cut : ℕ) (b : Body) (frames more : Vec Frame Global) (w : ℕ) → IsBody (present e.store) e.nodes.items k b
         → GainsChoice old new older p nodes stood (left.AsIs next) e.choices.items choices.items → frames.items ≡ e.frames.items ++ record { todo = todo.Fail; mark = mark; next = next } ∷ []

@@ -173,6 +173,15 @@ module _ {G H : Type 0} {Stands : G → Tree → Type 0} {Means : H → Tree →
       chooses (record { is = p.at ∙ ap Some (choose_like R c d p.part p.is) }) (behind_others (length front) a k c e) (behind_others (length front) i k d f) (behind_others (length front) j k 1 g) some other
       (tree_alike ys h first) (tree_alike ys h second) (tree_alike ys h third)
 
+-- goals that stand for terms in another way
+pub tree_keep : {G : Type 0} {Old New : G → Tree → Type 0} {parts : List (Node G)} {i : ℕ} {b : Body} → ((g : G) (t : Tree) → Old g t → New g t) → IsTree Old parts i b → IsTree New parts i b
+tree_keep keeps (runs {g = g} {t = t} at stands) = runs at (keeps g t stands)
+tree_keep keeps (cuts at) = cuts at
+tree_keep keeps (joins at first second some a b) = joins at first second some (tree_keep keeps a) (tree_keep keeps b)
+tree_keep keeps (branches at first second some a b) = branches at first second some (tree_keep keeps a) (tree_keep keeps b)
+tree_keep keeps (commits at first second some a b) = commits at first second some (tree_keep keeps a) (tree_keep keeps b)
+tree_keep keeps (chooses at first second third some also a b c) = chooses at first second third some also (tree_keep keeps a) (tree_keep keeps b) (tree_keep keeps c)
+
 -- ---- bodies that were made ready
 
 -- the goal that the borrowed term is
@@ -191,7 +200,7 @@ tree_shown {cs} {k} (prepared.commits {distance = d} at e f some first second) =
 tree_shown {cs} {k} (prepared.chooses {condition = c} {next = d} at e f g some other first second third) =
     chooses (at_shown cs k (construct.Choose c d) at) e f g some other (tree_shown first) (tree_shown second) (tree_shown third)
 
-map_none : (b : Body) → map_body Variable b ≡ b
+pub map_none : (b : Body) → map_body Variable b ≡ b
 map_none Cut = refl
 map_none (Run t) = ap Run (apply_none t)
 map_none (And a b) = ap₂ And (map_none a) (map_none b)

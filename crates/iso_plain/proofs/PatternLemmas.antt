@@ -2,15 +2,15 @@
 use Rattle.std.proofs.Common.{◌≡◌, ℕ, zero, suc, ◌+◌, ◌<◌, List, [], ◌∷◌, length, map, refl, ap, ap₂, ◌∙◌, subst, arith}
 use Rattle.std.specs.List.{All}
 use Rattle.std.proofs.lemmas.List.Elements.{All-nil, All-cons}
-use Rattle.iso_model.specs.declared.terms.Term.{Term}
 use Rattle.iso_model.specs.Terms.Trees.{Tree, Variable}
-use Rattle.iso_model.specs.Terms.TermOf.{term_of}
+use Rattle.iso_store_core.specs.declared.patterns.Pattern.{Pattern}
 use Rattle.iso_model.specs.Terms.Substitutions.{apply}
 use Rattle.iso_model.specs.Terms.Copies.{renamed, numbers_from}
 use Rattle.iso_model.specs.Terms.Unification.Applied.{apply_same}
 use Rattle.iso_store_core.specs.Presents.{Present, Holds, KeepsWords, Makes}
 use Rattle.iso_store_core.specs.Patterns.{HasPlaces, at_places}
 use Rattle.iso_plain.specs.declared.bodies.Node.{Node}
+use Rattle.iso_plain.specs.Written.{term_in}
 use Rattle.iso_plain.specs.Standing.{AreVariables, no_word, one_word}
 use Rattle.iso_plain.specs.Entering.{GoalFits, PartsFit, word_terms, renaming_from, IsMade, Copies}
 use Rattle.iso_plain.proofs.NodeLemmas.{alike_so}
@@ -49,8 +49,8 @@ pub made_renamed : {W : Type 0} {p q : Present W} (ws : List W) (first : ℕ) (w
 made_renamed {p = p} {q = q} ws first w t h below made = subst (λ u. Makes p q w u) (renamed_as ws first t h below) made
 
 -- and so are parts copied with them
-pub copies_renamed : {W : Type 0} {p q : Present W} (ws : List W) (first : ℕ) (old new : List (Node W)) (parts : List (Node Term)) → AreVariables p ws (numbers_from first (length ws)) → PartsFit (length ws) parts
-    → Copies q (word_terms p ws) old new parts → Copies q (renaming_from first) old new parts
-copies_renamed {p = p} {q = q} ws first old new parts h fits copies =
-    let gives : (g : Term) (w : _) → GoalFits (length ws) g → IsMade q (word_terms p ws) g w → IsMade q (renaming_from first) g w = λ g w fit made. (made.0, made.1 ∙ renamed_as ws first (term_of g) h fit.below) in
+pub copies_renamed : {names : List (List ℕ)} {W : Type 0} {p q : Present W} (ws : List W) (first : ℕ) (old new : List (Node W)) (parts : List (Node Pattern)) → AreVariables p ws (numbers_from first (length ws)) → PartsFit names (length ws) parts
+    → Copies names q (word_terms p ws) old new parts → Copies names q (renaming_from first) old new parts
+copies_renamed {names = names} {p = p} {q = q} ws first old new parts h fits copies =
+    let gives : (g : Pattern) (w : _) → GoalFits names (length ws) g → IsMade names q (word_terms p ws) g w → IsMade names q (renaming_from first) g w = λ g w fit made. (made.0, made.1 ∙ renamed_as ws first (term_in names g) h fit.fits.below) in
     record { more = copies.more; are = copies.are; nodes = alike_so gives parts copies.more fits copies.nodes }

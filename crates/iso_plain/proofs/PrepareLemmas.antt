@@ -21,9 +21,9 @@ use Rattle.iso_prep.specs.declared.fault.Fault.TheVariants as fault
 use Rattle.iso_prep.specs.Classes.{goals_of}
 use Rattle.iso_prep.specs.Conversions.{numbers}
 use Rattle.iso_prep.specs.Preparations.{Preparation, PreparesClause}
-use Rattle.iso_plain.specs.declared.clauses.Clause.{Clause}
+use Rattle.iso_plain.specs.declared.clauses.Checked.{Checked}
 use Rattle.iso_plain.specs.Nodes.{ArePartsOf, IsTermOf, EachGoal}
-use Rattle.iso_plain.specs.Kept.{IsTemplate, AreTemplates, IsKeptGoal, IsReady, IsRefused, Refuses, IsAddition, ChecksUser, Prepares}
+use Rattle.iso_plain.specs.Kept.{IsTemplate, AreTemplates, IsCheckedGoal, IsReady, IsRefused, Refuses, IsAddition, ChecksUser, Prepares}
 use Rattle.iso_plain.proofs.NumberLemmas.{place_known}
 use Rattle.iso_plain.proofs.RenamingLemmas.{is_term-renamed, key-renamed, head-renamed, body-renamed}
 use Rattle.iso_plain.proofs.ClauseLemmas.{body_templates}
@@ -140,7 +140,7 @@ module _ (t : Tree) (p : Preparation) (r : IsReady p t) where
       subst (λ b. AreTemplates (variable_count t) (goals_of b)) (sym (ap (λ q. q.body) r.is)) (body_templates (variable_count t) u r.body found.1 term below)
 
   -- and what is kept of it is the clause
-  pub addition : (kept : Clause) → term_of kept.head ≡ head_of (copy_from t 0) → ArePartsOf IsTermOf kept.parts.items p.body → EachGoal (IsKeptGoal (variable_count t)) kept.parts.items → kept.variables ≡ p.variables
+  pub addition : (kept : Checked) → term_of kept.head ≡ head_of (copy_from t 0) → ArePartsOf IsTermOf kept.parts.items p.body → EachGoal (IsCheckedGoal (variable_count t)) kept.parts.items → kept.variables ≡ p.variables
       → is_built_in r.key ≡ false → IsAddition t kept
   addition kept head parts goals count user = record {
     body = r.body;
@@ -154,11 +154,12 @@ module _ (t : Tree) (p : Preparation) (r : IsReady p t) where
       goal_templates = goals;
     };
     named = ap key_of head ∙ head_key;
+    user = user;
     fits = ap user_checked r.fits ∙ rw user refl;
   }
 
   -- or it is that of a built-in
-  pub built_in_refused : (k : Key) (e : AddFault) (x : Result Clause AddFault) → k ≡ r.key → IsErrAnd x (λ y. y ≡ e) → ChecksUser k (Err e) → Prepares t x
+  pub built_in_refused : (k : Key) (e : AddFault) (x : Result Checked AddFault) → k ≡ r.key → IsErrAnd x (λ y. y ≡ e) → ChecksUser k (Err e) → Prepares t x
   built_in_refused k e (Ok c) same is h = absurd is
   built_in_refused k (add.Refused ball) (Err y) same is h =
       let built : is_built_in r.key ≡ true = ap is_built_in (sym same) ∙ h.0 in

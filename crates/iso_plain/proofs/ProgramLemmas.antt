@@ -1,5 +1,5 @@
 -- The database as the engine keeps it: how a procedure is found, and how a clause comes to it.
-use Rattle.std.proofs.Common.{◌≡◌, ◌<◌, ◌≤◌, ◌+◌, ◌==◌, ◌⊎◌, ℕ, zero, suc, List, [], ◌∷◌, ◌++◌, length, get_or, set, refl, sym, ap, ap₂, ◌∙◌, arith, Bool, true, false, ◌&&◌, Some, None, inl, inr, position, nat_lt, length-append}
+use Rattle.std.proofs.Common.{◌≡◌, ◌<◌, ◌≤◌, ◌+◌, ◌==◌, ◌⊎◌, ℕ, zero, suc, List, [], ◌∷◌, ◌++◌, length, get_or, set, refl, sym, ap, ap₂, ◌∙◌, arith, Bool, true, false, ◌&&◌, Option, Some, None, option_map, if◌then◌else◌, inl, inr, position, nat_lt, length-append}
 use Rattle.std.specs.String.{string_bytes}
 use Rattle.std.specs.Str.{bytes_eq}
 use Rattle.std.specs.List.{position_or_len}
@@ -9,7 +9,8 @@ use Rattle.iso_model.specs.Search.Databases.{Key, Procedures, Static, same_key, 
 use Rattle.iso_plain.specs.declared.clauses.Clause.{Clause}
 use Rattle.iso_plain.specs.declared.procedures.Procedure.{Procedure}
 use Rattle.iso_plain.specs.Kept.{IsClause}
-use Rattle.iso_plain.specs.Programs.{AreClauses, no_clauses, more_clauses, IsProcedure, IsDatabase, no_procedures, more_procedures, has_key, place_at}
+use Rattle.iso_plain.specs.Programs.{AreClauses, no_clauses, more_clauses, IsProcedure, IsDatabase, no_procedures, more_procedures}
+use Rattle.iso_plain.specs.Callables.{has_key, place_at}
 
 -- ---- the first place that passes a test
 
@@ -50,6 +51,27 @@ none_from p xs h =
       | inr above ↦ rw above refl
     ]
 
+-- a place that was found is one of the list
+pub position_within : {X : Type 0} (p : X → Bool) (xs : List X) (n : ℕ) → position p xs ≡ Some n → n < length xs
+position_within p xs n h = (position_of p xs n h).1
+
+-- the first place, by a list's first element
+pub position_cons : {X : Type 0} (p : X → Bool) (x : X) (xs : List X) → position p (x ∷ xs) ≡ (if p x then Some 0 else option_map suc (position p xs))
+position_cons p x xs =
+    elim (cases_Bool (p x)) [
+      | inl here ↦ position_from p (x ∷ xs) 0 (here_first p x xs here) (omega arith) ∙ sym (ap (λ b. if b then Some 0 else option_map suc (position p xs)) here)
+      | inr later ↦ by_rest (position p xs) refl later ∙ sym (ap (λ b. if b then Some 0 else option_map suc (position p xs)) later)
+    ] where
+  by_rest : (o : Option ℕ) → position p xs ≡ o → p x ≡ false → position p (x ∷ xs) ≡ option_map suc o
+  by_rest (Some n) h later =
+      let at = position_of p xs n h in
+      let first = later_first p x xs later in
+      position_from p (x ∷ xs) (suc n) (omega (arith, first, at.0)) (omega (arith, at.1))
+  by_rest None h later =
+      let past = position_none p xs h in
+      let first = later_first p x xs later in
+      none_from p (x ∷ xs) (omega (arith, first, past))
+
 -- where a list's first place that passes is, by its first element
 pub found_cases : {X : Type 0} (p : X → Bool) (x : X) (xs : List X) (n : ℕ) → position p (x ∷ xs) ≡ Some n
     → ((p x ≡ true) × (n ≡ 0)) ⊎ ((m : ℕ) × (p x ≡ false) × (n ≡ suc m) × (position p xs ≡ Some m))
@@ -71,17 +93,17 @@ not_found_cases p x xs h =
 
 -- ---- a procedure by its key
 
-pub same_test : (kept : Procedure) (p : databases.Procedure) (k : Key) → IsProcedure kept p → has_key k kept ≡ same_key p.key k
+pub same_test : {names : List (List ℕ)} (kept : Procedure) (p : databases.Procedure) (k : Key) → IsProcedure names kept p → has_key k kept ≡ same_key p.key k
 same_test kept p k h = ap₂ (λ n a. n == k.arity && bytes_eq a k.name) h.arity h.name
 
 -- the procedure at the place is kept for one of the database, whose clauses these are
-pub record Found (ps : List Procedure) (db : Procedures) (k : Key) (n : ℕ) : Type 0 where
+pub record Found (names : List (List ℕ)) (ps : List Procedure) (db : Procedures) (k : Key) (n : ℕ) : Type 0 where
   pub procedure : databases.Procedure
   pub clauses : clauses_at db k ≡ Some procedure.clauses
-  pub is : (d : Procedure) → IsProcedure (get_or ps n d) procedure
+  pub is : (d : Procedure) → IsProcedure names (get_or ps n d) procedure
   pub within : n < length ps
 
-pub found_procedure : {ps : List Procedure} {db : Procedures} (k : Key) (n : ℕ) → IsDatabase ps db → place_at ps k ≡ Some n → Found ps db k n
+pub found_procedure : {names : List (List ℕ)} {ps : List Procedure} {db : Procedures} (k : Key) (n : ℕ) → IsDatabase names ps db → place_at ps k ≡ Some n → Found names ps db k n
 found_procedure k n no_procedures h = cc
 found_procedure {ps = kept ∷ ks} {db = p ∷ qs} k n (more_procedures i rest) h =
     elim (found_cases (has_key k) kept ks n h) [
@@ -102,7 +124,7 @@ found_procedure {ps = kept ∷ ks} {db = p ∷ qs} k n (more_procedures i rest) 
           })
     ]
 
-pub no_procedure : {ps : List Procedure} {db : Procedures} (k : Key) → IsDatabase ps db → place_at ps k ≡ None → clauses_at db k ≡ None
+pub no_procedure : {names : List (List ℕ)} {ps : List Procedure} {db : Procedures} (k : Key) → IsDatabase names ps db → place_at ps k ≡ None → clauses_at db k ≡ None
 no_procedure k no_procedures h = refl
 no_procedure {ps = kept ∷ ks} {db = p ∷ qs} k (more_procedures i rest) h =
     let parts = not_found_cases (has_key k) kept ks h in
@@ -111,7 +133,7 @@ no_procedure {ps = kept ∷ ks} {db = p ∷ qs} k (more_procedures i rest) h =
 
 -- ---- a clause comes
 
-pub clauses_push : {ks : List Clause} {cs : List databases.Clause} {kept : Clause} {c : databases.Clause} → AreClauses ks cs → IsClause kept c → AreClauses (ks ++ kept ∷ []) (cs ++ c ∷ [])
+pub clauses_push : {names : List (List ℕ)} {ks : List Clause} {cs : List databases.Clause} {kept : Clause} {c : databases.Clause} → AreClauses names ks cs → IsClause names kept c → AreClauses names (ks ++ kept ∷ []) (cs ++ c ∷ [])
 clauses_push no_clauses i = more_clauses i no_clauses
 clauses_push (more_clauses j rest) i = more_clauses j (clauses_push rest i)
 
@@ -121,7 +143,7 @@ pub record Grown (old new : Procedure) (kept : Clause) : Type 0 where
   pub arity : new.arity ≡ old.arity
   pub clauses : new.clauses.items ≡ old.clauses.items ++ kept ∷ []
 
-grown_is : (old new : Procedure) (p : databases.Procedure) (kept : Clause) (c : databases.Clause) → Grown old new kept → IsProcedure old p → IsClause kept c → IsProcedure new (record p { clauses = p.clauses ++ c ∷ [] })
+grown_is : {names : List (List ℕ)} (old new : Procedure) (p : databases.Procedure) (kept : Clause) (c : databases.Clause) → Grown old new kept → IsProcedure names old p → IsClause names kept c → IsProcedure names new (record p { clauses = p.clauses ++ c ∷ [] })
 grown_is old new p kept c g i h = record {
   name = ap string_bytes g.name ∙ i.name;
   arity = g.arity ∙ i.arity;
@@ -129,8 +151,8 @@ grown_is old new p kept c g i h = record {
   some = rw g.clauses (simp length-append (omega arith));
 }
 
-pub clause_comes : {ps : List Procedure} {db : Procedures} (k : Key) (n : ℕ) (old new : Procedure) (kept : Clause) (c : databases.Clause) → IsDatabase ps db → place_at ps k ≡ Some n
-    → old ≡ get_or ps n old → Grown old new kept → IsClause kept c → IsDatabase (set ps n new) (with_clause at_end db k c)
+pub clause_comes : {names : List (List ℕ)} {ps : List Procedure} {db : Procedures} (k : Key) (n : ℕ) (old new : Procedure) (kept : Clause) (c : databases.Clause) → IsDatabase names ps db → place_at ps k ≡ Some n
+    → old ≡ get_or ps n old → Grown old new kept → IsClause names kept c → IsDatabase names (set ps n new) (with_clause at_end db k c)
 clause_comes k n old new kept c no_procedures h e g i = cc
 clause_comes {ps = first ∷ ks} {db = p ∷ qs} k n old new kept c (more_procedures j rest) h e g i =
     elim (found_cases (has_key k) first ks n h) [
@@ -143,8 +165,8 @@ clause_comes {ps = first ∷ ks} {db = p ∷ qs} k n old new kept c (more_proced
     ]
 
 -- the procedures with one more, which was made for this clause
-pub procedure_comes : {ps : List Procedure} {db : Procedures} (k : Key) (new : Procedure) (kept : Clause) (c : databases.Clause) → IsDatabase ps db → place_at ps k ≡ None
-    → string_bytes new.name ≡ k.name → new.arity ≡ k.arity → new.clauses.items ≡ kept ∷ [] → IsClause kept c → IsDatabase (ps ++ new ∷ []) (with_clause at_end db k c)
+pub procedure_comes : {names : List (List ℕ)} {ps : List Procedure} {db : Procedures} (k : Key) (new : Procedure) (kept : Clause) (c : databases.Clause) → IsDatabase names ps db → place_at ps k ≡ None
+    → string_bytes new.name ≡ k.name → new.arity ≡ k.arity → new.clauses.items ≡ kept ∷ [] → IsClause names kept c → IsDatabase names (ps ++ new ∷ []) (with_clause at_end db k c)
 procedure_comes k new kept c no_procedures h n a l i =
     more_procedures {kept = new} {p = record { key = k; kind = Static; clauses = c ∷ [] }} (record { name = n; arity = a; clauses = rw l (more_clauses i no_clauses); some = rw l (omega arith) }) no_procedures
 procedure_comes {ps = first ∷ ks} {db = p ∷ qs} k new kept c (more_procedures j rest) h n a l i =
@@ -153,8 +175,8 @@ procedure_comes {ps = first ∷ ks} {db = p ∷ qs} k new kept c (more_procedure
     rw key (more_procedures j (procedure_comes k new kept c rest parts.1 n a l i))
 
 -- a procedure is written back as it was
-pub procedure_stays : {ps : List Procedure} {db : Procedures} (n : ℕ) (old new : Procedure) → IsDatabase ps db → old ≡ get_or ps n old → new.name ≡ old.name → new.arity ≡ old.arity
-    → new.clauses.items ≡ old.clauses.items → IsDatabase (set ps n new) db
+pub procedure_stays : {names : List (List ℕ)} {ps : List Procedure} {db : Procedures} (n : ℕ) (old new : Procedure) → IsDatabase names ps db → old ≡ get_or ps n old → new.name ≡ old.name → new.arity ≡ old.arity
+    → new.clauses.items ≡ old.clauses.items → IsDatabase names (set ps n new) db
 procedure_stays n old new no_procedures e name arity clauses = no_procedures
 procedure_stays zero old new (more_procedures {p = p} j rest) e name arity clauses =
     more_procedures {kept = new} {p = p} (record { name = ap string_bytes (name ∙ ap (λ p. p.name) e) ∙ j.name; arity = arity ∙ ap (λ p. p.arity) e ∙ j.arity; clauses = rw (clauses, e) j.clauses; some = rw (clauses, e) j.some }) rest

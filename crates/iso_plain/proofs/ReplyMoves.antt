@@ -1,5 +1,6 @@
 -- A goal of a built-in: whatever its reply is, the engine's move is a step.
 use Rattle.std.proofs.Common.{◌≡◌, ◌≢◌, ◌+◌, ◌-◌, ◌≤◌, ℕ, suc, List, [], ◌∷◌, length, refl, ap, sym, ◌∙◌, subst, arith, inl, inr, Vec, Global}
+use Rattle.iso_atoms.specs.Texts.{KeepsTexts}
 use Rattle.iso_model.specs.Terms.Trees.{Tree}
 use Rattle.iso_model.specs.Terms.TermOf.{term_of}
 use Rattle.iso_model.specs.Terms.Substitutions.{Subst, compose}
@@ -124,17 +125,17 @@ repeats_by p q old new (Calls b) h = absurd h
 repeats_by p q old new (CallsOnce b) h = absurd h
 repeats_by p q old new (Refutes b) h = absurd h
 
-module _ {S W M : Type 0} (present : S → Present W) (stands : S → M → Present W → Type 0) (older : M → M → Type 0) where
-  module _ (e : Plain S W M) (store : S) (nodes : Vec (Node W) Global) (s : State) (f : Frame) (k : ℕ) (w : W) (doing : e.now ≡ now.Running f) (there : IsAt e.nodes.items f k (node.Run w)) (r : Represents present stands older e s)
-      (more : e.steps ≢ 0) (b : BuiltIn) (is_own : IsBuiltIn (meaning (present e.store) w) b) (keeps : KeepsMarks (stands e.store) (stands store)) (adds : Adds e.nodes.items nodes.items) where
+module _ {S W M : Type 0} (names : S → List (List ℕ)) (present : S → Present W) (stands : S → M → Present W → Type 0) (older : M → M → Type 0) where
+  module _ (e : Plain S W M) (store : S) (nodes : Vec (Node W) Global) (s : State) (f : Frame) (k : ℕ) (w : W) (doing : e.now ≡ now.Running f) (there : IsAt e.nodes.items f k (node.Run w)) (r : Represents names present stands older e s)
+      (more : e.steps ≢ 0) (b : BuiltIn) (is_own : IsBuiltIn (meaning (present e.store) w) b) (keeps : KeepsMarks (stands e.store) (stands store)) (texts : KeepsTexts (names e.store) (names store)) (adds : Adds e.nodes.items nodes.items) where
     abbrev n : ℕ
     n = e.steps - 1
 
     abbrev o : State
     o = r.own
 
-    abbrev a : AtRun present stands older e o f w
-    a = at present stands older e s f k w doing there r
+    abbrev a : AtRun names present stands older e o f w
+    a = at names present stands older e s f k w doing there r
 
     abbrev t : Tree
     t = meaning (present e.store) w
@@ -149,26 +150,26 @@ module _ {S W M : Type 0} (present : S → Present W) (stands : S → M → Pres
 
     -- no binding changed
     pub behind_ahead : (built : ℕ) → KeepsWords (present e.store) (present store) → (present store).substitution ≡ (present e.store).substitution → (present store).next ≡ (present e.store).next
-        → IsAhead present stands older mid (behind built) f.next
+        → IsAhead names present stands older mid (behind built) f.next
     behind_ahead built words substitution next =
-        ahead_step present stands older e store nodes (record o { list = a.behind }) f.next n built o.subst a.ahead (one_less e.steps more) keeps adds words (substitution ∙ a.ahead.goes.subst) next
+        ahead_step names present stands older e store nodes (record o { list = a.behind }) f.next n built o.subst a.ahead (one_less e.steps more) keeps texts adds words (substitution ∙ a.ahead.goes.subst) next
 
     -- ---- it succeeded
 
     went : (built : ℕ) (v : Subst) → KeepsWords (present e.store) (present store) → (present store).substitution ≡ v → (present store).next ≡ (present e.store).next
-        → step o ≡ Goes (record o { list = a.behind; subst = v; built = built; steps = n }) → Moves present stands older move.Goes s (record mid { now = now_behind e.frames.items f.next })
+        → step o ≡ Goes (record o { list = a.behind; subst = v; built = built; steps = n }) → Moves names present stands older move.Goes s (record mid { now = now_behind e.frames.items f.next })
     went built v words substitution number h =
-        let ahead = ahead_step present stands older e store nodes (record o { list = a.behind }) f.next n built v a.ahead (one_less e.steps more) keeps adds words substitution number in
-        goes present stands older e (record mid { now = now_behind e.frames.items f.next }) s r (record o { list = a.behind; subst = v; built = built; steps = n }) h
-        (engine_place present stands older mid (record o { list = a.behind; subst = v; built = built; steps = n }) f.next ahead) (awake_behind e.frames.items f.next)
+        let ahead = ahead_step names present stands older e store nodes (record o { list = a.behind }) f.next n built v a.ahead (one_less e.steps more) keeps texts adds words substitution number in
+        goes names present stands older e (record mid { now = now_behind e.frames.items f.next }) s r (record o { list = a.behind; subst = v; built = built; steps = n }) h
+        (engine_place names present stands older mid (record o { list = a.behind; subst = v; built = built; steps = n }) f.next ahead) (awake_behind e.frames.items f.next)
 
-    pub goes_on : (x : Reply) → reply b t ≡ x → WentOn (present e.store) (present store) x → Moves present stands older move.Goes s (record mid { now = now_behind e.frames.items f.next })
+    pub goes_on : (x : Reply) → reply b t ≡ x → WentOn (present e.store) (present store) x → Moves names present stands older move.Goes s (record mid { now = now_behind e.frames.items f.next })
     goes_on Succeeds is (as_before same) =
         went o.built o.subst (subst (λ (q : Present W). KeepsWords (present e.store) q) (sym same) (words_same (present e.store))) (ap (λ (q : Present W). q.substitution) same ∙ a.ahead.goes.subst) (ap (λ (q : Present W). q.next) same)
-        (runs_to present stands older e s f k w doing there r (record o { list = a.behind }) more (own_goal t a.behind o b Succeeds is_own is))
+        (runs_to names present stands older e s f k w doing there r (record o { list = a.behind }) more (own_goal t a.behind o b Succeeds is_own is))
     goes_on (Equates x y) is (unified u unifier binds) =
         went (o.built + 2) (compose o.subst u) binds.words (binds.substitution ∙ ap (λ (v : Subst). compose v u) a.ahead.goes.subst) binds.numbers.next
-        (runs_to present stands older e s f k w doing there r (record o { list = a.behind; subst = compose o.subst u; built = o.built + 2 }) more (own_goal t a.behind o b (Equates x y) is_own is ∙ run_equation x y a.behind o u unifier))
+        (runs_to names present stands older e s f k w doing there r (record o { list = a.behind; subst = compose o.subst u; built = o.built + 2 }) more (own_goal t a.behind o b (Equates x y) is_own is ∙ run_equation x y a.behind o u unifier))
     goes_on Fails is x3 = elim x3 [ ]
     goes_on (Raises error) is x4 = elim x4 [ ]
     goes_on (Calls goal) is x5 = elim x5 [ ]
@@ -178,14 +179,14 @@ module _ {S W M : Type 0} (present : S → Present W) (stands : S → M → Pres
 
     -- ---- it failed
 
-    failed : (built : ℕ) → step o ≡ Goes (record o { list = Fail ∷ []; built = built; steps = n }) → Moves present stands older move.Goes s (record mid { now = now.Failing })
+    failed : (built : ℕ) → step o ≡ Goes (record o { list = Fail ∷ []; built = built; steps = n }) → Moves names present stands older move.Goes s (record mid { now = now.Failing })
     failed built h =
-        goes present stands older e (record mid { now = now.Failing }) s r (record o { list = Fail ∷ []; built = built; steps = n }) h (failed_engine present stands older e store nodes o n built (one_less e.steps more) keeps adds r.engine) tt
+        goes names present stands older e (record mid { now = now.Failing }) s r (record o { list = Fail ∷ []; built = built; steps = n }) h (failed_engine names present stands older e store nodes o n built (one_less e.steps more) keeps texts adds r.engine) tt
 
-    pub fails_now : (x : Reply) → reply b t ≡ x → Failed x → Moves present stands older move.Goes s (record mid { now = now.Failing })
-    fails_now Fails is at_once = failed o.built (runs_to present stands older e s f k w doing there r (fails o) more (own_goal t a.behind o b Fails is_own is))
+    pub fails_now : (x : Reply) → reply b t ≡ x → Failed x → Moves names present stands older move.Goes s (record mid { now = now.Failing })
+    fails_now Fails is at_once = failed o.built (runs_to names present stands older e s f k w doing there r (fails o) more (own_goal t a.behind o b Fails is_own is))
     fails_now (Equates x y) is (never_equal never) =
-        failed (o.built + 2) (runs_to present stands older e s f k w doing there r (record o { list = Fail ∷ []; built = o.built + 2 }) more (own_goal t a.behind o b (Equates x y) is_own is ∙ run_equation_missed x y a.behind o never))
+        failed (o.built + 2) (runs_to names present stands older e s f k w doing there r (record o { list = Fail ∷ []; built = o.built + 2 }) more (own_goal t a.behind o b (Equates x y) is_own is ∙ run_equation_missed x y a.behind o never))
     fails_now Succeeds is x3 = elim x3 [ ]
     fails_now (Raises error) is x4 = elim x4 [ ]
     fails_now (Calls goal) is x5 = elim x5 [ ]
@@ -195,9 +196,9 @@ module _ {S W M : Type 0} (present : S → Present W) (stands : S → M → Pres
 
     -- ---- an error is raised
 
-    pub raises_now : (new : Plain S W M) (error : Tree) → reply b t ≡ Raises error → ((v : World) → IsWorld e v → IsEngine present stands older new (idle v)) → new.now ≡ now.Idle
-        → Finishes s (Uncaught error) (StandsFor present stands older new)
-    raises_now new error is idles rests = raises present stands older e s f k w doing there r new error more idles rests (own_goal t a.behind o b (Raises error) is_own is)
+    pub raises_now : (new : Plain S W M) (error : Tree) → reply b t ≡ Raises error → ((v : World) → IsWorld names e v → IsEngine names present stands older new (idle v)) → new.now ≡ now.Idle
+        → Finishes s (Uncaught error) (StandsFor names present stands older new)
+    raises_now new error is idles rests = raises names present stands older e s f k w doing there r new error more idles rests (own_goal t a.behind o b (Raises error) is_own is)
 
     -- ---- a goal is run
 
@@ -219,34 +220,34 @@ module _ {S W M : Type 0} (present : S → Present W) (stands : S → M → Pres
       same_values : IsOwnBody o.subst c → map_body o.subst h.body ≡ map_body o.subst c
       same_values own = subst (λ (v : Subst). map_body v h.body ≡ c) a.ahead.goes.subst h.values ∙ sym own
 
-      pub called_ahead : IsAhead present stands older mid called f.next
+      pub called_ahead : IsAhead names present stands older mid called f.next
       called_ahead = behind_ahead (with_goal c o).built h.words h.substitution h.next
 
-      pub calls_now : reply b t ≡ Calls c → Moves present stands older move.Goes s (record mid { now = now.Running (record { todo = todo.Body place; mark = length e.choices.items; next = f.next }) })
+      pub calls_now : reply b t ≡ Calls c → Moves names present stands older move.Goes s (record mid { now = now.Running (record { todo = todo.Body place; mark = length e.choices.items; next = f.next }) })
       calls_now is =
           let height : length e.choices.items ≡ length o.stack = choices_length r.engine.choices in
           let v : State = record called { list = Goal c (length o.stack) ∷ a.behind } in
           let u : State = record called { list = Goal h.body (length o.stack) ∷ a.behind } in
           let first : Frame = record { todo = todo.Body place; mark = length e.choices.items; next = f.next } in
-          let engine = engine_frame present stands older mid called first (Goal h.body (length e.choices.items)) called_ahead (a_body refl h.stands) in
-          goes_as present stands older e (record mid { now = now.Running first }) s r v u
-          (runs_to present stands older e s f k w doing there r (record (with_goal c o) { list = Goal c (length o.stack) ∷ a.behind }) more (own_goal t a.behind o b (Calls c) is_own is))
+          let engine = engine_frame names present stands older mid called first (Goal h.body (length e.choices.items)) called_ahead (a_body refl h.stands) in
+          goes_as names present stands older e (record mid { now = now.Running first }) s r v u
+          (runs_to names present stands older e s f k w doing there r (record (with_goal c o) { list = Goal c (length o.stack) ∷ a.behind }) more (own_goal t a.behind o b (Calls c) is_own is))
           (same_first called h.body c (length o.stack) a.behind (same_values (own_reply (Calls c) is)) (around_steps o a.behind (with_goal c o).built n around))
-          (subst (λ (m : ℕ). IsEngine present stands older (record mid { now = now.Running first }) (record called { list = Goal h.body m ∷ a.behind })) height engine) tt
+          (subst (λ (m : ℕ). IsEngine names present stands older (record mid { now = now.Running first }) (record called { list = Goal h.body m ∷ a.behind })) height engine) tt
 
       -- ---- for its first solution
 
-      pub once_now : reply b t ≡ CallsOnce c → (new : Plain S W M) (m : Move) → WasCalled present stands older m new called (calling_once h.body called) → Moves present stands older m s new
+      pub once_now : reply b t ≡ CallsOnce c → (new : Plain S W M) (m : Move) → WasCalled names present stands older m new called (calling_once h.body called) → Moves names present stands older m s new
       once_now is new move.Goes was =
           let height = length o.stack in
-          goes_as present stands older e new s r (record called { list = Goal c height ∷ CutTo height ∷ a.behind }) (calling_once h.body called)
-          (runs_to present stands older e s f k w doing there r (record (with_goal c o) { list = Goal c height ∷ CutTo height ∷ a.behind }) more (own_goal t a.behind o b (CallsOnce c) is_own is))
+          goes_as names present stands older e new s r (record called { list = Goal c height ∷ CutTo height ∷ a.behind }) (calling_once h.body called)
+          (runs_to names present stands older e s f k w doing there r (record (with_goal c o) { list = Goal c height ∷ CutTo height ∷ a.behind }) more (own_goal t a.behind o b (CallsOnce c) is_own is))
           (same_first called h.body c height (CutTo height ∷ a.behind) (same_values (own_reply (CallsOnce c) is)) (around_steps o a.behind (with_goal c o).built n around)) was.0 was.1
       once_now is new (move.Pauses p) was =
-          rw was.0 (spent_stands present stands older limit.Frames new.now new s (ap phase_of was.1) (stops_here present stands older new o s r.same was.2), ap phase_of was.1)
+          rw was.0 (spent_stands names present stands older limit.Frames new.now new s (ap phase_of was.1) (stops_here names present stands older new o s r.same was.2), ap phase_of was.1)
 
-      pub once_stops : (new : Plain S W M) → Keeps present stands older new called.world called.stack → Stopped present stands older new s
-      once_stops new kept = stops_here present stands older new o s r.same kept
+      pub once_stops : (new : Plain S W M) → Keeps names present stands older new called.world called.stack → Stopped names present stands older new s
+      once_stops new kept = stops_here names present stands older new o s r.same kept
 
       -- ---- refuted
 
@@ -256,24 +257,24 @@ module _ {S W M : Type 0} (present : S → Present W) (stands : S → M → Pres
 
       refuted_step : reply b t ≡ Refutes c → step o ≡ Goes refuted
       refuted_step is =
-          runs_to present stands older e s f k w doing there r (record (pushed a.behind AsIs (with_goal c o)) { list = Goal c (suc (length o.stack)) ∷ CutTo (length o.stack) ∷ Fail ∷ a.behind }) more (own_goal t a.behind o b (Refutes c) is_own is)
+          runs_to names present stands older e s f k w doing there r (record (pushed a.behind AsIs (with_goal c o)) { list = Goal c (suc (length o.stack)) ∷ CutTo (length o.stack) ∷ Fail ∷ a.behind }) more (own_goal t a.behind o b (Refutes c) is_own is)
 
-      pub refutes_now : reply b t ≡ Refutes c → (new : Plain S W M) (m : Move) → WasCalled present stands older m new called (refuting h.body called) → Moves present stands older m s new
+      pub refutes_now : reply b t ≡ Refutes c → (new : Plain S W M) (m : Move) → WasCalled names present stands older m new called (refuting h.body called) → Moves names present stands older m s new
       refutes_now is new move.Goes was =
           let height = length o.stack in
-          goes_as present stands older e new s r refuted (refuting h.body called) (refuted_step is)
+          goes_as names present stands older e new s r refuted (refuting h.body called) (refuted_step is)
           (same_first (pushed a.behind AsIs called) h.body c (suc height) (CutTo height ∷ Fail ∷ a.behind) (same_values (own_reply (Refutes c) is)) (around_pushed called a.behind (around_steps o a.behind (with_goal c o).built n around))) was.0 was.1
       refutes_now is new (move.Pauses p) was =
-          rw was.0 (spent_stands present stands older limit.Frames new.now new s (ap phase_of was.1) (stops_here present stands older new o s r.same was.2), ap phase_of was.1)
+          rw was.0 (spent_stands names present stands older limit.Frames new.now new s (ap phase_of was.1) (stops_here names present stands older new o s r.same was.2), ap phase_of was.1)
 
-      pub refute_stops : reply b t ≡ Refutes c → (new : Plain S W M) → WasRefused present stands older new called (pushed called.list AsIs called) → Stopped present stands older new s
-      refute_stops is new (inl kept) = stops_here present stands older new o s r.same kept
-      refute_stops is new (inr kept) = stops present stands older new o refuted s (pushed a.behind AsIs called).stack r.same (refuted_step is) refl refl kept
+      pub refute_stops : reply b t ≡ Refutes c → (new : Plain S W M) → WasRefused names present stands older new called (pushed called.list AsIs called) → Stopped names present stands older new s
+      refute_stops is new (inl kept) = stops_here names present stands older new o s r.same kept
+      refute_stops is new (inr kept) = stops names present stands older new o refuted s (pushed a.behind AsIs called).stack r.same (refuted_step is) refl refl kept
 
       pub refute_over : reply b t ≡ Refutes c → e.limit ≤ length e.choices.items → ComesOver e.limit s
       refute_over is full =
           let many = choices_length r.engine.choices in
-          comes_over present stands older e s r refuted e.limit (refuted_step is) refl (omega (arith, many, full))
+          comes_over names present stands older e s r refuted e.limit (refuted_step is) refl (omega (arith, many, full))
 
     -- ---- it succeeds again and again
 
@@ -281,22 +282,22 @@ module _ {S W M : Type 0} (present : S → Present W) (stands : S → M → Pres
       abbrev pub repeating : State
       repeating = behind o.built
 
-      pub repeating_ahead : IsAhead present stands older mid repeating f.next
+      pub repeating_ahead : IsAhead names present stands older mid repeating f.next
       repeating_ahead =
           behind_ahead o.built (subst (λ (q : Present W). KeepsWords (present e.store) q) (sym same) (words_same (present e.store))) (ap (λ (q : Present W). q.substitution) same) (ap (λ (q : Present W). q.next) same)
 
       repeat_step : step o ≡ Goes (pushed repeating.list Again repeating)
-      repeat_step = runs_to present stands older e s f k w doing there r (record (pushed a.behind Again o) { list = a.behind }) more (own_goal t a.behind o b Repeats is_own is)
+      repeat_step = runs_to names present stands older e s f k w doing there r (record (pushed a.behind Again o) { list = a.behind }) more (own_goal t a.behind o b Repeats is_own is)
 
-      pub repeats_now : (new : Plain S W M) (m : Move) → WasCalled present stands older m new repeating (pushed repeating.list Again repeating) → Moves present stands older m s new
-      repeats_now new move.Goes was = goes present stands older e new s r (pushed repeating.list Again repeating) repeat_step was.0 was.1
+      pub repeats_now : (new : Plain S W M) (m : Move) → WasCalled names present stands older m new repeating (pushed repeating.list Again repeating) → Moves names present stands older m s new
+      repeats_now new move.Goes was = goes names present stands older e new s r (pushed repeating.list Again repeating) repeat_step was.0 was.1
       repeats_now new (move.Pauses p) was =
-          rw was.0 (spent_stands present stands older limit.Frames new.now new s (ap phase_of was.1) (stops_here present stands older new o s r.same was.2), ap phase_of was.1)
+          rw was.0 (spent_stands names present stands older limit.Frames new.now new s (ap phase_of was.1) (stops_here names present stands older new o s r.same was.2), ap phase_of was.1)
 
-      pub repeat_stops : (new : Plain S W M) → Keeps present stands older new repeating.world repeating.stack → Stopped present stands older new s
-      repeat_stops new kept = stops_here present stands older new o s r.same kept
+      pub repeat_stops : (new : Plain S W M) → Keeps names present stands older new repeating.world repeating.stack → Stopped names present stands older new s
+      repeat_stops new kept = stops_here names present stands older new o s r.same kept
 
       pub repeat_over : e.limit ≤ length e.choices.items → ComesOver e.limit s
       repeat_over full =
           let many = choices_length r.engine.choices in
-          comes_over present stands older e s r (pushed repeating.list Again repeating) e.limit repeat_step refl (omega (arith, many, full))
+          comes_over names present stands older e s r (pushed repeating.list Again repeating) e.limit repeat_step refl (omega (arith, many, full))

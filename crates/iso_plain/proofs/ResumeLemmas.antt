@@ -1,5 +1,6 @@
 -- Members that the newest choice kept are gone on with: the choice goes, or stays.
 use Rattle.std.proofs.Common.{◌≡◌, ℕ, suc, ◌+◌, ◌-◌, ◌<◌, ◌≤◌, ◌++◌, List, [], ◌∷◌, length, take, Option, refl, ap, sym, ◌∙◌, subst, arith, Vec, Global}
+use Rattle.iso_atoms.specs.Texts.{KeepsTexts}
 use Rattle.iso_model.specs.Terms.Variables.{variables}
 use Rattle.iso_model.specs.Search.Walker.{State, Alternative, AsIs, Again, pushed}
 use Rattle.iso_model.specs.Search.Walker as walker
@@ -16,9 +17,10 @@ use Rattle.iso_plain.proofs.AheadLemmas.{engine_place}
 use Rattle.iso_plain.proofs.CostLemmas.{choices_last, behind_cost}
 use Rattle.iso_plain.proofs.RunLemmas.{room_less}
 use Rattle.iso_plain.proofs.StandingLemmas.{choices_push, choices_keep, last_split}
+use Rattle.iso_plain.proofs.WorldLemmas.{world_on}
 
-module _ {S W M : Type 0} (present : S → Present W) (stands : S → M → Present W → Type 0) (older : M → M → Type 0) where
-  module _ (e : Plain S W M) (c : kept.Choice W M) (s : State) (a : Alternative) (below : List Alternative) (w : WentBack present stands older e c s a below) where
+module _ {S W M : Type 0} (names : S → List (List ℕ)) (present : S → Present W) (stands : S → M → Present W → Type 0) (older : M → M → Type 0) where
+  module _ (e : Plain S W M) (c : kept.Choice W M) (s : State) (a : Alternative) (below : List Alternative) (w : WentBack names present stands older e c s a below) where
     -- the members that are left
     pub has_members : (l : Left W) → c.left ≡ l → HasLeft (left_at s.world.database.procedures) e.query.items (variables s.query) (present e.store) (links_of e) l a
     has_members l is = subst (λ (x : Left W). HasLeft (left_at s.world.database.procedures) e.query.items (variables s.query) (present e.store) (links_of e) x a) is w.has
@@ -36,15 +38,15 @@ module _ {S W M : Type 0} (present : S → Present W) (stands : S → M → Pres
     }
 
     -- the choice is gone
-    pub resumed : (place : Option ℕ) (store : S) (choices : Vec (kept.Choice W M) Global) → c.left ≡ left.AsIs place → present store ≡ present e.store → ((m : M) (p : Present W) → older m c.mark → stands e.store m p → stands store m p)
+    pub resumed : (place : Option ℕ) (store : S) (choices : Vec (kept.Choice W M) Global) → c.left ≡ left.AsIs place → present store ≡ present e.store → ((m : M) (p : Present W) → older m c.mark → stands e.store m p → stands store m p) → KeepsTexts (names e.store) (names store)
         → choices.items ≡ take (length e.choices.items - 1) e.choices.items
-        → (a.left ≡ AsIs) × IsEngine present stands older (record e { store = store; choices = choices; now = now_behind e.frames.items place }) (went_back a below s)
-    resumed place store choices tries same marks made =
+        → (a.left ≡ AsIs) × IsEngine names present stands older (record e { store = store; choices = choices; now = now_behind e.frames.items place }) (went_back a below s)
+    resumed place store choices tries same marks texts made =
         let h : HasMembers (left_at s.world.database.procedures) e.query.items (variables s.query) (present e.store) (links_of e) place AsIs a = has_members (left.AsIs place) tries in
         let b = w.base in
         let on = goes AsIs place s.steps (let all = w.steps in omega (arith, all)) h in
-        let ahead : IsAhead present stands older (record e { store = store; choices = choices }) (went_back a below s) place = record {
-          world = record { procedures_are = w.world.procedures_are; operators_are = w.world.operators_are; flags_are = w.world.flags_are };
+        let ahead : IsAhead names present stands older (record e { store = store; choices = choices }) (went_back a below s) place = record {
+          world = world_on texts w.world;
           steps = w.steps;
           base = record { present = b.present; stands_for = marks e.base b.present w.newer_base b.stands_for; substitution = b.substitution; next = b.next };
           choices = subst (λ (ds : List (kept.Choice W M)). StandsForChoices (stands store) older e.base (left_at s.world.database.procedures) e.query.items (variables s.query) (links_of e) ds below) (sym made)
@@ -53,7 +55,7 @@ module _ {S W M : Type 0} (present : S → Present W) (stands : S → M → Pres
           goes = subst (λ (p : Present W). GoesOn p e.query.items (went_back a below s)) (sym same) on;
           chain = subst (λ (p : Present W). Chain p (links_of e) place a.list) (sym same) h.on.chain;
         } in
-        (h.is, engine_place present stands older (record e { store = store; choices = choices }) (went_back a below s) place ahead)
+        (h.is, engine_place names present stands older (record e { store = store; choices = choices }) (went_back a below s) place ahead)
 
     pub resumed_cost : (place : Option ℕ) (store : S) (choices : Vec (kept.Choice W M) Global) → 0 < length e.choices.items → c.left ≡ left.AsIs place → choices.items ≡ take (length e.choices.items - 1) e.choices.items
         → cost (record e { store = store; choices = choices; now = now_behind e.frames.items place }) < choices_cost e.procedures.items (frame_costs e.frames.items) e.choices.items
@@ -69,7 +71,7 @@ module _ {S W M : Type 0} (present : S → Present W) (stands : S → M → Pres
 
     -- the choice stays, and a step was taken
     pub repeated : (place : Option ℕ) (n : ℕ) → 0 < length e.choices.items → c.left ≡ left.Again place → n + 1 ≡ e.steps
-        → (a.left ≡ Again) × IsEngine present stands older (record e { steps = n; now = now_behind e.frames.items place }) (record (pushed a.list Again (went_back a below s)) { steps = n })
+        → (a.left ≡ Again) × IsEngine names present stands older (record e { steps = n; now = now_behind e.frames.items place }) (record (pushed a.list Again (went_back a below s)) { steps = n })
     repeated place n some tries more =
         let h : HasMembers (left_at s.world.database.procedures) e.query.items (variables s.query) (present e.store) (links_of e) place Again a = has_members (left.Again place) tries in
         let again : Alternative = record { list = a.list; subst = a.subst; next = a.next; built = a.built; left = Again } in
@@ -82,8 +84,8 @@ module _ {S W M : Type 0} (present : S → Present W) (stands : S → M → Pres
         let stood : StandsForChoices (stands e.store) older e.base (left_at s.world.database.procedures) e.query.items (variables s.query) (links_of e) (take (length e.choices.items - 1) e.choices.items ++ c ∷ []) (again ∷ below) =
         choices_push c again w.nodes w.frames (record { present = present e.store; mark = w.mark; newer = w.newer_base; has = has }) w.newer w.stands_below in
         let room = w.room.0 in
-        let ahead : IsAhead present stands older (record e { steps = n }) (record (pushed a.list Again (went_back a below s)) { steps = n }) place = record {
-          world = record { procedures_are = w.world.procedures_are; operators_are = w.world.operators_are; flags_are = w.world.flags_are };
+        let ahead : IsAhead names present stands older (record e { steps = n }) (record (pushed a.list Again (went_back a below s)) { steps = n }) place = record {
+          world = w.world;
           steps = refl;
           base = w.base;
           choices = subst (λ (ds : List (kept.Choice W M)). StandsForChoices (stands e.store) older e.base (left_at s.world.database.procedures) e.query.items (variables s.query) (links_of e) ds (again ∷ below)) (sym (choices_are some)) stood;
@@ -91,7 +93,7 @@ module _ {S W M : Type 0} (present : S → Present W) (stands : S → M → Pres
           goes = record { subst = on.subst; next = on.next; room = on.room; words = on.words };
           chain = h.on.chain;
         } in
-        (h.is, engine_place present stands older (record e { steps = n }) (record (pushed a.list Again (went_back a below s)) { steps = n }) place ahead)
+        (h.is, engine_place names present stands older (record e { steps = n }) (record (pushed a.list Again (went_back a below s)) { steps = n }) place ahead)
 
     pub repeated_cost : (place : Option ℕ) (n : ℕ) → 0 < length e.choices.items → c.left ≡ left.Again place
         → cost (record e { steps = n; now = now_behind e.frames.items place }) ≤ choices_cost e.procedures.items (frame_costs e.frames.items) e.choices.items + choices_cost e.procedures.items (frame_costs e.frames.items) e.choices.items

@@ -30,12 +30,12 @@ failing_falls e f doing asks =
     ∙ ap (λ (t : Todo). choices_cost e.procedures.items (frame_costs e.frames.items) e.choices.items + todo_cost t (place_cost e.frames.items f.next)) asks in
     falls_less e (record e { now = now.Failing }) refl (omega (arith, old))
 
-module _ {S W M : Type 0} (present : S → Present W) (stands : S → M → Present W → Type 0) (older : M → M → Type 0) where
-  module _ (e : Plain S W M) (s : State) (f : Frame) (k : ℕ) (doing : e.now ≡ now.Running f) (asks : f.todo ≡ todo.Body k) (r : Represents present stands older e s) (more : e.steps ≢ 0) where
+module _ {S W M : Type 0} (names : S → List (List ℕ)) (present : S → Present W) (stands : S → M → Present W → Type 0) (older : M → M → Type 0) where
+  module _ (e : Plain S W M) (s : State) (f : Frame) (k : ℕ) (doing : e.now ≡ now.Running f) (asks : f.todo ≡ todo.Body k) (r : Represents names present stands older e s) (more : e.steps ≢ 0) where
     -- less than before the goal is to be done behind it
     pub behind_less : choices_cost e.procedures.items (frame_costs e.frames.items) e.choices.items + place_cost e.frames.items f.next + 1 ≤ cost e
     behind_less =
-        let old = cost_at present stands older e s f k doing r asks in
+        let old = cost_at names present stands older e s f k doing r asks in
         let up = cost_above k (place_cost e.frames.items f.next) in
         omega (arith, old, up)
 
@@ -45,7 +45,7 @@ module _ {S W M : Type 0} (present : S → Present W) (stands : S → M → Pres
 
     pub goes_falls : (store : S) (nodes : Vec (Node W) Global) → weight (record e { store = store; nodes = nodes; steps = e.steps - 1; now = now_behind e.frames.items f.next }) < weight e
     goes_falls store nodes =
-        let chain = ((at_body present stands older e r.own f k doing asks r.engine).ahead).chain in
+        let chain = ((at_body names present stands older e r.own f k doing asks r.engine).ahead).chain in
         let next = behind_cost f.next chain in
         let paid = rest_paid (e.steps - 1) (choices_cost e.procedures.items (frame_costs e.frames.items) e.choices.items) (place_cost e.frames.items f.next) (cost e) behind_less in
         subst (λ x. weight (record e { store = store; nodes = nodes; steps = e.steps - 1; now = now_behind e.frames.items f.next }) < x) step_weight (rw next paid)

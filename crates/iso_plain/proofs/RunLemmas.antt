@@ -1,5 +1,6 @@
 -- The engine is at a goal.
 use Rattle.std.proofs.Common.{◌≡◌, ◌≢◌, ◌-◌, ℕ, zero, suc, List, [], ◌∷◌, Option, true, refl, ap, sym, ◌∙◌, subst, arith, Vec, Global}
+use Rattle.iso_atoms.specs.Texts.{KeepsTexts}
 use Rattle.iso_model.specs.Terms.Trees.{Tree}
 use Rattle.iso_model.specs.Terms.Variables.{variables}
 use Rattle.iso_model.specs.Terms.Substitutions.{Subst, apply}
@@ -20,6 +21,7 @@ use Rattle.iso_plain.proofs.EnteringLemmas.{adds_none}
 use Rattle.iso_plain.proofs.PlaceLemmas.{goal_at}
 use Rattle.iso_plain.proofs.StandingLemmas.{AddsLinks, chain_more, variables_more}
 use Rattle.iso_plain.proofs.StoppedLemmas.{base_kept, choices_on}
+use Rattle.iso_plain.proofs.WorldLemmas.{world_on}
 
 pub one_less : (n : ℕ) → n ≢ 0 → n ≡ suc (n - 1)
 one_less zero h = absurd (h refl)
@@ -30,7 +32,7 @@ pub room_less : (steps : ℕ) (ks : List Alternative) → HaveRoom (suc steps) k
 room_less steps [] h = tt
 room_less steps (k ∷ ks) h = (let more = h.0 in omega (arith, more), room_less steps ks h.1)
 
-module _ {S W M : Type 0} (present : S → Present W) (stands : S → M → Present W → Type 0) (older : M → M → Type 0) where
+module _ {S W M : Type 0} (names : S → List (List ℕ)) (present : S → Present W) (stands : S → M → Present W → Type 0) (older : M → M → Type 0) where
   -- The engine is at this goal, with these members behind it.
   pub record AtRun (e : Plain S W M) (s : State) (f : Frame) (w : W) : Type 0 where
     pub term : Tree
@@ -38,11 +40,11 @@ module _ {S W M : Type 0} (present : S → Present W) (stands : S → M → Pres
     pub list : s.list ≡ Goal (Run term) f.mark ∷ behind
     pub holds : (present e.store).holds w ≡ true
     pub value : apply s.subst term ≡ meaning (present e.store) w
-    pub ahead : IsAhead present stands older e (record s { list = behind }) f.next
+    pub ahead : IsAhead names present stands older e (record s { list = behind }) f.next
 
-  pub at_run : (e : Plain S W M) (s : State) (f : Frame) (k : ℕ) (w : W) → e.now ≡ now.Running f → IsAt e.nodes.items f k (node.Run w) → IsEngine present stands older e s → AtRun e s f w
+  pub at_run : (e : Plain S W M) (s : State) (f : Frame) (k : ℕ) (w : W) → e.now ≡ now.Running f → IsAt e.nodes.items f k (node.Run w) → IsEngine names present stands older e s → AtRun e s f w
   at_run e s f k w doing there is =
-      let b = at_body present stands older e s f k doing there.asks is in
+      let b = at_body names present stands older e s f k doing there.asks is in
       let g = goal_at (present e.store) w there.there b.stands_for in
       record {
         term = g.0;
@@ -56,11 +58,11 @@ module _ {S W M : Type 0} (present : S → Present W) (stands : S → M → Pres
   -- the goal is called, which takes a step; its procedure has these clauses
   pub calls_engine : (e : Plain S W M) (s : State) (f : Frame) (w : W) (procedure n : ℕ) (c : databases.Clause) (cs : List databases.Clause) (a : AtRun e s f w)
       → e.steps ≡ suc n → left_at s.world.database.procedures procedure 0 ≡ c ∷ cs
-      → Calls present stands older (record e { steps = n }) (record { procedure = procedure; clause = 0; goal = w; rest = f.next }) (record s { steps = n }) (meaning (present e.store) w) c cs a.behind
+      → Calls names present stands older (record e { steps = n }) (record { procedure = procedure; clause = 0; goal = w; rest = f.next }) (record s { steps = n }) (meaning (present e.store) w) c cs a.behind
   calls_engine e s f w procedure n c cs a many clauses =
       let h = a.ahead in
       record {
-        world = record { procedures_are = h.world.procedures_are; operators_are = h.world.operators_are; flags_are = h.world.flags_are };
+        world = h.world;
         steps = refl;
         base = h.base;
         choices = h.choices;
@@ -71,16 +73,16 @@ module _ {S W M : Type 0} (present : S → Present W) (stands : S → M → Pres
       }
 
   -- a step was taken, bindings came and nodes, and the goals behind the goal come next
-  pub ahead_step : (e : Plain S W M) (store : S) (nodes : Vec (Node W) Global) (s : State) (place : Option ℕ) (n built : ℕ) (q : Subst) → IsAhead present stands older e s place → e.steps ≡ suc n
-      → KeepsMarks (stands e.store) (stands store) → Adds e.nodes.items nodes.items → KeepsWords (present e.store) (present store) → (present store).substitution ≡ q → (present store).next ≡ (present e.store).next
-      → IsAhead present stands older (record e { store = store; nodes = nodes; steps = n }) (record s { subst = q; built = built; steps = n }) place
-  ahead_step e store nodes s place n built q h many keeps adds words substitution next =
+  pub ahead_step : (e : Plain S W M) (store : S) (nodes : Vec (Node W) Global) (s : State) (place : Option ℕ) (n built : ℕ) (q : Subst) → IsAhead names present stands older e s place → e.steps ≡ suc n
+      → KeepsMarks (stands e.store) (stands store) → KeepsTexts (names e.store) (names store) → Adds e.nodes.items nodes.items → KeepsWords (present e.store) (present store) → (present store).substitution ≡ q → (present store).next ≡ (present e.store).next
+      → IsAhead names present stands older (record e { store = store; nodes = nodes; steps = n }) (record s { subst = q; built = built; steps = n }) place
+  ahead_step e store nodes s place n built q h many keeps texts adds words substitution next =
       let more : AddsLinks (links_of e) (record { nodes = nodes.items; frames = e.frames.items }) = record { nodes = adds; frames = adds_none e.frames.items } in
       record {
-        world = record { procedures_are = h.world.procedures_are; operators_are = h.world.operators_are; flags_are = h.world.flags_are };
+        world = world_on texts h.world;
         steps = refl;
         base = base_kept (stands e.store) (stands store) e.base keeps h.base;
-        choices = choices_on present stands older e store nodes e.frames s.world (variables s.query) s.stack keeps adds (adds_none e.frames.items) h.choices;
+        choices = choices_on names present stands older e store nodes e.frames s.world (variables s.query) s.stack keeps adds (adds_none e.frames.items) h.choices;
         room = room_less n s.stack (subst (λ (k : ℕ). HaveRoom k s.stack) many h.room);
         goes = record {
           subst = substitution;

@@ -1,6 +1,7 @@
 -- What running a goal comes to.
 use Rattle.std.proofs.Common.{◌≡◌, ◌≢◌, ◌<◌, ◌≤◌, ◌-◌, ℕ, suc, List, [], ◌∷◌, Option, None, Some, length, refl, ap, ◌∙◌, subst, arith, inl, inr, Result, Ok, Err, IfOk, Vec, Global}
 use Rattle.iso_ops.specs.declared.settings.Unknown.TheVariants as on_unknown
+use Rattle.iso_atoms.specs.Texts.{KeepsTexts}
 use Rattle.iso_model.specs.Terms.Trees.{Tree}
 use Rattle.iso_model.specs.Search.Databases as databases
 use Rattle.iso_model.specs.Search.Databases.{Key, clauses_at}
@@ -35,6 +36,7 @@ use Rattle.iso_plain.proofs.SearchMoves.{goes, ends, stops, stops_here, comes_ov
 use Rattle.iso_plain.proofs.SearchSteps.{goal_step, budget_step, raise_step, procedure_goal, unknown_goal, tried_steps, others_keep, one_more}
 use Rattle.iso_plain.proofs.StandingLemmas.{choices_length}
 use Rattle.iso_plain.proofs.StoppedLemmas.{base_kept, choices_on}
+use Rattle.iso_plain.proofs.WorldLemmas.{world_on}
 
 pub if_ok_map : {T E : Type 0} (P Q : T → Type 0) (result : Result T E) → ((t : T) → P t → Q t) → IfOk result P → IfOk result Q
 if_ok_map P Q (Ok t) f h = f t h
@@ -45,11 +47,11 @@ others_stack : (call : Tree) (cs : List databases.Clause) (rest : List Member) (
 others_stack call [] rest s k = refl
 others_stack call (c ∷ cs) rest s k = refl
 
-module _ {S W M : Type 0} (present : S → Present W) (stands : S → M → Present W → Type 0) (older : M → M → Type 0) where
+module _ {S W M : Type 0} (names : S → List (List ℕ)) (present : S → Present W) (stands : S → M → Present W → Type 0) (older : M → M → Type 0) where
   -- A frame asks for failure.
-  pub fails_next : (e : Plain S W M) (s : State) (f : Frame) → e.now ≡ now.Running f → f.todo ≡ todo.Fail → Represents present stands older e s → Moves present stands older move.Goes s (record e { now = now.Failing })
+  pub fails_next : (e : Plain S W M) (s : State) (f : Frame) → e.now ≡ now.Running f → f.todo ≡ todo.Fail → Represents names present stands older e s → Moves names present stands older move.Goes s (record e { now = now.Failing })
   fails_next e s f doing asks r =
-      let a = at_frame present stands older e r.own f doing r.engine in
+      let a = at_frame names present stands older e r.own f doing r.engine in
       let is = fail_of (present e.store) e.nodes.items f a.member asks a.stands_for in
       let h = r.engine in (
         s,
@@ -57,7 +59,7 @@ module _ {S W M : Type 0} (present : S → Present W) (stands : S → M → Pres
         record {
           own = r.own;
           engine = record {
-            world = record { procedures_are = h.world.procedures_are; operators_are = h.world.operators_are; flags_are = h.world.flags_are };
+            world = h.world;
             steps = h.steps;
             base = h.base;
             choices = h.choices;
@@ -70,33 +72,33 @@ module _ {S W M : Type 0} (present : S → Present W) (stands : S → M → Pres
       )
 
   -- A goal took a step and failed, whatever is bound now, and whatever nodes came.
-  pub failed_engine : (e : Plain S W M) (store : S) (nodes : Vec (Node W) Global) (s : State) (n built : ℕ) → e.steps ≡ suc n → KeepsMarks (stands e.store) (stands store) → Adds e.nodes.items nodes.items → IsEngine present stands older e s
-      → IsEngine present stands older (record e { store = store; nodes = nodes; steps = n; now = now.Failing }) (record s { list = Fail ∷ []; built = built; steps = n })
-  failed_engine e store nodes s n built many keeps adds is = record {
-    world = record { procedures_are = is.world.procedures_are; operators_are = is.world.operators_are; flags_are = is.world.flags_are };
+  pub failed_engine : (e : Plain S W M) (store : S) (nodes : Vec (Node W) Global) (s : State) (n built : ℕ) → e.steps ≡ suc n → KeepsMarks (stands e.store) (stands store) → KeepsTexts (names e.store) (names store) → Adds e.nodes.items nodes.items → IsEngine names present stands older e s
+      → IsEngine names present stands older (record e { store = store; nodes = nodes; steps = n; now = now.Failing }) (record s { list = Fail ∷ []; built = built; steps = n })
+  failed_engine e store nodes s n built many keeps texts adds is = record {
+    world = world_on texts is.world;
     steps = refl;
     base = base_kept (stands e.store) (stands store) e.base keeps is.base;
-    choices = choices_on present stands older e store nodes e.frames s.world (variables s.query) s.stack keeps adds (adds_none e.frames.items) is.choices;
+    choices = choices_on names present stands older e store nodes e.frames s.world (variables s.query) s.stack keeps adds (adds_none e.frames.items) is.choices;
     room = room_less n s.stack (subst (λ (k : ℕ). HaveRoom k s.stack) many is.room);
     next = ([], refl);
   }
 
   -- ---- a goal
 
-  module _ (e : Plain S W M) (s : State) (f : Frame) (k : ℕ) (w : W) (doing : e.now ≡ now.Running f) (there : IsAt e.nodes.items f k (node.Run w)) (r : Represents present stands older e s) where
+  module _ (e : Plain S W M) (s : State) (f : Frame) (k : ℕ) (w : W) (doing : e.now ≡ now.Running f) (there : IsAt e.nodes.items f k (node.Run w)) (r : Represents names present stands older e s) where
     abbrev pub own : State
     own = r.own
 
-    abbrev pub at : AtRun present stands older e own f w
-    at = at_run present stands older e own f k w doing there r.engine
+    abbrev pub at : AtRun names present stands older e own f w
+    at = at_run names present stands older e own f k w doing there r.engine
 
     abbrev pub call : Tree
     call = meaning (present e.store) w
 
     -- no step is left
-    pub spends : (new : Plain S W M) → e.steps ≡ 0 → ((v : World) → IsWorld e v → IsEngine present stands older new (idle v)) → new.now ≡ now.Idle → Finishes s Budget (StandsFor present stands older new)
+    pub spends : (new : Plain S W M) → e.steps ≡ 0 → ((v : World) → IsWorld names e v → IsEngine names present stands older new (idle v)) → new.now ≡ now.Idle → Finishes s Budget (StandsFor names present stands older new)
     spends new none idles rests =
-        ends present stands older new own s Budget r.same (budget_step own at.term f.mark at.behind at.list (r.engine.steps ∙ none)) rests (idles own.world r.engine.world)
+        ends names present stands older new own s Budget r.same (budget_step own at.term f.mark at.behind at.list (r.engine.steps ∙ none)) rests (idles own.world r.engine.world)
 
     -- what the goal goes to
     pub runs_to : (v : State) → e.steps ≢ 0 → run_value call at.behind own ≡ Goes v → step own ≡ Goes (record v { steps = e.steps - 1 })
@@ -104,17 +106,17 @@ module _ {S W M : Type 0} (present : S → Present W) (stands : S → M → Pres
         goal_step own at.term f.mark at.behind (e.steps - 1) v at.list (r.engine.steps ∙ one_less e.steps more) (ap (λ (t : Tree). run_value t at.behind own) at.value ∙ h)
 
     -- an error is raised, which nothing catches
-    pub raises : (new : Plain S W M) (ball : Tree) → e.steps ≢ 0 → ((v : World) → IsWorld e v → IsEngine present stands older new (idle v)) → new.now ≡ now.Idle
-        → run_value call at.behind own ≡ Goes (record own { list = Raise ball ∷ at.behind }) → Finishes s (Uncaught ball) (StandsFor present stands older new)
+    pub raises : (new : Plain S W M) (ball : Tree) → e.steps ≢ 0 → ((v : World) → IsWorld names e v → IsEngine names present stands older new (idle v)) → new.now ≡ now.Idle
+        → run_value call at.behind own ≡ Goes (record own { list = Raise ball ∷ at.behind }) → Finishes s (Uncaught ball) (StandsFor names present stands older new)
     raises new ball more idles rests h =
         let v : State = record own { list = Raise ball ∷ at.behind; steps = e.steps - 1 } in
         let k = onward_same own v s (runs_to (record own { list = Raise ball ∷ at.behind }) more h) r.same in
-        finishes_behind k.1 (ends present stands older new v k.0 (Uncaught ball) k.2 (raise_step v ball at.behind refl) rests (idles own.world r.engine.world))
+        finishes_behind k.1 (ends names present stands older new v k.0 (Uncaught ball) k.2 (raise_step v ball at.behind refl) rests (idles own.world r.engine.world))
 
     -- an unknown procedure
-    pub raises_error : (new : Plain S W M) (ball : Tree) → e.steps ≢ 0 → ((v : World) → IsWorld e v → IsEngine present stands older new (idle v)) → new.now ≡ now.Idle
+    pub raises_error : (new : Plain S W M) (ball : Tree) → e.steps ≢ 0 → ((v : World) → IsWorld names e v → IsEngine names present stands older new (idle v)) → new.now ≡ now.Idle
         → (k : Key) × IsUser call k × (clauses_at own.world.database.procedures k ≡ None) × (own.world.flags.unknown ≡ on_unknown.Error) × (ball ≡ existence_error k)
-        → Finishes s (Uncaught ball) (StandsFor present stands older new)
+        → Finishes s (Uncaught ball) (StandsFor names present stands older new)
     raises_error new ball more idles rests is =
         rw is.4 (raises new (existence_error is.0) more idles rests (unknown_goal call at.behind own is.0 on_unknown.Error is.1 is.2 is.3))
 
@@ -123,10 +125,10 @@ module _ {S W M : Type 0} (present : S → Present W) (stands : S → M → Pres
     goes_nowhere (inl unnamed) = ap (λ (x : Option Key). run_goal x call at.behind own) unnamed
     goes_nowhere (inr is) = unknown_goal call at.behind own is.0 on_unknown.Fail is.1 is.2 is.3
 
-    pub fails_unknown : e.steps ≢ 0 → FailsAt own.world call → Moves present stands older move.Goes s (record e { steps = e.steps - 1; now = now.Failing })
+    pub fails_unknown : e.steps ≢ 0 → FailsAt own.world call → Moves names present stands older move.Goes s (record e { steps = e.steps - 1; now = now.Failing })
     fails_unknown more is =
-        goes present stands older e (record e { steps = e.steps - 1; now = now.Failing }) s r (record (fails own) { steps = e.steps - 1 }) (runs_to (fails own) more (goes_nowhere is))
-        (failed_engine e e.store e.nodes own (e.steps - 1) own.built (one_less e.steps more) (λ m p h. h) (adds_none e.nodes.items) r.engine) tt
+        goes names present stands older e (record e { steps = e.steps - 1; now = now.Failing }) s r (record (fails own) { steps = e.steps - 1 }) (runs_to (fails own) more (goes_nowhere is))
+        (failed_engine e e.store e.nodes own (e.steps - 1) own.built (one_less e.steps more) (λ m p h. h) (λ place text h. h) (adds_none e.nodes.items) r.engine) tt
 
     -- ---- a call of a procedure with these clauses
     module _ (more : e.steps ≢ 0) (key : Key) (c : databases.Clause) (cs : List databases.Clause) (user : IsUser call key) (found : clauses_at own.world.database.procedures key ≡ Some (c ∷ cs)) where
@@ -140,23 +142,23 @@ module _ {S W M : Type 0} (present : S → Present W) (stands : S → M → Pres
       there_world = (clause_keeps call c (length own.stack) at.behind (with_others call cs at.behind own)).1 ∙ (others_keep call cs at.behind own).0
 
       -- what the call comes to
-      pub called_on : (new : Plain S W M) (m : Move) → WasCalled present stands older m new (record own { steps = e.steps - 1 }) (tried call (c ∷ cs) at.behind (record own { steps = e.steps - 1 })) → Moves present stands older m s new
+      pub called_on : (new : Plain S W M) (m : Move) → WasCalled names present stands older m new (record own { steps = e.steps - 1 }) (tried call (c ∷ cs) at.behind (record own { steps = e.steps - 1 })) → Moves names present stands older m s new
       called_on new move.Goes was =
-          goes present stands older e new s r (record (tried call (c ∷ cs) at.behind own) { steps = e.steps - 1 }) calls_to (subst (λ (v : State). IsEngine present stands older new v) (tried_steps call c cs at.behind own (e.steps - 1)) was.0) was.1
+          goes names present stands older e new s r (record (tried call (c ∷ cs) at.behind own) { steps = e.steps - 1 }) calls_to (subst (λ (v : State). IsEngine names present stands older new v) (tried_steps call c cs at.behind own (e.steps - 1)) was.0) was.1
       called_on new (move.Pauses p) was =
-          rw was.0 (spent_stands present stands older limit.Frames new.now new s (ap phase_of was.1) (stops_here present stands older new own s r.same was.2), ap phase_of was.1)
+          rw was.0 (spent_stands names present stands older limit.Frames new.now new s (ap phase_of was.1) (stops_here names present stands older new own s r.same was.2), ap phase_of was.1)
 
       -- the call was refused
-      pub refused_on : (new : Plain S W M) → WasRefused present stands older new (record own { steps = e.steps - 1 }) (with_others call cs at.behind (record own { steps = e.steps - 1 })) → Stopped present stands older new s
-      refused_on new (inl keeps) = stops_here present stands older new own s r.same keeps
+      pub refused_on : (new : Plain S W M) → WasRefused names present stands older new (record own { steps = e.steps - 1 }) (with_others call cs at.behind (record own { steps = e.steps - 1 })) → Stopped names present stands older new s
+      refused_on new (inl keeps) = stops_here names present stands older new own s r.same keeps
       refused_on new (inr keeps) =
           let world = (others_keep call cs at.behind (record own { steps = e.steps - 1 })).0 in
           let stack = others_stack call cs at.behind own (e.steps - 1) in
-          stops present stands older new own (record (tried call (c ∷ cs) at.behind own) { steps = e.steps - 1 }) s (with_others call cs at.behind own).stack r.same calls_to there_stack there_world
-          (subst (λ (xs : List Alternative). Keeps present stands older new own.world xs) stack (subst (λ (v : World). Keeps present stands older new v (with_others call cs at.behind (record own { steps = e.steps - 1 })).stack) world keeps))
+          stops names present stands older new own (record (tried call (c ∷ cs) at.behind own) { steps = e.steps - 1 }) s (with_others call cs at.behind own).stack r.same calls_to there_stack there_world
+          (subst (λ (xs : List Alternative). Keeps names present stands older new own.world xs) stack (subst (λ (v : World). Keeps names present stands older new v (with_others call cs at.behind (record own { steps = e.steps - 1 })).stack) world keeps))
 
       -- a call that may make no choice any more: the search comes to more alternatives than there may be
       pub over : e.limit ≤ length e.choices.items → 0 < length cs → ComesOver e.limit s
       over full some =
           let many = choices_length r.engine.choices in
-          comes_over present stands older e s r (record (tried call (c ∷ cs) at.behind own) { steps = e.steps - 1 }) e.limit calls_to (ap length there_stack ∙ one_more call cs at.behind own some) (omega (arith, many, full))
+          comes_over names present stands older e s r (record (tried call (c ∷ cs) at.behind own) { steps = e.steps - 1 }) e.limit calls_to (ap length there_stack ∙ one_more call cs at.behind own some) (omega (arith, many, full))

@@ -23,68 +23,68 @@ use Rattle.iso_plain.specs.EngineStates.{IsEngine, Represents, Keeps, Stopped, S
 pub same_idle : (w : World) → Same (idle w) (idle w)
 same_idle w = failing [] [] refl refl (record { stack = no_alternative; world = refl; steps = refl })
 
-module _ {S W M : Type 0} (present : S → Present W) (stands : S → M → Present W → Type 0) (older : M → M → Type 0) where
+module _ {S W M : Type 0} (names : S → List (List ℕ)) (present : S → Present W) (stands : S → M → Present W → Type 0) (older : M → M → Type 0) where
   -- an engine keeps the operators and the flags of its world
-  pub world_settings : (e : Plain S W M) (w : World) → IsWorld e w → settings_of e ≡ settings_in w
+  pub world_settings : (e : Plain S W M) (w : World) → IsWorld names e w → settings_of e ≡ settings_in w
   world_settings e w is = ap₂ (λ (ops : List Operator) (flags : Flags). (ops, flags)) is.operators_are is.flags_are
 
   -- a move goes on
-  pub goes : (e new : Plain S W M) (s : State) (r : Represents present stands older e s) (v : State) → step r.own ≡ Goes v → IsEngine present stands older new v → IsAwake (phase_of new.now)
-      → Moves present stands older move.Goes s new
+  pub goes : (e new : Plain S W M) (s : State) (r : Represents names present stands older e s) (v : State) → step r.own ≡ Goes v → IsEngine names present stands older new v → IsAwake (phase_of new.now)
+      → Moves names present stands older move.Goes s new
   goes e new s r v h is awake =
       let k = onward_same r.own v s h r.same in
       (k.0, k.1, record { own = v; engine = is; same = k.2 }, awake)
 
   -- the engine's own goals have the values of those that the step goes to
-  pub goes_as : (e new : Plain S W M) (s : State) (r : Represents present stands older e s) (v u : State) → step r.own ≡ Goes v → Same u v → IsEngine present stands older new u → IsAwake (phase_of new.now)
-      → Moves present stands older move.Goes s new
+  pub goes_as : (e new : Plain S W M) (s : State) (r : Represents names present stands older e s) (v u : State) → step r.own ≡ Goes v → Same u v → IsEngine names present stands older new u → IsAwake (phase_of new.now)
+      → Moves names present stands older move.Goes s new
   goes_as e new s r v u h same is awake =
       let k = onward_same r.own v s h r.same in
       (k.0, k.1, record { own = u; engine = is; same = same_on u v k.0 same k.2 }, awake)
 
   -- where the step goes to a state with one alternative more, and there may be none more, the search comes to more than there may be
-  pub comes_over : (e : Plain S W M) (s : State) (r : Represents present stands older e s) (v : State) (limit : ℕ) → step r.own ≡ Goes v → length v.stack ≡ suc (length (r.own).stack) → limit ≤ length (r.own).stack → ComesOver limit s
+  pub comes_over : (e : Plain S W M) (s : State) (r : Represents names present stands older e s) (v : State) (limit : ℕ) → step r.own ≡ Goes v → length v.stack ≡ suc (length (r.own).stack) → limit ≤ length (r.own).stack → ComesOver limit s
   comes_over e s r v limit h longer full =
       let k = onward_same r.own v s h r.same in
       let beside = same_beside v k.0 k.2 in
       let same = stack_length beside.stack in
       record { at = k.0; quiet = k.1; holds = omega (arith, same, longer, full) }
 
-  stands_by : (n m : Now) (e : Plain S W M) (s : State) → n ≡ m → StandsBy present stands older m e s → StandsBy present stands older n e s
-  stands_by n m e s is r = subst (λ (x : Now). StandsBy present stands older x e s) (sym is) r
+  stands_by : (n m : Now) (e : Plain S W M) (s : State) → n ≡ m → StandsBy names present stands older m e s → StandsBy names present stands older n e s
+  stands_by n m e s is r = subst (λ (x : Now). StandsBy names present stands older x e s) (sym is) r
 
   -- an engine that is idle
-  pub idle_stands : (e : Plain S W M) (w : World) → e.now ≡ now.Idle → IsEngine present stands older e (idle w) → StandsFor present stands older e (idle w)
+  pub idle_stands : (e : Plain S W M) (w : World) → e.now ≡ now.Idle → IsEngine names present stands older e (idle w) → StandsFor names present stands older e (idle w)
   idle_stands e w rests is = stands_by e.now now.Idle e (idle w) rests (record { own = idle w; engine = is; same = same_idle w })
 
   -- the run ends, and the engine is idle
-  pub ends : (new : Plain S W M) (o s : State) (ending : Ending) → Same o s → step o ≡ Ends ending o.world → new.now ≡ now.Idle → IsEngine present stands older new (idle o.world)
-      → Finishes s ending (StandsFor present stands older new)
-  ends new o s ending same h rests is = finishes_same o s ending o.world (StandsFor present stands older new) h (idle_stands new o.world rests is) same
+  pub ends : (new : Plain S W M) (o s : State) (ending : Ending) → Same o s → step o ≡ Ends ending o.world → new.now ≡ now.Idle → IsEngine names present stands older new (idle o.world)
+      → Finishes s ending (StandsFor names present stands older new)
+  ends new o s ending same h rests is = finishes_same o s ending o.world (StandsFor names present stands older new) h (idle_stands new o.world rests is) same
 
   -- an event, behind which the engine fails
-  pub gives : (new : Plain S W M) (o v s : State) (event : Event) → Same o s → step o ≡ Gives event v → new.now ≡ now.Failing → IsEngine present stands older new v
-      → Comes s event (StandsFor present stands older new)
+  pub gives : (new : Plain S W M) (o v s : State) (event : Event) → Same o s → step o ≡ Gives event v → new.now ≡ now.Failing → IsEngine names present stands older new v
+      → Comes s event (StandsFor names present stands older new)
   gives new o v s event same h doing is =
-      comes_same o v s event (StandsFor present stands older new) h (λ t k. stands_by new.now now.Failing new t doing (record { own = v; engine = is; same = k })) same
+      comes_same o v s event (StandsFor names present stands older new) h (λ t k. stands_by new.now now.Failing new t doing (record { own = v; engine = is; same = k })) same
 
   -- ---- the engine stopped
 
   -- it stopped where it was
-  pub stops_here : (new : Plain S W M) (o s : State) → Same o s → Keeps present stands older new o.world o.stack → Stopped present stands older new s
+  pub stops_here : (new : Plain S W M) (o s : State) → Same o s → Keeps names present stands older new o.world o.stack → Stopped names present stands older new s
   stops_here new o s same keeps =
       let beside = same_beside o s same in
       record {
         at = s;
         quiet = here;
         stack = o.stack;
-        keeps = subst (λ (w : World). Keeps present stands older new w o.stack) beside.world keeps;
+        keeps = subst (λ (w : World). Keeps names present stands older new w o.stack) beside.world keeps;
         alternatives = inl (variables o.query, beside.stack);
         settings = world_settings new o.world keeps.0 ∙ ap settings_in beside.world;
       }
 
   -- it stopped within a move, with the alternatives that the move goes to
-  pub stops : (new : Plain S W M) (o v s : State) (stack : List Alternative) → Same o s → step o ≡ Goes v → v.stack ≡ stack → v.world ≡ o.world → Keeps present stands older new o.world stack → Stopped present stands older new s
+  pub stops : (new : Plain S W M) (o v s : State) (stack : List Alternative) → Same o s → step o ≡ Goes v → v.stack ≡ stack → v.world ≡ o.world → Keeps names present stands older new o.world stack → Stopped names present stands older new s
   stops new o v s stack same h stacked world keeps =
       let k = onward_same o v s h same in
       let beside = same_beside v k.0 k.2 in
@@ -92,13 +92,13 @@ module _ {S W M : Type 0} (present : S → Present W) (stands : S → M → Pres
         at = k.0;
         quiet = k.1;
         stack = stack;
-        keeps = subst (λ (w : World). Keeps present stands older new w stack) (sym world ∙ beside.world) keeps;
+        keeps = subst (λ (w : World). Keeps names present stands older new w stack) (sym world ∙ beside.world) keeps;
         alternatives = inl (variables v.query, subst (λ (xs : List Alternative). SameStack (variables v.query) (variables (k.0).query) xs (k.0).stack) stacked beside.stack);
         settings = world_settings new o.world keeps.0 ∙ ap settings_in (same_world same);
       }
 
   -- behind steps without an event
-  pub stopped_behind : (e : Plain S W M) (s t : State) → settings_of e ≡ settings_in s.world → Quiet s t → Stopped present stands older e t → Stopped present stands older e s
+  pub stopped_behind : (e : Plain S W M) (s t : State) → settings_of e ≡ settings_in s.world → Quiet s t → Stopped names present stands older e t → Stopped names present stands older e s
   stopped_behind e s t same q h = record {
     at = h.at;
     quiet = quiet_trans q h.quiet;

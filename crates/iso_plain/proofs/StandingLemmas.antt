@@ -16,6 +16,7 @@ use Rattle.iso_plain.specs.declared.parts.Choice as kept
 use Rattle.iso_plain.specs.Nodes.{At, IsTree, runs, cuts, joins, branches, commits, chooses}
 use Rattle.iso_plain.specs.Standing.{Among, Links, IsBody, IsMember, a_body, a_cut, a_failure, Chain, ends, leads, First, StandsOn, StandsForChoice, StandsForChoices, none_kept, one_kept, links_at, Newest, AreVariables, no_word, one_word, GoesOn, DoesNext}
 use Rattle.iso_plain.specs.Entering.{Adds}
+use Rattle.iso_plain.proofs.NodeLemmas.{tree_keep}
 
 -- ---- places
 
@@ -38,15 +39,6 @@ tree_more {parts = parts} more (joins {k = k} at first second some a b) = joins 
 tree_more {parts = parts} more (branches {k = k} at first second some a b) = branches (at_more parts more k _ at) first second some (tree_more more a) (tree_more more b)
 tree_more {parts = parts} more (commits {k = k} at first second some a b) = commits (at_more parts more k _ at) first second some (tree_more more a) (tree_more more b)
 tree_more {parts = parts} more (chooses {k = k} at first second third some also a b c) = chooses (at_more parts more k _ at) first second third some also (tree_more more a) (tree_more more b) (tree_more more c)
-
--- goals that stand on
-pub tree_keep : {G : Type 0} {Old New : G → Tree → Type 0} {parts : List (Node G)} {i : ℕ} {b : Body} → ((g : G) (t : Tree) → Old g t → New g t) → IsTree Old parts i b → IsTree New parts i b
-tree_keep keeps (runs {g = g} {t = t} at stands) = runs at (keeps g t stands)
-tree_keep keeps (cuts at) = cuts at
-tree_keep keeps (joins at first second some a b) = joins at first second some (tree_keep keeps a) (tree_keep keeps b)
-tree_keep keeps (branches at first second some a b) = branches at first second some (tree_keep keeps a) (tree_keep keeps b)
-tree_keep keeps (commits at first second some a b) = commits at first second some (tree_keep keeps a) (tree_keep keeps b)
-tree_keep keeps (chooses at first second third some also a b c) = chooses at first second third some also (tree_keep keeps a) (tree_keep keeps b) (tree_keep keeps c)
 
 -- the place of a body is one of a node
 pub tree_within : {G : Type 0} {Stands : G → Tree → Type 0} {parts : List (Node G)} {i : ℕ} {b : Body} → IsTree Stands parts i b → i < length parts

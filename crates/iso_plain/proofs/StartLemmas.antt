@@ -14,7 +14,7 @@ use Rattle.iso_model.proofs.OnTerms.VariableLemmas.{listed_occurring}
 use Rattle.iso_model.proofs.OnTerms.CopyLemmas.{in_numbers_from}
 use Rattle.iso_model.specs.Search.Databases.{Clause, at_end}
 use Rattle.iso_model.specs.Search.Errors.{key, type_error_callable}
-use Rattle.iso_store_core.specs.Presents.{Present}
+use Rattle.iso_store_core.specs.Presents.{Present, KeepsMarks}
 use Rattle.iso_plain.specs.declared.parts.Choice as kept
 use Rattle.iso_plain.specs.declared.parts.Now.TheVariants as now
 use Rattle.iso_plain.specs.Standing.{Links, StandsForChoices, none_kept, one_kept}
@@ -40,6 +40,7 @@ use Rattle.iso_prep.specs.Preparations.{Preparation, PreparesGoal}
 use Rattle.iso_prep.proofs.ConversionLemmas.{converts}
 use Rattle.iso_plain.specs.Entering.{renaming_from}
 use Rattle.iso_plain.proofs.ClauseLemmas.{body_templates}
+use Rattle.iso_plain.proofs.StoppedLemmas.{base_kept}
 
 -- where no choice is stood for, there is none
 pub no_choice_left : {W M : Type 0} {stands : M → Present W → Type 0} {older : M → M → Type 0} {base : M} {left_at : ℕ → ℕ → List Clause} {query : List W} {named : List ℕ}
@@ -144,33 +145,33 @@ not_renamed (Choose a b c) = λ i. Choose (not_renamed a i) (not_renamed b i) (n
 
 -- ---- an engine that was cleared
 
-module _ {S W M : Type 0} {present : S → Present W} {stands : S → M → Present W → Type 0} {older : M → M → Type 0} where
+module _ {S W M : Type 0} {names : S → List (List ℕ)} {present : S → Present W} {stands : S → M → Present W → Type 0} {older : M → M → Type 0} where
   -- with other steps
-  pub fresh_again : {e : Plain S W M} {w : World} {steps : ℕ} → IsEngine present stands older e (idle w) → (present e.store).substitution ≡ Variable → (present e.store).next ≡ 0
-      → IsFresh present stands older (record e { steps = steps }) w
-  fresh_again h substitution next = record { world = record { procedures_are = h.world.procedures_are; operators_are = h.world.operators_are; flags_are = h.world.flags_are }; base = h.base; choices = no_choice_left refl h.choices; substitution = substitution; next = next }
+  pub fresh_again : {e : Plain S W M} {w : World} {steps : ℕ} → IsEngine names present stands older e (idle w) → (present e.store).substitution ≡ Variable → (present e.store).next ≡ 0
+      → IsFresh names present stands older (record e { steps = steps }) w
+  fresh_again h substitution next = record { world = h.world; base = h.base; choices = no_choice_left refl h.choices; substitution = substitution; next = next }
 
   -- with other procedures
-  pub idle_again : {e f : Plain S W M} {w after : World} → IsEngine present stands older e (idle w) → f.now ≡ now.Idle → f.store ≡ e.store → f.base ≡ e.base → f.choices ≡ e.choices → f.steps ≡ e.steps
-      → IsWorld f after → IsEngine present stands older f (idle after)
-  idle_again {e = e} {f = f} h idle store base choices steps world = record {
+  pub idle_again : {e f : Plain S W M} {w after : World} → IsEngine names present stands older e (idle w) → f.now ≡ now.Idle → present f.store ≡ present e.store → KeepsMarks (stands e.store) (stands f.store) → f.base ≡ e.base → f.choices ≡ e.choices → f.steps ≡ e.steps
+      → IsWorld names f after → IsEngine names present stands older f (idle after)
+  idle_again {stands = stands} {e = e} {f = f} h idle same keeps base choices steps world = record {
     world = world;
     steps = h.steps ∙ sym steps;
-    base = rw (store, base) h.base;
+    base = rw base (base_kept (stands e.store) (stands f.store) e.base keeps h.base);
     choices = rw (choices, no_choice_left refl h.choices) none_kept;
     room = tt;
     next = rw idle refl;
   }
 
   -- The clause was refused before it came to the procedures.
-  pub refused : (t : Tree) (w : World) (r : Result Unit AddFault) (fault : AddFault) (e : Plain S W M) → Prepares t (Err fault) → IsErrAnd r (λ x. x ≡ fault) → IsEngine present stands older e (idle w)
-      → Comes present stands older (consulted t w.database) w r e
+  pub refused : (t : Tree) (w : World) (r : Result Unit AddFault) (fault : AddFault) (e : Plain S W M) → Prepares t (Err fault) → IsErrAnd r (λ x. x ≡ fault) → IsEngine names present stands older e (idle w)
+      → Comes names present stands older (consulted t w.database) w r e
   refused t w (Ok u) fault e h is engine = absurd is
   refused t w (Err x) (add.Refused ball) e h is engine = rw is (by_check (checked t) h) where
-    by_check : (c : Check) → IsRefused c (term_of ball.term) → Comes present stands older (addition_by at_end consult_key t w.database c) w (Err (add.Refused ball)) e
+    by_check : (c : Check) → IsRefused c (term_of ball.term) → Comes names present stands older (addition_by at_end consult_key t w.database c) w (Err (add.Refused ball)) e
     by_check (Fits k b) h = absurd h
     by_check (Faulty fault) h = (sym h, engine)
   refused t w (Err x) add.NoMemory e h is engine = rw is (no_memory (consulted t w.database)) where
-    no_memory : (a : Addition) → Comes present stands older a w (Err add.NoMemory) e
+    no_memory : (a : Addition) → Comes names present stands older a w (Err add.NoMemory) e
     no_memory (Adds after) = engine
     no_memory (Refuses error) = engine

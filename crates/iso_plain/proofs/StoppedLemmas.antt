@@ -1,5 +1,6 @@
 -- What is left of an engine that stops.
 use Rattle.std.proofs.Common.{◌≡◌, ℕ, List, [], refl, inr, Vec, Global, Result, Ok, Err, OnErr}
+use Rattle.iso_atoms.specs.Texts.{KeepsTexts}
 use Rattle.iso_model.specs.Terms.Variables.{variables}
 use Rattle.iso_model.specs.Search.Walker.{State, World, Alternative}
 use Rattle.iso_model.specs.Search.Runs.{here}
@@ -14,6 +15,7 @@ use Rattle.iso_plain.specs.Starts.{IsFresh}
 use Rattle.iso_plain.specs.EngineStates.{IsBase, IsEngine, Keeps, Stopped, left_at, links_of}
 use Rattle.iso_plain.proofs.SearchMoves.{world_settings}
 use Rattle.iso_plain.proofs.StandingLemmas.{choices_more, choices_keep}
+use Rattle.iso_plain.proofs.WorldLemmas.{world_on}
 
 -- what holds, holds behind an error
 pub behind_error : {T E : Type 0} (result : Result T E) {Fact : Type 0} → Fact → OnErr result Fact
@@ -24,13 +26,13 @@ behind_error (Err e) fact = fact
 pub base_kept : {W M : Type 0} (old new : M → Present W → Type 0) (base : M) → KeepsMarks old new → IsBase old base → IsBase new base
 base_kept old new base keeps b = record { present = b.present; stands_for = keeps base b.present b.stands_for; substitution = b.substitution; next = b.next }
 
-module _ {S W M : Type 0} (present : S → Present W) (stands : S → M → Present W → Type 0) (older : M → M → Type 0) where
+module _ {S W M : Type 0} (names : S → List (List ℕ)) (present : S → Present W) (stands : S → M → Present W → Type 0) (older : M → M → Type 0) where
   -- the parts of an engine that is awake
-  pub keeps_all : (e : Plain S W M) (s : State) → IsEngine present stands older e s → Keeps present stands older e s.world s.stack
+  pub keeps_all : (e : Plain S W M) (s : State) → IsEngine names present stands older e s → Keeps names present stands older e s.world s.stack
   keeps_all e s is = (is.world, is.base, (variables s.query, is.choices))
 
   -- those of one that was cleared
-  pub keeps_none : (e : Plain S W M) (w : World) → IsFresh present stands older e w → Keeps present stands older e w []
+  pub keeps_none : (e : Plain S W M) (w : World) → IsFresh names present stands older e w → Keeps names present stands older e w []
   keeps_none e w fresh = (fresh.world, fresh.base, ([], rw fresh.choices none_kept))
 
   -- the choices, where marks stand on and nodes and frames come
@@ -42,20 +44,20 @@ module _ {S W M : Type 0} (present : S → Present W) (stands : S → M → Pres
       choices_more (record { nodes = nodes.items; frames = frames.items }) (record { nodes = nodes_add; frames = frames_add }) (choices_keep (λ d p among stood. keeps d.mark p stood) are)
 
   -- a store that keeps its marks, and nodes and frames that come
-  pub keeps_more : (e : Plain S W M) (store : S) (nodes : Vec (Node W) Global) (frames : Vec Frame Global) (w : World) (ks : List Alternative) → Keeps present stands older e w ks → KeepsMarks (stands e.store) (stands store)
-      → Adds e.nodes.items nodes.items → Adds e.frames.items frames.items → Keeps present stands older (record e { store = store; nodes = nodes; frames = frames }) w ks
-  keeps_more e store nodes frames w ks k keeps nodes_add frames_add =
-      (k.0, base_kept (stands e.store) (stands store) e.base keeps k.1, (k.2.0, choices_on e store nodes frames w k.2.0 ks keeps nodes_add frames_add k.2.1))
+  pub keeps_more : (e : Plain S W M) (store : S) (nodes : Vec (Node W) Global) (frames : Vec Frame Global) (w : World) (ks : List Alternative) → Keeps names present stands older e w ks → KeepsMarks (stands e.store) (stands store) → KeepsTexts (names e.store) (names store)
+      → Adds e.nodes.items nodes.items → Adds e.frames.items frames.items → Keeps names present stands older (record e { store = store; nodes = nodes; frames = frames }) w ks
+  keeps_more e store nodes frames w ks k keeps texts nodes_add frames_add =
+      (world_on texts k.0, base_kept (stands e.store) (stands store) e.base keeps k.1, (k.2.0, choices_on e store nodes frames w k.2.0 ks keeps nodes_add frames_add k.2.1))
 
-  pub keeps_store : (e : Plain S W M) (store : S) (w : World) (ks : List Alternative) → Keeps present stands older e w ks → KeepsMarks (stands e.store) (stands store)
-      → Keeps present stands older (record e { store = store }) w ks
-  keeps_store e store w ks k keeps =
-      (k.0, base_kept (stands e.store) (stands store) e.base keeps k.1, (k.2.0, choices_keep (λ d p among stood. keeps d.mark p stood) k.2.1))
+  pub keeps_store : (e : Plain S W M) (store : S) (w : World) (ks : List Alternative) → Keeps names present stands older e w ks → KeepsMarks (stands e.store) (stands store) → KeepsTexts (names e.store) (names store)
+      → Keeps names present stands older (record e { store = store }) w ks
+  keeps_store e store w ks k keeps texts =
+      (world_on texts k.0, base_kept (stands e.store) (stands store) e.base keeps k.1, (k.2.0, choices_keep (λ d p among stood. keeps d.mark p stood) k.2.1))
 
   -- no choice came
-  pub keeps_choices : (e : Plain S W M) (choices : Vec (kept.Choice W M) Global) (w : World) (ks : List Alternative) → choices.items ≡ e.choices.items → Keeps present stands older e w ks → Keeps present stands older (record e { choices = choices }) w ks
+  pub keeps_choices : (e : Plain S W M) (choices : Vec (kept.Choice W M) Global) (w : World) (ks : List Alternative) → choices.items ≡ e.choices.items → Keeps names present stands older e w ks → Keeps names present stands older (record e { choices = choices }) w ks
   keeps_choices e choices w ks same k = (k.0, k.1, (k.2.0, rw same k.2.1))
 
   -- no goal was started
-  pub stopped_before : (e : Plain S W M) (s : State) → Keeps present stands older e s.world [] → Stopped present stands older e s
-  stopped_before e s keeps = record { at = s; quiet = here; stack = []; keeps = keeps; alternatives = inr refl; settings = world_settings present stands older e s.world keeps.0 }
+  pub stopped_before : (e : Plain S W M) (s : State) → Keeps names present stands older e s.world [] → Stopped names present stands older e s
+  stopped_before e s keeps = record { at = s; quiet = here; stack = []; keeps = keeps; alternatives = inr refl; settings = world_settings names present stands older e s.world keeps.0 }

@@ -13,7 +13,7 @@ use Rattle.iso_model.specs.declared.built_ins.BuiltIn.{BuiltIn}
 use Rattle.iso_plain.specs.declared.procedures.Procedure.{Procedure}
 use Rattle.iso_plain.specs.declared.calls.Called.{Called}
 use Rattle.iso_plain.specs.declared.calls.Called.TheVariants as call
-use Rattle.iso_plain.specs.Programs.{place_at}
+use Rattle.iso_plain.specs.Callables.{place_at}
 use Rattle.iso_plain.specs.EngineStates.{left_at}
 
 -- The goal is one of this built-in.

@@ -74,14 +74,14 @@ settings_in w = (w.operators, w.flags)
 abbrev pub links_of : {S W M : Type 0} → Plain S W M → Links W
 links_of e = record { nodes = e.nodes.items; frames = e.frames.items }
 
-module _ {S W M : Type 0} (present : S → Present W) (stands : S → M → Present W → Type 0) (older : M → M → Type 0) where
+module _ {S W M : Type 0} (names : S → List (List ℕ)) (present : S → Present W) (stands : S → M → Present W → Type 0) (older : M → M → Type 0) where
   -- The engine's choices are these alternatives, over a world and for a query with these variables.
   abbrev pub HasChoices : Plain S W M → World → List ℕ → List Alternative → Type 0
   HasChoices e w named ks = StandsForChoices (stands e.store) older e.base (left_at w.database.procedures) e.query.items named (links_of e) e.choices.items ks
 
   -- The engine's parts are this state of the search; what was built is free.
   pub record IsEngine (e : Plain S W M) (s : State) : Type 0 where
-    pub world : IsWorld e s.world
+    pub world : IsWorld names e s.world
     pub steps : s.steps ≡ e.steps
     pub base : IsBase (stands e.store) e.base
     pub choices : HasChoices e s.world (variables s.query) s.stack
@@ -96,7 +96,7 @@ module _ {S W M : Type 0} (present : S → Present W) (stands : S → M → Pres
 
   -- Of an engine that was stopped within a move its world and its choices are left, each with what it brings back.
   abbrev pub Keeps : Plain S W M → World → List Alternative → Type 0
-  Keeps e w ks = IsWorld e w × IsBase (stands e.store) e.base × ((named : List ℕ) × HasChoices e w named ks)
+  Keeps e w ks = IsWorld names e w × IsBase (stands e.store) e.base × ((named : List ℕ) × HasChoices e w named ks)
 
   -- A spent engine stands for a state from which the search came, without an event, to one that has this world and these alternatives; where a
   -- goal was not started none is left. It keeps the operators and the flags of the state that it stands for.
@@ -122,7 +122,7 @@ module _ {S W M : Type 0} (present : S → Present W) (stands : S → M → Pres
 
   -- The engine, in this state, is about to try the first of these clauses for a call with these members behind it.
   pub record Calls (e : Plain S W M) (attempt : Attempt W) (s : State) (call : Tree) (c : Clause) (cs : List Clause) (behind : List Member) : Type 0 where
-    pub world : IsWorld e s.world
+    pub world : IsWorld names e s.world
     pub steps : s.steps ≡ e.steps
     pub base : IsBase (stands e.store) e.base
     pub choices : HasChoices e s.world (variables s.query) s.stack
@@ -133,7 +133,7 @@ module _ {S W M : Type 0} (present : S → Present W) (stands : S → M → Pres
 
   -- The engine, in this state, has its members from this place of the frames on.
   pub record IsAhead (e : Plain S W M) (s : State) (place : Option ℕ) : Type 0 where
-    pub world : IsWorld e s.world
+    pub world : IsWorld names e s.world
     pub steps : s.steps ≡ e.steps
     pub base : IsBase (stands e.store) e.base
     pub choices : HasChoices e s.world (variables s.query) s.stack
@@ -143,7 +143,7 @@ module _ {S W M : Type 0} (present : S → Present W) (stands : S → M → Pres
 
   -- The engine, in this state, went back to its newest choice, which is still there, and stands for this alternative.
   pub record WentBack (e : Plain S W M) (c : kept.Choice W M) (s : State) (a : Alternative) (below : List Alternative) : Type 0 where
-    pub world : IsWorld e s.world
+    pub world : IsWorld names e s.world
     pub steps : s.steps ≡ e.steps
     pub base : IsBase (stands e.store) e.base
     pub mark : stands e.store c.mark (present e.store)

@@ -16,7 +16,10 @@ use Rattle.iso_model.specs.declared.pauses.AddFault.TheVariants as add
 use Rattle.iso_prep.specs.declared.fault.Fault.{Fault}
 use Rattle.iso_prep.specs.declared.fault.Fault.TheVariants as fault
 use Rattle.iso_prep.specs.Preparations.{Preparation, clause_preparation}
+use Rattle.iso_store_core.specs.declared.patterns.Pattern.{Pattern}
+use Rattle.iso_plain.specs.declared.clauses.Checked.{Checked}
 use Rattle.iso_plain.specs.declared.clauses.Clause.{Clause}
+use Rattle.iso_plain.specs.Written.{IsPatternOf, IsWritten, term_in}
 use Rattle.iso_plain.specs.Nodes.{ArePartsOf, EachGoal, IsTermOf}
 
 -- A callable term whose variables are below n.
@@ -31,17 +34,31 @@ AreTemplates n [] = Unit {0}
 AreTemplates n (t ∷ ts) = IsTemplate n t × AreTemplates n ts
 
 -- the Rust term is one
-abbrev pub IsKeptGoal : ℕ → Term → Type 0
-IsKeptGoal n g = IsTemplate n (term_of g)
+abbrev pub IsCheckedGoal : ℕ → Term → Type 0
+IsCheckedGoal n g = IsTemplate n (term_of g)
 
--- The engine keeps the clause of the database so.
-pub record IsClause (kept : Clause) (c : databases.Clause) : Type 0 where
+-- What was checked is the clause of the database.
+pub record IsChecked (kept : Checked) (c : databases.Clause) : Type 0 where
   pub head : term_of kept.head ≡ c.head
   pub parts : ArePartsOf IsTermOf kept.parts.items c.body
   pub variables : kept.variables ≡ c.variables
   pub few : c.variables ≤ most_variables
   pub head_template : IsTemplate c.variables c.head
-  pub goal_templates : EachGoal (IsKeptGoal c.variables) kept.parts.items
+  pub goal_templates : EachGoal (IsCheckedGoal c.variables) kept.parts.items
+
+-- The pattern is written for one, where these are the names of the atoms.
+pub record IsKeptGoal (names : List (List ℕ)) (n : ℕ) (g : Pattern) : Type 0 where
+  pub written : IsWritten names g
+  pub template : IsTemplate n (term_in names g)
+
+-- The engine keeps the clause of the database so.
+pub record IsClause (names : List (List ℕ)) (kept : Clause) (c : databases.Clause) : Type 0 where
+  pub head : IsPatternOf names kept.head c.head
+  pub parts : ArePartsOf (IsPatternOf names) kept.parts.items c.body
+  pub variables : kept.variables ≡ c.variables
+  pub few : c.variables ≤ most_variables
+  pub head_template : IsTemplate c.variables c.head
+  pub goal_templates : EachGoal (IsKeptGoal names c.variables) kept.parts.items
 
 -- What was made ready is this clause, which fits but for its procedure.
 pub record IsReady (p : Preparation) (t : Tree) : Type 0 where
@@ -71,15 +88,16 @@ ChecksUser k (Err (add.Refused ball)) = (is_built_in k ≡ true) × (term_of bal
 ChecksUser k (Err add.NoMemory) = Unit {0}
 
 -- The clause may be added, whatever its number will be.
-pub record IsAddition (t : Tree) (kept : Clause) : Type 0 where
+pub record IsAddition (t : Tree) (kept : Checked) : Type 0 where
   pub body : Body
   pub key : Key
-  pub clause : (n : ℕ) → IsClause kept (clause_of t body n)
+  pub clause : (n : ℕ) → IsChecked kept (clause_of t body n)
   pub named : key_of (term_of kept.head) ≡ Some key
+  pub user : is_built_in key ≡ false
   pub fits : checked t ≡ Fits key body
 
 -- The clause is to be added, or refused with its error.
-abbrev pub Prepares : Tree → Result Clause AddFault → Type 0
+abbrev pub Prepares : Tree → Result Checked AddFault → Type 0
 Prepares t (Ok kept) = IsAddition t kept
 Prepares t (Err (add.Refused ball)) = IsRefused (checked t) (term_of ball.term)
 Prepares t (Err add.NoMemory) = Unit {0}

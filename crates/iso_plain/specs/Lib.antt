@@ -1,8 +1,11 @@
 pub mod Nodes
 pub mod Standing
+pub mod Written
+pub mod Callables
 pub mod Entering
 pub mod Kept
 pub mod Programs
+pub mod Adding
 pub mod Next
 pub mod EngineStates
 pub mod Limits

@@ -1,7 +1,7 @@
 -- The database as the engine keeps it, and what else outlives a run.
-use Rattle.std.specs.Prelude.{◌≡◌, ℕ, ◌<◌, List, [], ◌∷◌, Bool, ◌&&◌, ◌==◌, length, position, Option}
+use Rattle.std.specs.Prelude.{◌≡◌, ℕ, ◌<◌, List, [], ◌∷◌, length, Vec}
+use Rattle.std.specs.Global.{Global}
 use Rattle.std.specs.String.{string_bytes}
-use Rattle.std.specs.Str.{bytes_eq}
 use Rattle.iso_model.specs.Search.Databases as databases
 use Rattle.iso_model.specs.Search.Databases.{Key, Procedures}
 use Rattle.iso_model.specs.Search.Walker.{World}
@@ -9,40 +9,39 @@ use Rattle.iso_ops.specs.Operators.{Operator}
 use Rattle.iso_ops.specs.declared.settings.Flags.{Flags}
 use Rattle.iso_plain.specs.declared.clauses.Clause.{Clause}
 use Rattle.iso_plain.specs.declared.procedures.Procedure.{Procedure}
+use Rattle.iso_plain.specs.declared.callables.Callable.{Callable}
 use Rattle.iso_plain.specs.declared.plain.Plain.{Plain}
+use Rattle.iso_plain.specs.declared.controls.Controls.{Controls}
+use Rattle.iso_plain.specs.Controls.{AreControls}
+use Rattle.iso_plain.specs.Callables.{Indexes, callee_of}
 use Rattle.iso_plain.specs.Kept.{IsClause}
 
 -- the clauses are kept in their order
-pub data AreClauses : List Clause → List databases.Clause → Type 0 where
-  no_clauses : AreClauses [] []
-  more_clauses : {kept : Clause} {c : databases.Clause} {ks : List Clause} {cs : List databases.Clause} → IsClause kept c → AreClauses ks cs → AreClauses (kept ∷ ks) (c ∷ cs)
+pub data AreClauses (names : List (List ℕ)) : List Clause → List databases.Clause → Type 0 where
+  no_clauses : AreClauses names [] []
+  more_clauses : {kept : Clause} {c : databases.Clause} {ks : List Clause} {cs : List databases.Clause} → IsClause names kept c → AreClauses names ks cs → AreClauses names (kept ∷ ks) (c ∷ cs)
 
 -- the procedure is kept so, and has a clause
-pub record IsProcedure (kept : Procedure) (p : databases.Procedure) : Type 0 where
+pub record IsProcedure (names : List (List ℕ)) (kept : Procedure) (p : databases.Procedure) : Type 0 where
   pub name : string_bytes kept.name ≡ p.key.name
   pub arity : kept.arity ≡ p.key.arity
-  pub clauses : AreClauses kept.clauses.items p.clauses
+  pub clauses : AreClauses names kept.clauses.items p.clauses
   pub some : 0 < length kept.clauses.items
 
 -- the procedures are kept in their order
-pub data IsDatabase : List Procedure → Procedures → Type 0 where
-  no_procedures : IsDatabase [] []
-  more_procedures : {kept : Procedure} {p : databases.Procedure} {ks : List Procedure} {ps : Procedures} → IsProcedure kept p → IsDatabase ks ps → IsDatabase (kept ∷ ks) (p ∷ ps)
+pub data IsDatabase (names : List (List ℕ)) : List Procedure → Procedures → Type 0 where
+  no_procedures : IsDatabase names [] []
+  more_procedures : {kept : Procedure} {p : databases.Procedure} {ks : List Procedure} {ps : Procedures} → IsProcedure names kept p → IsDatabase names ks ps → IsDatabase names (kept ∷ ks) (p ∷ ps)
 
--- these procedures, operators and flags are what outlives a run
-pub record KeepsWorld (procedures : List Procedure) (ops : List Operator) (flags : Flags) (w : World) : Type 0 where
-  pub procedures_are : IsDatabase procedures w.database.procedures
+-- Where these are the names of the atoms, these procedures, operators and flags are what outlives a run, this is where procedures are found, and these
+-- atoms are the names of the control constructs.
+pub record KeepsWorld (names : List (List ℕ)) (procedures : List Procedure) (callables : List (Vec Callable Global)) (controls : Controls) (ops : List Operator) (flags : Flags) (w : World) : Type 0 where
+  pub procedures_are : IsDatabase names procedures w.database.procedures
+  pub found : Indexes names callables (callee_of procedures)
+  pub controls_are : AreControls names controls
   pub operators_are : ops ≡ w.operators
   pub flags_are : flags ≡ w.flags
 
 -- the engine has them
-abbrev pub IsWorld : {S W M : Type 0} → Plain S W M → World → Type 0
-IsWorld e w = KeepsWorld e.procedures.items e.ops e.flags w
-
--- whether this is the procedure with the key
-abbrev pub has_key : Key → Procedure → Bool
-has_key k p = p.arity == k.arity && bytes_eq (string_bytes p.name) k.name
-
--- the place of the procedure with this key
-abbrev pub place_at : List Procedure → Key → Option ℕ
-place_at ps k = position (has_key k) ps
+abbrev pub IsWorld : {S W M : Type 0} → (S → List (List ℕ)) → Plain S W M → World → Type 0
+IsWorld names e w = KeepsWorld (names e.store) e.procedures.items e.callables.items e.controls e.ops e.flags w

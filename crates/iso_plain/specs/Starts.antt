@@ -23,10 +23,10 @@ pub record IsQuery (p : Preparation) (t : Tree) : Type 0 where
   pub numbered : IsNumbered t
   pub term : is_term t ≡ true
 
-module _ {S W M : Type 0} (present : S → Present W) (stands : S → M → Present W → Type 0) (older : M → M → Type 0) where
+module _ {S W M : Type 0} (names : S → List (List ℕ)) (present : S → Present W) (stands : S → M → Present W → Type 0) (older : M → M → Type 0) where
   -- The engine has this world, its store is empty, and no choice stands.
   pub record IsFresh (e : Plain S W M) (w : World) : Type 0 where
-    pub world : IsWorld e w
+    pub world : IsWorld names e w
     pub base : IsBase (stands e.store) e.base
     pub choices : e.choices.items ≡ []
     pub substitution : (present e.store).substitution ≡ Variable
@@ -34,8 +34,8 @@ module _ {S W M : Type 0} (present : S → Present W) (stands : S → M → Pres
 
   -- What adding a clause makes of an engine with this world: it comes to the database, or the engine keeps the world.
   abbrev pub Comes : Addition → World → Result Unit AddFault → Plain S W M → Type 0
-  Comes (Adds db) w (Ok u) e = IsEngine present stands older e (idle (record w { database = db }))
+  Comes (Adds db) w (Ok u) e = IsEngine names present stands older e (idle (record w { database = db }))
   Comes (Refuses error) w (Ok u) e = ⊥
   Comes (Adds db) w (Err (add.Refused ball)) e = ⊥
-  Comes (Refuses error) w (Err (add.Refused ball)) e = (term_of ball.term ≡ error) × IsEngine present stands older e (idle w)
-  Comes addition w (Err add.NoMemory) e = IsEngine present stands older e (idle w)
+  Comes (Refuses error) w (Err (add.Refused ball)) e = (term_of ball.term ≡ error) × IsEngine names present stands older e (idle w)
+  Comes addition w (Err add.NoMemory) e = IsEngine names present stands older e (idle w)

@@ -1,14 +1,18 @@
 //! What a goal calls (7.7.7).
-ghost use Rattle.std.specs.Prelude.{◌≡◌, ◌<◌, None, IfOk};
+ghost use Rattle.std.specs.Prelude.{◌≡◌, ◌<◌, None, IfOk, length};
 ghost use Rattle.iso_model.specs.Search.BuiltIns.{built_in};
 ghost use Rattle.iso_model.specs.Search.Walker.{World};
 ghost use Rattle.iso_model.specs.Search.Errors.{key};
+ghost use Rattle.iso_atoms.specs.Texts.{EachOnce, text_at};
 ghost use Rattle.iso_store_core.specs.Presents.{Holds, meaning};
-ghost use Rattle.iso_plain.specs.Programs.{KeepsWorld, place_at};
+ghost use Rattle.iso_plain.specs.Programs.{IsWorld};
+ghost use Rattle.iso_plain.specs.Callables.{Indexes, callee_of, place_at};
 ghost use Rattle.iso_plain.specs.Called.{IsNamed, IsCalled};
 
+use super::balls;
+use super::callables::{self, Callee};
 use super::plain::Plain;
-use super::{balls, procedures};
+use iso_atoms::Atom;
 use iso_model::{Ball, BuiltIn};
 use iso_ops::Unknown;
 use iso_store_core::{Shape, Store};
@@ -44,28 +48,30 @@ impl<S: Store + Drop> Plain<S> {
     }
 
     /// What a goal of this name and arity calls. The error is that memory was refused.
-    pub(crate) fn named(&self, name: &str, arity: usize) -> Result<Called, AllocError>
-        requires { arity < 256 }
-        ensures { IfOk result (IsNamed self.entry.now.procedures.items self.entry.now.flags (key name.now arity)) }
+    fn named(&self, name: Atom, arity: usize) -> Result<Called, AllocError>
+        requires fits { arity < 256 }
+        requires name { name < length (S.names self.now.store) }
+        requires each_once { EachOnce (S.names self.now.store) }
+        requires found { Indexes (S.names self.now.store) self.now.callables.items (callee_of self.now.procedures.items) }
+        ensures { IfOk result (IsNamed self.entry.now.procedures.items self.entry.now.flags (key (text_at (S.names self.entry.now.store) name) arity)) }
     {
-        if let Some(found) = iso_model::built_in(name, arity) {
-            return Ok(Called::BuiltIn(found));
-        }
-        match procedures::position(self.procedures.as_slice(), name, arity) {
-            Some(place) => Ok(Called::User(place)),
-            None => self.unknown(name, arity),
+        match callables::find(self.callables.as_slice(), name, arity) {
+            Some(Callee::BuiltIn(built_in)) => Ok(Called::BuiltIn(built_in)),
+            Some(Callee::User(place)) => Ok(Called::User(place)),
+            None => self.unknown(self.store.text(name), arity),
         }
     }
 
     /// What the goal calls; one without a name fails. The error is that memory was refused.
     pub(crate) fn called(&self, goal: S::Word) -> Result<Called, AllocError>
-        requires { Holds (S.present self.now.store) goal }
-        ensures { (w : World) → KeepsWorld self.entry.now.procedures.items self.entry.now.ops self.entry.now.flags w
+        requires goal { Holds (S.present self.now.store) goal }
+        requires found { Indexes (S.names self.now.store) self.now.callables.items (callee_of self.now.procedures.items) }
+        ensures { (w : World) → IsWorld S.names self.entry.now w
             → IfOk result (IsCalled self.entry.now.procedures.items w (meaning (S.present self.entry.now.store) goal)) }
     {
         match self.store.shape(goal) {
-            Shape::Atom(name) => self.named(self.store.text(name), 0),
-            Shape::Compound(name, arity) => self.named(self.store.text(name), arity),
+            Shape::Atom(name) => self.named(name, 0),
+            Shape::Compound(name, arity) => self.named(name, arity),
             Shape::Var(_) | Shape::Int(_) => Ok(Called::Fails),
         }
     }

@@ -6,20 +6,29 @@ ghost use Rattle.iso_model.specs.Search.Databases.{key_of};
 ghost use Rattle.iso_model.specs.Search.Errors.{key};
 ghost use Rattle.iso_prep.specs.Classes.{goals_of};
 ghost use Rattle.iso_plain.specs.Nodes.{ArePartsOf, EachGoal, IsTermOf};
-ghost use Rattle.iso_plain.specs.Kept.{AreTemplates, IsKeptGoal, IsReady, Refuses, ChecksUser, Prepares};
+ghost use Rattle.iso_plain.specs.Kept.{AreTemplates, IsCheckedGoal, IsReady, Refuses, ChecksUser, Prepares};
 
 use super::balls;
 use super::bodies::{self, Node};
 use iso_model::{AddFault, Term, copied, is_built_in};
 use iso_prep::{Fault, Prepared};
+use iso_store_core::Pattern;
 use std::alloc::{AllocError, Global};
 
-/// A clause ready to be tried: its variables are numbered 0, 1, .. by first occurrence, and a body `true` has no parts.
+/// A clause that was checked and converted: its variables are numbered 0, 1, .. by first occurrence, and a body `true` has no parts.
 #[derive(Drop)]
-pub struct Clause {
+pub struct Checked {
     pub head: Term,
     /// The converted body's parts, its own last.
     pub parts: Vec<Node<Term>>,
+    pub variables: usize,
+}
+
+/// A clause ready to be tried: the same, with its terms written out for the store.
+#[derive(Drop)]
+pub struct Clause {
+    pub head: Pattern,
+    pub parts: Vec<Node<Pattern>>,
     pub variables: usize,
 }
 
@@ -49,7 +58,7 @@ pub fn indicator_of(term: &Term) -> Option<(&str, usize)>
 /// that memory was refused.
 fn parts_of(alloc: Global, prepared: &Prepared) -> Result<Vec<Node<Term>>, AllocError>
     ensures parts { IfOk result (λ parts. ArePartsOf IsTermOf parts.items prepared.now.body) }
-    ensures goals { (n : ℕ) → AreTemplates n (goals_of prepared.now.body) → IfOk result (λ parts. EachGoal (IsKeptGoal n) parts.items) }
+    ensures goals { (n : ℕ) → AreTemplates n (goals_of prepared.now.body) → IfOk result (λ parts. EachGoal (IsCheckedGoal n) parts.items) }
 {
     if is_true(prepared.body()) {
         return Ok(Vec::new(alloc));
@@ -83,7 +92,7 @@ fn refusal(alloc: Global, fault: Fault) -> Result<AddFault, AllocError>
 }
 
 /// The prepared clause as it is kept. Refused where its head is that of a built-in or of a control construct.
-fn kept(alloc: Global, prepared: &Prepared) -> Result<Clause, AddFault>
+fn kept(alloc: Global, prepared: &Prepared) -> Result<Checked, AddFault>
     requires { (t : Tree) × IsReady prepared.now t }
     ensures { (t : Tree) → IsReady prepared.now t → Prepares t result }
 {
@@ -96,19 +105,19 @@ fn kept(alloc: Global, prepared: &Prepared) -> Result<Clause, AddFault>
     check_user(alloc, name, arity)?;
     let head = copied(alloc, head)?;
     let parts = parts_of(alloc, prepared)?;
-    Ok(Clause {
+    Ok(Checked {
         head,
         parts,
         variables: prepared.variables(),
     })
 }
 
-/// The clause ready to be tried (8.9.2, with Info `consult/1`). Refused where the head is a variable
+/// The clause, checked and converted (8.9.2, with Info `consult/1`). Refused where the head is a variable
 /// (`instantiation_error`) or a number (`type_error(callable, Head)`), where the body can't be converted
 /// (`type_error(callable, Body)`), where there are more than 65,535 distinct variables
 /// (`representation_error(max_variables)`), or where the head is that of a built-in
 /// (`permission_error(modify, static_procedure, PI)`), checked in this order.
-pub fn prepare(alloc: Global, clause: &Term) -> Result<Clause, AddFault>
+pub fn prepare(alloc: Global, clause: &Term) -> Result<Checked, AddFault>
     requires { arities_fit (term_of clause.now) ≡ true }
     ensures { Prepares (term_of clause.now) result }
 {

@@ -19,14 +19,14 @@ impl<S: Store + Drop> Plain<S> {
 
     /// Takes the choices away that were made since so many stood.
     fn cut_to(&mut self, height: usize)
-        requires { (s : State) × (place : Option ℕ) × IsAhead S.present S.stands S.older self.old s place }
-        ensures cut { (s : State) (place : Option ℕ) → IsAhead S.present S.stands S.older self.old s place
-            → IsAhead S.present S.stands S.older self.new (cut_back height s.list s) place }
+        requires { (s : State) × (place : Option ℕ) × IsAhead S.names S.present S.stands S.older self.old s place }
+        ensures cut { (s : State) (place : Option ℕ) → IsAhead S.names S.present S.stands S.older self.old s place
+            → IsAhead S.names S.present S.stands S.older self.new (cut_back height s.list s) place }
         ensures steps { self.new.steps ≡ self.old.steps }
         ensures frames { self.new.frames ≡ self.old.frames }
         ensures costs { choices_cost self.old.procedures.items (frame_costs self.old.frames.items) self.new.choices.items
             ≤ choices_cost self.old.procedures.items (frame_costs self.old.frames.items) self.old.choices.items }
-        ensures stays { Stays self.old self.new }
+        ensures stays { Stays S.names self.old self.new }
     {
         if height < self.choices.len() {
             let mark = self.choices[height].mark;
@@ -39,12 +39,12 @@ impl<S: Store + Drop> Plain<S> {
     pub(crate) fn cut(&mut self, frame: Frame) -> Move
         requires now { self.old.now ≡ now.Running frame }
         requires cuts { IsCut self.old.nodes.items frame }
-        requires stands { (s : State) × Represents S.present S.stands S.older self.old s }
-        ensures moves { (s : State) → Represents S.present S.stands S.older self.old s → Moves S.present S.stands S.older result s self.new }
+        requires stands { (s : State) × Represents S.names S.present S.stands S.older self.old s }
+        ensures moves { (s : State) → Represents S.names S.present S.stands S.older self.old s → Moves S.names S.present S.stands S.older result s self.new }
         ensures falls { Falls result (weight self.old) (weight self.new) }
         ensures frames { MoveFull ⊥ result }
         ensures met { MoveMet S.full result self.new }
-        ensures stays { Stays self.old self.new }
+        ensures stays { Stays S.names self.old self.new }
     {
         self.cut_to(frame.mark);
         self.now = at(self.frames.as_slice(), frame.next);
@@ -61,14 +61,14 @@ impl<S: Store + Drop> Plain<S> {
     ) -> Result<Move, StoreFault>
         requires now { self.old.now ≡ now.Running frame }
         requires there { IsAt self.old.nodes.items frame place (node.And distance) }
-        requires stands { (s : State) × Represents S.present S.stands S.older self.old s }
-        ensures moves { (s : State) → Represents S.present S.stands S.older self.old s
-            → IfOk result (λ m. Moves S.present S.stands S.older m s self.new) }
-        ensures stopped { (s : State) → Represents S.present S.stands S.older self.old s → OnErr result (Stopped S.present S.stands S.older self.new s) }
+        requires stands { (s : State) × Represents S.names S.present S.stands S.older self.old s }
+        ensures moves { (s : State) → Represents S.names S.present S.stands S.older self.old s
+            → IfOk result (λ m. Moves S.names S.present S.stands S.older m s self.new) }
+        ensures stopped { (s : State) → Represents S.names S.present S.stands S.older self.old s → OnErr result (Stopped S.names S.present S.stands S.older self.new s) }
         ensures falls { IfOk result (λ m. Falls m (weight self.old) (weight self.new)) }
         ensures frames { ResultFull ⊥ result }
         ensures met { ResultMet S.full result self.new }
-        ensures stays { Stays self.old self.new }
+        ensures stays { Stays S.names self.old self.new }
     {
         let second = push_frame(
             &mut self.frames,
@@ -95,14 +95,14 @@ impl<S: Store + Drop> Plain<S> {
     ) -> Result<Move, StoreFault>
         requires now { self.old.now ≡ now.Running frame }
         requires there { IsAt self.old.nodes.items frame place (node.If distance) }
-        requires stands { (s : State) × Represents S.present S.stands S.older self.old s }
-        ensures moves { (s : State) → Represents S.present S.stands S.older self.old s
-            → IfOk result (λ m. Moves S.present S.stands S.older m s self.new) }
-        ensures stopped { (s : State) → Represents S.present S.stands S.older self.old s → OnErr result (Stopped S.present S.stands S.older self.new s) }
+        requires stands { (s : State) × Represents S.names S.present S.stands S.older self.old s }
+        ensures moves { (s : State) → Represents S.names S.present S.stands S.older self.old s
+            → IfOk result (λ m. Moves S.names S.present S.stands S.older m s self.new) }
+        ensures stopped { (s : State) → Represents S.names S.present S.stands S.older self.old s → OnErr result (Stopped S.names S.present S.stands S.older self.new s) }
         ensures falls { IfOk result (λ m. Falls m (weight self.old) (weight self.new)) }
         ensures frames { ResultFull ⊥ result }
         ensures met { ResultMet S.full result self.new }
-        ensures stays { Stays self.old self.new }
+        ensures stays { Stays S.names self.old self.new }
     {
         let height = self.choices.len();
         let behind = push_frame(
@@ -138,14 +138,14 @@ impl<S: Store + Drop> Plain<S> {
     ) -> Result<Move, StoreFault>
         requires now { self.old.now ≡ now.Running frame }
         requires there { IsAt self.old.nodes.items frame place (node.Or distance) }
-        requires stands { (s : State) × Represents S.present S.stands S.older self.old s }
-        ensures moves { (s : State) → Represents S.present S.stands S.older self.old s
-            → IfOk result (λ m. Moves S.present S.stands S.older m s self.new) }
-        ensures stopped { (s : State) → Represents S.present S.stands S.older self.old s → OnErr result (Stopped S.present S.stands S.older self.new s) }
+        requires stands { (s : State) × Represents S.names S.present S.stands S.older self.old s }
+        ensures moves { (s : State) → Represents S.names S.present S.stands S.older self.old s
+            → IfOk result (λ m. Moves S.names S.present S.stands S.older m s self.new) }
+        ensures stopped { (s : State) → Represents S.names S.present S.stands S.older self.old s → OnErr result (Stopped S.names S.present S.stands S.older self.new s) }
         ensures falls { IfOk result (λ m. Falls m (weight self.old) (weight self.new)) }
-        ensures frames { (s : State) → Represents S.present S.stands S.older self.old s → ResultFull (ComesOver self.old.limit s) result }
+        ensures frames { (s : State) → Represents S.names S.present S.stands S.older self.old s → ResultFull (ComesOver self.old.limit s) result }
         ensures met { ResultMet S.full result self.new }
-        ensures stays { Stays self.old self.new }
+        ensures stays { Stays S.names self.old self.new }
     {
         if self.choices.len() >= self.limit as usize {
             self.now = Now::Spent(Limit::Frames);
@@ -184,14 +184,14 @@ impl<S: Store + Drop> Plain<S> {
     ) -> Result<Move, StoreFault>
         requires now { self.old.now ≡ now.Running frame }
         requires there { IsAt self.old.nodes.items frame place (node.Choose condition next) }
-        requires stands { (s : State) × Represents S.present S.stands S.older self.old s }
-        ensures moves { (s : State) → Represents S.present S.stands S.older self.old s
-            → IfOk result (λ m. Moves S.present S.stands S.older m s self.new) }
-        ensures stopped { (s : State) → Represents S.present S.stands S.older self.old s → OnErr result (Stopped S.present S.stands S.older self.new s) }
+        requires stands { (s : State) × Represents S.names S.present S.stands S.older self.old s }
+        ensures moves { (s : State) → Represents S.names S.present S.stands S.older self.old s
+            → IfOk result (λ m. Moves S.names S.present S.stands S.older m s self.new) }
+        ensures stopped { (s : State) → Represents S.names S.present S.stands S.older self.old s → OnErr result (Stopped S.names S.present S.stands S.older self.new s) }
         ensures falls { IfOk result (λ m. Falls m (weight self.old) (weight self.new)) }
-        ensures frames { (s : State) → Represents S.present S.stands S.older self.old s → ResultFull (ComesOver self.old.limit s) result }
+        ensures frames { (s : State) → Represents S.names S.present S.stands S.older self.old s → ResultFull (ComesOver self.old.limit s) result }
         ensures met { ResultMet S.full result self.new }
-        ensures stays { Stays self.old self.new }
+        ensures stays { Stays S.names self.old self.new }
     {
         let height = self.choices.len();
         if height >= self.limit as usize {

@@ -33,14 +33,14 @@ impl<S: Store + Drop> Plain<S> {
     /// The values of the query's variables, by first occurrence; the engine fails next.
     pub(crate) fn answer(&mut self) -> Result<Move, StoreFault>
         requires now { self.old.now ≡ Answering }
-        requires stands { (s : State) × Represents S.present S.stands S.older self.old s }
-        ensures moves { (s : State) → Represents S.present S.stands S.older self.old s
-            → IfOk result (λ m. Moves S.present S.stands S.older m s self.new) }
-        ensures stopped { (s : State) → Represents S.present S.stands S.older self.old s → OnErr result (Stopped S.present S.stands S.older self.new s) }
+        requires stands { (s : State) × Represents S.names S.present S.stands S.older self.old s }
+        ensures moves { (s : State) → Represents S.names S.present S.stands S.older self.old s
+            → IfOk result (λ m. Moves S.names S.present S.stands S.older m s self.new) }
+        ensures stopped { (s : State) → Represents S.names S.present S.stands S.older self.old s → OnErr result (Stopped S.names S.present S.stands S.older self.new s) }
         ensures falls { IfOk result (λ m. Falls m (weight self.old) (weight self.new)) }
         ensures frames { ResultFull ⊥ result }
         ensures met { ResultMet S.full result self.new }
-        ensures stays { Stays self.old self.new }
+        ensures stays { Stays S.names self.old self.new }
         ensures base { IsBase (S.stands self.old.store) self.old.base → IsBase (S.stands self.new.store) self.new.base }
     {
         let values = values(self.alloc, &self.store, self.query.as_slice())?;
@@ -51,12 +51,12 @@ impl<S: Store + Drop> Plain<S> {
     /// Raises the ball that was kept; nothing catches it.
     pub(crate) fn raise(&mut self) -> Move
         requires now { self.old.now ≡ Raising }
-        requires stands { (s : State) × Represents S.present S.stands S.older self.old s }
-        ensures moves { (s : State) → Represents S.present S.stands S.older self.old s → Moves S.present S.stands S.older result s self.new }
+        requires stands { (s : State) × Represents S.names S.present S.stands S.older self.old s }
+        ensures moves { (s : State) → Represents S.names S.present S.stands S.older self.old s → Moves S.names S.present S.stands S.older result s self.new }
         ensures falls { Falls result (weight self.old) (weight self.new) }
         ensures frames { MoveFull ⊥ result }
         ensures met { MoveMet S.full result self.new }
-        ensures stays { Stays self.old self.new }
+        ensures stays { Stays S.names self.old self.new }
         ensures base { IsBase (S.stands self.old.store) self.old.base → IsBase (S.stands self.new.store) self.new.base }
     {
         let ball = self.raised.take();

@@ -23,11 +23,11 @@ impl<S: Store + Drop> Plain<S> {
 
     /// Ends at a limit: the engine is spent.
     fn stop(&mut self, fault: StoreFault) -> Pause
-        ensures moves { (s : State) → Stopped S.present S.stands S.older self.old s → Moves S.present S.stands S.older (moved.Pauses result) s self.new }
+        ensures moves { (s : State) → Stopped S.names S.present S.stands S.older self.old s → Moves S.names S.present S.stands S.older (moved.Pauses result) s self.new }
         ensures falls { (old new : ℕ) → FallsAtEvent result old new }
         ensures frames { WhereFull ⊥ result }
         ensures met { (fault ≡ StoreFault.Full → S.full self.old.store) → LimitMet S.full result self.new }
-        ensures stays { Stays self.old self.new }
+        ensures stays { Stays S.names self.old self.new }
     {
         match fault {
             StoreFault::Full => {
@@ -44,14 +44,14 @@ impl<S: Store + Drop> Plain<S> {
     /// A move of an engine that is awake. The errors: the store is full, or memory was refused.
     fn moved(&mut self) -> Result<Move, StoreFault>
         requires awake { IsAwake (phase_of self.old.now) }
-        requires stands { (s : State) × StandsFor S.present S.stands S.older self.old s }
-        ensures moves { (s : State) → StandsFor S.present S.stands S.older self.old s
-            → IfOk result (λ m. Moves S.present S.stands S.older m s self.new) }
-        ensures stopped { (s : State) → StandsFor S.present S.stands S.older self.old s → OnErr result (Stopped S.present S.stands S.older self.new s) }
+        requires stands { (s : State) × StandsFor S.names S.present S.stands S.older self.old s }
+        ensures moves { (s : State) → StandsFor S.names S.present S.stands S.older self.old s
+            → IfOk result (λ m. Moves S.names S.present S.stands S.older m s self.new) }
+        ensures stopped { (s : State) → StandsFor S.names S.present S.stands S.older self.old s → OnErr result (Stopped S.names S.present S.stands S.older self.new s) }
         ensures falls { IfOk result (λ m. Falls m (weight self.old) (weight self.new)) }
-        ensures frames { (s : State) → StandsFor S.present S.stands S.older self.old s → ResultFull (ComesOver self.old.limit s) result }
+        ensures frames { (s : State) → StandsFor S.names S.present S.stands S.older self.old s → ResultFull (ComesOver self.old.limit s) result }
         ensures met { ResultMet S.full result self.new }
-        ensures stays { Stays self.old self.new }
+        ensures stays { Stays S.names self.old self.new }
     {
         match self.now {
             Now::Idle => Ok(Move::Pauses(Pause::NoMore)),
@@ -66,12 +66,12 @@ impl<S: Store + Drop> Plain<S> {
     /// A move of an engine that is awake, which ends at a limit.
     fn advance(&mut self) -> Move
         requires awake { IsAwake (phase_of self.old.now) }
-        requires stands { (s : State) × StandsFor S.present S.stands S.older self.old s }
-        ensures moves { (s : State) → StandsFor S.present S.stands S.older self.old s → Moves S.present S.stands S.older result s self.new }
+        requires stands { (s : State) × StandsFor S.names S.present S.stands S.older self.old s }
+        ensures moves { (s : State) → StandsFor S.names S.present S.stands S.older self.old s → Moves S.names S.present S.stands S.older result s self.new }
         ensures falls { Falls result (weight self.old) (weight self.new) }
-        ensures frames { (s : State) → StandsFor S.present S.stands S.older self.old s → MoveFull (ComesOver self.old.limit s) result }
+        ensures frames { (s : State) → StandsFor S.names S.present S.stands S.older self.old s → MoveFull (ComesOver self.old.limit s) result }
         ensures met { MoveMet S.full result self.new }
-        ensures stays { Stays self.old self.new }
+        ensures stays { Stays S.names self.old self.new }
     {
         match self.moved() {
             Ok(next) => next,
@@ -82,13 +82,13 @@ impl<S: Store + Drop> Plain<S> {
     /// Moves on to the next event, of an engine that is awake.
     fn run_on(&mut self) -> Pause
         requires awake { IsAwake (phase_of self.old.now) }
-        requires stands { (s : State) × StandsFor S.present S.stands S.older self.old s }
-        ensures pauses { (s : State) → StandsFor S.present S.stands S.older self.old s
-            → Pauses s result (StandsFor S.present S.stands S.older self.new) (phase_of self.new.now) }
+        requires stands { (s : State) × StandsFor S.names S.present S.stands S.older self.old s }
+        ensures pauses { (s : State) → StandsFor S.names S.present S.stands S.older self.old s
+            → Pauses s result (StandsFor S.names S.present S.stands S.older self.new) (phase_of self.new.now) }
         ensures left { FallsAtEvent result (weight self.old) (weight self.new) }
-        ensures frames { (s : State) → StandsFor S.present S.stands S.older self.old s → WhereFull (ComesOver self.old.limit s) result }
+        ensures frames { (s : State) → StandsFor S.names S.present S.stands S.older self.old s → WhereFull (ComesOver self.old.limit s) result }
         ensures met { LimitMet S.full result self.new }
-        ensures stays { Stays self.old self.new }
+        ensures stays { Stays S.names self.old self.new }
     {
         loop {
             match self.advance() {
@@ -107,7 +107,7 @@ impl<S: Store + Drop> Engine for Plain<S> {
     ghost use Rattle.iso_model.specs.Search.Walker.{started};
     ghost use Rattle.iso_model.specs.Search.Runs.{ComesOver};
 
-    ghost stands_for = { StandsFor S.present S.stands S.older };
+    ghost stands_for = { StandsFor S.names S.present S.stands S.older };
 
     ghost phase = { λ engine. phase_of engine.now };
 
@@ -120,12 +120,12 @@ impl<S: Store + Drop> Engine for Plain<S> {
     /// As the trait says. HeapFull comes only where the store is full.
     fn start(&mut self, goal: &Term, budget: u32) -> Result<(), StartFault>
         requires ready { phase_of self.old.now ≡ Ready }
-        requires stands { (s : State) × StandsFor S.present S.stands S.older self.old s }
+        requires stands { (s : State) × StandsFor S.names S.present S.stands S.older self.old s }
         requires fits { arities_fit (term_of goal.now) ≡ true }
         requires numbered { IsNumbered (term_of goal.now) }
-        ensures starts { (s : State) → StandsFor S.present S.stands S.older self.old s
-            → Starts (term_of goal.now) budget s result (StandsFor S.present S.stands S.older self.new) (phase_of self.new.now) }
-        ensures limit { (s : State) → StandsFor S.present S.stands S.older self.old s
+        ensures starts { (s : State) → StandsFor S.names S.present S.stands S.older self.old s
+            → Starts (term_of goal.now) budget s result (StandsFor S.names S.present S.stands S.older self.new) (phase_of self.new.now) }
+        ensures limit { (s : State) → StandsFor S.names S.present S.stands S.older self.old s
             → RefusesStart (MayMeet (λ t. Unit {0}) (ComesOver self.new.limit)) (started (term_of goal.now) budget s.world) result }
         ensures limits { KeepsLimits (MayMeet (λ t. Unit {0}) (ComesOver self.old.limit)) (MayMeet (λ t. Unit {0}) (ComesOver self.new.limit)) }
         ensures full { result ≡ Err StartFault.HeapFull → S.full self.new.store }
@@ -151,12 +151,12 @@ impl<S: Store + Drop> Engine for Plain<S> {
     /// As the trait says. FramesFull comes only where the search comes to more alternatives than `new` allowed, HeapFull only where the store
     /// is full.
     fn resume(&mut self) -> Pause
-        requires { (s : State) × StandsFor S.present S.stands S.older self.old s }
-        ensures pauses { (s : State) → StandsFor S.present S.stands S.older self.old s → IsAwake (phase_of self.old.now)
-            → Pauses s result (StandsFor S.present S.stands S.older self.new) (phase_of self.new.now) }
-        ensures spent { (s : State) → StandsFor S.present S.stands S.older self.old s → (limit : Limit) → phase_of self.old.now ≡ Spent limit
-            → StaysSpent s limit result (StandsFor S.present S.stands S.older self.new) (phase_of self.new.now) }
-        ensures limit { (s : State) → StandsFor S.present S.stands S.older self.old s
+        requires { (s : State) × StandsFor S.names S.present S.stands S.older self.old s }
+        ensures pauses { (s : State) → StandsFor S.names S.present S.stands S.older self.old s → IsAwake (phase_of self.old.now)
+            → Pauses s result (StandsFor S.names S.present S.stands S.older self.new) (phase_of self.new.now) }
+        ensures spent { (s : State) → StandsFor S.names S.present S.stands S.older self.old s → (limit : Limit) → phase_of self.old.now ≡ Spent limit
+            → StaysSpent s limit result (StandsFor S.names S.present S.stands S.older self.new) (phase_of self.new.now) }
+        ensures limit { (s : State) → StandsFor S.names S.present S.stands S.older self.old s
             → MeetsLimit (MayMeet (λ t. Unit {0}) (ComesOver self.new.limit)) s result }
         ensures limits { KeepsLimits (MayMeet (λ t. Unit {0}) (ComesOver self.old.limit)) (MayMeet (λ t. Unit {0}) (ComesOver self.new.limit)) }
         ensures left { FallsAtEvent result (weight self.old) (weight self.new) }
@@ -183,10 +183,10 @@ impl<S: Store + Drop> Engine for Plain<S> {
     /// As the trait says.
     fn consult(&mut self, clause: &Term) -> Result<(), AddFault>
         requires ready { phase_of self.old.now ≡ Ready }
-        requires stands { (s : State) × StandsFor S.present S.stands S.older self.old s }
+        requires stands { (s : State) × StandsFor S.names S.present S.stands S.older self.old s }
         requires fits { arities_fit (term_of clause.now) ≡ true }
-        ensures consults { (s : State) → StandsFor S.present S.stands S.older self.old s
-            → Consults (consulted (term_of clause.now) s.world.database) s result (StandsFor S.present S.stands S.older self.new) }
+        ensures consults { (s : State) → StandsFor S.names S.present S.stands S.older self.old s
+            → Consults (consulted (term_of clause.now) s.world.database) s result (StandsFor S.names S.present S.stands S.older self.new) }
         ensures ready { phase_of self.new.now ≡ Ready }
         ensures limits { KeepsLimits (MayMeet (λ t. Unit {0}) (ComesOver self.old.limit)) (MayMeet (λ t. Unit {0}) (ComesOver self.new.limit)) }
         ensures same { self.new.limit ≡ self.old.limit }

@@ -2,18 +2,17 @@
 //! copied (7.7.10, 7.7.11).
 ghost use Rattle.std.specs.Prelude.{◌≡◌, ◌+◌, ◌<◌, ◌^◌, IfOk, OnOk, length, Err};
 ghost use Rattle.std.specs.List.{All};
-ghost use Rattle.iso_model.specs.Terms.TermOf.{term_of};
 ghost use Rattle.iso_model.specs.Terms.Substitutions.{apply};
 ghost use Rattle.iso_model.specs.Terms.Copies.{numbers_from};
 ghost use Rattle.iso_store_core.specs.Presents.{KeepsMarks, KeepsNumbers, Makes, Holds};
 ghost use Rattle.iso_plain.specs.Standing.{AreVariables};
 ghost use Rattle.iso_plain.specs.Nodes.{IfGoal};
-ghost use Rattle.iso_plain.specs.Entering.{Enters, Extends, Fits, GoalFits, PartsFit, word_terms, CopiesPart, Copies, Adds};
+ghost use Rattle.iso_plain.specs.Written.{term_in};
+ghost use Rattle.iso_plain.specs.Entering.{Enters, Extends, GoalFits, PartsFit, word_terms, CopiesPart, Copies, Adds};
 
 use super::bodies::Node;
 use super::clauses::Clause;
-use iso_model::Term;
-use iso_store_core::{Store, StoreFault};
+use iso_store_core::{Pattern, Store, StoreFault};
 use std::alloc::Global;
 
 /// So many new variables, numbered from the next number on. The errors: the store is full, or memory was refused.
@@ -26,6 +25,7 @@ pub fn new_variables<S: Store>(
     ensures variables { IfOk result (λ ws. AreVariables (S.present store.new) ws.items (numbers_from (S.present store.old).next count)) }
     ensures extends { IfOk result (λ _. Extends (S.present store.old) (S.present store.new) count) }
     ensures full { result ≡ Err StoreFault.Full → S.full store.new }
+    ensures names { S.names store.new ≡ S.names store.old }
     ensures marks { KeepsMarks (S.stands store.old) (S.stands store.new) }
 {
     let mut variables = Vec::new(alloc);
@@ -36,34 +36,35 @@ pub fn new_variables<S: Store>(
     Ok(variables)
 }
 
-/// The term in the store, with these words for its variables 0, 1, .. The errors: the store is full, or memory was refused.
+/// The pattern's term in the store, with these words for its variables 0, 1, .. The errors: the store is full, or memory was refused.
 pub fn instantiate<S: Store>(
     store: &mut S,
-    term: &Term,
+    pattern: &Pattern,
     variables: &[S::Word],
 ) -> Result<S::Word, StoreFault>
-    requires fits { Fits (length variables.now) (term_of term.now) }
+    requires fits { GoalFits (S.names store.old) (length variables.now) pattern.now }
     requires variables { All (λ w. Holds (S.present store.old) w) variables.now }
     ensures made { IfOk result (λ w. Makes (S.present store.old) (S.present store.new) w
-        (apply (word_terms (S.present store.old) variables.now) (term_of term.now))) }
+        (apply (word_terms (S.present store.old) variables.now) (term_in (S.names store.old) pattern.now))) }
     ensures numbers { OnOk result (KeepsNumbers (S.present store.old) (S.present store.new)) }
     ensures full { result ≡ Err StoreFault.Full → S.full store.new }
+    ensures names { S.names store.new ≡ S.names store.old }
     ensures marks { KeepsMarks (S.stands store.old) (S.stands store.new) }
 {
-    let pattern = store.pattern(term)?;
-    store.instantiate(&pattern, variables)
+    store.instantiate(pattern, variables)
 }
 
 /// The part with its goal in the store, these words for its variables. The errors: the store is full, or memory was refused.
 fn copied_part<S: Store>(
     store: &mut S,
-    part: &Node<Term>,
+    part: &Node<Pattern>,
     variables: &[S::Word],
 ) -> Result<Node<S::Word>, StoreFault>
-    requires fits { IfGoal (GoalFits (length variables.now)) part.now }
+    requires fits { IfGoal (GoalFits (S.names store.old) (length variables.now)) part.now }
     requires variables { All (λ w. Holds (S.present store.old) w) variables.now }
-    ensures copies { IfOk result (CopiesPart (S.present store.old) (S.present store.new) (word_terms (S.present store.old) variables.now) part.now) }
+    ensures copies { IfOk result (CopiesPart (S.names store.old) (S.present store.old) (S.present store.new) (word_terms (S.present store.old) variables.now) part.now) }
     ensures full { result ≡ Err StoreFault.Full → S.full store.new }
+    ensures names { S.names store.new ≡ S.names store.old }
     ensures marks { KeepsMarks (S.stands store.old) (S.stands store.new) }
 {
     match part {
@@ -81,15 +82,16 @@ fn copied_part<S: Store>(
 pub fn copy_parts<S: Store>(
     store: &mut S,
     nodes: &mut Vec<Node<S::Word>>,
-    parts: &[Node<Term>],
+    parts: &[Node<Pattern>],
     variables: &[S::Word],
 ) -> Result<(), StoreFault>
-    requires fits { PartsFit (length variables.now) parts.now }
+    requires fits { PartsFit (S.names store.old) (length variables.now) parts.now }
     requires variables { All (λ w. Holds (S.present store.old) w) variables.now }
-    ensures copies { OnOk result (Copies (S.present store.new) (word_terms (S.present store.old) variables.now) nodes.old.items nodes.new.items parts.now) }
+    ensures copies { OnOk result (Copies (S.names store.old) (S.present store.new) (word_terms (S.present store.old) variables.now) nodes.old.items nodes.new.items parts.now) }
     ensures extends { OnOk result (Extends (S.present store.old) (S.present store.new) 0) }
     ensures full { result ≡ Err StoreFault.Full → S.full store.new }
     ensures nodes { Adds nodes.old.items nodes.new.items }
+    ensures names { S.names store.new ≡ S.names store.old }
     ensures marks { KeepsMarks (S.stands store.old) (S.stands store.new) }
 {
     for part in parts {
@@ -121,12 +123,13 @@ pub fn enter<S: Store>(
 ) -> Result<Entered, StoreFault>
     requires goal { Holds (S.present store.old) goal }
     requires room { (S.present store.old).next + clause.now.variables < 2 ^ 63 }
-    requires head_fits { Fits clause.now.variables (term_of clause.now.head) }
-    requires parts_fit { PartsFit clause.now.variables clause.now.parts.items }
-    ensures enters { IfOk result (Enters (S.present store.old) (S.present store.new) nodes.old.items nodes.new.items
+    requires head_fits { GoalFits (S.names store.old) clause.now.variables clause.now.head }
+    requires parts_fit { PartsFit (S.names store.old) clause.now.variables clause.now.parts.items }
+    ensures enters { IfOk result (Enters (S.names store.old) (S.present store.old) (S.present store.new) nodes.old.items nodes.new.items
         ((S.present store.old).term goal) clause.now) }
     ensures full { result ≡ Err StoreFault.Full → S.full store.new }
     ensures nodes { Adds nodes.old.items nodes.new.items }
+    ensures names { S.names store.new ≡ S.names store.old }
     ensures marks { KeepsMarks (S.stands store.old) (S.stands store.new) }
 {
     let variables = new_variables(alloc, store, clause.variables)?;

@@ -5,8 +5,10 @@
 // error terms, and clauses as they are kept
 pub mod balls;
 pub mod bodies;
+pub mod callables;
 pub mod clauses;
 pub mod procedures;
+pub mod writing;
 // the engine's parts, and its moves
 pub mod calls;
 pub mod control;

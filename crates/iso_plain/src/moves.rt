@@ -20,9 +20,9 @@ use std::alloc::AllocError;
 /// The clause at this place of the procedure at this place.
 fn clause_at(procedures: &[Procedure], place: usize, index: usize) -> &Clause
     requires within { place < length procedures.now }
-    requires found { (db : Procedures) × (c : databases.Clause) × (cs : List databases.Clause) × IsDatabase procedures.now db × (left_at db place index ≡ c ∷ cs) }
-    ensures { (db : Procedures) (c : databases.Clause) (cs : List databases.Clause) → IsDatabase procedures.now db
-        → left_at db place index ≡ c ∷ cs → IsClause result.now c }
+    requires found { (names : List (List ℕ)) × (db : Procedures) × (c : databases.Clause) × (cs : List databases.Clause) × IsDatabase names procedures.now db × (left_at db place index ≡ c ∷ cs) }
+    ensures { (names : List (List ℕ)) (db : Procedures) (c : databases.Clause) (cs : List databases.Clause) → IsDatabase names procedures.now db
+        → left_at db place index ≡ c ∷ cs → IsClause names result.now c }
 {
     let procedure = &procedures[place];
     &procedure.clauses[index]
@@ -48,20 +48,20 @@ impl<S: Store + Drop> Plain<S> {
     /// Enters the clause, with this cut mark; where its head doesn't unify with the goal the engine fails next (7.7.10).
     pub(crate) fn enter(&mut self, attempt: Attempt<S::Word>, mark: usize) -> Result<(), StoreFault>
         requires { (s : State) × (call : Tree) × (c : databases.Clause) × (cs : List databases.Clause) × (behind : List Member)
-            × Calls S.present S.stands S.older self.old attempt s call c cs behind }
+            × Calls S.names S.present S.stands S.older self.old attempt s call c cs behind }
         ensures tried { (s : State) (call : Tree) (c : databases.Clause) (cs : List databases.Clause) (behind : List Member)
-            → Calls S.present S.stands S.older self.old attempt s call c cs behind
-            → OnOk result (IsEngine S.present S.stands S.older self.new (tried_clause call c mark behind s)) }
+            → Calls S.names S.present S.stands S.older self.old attempt s call c cs behind
+            → OnOk result (IsEngine S.names S.present S.stands S.older self.new (tried_clause call c mark behind s)) }
         ensures kept { (s : State) (call : Tree) (c : databases.Clause) (cs : List databases.Clause) (behind : List Member)
-            → Calls S.present S.stands S.older self.old attempt s call c cs behind
-            → OnErr result (Keeps S.present S.stands S.older self.new s.world s.stack) }
+            → Calls S.names S.present S.stands S.older self.old attempt s call c cs behind
+            → OnErr result (Keeps S.names S.present S.stands S.older self.new s.world s.stack) }
         ensures steps { self.new.steps ≡ self.old.steps }
         ensures awake { OnOk result (IsAwake (phase_of self.new.now)) }
         ensures full { result ≡ Err StoreFault.Full → S.full self.new.store }
         ensures choices { self.new.choices ≡ self.old.choices }
         ensures frames { self.new.frames ≡ self.old.frames }
         ensures cost { OnOk result (now_cost (frame_costs self.old.frames.items) self.new.now ≤ body_cost most (rest_cost (frame_costs self.old.frames.items) attempt.rest)) }
-        ensures stays { Stays self.old self.new }
+        ensures stays { Stays S.names self.old self.new }
     {
         let clause = clause_at(
             self.procedures.as_slice(),
@@ -82,15 +82,15 @@ impl<S: Store + Drop> Plain<S> {
     /// Goes back to the newest choice, which stays: the store, the nodes and the frames are as they were when it was made (7.7.8).
     pub(crate) fn go_back(&mut self) -> Choice<S::Word, S::Mark>
         requires some { 0 < length self.old.choices.items }
-        requires failing { (s : State) × IsEngine S.present S.stands S.older self.old s }
-        ensures back { (s : State) → IsEngine S.present S.stands S.older self.old s → (a : Alternative) × (below : List Alternative)
-            × (s.stack ≡ a ∷ below) × WentBack S.present S.stands S.older self.new result s a below }
+        requires failing { (s : State) × IsEngine S.names S.present S.stands S.older self.old s }
+        ensures back { (s : State) → IsEngine S.names S.present S.stands S.older self.old s → (a : Alternative) × (below : List Alternative)
+            × (s.stack ≡ a ∷ below) × WentBack S.names S.present S.stands S.older self.new result s a below }
         ensures steps { self.new.steps ≡ self.old.steps }
         ensures choices { self.new.choices ≡ self.old.choices }
         ensures now { self.new.now ≡ self.old.now }
         ensures costs { choices_cost self.old.procedures.items (frame_costs self.new.frames.items) self.old.choices.items
             ≡ choices_cost self.old.procedures.items (frame_costs self.old.frames.items) self.old.choices.items }
-        ensures stays { Stays self.old self.new }
+        ensures stays { Stays S.names self.old self.new }
     {
         let choice = self.choices[self.choices.len() - 1];
         self.store.undo(choice.mark);
@@ -102,13 +102,13 @@ impl<S: Store + Drop> Plain<S> {
     /// Keeps the clauses behind the attempt's as a choice (7.7.8). The error is that memory was refused.
     fn push_later(&mut self, attempt: Attempt<S::Word>) -> Result<(), AllocError>
         requires { (s : State) × (call : Tree) × (c : databases.Clause) × (cs : List databases.Clause) × (behind : List Member)
-            × (0 < length cs) × Calls S.present S.stands S.older self.old attempt s call c cs behind }
+            × (0 < length cs) × Calls S.names S.present S.stands S.older self.old attempt s call c cs behind }
         ensures calls { (s : State) (call : Tree) (c : databases.Clause) (cs : List databases.Clause) (behind : List Member)
-            → Calls S.present S.stands S.older self.old attempt s call c cs behind → 0 < length cs
-            → OnOk result (Calls S.present S.stands S.older self.new attempt (with_others call cs behind s) call c cs behind) }
+            → Calls S.names S.present S.stands S.older self.old attempt s call c cs behind → 0 < length cs
+            → OnOk result (Calls S.names S.present S.stands S.older self.new attempt (with_others call cs behind s) call c cs behind) }
         ensures kept { (s : State) (call : Tree) (c : databases.Clause) (cs : List databases.Clause) (behind : List Member)
-            → Calls S.present S.stands S.older self.old attempt s call c cs behind
-            → OnErr result (Keeps S.present S.stands S.older self.new s.world s.stack) }
+            → Calls S.names S.present S.stands S.older self.old attempt s call c cs behind
+            → OnErr result (Keeps S.names S.present S.stands S.older self.new s.world s.stack) }
         ensures steps { self.new.steps ≡ self.old.steps }
         ensures count { length self.new.choices.items ≤ length self.old.choices.items + 1 }
         ensures frames_same { self.new.frames ≡ self.old.frames }
@@ -133,12 +133,12 @@ impl<S: Store + Drop> Plain<S> {
     fn leave_choice(&mut self, choice: Choice<S::Word, S::Mark>, attempt: Attempt<S::Word>) -> usize
         requires some { 0 < length self.old.choices.items }
         requires left { choice.left ≡ left.Clauses attempt }
-        requires back { (s : State) × (a : Alternative) × (below : List Alternative) × WentBack S.present S.stands S.older self.old choice s a below }
-        ensures calls { (s : State) (a : Alternative) (below : List Alternative) → WentBack S.present S.stands S.older self.old choice s a below
-            → Retries S.present S.stands S.older self.new attempt s a below }
+        requires back { (s : State) × (a : Alternative) × (below : List Alternative) × WentBack S.names S.present S.stands S.older self.old choice s a below }
+        ensures calls { (s : State) (a : Alternative) (below : List Alternative) → WentBack S.names S.present S.stands S.older self.old choice s a below
+            → Retries S.names S.present S.stands S.older self.new attempt s a below }
         ensures below { result + 1 ≡ length self.old.choices.items }
         ensures steps { self.new.steps ≡ self.old.steps }
-        ensures stays { Stays self.old self.new }
+        ensures stays { Stays S.names self.old self.new }
         ensures frames { self.new.frames ≡ self.old.frames }
         ensures costs { choices_cost self.old.procedures.items (frame_costs self.old.frames.items) self.new.choices.items + (body_cost most (rest_cost (frame_costs self.old.frames.items) attempt.rest) + 1)
             ≤ choices_cost self.old.procedures.items (frame_costs self.old.frames.items) self.old.choices.items }
@@ -158,12 +158,12 @@ impl<S: Store + Drop> Plain<S> {
     fn go_on(&mut self, choice: Choice<S::Word, S::Mark>, place: Option<usize>)
         requires some { 0 < length self.old.choices.items }
         requires left { choice.left ≡ left.AsIs place }
-        requires back { (s : State) × (a : Alternative) × (below : List Alternative) × WentBack S.present S.stands S.older self.old choice s a below }
-        ensures goes { (s : State) (a : Alternative) (below : List Alternative) → WentBack S.present S.stands S.older self.old choice s a below
-            → (a.left ≡ AsIs) × IsEngine S.present S.stands S.older self.new (went_back a below s) }
+        requires back { (s : State) × (a : Alternative) × (below : List Alternative) × WentBack S.names S.present S.stands S.older self.old choice s a below }
+        ensures goes { (s : State) (a : Alternative) (below : List Alternative) → WentBack S.names S.present S.stands S.older self.old choice s a below
+            → (a.left ≡ AsIs) × IsEngine S.names S.present S.stands S.older self.new (went_back a below s) }
         ensures awake { IsAwake (phase_of self.new.now) }
         ensures steps { self.new.steps ≡ self.old.steps }
-        ensures stays { Stays self.old self.new }
+        ensures stays { Stays S.names self.old self.new }
         ensures costs { cost self.new < choices_cost self.old.procedures.items (frame_costs self.old.frames.items) self.old.choices.items }
     {
         self.choices.truncate(self.choices.len() - 1);
@@ -176,12 +176,12 @@ impl<S: Store + Drop> Plain<S> {
         requires some { 0 < length self.old.choices.items }
         requires left { choice.left ≡ left.Again place }
         requires steps { self.old.steps ≢ 0 }
-        requires back { (s : State) × (a : Alternative) × (below : List Alternative) × WentBack S.present S.stands S.older self.old choice s a below }
-        ensures goes { (s : State) (a : Alternative) (below : List Alternative) → WentBack S.present S.stands S.older self.old choice s a below
-            → (a.left ≡ Again) × IsEngine S.present S.stands S.older self.new (record (pushed a.list Again (went_back a below s)) { steps = self.new.steps }) }
+        requires back { (s : State) × (a : Alternative) × (below : List Alternative) × WentBack S.names S.present S.stands S.older self.old choice s a below }
+        ensures goes { (s : State) (a : Alternative) (below : List Alternative) → WentBack S.names S.present S.stands S.older self.old choice s a below
+            → (a.left ≡ Again) × IsEngine S.names S.present S.stands S.older self.new (record (pushed a.list Again (went_back a below s)) { steps = self.new.steps }) }
         ensures awake { IsAwake (phase_of self.new.now) }
         ensures step { self.new.steps + 1 ≡ self.old.steps }
-        ensures stays { Stays self.old self.new }
+        ensures stays { Stays S.names self.old self.new }
         ensures costs { cost self.new ≤ choices_cost self.old.procedures.items (frame_costs self.old.frames.items) self.old.choices.items
             + choices_cost self.old.procedures.items (frame_costs self.old.frames.items) self.old.choices.items }
     {
@@ -191,14 +191,14 @@ impl<S: Store + Drop> Plain<S> {
 
     /// Goes on with what is left at the newest choice; where there is no choice the run ends (7.7.8).
     pub(crate) fn fail(&mut self) -> Result<Move, StoreFault>
-        requires represents { (s : State) × Represents S.present S.stands S.older self.old s }
+        requires represents { (s : State) × Represents S.names S.present S.stands S.older self.old s }
         requires failing { self.old.now ≡ now.Failing }
-        ensures moves { (s : State) → Represents S.present S.stands S.older self.old s → IfOk result (λ m. Moves S.present S.stands S.older m s self.new) }
-        ensures stopped { (s : State) → Represents S.present S.stands S.older self.old s → OnErr result (Stopped S.present S.stands S.older self.new s) }
+        ensures moves { (s : State) → Represents S.names S.present S.stands S.older self.old s → IfOk result (λ m. Moves S.names S.present S.stands S.older m s self.new) }
+        ensures stopped { (s : State) → Represents S.names S.present S.stands S.older self.old s → OnErr result (Stopped S.names S.present S.stands S.older self.new s) }
         ensures falls { IfOk result (λ m. Falls m (weight self.old) (weight self.new)) }
         ensures frames { ResultFull ⊥ result }
         ensures met { ResultMet S.full result self.new }
-        ensures stays { Stays self.old self.new }
+        ensures stays { Stays S.names self.old self.new }
     {
         if self.choices.is_empty() {
             self.clear();
@@ -231,19 +231,19 @@ impl<S: Store + Drop> Plain<S> {
     /// The error is that memory was refused.
     fn push_choice(&mut self, attempt: Attempt<S::Word>) -> Result<bool, AllocError>
         requires { (s : State) × (call : Tree) × (c : databases.Clause) × (cs : List databases.Clause) × (behind : List Member)
-            × Calls S.present S.stands S.older self.old attempt s call c cs behind }
+            × Calls S.names S.present S.stands S.older self.old attempt s call c cs behind }
         ensures calls { (s : State) (call : Tree) (c : databases.Clause) (cs : List databases.Clause) (behind : List Member)
-            → Calls S.present S.stands S.older self.old attempt s call c cs behind → result ≡ Ok true
-            → Calls S.present S.stands S.older self.new attempt (with_others call cs behind s) call c cs behind }
+            → Calls S.names S.present S.stands S.older self.old attempt s call c cs behind → result ≡ Ok true
+            → Calls S.names S.present S.stands S.older self.new attempt (with_others call cs behind s) call c cs behind }
         ensures kept { (s : State) (call : Tree) (c : databases.Clause) (cs : List databases.Clause) (behind : List Member)
-            → Calls S.present S.stands S.older self.old attempt s call c cs behind
-            → OnErr result (Keeps S.present S.stands S.older self.new s.world s.stack) }
+            → Calls S.names S.present S.stands S.older self.old attempt s call c cs behind
+            → OnErr result (Keeps S.names S.present S.stands S.older self.new s.world s.stack) }
         ensures refused { result ≡ Ok false → self.new ≡ self.old }
         ensures frames { (s : State) (call : Tree) (c : databases.Clause) (cs : List databases.Clause) (behind : List Member)
-            → Calls S.present S.stands S.older self.old attempt s call c cs behind → result ≡ Ok false
+            → Calls S.names S.present S.stands S.older self.old attempt s call c cs behind → result ≡ Ok false
             → (self.old.limit ≤ length self.old.choices.items) × (0 < length cs) }
         ensures steps { self.new.steps ≡ self.old.steps }
-        ensures stays { Stays self.old self.new }
+        ensures stays { Stays S.names self.old self.new }
         ensures frames_same { self.new.frames ≡ self.old.frames }
         ensures costs { choices_cost self.old.procedures.items (frame_costs self.old.frames.items) self.new.choices.items
             ≤ choices_cost self.old.procedures.items (frame_costs self.old.frames.items) self.old.choices.items + left_cost most (rest_cost (frame_costs self.old.frames.items) attempt.rest) }
@@ -263,21 +263,21 @@ impl<S: Store + Drop> Plain<S> {
     /// where no choice may be made any more; the engine is as it was then.
     pub(crate) fn call(&mut self, attempt: Attempt<S::Word>) -> Result<bool, StoreFault>
         requires { (s : State) × (call : Tree) × (c : databases.Clause) × (cs : List databases.Clause) × (behind : List Member)
-            × Calls S.present S.stands S.older self.old attempt s call c cs behind }
+            × Calls S.names S.present S.stands S.older self.old attempt s call c cs behind }
         ensures tried { (s : State) (call : Tree) (c : databases.Clause) (cs : List databases.Clause) (behind : List Member)
-            → Calls S.present S.stands S.older self.old attempt s call c cs behind → result ≡ Ok true
-            → IsEngine S.present S.stands S.older self.new (tried call (c ∷ cs) behind s) }
+            → Calls S.names S.present S.stands S.older self.old attempt s call c cs behind → result ≡ Ok true
+            → IsEngine S.names S.present S.stands S.older self.new (tried call (c ∷ cs) behind s) }
         ensures kept { (s : State) (call : Tree) (c : databases.Clause) (cs : List databases.Clause) (behind : List Member)
-            → Calls S.present S.stands S.older self.old attempt s call c cs behind
-            → OnErr result (WasRefused S.present S.stands S.older self.new s (with_others call cs behind s)) }
+            → Calls S.names S.present S.stands S.older self.old attempt s call c cs behind
+            → OnErr result (WasRefused S.names S.present S.stands S.older self.new s (with_others call cs behind s)) }
         ensures awake { result ≡ Ok true → IsAwake (phase_of self.new.now) }
         ensures refused { result ≡ Ok false → self.new ≡ self.old }
         ensures frames { (s : State) (call : Tree) (c : databases.Clause) (cs : List databases.Clause) (behind : List Member)
-            → Calls S.present S.stands S.older self.old attempt s call c cs behind → result ≡ Ok false
+            → Calls S.names S.present S.stands S.older self.old attempt s call c cs behind → result ≡ Ok false
             → (self.old.limit ≤ length self.old.choices.items) × (0 < length cs) }
         ensures full { result ≡ Err StoreFault.Full → S.full self.new.store }
         ensures steps { self.new.steps ≡ self.old.steps }
-        ensures stays { Stays self.old self.new }
+        ensures stays { Stays S.names self.old self.new }
         ensures costs { result ≡ Ok true → cost self.new ≤ choices_cost self.old.procedures.items (frame_costs self.old.frames.items) self.old.choices.items
             + left_cost most (rest_cost (frame_costs self.old.frames.items) attempt.rest) + body_cost most (rest_cost (frame_costs self.old.frames.items) attempt.rest) }
     {

@@ -1,5 +1,6 @@
 //! The engine's parts: the members of the list of goals, and choices.
 ghost use Rattle.std.specs.Prelude.{◌≡◌, ◌+◌, ◌≤◌, ◌++◌, ◌∷◌, [], IfOk, OnOk, OnErr, length};
+ghost use Rattle.iso_atoms.specs.Texts.{KeepsTexts};
 ghost use Rattle.iso_store_core.specs.Presents.{KeepsMarks};
 ghost use Rattle.iso_plain.specs.Next.{IsPlace, now_behind, now_entered};
 ghost use Rattle.iso_plain.specs.Standing.{GainsChoice};
@@ -125,6 +126,7 @@ pub(crate) fn keep_choice<S: Store>(
     frames: usize,
 ) -> Result<(), AllocError>
     ensures present { S.present store.new ≡ S.present store.old }
+    ensures names { KeepsTexts (S.names store.old) (S.names store.new) }
     ensures marks { KeepsMarks (S.stands store.old) (S.stands store.new) }
     ensures gains { OnOk result (GainsChoice (S.stands store.old) (S.stands store.new) S.older (S.present store.old) nodes frames left
         choices.old.items choices.new.items) }

@@ -2,6 +2,8 @@
 ghost use Rattle.std.specs.Prelude.{◌≡◌, []};
 
 use super::bodies::Node;
+use super::callables::Callable;
+use super::controls::Controls;
 use super::parts::{Choice, Frame, Now};
 use super::procedures::Procedure;
 use iso_model::{Ball, Pause};
@@ -22,6 +24,10 @@ pub struct Plain<S: Store> {
     pub(crate) alloc: Global,
     pub(crate) store: S,
     pub(crate) procedures: Vec<Procedure>,
+    /// What is callable under each name, by the number of its atom.
+    pub(crate) callables: Vec<Vec<Callable>>,
+    /// The names of the control constructs.
+    pub(crate) controls: Controls,
     /// The operators as they are now.
     pub(crate) ops: OpTable,
     /// The flags as they are now.
@@ -54,8 +60,8 @@ impl<S: Store + Drop> Plain<S> {
     /// Drops what is left of a run.
     pub(crate) fn clear(&mut self)
         requires { IsBase (S.stands self.old.store) self.old.base }
-        ensures idle { (w : World) → IsWorld self.old w
-            → IsEngine S.present S.stands S.older self.new (idle w) }
+        ensures idle { (w : World) → IsWorld S.names self.old w
+            → IsEngine S.names S.present S.stands S.older self.new (idle w) }
         ensures now { self.new.now ≡ Idle }
         ensures substitution { (S.present self.new.store).substitution ≡ Variable }
         ensures next { (S.present self.new.store).next ≡ 0 }
@@ -64,7 +70,7 @@ impl<S: Store + Drop> Plain<S> {
         ensures choices { self.new.choices.items ≡ [] }
         ensures query { self.new.query.items ≡ [] }
         ensures raised { self.new.raised ≡ None }
-        ensures stays { Stays self.old self.new }
+        ensures stays { Stays S.names self.old self.new }
         ensures base { IsBase (S.stands self.new.store) self.new.base }
     {
         self.choices.clear();

@@ -3,6 +3,7 @@ ghost use Rattle.std.specs.Prelude.{◌≡◌, IfOk, OnOk, Err, MatchBool, if◌
 ghost use Rattle.iso_model.specs.Terms.Substitutions.{Subst};
 ghost use Rattle.iso_model.specs.Terms.Unifiers.{Unifier, NeverEqual};
 ghost use Rattle.iso_model.specs.Search.BuiltIns as table;
+ghost use Rattle.iso_atoms.specs.Texts.{KeepsTexts};
 ghost use Rattle.iso_store_core.specs.Presents.{Holds, meaning, KeepsMarks};
 ghost use Rattle.iso_plain.specs.Called.{IsBuiltIn};
 ghost use Rattle.iso_plain.specs.Controls.{AreControls};
@@ -51,6 +52,7 @@ pub fn reply<S: Store>(
         (table.reply built_in (meaning (S.present store.old) goal))) }
     ensures nodes { Adds nodes.old.items nodes.new.items }
     ensures full { result ≡ Err StoreFault.Full → S.full store.new }
+    ensures names { KeepsTexts (S.names store.old) (S.names store.new) }
     ensures marks { KeepsMarks (S.stands store.old) (S.stands store.new) }
 {
     match built_in {
@@ -99,6 +101,7 @@ fn differ<S: Store>(store: &mut S, left: S::Word, right: S::Word) -> Result<bool
         ((s : Subst) × Unifier (meaning (S.present store.old) left) (meaning (S.present store.old) right) s)) }
     ensures present { OnOk result (S.present store.new ≡ S.present store.old) }
     ensures full { result ≡ Err StoreFault.Full → S.full store.new }
+    ensures names { KeepsTexts (S.names store.old) (S.names store.new) }
     ensures marks { KeepsMarks (S.stands store.old) (S.stands store.new) }
 {
     let mark = store.mark();

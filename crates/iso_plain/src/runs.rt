@@ -28,14 +28,14 @@ impl<S: Store + Drop> Plain<S> {
     /// Does what the frame asks for. The errors: the store is full, or memory was refused.
     pub(crate) fn run(&mut self, frame: Frame) -> Result<Move, StoreFault>
         requires now { self.old.now ≡ now.Running frame }
-        requires stands { (s : State) × Represents S.present S.stands S.older self.old s }
-        ensures moves { (s : State) → Represents S.present S.stands S.older self.old s
-            → IfOk result (λ m. Moves S.present S.stands S.older m s self.new) }
-        ensures stopped { (s : State) → Represents S.present S.stands S.older self.old s → OnErr result (Stopped S.present S.stands S.older self.new s) }
+        requires stands { (s : State) × Represents S.names S.present S.stands S.older self.old s }
+        ensures moves { (s : State) → Represents S.names S.present S.stands S.older self.old s
+            → IfOk result (λ m. Moves S.names S.present S.stands S.older m s self.new) }
+        ensures stopped { (s : State) → Represents S.names S.present S.stands S.older self.old s → OnErr result (Stopped S.names S.present S.stands S.older self.new s) }
         ensures falls { IfOk result (λ m. Falls m (weight self.old) (weight self.new)) }
-        ensures frames { (s : State) → Represents S.present S.stands S.older self.old s → ResultFull (ComesOver self.old.limit s) result }
+        ensures frames { (s : State) → Represents S.names S.present S.stands S.older self.old s → ResultFull (ComesOver self.old.limit s) result }
         ensures met { ResultMet S.full result self.new }
-        ensures stays { Stays self.old self.new }
+        ensures stays { Stays S.names self.old self.new }
     {
         match frame.todo {
             Todo::Body(place) => self.run_body(frame, place),
@@ -51,14 +51,14 @@ impl<S: Store + Drop> Plain<S> {
     fn run_body(&mut self, frame: Frame, place: usize) -> Result<Move, StoreFault>
         requires now { self.old.now ≡ now.Running frame }
         requires body { frame.todo ≡ todo.Body place }
-        requires stands { (s : State) × Represents S.present S.stands S.older self.old s }
-        ensures moves { (s : State) → Represents S.present S.stands S.older self.old s
-            → IfOk result (λ m. Moves S.present S.stands S.older m s self.new) }
-        ensures stopped { (s : State) → Represents S.present S.stands S.older self.old s → OnErr result (Stopped S.present S.stands S.older self.new s) }
+        requires stands { (s : State) × Represents S.names S.present S.stands S.older self.old s }
+        ensures moves { (s : State) → Represents S.names S.present S.stands S.older self.old s
+            → IfOk result (λ m. Moves S.names S.present S.stands S.older m s self.new) }
+        ensures stopped { (s : State) → Represents S.names S.present S.stands S.older self.old s → OnErr result (Stopped S.names S.present S.stands S.older self.new s) }
         ensures falls { IfOk result (λ m. Falls m (weight self.old) (weight self.new)) }
-        ensures frames { (s : State) → Represents S.present S.stands S.older self.old s → ResultFull (ComesOver self.old.limit s) result }
+        ensures frames { (s : State) → Represents S.names S.present S.stands S.older self.old s → ResultFull (ComesOver self.old.limit s) result }
         ensures met { ResultMet S.full result self.new }
-        ensures stays { Stays self.old self.new }
+        ensures stays { Stays S.names self.old self.new }
     {
         match self.nodes[place] {
             Node::Run(goal) => self.run_goal(frame, place, goal),
@@ -74,14 +74,14 @@ impl<S: Store + Drop> Plain<S> {
     fn run_goal(&mut self, frame: Frame, place: usize, goal: S::Word) -> Result<Move, StoreFault>
         requires now { self.old.now ≡ now.Running frame }
         requires there { IsAt self.old.nodes.items frame place (node.Run goal) }
-        requires stands { (s : State) × Represents S.present S.stands S.older self.old s }
-        ensures moves { (s : State) → Represents S.present S.stands S.older self.old s
-            → IfOk result (λ m. Moves S.present S.stands S.older m s self.new) }
-        ensures stopped { (s : State) → Represents S.present S.stands S.older self.old s → OnErr result (Stopped S.present S.stands S.older self.new s) }
+        requires stands { (s : State) × Represents S.names S.present S.stands S.older self.old s }
+        ensures moves { (s : State) → Represents S.names S.present S.stands S.older self.old s
+            → IfOk result (λ m. Moves S.names S.present S.stands S.older m s self.new) }
+        ensures stopped { (s : State) → Represents S.names S.present S.stands S.older self.old s → OnErr result (Stopped S.names S.present S.stands S.older self.new s) }
         ensures falls { IfOk result (λ m. Falls m (weight self.old) (weight self.new)) }
-        ensures frames { (s : State) → Represents S.present S.stands S.older self.old s → ResultFull (ComesOver self.old.limit s) result }
+        ensures frames { (s : State) → Represents S.names S.present S.stands S.older self.old s → ResultFull (ComesOver self.old.limit s) result }
         ensures met { ResultMet S.full result self.new }
-        ensures stays { Stays self.old self.new }
+        ensures stays { Stays S.names self.old self.new }
     {
         if self.steps == 0 {
             self.clear();
@@ -123,16 +123,23 @@ impl<S: Store + Drop> Plain<S> {
         requires there { IsAt self.old.nodes.items frame place (node.Run goal) }
         requires steps { self.old.steps ≢ 0 }
         requires built_in { IsBuiltIn (meaning (S.present self.old.store) goal) built_in }
-        requires stands { (s : State) × Represents S.present S.stands S.older self.old s }
-        ensures moves { (s : State) → Represents S.present S.stands S.older self.old s
-            → IfOk result (λ m. Moves S.present S.stands S.older m s self.new) }
-        ensures stopped { (s : State) → Represents S.present S.stands S.older self.old s → OnErr result (Stopped S.present S.stands S.older self.new s) }
+        requires stands { (s : State) × Represents S.names S.present S.stands S.older self.old s }
+        ensures moves { (s : State) → Represents S.names S.present S.stands S.older self.old s
+            → IfOk result (λ m. Moves S.names S.present S.stands S.older m s self.new) }
+        ensures stopped { (s : State) → Represents S.names S.present S.stands S.older self.old s → OnErr result (Stopped S.names S.present S.stands S.older self.new s) }
         ensures falls { IfOk result (λ m. Falls m (weight self.old) (weight self.new)) }
-        ensures frames { (s : State) → Represents S.present S.stands S.older self.old s → ResultFull (ComesOver self.old.limit s) result }
+        ensures frames { (s : State) → Represents S.names S.present S.stands S.older self.old s → ResultFull (ComesOver self.old.limit s) result }
         ensures met { ResultMet S.full result self.new }
-        ensures stays { Stays self.old self.new }
+        ensures stays { Stays S.names self.old self.new }
     {
-        let replied = replies::reply(self.alloc, &mut self.store, &mut self.nodes, built_in, goal)?;
+        let replied = replies::reply(
+            self.alloc,
+            &mut self.store,
+            &self.controls,
+            &mut self.nodes,
+            built_in,
+            goal,
+        )?;
         self.steps -= 1;
         match replied {
             Replied::GoesOn => {
@@ -164,20 +171,20 @@ impl<S: Store + Drop> Plain<S> {
     /// Calls the procedure at the attempt's place; where no choice may be made any more the engine is spent.
     fn call_first(&mut self, attempt: Attempt<S::Word>) -> Result<Move, StoreFault>
         requires { (s : State) × (call : Tree) × (c : databases.Clause) × (cs : List databases.Clause) × (behind : List Member)
-            × Calls S.present S.stands S.older self.old attempt s call c cs behind }
+            × Calls S.names S.present S.stands S.older self.old attempt s call c cs behind }
         ensures called { (s : State) (call : Tree) (c : databases.Clause) (cs : List databases.Clause) (behind : List Member)
-            → Calls S.present S.stands S.older self.old attempt s call c cs behind
-            → IfOk result (λ m. WasCalled S.present S.stands S.older m self.new s (tried call (c ∷ cs) behind s)) }
+            → Calls S.names S.present S.stands S.older self.old attempt s call c cs behind
+            → IfOk result (λ m. WasCalled S.names S.present S.stands S.older m self.new s (tried call (c ∷ cs) behind s)) }
         ensures kept { (s : State) (call : Tree) (c : databases.Clause) (cs : List databases.Clause) (behind : List Member)
-            → Calls S.present S.stands S.older self.old attempt s call c cs behind
-            → OnErr result (WasRefused S.present S.stands S.older self.new s (with_others call cs behind s)) }
+            → Calls S.names S.present S.stands S.older self.old attempt s call c cs behind
+            → OnErr result (WasRefused S.names S.present S.stands S.older self.new s (with_others call cs behind s)) }
         ensures falls { (w : ℕ) → choices_cost self.old.procedures.items (frame_costs self.old.frames.items) self.old.choices.items
             + rest_cost (frame_costs self.old.frames.items) attempt.rest ≤ w → IfOk result (λ m. Falls m (whole_cost (suc self.old.steps) w) (weight self.new)) }
         ensures frames { (s : State) (call : Tree) (c : databases.Clause) (cs : List databases.Clause) (behind : List Member)
-            → Calls S.present S.stands S.older self.old attempt s call c cs behind
+            → Calls S.names S.present S.stands S.older self.old attempt s call c cs behind
             → ResultFull ((self.old.limit ≤ length self.old.choices.items) × (0 < length cs)) result }
         ensures met { ResultMet S.full result self.new }
-        ensures stays { Stays self.old self.new }
+        ensures stays { Stays S.names self.old self.new }
     {
         if self.call(attempt)? {
             return Ok(Move::Goes);

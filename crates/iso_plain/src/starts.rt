@@ -7,9 +7,11 @@ ghost use Rattle.iso_model.specs.Search.Bodies.{converted};
 ghost use Rattle.iso_model.specs.Search.Additions.{consulted};
 ghost use Rattle.iso_model.specs.Search.Walker.{World, first_world, idle, started};
 
+use super::controls::Controls;
 use super::parts::{Frame, Now, Todo};
 use super::plain::Plain;
-use super::{balls, bodies, clauses, entries, procedures};
+use super::procedures::{self, Functor};
+use super::{balls, callables, clauses, entries, writing};
 use iso_model::{AddFault, Term};
 use iso_ops::{Flags, OpTable};
 use iso_prep::{Fault, Prepared};
@@ -30,18 +32,22 @@ impl<S: Store + Drop> Plain<S> {
     pub fn new(alloc: Global, mut store: S, frames: u32) -> Result<Plain<S>, AllocError>
         requires substitution { (S.present store).substitution ≡ Variable }
         requires next { (S.present store).next ≡ 0 }
-        ensures stands { IfOk result (λ e. StandsFor S.present S.stands S.older e (idle first_world)) }
+        ensures stands { IfOk result (λ e. StandsFor S.names S.present S.stands S.older e (idle first_world)) }
         ensures ready { IfOk result (λ e. phase_of e.now ≡ Ready) }
         ensures limit { IfOk result (λ e. e.limit ≡ frames) }
         ensures store { IfOk result (λ e. S.present e.store ≡ S.present store) }
         ensures within { IfOk result (λ e. IsWithin e) }
     {
         let ops = OpTable::initial(alloc)?;
+        let callables = callables::of_built_ins(alloc, &mut store)?;
+        let controls = Controls::new(&mut store)?;
         let base = store.mark();
         Ok(Plain {
             alloc,
             store,
             procedures: Vec::new(alloc),
+            callables,
+            controls,
             ops,
             flags: Flags::initial(),
             nodes: Vec::new(alloc),
@@ -59,11 +65,11 @@ impl<S: Store + Drop> Plain<S> {
     /// Keeps the error of the query that can't be converted (7.6.2), raised by `call/1`; the culprit is all of it.
     fn raise_query(&mut self, culprit: Term) -> Result<(), AllocError>
         requires { converted (term_of culprit) ≡ None }
-        ensures started { OnOk result ((w : World) → IsFresh S.present S.stands S.older self.old w
-            → Represents S.present S.stands S.older self.new (started (term_of culprit) self.old.steps w)) }
-        ensures kept { (w : World) → IsFresh S.present S.stands S.older self.old w → OnErr result (Keeps S.present S.stands S.older self.new w []) }
+        ensures started { OnOk result ((w : World) → IsFresh S.names S.present S.stands S.older self.old w
+            → Represents S.names S.present S.stands S.older self.new (started (term_of culprit) self.old.steps w)) }
+        ensures kept { (w : World) → IsFresh S.names S.present S.stands S.older self.old w → OnErr result (Keeps S.names S.present S.stands S.older self.new w []) }
         ensures midway { OnOk result (phase_of self.new.now ≡ Midway) }
-        ensures stays { Stays self.old self.new }
+        ensures stays { Stays S.names self.old self.new }
     {
         let ball = balls::not_callable(self.alloc, culprit, "call", 1)?;
         self.raised = Some(ball);
@@ -76,14 +82,14 @@ impl<S: Store + Drop> Plain<S> {
         requires query { (t : Tree) × IsQuery query.now t }
         requires next { (S.present self.old.store).next ≡ 0 }
         requires steps { self.old.steps < 2 ^ 32 }
-        ensures started { OnOk result ((t : Tree) (w : World) → IsQuery query.now t → IsFresh S.present S.stands S.older self.old w
-            → Represents S.present S.stands S.older self.new (started t self.old.steps w)) }
-        ensures kept { (w : World) → IsFresh S.present S.stands S.older self.old w → OnErr result (Keeps S.present S.stands S.older self.new w []) }
+        ensures started { OnOk result ((t : Tree) (w : World) → IsQuery query.now t → IsFresh S.names S.present S.stands S.older self.old w
+            → Represents S.names S.present S.stands S.older self.new (started t self.old.steps w)) }
+        ensures kept { (w : World) → IsFresh S.names S.present S.stands S.older self.old w → OnErr result (Keeps S.names S.present S.stands S.older self.new w []) }
         ensures midway { OnOk result (phase_of self.new.now ≡ Midway) }
         ensures full { result ≡ Err StoreFault.Full → S.full self.new.store }
-        ensures stays { Stays self.old self.new }
+        ensures stays { Stays S.names self.old self.new }
     {
-        let parts = bodies::parts_of(self.alloc, query)?;
+        let parts = writing::written_body(self.alloc, &mut self.store, query)?;
         let count = query.variables();
         let variables = entries::new_variables(self.alloc, &mut self.store, count)?;
         entries::copy_parts(
@@ -108,12 +114,12 @@ impl<S: Store + Drop> Plain<S> {
         requires numbered { IsNumbered (term_of goal.now) }
         requires substitution { (S.present self.old.store).substitution ≡ Variable }
         requires next { (S.present self.old.store).next ≡ 0 }
-        ensures started { OnOk result ((w : World) → IsEngine S.present S.stands S.older self.old (idle w)
-            → Represents S.present S.stands S.older self.new (started (term_of goal.now) budget w)) }
-        ensures kept { (w : World) → IsEngine S.present S.stands S.older self.old (idle w) → OnErr result (Keeps S.present S.stands S.older self.new w []) }
+        ensures started { OnOk result ((w : World) → IsEngine S.names S.present S.stands S.older self.old (idle w)
+            → Represents S.names S.present S.stands S.older self.new (started (term_of goal.now) budget w)) }
+        ensures kept { (w : World) → IsEngine S.names S.present S.stands S.older self.old (idle w) → OnErr result (Keeps S.names S.present S.stands S.older self.new w []) }
         ensures midway { OnOk result (phase_of self.new.now ≡ Midway) }
         ensures full { result ≡ Err StoreFault.Full → S.full self.new.store }
-        ensures stays { Stays self.old self.new }
+        ensures stays { Stays S.names self.old self.new }
     {
         self.steps = budget;
         match iso_prep::prepare_goal(self.alloc, goal) {
@@ -129,16 +135,28 @@ impl<S: Store + Drop> Plain<S> {
     pub(crate) fn add(&mut self, clause: &Term) -> Result<(), AddFault>
         requires fits { arities_fit (term_of clause.now) ≡ true }
         requires now { self.old.now ≡ Idle }
-        ensures comes { (w : World) → IsEngine S.present S.stands S.older self.old (idle w)
-            → Comes S.present S.stands S.older (consulted (term_of clause.now) w.database) w result self.new }
+        ensures comes { (w : World) → IsEngine S.names S.present S.stands S.older self.old (idle w)
+            → Comes S.names S.present S.stands S.older (consulted (term_of clause.now) w.database) w result self.new }
         ensures now { self.new.now ≡ self.old.now }
         ensures limit { self.new.limit ≡ self.old.limit }
         ensures within { IsWithin self.old → IsWithin self.new }
-        ensures store { self.new.store ≡ self.old.store }
+        ensures present { S.present self.new.store ≡ S.present self.old.store }
         ensures base { self.new.base ≡ self.old.base }
     {
-        let prepared = clauses::prepare(self.alloc, clause)?;
-        procedures::add(self.alloc, &mut self.procedures, prepared)?;
+        let checked = clauses::prepare(self.alloc, clause)?;
+        let Some((text, arity)) = clauses::indicator_of(&checked.head) else {
+            unreachable!();
+        };
+        let kept = writing::written_clause(self.alloc, &mut self.store, &checked)?;
+        let name = self.store.intern(text)?;
+        procedures::add(
+            self.alloc,
+            &mut self.procedures,
+            &mut self.callables,
+            Functor { name, arity },
+            text,
+            kept,
+        )?;
         Ok(())
     }
 }

@@ -1,1 +1,2 @@
 pub mod AtomLemmas
+pub mod PatternLemmas

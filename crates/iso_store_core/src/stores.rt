@@ -78,6 +78,7 @@ pub trait Store {
     /// The atom of this name: the one that it has, or a new one. The error is that memory was refused; nothing changed then.
     fn intern(&mut self, name: &str) -> Result<Atom, NoMemory>
         ensures place { IfOk result (λ atom. slice_get (names self.new) atom ≡ Some name.now) }
+        ensures each_once { EachOnce (names self.new) }
         ensures names { KeepsTexts (names self.old) (names self.new) }
         ensures unchanged { OnErr result (names self.new ≡ names self.old) }
         ensures present { present self.new ≡ present self.old }

@@ -1,11 +1,10 @@
-use Rattle.iso_model.specs.Terms.TermOf.{term_of}
+use Rattle.iso_plain.specs.Written.{term_in}
 use Rattle.iso_plain.proofs.entries.instantiate.Goals as goal
 
 pub instantiate-requires-clause-pattern : goal.instantiate-requires-clause-pattern
-instantiate-requires-clause-pattern g c = (term_of c.args.term.now, c.in_ok-pattern.ensures.pattern, c.requires.fits.arities, c.requires.fits.below)
-
-pub instantiate-requires-clause-variables : goal.instantiate-requires-clause-variables
-instantiate-requires-clause-variables g c = rw c.in_ok-pattern.ensures.present c.requires.variables
+instantiate-requires-clause-pattern g c =
+    let fits = c.requires.fits in
+    (term_in (g.S.Store.names c.args.store.now) c.args.pattern.now, fits.written, fits.fits.arities, fits.fits.below)
 
 pub returns-clause-made : goal.returns-clause-made
-returns-clause-made g c = rw c.in_ok-pattern.ensures.present at c.instantiate.ensures.made (term_of c.args.term.now) c.in_ok-pattern.ensures.pattern
+returns-clause-made g c = c.instantiate.ensures.made (term_in (g.S.Store.names c.args.store.now) c.args.pattern.now) c.requires.fits.written

@@ -1,4 +1,4 @@
-use Rattle.std.proofs.Common.{◌≡◌, ◌+◌, ap, ◌∙◌}
+use Rattle.std.proofs.Common.{◌≡◌, ◌+◌, refl, ap, ◌∙◌}
 use Rattle.iso_model.specs.Terms.Trees.{Variable}
 use Rattle.iso_plain.specs.Standing.{no_word}
 use Rattle.iso_plain.proofs.EnteringLemmas.{extends_none, extends_new, variables_push}
@@ -6,7 +6,7 @@ use Rattle.iso_plain.proofs.StandingLemmas.{variables_more}
 use Rattle.iso_plain.proofs.entries.new_variables.Goals as goal
 
 pub loop-made-init : goal.loop-made-init
-loop-made-init g c = record { variables = rw c.new-variables.ensures.items no_word; extends = extends_none _; marks = λ m p h. h }
+loop-made-init g c = record { names = refl; variables = rw c.new-variables.ensures.items no_word; extends = extends_none _; marks = λ m p h. h }
 
 pub loop-made-preserved : goal.loop-made-preserved
 loop-made-preserved g c =
@@ -15,6 +15,7 @@ loop-made-preserved g c =
     let next = c.in_ok-word.ensures.numbers in
     let number : (g.S.Store.present c.loop-made.store).next ≡ (g.S.Store.present c.args.store.now).next + c.loop-made._made = before.extends.next in
     record {
+      names = c.in_ok-word.ensures.names ∙ before.names;
       variables = rw c.in_ok-push.ensures.items (variables_push _ _ _ _ (variables_more made.words before.variables) made.holds (made.term ∙ ap Variable number));
       extends = extends_new before.extends made next;
       marks = λ m p h. c.in_ok-word.ensures.marks m p (before.marks m p h);

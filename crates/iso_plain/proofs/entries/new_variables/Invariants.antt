@@ -1,4 +1,5 @@
 -- So many variables are there.
+use Rattle.std.proofs.Common.{◌≡◌}
 use Rattle.iso_model.specs.Terms.Copies.{numbers_from}
 use Rattle.iso_store_core.specs.Presents.{KeepsMarks}
 use Rattle.iso_plain.specs.Standing.{AreVariables}
@@ -7,6 +8,7 @@ use Rattle.iso_plain.proofs.entries.new_variables.Given as goal
 
 abbrev pub invariant-loop-made : goal.invariant-loop-made
 invariant-loop-made g l = record {
+  names : g.S.Store.names l.store ≡ g.S.Store.names l.fn.store;
   variables : AreVariables (g.S.Store.present l.store) l.variables.items (numbers_from (g.S.Store.present l.fn.store).next l._made);
   extends : Extends (g.S.Store.present l.fn.store) (g.S.Store.present l.store) l._made;
   marks : KeepsMarks (g.S.Store.stands l.fn.store) (g.S.Store.stands l.store);

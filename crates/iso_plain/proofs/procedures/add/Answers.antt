@@ -1,32 +1,46 @@
-use Rattle.std.proofs.Common.{◌≡◌, ◌∙◌, sym, ap, Some, None}
-use Rattle.std.specs.String.{string_bytes}
+use Rattle.std.proofs.Common.{◌≡◌, ◌<◌, ◌≤◌, length, refl, sym, ap, ◌∙◌, arith, Some, None}
 use Rattle.std.proofs.lemmas.Result.{on_ok_weaker, on_err_weaker}
 use Rattle.iso_model.specs.Search.Errors.{key}
-use Rattle.iso_plain.specs.Programs.{place_at}
-use Rattle.iso_plain.proofs.ProgramLemmas.{clause_comes, procedure_comes, procedure_stays}
+use Rattle.iso_plain.specs.declared.callables.Callee.TheVariants as callee
+use Rattle.iso_plain.specs.Callables.{callee_at, callee_of}
+use Rattle.iso_plain.proofs.AddingLemmas.{called_own, found_called, place_within, clause_added, procedure_added, clause_refused}
+use Rattle.iso_plain.proofs.CallableLemmas.{index_same}
 use Rattle.iso_plain.proofs.procedures.add.Goals as goal
 
-pub returns-in-Some-position-clause-ok : goal.returns-in-Some-position-clause-ok
-returns-in-Some-position-clause-ok c =
-    let ps = c.args.procedures.now.items in
-    let place = c.in-Some-position.place in
-    let new = c.push_clause.new.procedure in
-    on_ok_weaker c.push_clause.result (λ items db m k h i e.
-    (let same : key c.in-Some.name.now c.in-Some.arity ≡ k = let both : Some (key c.in-Some.name.now c.in-Some.arity) ≡ Some k = sym c.in-Some.ensures ∙ e in cc in
-    let found : place_at ps k ≡ Some place = ap (λ k. place_at ps k) (sym same) ∙ (rw c.as_slice.ensures.value at (sym c.in-Some-position.ensures)) in
-    clause_comes k place c.index_mut.result.now new c.args.clause m h found c.index_mut.ensures.value (record { name = c.push_clause.ensures.name; arity = c.push_clause.ensures.arity; clauses = items }) i)) c.push_clause.ensures.ok
+pub returns-in_default-clause-ok : goal.returns-in_default-clause-ok
+returns-in_default-clause-ok c =
+    let nothing : callee_at c.args.callables.now.items c.args.functor.name c.args.functor.arity ≡ None = (rw c.as_slice.ensures.value at (sym c.find.ensures)) ∙ c.in_default.is in
+    on_ok_weaker c.add_procedure.result (λ adds names db k h are is.
+    procedure_added names c.args.functor c.args.text.now c.args.database.now.items c.args.callables.now.items h c.args.clause c.add_procedure.new.database.items c.add_procedure.new.callables.items k db nothing adds are is) c.add_procedure.ensures.ok
 
-pub returns-in-Some-position-clause-err : goal.returns-in-Some-position-clause-err
-returns-in-Some-position-clause-err c =
-    on_err_weaker c.push_clause.result (λ items db h.
-    procedure_stays c.in-Some-position.place c.index_mut.result.now c.push_clause.new.procedure h c.index_mut.ensures.value c.push_clause.ensures.name c.push_clause.ensures.arity items) c.push_clause.ensures.err
+pub returns-in_default-clause-err : goal.returns-in_default-clause-err
+returns-in_default-clause-err c =
+    on_err_weaker c.add_procedure.result (λ same names db are found.
+    rw same.0 (are, index_same names c.args.callables.now.items c.add_procedure.new.callables.items (callee_of c.args.database.now.items) (callee_of c.args.database.now.items) same.1 (λ k. refl) found)) c.add_procedure.ensures.err
 
-pub returns-in_ok-push-in-None-clause-ok : goal.returns-in_ok-push-in-None-clause-ok
-returns-in_ok-push-in-None-clause-ok c db m k h i e =
-    let new = c.in_ok-procedure-in-None.procedure in
-    let same : key c.in-Some.name.now c.in-Some.arity ≡ k = let both : Some (key c.in-Some.name.now c.in-Some.arity) ≡ Some k = sym c.in-Some.ensures ∙ e in cc in
-    let ps = c.args.procedures.now.items in
-    let found : place_at ps k ≡ None = ap (λ k. place_at ps k) (sym same) ∙ (rw c.as_slice.ensures.value at (sym c.in-None.ensures)) in
-    let name : string_bytes new.name ≡ k.name = c.in_ok-procedure-in-None.ensures.name ∙ c.in_ok-name-in-None.ensures.ok ∙ ap (λ k. k.name) same in
-    let arity : new.arity ≡ k.arity = c.in_ok-procedure-in-None.ensures.arity ∙ ap (λ k. k.arity) same in
-    rw c.in_ok-push-in-None.ensures.items (procedure_comes k new c.args.clause m h found name arity c.in_ok-procedure-in-None.ensures.clauses i)
+pub index_mut-requires : goal.index_mut-requires
+index_mut-requires c =
+    let found : callee_at c.args.callables.now.items c.args.functor.name c.args.functor.arity ≡ Some (callee.User c.in-User.place) = (rw c.as_slice.ensures.value at (sym c.find.ensures)) ∙ c.in-Some.is ∙ ap Some c.in-User.is in
+    let within = place_within c.requires.named.0 c.args.functor c.args.text.now c.args.database.now.items c.args.callables.now.items c.requires.named.1 c.in-User.place found in
+    let many = c.args.database.now.ok.0 in
+    omega (arith, within, many)
+
+pub unreachable-requires : goal.unreachable-requires
+unreachable-requires c =
+    let found : callee_at c.args.callables.now.items c.args.functor.name c.args.functor.arity ≡ Some (callee.BuiltIn c.in-BuiltIn.field-0) = (rw c.as_slice.ensures.value at (sym c.find.ensures)) ∙ c.in-Some.is ∙ ap Some c.in-BuiltIn.is in
+    let called = found_called c.requires.named.0 c.args.functor c.args.text.now c.args.database.now.items c.args.callables.now.items c.requires.named.1 (callee.BuiltIn c.in-BuiltIn.field-0) found in
+    let own = called_own c.args.database.now.items (key c.args.text.now c.args.functor.arity) c.in-BuiltIn.field-0 called in
+    cc (own, c.requires.user)
+
+pub returns-clause-ok : goal.returns-clause-ok
+returns-clause-ok c =
+    let found : callee_at c.args.callables.now.items c.args.functor.name c.args.functor.arity ≡ Some (callee.User c.in-User.place) = (rw c.as_slice.ensures.value at (sym c.find.ensures)) ∙ c.in-Some.is ∙ ap Some c.in-User.is in
+    on_ok_weaker c.push_clause.result (λ items names db k h are is.
+    clause_added names c.args.functor c.args.text.now c.args.database.now.items c.args.callables.now.items h c.in-User.place c.index_mut.result.now c.push_clause.new.procedure c.args.clause k db found c.index_mut.ensures.value
+    (record { name = c.push_clause.ensures.name; arity = c.push_clause.ensures.arity; clauses = items }) are is) c.push_clause.ensures.ok
+
+pub returns-clause-err : goal.returns-clause-err
+returns-clause-err c =
+    on_err_weaker c.push_clause.result (λ items names db are found.
+    clause_refused names c.args.database.now.items c.args.callables.now.items c.in-User.place c.index_mut.result.now c.push_clause.new.procedure db c.index_mut.ensures.value c.push_clause.ensures.name c.push_clause.ensures.arity items are found)
+    c.push_clause.ensures.err

@@ -9,7 +9,7 @@ use Rattle.iso_plain.proofs.engine.PlainEngine.consult.Goals as goal
 
 pub returns-clause-consults : goal.returns-clause-consults
 returns-clause-consults g c = λ s r.
-    let before = ready_stands g.S.Store.present g.S.Store.stands g.S.Store.older c.args.self.now.now c.args.self.now s c.requires.ready r in
+    let before = ready_stands g.S.Store.names g.S.Store.present g.S.Store.stands g.S.Store.older c.args.self.now.now c.args.self.now s c.requires.ready r in
     let comes = c.add.ensures.comes before.own.world (c.clear.ensures.idle before.own.world before.engine.world) in
-    consults_stand g.S.Store.present g.S.Store.stands g.S.Store.older (consulted (term_of c.args.clause.now) s.world.database) s c.add.result c.add.new.self
-    (subst (λ (w : World). Comes g.S.Store.present g.S.Store.stands g.S.Store.older (consulted (term_of c.args.clause.now) w.database) w c.add.result c.add.new.self) (same_world before.same) comes)
+    consults_stand g.S.Store.names g.S.Store.present g.S.Store.stands g.S.Store.older (consulted (term_of c.args.clause.now) s.world.database) s c.add.result c.add.new.self
+    (subst (λ (w : World). Comes g.S.Store.names g.S.Store.present g.S.Store.stands g.S.Store.older (consulted (term_of c.args.clause.now) w.database) w c.add.result c.add.new.self) (same_world before.same) comes)

@@ -5,6 +5,7 @@ use Rattle.iso_plain.proofs.AheadLemmas.{ahead_cut, ahead_uncut}
 use Rattle.iso_plain.proofs.BackLemmas.{get_at}
 use Rattle.iso_plain.proofs.CostLemmas.{choices_fewer}
 use Rattle.iso_plain.proofs.StandingLemmas.{lower}
+use Rattle.iso_plain.proofs.WorldLemmas.{same_texts}
 use Rattle.iso_plain.proofs.plain.Plain.cut_to.Goals as goal
 
 pub forget-requires : goal.forget-requires
@@ -20,7 +21,7 @@ returns-then-height-len-clause-cut g c = λ s place h.
     (let choices = c.args.self.now.choices.items in
     let within : c.args.height < length choices = (let h = c.if-height-len.true in let many = c.len.ensures in let ok = c.args.self.now.choices.ok.0 in omega (arith, h, many, ok)) in
     let there : slice_get choices c.args.height ≡ Some c.index.result.now = get_at choices c.args.height c.index.result.now within c.index.ensures in
-    ahead_cut g.S.Store.present g.S.Store.stands g.S.Store.older c.args.self.now s place c.args.height c.forget.new.self c.truncate.new.self c.index.result.now h there c.truncate.ensures.items c.forget.ensures.present c.forget.ensures.marks)
+    ahead_cut g.S.Store.names g.S.Store.present g.S.Store.stands g.S.Store.older c.args.self.now s place c.args.height c.forget.new.self c.truncate.new.self c.index.result.now h there c.truncate.ensures.items c.forget.ensures.present c.forget.ensures.marks (same_texts c.forget.ensures.names))
 
 pub returns-then-height-len-clause-costs : goal.returns-then-height-len-clause-costs
 returns-then-height-len-clause-costs g c = rw c.truncate.ensures.items (choices_fewer c.args.height c.args.self.now.procedures.items (frame_costs c.args.self.now.frames.items) c.args.self.now.choices.items)
@@ -28,4 +29,4 @@ returns-then-height-len-clause-costs g c = rw c.truncate.ensures.items (choices_
 pub returns-else-height-len-clause-cut : goal.returns-else-height-len-clause-cut
 returns-else-height-len-clause-cut g c = λ s place h.
     (let less : length c.args.self.now.choices.items ≤ c.args.height = (let h = c.if-height-len.false in let many = c.len.ensures in let ok = c.args.self.now.choices.ok.0 in omega (arith, h, many, ok)) in
-    ahead_uncut g.S.Store.present g.S.Store.stands g.S.Store.older c.args.self.now s place c.args.height h less)
+    ahead_uncut g.S.Store.names g.S.Store.present g.S.Store.stands g.S.Store.older c.args.self.now s place c.args.height h less)

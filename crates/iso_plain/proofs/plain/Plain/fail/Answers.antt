@@ -12,7 +12,7 @@ use Rattle.iso_plain.proofs.plain.Plain.fail.Goals as goal
 pub returns-then-is_empty-clause-moves : goal.returns-then-is_empty-clause-moves
 returns-then-is_empty-clause-moves g c = λ s r.
     (let none : length c.args.self.now.choices.items ≡ 0 = search rules in
-    ends_run g.S.Store.present g.S.Store.stands g.S.Store.older c.args.self.now c.clear.new.self s r c.requires.failing none c.clear.ensures.idle c.clear.ensures.now)
+    ends_run g.S.Store.names g.S.Store.present g.S.Store.stands g.S.Store.older c.args.self.now c.clear.new.self s r c.requires.failing none c.clear.ensures.idle c.clear.ensures.now)
 
 -- ---- members that the choice kept
 
@@ -20,7 +20,7 @@ pub returns-in-AsIs-clause-moves : goal.returns-in-AsIs-clause-moves
 returns-in-AsIs-clause-moves g c = λ s r.
     (let b = c.go_back-choice.ensures.back r.own r.engine in
     let on = c.go_on.ensures.goes r.own b.0 b.1 b.3 in
-    resumes_on g.S.Store.present g.S.Store.stands g.S.Store.older c.args.self.now c.go_on.new.self s r b.0 b.1 c.requires.failing b.2 on.0 on.1 c.go_on.ensures.awake)
+    resumes_on g.S.Store.names g.S.Store.present g.S.Store.stands g.S.Store.older c.args.self.now c.go_on.new.self s r b.0 b.1 c.requires.failing b.2 on.0 on.1 c.go_on.ensures.awake)
 
 pub returns-in-AsIs-clause-falls : goal.returns-in-AsIs-clause-falls
 returns-in-AsIs-clause-falls g c =
@@ -32,14 +32,14 @@ returns-in-AsIs-clause-falls g c =
 pub returns-in-Again-clause-moves : goal.returns-in-Again-clause-moves
 returns-in-Again-clause-moves g c = λ s r.
     (let b = c.go_back-choice.ensures.back r.own r.engine in
-    let h = has_members g.S.Store.present g.S.Store.stands g.S.Store.older c.go_back-choice.new.self c.go_back-choice.result r.own b.0 b.1 b.3 _ c.in-Again.is in
-    spends_on g.S.Store.present g.S.Store.stands g.S.Store.older c.args.self.now c.clear-in-Again.new.self s r b.0 b.1 c.requires.failing b.2 h.is (sym c.go_back-choice.ensures.steps ∙ c.if-self-eq0.true) (c.clear-in-Again.ensures.idle r.own.world b.3.world) c.clear-in-Again.ensures.now)
+    let h = has_members g.S.Store.names g.S.Store.present g.S.Store.stands g.S.Store.older c.go_back-choice.new.self c.go_back-choice.result r.own b.0 b.1 b.3 _ c.in-Again.is in
+    spends_on g.S.Store.names g.S.Store.present g.S.Store.stands g.S.Store.older c.args.self.now c.clear-in-Again.new.self s r b.0 b.1 c.requires.failing b.2 h.is (sym c.go_back-choice.ensures.steps ∙ c.if-self-eq0.true) (c.clear-in-Again.ensures.idle r.own.world b.3.world) c.clear-in-Again.ensures.now)
 
 pub returns-in-Again-2-clause-moves : goal.returns-in-Again-2-clause-moves
 returns-in-Again-2-clause-moves g c = λ s r.
     (let b = c.go_back-choice.ensures.back r.own r.engine in
     let on = c.go_again.ensures.goes r.own b.0 b.1 b.3 in
-    repeats_on g.S.Store.present g.S.Store.stands g.S.Store.older c.args.self.now c.go_again.new.self s r b.0 b.1 c.requires.failing b.2 on.0 (c.go_again.ensures.step ∙ c.go_back-choice.ensures.steps) on.1 c.go_again.ensures.awake)
+    repeats_on g.S.Store.names g.S.Store.present g.S.Store.stands g.S.Store.older c.args.self.now c.go_again.new.self s r b.0 b.1 c.requires.failing b.2 on.0 (c.go_again.ensures.step ∙ c.go_back-choice.ensures.steps) on.1 c.go_again.ensures.awake)
 
 pub returns-in-Again-2-clause-falls : goal.returns-in-Again-2-clause-falls
 returns-in-Again-2-clause-falls g c =
@@ -62,7 +62,7 @@ returns-in_ok-enter-in-Clauses-clause-moves g c = λ s r.
     (let b = c.go_back-choice.ensures.back r.own r.engine in
     let t = c.leave_choice-below.ensures.calls r.own b.0 b.1 b.3 in
     let height : c.leave_choice-below.result ≡ length b.1 = (let n = c.leave_choice-below.ensures.below in let same = ap (λ v. length v.items) c.go_back-choice.ensures.choices in let many = choices_length r.engine.choices in let all = ap length b.2 in omega (arith, n, same, many, all)) in
-    tries_on g.S.Store.present g.S.Store.stands g.S.Store.older c.args.self.now c.enter.new.self c.in-Clauses.attempt s r b.0 b.1 c.leave_choice-below.new.self c.leave_choice-below.result c.requires.failing b.2 t height
+    tries_on g.S.Store.names g.S.Store.present g.S.Store.stands g.S.Store.older c.args.self.now c.enter.new.self c.in-Clauses.attempt s r b.0 b.1 c.leave_choice-below.new.self c.leave_choice-below.result c.requires.failing b.2 t height
     (c.in_ok-enter-in-Clauses.ensures.tried (with_others t.call t.others (b.0).list (went_back b.0 b.1 r.own)) t.call t.clause t.others (b.0).list t.calls) c.in_ok-enter-in-Clauses.ensures.awake)
 
 pub returns-in_err-enter-in-Clauses-clause-stopped : goal.returns-in_err-enter-in-Clauses-clause-stopped
@@ -70,7 +70,7 @@ returns-in_err-enter-in-Clauses-clause-stopped g c = λ s r.
     (let b = c.go_back-choice.ensures.back r.own r.engine in
     let t = c.leave_choice-below.ensures.calls r.own b.0 b.1 b.3 in
     let height : c.leave_choice-below.result ≡ length b.1 = (let n = c.leave_choice-below.ensures.below in let same = ap (λ v. length v.items) c.go_back-choice.ensures.choices in let many = choices_length r.engine.choices in let all = ap length b.2 in omega (arith, n, same, many, all)) in
-    behind_error c.from_residual.result (stops_on g.S.Store.present g.S.Store.stands g.S.Store.older c.args.self.now c.enter.new.self c.in-Clauses.attempt s r b.0 b.1 c.leave_choice-below.new.self c.leave_choice-below.result c.requires.failing b.2 t height
+    behind_error c.from_residual.result (stops_on g.S.Store.names g.S.Store.present g.S.Store.stands g.S.Store.older c.args.self.now c.enter.new.self c.in-Clauses.attempt s r b.0 b.1 c.leave_choice-below.new.self c.leave_choice-below.result c.requires.failing b.2 t height
     (c.in_err-enter-in-Clauses.ensures.kept (with_others t.call t.others (b.0).list (went_back b.0 b.1 r.own)) t.call t.clause t.others (b.0).list t.calls)))
 
 pub returns-in_ok-enter-in-Clauses-clause-falls : goal.returns-in_ok-enter-in-Clauses-clause-falls

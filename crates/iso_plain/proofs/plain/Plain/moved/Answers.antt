@@ -6,7 +6,7 @@ use Rattle.iso_plain.proofs.plain.Plain.moved.Goals as goal
 pub returns-in-Idle-clause-moves : goal.returns-in-Idle-clause-moves
 returns-in-Idle-clause-moves g c = λ s r.
     let e = c.args.self.now in
-    idle_moves g.S.Store.present g.S.Store.stands g.S.Store.older e s (awake_stands g.S.Store.present g.S.Store.stands g.S.Store.older e.now e s c.requires.awake r) c.in-Idle.is
+    idle_moves g.S.Store.names g.S.Store.present g.S.Store.stands g.S.Store.older e s (awake_stands g.S.Store.names g.S.Store.present g.S.Store.stands g.S.Store.older e.now e s c.requires.awake r) c.in-Idle.is
 
 pub returns-in-Answering-clause-frames : goal.returns-in-Answering-clause-frames
 returns-in-Answering-clause-frames g c = λ s r. result_full c.answer.result (λ h. absurd h) c.answer.ensures.frames

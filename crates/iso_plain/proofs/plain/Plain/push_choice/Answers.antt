@@ -21,7 +21,7 @@ overflow_add-attempt g c =
 
 pub returns-then-attempt-count-clause-calls : goal.returns-then-attempt-count-clause-calls
 returns-then-attempt-count-clause-calls g c = λ s call k ks gs t done.
-    calls_last g.S.Store.present g.S.Store.stands g.S.Store.older c.args.self.now c.args.attempt s call k ks gs t
+    calls_last g.S.Store.names g.S.Store.present g.S.Store.stands g.S.Store.older c.args.self.now c.args.attempt s call k ks gs t
     (let many = clauses_counted c.args.self.now.procedures.items s.world.database.procedures c.args.attempt.procedure c.args.attempt.clause k ks t.world.procedures_are t.clauses in
     let count = rw c.as_slice.ensures.value at c.clause_count-count.ensures in
     let last = c.if-attempt-count.true in

@@ -7,6 +7,7 @@ use Rattle.iso_plain.proofs.StoppedLemmas.{behind_error, base_kept}
 use Rattle.iso_plain.proofs.ControlCosts.{gained_cost}
 use Rattle.iso_plain.proofs.CountLemmas.{clauses_counted, count_fits}
 use Rattle.iso_plain.proofs.CallLemmas.{calls_later, later_cost}
+use Rattle.iso_plain.proofs.WorldLemmas.{world_on}
 use Rattle.iso_plain.proofs.plain.Plain.push_later.Goals as goal
 
 pub overflow_add-clause : goal.overflow_add-clause
@@ -21,7 +22,7 @@ returns-clause-calls g c = λ s call k ks gs t many.
     (let e = c.args.self.now in
     let nodes : c.len.result ≡ length e.nodes.items = cc (c.len.ensures, e.nodes.ok.0) in
     let frames : c.len-2.result ≡ length e.frames.items = cc (c.len-2.ensures, e.frames.ok.0) in
-    calls_later g.S.Store.present g.S.Store.stands g.S.Store.older e c.args.attempt s call k ks gs c.keep_choice.new.store c.keep_choice.new.choices t many c.in_ok-keep_choice.ensures.present c.in_ok-keep_choice.ensures.marks (rw (nodes, frames) at c.in_ok-keep_choice.ensures.gains))
+    calls_later g.S.Store.names g.S.Store.present g.S.Store.stands g.S.Store.older e c.args.attempt s call k ks gs c.keep_choice.new.store c.keep_choice.new.choices t many c.in_ok-keep_choice.ensures.present c.in_ok-keep_choice.ensures.marks c.in_ok-keep_choice.ensures.names (rw (nodes, frames) at c.in_ok-keep_choice.ensures.gains))
 
 pub returns-clause-costs : goal.returns-clause-costs
 returns-clause-costs g c =
@@ -39,7 +40,7 @@ returns-in_err-keep_choice-clause-costs g c =
 pub returns-in_err-keep_choice-clause-kept : goal.returns-in_err-keep_choice-clause-kept
 returns-in_err-keep_choice-clause-kept g c = λ s call k ks gs t.
     behind_error c.from_residual.result (
-      t.world,
+      world_on c.in_err-keep_choice.ensures.names t.world,
       base_kept (g.S.Store.stands c.args.self.now.store) (g.S.Store.stands c.keep_choice.new.store) c.args.self.now.base c.in_err-keep_choice.ensures.marks t.base,
       (variables s.query, rw c.in_err-keep_choice.ensures.kept (choices_keep (λ d p among stood. c.in_err-keep_choice.ensures.marks d.mark p stood) t.choices)),
     )

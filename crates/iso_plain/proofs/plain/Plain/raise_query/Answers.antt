@@ -17,7 +17,7 @@ returns-clause-started g c = λ w fresh.
       own = s;
       same = same_fresh s refl refl;
       engine = record {
-        world = record { procedures_are = fresh.world.procedures_are; operators_are = fresh.world.operators_are; flags_are = fresh.world.flags_are };
+        world = fresh.world;
         steps = refl;
         base = fresh.base;
         choices = rw fresh.choices none_kept;
@@ -27,4 +27,4 @@ returns-clause-started g c = λ w fresh.
     })
 
 pub returns-in_err-ball-clause-kept : goal.returns-in_err-ball-clause-kept
-returns-in_err-ball-clause-kept g c = λ w fresh. behind_error c.from_residual.result (keeps_none g.S.Store.present g.S.Store.stands g.S.Store.older c.args.self.now w fresh)
+returns-in_err-ball-clause-kept g c = λ w fresh. behind_error c.from_residual.result (keeps_none g.S.Store.names g.S.Store.present g.S.Store.stands g.S.Store.older c.args.self.now w fresh)

@@ -11,7 +11,7 @@ pub returns-in-CutBack-clause-frames : goal.returns-in-CutBack-clause-frames
 returns-in-CutBack-clause-frames g c = λ s r. move_full c.cut.result (λ h. absurd h) c.cut.ensures.frames
 
 pub returns-in-Fail-clause-moves : goal.returns-in-Fail-clause-moves
-returns-in-Fail-clause-moves g c = λ s r. fails_next g.S.Store.present g.S.Store.stands g.S.Store.older c.args.self.now s c.args.frame c.requires.now c.in-Fail.is r
+returns-in-Fail-clause-moves g c = λ s r. fails_next g.S.Store.names g.S.Store.present g.S.Store.stands g.S.Store.older c.args.self.now s c.args.frame c.requires.now c.in-Fail.is r
 
 pub returns-in-Fail-clause-falls : goal.returns-in-Fail-clause-falls
 returns-in-Fail-clause-falls g c = failing_falls c.args.self.now c.args.frame c.requires.now c.in-Fail.is

@@ -15,35 +15,35 @@ use Rattle.iso_plain.proofs.ReplyMoves.{went_on, failed_on, raised_by, calls_by,
 use Rattle.iso_plain.proofs.plain.Plain.run_built_in.Goals as goal
 
 pub reply-requires-clause-goal : goal.reply-requires-clause-goal
-reply-requires-clause-goal g c = (at g.S.Store.present g.S.Store.stands g.S.Store.older c.args.self.now c.requires.stands.0 c.args.frame c.args.place c.args.goal c.requires.now c.requires.there c.requires.stands.1).holds
+reply-requires-clause-goal g c = (at g.S.Store.names g.S.Store.present g.S.Store.stands g.S.Store.older c.args.self.now c.requires.stands.0 c.args.frame c.args.place c.args.goal c.requires.now c.requires.there c.requires.stands.1).holds
 
 pub returns-in_err-replied-clause-stopped : goal.returns-in_err-replied-clause-stopped
 returns-in_err-replied-clause-stopped g c = λ s r.
     (let e = c.args.self.now in
-    behind_error c.from_residual.result (stops_here g.S.Store.present g.S.Store.stands g.S.Store.older (record e { store = c.reply.new.store; nodes = c.reply.new.nodes }) r.own s r.same
-    (keeps_more g.S.Store.present g.S.Store.stands g.S.Store.older e c.reply.new.store c.reply.new.nodes e.frames r.own.world r.own.stack (keeps_all g.S.Store.present g.S.Store.stands g.S.Store.older e r.own r.engine) c.in_err-replied.ensures.marks c.in_err-replied.ensures.nodes (adds_none e.frames.items))))
+    behind_error c.from_residual.result (stops_here g.S.Store.names g.S.Store.present g.S.Store.stands g.S.Store.older (record e { store = c.reply.new.store; nodes = c.reply.new.nodes }) r.own s r.same
+    (keeps_more g.S.Store.names g.S.Store.present g.S.Store.stands g.S.Store.older e c.reply.new.store c.reply.new.nodes e.frames r.own.world r.own.stack (keeps_all g.S.Store.names g.S.Store.present g.S.Store.stands g.S.Store.older e r.own r.engine) c.in_err-replied.ensures.marks c.in_err-replied.ensures.names c.in_err-replied.ensures.nodes (adds_none e.frames.items))))
 
 -- ---- it succeeded, or failed, or an error is raised
 
 pub at-self-requires : goal.at-self-requires
-at-self-requires g c = rw c.as_slice.ensures.value (chain_place c.args.frame.next (at g.S.Store.present g.S.Store.stands g.S.Store.older c.args.self.now c.requires.stands.0 c.args.frame c.args.place c.args.goal c.requires.now c.requires.there c.requires.stands.1).ahead.chain)
+at-self-requires g c = rw c.as_slice.ensures.value (chain_place c.args.frame.next (at g.S.Store.names g.S.Store.present g.S.Store.stands g.S.Store.older c.args.self.now c.requires.stands.0 c.args.frame c.args.place c.args.goal c.requires.now c.requires.there c.requires.stands.1).ahead.chain)
 
 pub returns-in-GoesOn-clause-moves : goal.returns-in-GoesOn-clause-moves
 returns-in-GoesOn-clause-moves g c = λ s r.
-    rw (c.at-self.ensures, c.as_slice.ensures.value) (goes_on g.S.Store.present g.S.Store.stands g.S.Store.older c.args.self.now c.reply.new.store c.reply.new.nodes s c.args.frame c.args.place c.args.goal c.requires.now c.requires.there r c.requires.steps c.args.built_in c.requires.built_in c.in_ok-replied.ensures.marks c.in_ok-replied.ensures.nodes _ refl (went_on (g.S.Store.present c.args.self.now.store) (g.S.Store.present c.reply.new.store) c.args.self.now.nodes.items c.reply.new.nodes.items (reply c.args.built_in (meaning (g.S.Store.present c.args.self.now.store) c.args.goal)) (rw c.in-GoesOn.is at c.in_ok-replied.ensures.replies)))
+    rw (c.at-self.ensures, c.as_slice.ensures.value) (goes_on g.S.Store.names g.S.Store.present g.S.Store.stands g.S.Store.older c.args.self.now c.reply.new.store c.reply.new.nodes s c.args.frame c.args.place c.args.goal c.requires.now c.requires.there r c.requires.steps c.args.built_in c.requires.built_in c.in_ok-replied.ensures.marks c.in_ok-replied.ensures.names c.in_ok-replied.ensures.nodes _ refl (went_on (g.S.Store.present c.args.self.now.store) (g.S.Store.present c.reply.new.store) c.args.self.now.nodes.items c.reply.new.nodes.items (reply c.args.built_in (meaning (g.S.Store.present c.args.self.now.store) c.args.goal)) (rw c.in-GoesOn.is at c.in_ok-replied.ensures.replies)))
 
 pub returns-in-GoesOn-clause-falls : goal.returns-in-GoesOn-clause-falls
-returns-in-GoesOn-clause-falls g c = rw (c.at-self.ensures, c.as_slice.ensures.value) (goes_falls g.S.Store.present g.S.Store.stands g.S.Store.older c.args.self.now c.requires.stands.0 c.args.frame c.args.place c.requires.now c.requires.there.asks c.requires.stands.1 c.requires.steps c.reply.new.store c.reply.new.nodes)
+returns-in-GoesOn-clause-falls g c = rw (c.at-self.ensures, c.as_slice.ensures.value) (goes_falls g.S.Store.names g.S.Store.present g.S.Store.stands g.S.Store.older c.args.self.now c.requires.stands.0 c.args.frame c.args.place c.requires.now c.requires.there.asks c.requires.stands.1 c.requires.steps c.reply.new.store c.reply.new.nodes)
 
 pub returns-in-Fails-clause-moves : goal.returns-in-Fails-clause-moves
-returns-in-Fails-clause-moves g c = λ s r. fails_now g.S.Store.present g.S.Store.stands g.S.Store.older c.args.self.now c.reply.new.store c.reply.new.nodes s c.args.frame c.args.place c.args.goal c.requires.now c.requires.there r c.requires.steps c.args.built_in c.requires.built_in c.in_ok-replied.ensures.marks c.in_ok-replied.ensures.nodes _ refl (failed_on (g.S.Store.present c.args.self.now.store) (g.S.Store.present c.reply.new.store) c.args.self.now.nodes.items c.reply.new.nodes.items (reply c.args.built_in (meaning (g.S.Store.present c.args.self.now.store) c.args.goal)) (rw c.in-Fails.is at c.in_ok-replied.ensures.replies))
+returns-in-Fails-clause-moves g c = λ s r. fails_now g.S.Store.names g.S.Store.present g.S.Store.stands g.S.Store.older c.args.self.now c.reply.new.store c.reply.new.nodes s c.args.frame c.args.place c.args.goal c.requires.now c.requires.there r c.requires.steps c.args.built_in c.requires.built_in c.in_ok-replied.ensures.marks c.in_ok-replied.ensures.names c.in_ok-replied.ensures.nodes _ refl (failed_on (g.S.Store.present c.args.self.now.store) (g.S.Store.present c.reply.new.store) c.args.self.now.nodes.items c.reply.new.nodes.items (reply c.args.built_in (meaning (g.S.Store.present c.args.self.now.store) c.args.goal)) (rw c.in-Fails.is at c.in_ok-replied.ensures.replies))
 
 pub returns-in-Fails-clause-falls : goal.returns-in-Fails-clause-falls
-returns-in-Fails-clause-falls g c = fails_falls g.S.Store.present g.S.Store.stands g.S.Store.older c.args.self.now c.requires.stands.0 c.args.frame c.args.place c.requires.now c.requires.there.asks c.requires.stands.1 c.requires.steps c.reply.new.store c.reply.new.nodes
+returns-in-Fails-clause-falls g c = fails_falls g.S.Store.names g.S.Store.present g.S.Store.stands g.S.Store.older c.args.self.now c.requires.stands.0 c.args.frame c.args.place c.requires.now c.requires.there.asks c.requires.stands.1 c.requires.steps c.reply.new.store c.reply.new.nodes
 
 pub returns-in-Raises-clause-moves : goal.returns-in-Raises-clause-moves
 returns-in-Raises-clause-moves g c = λ s r. (
-  raises_now g.S.Store.present g.S.Store.stands g.S.Store.older c.args.self.now c.reply.new.store c.reply.new.nodes s c.args.frame c.args.place c.args.goal c.requires.now c.requires.there r c.requires.steps c.args.built_in c.requires.built_in c.in_ok-replied.ensures.marks c.in_ok-replied.ensures.nodes c.clear.new.self (term_of c.in-Raises.ball.term) (raised_by (g.S.Store.present c.args.self.now.store) (g.S.Store.present c.reply.new.store) c.args.self.now.nodes.items c.reply.new.nodes.items (reply c.args.built_in (meaning (g.S.Store.present c.args.self.now.store) c.args.goal)) c.in-Raises.ball (rw c.in-Raises.is at c.in_ok-replied.ensures.replies)) c.clear.ensures.idle c.clear.ensures.now,
+  raises_now g.S.Store.names g.S.Store.present g.S.Store.stands g.S.Store.older c.args.self.now c.reply.new.store c.reply.new.nodes s c.args.frame c.args.place c.args.goal c.requires.now c.requires.there r c.requires.steps c.args.built_in c.requires.built_in c.in_ok-replied.ensures.marks c.in_ok-replied.ensures.names c.in_ok-replied.ensures.nodes c.clear.new.self (term_of c.in-Raises.ball.term) (raised_by (g.S.Store.present c.args.self.now.store) (g.S.Store.present c.reply.new.store) c.args.self.now.nodes.items c.reply.new.nodes.items (reply c.args.built_in (meaning (g.S.Store.present c.args.self.now.store) c.args.goal)) c.in-Raises.ball (rw c.in-Raises.is at c.in_ok-replied.ensures.replies)) c.clear.ensures.idle c.clear.ensures.now,
   ap phase_of c.clear.ensures.now,
 )
 
@@ -53,35 +53,35 @@ pub returns-in-Calls-clause-moves : goal.returns-in-Calls-clause-moves
 returns-in-Calls-clause-moves g c = λ s r.
     (let by = calls_by (g.S.Store.present c.args.self.now.store) (g.S.Store.present c.reply.new.store) c.args.self.now.nodes.items c.reply.new.nodes.items (reply c.args.built_in (meaning (g.S.Store.present c.args.self.now.store) c.args.goal)) c.in-Calls.body (rw c.in-Calls.is at c.in_ok-replied.ensures.replies) in
     let height : c.len.result ≡ length c.args.self.now.choices.items = cc (c.len.ensures, c.args.self.now.choices.ok.0) in
-    rw height (calls_now g.S.Store.present g.S.Store.stands g.S.Store.older c.args.self.now c.reply.new.store c.reply.new.nodes s c.args.frame c.args.place c.args.goal c.requires.now c.requires.there r c.requires.steps c.args.built_in c.requires.built_in c.in_ok-replied.ensures.marks c.in_ok-replied.ensures.nodes by.0 c.in-Calls.body by.2 by.1))
+    rw height (calls_now g.S.Store.names g.S.Store.present g.S.Store.stands g.S.Store.older c.args.self.now c.reply.new.store c.reply.new.nodes s c.args.frame c.args.place c.args.goal c.requires.now c.requires.there r c.requires.steps c.args.built_in c.requires.built_in c.in_ok-replied.ensures.marks c.in_ok-replied.ensures.names c.in_ok-replied.ensures.nodes by.0 c.in-Calls.body by.2 by.1))
 
 pub returns-in-Calls-clause-falls : goal.returns-in-Calls-clause-falls
 returns-in-Calls-clause-falls g c =
     let by = calls_by (g.S.Store.present c.args.self.now.store) (g.S.Store.present c.reply.new.store) c.args.self.now.nodes.items c.reply.new.nodes.items (reply c.args.built_in (meaning (g.S.Store.present c.args.self.now.store) c.args.goal)) c.in-Calls.body (rw c.in-Calls.is at c.in_ok-replied.ensures.replies) in
-    calls_falls g.S.Store.present g.S.Store.stands g.S.Store.older c.args.self.now c.requires.stands.0 c.args.frame c.args.place c.requires.now c.requires.there.asks c.requires.stands.1 c.requires.steps c.reply.new.store c.reply.new.nodes c.in-Calls.body c.len.result by.2.body by.2.stands
+    calls_falls g.S.Store.names g.S.Store.present g.S.Store.stands g.S.Store.older c.args.self.now c.requires.stands.0 c.args.frame c.args.place c.requires.now c.requires.there.asks c.requires.stands.1 c.requires.steps c.reply.new.store c.reply.new.nodes c.in-Calls.body c.len.result by.2.body by.2.stands
 
 -- ---- for its first solution
 
 pub call_once-requires : goal.call_once-requires
 call_once-requires g c =
     let by = once_by (g.S.Store.present c.args.self.now.store) (g.S.Store.present c.reply.new.store) c.args.self.now.nodes.items c.reply.new.nodes.items (reply c.args.built_in (meaning (g.S.Store.present c.args.self.now.store) c.args.goal)) c.in-CallsOnce.body (rw c.in-CallsOnce.is at c.in_ok-replied.ensures.replies) in
-    (called g.S.Store.present g.S.Store.stands g.S.Store.older c.args.self.now c.reply.new.store c.reply.new.nodes c.requires.stands.0 c.args.frame c.args.place c.args.goal c.requires.now c.requires.there c.requires.stands.1 c.requires.steps c.args.built_in c.requires.built_in c.in_ok-replied.ensures.marks c.in_ok-replied.ensures.nodes by.0 c.in-CallsOnce.body by.2, by.2.body, called_ahead g.S.Store.present g.S.Store.stands g.S.Store.older c.args.self.now c.reply.new.store c.reply.new.nodes c.requires.stands.0 c.args.frame c.args.place c.args.goal c.requires.now c.requires.there c.requires.stands.1 c.requires.steps c.args.built_in c.requires.built_in c.in_ok-replied.ensures.marks c.in_ok-replied.ensures.nodes by.0 c.in-CallsOnce.body by.2, by.2.stands)
+    (called g.S.Store.names g.S.Store.present g.S.Store.stands g.S.Store.older c.args.self.now c.reply.new.store c.reply.new.nodes c.requires.stands.0 c.args.frame c.args.place c.args.goal c.requires.now c.requires.there c.requires.stands.1 c.requires.steps c.args.built_in c.requires.built_in c.in_ok-replied.ensures.marks c.in_ok-replied.ensures.names c.in_ok-replied.ensures.nodes by.0 c.in-CallsOnce.body by.2, by.2.body, called_ahead g.S.Store.names g.S.Store.present g.S.Store.stands g.S.Store.older c.args.self.now c.reply.new.store c.reply.new.nodes c.requires.stands.0 c.args.frame c.args.place c.args.goal c.requires.now c.requires.there c.requires.stands.1 c.requires.steps c.args.built_in c.requires.built_in c.in_ok-replied.ensures.marks c.in_ok-replied.ensures.names c.in_ok-replied.ensures.nodes by.0 c.in-CallsOnce.body by.2, by.2.stands)
 
 pub returns-in-CallsOnce-clause-moves : goal.returns-in-CallsOnce-clause-moves
 returns-in-CallsOnce-clause-moves g c = λ s r.
     (let by = once_by (g.S.Store.present c.args.self.now.store) (g.S.Store.present c.reply.new.store) c.args.self.now.nodes.items c.reply.new.nodes.items (reply c.args.built_in (meaning (g.S.Store.present c.args.self.now.store) c.args.goal)) c.in-CallsOnce.body (rw c.in-CallsOnce.is at c.in_ok-replied.ensures.replies) in
-    let u = called g.S.Store.present g.S.Store.stands g.S.Store.older c.args.self.now c.reply.new.store c.reply.new.nodes s c.args.frame c.args.place c.args.goal c.requires.now c.requires.there r c.requires.steps c.args.built_in c.requires.built_in c.in_ok-replied.ensures.marks c.in_ok-replied.ensures.nodes by.0 c.in-CallsOnce.body by.2 in
-    if_ok_map _ _ c.call_once.result (once_now g.S.Store.present g.S.Store.stands g.S.Store.older c.args.self.now c.reply.new.store c.reply.new.nodes s c.args.frame c.args.place c.args.goal c.requires.now c.requires.there r c.requires.steps c.args.built_in c.requires.built_in c.in_ok-replied.ensures.marks c.in_ok-replied.ensures.nodes by.0 c.in-CallsOnce.body by.2 by.1 c.call_once.new.self) (c.call_once.ensures.called u by.2.body (called_ahead g.S.Store.present g.S.Store.stands g.S.Store.older c.args.self.now c.reply.new.store c.reply.new.nodes s c.args.frame c.args.place c.args.goal c.requires.now c.requires.there r c.requires.steps c.args.built_in c.requires.built_in c.in_ok-replied.ensures.marks c.in_ok-replied.ensures.nodes by.0 c.in-CallsOnce.body by.2) by.2.stands))
+    let u = called g.S.Store.names g.S.Store.present g.S.Store.stands g.S.Store.older c.args.self.now c.reply.new.store c.reply.new.nodes s c.args.frame c.args.place c.args.goal c.requires.now c.requires.there r c.requires.steps c.args.built_in c.requires.built_in c.in_ok-replied.ensures.marks c.in_ok-replied.ensures.names c.in_ok-replied.ensures.nodes by.0 c.in-CallsOnce.body by.2 in
+    if_ok_map _ _ c.call_once.result (once_now g.S.Store.names g.S.Store.present g.S.Store.stands g.S.Store.older c.args.self.now c.reply.new.store c.reply.new.nodes s c.args.frame c.args.place c.args.goal c.requires.now c.requires.there r c.requires.steps c.args.built_in c.requires.built_in c.in_ok-replied.ensures.marks c.in_ok-replied.ensures.names c.in_ok-replied.ensures.nodes by.0 c.in-CallsOnce.body by.2 by.1 c.call_once.new.self) (c.call_once.ensures.called u by.2.body (called_ahead g.S.Store.names g.S.Store.present g.S.Store.stands g.S.Store.older c.args.self.now c.reply.new.store c.reply.new.nodes s c.args.frame c.args.place c.args.goal c.requires.now c.requires.there r c.requires.steps c.args.built_in c.requires.built_in c.in_ok-replied.ensures.marks c.in_ok-replied.ensures.names c.in_ok-replied.ensures.nodes by.0 c.in-CallsOnce.body by.2) by.2.stands))
 
 pub returns-in-CallsOnce-clause-stopped : goal.returns-in-CallsOnce-clause-stopped
 returns-in-CallsOnce-clause-stopped g c = λ s r.
     (let by = once_by (g.S.Store.present c.args.self.now.store) (g.S.Store.present c.reply.new.store) c.args.self.now.nodes.items c.reply.new.nodes.items (reply c.args.built_in (meaning (g.S.Store.present c.args.self.now.store) c.args.goal)) c.in-CallsOnce.body (rw c.in-CallsOnce.is at c.in_ok-replied.ensures.replies) in
-    let u = called g.S.Store.present g.S.Store.stands g.S.Store.older c.args.self.now c.reply.new.store c.reply.new.nodes s c.args.frame c.args.place c.args.goal c.requires.now c.requires.there r c.requires.steps c.args.built_in c.requires.built_in c.in_ok-replied.ensures.marks c.in_ok-replied.ensures.nodes by.0 c.in-CallsOnce.body by.2 in
-    on_err_weaker c.call_once.result (once_stops g.S.Store.present g.S.Store.stands g.S.Store.older c.args.self.now c.reply.new.store c.reply.new.nodes s c.args.frame c.args.place c.args.goal c.requires.now c.requires.there r c.requires.steps c.args.built_in c.requires.built_in c.in_ok-replied.ensures.marks c.in_ok-replied.ensures.nodes by.0 c.in-CallsOnce.body by.2 c.call_once.new.self) (c.call_once.ensures.kept u (called_ahead g.S.Store.present g.S.Store.stands g.S.Store.older c.args.self.now c.reply.new.store c.reply.new.nodes s c.args.frame c.args.place c.args.goal c.requires.now c.requires.there r c.requires.steps c.args.built_in c.requires.built_in c.in_ok-replied.ensures.marks c.in_ok-replied.ensures.nodes by.0 c.in-CallsOnce.body by.2)))
+    let u = called g.S.Store.names g.S.Store.present g.S.Store.stands g.S.Store.older c.args.self.now c.reply.new.store c.reply.new.nodes s c.args.frame c.args.place c.args.goal c.requires.now c.requires.there r c.requires.steps c.args.built_in c.requires.built_in c.in_ok-replied.ensures.marks c.in_ok-replied.ensures.names c.in_ok-replied.ensures.nodes by.0 c.in-CallsOnce.body by.2 in
+    on_err_weaker c.call_once.result (once_stops g.S.Store.names g.S.Store.present g.S.Store.stands g.S.Store.older c.args.self.now c.reply.new.store c.reply.new.nodes s c.args.frame c.args.place c.args.goal c.requires.now c.requires.there r c.requires.steps c.args.built_in c.requires.built_in c.in_ok-replied.ensures.marks c.in_ok-replied.ensures.names c.in_ok-replied.ensures.nodes by.0 c.in-CallsOnce.body by.2 c.call_once.new.self) (c.call_once.ensures.kept u (called_ahead g.S.Store.names g.S.Store.present g.S.Store.stands g.S.Store.older c.args.self.now c.reply.new.store c.reply.new.nodes s c.args.frame c.args.place c.args.goal c.requires.now c.requires.there r c.requires.steps c.args.built_in c.requires.built_in c.in_ok-replied.ensures.marks c.in_ok-replied.ensures.names c.in_ok-replied.ensures.nodes by.0 c.in-CallsOnce.body by.2)))
 
 pub returns-in-CallsOnce-clause-falls : goal.returns-in-CallsOnce-clause-falls
 returns-in-CallsOnce-clause-falls g c =
-    if_ok_map _ _ c.call_once.result (λ m. subst (λ x. Falls m x (weight c.call_once.new.self)) (step_weight g.S.Store.present g.S.Store.stands g.S.Store.older c.args.self.now c.requires.stands.0 c.args.frame c.args.place c.requires.now c.requires.there.asks c.requires.stands.1 c.requires.steps)) (c.call_once.ensures.falls (cost c.args.self.now) (behind_less g.S.Store.present g.S.Store.stands g.S.Store.older c.args.self.now c.requires.stands.0 c.args.frame c.args.place c.requires.now c.requires.there.asks c.requires.stands.1 c.requires.steps))
+    if_ok_map _ _ c.call_once.result (λ m. subst (λ x. Falls m x (weight c.call_once.new.self)) (step_weight g.S.Store.names g.S.Store.present g.S.Store.stands g.S.Store.older c.args.self.now c.requires.stands.0 c.args.frame c.args.place c.requires.now c.requires.there.asks c.requires.stands.1 c.requires.steps)) (c.call_once.ensures.falls (cost c.args.self.now) (behind_less g.S.Store.names g.S.Store.present g.S.Store.stands g.S.Store.older c.args.self.now c.requires.stands.0 c.args.frame c.args.place c.requires.now c.requires.there.asks c.requires.stands.1 c.requires.steps))
 
 pub returns-in-CallsOnce-clause-frames : goal.returns-in-CallsOnce-clause-frames
 returns-in-CallsOnce-clause-frames g c = λ s r. result_full c.call_once.result (λ h. absurd h) c.call_once.ensures.frames
@@ -91,51 +91,51 @@ returns-in-CallsOnce-clause-frames g c = λ s r. result_full c.call_once.result 
 pub refute-requires : goal.refute-requires
 refute-requires g c =
     let by = refutes_by (g.S.Store.present c.args.self.now.store) (g.S.Store.present c.reply.new.store) c.args.self.now.nodes.items c.reply.new.nodes.items (reply c.args.built_in (meaning (g.S.Store.present c.args.self.now.store) c.args.goal)) c.in-Refutes.body (rw c.in-Refutes.is at c.in_ok-replied.ensures.replies) in
-    (called g.S.Store.present g.S.Store.stands g.S.Store.older c.args.self.now c.reply.new.store c.reply.new.nodes c.requires.stands.0 c.args.frame c.args.place c.args.goal c.requires.now c.requires.there c.requires.stands.1 c.requires.steps c.args.built_in c.requires.built_in c.in_ok-replied.ensures.marks c.in_ok-replied.ensures.nodes by.0 c.in-Refutes.body by.2, by.2.body, called_ahead g.S.Store.present g.S.Store.stands g.S.Store.older c.args.self.now c.reply.new.store c.reply.new.nodes c.requires.stands.0 c.args.frame c.args.place c.args.goal c.requires.now c.requires.there c.requires.stands.1 c.requires.steps c.args.built_in c.requires.built_in c.in_ok-replied.ensures.marks c.in_ok-replied.ensures.nodes by.0 c.in-Refutes.body by.2, by.2.stands)
+    (called g.S.Store.names g.S.Store.present g.S.Store.stands g.S.Store.older c.args.self.now c.reply.new.store c.reply.new.nodes c.requires.stands.0 c.args.frame c.args.place c.args.goal c.requires.now c.requires.there c.requires.stands.1 c.requires.steps c.args.built_in c.requires.built_in c.in_ok-replied.ensures.marks c.in_ok-replied.ensures.names c.in_ok-replied.ensures.nodes by.0 c.in-Refutes.body by.2, by.2.body, called_ahead g.S.Store.names g.S.Store.present g.S.Store.stands g.S.Store.older c.args.self.now c.reply.new.store c.reply.new.nodes c.requires.stands.0 c.args.frame c.args.place c.args.goal c.requires.now c.requires.there c.requires.stands.1 c.requires.steps c.args.built_in c.requires.built_in c.in_ok-replied.ensures.marks c.in_ok-replied.ensures.names c.in_ok-replied.ensures.nodes by.0 c.in-Refutes.body by.2, by.2.stands)
 
 pub returns-in-Refutes-clause-moves : goal.returns-in-Refutes-clause-moves
 returns-in-Refutes-clause-moves g c = λ s r.
     (let by = refutes_by (g.S.Store.present c.args.self.now.store) (g.S.Store.present c.reply.new.store) c.args.self.now.nodes.items c.reply.new.nodes.items (reply c.args.built_in (meaning (g.S.Store.present c.args.self.now.store) c.args.goal)) c.in-Refutes.body (rw c.in-Refutes.is at c.in_ok-replied.ensures.replies) in
-    let u = called g.S.Store.present g.S.Store.stands g.S.Store.older c.args.self.now c.reply.new.store c.reply.new.nodes s c.args.frame c.args.place c.args.goal c.requires.now c.requires.there r c.requires.steps c.args.built_in c.requires.built_in c.in_ok-replied.ensures.marks c.in_ok-replied.ensures.nodes by.0 c.in-Refutes.body by.2 in
-    if_ok_map _ _ c.refute.result (refutes_now g.S.Store.present g.S.Store.stands g.S.Store.older c.args.self.now c.reply.new.store c.reply.new.nodes s c.args.frame c.args.place c.args.goal c.requires.now c.requires.there r c.requires.steps c.args.built_in c.requires.built_in c.in_ok-replied.ensures.marks c.in_ok-replied.ensures.nodes by.0 c.in-Refutes.body by.2 by.1 c.refute.new.self) (c.refute.ensures.called u by.2.body (called_ahead g.S.Store.present g.S.Store.stands g.S.Store.older c.args.self.now c.reply.new.store c.reply.new.nodes s c.args.frame c.args.place c.args.goal c.requires.now c.requires.there r c.requires.steps c.args.built_in c.requires.built_in c.in_ok-replied.ensures.marks c.in_ok-replied.ensures.nodes by.0 c.in-Refutes.body by.2) by.2.stands))
+    let u = called g.S.Store.names g.S.Store.present g.S.Store.stands g.S.Store.older c.args.self.now c.reply.new.store c.reply.new.nodes s c.args.frame c.args.place c.args.goal c.requires.now c.requires.there r c.requires.steps c.args.built_in c.requires.built_in c.in_ok-replied.ensures.marks c.in_ok-replied.ensures.names c.in_ok-replied.ensures.nodes by.0 c.in-Refutes.body by.2 in
+    if_ok_map _ _ c.refute.result (refutes_now g.S.Store.names g.S.Store.present g.S.Store.stands g.S.Store.older c.args.self.now c.reply.new.store c.reply.new.nodes s c.args.frame c.args.place c.args.goal c.requires.now c.requires.there r c.requires.steps c.args.built_in c.requires.built_in c.in_ok-replied.ensures.marks c.in_ok-replied.ensures.names c.in_ok-replied.ensures.nodes by.0 c.in-Refutes.body by.2 by.1 c.refute.new.self) (c.refute.ensures.called u by.2.body (called_ahead g.S.Store.names g.S.Store.present g.S.Store.stands g.S.Store.older c.args.self.now c.reply.new.store c.reply.new.nodes s c.args.frame c.args.place c.args.goal c.requires.now c.requires.there r c.requires.steps c.args.built_in c.requires.built_in c.in_ok-replied.ensures.marks c.in_ok-replied.ensures.names c.in_ok-replied.ensures.nodes by.0 c.in-Refutes.body by.2) by.2.stands))
 
 pub returns-in-Refutes-clause-stopped : goal.returns-in-Refutes-clause-stopped
 returns-in-Refutes-clause-stopped g c = λ s r.
     (let by = refutes_by (g.S.Store.present c.args.self.now.store) (g.S.Store.present c.reply.new.store) c.args.self.now.nodes.items c.reply.new.nodes.items (reply c.args.built_in (meaning (g.S.Store.present c.args.self.now.store) c.args.goal)) c.in-Refutes.body (rw c.in-Refutes.is at c.in_ok-replied.ensures.replies) in
-    let u = called g.S.Store.present g.S.Store.stands g.S.Store.older c.args.self.now c.reply.new.store c.reply.new.nodes s c.args.frame c.args.place c.args.goal c.requires.now c.requires.there r c.requires.steps c.args.built_in c.requires.built_in c.in_ok-replied.ensures.marks c.in_ok-replied.ensures.nodes by.0 c.in-Refutes.body by.2 in
-    on_err_weaker c.refute.result (refute_stops g.S.Store.present g.S.Store.stands g.S.Store.older c.args.self.now c.reply.new.store c.reply.new.nodes s c.args.frame c.args.place c.args.goal c.requires.now c.requires.there r c.requires.steps c.args.built_in c.requires.built_in c.in_ok-replied.ensures.marks c.in_ok-replied.ensures.nodes by.0 c.in-Refutes.body by.2 by.1 c.refute.new.self) (c.refute.ensures.kept u (called_ahead g.S.Store.present g.S.Store.stands g.S.Store.older c.args.self.now c.reply.new.store c.reply.new.nodes s c.args.frame c.args.place c.args.goal c.requires.now c.requires.there r c.requires.steps c.args.built_in c.requires.built_in c.in_ok-replied.ensures.marks c.in_ok-replied.ensures.nodes by.0 c.in-Refutes.body by.2)))
+    let u = called g.S.Store.names g.S.Store.present g.S.Store.stands g.S.Store.older c.args.self.now c.reply.new.store c.reply.new.nodes s c.args.frame c.args.place c.args.goal c.requires.now c.requires.there r c.requires.steps c.args.built_in c.requires.built_in c.in_ok-replied.ensures.marks c.in_ok-replied.ensures.names c.in_ok-replied.ensures.nodes by.0 c.in-Refutes.body by.2 in
+    on_err_weaker c.refute.result (refute_stops g.S.Store.names g.S.Store.present g.S.Store.stands g.S.Store.older c.args.self.now c.reply.new.store c.reply.new.nodes s c.args.frame c.args.place c.args.goal c.requires.now c.requires.there r c.requires.steps c.args.built_in c.requires.built_in c.in_ok-replied.ensures.marks c.in_ok-replied.ensures.names c.in_ok-replied.ensures.nodes by.0 c.in-Refutes.body by.2 by.1 c.refute.new.self) (c.refute.ensures.kept u (called_ahead g.S.Store.names g.S.Store.present g.S.Store.stands g.S.Store.older c.args.self.now c.reply.new.store c.reply.new.nodes s c.args.frame c.args.place c.args.goal c.requires.now c.requires.there r c.requires.steps c.args.built_in c.requires.built_in c.in_ok-replied.ensures.marks c.in_ok-replied.ensures.names c.in_ok-replied.ensures.nodes by.0 c.in-Refutes.body by.2)))
 
 pub returns-in-Refutes-clause-falls : goal.returns-in-Refutes-clause-falls
 returns-in-Refutes-clause-falls g c =
-    if_ok_map _ _ c.refute.result (λ m. subst (λ x. Falls m x (weight c.refute.new.self)) (step_weight g.S.Store.present g.S.Store.stands g.S.Store.older c.args.self.now c.requires.stands.0 c.args.frame c.args.place c.requires.now c.requires.there.asks c.requires.stands.1 c.requires.steps)) (c.refute.ensures.falls (cost c.args.self.now) (behind_less g.S.Store.present g.S.Store.stands g.S.Store.older c.args.self.now c.requires.stands.0 c.args.frame c.args.place c.requires.now c.requires.there.asks c.requires.stands.1 c.requires.steps))
+    if_ok_map _ _ c.refute.result (λ m. subst (λ x. Falls m x (weight c.refute.new.self)) (step_weight g.S.Store.names g.S.Store.present g.S.Store.stands g.S.Store.older c.args.self.now c.requires.stands.0 c.args.frame c.args.place c.requires.now c.requires.there.asks c.requires.stands.1 c.requires.steps)) (c.refute.ensures.falls (cost c.args.self.now) (behind_less g.S.Store.names g.S.Store.present g.S.Store.stands g.S.Store.older c.args.self.now c.requires.stands.0 c.args.frame c.args.place c.requires.now c.requires.there.asks c.requires.stands.1 c.requires.steps))
 
 pub returns-in-Refutes-clause-frames : goal.returns-in-Refutes-clause-frames
 returns-in-Refutes-clause-frames g c = λ s r.
     (let by = refutes_by (g.S.Store.present c.args.self.now.store) (g.S.Store.present c.reply.new.store) c.args.self.now.nodes.items c.reply.new.nodes.items (reply c.args.built_in (meaning (g.S.Store.present c.args.self.now.store) c.args.goal)) c.in-Refutes.body (rw c.in-Refutes.is at c.in_ok-replied.ensures.replies) in
-    result_full c.refute.result (refute_over g.S.Store.present g.S.Store.stands g.S.Store.older c.args.self.now c.reply.new.store c.reply.new.nodes s c.args.frame c.args.place c.args.goal c.requires.now c.requires.there r c.requires.steps c.args.built_in c.requires.built_in c.in_ok-replied.ensures.marks c.in_ok-replied.ensures.nodes by.0 c.in-Refutes.body by.2 by.1) c.refute.ensures.frames)
+    result_full c.refute.result (refute_over g.S.Store.names g.S.Store.present g.S.Store.stands g.S.Store.older c.args.self.now c.reply.new.store c.reply.new.nodes s c.args.frame c.args.place c.args.goal c.requires.now c.requires.there r c.requires.steps c.args.built_in c.requires.built_in c.in_ok-replied.ensures.marks c.in_ok-replied.ensures.names c.in_ok-replied.ensures.nodes by.0 c.in-Refutes.body by.2 by.1) c.refute.ensures.frames)
 
 -- ---- again and again
 
 pub repeat-requires : goal.repeat-requires
 repeat-requires g c =
     let by = repeats_by (g.S.Store.present c.args.self.now.store) (g.S.Store.present c.reply.new.store) c.args.self.now.nodes.items c.reply.new.nodes.items (reply c.args.built_in (meaning (g.S.Store.present c.args.self.now.store) c.args.goal)) (rw c.in-Repeats.is at c.in_ok-replied.ensures.replies) in
-    (repeating g.S.Store.present g.S.Store.stands g.S.Store.older c.args.self.now c.reply.new.store c.reply.new.nodes c.requires.stands.0 c.args.frame c.args.place c.args.goal c.requires.now c.requires.there c.requires.stands.1 c.requires.steps c.args.built_in c.requires.built_in c.in_ok-replied.ensures.marks c.in_ok-replied.ensures.nodes by.0 by.1, repeating_ahead g.S.Store.present g.S.Store.stands g.S.Store.older c.args.self.now c.reply.new.store c.reply.new.nodes c.requires.stands.0 c.args.frame c.args.place c.args.goal c.requires.now c.requires.there c.requires.stands.1 c.requires.steps c.args.built_in c.requires.built_in c.in_ok-replied.ensures.marks c.in_ok-replied.ensures.nodes by.0 by.1)
+    (repeating g.S.Store.names g.S.Store.present g.S.Store.stands g.S.Store.older c.args.self.now c.reply.new.store c.reply.new.nodes c.requires.stands.0 c.args.frame c.args.place c.args.goal c.requires.now c.requires.there c.requires.stands.1 c.requires.steps c.args.built_in c.requires.built_in c.in_ok-replied.ensures.marks c.in_ok-replied.ensures.names c.in_ok-replied.ensures.nodes by.0 by.1, repeating_ahead g.S.Store.names g.S.Store.present g.S.Store.stands g.S.Store.older c.args.self.now c.reply.new.store c.reply.new.nodes c.requires.stands.0 c.args.frame c.args.place c.args.goal c.requires.now c.requires.there c.requires.stands.1 c.requires.steps c.args.built_in c.requires.built_in c.in_ok-replied.ensures.marks c.in_ok-replied.ensures.names c.in_ok-replied.ensures.nodes by.0 by.1)
 
 pub returns-in-Repeats-clause-moves : goal.returns-in-Repeats-clause-moves
 returns-in-Repeats-clause-moves g c = λ s r.
     (let by = repeats_by (g.S.Store.present c.args.self.now.store) (g.S.Store.present c.reply.new.store) c.args.self.now.nodes.items c.reply.new.nodes.items (reply c.args.built_in (meaning (g.S.Store.present c.args.self.now.store) c.args.goal)) (rw c.in-Repeats.is at c.in_ok-replied.ensures.replies) in
-    if_ok_map _ _ c.repeat.result (repeats_now g.S.Store.present g.S.Store.stands g.S.Store.older c.args.self.now c.reply.new.store c.reply.new.nodes s c.args.frame c.args.place c.args.goal c.requires.now c.requires.there r c.requires.steps c.args.built_in c.requires.built_in c.in_ok-replied.ensures.marks c.in_ok-replied.ensures.nodes by.0 by.1 c.repeat.new.self) (c.repeat.ensures.called (repeating g.S.Store.present g.S.Store.stands g.S.Store.older c.args.self.now c.reply.new.store c.reply.new.nodes s c.args.frame c.args.place c.args.goal c.requires.now c.requires.there r c.requires.steps c.args.built_in c.requires.built_in c.in_ok-replied.ensures.marks c.in_ok-replied.ensures.nodes by.0 by.1) (repeating_ahead g.S.Store.present g.S.Store.stands g.S.Store.older c.args.self.now c.reply.new.store c.reply.new.nodes s c.args.frame c.args.place c.args.goal c.requires.now c.requires.there r c.requires.steps c.args.built_in c.requires.built_in c.in_ok-replied.ensures.marks c.in_ok-replied.ensures.nodes by.0 by.1)))
+    if_ok_map _ _ c.repeat.result (repeats_now g.S.Store.names g.S.Store.present g.S.Store.stands g.S.Store.older c.args.self.now c.reply.new.store c.reply.new.nodes s c.args.frame c.args.place c.args.goal c.requires.now c.requires.there r c.requires.steps c.args.built_in c.requires.built_in c.in_ok-replied.ensures.marks c.in_ok-replied.ensures.names c.in_ok-replied.ensures.nodes by.0 by.1 c.repeat.new.self) (c.repeat.ensures.called (repeating g.S.Store.names g.S.Store.present g.S.Store.stands g.S.Store.older c.args.self.now c.reply.new.store c.reply.new.nodes s c.args.frame c.args.place c.args.goal c.requires.now c.requires.there r c.requires.steps c.args.built_in c.requires.built_in c.in_ok-replied.ensures.marks c.in_ok-replied.ensures.names c.in_ok-replied.ensures.nodes by.0 by.1) (repeating_ahead g.S.Store.names g.S.Store.present g.S.Store.stands g.S.Store.older c.args.self.now c.reply.new.store c.reply.new.nodes s c.args.frame c.args.place c.args.goal c.requires.now c.requires.there r c.requires.steps c.args.built_in c.requires.built_in c.in_ok-replied.ensures.marks c.in_ok-replied.ensures.names c.in_ok-replied.ensures.nodes by.0 by.1)))
 
 pub returns-in-Repeats-clause-stopped : goal.returns-in-Repeats-clause-stopped
 returns-in-Repeats-clause-stopped g c = λ s r.
     (let by = repeats_by (g.S.Store.present c.args.self.now.store) (g.S.Store.present c.reply.new.store) c.args.self.now.nodes.items c.reply.new.nodes.items (reply c.args.built_in (meaning (g.S.Store.present c.args.self.now.store) c.args.goal)) (rw c.in-Repeats.is at c.in_ok-replied.ensures.replies) in
-    on_err_weaker c.repeat.result (repeat_stops g.S.Store.present g.S.Store.stands g.S.Store.older c.args.self.now c.reply.new.store c.reply.new.nodes s c.args.frame c.args.place c.args.goal c.requires.now c.requires.there r c.requires.steps c.args.built_in c.requires.built_in c.in_ok-replied.ensures.marks c.in_ok-replied.ensures.nodes by.0 by.1 c.repeat.new.self) (c.repeat.ensures.kept (repeating g.S.Store.present g.S.Store.stands g.S.Store.older c.args.self.now c.reply.new.store c.reply.new.nodes s c.args.frame c.args.place c.args.goal c.requires.now c.requires.there r c.requires.steps c.args.built_in c.requires.built_in c.in_ok-replied.ensures.marks c.in_ok-replied.ensures.nodes by.0 by.1) (repeating_ahead g.S.Store.present g.S.Store.stands g.S.Store.older c.args.self.now c.reply.new.store c.reply.new.nodes s c.args.frame c.args.place c.args.goal c.requires.now c.requires.there r c.requires.steps c.args.built_in c.requires.built_in c.in_ok-replied.ensures.marks c.in_ok-replied.ensures.nodes by.0 by.1)))
+    on_err_weaker c.repeat.result (repeat_stops g.S.Store.names g.S.Store.present g.S.Store.stands g.S.Store.older c.args.self.now c.reply.new.store c.reply.new.nodes s c.args.frame c.args.place c.args.goal c.requires.now c.requires.there r c.requires.steps c.args.built_in c.requires.built_in c.in_ok-replied.ensures.marks c.in_ok-replied.ensures.names c.in_ok-replied.ensures.nodes by.0 by.1 c.repeat.new.self) (c.repeat.ensures.kept (repeating g.S.Store.names g.S.Store.present g.S.Store.stands g.S.Store.older c.args.self.now c.reply.new.store c.reply.new.nodes s c.args.frame c.args.place c.args.goal c.requires.now c.requires.there r c.requires.steps c.args.built_in c.requires.built_in c.in_ok-replied.ensures.marks c.in_ok-replied.ensures.names c.in_ok-replied.ensures.nodes by.0 by.1) (repeating_ahead g.S.Store.names g.S.Store.present g.S.Store.stands g.S.Store.older c.args.self.now c.reply.new.store c.reply.new.nodes s c.args.frame c.args.place c.args.goal c.requires.now c.requires.there r c.requires.steps c.args.built_in c.requires.built_in c.in_ok-replied.ensures.marks c.in_ok-replied.ensures.names c.in_ok-replied.ensures.nodes by.0 by.1)))
 
 pub returns-in-Repeats-clause-falls : goal.returns-in-Repeats-clause-falls
 returns-in-Repeats-clause-falls g c =
-    if_ok_map _ _ c.repeat.result (λ m. subst (λ x. Falls m x (weight c.repeat.new.self)) (step_weight g.S.Store.present g.S.Store.stands g.S.Store.older c.args.self.now c.requires.stands.0 c.args.frame c.args.place c.requires.now c.requires.there.asks c.requires.stands.1 c.requires.steps)) (c.repeat.ensures.falls (cost c.args.self.now) (behind_less g.S.Store.present g.S.Store.stands g.S.Store.older c.args.self.now c.requires.stands.0 c.args.frame c.args.place c.requires.now c.requires.there.asks c.requires.stands.1 c.requires.steps))
+    if_ok_map _ _ c.repeat.result (λ m. subst (λ x. Falls m x (weight c.repeat.new.self)) (step_weight g.S.Store.names g.S.Store.present g.S.Store.stands g.S.Store.older c.args.self.now c.requires.stands.0 c.args.frame c.args.place c.requires.now c.requires.there.asks c.requires.stands.1 c.requires.steps)) (c.repeat.ensures.falls (cost c.args.self.now) (behind_less g.S.Store.names g.S.Store.present g.S.Store.stands g.S.Store.older c.args.self.now c.requires.stands.0 c.args.frame c.args.place c.requires.now c.requires.there.asks c.requires.stands.1 c.requires.steps))
 
 pub returns-in-Repeats-clause-frames : goal.returns-in-Repeats-clause-frames
 returns-in-Repeats-clause-frames g c = λ s r.
     (let by = repeats_by (g.S.Store.present c.args.self.now.store) (g.S.Store.present c.reply.new.store) c.args.self.now.nodes.items c.reply.new.nodes.items (reply c.args.built_in (meaning (g.S.Store.present c.args.self.now.store) c.args.goal)) (rw c.in-Repeats.is at c.in_ok-replied.ensures.replies) in
-    result_full c.repeat.result (repeat_over g.S.Store.present g.S.Store.stands g.S.Store.older c.args.self.now c.reply.new.store c.reply.new.nodes s c.args.frame c.args.place c.args.goal c.requires.now c.requires.there r c.requires.steps c.args.built_in c.requires.built_in c.in_ok-replied.ensures.marks c.in_ok-replied.ensures.nodes by.0 by.1) c.repeat.ensures.frames)
+    result_full c.repeat.result (repeat_over g.S.Store.names g.S.Store.present g.S.Store.stands g.S.Store.older c.args.self.now c.reply.new.store c.reply.new.nodes s c.args.frame c.args.place c.args.goal c.requires.now c.requires.there r c.requires.steps c.args.built_in c.requires.built_in c.in_ok-replied.ensures.marks c.in_ok-replied.ensures.names c.in_ok-replied.ensures.nodes by.0 by.1) c.repeat.ensures.frames)

@@ -12,14 +12,14 @@ use Rattle.iso_plain.proofs.LimitLemmas.{result_full}
 use Rattle.iso_plain.proofs.plain.Plain.run_goal.Goals as goal
 
 pub returns-then-self-eq0-clause-moves : goal.returns-then-self-eq0-clause-moves
-returns-then-self-eq0-clause-moves g c = λ s r. (spends g.S.Store.present g.S.Store.stands g.S.Store.older c.args.self.now s c.args.frame c.args.place c.args.goal c.requires.now c.requires.there r c.clear.new.self c.if-self-eq0.true c.clear.ensures.idle c.clear.ensures.now, ap phase_of c.clear.ensures.now)
+returns-then-self-eq0-clause-moves g c = λ s r. (spends g.S.Store.names g.S.Store.present g.S.Store.stands g.S.Store.older c.args.self.now s c.args.frame c.args.place c.args.goal c.requires.now c.requires.there r c.clear.new.self c.if-self-eq0.true c.clear.ensures.idle c.clear.ensures.now, ap phase_of c.clear.ensures.now)
 
 pub called-requires : goal.called-requires
-called-requires g c = (at g.S.Store.present g.S.Store.stands g.S.Store.older c.args.self.now c.requires.stands.0 c.args.frame c.args.place c.args.goal c.requires.now c.requires.there c.requires.stands.1).holds
+called-requires g c = (at g.S.Store.names g.S.Store.present g.S.Store.stands g.S.Store.older c.args.self.now c.requires.stands.0 c.args.frame c.args.place c.args.goal c.requires.now c.requires.there c.requires.stands.1).holds
 
 pub returns-in_err-called-clause-stopped : goal.returns-in_err-called-clause-stopped
 returns-in_err-called-clause-stopped g c = λ s r.
-    behind_error c.from_residual.result (stops_here g.S.Store.present g.S.Store.stands g.S.Store.older c.args.self.now r.own s r.same (keeps_all g.S.Store.present g.S.Store.stands g.S.Store.older c.args.self.now r.own r.engine))
+    behind_error c.from_residual.result (stops_here g.S.Store.names g.S.Store.present g.S.Store.stands g.S.Store.older c.args.self.now r.own s r.same (keeps_all g.S.Store.names g.S.Store.present g.S.Store.stands g.S.Store.older c.args.self.now r.own r.engine))
 
 pub run_built_in-requires-clause-built_in : goal.run_built_in-requires-clause-built_in
 run_built_in-requires-clause-built_in g c =
@@ -32,15 +32,15 @@ run_built_in-requires-clause-built_in g c =
 pub returns-in-Fails-clause-moves : goal.returns-in-Fails-clause-moves
 returns-in-Fails-clause-moves g c = λ s r.
     (let what = c.in_ok-called.ensures r.own.world r.engine.world in
-    fails_unknown g.S.Store.present g.S.Store.stands g.S.Store.older c.args.self.now s c.args.frame c.args.place c.args.goal c.requires.now c.requires.there r c.if-self-eq0.false (rw c.in-Fails.is at what))
+    fails_unknown g.S.Store.names g.S.Store.present g.S.Store.stands g.S.Store.older c.args.self.now s c.args.frame c.args.place c.args.goal c.requires.now c.requires.there r c.if-self-eq0.false (rw c.in-Fails.is at what))
 
 pub returns-in-Fails-clause-falls : goal.returns-in-Fails-clause-falls
-returns-in-Fails-clause-falls g c = fails_falls g.S.Store.present g.S.Store.stands g.S.Store.older c.args.self.now c.requires.stands.0 c.args.frame c.args.place c.requires.now c.requires.there.asks c.requires.stands.1 c.if-self-eq0.false c.args.self.now.store c.args.self.now.nodes
+returns-in-Fails-clause-falls g c = fails_falls g.S.Store.names g.S.Store.present g.S.Store.stands g.S.Store.older c.args.self.now c.requires.stands.0 c.args.frame c.args.place c.requires.now c.requires.there.asks c.requires.stands.1 c.if-self-eq0.false c.args.self.now.store c.args.self.now.nodes
 
 pub returns-in-Unknown-clause-moves : goal.returns-in-Unknown-clause-moves
 returns-in-Unknown-clause-moves g c = λ s r.
     (let what = c.in_ok-called.ensures r.own.world r.engine.world in
-    (raises_error g.S.Store.present g.S.Store.stands g.S.Store.older c.args.self.now s c.args.frame c.args.place c.args.goal c.requires.now c.requires.there r c.clear-in-Unknown.new.self (term_of c.in-Unknown.ball.term) c.if-self-eq0.false c.clear-in-Unknown.ensures.idle c.clear-in-Unknown.ensures.now (rw c.in-Unknown.is at what), ap phase_of c.clear-in-Unknown.ensures.now))
+    (raises_error g.S.Store.names g.S.Store.present g.S.Store.stands g.S.Store.older c.args.self.now s c.args.frame c.args.place c.args.goal c.requires.now c.requires.there r c.clear-in-Unknown.new.self (term_of c.in-Unknown.ball.term) c.if-self-eq0.false c.clear-in-Unknown.ensures.idle c.clear-in-Unknown.ensures.now (rw c.in-Unknown.is at what), ap phase_of c.clear-in-Unknown.ensures.now))
 
 -- ---- a procedure
 
@@ -48,40 +48,40 @@ pub call_first-requires : goal.call_first-requires
 call_first-requires g c =
     let e = c.args.self.now in
     let r = c.requires.stands.1 in
-    let a = at g.S.Store.present g.S.Store.stands g.S.Store.older c.args.self.now c.requires.stands.0 c.args.frame c.args.place c.args.goal c.requires.now c.requires.there c.requires.stands.1 in
+    let a = at g.S.Store.names g.S.Store.present g.S.Store.stands g.S.Store.older c.args.self.now c.requires.stands.0 c.args.frame c.args.place c.args.goal c.requires.now c.requires.there c.requires.stands.1 in
     let what = c.in_ok-called.ensures r.own.world r.engine.world in
     let user = rw c.in-User.is at what in
-    let calls = calls_engine g.S.Store.present g.S.Store.stands g.S.Store.older e r.own c.args.frame c.args.goal c.in-User.procedure (e.steps - 1) user.first user.others a (one_less e.steps c.if-self-eq0.false) user.left in
+    let calls = calls_engine g.S.Store.names g.S.Store.present g.S.Store.stands g.S.Store.older e r.own c.args.frame c.args.goal c.in-User.procedure (e.steps - 1) user.first user.others a (one_less e.steps c.if-self-eq0.false) user.left in
     (record r.own { steps = e.steps - 1 }, meaning (g.S.Store.present e.store) c.args.goal, user.first, user.others, a.behind, calls)
 
 pub returns-in-User-clause-moves : goal.returns-in-User-clause-moves
 returns-in-User-clause-moves g c = λ s r.
     (let e = c.args.self.now in
-    let a = at g.S.Store.present g.S.Store.stands g.S.Store.older c.args.self.now s c.args.frame c.args.place c.args.goal c.requires.now c.requires.there r in
+    let a = at g.S.Store.names g.S.Store.present g.S.Store.stands g.S.Store.older c.args.self.now s c.args.frame c.args.place c.args.goal c.requires.now c.requires.there r in
     let what = c.in_ok-called.ensures r.own.world r.engine.world in
     let user = rw c.in-User.is at what in
-    let calls = calls_engine g.S.Store.present g.S.Store.stands g.S.Store.older e r.own c.args.frame c.args.goal c.in-User.procedure (e.steps - 1) user.first user.others a (one_less e.steps c.if-self-eq0.false) user.left in
-    if_ok_map _ _ c.call_first.result (called_on g.S.Store.present g.S.Store.stands g.S.Store.older c.args.self.now s c.args.frame c.args.place c.args.goal c.requires.now c.requires.there r c.if-self-eq0.false user.key user.first user.others user.user user.found c.call_first.new.self) (c.call_first.ensures.called _ _ user.first user.others a.behind calls))
+    let calls = calls_engine g.S.Store.names g.S.Store.present g.S.Store.stands g.S.Store.older e r.own c.args.frame c.args.goal c.in-User.procedure (e.steps - 1) user.first user.others a (one_less e.steps c.if-self-eq0.false) user.left in
+    if_ok_map _ _ c.call_first.result (called_on g.S.Store.names g.S.Store.present g.S.Store.stands g.S.Store.older c.args.self.now s c.args.frame c.args.place c.args.goal c.requires.now c.requires.there r c.if-self-eq0.false user.key user.first user.others user.user user.found c.call_first.new.self) (c.call_first.ensures.called _ _ user.first user.others a.behind calls))
 
 pub returns-in-User-clause-frames : goal.returns-in-User-clause-frames
 returns-in-User-clause-frames g c = λ s r.
     (let e = c.args.self.now in
-    let a = at g.S.Store.present g.S.Store.stands g.S.Store.older c.args.self.now s c.args.frame c.args.place c.args.goal c.requires.now c.requires.there r in
+    let a = at g.S.Store.names g.S.Store.present g.S.Store.stands g.S.Store.older c.args.self.now s c.args.frame c.args.place c.args.goal c.requires.now c.requires.there r in
     let what = c.in_ok-called.ensures r.own.world r.engine.world in
     let user = rw c.in-User.is at what in
-    let calls = calls_engine g.S.Store.present g.S.Store.stands g.S.Store.older e r.own c.args.frame c.args.goal c.in-User.procedure (e.steps - 1) user.first user.others a (one_less e.steps c.if-self-eq0.false) user.left in
-    result_full c.call_first.result (λ h. over g.S.Store.present g.S.Store.stands g.S.Store.older c.args.self.now s c.args.frame c.args.place c.args.goal c.requires.now c.requires.there r c.if-self-eq0.false user.key user.first user.others user.user user.found h.0 h.1) (c.call_first.ensures.frames _ _ user.first user.others a.behind calls))
+    let calls = calls_engine g.S.Store.names g.S.Store.present g.S.Store.stands g.S.Store.older e r.own c.args.frame c.args.goal c.in-User.procedure (e.steps - 1) user.first user.others a (one_less e.steps c.if-self-eq0.false) user.left in
+    result_full c.call_first.result (λ h. over g.S.Store.names g.S.Store.present g.S.Store.stands g.S.Store.older c.args.self.now s c.args.frame c.args.place c.args.goal c.requires.now c.requires.there r c.if-self-eq0.false user.key user.first user.others user.user user.found h.0 h.1) (c.call_first.ensures.frames _ _ user.first user.others a.behind calls))
 
 pub returns-in-User-clause-stopped : goal.returns-in-User-clause-stopped
 returns-in-User-clause-stopped g c = λ s r.
     (let e = c.args.self.now in
-    let a = at g.S.Store.present g.S.Store.stands g.S.Store.older c.args.self.now s c.args.frame c.args.place c.args.goal c.requires.now c.requires.there r in
+    let a = at g.S.Store.names g.S.Store.present g.S.Store.stands g.S.Store.older c.args.self.now s c.args.frame c.args.place c.args.goal c.requires.now c.requires.there r in
     let what = c.in_ok-called.ensures r.own.world r.engine.world in
     let user = rw c.in-User.is at what in
-    let calls = calls_engine g.S.Store.present g.S.Store.stands g.S.Store.older e r.own c.args.frame c.args.goal c.in-User.procedure (e.steps - 1) user.first user.others a (one_less e.steps c.if-self-eq0.false) user.left in
-    on_err_weaker c.call_first.result (λ was. refused_on g.S.Store.present g.S.Store.stands g.S.Store.older c.args.self.now s c.args.frame c.args.place c.args.goal c.requires.now c.requires.there r c.if-self-eq0.false user.key user.first user.others user.user user.found c.call_first.new.self was) (c.call_first.ensures.kept _ _ user.first user.others a.behind calls))
+    let calls = calls_engine g.S.Store.names g.S.Store.present g.S.Store.stands g.S.Store.older e r.own c.args.frame c.args.goal c.in-User.procedure (e.steps - 1) user.first user.others a (one_less e.steps c.if-self-eq0.false) user.left in
+    on_err_weaker c.call_first.result (λ was. refused_on g.S.Store.names g.S.Store.present g.S.Store.stands g.S.Store.older c.args.self.now s c.args.frame c.args.place c.args.goal c.requires.now c.requires.there r c.if-self-eq0.false user.key user.first user.others user.user user.found c.call_first.new.self was) (c.call_first.ensures.kept _ _ user.first user.others a.behind calls))
 
 pub returns-in-User-clause-falls : goal.returns-in-User-clause-falls
 returns-in-User-clause-falls g c =
-    let less = behind_less g.S.Store.present g.S.Store.stands g.S.Store.older c.args.self.now c.requires.stands.0 c.args.frame c.args.place c.requires.now c.requires.there.asks c.requires.stands.1 c.if-self-eq0.false in
-    if_ok_map _ _ c.call_first.result (λ m. subst (λ x. Falls m x (weight c.call_first.new.self)) (step_weight g.S.Store.present g.S.Store.stands g.S.Store.older c.args.self.now c.requires.stands.0 c.args.frame c.args.place c.requires.now c.requires.there.asks c.requires.stands.1 c.if-self-eq0.false)) (c.call_first.ensures.falls (cost c.args.self.now) (omega (arith, less)))
+    let less = behind_less g.S.Store.names g.S.Store.present g.S.Store.stands g.S.Store.older c.args.self.now c.requires.stands.0 c.args.frame c.args.place c.requires.now c.requires.there.asks c.requires.stands.1 c.if-self-eq0.false in
+    if_ok_map _ _ c.call_first.result (λ m. subst (λ x. Falls m x (weight c.call_first.new.self)) (step_weight g.S.Store.names g.S.Store.present g.S.Store.stands g.S.Store.older c.args.self.now c.requires.stands.0 c.args.frame c.args.place c.requires.now c.requires.there.asks c.requires.stands.1 c.if-self-eq0.false)) (c.call_first.ensures.falls (cost c.args.self.now) (omega (arith, less)))

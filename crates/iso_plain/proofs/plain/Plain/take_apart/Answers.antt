@@ -8,24 +8,24 @@ use Rattle.iso_plain.proofs.plain.Plain.take_apart.Goals as goal
 
 pub overflow_sub-place : goal.overflow_sub-place
 overflow_sub-place g c =
-    let parts = and_parts g.S.Store.present g.S.Store.stands g.S.Store.older c.args.self.now c.requires.stands.0 c.args.frame c.args.place c.requires.now c.requires.stands.1 c.args.distance c.requires.there in
+    let parts = and_parts g.S.Store.names g.S.Store.present g.S.Store.stands g.S.Store.older c.args.self.now c.requires.stands.0 c.args.frame c.args.place c.requires.now c.requires.stands.1 c.args.distance c.requires.there in
     let some = parts.2 in
     omega (arith, some)
 
 pub overflow_sub-self : goal.overflow_sub-self
-overflow_sub-self g c = (and_parts g.S.Store.present g.S.Store.stands g.S.Store.older c.args.self.now c.requires.stands.0 c.args.frame c.args.place c.requires.now c.requires.stands.1 c.args.distance c.requires.there).0
+overflow_sub-self g c = (and_parts g.S.Store.names g.S.Store.present g.S.Store.stands g.S.Store.older c.args.self.now c.requires.stands.0 c.args.frame c.args.place c.requires.now c.requires.stands.1 c.args.distance c.requires.there).0
 
 pub returns-in_err-second-clause-stopped : goal.returns-in_err-second-clause-stopped
 returns-in_err-second-clause-stopped g c = λ s r.
     (let e = c.args.self.now in
     let same : c.push_frame.new.frames.items ≡ e.frames.items ++ [] = c.in_err-second.ensures.kept ∙ sym (append-nil e.frames.items) in
-    behind_error c.from_residual.result (stops_here g.S.Store.present g.S.Store.stands g.S.Store.older (record e { frames = c.push_frame.new.frames }) r.own s r.same
-    (keeps_more g.S.Store.present g.S.Store.stands g.S.Store.older e e.store e.nodes c.push_frame.new.frames r.own.world r.own.stack (keeps_all g.S.Store.present g.S.Store.stands g.S.Store.older e r.own r.engine) (λ m p h. h) (adds_none e.nodes.items) ([], same))))
+    behind_error c.from_residual.result (stops_here g.S.Store.names g.S.Store.present g.S.Store.stands g.S.Store.older (record e { frames = c.push_frame.new.frames }) r.own s r.same
+    (keeps_more g.S.Store.names g.S.Store.present g.S.Store.stands g.S.Store.older e e.store e.nodes c.push_frame.new.frames r.own.world r.own.stack (keeps_all g.S.Store.names g.S.Store.present g.S.Store.stands g.S.Store.older e r.own r.engine) (λ m p h. h) (adds_none e.nodes.items) ([], same))))
 
 pub returns-clause-moves : goal.returns-clause-moves
 returns-clause-moves g c = λ s r.
-    rw c.in_ok-second.ensures.place (takes_apart g.S.Store.present g.S.Store.stands g.S.Store.older c.args.self.now s c.args.frame c.args.place c.requires.now r c.args.distance c.push_frame.new.frames c.requires.there c.in_ok-second.ensures.pushed)
+    rw c.in_ok-second.ensures.place (takes_apart g.S.Store.names g.S.Store.present g.S.Store.stands g.S.Store.older c.args.self.now s c.args.frame c.args.place c.requires.now r c.args.distance c.push_frame.new.frames c.requires.there c.in_ok-second.ensures.pushed)
 
 pub returns-clause-falls : goal.returns-clause-falls
 returns-clause-falls g c =
-    rw c.in_ok-second.ensures.place (apart_falls g.S.Store.present g.S.Store.stands g.S.Store.older c.args.self.now c.requires.stands.0 c.args.frame c.args.place c.requires.now c.requires.stands.1 c.args.distance c.push_frame.new.frames c.requires.there c.in_ok-second.ensures.pushed)
+    rw c.in_ok-second.ensures.place (apart_falls g.S.Store.names g.S.Store.present g.S.Store.stands g.S.Store.older c.args.self.now c.requires.stands.0 c.args.frame c.args.place c.requires.now c.requires.stands.1 c.args.distance c.push_frame.new.frames c.requires.there c.in_ok-second.ensures.pushed)

@@ -8,34 +8,34 @@ use Rattle.iso_plain.proofs.plain.Plain.take_condition.Goals as goal
 
 pub overflow_sub-place : goal.overflow_sub-place
 overflow_sub-place g c =
-    let parts = if_parts g.S.Store.present g.S.Store.stands g.S.Store.older c.args.self.now c.requires.stands.0 c.args.frame c.args.place c.requires.now c.requires.stands.1 c.args.distance c.requires.there in
+    let parts = if_parts g.S.Store.names g.S.Store.present g.S.Store.stands g.S.Store.older c.args.self.now c.requires.stands.0 c.args.frame c.args.place c.requires.now c.requires.stands.1 c.args.distance c.requires.there in
     let some = parts.2 in
     omega (arith, some)
 
 pub overflow_sub-self : goal.overflow_sub-self
-overflow_sub-self g c = (if_parts g.S.Store.present g.S.Store.stands g.S.Store.older c.args.self.now c.requires.stands.0 c.args.frame c.args.place c.requires.now c.requires.stands.1 c.args.distance c.requires.there).0
+overflow_sub-self g c = (if_parts g.S.Store.names g.S.Store.present g.S.Store.stands g.S.Store.older c.args.self.now c.requires.stands.0 c.args.frame c.args.place c.requires.now c.requires.stands.1 c.args.distance c.requires.there).0
 
 pub returns-in_err-behind-clause-stopped : goal.returns-in_err-behind-clause-stopped
 returns-in_err-behind-clause-stopped g c = λ s r.
     (let e = c.args.self.now in
     let same : c.push_frame.new.frames.items ≡ e.frames.items ++ [] = c.in_err-behind.ensures.kept ∙ sym (append-nil e.frames.items) in
-    behind_error c.from_residual.result (stops_here g.S.Store.present g.S.Store.stands g.S.Store.older (record e { frames = c.push_frame.new.frames }) r.own s r.same
-    (keeps_more g.S.Store.present g.S.Store.stands g.S.Store.older e e.store e.nodes c.push_frame.new.frames r.own.world r.own.stack (keeps_all g.S.Store.present g.S.Store.stands g.S.Store.older e r.own r.engine) (λ m p h. h) (adds_none e.nodes.items) ([], same))))
+    behind_error c.from_residual.result (stops_here g.S.Store.names g.S.Store.present g.S.Store.stands g.S.Store.older (record e { frames = c.push_frame.new.frames }) r.own s r.same
+    (keeps_more g.S.Store.names g.S.Store.present g.S.Store.stands g.S.Store.older e e.store e.nodes c.push_frame.new.frames r.own.world r.own.stack (keeps_all g.S.Store.names g.S.Store.present g.S.Store.stands g.S.Store.older e r.own r.engine) (λ m p h. h) (adds_none e.nodes.items) ([], same))))
 
 pub returns-in_err-once-clause-stopped : goal.returns-in_err-once-clause-stopped
 returns-in_err-once-clause-stopped g c = λ s r.
     (let e = c.args.self.now in
     let same : c.push_frame-2.new.frames.items ≡ e.frames.items ++ body_frame c.args.frame _ ∷ [] = c.in_err-once.ensures.kept ∙ c.in_ok-behind.ensures.pushed in
-    behind_error c.from_residual-in_err-once.result (stops_here g.S.Store.present g.S.Store.stands g.S.Store.older (record e { frames = c.push_frame-2.new.frames }) r.own s r.same
-    (keeps_more g.S.Store.present g.S.Store.stands g.S.Store.older e e.store e.nodes c.push_frame-2.new.frames r.own.world r.own.stack (keeps_all g.S.Store.present g.S.Store.stands g.S.Store.older e r.own r.engine) (λ m p h. h) (adds_none e.nodes.items) (body_frame c.args.frame _ ∷ [], same))))
+    behind_error c.from_residual-in_err-once.result (stops_here g.S.Store.names g.S.Store.present g.S.Store.stands g.S.Store.older (record e { frames = c.push_frame-2.new.frames }) r.own s r.same
+    (keeps_more g.S.Store.names g.S.Store.present g.S.Store.stands g.S.Store.older e e.store e.nodes c.push_frame-2.new.frames r.own.world r.own.stack (keeps_all g.S.Store.names g.S.Store.present g.S.Store.stands g.S.Store.older e r.own r.engine) (λ m p h. h) (adds_none e.nodes.items) (body_frame c.args.frame _ ∷ [], same))))
 
 pub returns-clause-moves : goal.returns-clause-moves
 returns-clause-moves g c = λ s r.
     (let height : c.len-height.result ≡ length c.args.self.now.choices.items = cc (c.len-height.ensures, c.args.self.now.choices.ok.0) in
-    rw (height, c.in_ok-once.ensures.place) (takes_condition g.S.Store.present g.S.Store.stands g.S.Store.older c.args.self.now s c.args.frame c.args.place c.requires.now r c.args.distance c.push_frame.new.frames c.push_frame-2.new.frames c.requires.there
+    rw (height, c.in_ok-once.ensures.place) (takes_condition g.S.Store.names g.S.Store.present g.S.Store.stands g.S.Store.older c.args.self.now s c.args.frame c.args.place c.requires.now r c.args.distance c.push_frame.new.frames c.push_frame-2.new.frames c.requires.there
     c.in_ok-behind.ensures.pushed (rw (height, c.in_ok-behind.ensures.place) at c.in_ok-once.ensures.pushed)))
 
 pub returns-clause-falls : goal.returns-clause-falls
 returns-clause-falls g c =
-    rw c.in_ok-once.ensures.place (condition_falls g.S.Store.present g.S.Store.stands g.S.Store.older c.args.self.now c.requires.stands.0 c.args.frame c.args.place c.requires.now c.requires.stands.1 c.args.distance c.len-height.result c.push_frame.new.frames c.push_frame-2.new.frames c.requires.there
+    rw c.in_ok-once.ensures.place (condition_falls g.S.Store.names g.S.Store.present g.S.Store.stands g.S.Store.older c.args.self.now c.requires.stands.0 c.args.frame c.args.place c.requires.now c.requires.stands.1 c.args.distance c.len-height.result c.push_frame.new.frames c.push_frame-2.new.frames c.requires.there
     c.in_ok-behind.ensures.pushed (rw c.in_ok-behind.ensures.place at c.in_ok-once.ensures.pushed))
