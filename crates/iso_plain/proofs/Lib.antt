@@ -43,4 +43,6 @@ pub mod ReplyMoves
 pub mod LimitLemmas
 pub mod StoppedLemmas
 pub mod ControlNames
+pub mod ConvertedLemmas
+pub mod ConversionLemmas
 pub mod CallableLemmas

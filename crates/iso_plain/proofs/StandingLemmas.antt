@@ -32,7 +32,7 @@ at_last (y ∷ xs) x = record { is = (at_last xs x).is }
 -- ---- bodies and frames
 
 -- more nodes
-tree_more : {G : Type 0} {Stands : G → Tree → Type 0} {parts : List (Node G)} {i : ℕ} {b : Body} (more : List (Node G)) → IsTree Stands parts i b → IsTree Stands (parts ++ more) i b
+pub tree_more : {G : Type 0} {Stands : G → Tree → Type 0} {parts : List (Node G)} {i : ℕ} {b : Body} (more : List (Node G)) → IsTree Stands parts i b → IsTree Stands (parts ++ more) i b
 tree_more {parts = parts} more (runs {k = k} at stands) = runs (at_more parts more k _ at) stands
 tree_more {parts = parts} more (cuts {k = k} at) = cuts (at_more parts more k _ at)
 tree_more {parts = parts} more (joins {k = k} at first second some a b) = joins (at_more parts more k _ at) first second some (tree_more more a) (tree_more more b)
@@ -41,7 +41,7 @@ tree_more {parts = parts} more (commits {k = k} at first second some a b) = comm
 tree_more {parts = parts} more (chooses {k = k} at first second third some also a b c) = chooses (at_more parts more k _ at) first second third some also (tree_more more a) (tree_more more b) (tree_more more c)
 
 -- the place of a body is one of a node
-tree_within : {G : Type 0} {Stands : G → Tree → Type 0} {parts : List (Node G)} {i : ℕ} {b : Body} → IsTree Stands parts i b → i < length parts
+pub tree_within : {G : Type 0} {Stands : G → Tree → Type 0} {parts : List (Node G)} {i : ℕ} {b : Body} → IsTree Stands parts i b → i < length parts
 tree_within {parts = parts} (runs {k = k} at stands) = slice_get_within parts k _ at.is
 tree_within {parts = parts} (cuts {k = k} at) = slice_get_within parts k _ at.is
 tree_within {parts = parts} (joins {k = k} at first second some a b) = slice_get_within parts k _ at.is

@@ -15,3 +15,4 @@ pub mod Replies
 pub mod Called
 pub mod Costs
 pub mod Controls
+pub mod Conversions

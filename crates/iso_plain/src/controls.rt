@@ -1,11 +1,14 @@
 //! The names of the control constructs (7.8) as atoms of a store.
-ghost use Rattle.std.specs.Prelude.{◌≡◌, IfOk};
-ghost use Rattle.iso_atoms.specs.Texts.{KeepsTexts};
+ghost use Rattle.std.specs.Prelude.{◌≡◌, ◌<◌, ℕ, List, length, codes, IfOk};
+ghost use Rattle.std.specs.Str.{bytes_eq};
+ghost use Rattle.iso_atoms.specs.Texts.{EachOnce, KeepsTexts, text_at};
+ghost use Rattle.iso_prep.specs.Connectives.{connective_of};
 ghost use Rattle.iso_store_core.specs.Presents.{KeepsMarks};
 ghost use Rattle.iso_plain.specs.Controls.{AreControls};
 
 use iso_atoms::Atom;
 use iso_model::NoMemory;
+use iso_prep::Connective;
 use iso_store_core::Store;
 
 /// The names of the control constructs, and `call`, which a variable as a goal is called by (7.6.2).
@@ -39,5 +42,28 @@ impl Controls {
             cut: store.intern("!")?,
             call: store.intern("call")?,
         })
+    }
+
+    /// The connective of this name, where it has one.
+    pub fn connective(&self, name: Atom) -> Option<Connective>
+        ensures { (names : List (List ℕ)) → AreControls names self.now → EachOnce names → name < length names → result ≡ connective_of (text_at names name) }
+    {
+        if name == self.conjunction {
+            return Some(Connective::And);
+        }
+        if name == self.disjunction {
+            return Some(Connective::Or);
+        }
+        if name == self.if_then {
+            return Some(Connective::If);
+        }
+        None
+    }
+
+    /// Whether this is the name of the cut.
+    pub fn is_cut(&self, name: Atom) -> bool
+        ensures { (names : List (List ℕ)) → AreControls names self.now → EachOnce names → name < length names → result ≡ bytes_eq (text_at names name) (codes "!") }
+    {
+        name == self.cut
     }
 }

@@ -13,6 +13,7 @@ pub mod writing;
 pub mod calls;
 pub mod control;
 pub mod controls;
+pub mod conversion;
 pub mod ends;
 pub mod entries;
 pub mod goals;

@@ -22,11 +22,11 @@ use Rattle.iso_prep.proofs.TreeLemmas.{tree_more, leaf_ends, joint_ends, choice_
 
 -- ---- what is read of a control construct
 
-is_choice : Body → Bool
+unfoldable pub is_choice : Body → Bool
 is_choice (bodies.If a b) = true
 is_choice b = false
 
-either_plain : (a b : Body) → is_choice a ≡ false → either a b ≡ bodies.Or a b
+pub either_plain : (a b : Body) → is_choice a ≡ false → either a b ≡ bodies.Or a b
 unfolding is_choice
 either_plain bodies.Cut b h = refl
 either_plain (Run t) b h = refl
@@ -35,7 +35,7 @@ either_plain (bodies.Or x y) b h = refl
 either_plain (bodies.If x y) b h = absurd (true≢false h)
 either_plain (bodies.Choose x y z) b h = refl
 
-either_no_choice : (a b : Body) → is_choice (either a b) ≡ false
+pub either_no_choice : (a b : Body) → is_choice (either a b) ≡ false
 unfolding is_choice
 either_no_choice bodies.Cut b = refl
 either_no_choice (Run t) b = refl

@@ -12,6 +12,7 @@ mod prepared;
 mod uses;
 
 pub use classes::Class;
+pub use connectives::Connective;
 pub use constructs::Construct;
 pub use fault::Fault;
 pub use prepared::{Prepared, prepare, prepare_goal};
