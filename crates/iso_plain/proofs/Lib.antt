@@ -49,6 +49,7 @@ pub mod ThrowLemmas
 pub mod FindLemmas
 pub mod MeetLemmas
 pub mod RaiseLemmas
+pub mod CaughtMoves
 pub mod ControlNames
 pub mod CallableLemmas
 pub mod ConvertedLemmas

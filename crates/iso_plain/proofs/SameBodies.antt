@@ -11,7 +11,7 @@ use Rattle.iso_model.specs.Search.RunLaws.SameLaws.{same_back, same_on}
 goal_no_failure : {b : Body} {m : ℕ} {ms ns : List Member} → Goal b m ∷ ms ≡ Fail ∷ ns → ⊥
 goal_no_failure e = cc
 
-around_itself : (s : State) (b : Body) (mark : ℕ) (rest : List Member) → s.list ≡ Goal b mark ∷ rest → Same s s → Around s s
+pub around_itself : (s : State) (b : Body) (mark : ℕ) (rest : List Member) → s.list ≡ Goal b mark ∷ rest → Same s s → Around s s
 around_itself s b mark rest list (going at same) = at
 around_itself s b mark rest list (failing ms ns is are h) = absurd (goal_no_failure (sym list ∙ is))
 

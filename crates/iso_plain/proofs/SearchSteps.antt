@@ -9,7 +9,7 @@ use Rattle.iso_model.specs.Search.Bodies.{Body, Cut, Run, And, Or, If, Choose}
 use Rattle.iso_model.specs.Search.Databases.{Clause, Key, clauses_at}
 use Rattle.iso_model.specs.Search.BuiltIns.{Reply, reply}
 use Rattle.iso_model.specs.declared.built_ins.BuiltIn.{BuiltIn}
-use Rattle.iso_model.specs.Search.Walker.{State, World, Ending, Member, Goal, CutTo, Fail, Leave, Raise, Alternative, Left, AsIs, Again, Clauses, Catching, pushed, cut_back, Outcome, Goes, Gives, Ends, Answered, NoMore, Budget, charged, paid, fails, values, under, entered, with_others, tried, retried, backtracked, unknown_called, called, replied, selected, run_goal, run_value, thrown, clause_size, step_list, step}
+use Rattle.iso_model.specs.Search.Walker.{State, World, Ending, Member, Goal, CutTo, Fail, Leave, Raise, Meet, Alternative, Left, AsIs, Again, Clauses, Catching, pushed, cut_back, Outcome, Goes, Gives, Ends, Answered, NoMore, Budget, charged, paid, fails, values, under, entered, with_others, tried, retried, backtracked, unknown_called, called, replied, selected, run_goal, run_value, thrown, meets, clause_size, step_list, step}
 use Rattle.iso_plain.specs.Called.{IsBuiltIn, IsUser}
 use Rattle.iso_plain.specs.EngineStates.{went_back}
 
@@ -58,6 +58,10 @@ answer_step s list = step_is s [] list
 
 pub raise_step : (s : State) (ball : Tree) (rest : List Member) → s.list ≡ Raise ball ∷ rest → step s ≡ thrown ball rest s
 raise_step s ball rest list = step_is s (Raise ball ∷ rest) list
+
+-- a catcher meets a ball
+pub meet_step : (s : State) (ball catcher recovery : Tree) (rest : List Member) → s.list ≡ Meet ball catcher recovery ∷ rest → step s ≡ Goes (meets ball catcher recovery rest s)
+meet_step s ball catcher recovery rest list = step_is s (Meet ball catcher recovery ∷ rest) list
 
 -- ---- the end of a catch's goal
 

@@ -193,7 +193,7 @@ dropped_same zero others = others
 dropped_same (suc n) no_alternative = no_alternative
 dropped_same (suc n) (same_alternative agree next list left own other others) = dropped_same n others
 
-shortened_same : {vs ws : List ℕ} {xs ys : List Alternative} (height : ℕ) → SameStack vs ws xs ys → SameStack vs ws (shortened height xs) (shortened height ys)
+pub shortened_same : {vs ws : List ℕ} {xs ys : List Alternative} (height : ℕ) → SameStack vs ws xs ys → SameStack vs ws (shortened height xs) (shortened height ys)
 shortened_same {vs} {ws} {xs} {ys} height same =
     subst (λ (n : ℕ). SameStack vs ws (shortened height xs) (drop (n - height) ys)) (stack_length same) (dropped_same (length xs - height) same)
 

@@ -1,8 +1,59 @@
-use Rattle.std.proofs.Common.{◌≡◌, Some}
-use Rattle.iso_plain.proofs.EndLemmas.{raises_engine}
+use Rattle.std.proofs.Common.{◌≡◌, ◌+◌, ◌<◌, ◌≤◌, ◌∷◌, List, Some, None, refl, ap, sym, ◌∙◌, subst, arith, OnErr}
+use Rattle.iso_model.specs.Terms.Trees.{Tree}
+use Rattle.iso_model.specs.Terms.Variables.{variables}
+use Rattle.iso_model.specs.Search.Walker.{Member, Raise}
+use Rattle.iso_plain.specs.Costs.{frame_costs, rest_cost, left_cost, body_cost, most}
+use Rattle.iso_plain.specs.EngineStates.{went_back, cost, choices_cost, links_of}
+use Rattle.iso_plain.specs.Standing.{Chain}
+use Rattle.iso_plain.specs.Catches.{GoesTo, IsUncaught}
+use Rattle.iso_plain.specs.declared.parts.Now.TheVariants as now
+use Rattle.iso_plain.proofs.CaughtMoves.{meets_on, stops_there}
+use Rattle.iso_plain.proofs.CostLemmas.{left_step}
+use Rattle.iso_plain.proofs.EndLemmas.{next_is}
+use Rattle.iso_plain.proofs.StoppedLemmas.{behind_error}
+use Rattle.iso_plain.proofs.WeightLemmas.{falls_less}
 use Rattle.iso_plain.proofs.plain.Plain.raise.Goals as goal
+
+pub returns-in_default-clause-moves : goal.returns-in_default-clause-moves
+returns-in_default-clause-moves g c = λ s r.
+    (let next = next_is g.S.Store.names g.S.Store.present g.S.Store.stands g.S.Store.older c.args.self.now r.own (now.Raising c.args.from) c.requires.now r.engine in
+    c.end_by_ball.ensures.moves s r (λ ball behind list.
+        (let both : Raise next.0 ∷ next.1 ≡ Raise ball ∷ behind = sym next.2 ∙ list in
+        let same : next.1 ≡ behind = cc in
+        let chain = subst (λ (ms : List Member). Chain (g.S.Store.present c.args.self.now.store) (links_of c.args.self.now) c.args.from ms) same next.3 in
+        rw c.in_default.is at (c.find_catch.ensures r.own ball behind (variables (r.own).query, r.engine.choices) chain))))
+
+pub meet-requires : goal.meet-requires
+meet-requires g c =
+    let r = c.requires.stands.1 in
+    let next = next_is g.S.Store.names g.S.Store.present g.S.Store.stands g.S.Store.older c.args.self.now r.own (now.Raising c.args.from) c.requires.now r.engine in
+    let to : GoesTo next.0 next.1 r.own c.in-Some.height = rw c.in-Some.is at (c.find_catch.ensures r.own next.0 next.1 (variables (r.own).query, r.engine.choices) next.3) in
+    let caught = c.back_to_catch-goal.ensures.back r.own next.0 next.1 r.engine next.2 to in
+    (went_back to.alternative to.below r.own, next.0, caught.meets)
+
+pub returns-in_err-meet-clause-stopped : goal.returns-in_err-meet-clause-stopped
+returns-in_err-meet-clause-stopped g c = λ s r.
+    (let next = next_is g.S.Store.names g.S.Store.present g.S.Store.stands g.S.Store.older c.args.self.now r.own (now.Raising c.args.from) c.requires.now r.engine in
+    let to : GoesTo next.0 next.1 r.own c.in-Some.height = rw c.in-Some.is at (c.find_catch.ensures r.own next.0 next.1 (variables (r.own).query, r.engine.choices) next.3) in
+    let caught = c.back_to_catch-goal.ensures.back r.own next.0 next.1 r.engine next.2 to in
+    behind_error c.from_residual.result (stops_there g.S.Store.names g.S.Store.present g.S.Store.stands g.S.Store.older c.args.self.now s r next.0 next.1 next.2 c.in-Some.height to c.meet.new.self
+    (c.in_err-meet.ensures.kept (went_back to.alternative to.below r.own) next.0 caught.meets)))
 
 pub returns-clause-moves : goal.returns-clause-moves
 returns-clause-moves g c = λ s r.
-    (let kept : c.args.self.now.raised ≡ Some c.in-Some.ball = cc (c.in-Some.is, c.take-ball.ensures.value) in
-    raises_engine g.S.Store.names g.S.Store.present g.S.Store.stands g.S.Store.older c.args.self.now c.clear.new.self s c.in-Some.ball c.requires.now kept c.clear.ensures.idle c.clear.ensures.now r)
+    (let next = next_is g.S.Store.names g.S.Store.present g.S.Store.stands g.S.Store.older c.args.self.now r.own (now.Raising c.args.from) c.requires.now r.engine in
+    let to : GoesTo next.0 next.1 r.own c.in-Some.height = rw c.in-Some.is at (c.find_catch.ensures r.own next.0 next.1 (variables (r.own).query, r.engine.choices) next.3) in
+    let caught = c.back_to_catch-goal.ensures.back r.own next.0 next.1 r.engine next.2 to in
+    meets_on g.S.Store.names g.S.Store.present g.S.Store.stands g.S.Store.older c.args.self.now s r next.0 next.1 next.2 c.in-Some.height to c.back_to_catch-goal.new.self c.back_to_catch-goal.result.0 c.back_to_catch-goal.result.1 caught c.meet.new.self
+    (c.in_ok-meet.ensures.met (went_back to.alternative to.below r.own) next.0 caught.meets) c.in_ok-meet.ensures.awake)
+
+pub returns-clause-falls : goal.returns-clause-falls
+returns-clause-falls g c =
+    let e = c.args.self.now in
+    let mid = c.back_to_catch-goal.new.self in
+    let back : choices_cost e.procedures.items (frame_costs mid.frames.items) mid.choices.items + left_cost 1 (rest_cost (frame_costs mid.frames.items) c.back_to_catch-goal.result.1) ≤ choices_cost e.procedures.items (frame_costs e.frames.items) e.choices.items =
+    c.back_to_catch-goal.ensures.costs in
+    let met : cost c.meet.new.self ≤ choices_cost e.procedures.items (frame_costs mid.frames.items) mid.choices.items + body_cost most (rest_cost (frame_costs mid.frames.items) c.back_to_catch-goal.result.1) =
+    rw c.back_to_catch-goal.ensures.stays.procedures at c.in_ok-meet.ensures.costs in
+    let step = left_step 0 (rest_cost (frame_costs mid.frames.items) c.back_to_catch-goal.result.1) in
+    falls_less e c.meet.new.self (c.in_ok-meet.ensures.steps ∙ c.back_to_catch-goal.ensures.steps) (omega (arith, back, met, step))
