@@ -66,7 +66,7 @@ place_before frames (Some i) within = within
 pub goes_with : {W : Type 0} {p : Present W} {query : List W} {s : State} (list : List Member) (stack : List Alternative) → GoesOn p query s → GoesOn p query (record s { list = list; stack = stack })
 goes_with list stack g = record { subst = g.subst; next = g.next; room = g.room; words = g.words }
 
-room_dropped : (steps n : ℕ) (ks : List Alternative) → HaveRoom steps ks → HaveRoom steps (drop n ks)
+pub room_dropped : (steps n : ℕ) (ks : List Alternative) → HaveRoom steps ks → HaveRoom steps (drop n ks)
 room_dropped steps zero ks h = h
 room_dropped steps (suc n) [] h = h
 room_dropped steps (suc n) (k ∷ ks) h = room_dropped steps n ks h.1

@@ -20,8 +20,8 @@ use Rattle.iso_plain.specs.Nodes.{IsTree, EndsWith, runs, cuts, joins, branches,
 use Rattle.iso_plain.specs.Replies.{Places}
 use Rattle.iso_plain.specs.Standing.{IsBody}
 use Rattle.iso_plain.specs.Conversions.{joined, chosen, joint, IsConstruct, IsValue, IsLeaf, Does, Leads, Works, task_load, tasks_load, next_load, GoesOn}
-use Rattle.iso_plain.proofs.StandingLemmas.{at_last, tree_more, tree_within}
 use Rattle.iso_plain.proofs.NodeLemmas.{tree_keep}
+use Rattle.iso_plain.proofs.StandingLemmas.{at_last, tree_more, tree_within}
 use Rattle.iso_plain.proofs.ConvertedLemmas.{converted_joined}
 
 -- items that were added to those that were

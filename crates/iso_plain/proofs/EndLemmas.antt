@@ -40,7 +40,7 @@ module _ {S W M : Type 0} (names : S → List (List ℕ)) (present : S → Prese
 
   -- ---- an answer
 
-  failing_engine : (e : Plain S W M) (s : State) → IsEngine names present stands older e s → IsEngine names present stands older (record e { now = now.Failing }) (fails s)
+  pub failing_engine : (e : Plain S W M) (s : State) → IsEngine names present stands older e s → IsEngine names present stands older (record e { now = now.Failing }) (fails s)
   failing_engine e s is = record {
     world = is.world;
     steps = is.steps;

@@ -2,6 +2,7 @@
 use Rattle.std.proofs.Common.{◌≡◌, ◌<◌, ℕ, ◌+◌, List, [], ◌∷◌, true, false, inl, inr, length, refl, ap, ◌∙◌, sym, subst, arith, Vec, Global}
 use Rattle.std.specs.Prelude.{option_map}
 use Rattle.std.proofs.lemmas.Bool.{cases_Bool}
+use Rattle.iso_atoms.specs.Texts.{KeepsTexts}
 use Rattle.iso_model.specs.Terms.Variables.{variables}
 use Rattle.iso_model.specs.Terms.Trees.{Tree, Variable, Integer, Name, Apply, End, More}
 use Rattle.iso_model.specs.Terms.TermOf.{term_of}
@@ -83,6 +84,7 @@ module _ {S W M : Type 0} (names : S → List (List ℕ)) (present : S → Prese
   pub record Tried (e : Plain S W M) (attempt : Attempt W) (s : State) (call : Tree) (c : databases.Clause) (cs : List databases.Clause) (behind : List Member) (store : S) (nodes : Vec (Node W) Global) (k : Clause) : Type 0 where
     pub calls : Calls names present stands older e attempt s call c cs behind
     pub keeps : KeepsMarks (stands e.store) (stands store)
+    pub texts : KeepsTexts (names e.store) (names store)
     pub adds : Adds e.nodes.items nodes.items
     pub is : IsClause (names e.store) k c
 

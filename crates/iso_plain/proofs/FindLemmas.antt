@@ -57,13 +57,15 @@ module _ {W M : Type 0} {stands : M → Present W → Type 0} {older : M → M �
         catcher = e.0;
         recovery = e.1;
         stack = h.stack;
+        height_is = h.height_is;
+        within = h.within;
         left = e.2;
         goes = h.caught_is ball s (thrown ball ms s) ∙ ap (λ (l : Left). caught_at l h.alternative h.below ball s (thrown ball ms s)) e.2;
       }
 
 -- the ball goes where it would go past further members that it passes
 pub goes_past : (ball : Tree) (behind ms : List Member) (s : State) (height : ℕ) → thrown ball behind s ≡ thrown ball ms s → GoesTo ball ms s height → GoesTo ball behind s height
-goes_past ball behind ms s height same g = record { alternative = g.alternative; below = g.below; catcher = g.catcher; recovery = g.recovery; stack = g.stack; left = g.left; goes = same ∙ g.goes }
+goes_past ball behind ms s height same g = record { alternative = g.alternative; below = g.below; catcher = g.catcher; recovery = g.recovery; stack = g.stack; height_is = g.height_is; within = g.within; left = g.left; goes = same ∙ g.goes }
 
 -- how many places may follow
 abbrev pub places_left : Option ℕ → ℕ

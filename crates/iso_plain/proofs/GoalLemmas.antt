@@ -1,27 +1,11 @@
--- Goals that are called: their arguments, their variables and what running them comes to.
-use Rattle.std.proofs.Common.{◌≡◌, ℕ, zero, suc, ◌+◌, ◌<◌, ◌≤◌, List, [], ◌∷◌, ◌++◌, true, false, refl, sym, ap, ap₂, ◌∙◌, subst, arith, inl, inr, Option, Some, None, option_map, nat_le, nat_lt, if◌then◌else◌, Err, Ok}
-use Rattle.std.proofs.lemmas.Bool.{cases_Bool, and_parts, false≢true, leb-true, le-leb, ltb-true, ltb-false}
-use Rattle.iso_model.specs.declared.terms.Term.{Term}
+-- Goals that are called, and their arguments.
+use Rattle.std.proofs.Common.{◌≡◌, ℕ, zero, suc, ◌+◌, ◌-◌, ◌<◌, ◌≤◌, List, [], ◌∷◌, ◌++◌, map, length, true, false, refl, sym, ap, ap₂, ◌∙◌, subst, arith, inl, inr, nat_le, nat_lt}
+use Rattle.std.proofs.lemmas.Bool.{cases_Bool, and_parts, false≢true, leb-true, ltb-true}
 use Rattle.iso_model.specs.Terms.Trees.{Tree, Variable, Integer, Name, Apply, End, More, count, row}
-use Rattle.iso_model.specs.Terms.TermOf.{term_of, row_of}
 use Rattle.iso_model.specs.Terms.Sorts.{is_term, is_row}
 use Rattle.iso_model.specs.Terms.Arguments.{arguments, arity, member, argument, others, joined, with_arguments}
-use Rattle.iso_model.specs.Terms.Variables.{distinct_from, variables}
-use Rattle.iso_model.specs.Terms.Copies.{place_of, copy_from}
-use Rattle.iso_model.specs.Search.Bodies.{Body, converted, map_body}
-use Rattle.iso_model.specs.Search.BuiltIns.{Reply, Raises, goal_reply, converted_reply}
-use Rattle.iso_model.specs.Search.Databases.{Key, key_of}
-use Rattle.iso_model.specs.Search.Errors.{type_error_callable, max_arity_error}
 use Rattle.iso_store_core.specs.Arguments.{members_from}
-use Rattle.iso_store_core.specs.Presents.{Present}
-use Rattle.iso_prep.specs.Conversions.{numbers}
-use Rattle.iso_prep.specs.declared.fault.Fault.TheVariants as fault
-use Rattle.iso_prep.specs.Preparations.{Preparation, PreparesGoal}
-use Rattle.iso_plain.specs.declared.bodies.Node.{Node}
-use Rattle.iso_plain.specs.declared.goals.Placed.{Placed}
-use Rattle.iso_plain.specs.declared.goals.Placed.TheVariants as placed
-use Rattle.iso_plain.specs.Replies.{HasName, IsBound, IsGoalReady, called_of, limited, IsRunAs}
-use Rattle.iso_plain.proofs.RenamingLemmas.{converted-renamed}
+use Rattle.iso_plain.specs.Replies.{HasName, HasNoName, called_of}
 
 -- ---- lists of terms
 
@@ -56,13 +40,18 @@ behind_first (Apply f ts) = refl
 behind_first End = refl
 behind_first (More t ts) = refl
 
-pub joined_end : (ts : List Term) → joined (row_of ts) End ≡ row_of ts
-joined_end [] = refl
-joined_end (t ∷ ts) = ap (More (term_of t)) (joined_end ts)
+module _ {W : Type 0} (f : W → Tree) where
+  pub joined_end : (ws : List W) → joined (row (map f ws)) End ≡ row (map f ws)
+  joined_end [] = refl
+  joined_end (w ∷ ws) = ap (More (f w)) (joined_end ws)
 
-pub joined_push : (xs : List Term) (x : Term) (m : Tree) → joined (row_of (xs ++ x ∷ [])) m ≡ joined (row_of xs) (More (term_of x) m)
-joined_push [] x m = refl
-joined_push (y ∷ xs) x m = ap (More (term_of y)) (joined_push xs x m)
+  pub joined_push : (ws : List W) (w : W) (m : Tree) → joined (row (map f (ws ++ w ∷ []))) m ≡ joined (row (map f ws)) (More (f w) m)
+  joined_push [] w m = refl
+  joined_push (v ∷ ws) w m = ap (More (f v)) (joined_push ws w m)
+
+pub row_length : {W : Type 0} (f : W → Tree) (ws : List W) → count (row (map f ws)) ≡ length ws
+row_length f [] = refl
+row_length f (w ∷ ws) = let more = row_length f ws in omega (arith, more)
 
 count_joined : (ts us : Tree) → is_row ts ≡ true → count (joined ts us) ≡ count ts + count us
 count_joined (Variable n) us h = absurd (false≢true h)
@@ -71,22 +60,6 @@ count_joined (Name a) us h = absurd (false≢true h)
 count_joined (Apply f ts) us h = absurd (false≢true h)
 count_joined End us h = omega arith
 count_joined (More t ts) us h = let both = and_parts (is_term t) (is_row ts) h in let more = count_joined ts us both.1 in omega (arith, more)
-
-row_joined : (ts us : Tree) → is_row ts ≡ true → is_row us ≡ true → is_row (joined ts us) ≡ true
-row_joined (Variable n) us h k = absurd (false≢true h)
-row_joined (Integer z) us h k = absurd (false≢true h)
-row_joined (Name a) us h k = absurd (false≢true h)
-row_joined (Apply f ts) us h k = absurd (false≢true h)
-row_joined End us h k = k
-row_joined (More t ts) us h k = let both = and_parts (is_term t) (is_row ts) h in rw (both.0, row_joined ts us both.1 k) refl
-
-variables_joined : (seen : List ℕ) (ts us : Tree) → is_row ts ≡ true → distinct_from seen (joined ts us) ≡ distinct_from (distinct_from seen ts) us
-variables_joined seen (Variable n) us h = absurd (false≢true h)
-variables_joined seen (Integer z) us h = absurd (false≢true h)
-variables_joined seen (Name a) us h = absurd (false≢true h)
-variables_joined seen (Apply f ts) us h = absurd (false≢true h)
-variables_joined seen End us h = refl
-variables_joined seen (More t ts) us h = let both = and_parts (is_term t) (is_row ts) h in variables_joined (distinct_from seen t) ts us both.1
 
 -- ---- a goal with arguments
 
@@ -130,43 +103,6 @@ has_arguments (Apply f End) h some = absurd (omega (arith, some))
 has_arguments End h some = absurd (omega (arith, some))
 has_arguments (More t ts) h some = absurd (omega (arith, some))
 
--- a term with further arguments has the variables of all, where it can be called
-with_variables : (g os : Tree) (k : Key) → is_term g ≡ true → is_row os ≡ true → key_of (with_arguments g os) ≡ Some k → variables (with_arguments g os) ≡ distinct_from (distinct_from [] g) os
-with_variables g End k h r e = refl
-with_variables g (Variable n) k h r e = absurd (false≢true r)
-with_variables g (Integer z) k h r e = absurd (false≢true r)
-with_variables g (Name a) k h r e = absurd (false≢true r)
-with_variables g (Apply f ts) k h r e = absurd (false≢true r)
-with_variables (Variable n) (More u us) k h r e = cc
-with_variables (Integer z) (More u us) k h r e = cc
-with_variables (Name a) (More u us) k h r e = refl
-with_variables (Apply f ts) (More u us) k h r e = variables_joined [] ts (More u us) (row_of_goal (Apply f ts) h)
-with_variables End (More u us) k h r e = absurd (false≢true h)
-with_variables (More t ts) (More u us) k h r e = absurd (false≢true h)
-
-term_from : (f : List ℕ) (ts : Tree) → is_row ts ≡ true → 0 < count ts → nat_lt 255 (count ts) ≡ false → is_term (Apply f ts) ≡ true
-term_from f ts row some few =
-    let most = ltb-false _ _ few in
-    let low : nat_le 1 (count ts) ≡ true = le-leb 1 (count ts) (omega (arith, some)) in
-    let high : nat_le (count ts) 255 ≡ true = le-leb (count ts) 255 (omega (arith, most)) in
-    rw (low, high, row) refl
-
-with_term : (g os : Tree) → is_term g ≡ true → is_row os ≡ true → nat_lt 255 (arity (with_arguments g os)) ≡ false → is_term (with_arguments g os) ≡ true
-with_term g End h r few = h
-with_term g (Variable n) h r few = absurd (false≢true r)
-with_term g (Integer z) h r few = absurd (false≢true r)
-with_term g (Name a) h r few = absurd (false≢true r)
-with_term g (Apply f ts) h r few = absurd (false≢true r)
-with_term (Variable n) (More u us) h r few = refl
-with_term (Integer z) (More u us) h r few = refl
-with_term (Name a) (More u us) h r few = term_from a (More u us) r (omega arith) few
-with_term (Apply f ts) (More u us) h r few =
-    let own = row_of_goal (Apply f ts) h in
-    let many = count_joined ts (More u us) own in
-    term_from f (joined ts (More u us)) (row_joined ts (More u us) own r) (omega (arith, many)) few
-with_term End (More u us) h r few = absurd (false≢true h)
-with_term (More t ts) (More u us) h r few = absurd (false≢true h)
-
 module _ (t : Tree) (fits : is_term t ≡ true) (some : 0 < arity t) where
   parts : HasArguments t
   parts = has_arguments t fits some
@@ -174,15 +110,40 @@ module _ (t : Tree) (fits : is_term t ≡ true) (some : 0 < arity t) where
   called_is : called_of t ≡ with_arguments parts.first parts.behind
   called_is = ap called_of parts.is
 
-  pub called_variables : (k : Key) → key_of (called_of t) ≡ Some k → variables (called_of t) ≡ variables t
-  called_variables k e =
-      ap variables called_is ∙ with_variables parts.first parts.behind k parts.first_term parts.behind_row (ap key_of (sym called_is) ∙ e) ∙ sym (ap variables parts.is)
+  -- its first argument alone
+  pub called_alone : arity t - 1 ≡ 0 → argument 0 t ≡ called_of t
+  called_alone one =
+      let total : arity t ≡ count parts.behind + 1 = ap arity parts.is in
+      ap (argument 0) parts.is ∙ alone parts.first parts.behind parts.behind_row (omega (arith, total, one)) ∙ sym called_is
+    where
+      alone : (g os : Tree) → is_row os ≡ true → count os ≡ 0 → g ≡ with_arguments g os
+      alone g End r none = refl
+      alone g (Variable n) r none = absurd (false≢true r)
+      alone g (Integer z) r none = absurd (false≢true r)
+      alone g (Name a) r none = absurd (false≢true r)
+      alone g (Apply f ts) r none = absurd (false≢true r)
+      alone g (More u us) r none = absurd (omega (arith, none))
 
-  pub called_term : nat_lt 255 (arity (called_of t)) ≡ false → is_term (called_of t) ≡ true
-  called_term few = ap is_term called_is ∙ with_term parts.first parts.behind parts.first_term parts.behind_row (ap (λ u. nat_lt 255 (arity u)) (sym called_is) ∙ few)
+  -- a first argument that has no name stays alone
+  pub called_unnamed : HasNoName (argument 0 t) → argument 0 t ≡ called_of t
+  called_unnamed none =
+      ap (argument 0) parts.is ∙ unnamed parts.first parts.behind parts.behind_row (subst HasNoName (ap (argument 0) parts.is) none) ∙ sym called_is
+    where
+      unnamed : (g os : Tree) → is_row os ≡ true → HasNoName g → g ≡ with_arguments g os
+      unnamed g End r none = refl
+      unnamed g (Variable n) r none = absurd (false≢true r)
+      unnamed g (Integer z) r none = absurd (false≢true r)
+      unnamed g (Name a) r none = absurd (false≢true r)
+      unnamed g (Apply f ts) r none = absurd (false≢true r)
+      unnamed (Name a) (More u us) r none = absurd none
+      unnamed (Apply f ts) (More u us) r none = absurd none
+      unnamed (Variable n) (More u us) r none = refl
+      unnamed (Integer z) (More u us) r none = refl
+      unnamed End (More u us) r none = refl
+      unnamed (More v vs) (More u us) r none = refl
 
   -- a first argument that has a name, with the others behind its own
-  pub called_named : (f : List ℕ) (args : Tree) → HasName f (argument 0 t) → (arity t ≡ 1 → ⊥) → args ≡ joined (joined End (members_from 0 (arguments (argument 0 t)))) (members_from 1 (arguments t)) → Apply f args ≡ called_of t
+  pub called_named : (f : List ℕ) (args : Tree) → HasName f (argument 0 t) → (arity t - 1 ≡ 0 → ⊥) → args ≡ joined (joined End (members_from 0 (arguments (argument 0 t)))) (members_from 1 (arguments t)) → Apply f args ≡ called_of t
   called_named f args named many is =
       let first_is : argument 0 t ≡ parts.first = ap (argument 0) parts.is in
       let behind_is : members_from 1 (arguments t) ≡ parts.behind = behind_first (arguments t) ∙ ap (λ u. others (arguments u)) parts.is in
@@ -208,86 +169,27 @@ module _ (t : Tree) (fits : is_term t ≡ true) (some : 0 < arity t) where
       named_with f End (More u us) h some r = absurd h
       named_with f (More v vs) (More u us) h some r = absurd h
 
+  -- made of the values of words, its own arguments first
+  pub called_row : {W : Type 0} (m : W → Tree) (f : List ℕ) (none own all : List W) (u : Tree) → HasName f u → u ≡ argument 0 t → (arity t - 1 ≡ 0 → ⊥) → none ≡ []
+      → row (map m own) ≡ joined (row (map m none)) (members_from 0 (arguments u)) → row (map m all) ≡ joined (row (map m own)) (members_from 1 (arguments t)) → Apply f (row (map m all)) ≡ called_of t
+  called_row m f none own all u named first many empty own_are all_are =
+      let begin : row (map m own) ≡ joined End (members_from 0 (arguments (argument 0 t))) = own_are ∙ ap₂ (λ ws v. joined (row (map m ws)) (members_from 0 (arguments v))) empty first in
+      called_named f (row (map m all)) (subst (HasName f) first named) many (all_are ∙ ap (λ us. joined us (members_from 1 (arguments t))) begin)
+
+  -- and how many arguments it has then
+  pub called_count : (f : List ℕ) → HasName f (argument 0 t) → (arity t - 1 ≡ 0 → ⊥) → arity (called_of t) ≡ arity (argument 0 t) + (arity t - 1)
+  called_count f named many =
+      let first_is : argument 0 t ≡ parts.first = ap (argument 0) parts.is in
+      let total : arity t ≡ count parts.behind + 1 = ap arity parts.is in
+      let behind_is : members_from 1 (arguments t) ≡ parts.behind = behind_first (arguments t) ∙ ap (λ u. others (arguments u)) parts.is in
+      let all = ap arity (sym (called_named f (joined (arguments (argument 0 t)) (members_from 1 (arguments t))) named many refl)) in
+      let own = row_of_goal (argument 0 t) (ap is_term first_is ∙ parts.first_term) in
+      let sum = count_joined (arguments (argument 0 t)) (members_from 1 (arguments t)) own in
+      let behind = ap count behind_is in
+      omega (arith, all, sum, behind, total)
+
 -- a term has no more arguments than terms have
 pub few_arguments_of : (t : Tree) → is_term t ≡ true → nat_lt 255 (arity t) ≡ false
 few_arguments_of t fits =
     let few = few_of_term t fits in
     elim (cases_Bool (nat_lt 255 (arity t))) [ inl over ↦ absurd (let more = ltb-true _ _ over in omega (arith, few, more)) | inr under ↦ under ]
-
--- ---- what running a goal comes to
-
-converted_copy : (t : Tree) → converted (copy_from t 0) ≡ option_map (map_body (numbers (variables t))) (converted t)
-converted_copy t = converted-renamed (λ x. 0 + place_of x (variables t)) t
-
--- what is made ready is converted, with its variables by their places
-pub body_of_goal : (t : Tree) (c : Body) → converted (copy_from t 0) ≡ Some c → (b : Body) × (converted t ≡ Some b) × (c ≡ map_body (numbers (variables t)) b)
-body_of_goal t c e = of (converted t) refl (sym (converted_copy t) ∙ e) where
-  of : (o : Option Body) → converted t ≡ o → option_map (map_body (numbers (variables t))) o ≡ Some c → (b : Body) × (converted t ≡ Some b) × (c ≡ map_body (numbers (variables t)) b)
-  of (Some b) is e = let same : c ≡ map_body (numbers (variables t)) b = cc in (b, is, same)
-  of None is e = cc
-
-no_body_of_goal : (t : Tree) → converted (copy_from t 0) ≡ None → converted t ≡ None
-no_body_of_goal t e = of (converted t) refl (sym (converted_copy t) ∙ e) where
-  of : (o : Option Body) → converted t ≡ o → option_map (map_body (numbers (variables t))) o ≡ None → converted t ≡ None
-  of (Some b) is e = cc
-  of None is e = is
-
--- what was made ready of a goal
-prepared_body : (t : Tree) (p : Preparation) → PreparesGoal (λ p. p) t (converted (copy_from t 0)) (Ok p) → converted (copy_from t 0) ≡ Some p.body
-prepared_body t p h = of (converted (copy_from t 0)) refl h where
-  of : (o : Option Body) → converted (copy_from t 0) ≡ o → PreparesGoal (λ p. p) t o (Ok p) → converted (copy_from t 0) ≡ Some p.body
-  of (Some b) e h = e ∙ ap (λ q. Some q.body) (sym h)
-  of None e h = absurd h
-
-pub goal_ready : (t : Tree) (p : Preparation) → is_term t ≡ true → PreparesGoal (λ p. p) t (converted (copy_from t 0)) (Ok p) → IsGoalReady p t
-goal_ready t p fits h = record { copied = prepared_body t p h; term = fits }
-
-bound_reply : (runs : Body → Reply) (t : Tree) (k : Key) → IsBound t → goal_reply runs t k ≡ converted_reply runs (converted t) t k
-bound_reply runs (Variable n) k h = absurd h
-bound_reply runs (Integer z) k h = refl
-bound_reply runs (Name a) k h = refl
-bound_reply runs (Apply f ts) k h = refl
-bound_reply runs End k h = refl
-bound_reply runs (More t ts) k h = refl
-
--- it has a name
-pub bound_key : (t : Tree) (b : Body) → IsBound t → converted t ≡ Some b → (k : Key) × (key_of t ≡ Some k)
-bound_key (Variable n) b h e = absurd h
-bound_key (Integer z) b h e = cc
-bound_key (Name a) b h e = (record { name = a; arity = 0 }, refl)
-bound_key (Apply f ts) b h e = (record { name = f; arity = count ts }, refl)
-bound_key End b h e = cc
-bound_key (More t ts) b h e = cc
-
-limited_few : (t : Tree) (k : Key) (runs : Body → Reply) (b : Body) → nat_lt 255 (arity t) ≡ false → limited t k runs b ≡ runs b
-limited_few t k runs b few = rw few refl
-
-limited_many : (t : Tree) (k : Key) (runs : Body → Reply) (b : Body) → nat_lt 255 (arity t) ≡ true → limited t k runs b ≡ Raises (max_arity_error k)
-limited_many t k runs b many = rw many refl
-
-module _ (t : Tree) (k : Key) (bound : IsBound t) where
-  pub run_few : (b : Body) → converted t ≡ Some b → nat_lt 255 (arity t) ≡ false → (runs : Body → Reply) → goal_reply (limited t k runs) t k ≡ runs b
-  run_few b e few runs = bound_reply (limited t k runs) t k bound ∙ ap (λ o. converted_reply (limited t k runs) o t k) e ∙ limited_few t k runs b few
-
-  pub run_many : (p : Preparation) → PreparesGoal (λ p. p) t (converted (copy_from t 0)) (Ok p) → nat_lt 255 (arity t) ≡ true → (runs : Body → Reply) → goal_reply (limited t k runs) t k ≡ Raises (max_arity_error k)
-  run_many p h many runs =
-      let b = body_of_goal t p.body (prepared_body t p h) in
-      bound_reply (limited t k runs) t k bound ∙ ap (λ o. converted_reply (limited t k runs) o t k) b.1 ∙ limited_many t k runs b.0 many
-
-  pub run_refused : (c : Term) → PreparesGoal {P = Preparation} (λ p. p) t (converted (copy_from t 0)) (Err (fault.Callable c)) → (runs : Body → Reply) → goal_reply (limited t k runs) t k ≡ Raises (type_error_callable (term_of c) k)
-  run_refused c h runs =
-      let none = not_prepared (converted (copy_from t 0)) refl h in
-      bound_reply (limited t k runs) t k bound ∙ ap (λ o. converted_reply (limited t k runs) o t k) none.0 ∙ ap (λ u. Raises (type_error_callable u k)) (sym none.1)
-    where
-      not_prepared : (o : Option Body) → converted (copy_from t 0) ≡ o → PreparesGoal {P = Preparation} (λ p. p) t o (Err (fault.Callable c)) → (converted t ≡ None) × (term_of c ≡ t)
-      not_prepared (Some b) e h = absurd h
-      not_prepared None e h = (no_body_of_goal t e, h)
-
--- without the limit, where it is kept
-pub run_unlimited : (t : Tree) (k : Key) (runs : Body → Reply) → nat_lt 255 (arity t) ≡ false → goal_reply runs t k ≡ goal_reply (limited t k runs) t k
-run_unlimited t k runs few = subst (λ x. goal_reply runs t k ≡ goal_reply (λ b. if x then Raises (max_arity_error k) else runs b) t k) (sym few) refl
-
--- the same replies
-pub run_same : {W : Type 0} (p q : Present W) (old new : List (Node W)) (first second : (Body → Reply) → Reply) (answer : Placed) → ((runs : Body → Reply) → second runs ≡ first runs) → IsRunAs p q old new first answer → IsRunAs p q old new second answer
-run_same p q old new first second (placed.Body place) same h = (h.0, λ runs. same runs ∙ h.1 runs, h.2)
-run_same p q old new first second (placed.Raises ball) same h = λ runs. same runs ∙ h runs

@@ -48,6 +48,7 @@ pub mod WorldLemmas
 pub mod ThrowLemmas
 pub mod FindLemmas
 pub mod MeetLemmas
+pub mod RaiseLemmas
 pub mod ControlNames
 pub mod CallableLemmas
 pub mod ConvertedLemmas

@@ -3,6 +3,7 @@ use Rattle.std.proofs.Common.{ℕ, List, refl, ◌∙◌, Result, Ok, Err}
 use Rattle.iso_model.specs.declared.pauses.Pause.{Pause}
 use Rattle.iso_model.specs.declared.pauses.Pause.TheVariants as pause
 use Rattle.iso_store_core.specs.declared.shapes.StoreFault.{StoreFault}
+use Rattle.iso_plain.proofs.WorldLemmas.{all_texts}
 use Rattle.iso_plain.specs.declared.plain.Move.{Move}
 use Rattle.iso_plain.specs.declared.plain.Move.TheVariants as move
 use Rattle.iso_plain.specs.Stays.{Stays}
@@ -35,7 +36,7 @@ result_full (Err e) f h = tt
 -- ---- what stays
 
 pub stays_same : {S W M : Type 0} (names : S → List (List ℕ)) (e : Plain S W M) → Stays names e e
-stays_same names e = record { limit = refl; settings = refl; procedures = refl; callables = refl; controls = refl; names_kept = λ place text h. h; within = λ h. h }
+stays_same names e = record { limit = refl; settings = refl; procedures = refl; callables = refl; controls = refl; names_kept = all_texts (names e.store); within = λ h. h }
 
 pub stays_on : {S W M : Type 0} (names : S → List (List ℕ)) {old between new : Plain S W M} → Stays names old between → Stays names between new → Stays names old new
 stays_on names {old = old} {between = between} {new = new} a b = record {

@@ -1,77 +1,82 @@
--- A goal whose variables have words, made with these: it has the goal's values.
-use Rattle.std.proofs.Common.{◌≡◌, ℕ, suc, ◌+◌, ◌==◌, List, [], ◌∷◌, map, length, true, refl, sym, ap, ap₂, ◌∙◌, subst, arith, Option, Some, zero-add, inl, inr}
-use Rattle.std.proofs.lemmas.Bool.{cases_Bool, eqb-true, false≢true}
-use Rattle.std.proofs.lemmas.List.{length-map}
-use Rattle.iso_model.specs.Terms.Trees.{Tree, Variable}
-use Rattle.iso_model.specs.Terms.Variables.{is_in, variables, variable_count}
-use Rattle.iso_model.specs.Terms.Substitutions.{Subst, apply, compose}
-use Rattle.iso_model.specs.Terms.Copies.{place_of, copy_from}
-use Rattle.iso_model.specs.Terms.Unification.Applied.{apply_apply, apply_alone}
-use Rattle.iso_model.specs.Terms.Unification.Listed.{distinct_covers}
-use Rattle.iso_model.specs.Search.Bodies.{Body, Cut, Run, And, Or, If, Choose, converted, map_body}
-use Rattle.iso_model.specs.Search.RunLaws.Values.{IsOwnOption, converted_own}
-use Rattle.iso_model.proofs.OnTerms.VariableLemmas.{listed_occurring}
-use Rattle.iso_model.proofs.OnTerms.SortLemmas.{copy_is_term}
-use Rattle.iso_store_core.specs.Presents.{Present, meaning}
-use Rattle.iso_store_core.specs.Patterns.{at_places}
-use Rattle.iso_prep.specs.Classes.{goals_of}
-use Rattle.iso_prep.specs.Conversions.{numbers}
-use Rattle.iso_prep.specs.Preparations.{Preparation}
-use Rattle.iso_plain.specs.Kept.{AreTemplates}
-use Rattle.iso_plain.specs.Entering.{word_terms}
-use Rattle.iso_plain.specs.Replies.{IsGoalReady}
-use Rattle.iso_plain.proofs.ClauseLemmas.{body_templates}
-use Rattle.iso_plain.proofs.PrepareLemmas.{numbered_below}
-use Rattle.iso_plain.proofs.GoalLemmas.{body_of_goal}
+-- What running a goal comes to.
+use Rattle.std.proofs.Common.{◌≡◌, ℕ, ◌+◌, ◌<◌, List, [], ◌∷◌, map, true, false, refl, sym, ap, ap₂, ◌∙◌, subst, arith, Option, Some, None, nat_lt, if◌then◌else◌}
+use Rattle.std.proofs.lemmas.Bool.{false≢true, ltb-true}
+use Rattle.iso_model.specs.Terms.Trees.{Tree, Variable, Integer, Name, Apply, End, More, count, row}
+use Rattle.iso_model.specs.Terms.Arguments.{arity}
+use Rattle.iso_model.specs.Terms.Substitutions.{apply}
+use Rattle.iso_model.specs.Search.Bodies.{Body, Run, converted, map_body}
+use Rattle.iso_model.specs.Search.BuiltIns.{Reply, Raises, goal_reply, converted_reply}
+use Rattle.iso_model.specs.Search.Errors.{Key, type_error_callable, max_arity_error}
+use Rattle.iso_store_core.specs.Presents.{Present, Makes, meaning}
+use Rattle.iso_plain.specs.declared.bodies.Node.{Node}
+use Rattle.iso_plain.specs.declared.goals.Placed.{Placed}
+use Rattle.iso_plain.specs.declared.goals.Placed.TheVariants as placed
+use Rattle.iso_plain.specs.Entering.{Extends}
+use Rattle.iso_plain.specs.Replies.{Places, IsBound, limited, IsRunAs}
+use Rattle.iso_plain.proofs.EnteringLemmas.{extends_on}
+use Rattle.iso_plain.proofs.ConvertedLemmas.{converted_goal, other_arguments}
 
--- its goals can be kept
-pub goal_goals : (t : Tree) (p : Preparation) → IsGoalReady p t → AreTemplates (variable_count t) (goals_of p.body)
-goal_goals t p r = body_templates (variable_count t) (copy_from t 0) p.body r.copied (copy_is_term t 0 r.term) (numbered_below (variables t) t (distinct_covers [] t))
+-- ---- what the table says
 
-map_body_on : (r u : Subst) (b : Body) → map_body u (map_body r b) ≡ map_body (compose r u) b
-map_body_on r u Cut = refl
-map_body_on r u (Run t) = ap Run (apply_apply r u t)
-map_body_on r u (And a b) = ap₂ And (map_body_on r u a) (map_body_on r u b)
-map_body_on r u (Or a b) = ap₂ Or (map_body_on r u a) (map_body_on r u b)
-map_body_on r u (If a b) = ap₂ If (map_body_on r u a) (map_body_on r u b)
-map_body_on r u (Choose a b c) = λ i. Choose (map_body_on r u a i) (map_body_on r u b i) (map_body_on r u c i)
+bound_reply : (runs : Body → Reply) (t : Tree) (k : Key) → IsBound t → goal_reply runs t k ≡ converted_reply runs (converted t) t k
+bound_reply runs (Variable n) k h = absurd h
+bound_reply runs (Integer z) k h = refl
+bound_reply runs (Name a) k h = refl
+bound_reply runs (Apply f ts) k h = refl
+bound_reply runs End k h = refl
+bound_reply runs (More t ts) k h = refl
 
-module _ {W : Type 0} (p : Present W) where
-  -- the word at a variable's place stands for it
-  word_value : (ws : List W) (vs : List ℕ) (x : ℕ) → map (meaning p) ws ≡ map Variable vs → is_in x vs ≡ true → apply p.substitution (at_places (map p.term ws) (place_of x vs)) ≡ Variable x
-  word_value ws [] x is h = absurd (false≢true h)
-  word_value [] (v ∷ vs) x is h = cc
-  word_value (w ∷ ws) (v ∷ vs) x is h =
-      let here_is : meaning p w ≡ Variable v = cc in
-      let others : map (meaning p) ws ≡ map Variable vs = cc in
-      elim (cases_Bool (v == x)) [
-        | inl same ↦ (let e = eqb-true v x same in rw same (here_is ∙ ap Variable e))
-        | inr other ↦ (let there : is_in x vs ≡ true = rw other at h in
-            let next : 1 + place_of x vs ≡ suc (place_of x vs) = omega arith in
-            rw (other, next) (word_value ws vs x others there))
-      ]
+-- a goal that can be converted is run, and else an error is raised
+pub run_converted : (t : Tree) (k : Key) (o : Option Body) → IsBound t → converted t ≡ o → (runs : Body → Reply) → goal_reply runs t k ≡ converted_reply runs o t k
+run_converted t k o bound is runs = bound_reply runs t k bound ∙ ap (λ x. converted_reply runs x t k) is
 
-  module _ (ws : List W) (t : Tree) (are : map (meaning p) ws ≡ map Variable (variables t)) where
-    -- each variable by its place, by the word there, and by what that stands for
-    abbrev round : Subst
-    round = compose (compose (numbers (variables t)) (word_terms p ws)) p.substitution
+-- one that has too many arguments is an error
+pub run_many : (t : Tree) (k : Key) → nat_lt 255 (arity t) ≡ true → (runs : Body → Reply) → goal_reply (limited t k runs) t k ≡ Raises (max_arity_error k)
+run_many (Apply f ts) k many runs =
+    let over = ltb-true 255 (count ts) many in
+    let goal = converted_goal f ts (other_arguments f ts (λ two. omega (arith, over, two))) in
+    run_converted (Apply f ts) k (Some (Run (Apply f ts))) tt goal (limited (Apply f ts) k runs) ∙ rw many refl
+run_many (Variable n) k many runs = absurd (false≢true many)
+run_many (Integer z) k many runs = absurd (false≢true many)
+run_many (Name a) k many runs = absurd (false≢true many)
+run_many End k many runs = absurd (false≢true many)
+run_many (More t ts) k many runs = absurd (false≢true many)
 
-    round_alone : apply round t ≡ t
-    round_alone = apply_alone round t (λ x o. ap (λ k. apply p.substitution (word_terms p ws k)) (zero-add (place_of x (variables t))) ∙ word_value ws (variables t) x are (listed_occurring t x ∙ o))
+-- without the limit, where it is kept
+pub run_unlimited : (t : Tree) (k : Key) (runs : Body → Reply) → nat_lt 255 (arity t) ≡ false → goal_reply runs t k ≡ goal_reply (limited t k runs) t k
+run_unlimited t k runs few = subst (λ x. goal_reply runs t k ≡ goal_reply (λ b. if x then Raises (max_arity_error k) else runs b) t k) (sym few) refl
 
-    round_body : (o : Option Body) (b : Body) → o ≡ Some b → IsOwnOption round o → map_body round b ≡ b
-    round_body o b is own = subst (IsOwnOption round) is own
+-- ---- what was placed
 
-    pub body_values : (q : Preparation) (b : Body) → IsGoalReady q t → converted t ≡ Some b → map_body p.substitution (map_body (word_terms p ws) q.body) ≡ b
-    body_values q b r is =
-        let found = body_of_goal t q.body r.copied in
-        let same : found.0 ≡ b = let both : Some found.0 ≡ Some b = sym found.1 ∙ is in cc in
-        let from : q.body ≡ map_body (numbers (variables t)) b = found.2 ∙ ap (map_body (numbers (variables t))) same in
-        ap (λ c. map_body p.substitution (map_body (word_terms p ws) c)) from
-        ∙ ap (map_body p.substitution) (map_body_on (numbers (variables t)) (word_terms p ws) b)
-        ∙ map_body_on (compose (numbers (variables t)) (word_terms p ws)) p.substitution b
-        ∙ round_body (converted t) b is (converted_own round t round_alone)
+-- the same replies, after words came
+pub run_on : {W : Type 0} {p r : Present W} (more : Extends p r 0) (q : Present W) (old new : List (Node W)) (first second : (Body → Reply) → Reply) (answer : Placed)
+    → ((runs : Body → Reply) → second runs ≡ first runs) → IsRunAs r q old new first answer → IsRunAs p q old new second answer
+run_on {p = p} {r = r} more q old new first second (placed.Body place) same h =
+    let at = h.2 in
+    let behind : Extends r q 0 = record { words = at.words; substitution = at.substitution; next = (let n = at.next in omega (arith, n)) } in
+    let whole : Extends p q 0 = extends_on more behind in
+    (
+      h.0,
+      λ runs. same runs ∙ h.1 runs,
+      record {
+        adds = at.adds;
+        words = whole.words;
+        substitution = whole.substitution;
+        next = (let n = whole.next in omega (arith, n));
+        last = at.last;
+        body = at.body;
+        stands = at.stands;
+        values = ap (λ s. map_body s at.body) (sym more.substitution) ∙ at.values;
+      },
+    )
+run_on more q old new first second (placed.Raises ball) same h = λ runs. same runs ∙ h runs
 
-  -- so many words
-  pub words_many : (ws : List W) (vs : List ℕ) → map (meaning p) ws ≡ map Variable vs → length ws ≡ length vs
-  words_many ws vs is = sym (length-map ws (meaning p)) ∙ ap length is ∙ length-map vs Variable
+-- ---- compounds of words
+
+row_applied : {W : Type 0} (p : Present W) (ws : List W) → apply p.substitution (row (map p.term ws)) ≡ row (map (meaning p) ws)
+row_applied p [] = refl
+row_applied p (w ∷ ws) = ap (More (meaning p w)) (row_applied p ws)
+
+-- one that was made stands for its arguments' values
+pub made_value : {W : Type 0} (p q : Present W) (w : W) (f : List ℕ) (ws : List W) → Makes p q w (Apply f (row (map p.term ws))) → meaning q w ≡ Apply f (row (map (meaning p) ws))
+made_value p q w f ws made = ap₂ apply made.substitution made.term ∙ ap (Apply f) (row_applied p ws)

@@ -44,6 +44,8 @@ module _ {W M : Type 0} (left_at : ℕ → ℕ → List Clause) (query : List W)
     pub alternative : Alternative
     pub below : List Alternative
     pub stack : shortened (suc height) ks ≡ alternative ∷ below
+    pub height_is : length below ≡ height
+    pub within : height < length ks
     pub present : Present W
     pub links : Links W
     pub has : HasLeft left_at query named present links c.left alternative
@@ -61,6 +63,8 @@ module _ {W M : Type 0} {stands : M → Present W → Type 0} {older : M → M �
         alternative = h.alternative;
         below = h.below;
         stack = ap (λ (n : ℕ). drop n (a ∷ ks)) (sym back) ∙ h.stack;
+        height_is = h.height_is;
+        within = (let inside = h.within in omega (arith, inside));
         present = h.present;
         links = h.links;
         has = h.has;
@@ -74,6 +78,8 @@ module _ {W M : Type 0} {stands : M → Present W → Type 0} {older : M → M �
         alternative = a;
         below = ks;
         stack = ap (λ (n : ℕ). drop n (a ∷ ks)) none;
+        height_is = omega (arith, same, many);
+        within = omega (arith, same, many);
         present = here.present;
         links = links_at d links;
         has = subst (λ (y : kept.Choice W M). HasLeft left_at query named here.present (links_at d links) y.left a) is here.has;

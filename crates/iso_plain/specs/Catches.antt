@@ -1,5 +1,5 @@
 -- Catches and thrown balls, as the engine comes to them.
-use Rattle.std.specs.Prelude.{◌≡◌, ℕ, suc, ◌+◌, ◌*◌, ◌≤◌, List, [], ◌∷◌, length, true, Bool, MatchBool, Option, Some, codes, ◌⊎◌}
+use Rattle.std.specs.Prelude.{◌≡◌, ℕ, suc, ◌+◌, ◌*◌, ◌<◌, ◌≤◌, List, [], ◌∷◌, length, true, Bool, MatchBool, Option, Some, codes, ◌⊎◌}
 use Rattle.std.specs.List.{slice_get}
 use Rattle.iso_model.specs.Terms.Trees.{Tree, arities_fit}
 use Rattle.iso_model.specs.Terms.TermOf.{term_of}
@@ -57,6 +57,8 @@ pub record GoesTo (ball : Tree) (behind : List Member) (s : State) (height : ℕ
   pub catcher : Tree
   pub recovery : Tree
   pub stack : shortened (suc height) s.stack ≡ alternative ∷ below
+  pub height_is : length below ≡ height
+  pub within : height < length s.stack
   pub left : alternative.left ≡ Catching catcher recovery
   pub goes : thrown ball behind s ≡ Goes (caught_by ball catcher recovery alternative below s)
 

@@ -1,6 +1,6 @@
 //! The engine's moves at control constructs: none takes a step of the budget (7.8.4 to 7.8.8).
-ghost use Rattle.std.specs.Prelude.{◌≡◌, ℕ, ◌≤◌, Option, IfOk, OnErr};
-ghost use Rattle.iso_model.specs.Search.Walker.{State, cut_back};
+ghost use Rattle.std.specs.Prelude.{◌≡◌, ℕ, ◌≤◌, List, Option, IfOk, OnErr};
+ghost use Rattle.iso_model.specs.Search.Walker.{State, World, Alternative, cut_back, shortened};
 ghost use Rattle.iso_model.specs.Search.Runs.{ComesOver};
 ghost use Rattle.iso_plain.specs.declared.bodies.Node.TheVariants as node;
 
@@ -10,7 +10,7 @@ use iso_model::{Limit, Pause};
 use iso_store_core::{Store, StoreFault};
 
 impl<S: Store + Drop> Plain<S> {
-    ghost use Rattle.iso_plain.specs.EngineStates.{IsAhead, Represents, Stopped, Moves, Falls, choices_cost, weight};
+    ghost use Rattle.iso_plain.specs.EngineStates.{IsAhead, IsEngine, Keeps, Represents, Stopped, Moves, Falls, choices_cost, weight};
     ghost use Rattle.iso_plain.specs.Costs.{frame_costs};
     ghost use Rattle.iso_plain.specs.Stays.{Stays};
     ghost use Rattle.iso_plain.specs.Limits.{ResultMet, ResultFull, MoveMet, MoveFull};
@@ -19,9 +19,13 @@ impl<S: Store + Drop> Plain<S> {
 
     /// Takes the choices away that were made since so many stood.
     pub(crate) fn cut_to(&mut self, height: usize)
-        requires { (s : State) × (place : Option ℕ) × IsAhead S.names S.present S.stands S.older self.old s place }
+        requires { (w : World) × (ks : List Alternative) × Keeps S.names S.present S.stands S.older self.old w ks }
         ensures cut { (s : State) (place : Option ℕ) → IsAhead S.names S.present S.stands S.older self.old s place
             → IsAhead S.names S.present S.stands S.older self.new (cut_back height s.list s) place }
+        ensures failing { (s : State) → IsEngine S.names S.present S.stands S.older self.old s → self.old.now ≡ now.Failing
+            → IsEngine S.names S.present S.stands S.older self.new (record s { stack = shortened height s.stack }) }
+        ensures now { self.new.now ≡ self.old.now }
+        ensures raised { self.new.raised ≡ self.old.raised }
         ensures steps { self.new.steps ≡ self.old.steps }
         ensures frames { self.new.frames ≡ self.old.frames }
         ensures costs { choices_cost self.old.procedures.items (frame_costs self.old.frames.items) self.new.choices.items

@@ -89,6 +89,7 @@ impl<S: Store + Drop> Plain<S> {
         ensures steps { self.new.steps ≡ self.old.steps }
         ensures choices { self.new.choices ≡ self.old.choices }
         ensures now { self.new.now ≡ self.old.now }
+        ensures raised { self.new.raised ≡ self.old.raised }
         ensures costs { choices_cost self.old.procedures.items (frame_costs self.new.frames.items) self.old.choices.items
             ≡ choices_cost self.old.procedures.items (frame_costs self.old.frames.items) self.old.choices.items }
         ensures stays { Stays S.names self.old self.new }

@@ -6,6 +6,7 @@ ghost use Rattle.iso_model.specs.Search.BuiltIns as table;
 ghost use Rattle.iso_atoms.specs.Texts.{KeepsTexts};
 ghost use Rattle.iso_store_core.specs.Presents.{Holds, meaning, KeepsMarks};
 ghost use Rattle.iso_plain.specs.Called.{IsBuiltIn};
+ghost use Rattle.iso_plain.specs.Controls.{AreControls};
 ghost use Rattle.iso_plain.specs.Replies.{IsReply, IsHalt};
 ghost use Rattle.iso_model.specs.Terms.Trees.{arities_fit};
 ghost use Rattle.iso_model.specs.Terms.TermOf.{term_of};
@@ -15,6 +16,7 @@ ghost use Rattle.iso_plain.specs.Entering.{Adds};
 
 use super::bodies::Node;
 use super::balls;
+use super::controls::Controls;
 use super::goals::{Placed, place_argument, place_called};
 use iso_model::{Ball, BuiltIn, NoMemory, Term};
 use iso_store_core::{Shape, Store, StoreFault};
@@ -47,12 +49,14 @@ pub enum Replied {
 pub fn reply<S: Store>(
     alloc: Global,
     store: &mut S,
+    controls: &Controls,
     nodes: &mut Vec<Node<S::Word>>,
     built_in: BuiltIn,
     goal: S::Word,
 ) -> Result<Replied, StoreFault>
     requires goal { Holds (S.present store.old) goal }
     requires built_in { IsBuiltIn (meaning (S.present store.old) goal) built_in }
+    requires controls { AreControls (S.names store.old) controls.now }
     ensures replies { IfOk result (IsReply (S.present store.old) (S.present store.new) nodes.old.items nodes.new.items
         (table.reply built_in (meaning (S.present store.old) goal))) }
     ensures nodes { Adds nodes.old.items nodes.new.items }
@@ -72,20 +76,20 @@ pub fn reply<S: Store>(
             let (left, right) = (store.arg(goal, 0), store.arg(goal, 1));
             Ok(tested(differ(store, left, right)?))
         }
-        BuiltIn::Call => match place_called(alloc, store, nodes, goal)? {
+        BuiltIn::Call => match place_called(alloc, store, controls, nodes, goal)? {
             Placed::Body(place) => Ok(Replied::Calls(place)),
             Placed::Raises(ball) => Ok(Replied::Raises(ball)),
         },
-        BuiltIn::Once => match place_argument(alloc, store, nodes, goal, "once", 1)? {
+        BuiltIn::Once => match place_argument(alloc, store, controls, nodes, goal, "once", 1)? {
             Placed::Body(place) => Ok(Replied::CallsOnce(place)),
             Placed::Raises(ball) => Ok(Replied::Raises(ball)),
         },
-        BuiltIn::Not => match place_argument(alloc, store, nodes, goal, "\\+", 1)? {
+        BuiltIn::Not => match place_argument(alloc, store, controls, nodes, goal, "\\+", 1)? {
             Placed::Body(place) => Ok(Replied::Refutes(place)),
             Placed::Raises(ball) => Ok(Replied::Raises(ball)),
         },
         BuiltIn::Catch => Ok(Replied::Catches(place_argument(
-            alloc, store, nodes, goal, "catch", 3,
+            alloc, store, controls, nodes, goal, "catch", 3,
         )?)),
         BuiltIn::Throw => Ok(Replied::Raises(thrown(alloc, store, goal)?)),
         BuiltIn::Halt => Ok(Replied::Halts(0)),

@@ -135,7 +135,14 @@ impl<S: Store + Drop> Plain<S> {
         ensures met { ResultMet S.full result self.new }
         ensures stays { Stays S.names self.old self.new }
     {
-        let replied = replies::reply(self.alloc, &mut self.store, &mut self.nodes, built_in, goal)?;
+        let replied = replies::reply(
+            self.alloc,
+            &mut self.store,
+            &self.controls,
+            &mut self.nodes,
+            built_in,
+            goal,
+        )?;
         self.steps -= 1;
         match replied {
             Replied::GoesOn => {

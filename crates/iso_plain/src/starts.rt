@@ -11,7 +11,7 @@ use super::controls::Controls;
 use super::parts::{Frame, Now, Todo};
 use super::plain::Plain;
 use super::procedures::{self, Functor};
-use super::{balls, bodies, callables, clauses, entries, writing};
+use super::{balls, callables, clauses, entries, writing};
 use iso_model::{AddFault, Term};
 use iso_ops::{Flags, OpTable};
 use iso_prep::{Fault, Prepared};
@@ -89,14 +89,13 @@ impl<S: Store + Drop> Plain<S> {
         ensures full { result ≡ Err StoreFault.Full → S.full self.new.store }
         ensures stays { Stays S.names self.old self.new }
     {
-        let parts = bodies::parts_of(self.alloc, query)?;
-        let written = writing::written_parts(self.alloc, &mut self.store, parts.as_slice())?;
+        let parts = writing::written_body(self.alloc, &mut self.store, query)?;
         let count = query.variables();
         let variables = entries::new_variables(self.alloc, &mut self.store, count)?;
         entries::copy_parts(
             &mut self.store,
             &mut self.nodes,
-            written.as_slice(),
+            parts.as_slice(),
             variables.as_slice(),
         )?;
         self.query = variables;
@@ -136,6 +135,7 @@ impl<S: Store + Drop> Plain<S> {
     pub(crate) fn add(&mut self, clause: &Term) -> Result<(), AddFault>
         requires fits { arities_fit (term_of clause.now) ≡ true }
         requires now { self.old.now ≡ Idle }
+        requires engine { (w : World) × IsEngine S.names S.present S.stands S.older self.old (idle w) }
         ensures comes { (w : World) → IsEngine S.names S.present S.stands S.older self.old (idle w)
             → Comes S.names S.present S.stands S.older (consulted (term_of clause.now) w.database) w result self.new }
         ensures now { self.new.now ≡ self.old.now }

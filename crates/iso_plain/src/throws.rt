@@ -84,7 +84,8 @@ impl<S: Store + Drop> Plain<S> {
     /// Goes back to the entry of the catch whose choice is at this place, and takes its choice away with those above it: the goal of
     /// `catch/3`, and the place of the member behind it (7.8.9).
     fn back_to_catch(&mut self, height: usize) -> (S::Word, Option<usize>)
-        requires { (s : State) × (ball : Tree) × (behind : List Member) × IsEngine S.names S.present S.stands S.older self.old s
+        requires now { (place : Option ℕ) × (self.old.now ≡ now.Raising place) }
+        requires goes { (s : State) × (ball : Tree) × (behind : List Member) × IsEngine S.names S.present S.stands S.older self.old s
             × (s.list ≡ Raise ball ∷ behind) × GoesTo ball behind s height }
         ensures back { (s : State) (ball : Tree) (behind : List Member) → IsEngine S.names S.present S.stands S.older self.old s
             → s.list ≡ Raise ball ∷ behind → (g : GoesTo ball behind s height)

@@ -1,15 +1,17 @@
 //! Clauses and bodies written out for the store, with numbers for their names: once, before any goal is run.
-ghost use Rattle.std.specs.Prelude.{◌≡◌, IfOk, map};
+ghost use Rattle.std.specs.Prelude.{◌≡◌, ℕ, IfOk};
 ghost use Rattle.iso_atoms.specs.Texts.{KeepsTexts};
 ghost use Rattle.iso_model.specs.Search.Databases as databases;
+ghost use Rattle.iso_prep.specs.Classes.{goals_of};
 ghost use Rattle.iso_store_core.specs.Presents.{KeepsMarks};
-ghost use Rattle.iso_plain.specs.Nodes.{IsAlike, AreAlike};
-ghost use Rattle.iso_plain.specs.Written.{IsWrittenFor};
-ghost use Rattle.iso_plain.specs.Kept.{IsChecked, IsClause};
+ghost use Rattle.iso_plain.specs.Nodes.{IsAlike, AreAlike, EndsWith, EachGoal};
+ghost use Rattle.iso_plain.specs.Written.{IsPatternOf, IsWrittenFor};
+ghost use Rattle.iso_plain.specs.Kept.{AreTemplates, IsChecked, IsKeptGoal, IsClause};
 
-use super::bodies::Node;
+use super::bodies::{self, Node};
 use super::clauses::{Checked, Clause};
 use iso_model::{NoMemory, Term};
+use iso_prep::Prepared;
 use iso_store_core::{Pattern, Store};
 use std::alloc::Global;
 
@@ -47,6 +49,23 @@ pub fn written_parts<S: Store>(
         written.push(goal)?;
     }
     Ok(written)
+}
+
+/// The parts of the converted body, written out; where the body's goals can be kept, so can those among the parts. The error is
+/// that memory was refused.
+pub fn written_body<S: Store>(
+    alloc: Global,
+    store: &mut S,
+    body: &Prepared,
+) -> Result<Vec<Node<Pattern>>, NoMemory>
+    ensures ends { IfOk result (λ parts. EndsWith (IsPatternOf (S.names store.new)) parts.items body.now.body) }
+    ensures goals { (n : ℕ) → AreTemplates n (goals_of body.now.body) → IfOk result (λ parts. EachGoal (IsKeptGoal (S.names store.new) n) parts.items) }
+    ensures names { KeepsTexts (S.names store.old) (S.names store.new) }
+    ensures present { S.present store.new ≡ S.present store.old }
+    ensures marks { KeepsMarks (S.stands store.old) (S.stands store.new) }
+{
+    let parts = bodies::parts_of(alloc, body)?;
+    written_parts(alloc, store, parts.as_slice())
 }
 
 /// The clause ready to be tried. The error is that memory was refused.

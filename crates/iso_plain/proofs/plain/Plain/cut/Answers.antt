@@ -1,3 +1,4 @@
+use Rattle.iso_plain.proofs.AheadLemmas.{keeps_ahead}
 use Rattle.iso_plain.proofs.CutMoves.{at, cuts, cut_falls}
 use Rattle.iso_plain.proofs.StandingLemmas.{chain_place}
 use Rattle.iso_plain.proofs.plain.Plain.cut.Goals as goal
@@ -6,7 +7,7 @@ pub cut_to-requires : goal.cut_to-requires
 cut_to-requires g c =
     let r = c.requires.stands.1 in
     let a = at g.S.Store.names g.S.Store.present g.S.Store.stands g.S.Store.older c.args.self.now c.requires.stands.0 c.args.frame c.requires.now r in
-    (record r.own { list = a.behind }, c.args.frame.next, a.ahead)
+    ((r.own).world, (r.own).stack, keeps_ahead g.S.Store.names g.S.Store.present g.S.Store.stands g.S.Store.older c.args.self.now (record r.own { list = a.behind }) c.args.frame.next a.ahead)
 
 pub at-self-requires : goal.at-self-requires
 at-self-requires g c =

@@ -4,6 +4,7 @@ use Rattle.iso_plain.specs.Costs.{frame_costs}
 use Rattle.iso_plain.proofs.AheadLemmas.{ahead_cut, ahead_uncut}
 use Rattle.iso_plain.proofs.BackLemmas.{get_at}
 use Rattle.iso_plain.proofs.CostLemmas.{choices_fewer}
+use Rattle.iso_plain.proofs.RaiseLemmas.{cut_failing, uncut_failing}
 use Rattle.iso_plain.proofs.StandingLemmas.{lower}
 use Rattle.iso_plain.proofs.WorldLemmas.{same_texts}
 use Rattle.iso_plain.proofs.plain.Plain.cut_to.Goals as goal
@@ -13,7 +14,7 @@ forget-requires g c =
     let choices = c.args.self.now.choices.items in
     let within : c.args.height < length choices = (let h = c.if-height-len.true in let many = c.len.ensures in let ok = c.args.self.now.choices.ok.0 in omega (arith, h, many, ok)) in
     let there : slice_get choices c.args.height ≡ Some c.index.result.now = get_at choices c.args.height c.index.result.now within c.index.ensures in
-    let l = lower c.args.height c.index.result.now there (c.requires.2).choices in
+    let l = lower c.args.height c.index.result.now there (c.requires.2).2.1 in
     (l.present, l.mark)
 
 pub returns-then-height-len-clause-cut : goal.returns-then-height-len-clause-cut
@@ -30,3 +31,15 @@ pub returns-else-height-len-clause-cut : goal.returns-else-height-len-clause-cut
 returns-else-height-len-clause-cut g c = λ s place h.
     (let less : length c.args.self.now.choices.items ≤ c.args.height = (let h = c.if-height-len.false in let many = c.len.ensures in let ok = c.args.self.now.choices.ok.0 in omega (arith, h, many, ok)) in
     ahead_uncut g.S.Store.names g.S.Store.present g.S.Store.stands g.S.Store.older c.args.self.now s place c.args.height h less)
+
+pub returns-then-height-len-clause-failing : goal.returns-then-height-len-clause-failing
+returns-then-height-len-clause-failing g c = λ s is doing.
+    (let choices = c.args.self.now.choices.items in
+    let within : c.args.height < length choices = (let h = c.if-height-len.true in let many = c.len.ensures in let ok = c.args.self.now.choices.ok.0 in omega (arith, h, many, ok)) in
+    let there : slice_get choices c.args.height ≡ Some c.index.result.now = get_at choices c.args.height c.index.result.now within c.index.ensures in
+    cut_failing g.S.Store.names g.S.Store.present g.S.Store.stands g.S.Store.older c.args.self.now s c.args.height c.forget.new.self c.truncate.new.self c.index.result.now is doing there c.truncate.ensures.items c.forget.ensures.marks (same_texts c.forget.ensures.names))
+
+pub returns-else-height-len-clause-failing : goal.returns-else-height-len-clause-failing
+returns-else-height-len-clause-failing g c = λ s is doing.
+    (let less : length c.args.self.now.choices.items ≤ c.args.height = (let h = c.if-height-len.false in let many = c.len.ensures in let ok = c.args.self.now.choices.ok.0 in omega (arith, h, many, ok)) in
+    uncut_failing g.S.Store.names g.S.Store.present g.S.Store.stands g.S.Store.older c.args.self.now s c.args.height is doing less)

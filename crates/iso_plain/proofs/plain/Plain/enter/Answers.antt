@@ -1,7 +1,8 @@
 use Rattle.std.proofs.Common.{arith}
 use Rattle.iso_model.specs.Terms.Variables.{variables}
 use Rattle.iso_plain.proofs.StoppedLemmas.{behind_error, base_kept, choices_on}
-use Rattle.iso_plain.proofs.KeptLemmas.{kept_at, template_fits, kept_parts_fit}
+use Rattle.iso_plain.proofs.KeptLemmas.{kept_at, head_fits, kept_parts_fit}
+use Rattle.iso_plain.proofs.WorldLemmas.{world_on, same_texts}
 use Rattle.iso_plain.proofs.CallLemmas.{entered_least}
 use Rattle.iso_plain.proofs.CostLemmas.{behind_cost}
 use Rattle.iso_plain.proofs.EnteringLemmas.{adds_none}
@@ -19,7 +20,7 @@ clause_at-clause-requires-clause-within g c =
 pub enter-requires-clause-room : goal.enter-requires-clause-room
 enter-requires-clause-room g c =
     let t = c.requires.5 in
-    let is = c.clause_at-clause.ensures c.requires.0.world.database.procedures c.requires.2 c.requires.3 (rw c.as_slice.ensures.value t.world.procedures_are) t.clauses in
+    let is = c.clause_at-clause.ensures (g.S.Store.names c.args.self.now.store) c.requires.0.world.database.procedures c.requires.2 c.requires.3 (rw c.as_slice.ensures.value t.world.procedures_are) t.clauses in
     let few = is.few in
     let many = is.variables in
     let space = t.space in
@@ -29,23 +30,23 @@ enter-requires-clause-room g c =
 pub enter-requires-clause-head_fits : goal.enter-requires-clause-head_fits
 enter-requires-clause-head_fits g c =
     let t = c.requires.5 in
-    let is = c.clause_at-clause.ensures c.requires.0.world.database.procedures c.requires.2 c.requires.3 (rw c.as_slice.ensures.value t.world.procedures_are) t.clauses in
-    rw (is.variables, is.head) (template_fits _ _ is.head_template)
+    let is = c.clause_at-clause.ensures (g.S.Store.names c.args.self.now.store) c.requires.0.world.database.procedures c.requires.2 c.requires.3 (rw c.as_slice.ensures.value t.world.procedures_are) t.clauses in
+    rw is.variables (head_fits _ _ _ _ is.head is.head_template)
 
 pub enter-requires-clause-parts_fit : goal.enter-requires-clause-parts_fit
 enter-requires-clause-parts_fit g c =
     let t = c.requires.5 in
-    let is = c.clause_at-clause.ensures c.requires.0.world.database.procedures c.requires.2 c.requires.3 (rw c.as_slice.ensures.value t.world.procedures_are) t.clauses in
-    rw is.variables (kept_parts_fit _ _ is.goal_templates)
+    let is = c.clause_at-clause.ensures (g.S.Store.names c.args.self.now.store) c.requires.0.world.database.procedures c.requires.2 c.requires.3 (rw c.as_slice.ensures.value t.world.procedures_are) t.clauses in
+    rw is.variables (kept_parts_fit _ _ _ is.goal_templates)
 
 pub behind-self-requires : goal.behind-self-requires
 behind-self-requires g c = rw c.as_slice-2.ensures.value (chain_place c.args.attempt.rest c.requires.5.at.on.chain)
 
 pub returns-clause-tried : goal.returns-clause-tried
 returns-clause-tried g c = λ s call k ks gs t.
-    (let is = c.clause_at-clause.ensures s.world.database.procedures k ks (rw c.as_slice.ensures.value t.world.procedures_are) t.clauses in
+    (let is = c.clause_at-clause.ensures (g.S.Store.names c.args.self.now.store) s.world.database.procedures k ks (rw c.as_slice.ensures.value t.world.procedures_are) t.clauses in
     let tried : Tried g.S.Store.names g.S.Store.present g.S.Store.stands g.S.Store.older c.args.self.now c.args.attempt s call k ks gs c.enter.new.store c.enter.new.nodes c.clause_at-clause.result.now =
-    record { calls = t; keeps = c.in_ok-entered.ensures.marks; adds = c.in_ok-entered.ensures.nodes; is = is } in
+    record { calls = t; keeps = c.in_ok-entered.ensures.marks; texts = same_texts c.in_ok-entered.ensures.names; adds = c.in_ok-entered.ensures.nodes; is = is } in
     rw (c.behind-self.ensures, c.as_slice-2.ensures.value)
     (tried_engine g.S.Store.names g.S.Store.present g.S.Store.stands g.S.Store.older c.args.self.now c.args.attempt s call k ks gs c.enter.new.store c.enter.new.nodes c.clause_at-clause.result.now c.args.mark tried c.in_ok-entered.entered c.in_ok-entered.ensures.enters))
 
@@ -55,7 +56,7 @@ returns-clause-awake g c = rw c.behind-self.ensures (awake_entered _ c.in_ok-ent
 pub returns-in_err-entered-clause-kept : goal.returns-in_err-entered-clause-kept
 returns-in_err-entered-clause-kept g c = λ s call k ks gs t.
     behind_error c.from_residual.result (
-      t.world,
+      world_on (same_texts c.in_err-entered.ensures.names) t.world,
       base_kept (g.S.Store.stands c.args.self.now.store) (g.S.Store.stands c.enter.new.store) c.args.self.now.base c.in_err-entered.ensures.marks t.base,
       (variables s.query, choices_on g.S.Store.names g.S.Store.present g.S.Store.stands g.S.Store.older c.args.self.now c.enter.new.store c.enter.new.nodes c.args.self.now.frames s.world (variables s.query) s.stack c.in_err-entered.ensures.marks c.in_err-entered.ensures.nodes (adds_none _) t.choices),
     )
