@@ -3,6 +3,9 @@ use Rattle.iso_model.specs.Terms.Arguments.{arity}
 use Rattle.iso_store_core.specs.Presents.{meaning}
 use Rattle.iso_plain.proofs.CalledLemmas.{built_in_arguments}
 use Rattle.iso_plain.proofs.ReplyLemmas.{call_body, call_error, once_body, once_error, not_body, not_error, catch_placed, halt_replied, differ_replied}
+use Rattle.iso_model.specs.Search.BuiltIns.{reply}
+use Rattle.iso_model.specs.declared.built_ins.BuiltIn.TheVariants as built_in
+use Rattle.iso_plain.proofs.RunMoves.{if_ok_map}
 use Rattle.iso_plain.proofs.replies.reply.Goals as goal
 
 pub arg-left-requires-clause-index : goal.arg-left-requires-clause-index
@@ -90,4 +93,5 @@ returns-in_ok-place_argument-in-Catch-clause-replies g c =
     rw c.in-Catch.is (catch_placed _ _ _ _ (meaning (g.S.Store.present c.args.store.now) c.args.goal) c.in_ok-place_argument-in-Catch.field-0 c.in_ok-place_argument-in-Catch.ensures.placed ? c.in_ok-place_argument-in-Catch.ensures.nodes)
 
 pub returns-in-HaltWith-clause-replies : goal.returns-in-HaltWith-clause-replies
-returns-in-HaltWith-clause-replies g c = ?
+returns-in-HaltWith-clause-replies g c =
+    rw c.in-HaltWith.is (if_ok_map _ _ c.halted.result (halt_replied (g.S.Store.present c.args.store.now) c.args.nodes.now.items (reply built_in.HaltWith (meaning (g.S.Store.present c.args.store.now) c.args.goal))) c.halted.ensures.halts)

@@ -3,6 +3,7 @@ use Rattle.std.proofs.lemmas.Result.{on_err_weaker}
 use Rattle.iso_model.specs.Terms.TermOf.{term_of}
 use Rattle.iso_model.specs.Search.BuiltIns.{reply}
 use Rattle.iso_store_core.specs.Presents.{meaning}
+use Rattle.iso_plain.specs.declared.goals.Placed.TheVariants as placed
 use Rattle.iso_plain.specs.EngineStates.{Falls, cost, weight, phase_of}
 use Rattle.iso_plain.proofs.EnteringLemmas.{adds_none}
 use Rattle.iso_plain.proofs.LimitLemmas.{result_full}
@@ -12,10 +13,14 @@ use Rattle.iso_plain.proofs.SearchMoves.{stops_here}
 use Rattle.iso_plain.proofs.RunMoves.{at, if_ok_map}
 use Rattle.iso_plain.proofs.RunCosts.{behind_less, step_weight, goes_falls, fails_falls, throws_falls, calls_falls}
 use Rattle.iso_plain.proofs.ReplyMoves.{went_on, failed_on, raised_by, calls_by, once_by, refutes_by, repeats_by, catches_by, halts_by, inside_calls, inside_raises, places_unbound, goes_on, fails_now, unbound_ahead, raises_now, halts_now, after, enters_catch, calls_inside_now, call_inside_stops, call_inside_over, throws_inside_now, throw_inside_stops, throw_inside_over, called, called_ahead, calls_now, once_now, once_stops, refutes_now, refute_stops, refute_over, repeating, repeating_ahead, repeats_now, repeat_stops, repeat_over}
+use Rattle.iso_plain.proofs.WorldLemmas.{world_on}
 use Rattle.iso_plain.proofs.plain.Plain.run_built_in.Goals as goal
 
 pub reply-requires-clause-goal : goal.reply-requires-clause-goal
 reply-requires-clause-goal g c = (at g.S.Store.names g.S.Store.present g.S.Store.stands g.S.Store.older c.args.self.now c.requires.stands.0 c.args.frame c.args.place c.args.goal c.requires.now c.requires.there c.requires.stands.1).holds
+
+pub reply-requires-clause-controls : goal.reply-requires-clause-controls
+reply-requires-clause-controls g c = c.requires.stands.1.engine.world.controls_are
 
 pub returns-in_err-replied-clause-stopped : goal.returns-in_err-replied-clause-stopped
 returns-in_err-replied-clause-stopped g c = λ s r.
@@ -154,23 +159,23 @@ returns-in-Repeats-clause-frames g c = λ s r.
 
 pub call_inside-requires : goal.call_inside-requires
 call_inside-requires g c =
-    let by = catches_by (g.S.Store.present c.args.self.now.store) (g.S.Store.present c.reply.new.store) c.args.self.now.nodes.items c.reply.new.nodes.items (reply c.args.built_in (meaning (g.S.Store.present c.args.self.now.store) c.args.goal)) c.in-Catches-Body.field-0 (rw c.in-Catches-Body.is at c.in_ok-replied.ensures.replies) in
-    let inside = inside_calls (g.S.Store.present c.args.self.now.store) (g.S.Store.present c.reply.new.store) c.args.self.now.nodes.items c.reply.new.nodes.items by.0 c.in-Catches-Body.body (rw c.in-Catches-Body.field-0-is at by.4) in
+    let by = catches_by (g.S.Store.present c.args.self.now.store) (g.S.Store.present c.reply.new.store) c.args.self.now.nodes.items c.reply.new.nodes.items (reply c.args.built_in (meaning (g.S.Store.present c.args.self.now.store) c.args.goal)) (placed.Body c.in-Catches-Body.body) (rw (c.in-Catches-Body.is, c.in-Catches-Body.field-0-is) at c.in_ok-replied.ensures.replies) in
+    let inside = inside_calls (g.S.Store.present c.args.self.now.store) (g.S.Store.present c.reply.new.store) c.args.self.now.nodes.items c.reply.new.nodes.items by.0 c.in-Catches-Body.body by.4 in
     let unbound = places_unbound (g.S.Store.present c.args.self.now.store) (g.S.Store.present c.reply.new.store) c.args.self.now.nodes.items c.reply.new.nodes.items inside.0 c.in-Catches-Body.body inside.2 in
     (after g.S.Store.names g.S.Store.present g.S.Store.stands g.S.Store.older c.args.self.now c.reply.new.store c.reply.new.nodes c.requires.stands.0 c.args.frame c.args.place c.args.goal c.requires.now c.requires.there c.requires.stands.1 c.requires.steps c.args.built_in c.requires.built_in c.in_ok-replied.ensures.marks c.in_ok-replied.ensures.names c.in_ok-replied.ensures.nodes by.0 by.1 by.2 by.3 unbound, inside.2.body, enters_catch g.S.Store.names g.S.Store.present g.S.Store.stands g.S.Store.older c.args.self.now c.reply.new.store c.reply.new.nodes c.requires.stands.0 c.args.frame c.args.place c.args.goal c.requires.now c.requires.there c.requires.stands.1 c.requires.steps c.args.built_in c.requires.built_in c.in_ok-replied.ensures.marks c.in_ok-replied.ensures.names c.in_ok-replied.ensures.nodes by.0 by.1 by.2 by.3 unbound, inside.2.stands)
 
 pub returns-in-Catches-Body-clause-moves : goal.returns-in-Catches-Body-clause-moves
 returns-in-Catches-Body-clause-moves g c = λ s r.
-    (let by = catches_by (g.S.Store.present c.args.self.now.store) (g.S.Store.present c.reply.new.store) c.args.self.now.nodes.items c.reply.new.nodes.items (reply c.args.built_in (meaning (g.S.Store.present c.args.self.now.store) c.args.goal)) c.in-Catches-Body.field-0 (rw c.in-Catches-Body.is at c.in_ok-replied.ensures.replies) in
-    let inside = inside_calls (g.S.Store.present c.args.self.now.store) (g.S.Store.present c.reply.new.store) c.args.self.now.nodes.items c.reply.new.nodes.items by.0 c.in-Catches-Body.body (rw c.in-Catches-Body.field-0-is at by.4) in
+    (let by = catches_by (g.S.Store.present c.args.self.now.store) (g.S.Store.present c.reply.new.store) c.args.self.now.nodes.items c.reply.new.nodes.items (reply c.args.built_in (meaning (g.S.Store.present c.args.self.now.store) c.args.goal)) (placed.Body c.in-Catches-Body.body) (rw (c.in-Catches-Body.is, c.in-Catches-Body.field-0-is) at c.in_ok-replied.ensures.replies) in
+    let inside = inside_calls (g.S.Store.present c.args.self.now.store) (g.S.Store.present c.reply.new.store) c.args.self.now.nodes.items c.reply.new.nodes.items by.0 c.in-Catches-Body.body by.4 in
     let unbound = places_unbound (g.S.Store.present c.args.self.now.store) (g.S.Store.present c.reply.new.store) c.args.self.now.nodes.items c.reply.new.nodes.items inside.0 c.in-Catches-Body.body inside.2 in
     let enters = enters_catch g.S.Store.names g.S.Store.present g.S.Store.stands g.S.Store.older c.args.self.now c.reply.new.store c.reply.new.nodes s c.args.frame c.args.place c.args.goal c.requires.now c.requires.there r c.requires.steps c.args.built_in c.requires.built_in c.in_ok-replied.ensures.marks c.in_ok-replied.ensures.names c.in_ok-replied.ensures.nodes by.0 by.1 by.2 by.3 unbound in
     if_ok_map _ _ c.call_inside.result (calls_inside_now g.S.Store.names g.S.Store.present g.S.Store.stands g.S.Store.older c.args.self.now c.reply.new.store c.reply.new.nodes s c.args.frame c.args.place c.args.goal c.requires.now c.requires.there r c.requires.steps c.args.built_in c.requires.built_in c.in_ok-replied.ensures.marks c.in_ok-replied.ensures.names c.in_ok-replied.ensures.nodes by.0 by.1 by.2 by.3 unbound inside.0 inside.1 c.in-Catches-Body.body inside.2 c.call_inside.new.self) (c.call_inside.ensures.called _ inside.2.body enters inside.2.stands))
 
 pub returns-in-Catches-Body-clause-stopped : goal.returns-in-Catches-Body-clause-stopped
 returns-in-Catches-Body-clause-stopped g c = λ s r.
-    (let by = catches_by (g.S.Store.present c.args.self.now.store) (g.S.Store.present c.reply.new.store) c.args.self.now.nodes.items c.reply.new.nodes.items (reply c.args.built_in (meaning (g.S.Store.present c.args.self.now.store) c.args.goal)) c.in-Catches-Body.field-0 (rw c.in-Catches-Body.is at c.in_ok-replied.ensures.replies) in
-    let inside = inside_calls (g.S.Store.present c.args.self.now.store) (g.S.Store.present c.reply.new.store) c.args.self.now.nodes.items c.reply.new.nodes.items by.0 c.in-Catches-Body.body (rw c.in-Catches-Body.field-0-is at by.4) in
+    (let by = catches_by (g.S.Store.present c.args.self.now.store) (g.S.Store.present c.reply.new.store) c.args.self.now.nodes.items c.reply.new.nodes.items (reply c.args.built_in (meaning (g.S.Store.present c.args.self.now.store) c.args.goal)) (placed.Body c.in-Catches-Body.body) (rw (c.in-Catches-Body.is, c.in-Catches-Body.field-0-is) at c.in_ok-replied.ensures.replies) in
+    let inside = inside_calls (g.S.Store.present c.args.self.now.store) (g.S.Store.present c.reply.new.store) c.args.self.now.nodes.items c.reply.new.nodes.items by.0 c.in-Catches-Body.body by.4 in
     let unbound = places_unbound (g.S.Store.present c.args.self.now.store) (g.S.Store.present c.reply.new.store) c.args.self.now.nodes.items c.reply.new.nodes.items inside.0 c.in-Catches-Body.body inside.2 in
     let enters = enters_catch g.S.Store.names g.S.Store.present g.S.Store.stands g.S.Store.older c.args.self.now c.reply.new.store c.reply.new.nodes s c.args.frame c.args.place c.args.goal c.requires.now c.requires.there r c.requires.steps c.args.built_in c.requires.built_in c.in_ok-replied.ensures.marks c.in_ok-replied.ensures.names c.in_ok-replied.ensures.nodes by.0 by.1 by.2 by.3 unbound in
     on_err_weaker c.call_inside.result (call_inside_stops g.S.Store.names g.S.Store.present g.S.Store.stands g.S.Store.older c.args.self.now c.reply.new.store c.reply.new.nodes s c.args.frame c.args.place c.args.goal c.requires.now c.requires.there r c.requires.steps c.args.built_in c.requires.built_in c.in_ok-replied.ensures.marks c.in_ok-replied.ensures.names c.in_ok-replied.ensures.nodes by.0 by.1 by.2 by.3 unbound inside.0 inside.1 c.call_inside.new.self) (c.call_inside.ensures.kept _ enters))
@@ -181,37 +186,37 @@ returns-in-Catches-Body-clause-falls g c =
 
 pub returns-in-Catches-Body-clause-frames : goal.returns-in-Catches-Body-clause-frames
 returns-in-Catches-Body-clause-frames g c = λ s r.
-    (let by = catches_by (g.S.Store.present c.args.self.now.store) (g.S.Store.present c.reply.new.store) c.args.self.now.nodes.items c.reply.new.nodes.items (reply c.args.built_in (meaning (g.S.Store.present c.args.self.now.store) c.args.goal)) c.in-Catches-Body.field-0 (rw c.in-Catches-Body.is at c.in_ok-replied.ensures.replies) in
-    let inside = inside_calls (g.S.Store.present c.args.self.now.store) (g.S.Store.present c.reply.new.store) c.args.self.now.nodes.items c.reply.new.nodes.items by.0 c.in-Catches-Body.body (rw c.in-Catches-Body.field-0-is at by.4) in
+    (let by = catches_by (g.S.Store.present c.args.self.now.store) (g.S.Store.present c.reply.new.store) c.args.self.now.nodes.items c.reply.new.nodes.items (reply c.args.built_in (meaning (g.S.Store.present c.args.self.now.store) c.args.goal)) (placed.Body c.in-Catches-Body.body) (rw (c.in-Catches-Body.is, c.in-Catches-Body.field-0-is) at c.in_ok-replied.ensures.replies) in
+    let inside = inside_calls (g.S.Store.present c.args.self.now.store) (g.S.Store.present c.reply.new.store) c.args.self.now.nodes.items c.reply.new.nodes.items by.0 c.in-Catches-Body.body by.4 in
     let unbound = places_unbound (g.S.Store.present c.args.self.now.store) (g.S.Store.present c.reply.new.store) c.args.self.now.nodes.items c.reply.new.nodes.items inside.0 c.in-Catches-Body.body inside.2 in
     result_full c.call_inside.result (call_inside_over g.S.Store.names g.S.Store.present g.S.Store.stands g.S.Store.older c.args.self.now c.reply.new.store c.reply.new.nodes s c.args.frame c.args.place c.args.goal c.requires.now c.requires.there r c.requires.steps c.args.built_in c.requires.built_in c.in_ok-replied.ensures.marks c.in_ok-replied.ensures.names c.in_ok-replied.ensures.nodes by.0 by.1 by.2 by.3 unbound inside.0 inside.1) c.call_inside.ensures.frames)
 
 pub throw_inside-requires-clause-fits : goal.throw_inside-requires-clause-fits
 throw_inside-requires-clause-fits g c =
-    let by = catches_by (g.S.Store.present c.args.self.now.store) (g.S.Store.present c.reply.new.store) c.args.self.now.nodes.items c.reply.new.nodes.items (reply c.args.built_in (meaning (g.S.Store.present c.args.self.now.store) c.args.goal)) c.in-Catches-Raises.field-0 (rw c.in-Catches-Raises.is at c.in_ok-replied.ensures.replies) in
-    let inside = inside_raises (g.S.Store.present c.args.self.now.store) (g.S.Store.present c.reply.new.store) c.args.self.now.nodes.items c.reply.new.nodes.items by.0 c.in-Catches-Raises.ball (rw c.in-Catches-Raises.field-0-is at by.4) in
+    let by = catches_by (g.S.Store.present c.args.self.now.store) (g.S.Store.present c.reply.new.store) c.args.self.now.nodes.items c.reply.new.nodes.items (reply c.args.built_in (meaning (g.S.Store.present c.args.self.now.store) c.args.goal)) (placed.Raises c.in-Catches-Raises.ball) (rw (c.in-Catches-Raises.is, c.in-Catches-Raises.field-0-is) at c.in_ok-replied.ensures.replies) in
+    let inside = inside_raises (g.S.Store.present c.args.self.now.store) (g.S.Store.present c.reply.new.store) c.args.self.now.nodes.items c.reply.new.nodes.items by.0 c.in-Catches-Raises.ball by.4 in
     let unbound = inside.2 in
     inside.1
 
 pub throw_inside-requires-clause-enters : goal.throw_inside-requires-clause-enters
 throw_inside-requires-clause-enters g c =
-    let by = catches_by (g.S.Store.present c.args.self.now.store) (g.S.Store.present c.reply.new.store) c.args.self.now.nodes.items c.reply.new.nodes.items (reply c.args.built_in (meaning (g.S.Store.present c.args.self.now.store) c.args.goal)) c.in-Catches-Raises.field-0 (rw c.in-Catches-Raises.is at c.in_ok-replied.ensures.replies) in
-    let inside = inside_raises (g.S.Store.present c.args.self.now.store) (g.S.Store.present c.reply.new.store) c.args.self.now.nodes.items c.reply.new.nodes.items by.0 c.in-Catches-Raises.ball (rw c.in-Catches-Raises.field-0-is at by.4) in
+    let by = catches_by (g.S.Store.present c.args.self.now.store) (g.S.Store.present c.reply.new.store) c.args.self.now.nodes.items c.reply.new.nodes.items (reply c.args.built_in (meaning (g.S.Store.present c.args.self.now.store) c.args.goal)) (placed.Raises c.in-Catches-Raises.ball) (rw (c.in-Catches-Raises.is, c.in-Catches-Raises.field-0-is) at c.in_ok-replied.ensures.replies) in
+    let inside = inside_raises (g.S.Store.present c.args.self.now.store) (g.S.Store.present c.reply.new.store) c.args.self.now.nodes.items c.reply.new.nodes.items by.0 c.in-Catches-Raises.ball by.4 in
     let unbound = inside.2 in
     (after g.S.Store.names g.S.Store.present g.S.Store.stands g.S.Store.older c.args.self.now c.reply.new.store c.reply.new.nodes c.requires.stands.0 c.args.frame c.args.place c.args.goal c.requires.now c.requires.there c.requires.stands.1 c.requires.steps c.args.built_in c.requires.built_in c.in_ok-replied.ensures.marks c.in_ok-replied.ensures.names c.in_ok-replied.ensures.nodes by.0 by.1 by.2 by.3 unbound, enters_catch g.S.Store.names g.S.Store.present g.S.Store.stands g.S.Store.older c.args.self.now c.reply.new.store c.reply.new.nodes c.requires.stands.0 c.args.frame c.args.place c.args.goal c.requires.now c.requires.there c.requires.stands.1 c.requires.steps c.args.built_in c.requires.built_in c.in_ok-replied.ensures.marks c.in_ok-replied.ensures.names c.in_ok-replied.ensures.nodes by.0 by.1 by.2 by.3 unbound)
 
 pub returns-in-Catches-Raises-clause-moves : goal.returns-in-Catches-Raises-clause-moves
 returns-in-Catches-Raises-clause-moves g c = λ s r.
-    (let by = catches_by (g.S.Store.present c.args.self.now.store) (g.S.Store.present c.reply.new.store) c.args.self.now.nodes.items c.reply.new.nodes.items (reply c.args.built_in (meaning (g.S.Store.present c.args.self.now.store) c.args.goal)) c.in-Catches-Raises.field-0 (rw c.in-Catches-Raises.is at c.in_ok-replied.ensures.replies) in
-    let inside = inside_raises (g.S.Store.present c.args.self.now.store) (g.S.Store.present c.reply.new.store) c.args.self.now.nodes.items c.reply.new.nodes.items by.0 c.in-Catches-Raises.ball (rw c.in-Catches-Raises.field-0-is at by.4) in
+    (let by = catches_by (g.S.Store.present c.args.self.now.store) (g.S.Store.present c.reply.new.store) c.args.self.now.nodes.items c.reply.new.nodes.items (reply c.args.built_in (meaning (g.S.Store.present c.args.self.now.store) c.args.goal)) (placed.Raises c.in-Catches-Raises.ball) (rw (c.in-Catches-Raises.is, c.in-Catches-Raises.field-0-is) at c.in_ok-replied.ensures.replies) in
+    let inside = inside_raises (g.S.Store.present c.args.self.now.store) (g.S.Store.present c.reply.new.store) c.args.self.now.nodes.items c.reply.new.nodes.items by.0 c.in-Catches-Raises.ball by.4 in
     let unbound = inside.2 in
     let enters = enters_catch g.S.Store.names g.S.Store.present g.S.Store.stands g.S.Store.older c.args.self.now c.reply.new.store c.reply.new.nodes s c.args.frame c.args.place c.args.goal c.requires.now c.requires.there r c.requires.steps c.args.built_in c.requires.built_in c.in_ok-replied.ensures.marks c.in_ok-replied.ensures.names c.in_ok-replied.ensures.nodes by.0 by.1 by.2 by.3 unbound in
     if_ok_map _ _ c.throw_inside.result (throws_inside_now g.S.Store.names g.S.Store.present g.S.Store.stands g.S.Store.older c.args.self.now c.reply.new.store c.reply.new.nodes s c.args.frame c.args.place c.args.goal c.requires.now c.requires.there r c.requires.steps c.args.built_in c.requires.built_in c.in_ok-replied.ensures.marks c.in_ok-replied.ensures.names c.in_ok-replied.ensures.nodes by.0 by.1 by.2 by.3 unbound (term_of c.in-Catches-Raises.ball.term) inside.0 c.throw_inside.new.self) (c.throw_inside.ensures.called _ enters))
 
 pub returns-in-Catches-Raises-clause-stopped : goal.returns-in-Catches-Raises-clause-stopped
 returns-in-Catches-Raises-clause-stopped g c = λ s r.
-    (let by = catches_by (g.S.Store.present c.args.self.now.store) (g.S.Store.present c.reply.new.store) c.args.self.now.nodes.items c.reply.new.nodes.items (reply c.args.built_in (meaning (g.S.Store.present c.args.self.now.store) c.args.goal)) c.in-Catches-Raises.field-0 (rw c.in-Catches-Raises.is at c.in_ok-replied.ensures.replies) in
-    let inside = inside_raises (g.S.Store.present c.args.self.now.store) (g.S.Store.present c.reply.new.store) c.args.self.now.nodes.items c.reply.new.nodes.items by.0 c.in-Catches-Raises.ball (rw c.in-Catches-Raises.field-0-is at by.4) in
+    (let by = catches_by (g.S.Store.present c.args.self.now.store) (g.S.Store.present c.reply.new.store) c.args.self.now.nodes.items c.reply.new.nodes.items (reply c.args.built_in (meaning (g.S.Store.present c.args.self.now.store) c.args.goal)) (placed.Raises c.in-Catches-Raises.ball) (rw (c.in-Catches-Raises.is, c.in-Catches-Raises.field-0-is) at c.in_ok-replied.ensures.replies) in
+    let inside = inside_raises (g.S.Store.present c.args.self.now.store) (g.S.Store.present c.reply.new.store) c.args.self.now.nodes.items c.reply.new.nodes.items by.0 c.in-Catches-Raises.ball by.4 in
     let unbound = inside.2 in
     let enters = enters_catch g.S.Store.names g.S.Store.present g.S.Store.stands g.S.Store.older c.args.self.now c.reply.new.store c.reply.new.nodes s c.args.frame c.args.place c.args.goal c.requires.now c.requires.there r c.requires.steps c.args.built_in c.requires.built_in c.in_ok-replied.ensures.marks c.in_ok-replied.ensures.names c.in_ok-replied.ensures.nodes by.0 by.1 by.2 by.3 unbound in
     on_err_weaker c.throw_inside.result (throw_inside_stops g.S.Store.names g.S.Store.present g.S.Store.stands g.S.Store.older c.args.self.now c.reply.new.store c.reply.new.nodes s c.args.frame c.args.place c.args.goal c.requires.now c.requires.there r c.requires.steps c.args.built_in c.requires.built_in c.in_ok-replied.ensures.marks c.in_ok-replied.ensures.names c.in_ok-replied.ensures.nodes by.0 by.1 by.2 by.3 unbound (term_of c.in-Catches-Raises.ball.term) inside.0 c.throw_inside.new.self) (c.throw_inside.ensures.kept _ enters))
@@ -222,8 +227,8 @@ returns-in-Catches-Raises-clause-falls g c =
 
 pub returns-in-Catches-Raises-clause-frames : goal.returns-in-Catches-Raises-clause-frames
 returns-in-Catches-Raises-clause-frames g c = λ s r.
-    (let by = catches_by (g.S.Store.present c.args.self.now.store) (g.S.Store.present c.reply.new.store) c.args.self.now.nodes.items c.reply.new.nodes.items (reply c.args.built_in (meaning (g.S.Store.present c.args.self.now.store) c.args.goal)) c.in-Catches-Raises.field-0 (rw c.in-Catches-Raises.is at c.in_ok-replied.ensures.replies) in
-    let inside = inside_raises (g.S.Store.present c.args.self.now.store) (g.S.Store.present c.reply.new.store) c.args.self.now.nodes.items c.reply.new.nodes.items by.0 c.in-Catches-Raises.ball (rw c.in-Catches-Raises.field-0-is at by.4) in
+    (let by = catches_by (g.S.Store.present c.args.self.now.store) (g.S.Store.present c.reply.new.store) c.args.self.now.nodes.items c.reply.new.nodes.items (reply c.args.built_in (meaning (g.S.Store.present c.args.self.now.store) c.args.goal)) (placed.Raises c.in-Catches-Raises.ball) (rw (c.in-Catches-Raises.is, c.in-Catches-Raises.field-0-is) at c.in_ok-replied.ensures.replies) in
+    let inside = inside_raises (g.S.Store.present c.args.self.now.store) (g.S.Store.present c.reply.new.store) c.args.self.now.nodes.items c.reply.new.nodes.items by.0 c.in-Catches-Raises.ball by.4 in
     let unbound = inside.2 in
     result_full c.throw_inside.result (throw_inside_over g.S.Store.names g.S.Store.present g.S.Store.stands g.S.Store.older c.args.self.now c.reply.new.store c.reply.new.nodes s c.args.frame c.args.place c.args.goal c.requires.now c.requires.there r c.requires.steps c.args.built_in c.requires.built_in c.in_ok-replied.ensures.marks c.in_ok-replied.ensures.names c.in_ok-replied.ensures.nodes by.0 by.1 by.2 by.3 unbound (term_of c.in-Catches-Raises.ball.term) inside.0) c.throw_inside.ensures.frames)
 
@@ -231,6 +236,6 @@ returns-in-Catches-Raises-clause-frames g c = λ s r.
 
 pub returns-in-Halts-clause-moves : goal.returns-in-Halts-clause-moves
 returns-in-Halts-clause-moves g c = λ s r. (
-  halts_now g.S.Store.names g.S.Store.present g.S.Store.stands g.S.Store.older c.args.self.now c.reply.new.store c.reply.new.nodes s c.args.frame c.args.place c.args.goal c.requires.now c.requires.there r c.requires.steps c.args.built_in c.requires.built_in c.in_ok-replied.ensures.marks c.in_ok-replied.ensures.names c.in_ok-replied.ensures.nodes c.clear.new.self c.in-Halts.status (halts_by (g.S.Store.present c.args.self.now.store) (g.S.Store.present c.reply.new.store) c.args.self.now.nodes.items c.reply.new.nodes.items (reply c.args.built_in (meaning (g.S.Store.present c.args.self.now.store) c.args.goal)) c.in-Halts.status (rw c.in-Halts.is at c.in_ok-replied.ensures.replies)) c.clear.ensures.idle c.clear.ensures.now,
+  halts_now g.S.Store.names g.S.Store.present g.S.Store.stands g.S.Store.older c.args.self.now c.reply.new.store c.reply.new.nodes s c.args.frame c.args.place c.args.goal c.requires.now c.requires.there r c.requires.steps c.args.built_in c.requires.built_in c.in_ok-replied.ensures.marks c.in_ok-replied.ensures.names c.in_ok-replied.ensures.nodes c.clear.new.self c.in-Halts.status (halts_by (g.S.Store.present c.args.self.now.store) (g.S.Store.present c.reply.new.store) c.args.self.now.nodes.items c.reply.new.nodes.items (reply c.args.built_in (meaning (g.S.Store.present c.args.self.now.store) c.args.goal)) c.in-Halts.status (rw c.in-Halts.is at c.in_ok-replied.ensures.replies)) (λ v is. c.clear.ensures.idle v (world_on c.in_ok-replied.ensures.names is)) c.clear.ensures.now,
   ap phase_of c.clear.ensures.now,
 )
