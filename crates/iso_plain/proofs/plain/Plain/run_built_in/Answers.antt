@@ -1,4 +1,4 @@
-use Rattle.std.proofs.Common.{◌≡◌, length, ap, refl, subst}
+use Rattle.std.proofs.Common.{◌≡◌, ◌-◌, length, ap, refl, subst}
 use Rattle.std.proofs.lemmas.Result.{on_err_weaker}
 use Rattle.iso_model.specs.Terms.TermOf.{term_of}
 use Rattle.iso_model.specs.Search.BuiltIns.{reply}
@@ -6,7 +6,8 @@ use Rattle.iso_store_core.specs.Presents.{meaning}
 use Rattle.iso_plain.specs.declared.goals.Placed.TheVariants as placed
 use Rattle.iso_plain.specs.EngineStates.{Falls, cost, weight, phase_of}
 use Rattle.iso_plain.proofs.EnteringLemmas.{adds_none}
-use Rattle.iso_plain.proofs.LimitLemmas.{result_full}
+use Rattle.iso_plain.proofs.LimitLemmas.{result_full, stays_behind}
+use Rattle.iso_plain.proofs.WorldLemmas.{world_on}
 use Rattle.iso_plain.proofs.StandingLemmas.{chain_place}
 use Rattle.iso_plain.proofs.StoppedLemmas.{behind_error, keeps_all, keeps_more}
 use Rattle.iso_plain.proofs.SearchMoves.{stops_here}
