@@ -14,7 +14,6 @@ use Rattle.iso_plain.proofs.SearchMoves.{stops_here}
 use Rattle.iso_plain.proofs.RunMoves.{at, if_ok_map}
 use Rattle.iso_plain.proofs.RunCosts.{behind_less, step_weight, goes_falls, fails_falls, throws_falls, calls_falls}
 use Rattle.iso_plain.proofs.ReplyMoves.{went_on, failed_on, raised_by, calls_by, once_by, refutes_by, repeats_by, catches_by, halts_by, inside_calls, inside_raises, places_unbound, goes_on, fails_now, unbound_ahead, raises_now, halts_now, after, enters_catch, calls_inside_now, call_inside_stops, call_inside_over, throws_inside_now, throw_inside_stops, throw_inside_over, called, called_ahead, calls_now, once_now, once_stops, refutes_now, refute_stops, refute_over, repeating, repeating_ahead, repeats_now, repeat_stops, repeat_over}
-use Rattle.iso_plain.proofs.WorldLemmas.{world_on}
 use Rattle.iso_plain.proofs.plain.Plain.run_built_in.Goals as goal
 
 pub reply-requires-clause-goal : goal.reply-requires-clause-goal
@@ -240,3 +239,26 @@ returns-in-Halts-clause-moves g c = λ s r. (
   halts_now g.S.Store.names g.S.Store.present g.S.Store.stands g.S.Store.older c.args.self.now c.reply.new.store c.reply.new.nodes s c.args.frame c.args.place c.args.goal c.requires.now c.requires.there r c.requires.steps c.args.built_in c.requires.built_in c.in_ok-replied.ensures.marks c.in_ok-replied.ensures.names c.in_ok-replied.ensures.nodes c.clear.new.self c.in-Halts.status (halts_by (g.S.Store.present c.args.self.now.store) (g.S.Store.present c.reply.new.store) c.args.self.now.nodes.items c.reply.new.nodes.items (reply c.args.built_in (meaning (g.S.Store.present c.args.self.now.store) c.args.goal)) c.in-Halts.status (rw c.in-Halts.is at c.in_ok-replied.ensures.replies)) (λ v is. c.clear.ensures.idle v (world_on c.in_ok-replied.ensures.names is)) c.clear.ensures.now,
   ap phase_of c.clear.ensures.now,
 )
+
+-- ---- what stays
+
+pub returns-in-Raises-clause-stays : goal.returns-in-Raises-clause-stays
+returns-in-Raises-clause-stays g c = stays_behind g.S.Store.names c.reply.new.store c.reply.new.nodes (c.args.self.now.steps - 1) c.in_ok-replied.ensures.names c.throw.ensures.stays
+
+pub returns-in-CallsOnce-clause-stays : goal.returns-in-CallsOnce-clause-stays
+returns-in-CallsOnce-clause-stays g c = stays_behind g.S.Store.names c.reply.new.store c.reply.new.nodes (c.args.self.now.steps - 1) c.in_ok-replied.ensures.names c.call_once.ensures.stays
+
+pub returns-in-Refutes-clause-stays : goal.returns-in-Refutes-clause-stays
+returns-in-Refutes-clause-stays g c = stays_behind g.S.Store.names c.reply.new.store c.reply.new.nodes (c.args.self.now.steps - 1) c.in_ok-replied.ensures.names c.refute.ensures.stays
+
+pub returns-in-Repeats-clause-stays : goal.returns-in-Repeats-clause-stays
+returns-in-Repeats-clause-stays g c = stays_behind g.S.Store.names c.reply.new.store c.reply.new.nodes (c.args.self.now.steps - 1) c.in_ok-replied.ensures.names c.repeat.ensures.stays
+
+pub returns-in-Catches-Body-clause-stays : goal.returns-in-Catches-Body-clause-stays
+returns-in-Catches-Body-clause-stays g c = stays_behind g.S.Store.names c.reply.new.store c.reply.new.nodes (c.args.self.now.steps - 1) c.in_ok-replied.ensures.names c.call_inside.ensures.stays
+
+pub returns-in-Catches-Raises-clause-stays : goal.returns-in-Catches-Raises-clause-stays
+returns-in-Catches-Raises-clause-stays g c = stays_behind g.S.Store.names c.reply.new.store c.reply.new.nodes (c.args.self.now.steps - 1) c.in_ok-replied.ensures.names c.throw_inside.ensures.stays
+
+pub returns-in-Halts-clause-stays : goal.returns-in-Halts-clause-stays
+returns-in-Halts-clause-stays g c = stays_behind g.S.Store.names c.reply.new.store c.reply.new.nodes (c.args.self.now.steps - 1) c.in_ok-replied.ensures.names c.clear.ensures.stays
