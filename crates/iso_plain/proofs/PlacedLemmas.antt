@@ -12,8 +12,8 @@ use Rattle.iso_plain.specs.declared.bodies.Node.{Node}
 use Rattle.iso_plain.specs.declared.goals.Placed.{Placed}
 use Rattle.iso_plain.specs.declared.goals.Placed.TheVariants as placed
 use Rattle.iso_plain.specs.Entering.{Extends}
-use Rattle.iso_plain.specs.Replies.{Places, IsBound, limited, IsRunAs}
-use Rattle.iso_plain.proofs.EnteringLemmas.{extends_on}
+use Rattle.iso_plain.specs.Replies.{Places, IsBound, IsUnbound, IsRaising, limited, IsRunAs}
+use Rattle.iso_plain.proofs.EnteringLemmas.{extends_on, words_same}
 use Rattle.iso_plain.proofs.ConvertedLemmas.{converted_goal, other_arguments}
 
 -- ---- what the table says
@@ -70,6 +70,22 @@ run_on {p = p} {r = r} more q old new first second (placed.Body place) same h =
       },
     )
 run_on more q old new first second (placed.Raises ball) same h = λ runs. same runs ∙ h runs
+
+-- ---- an error that is raised
+
+pub unbound_by : {W : Type 0} {p q : Present W} → Extends p q 0 → IsUnbound p q
+unbound_by h = record { words = h.words; substitution = h.substitution; next = (let n = h.next in omega (arith, n)) }
+
+pub unbound_here : {W : Type 0} (p : Present W) → IsUnbound p p
+unbound_here p = record { words = words_same p; substitution = refl; next = refl }
+
+-- after words came
+pub raising_on : {W : Type 0} {p r : Present W} → Extends p r 0 → (q : Present W) (answer : Placed) → IsRaising r q answer → IsRaising p q answer
+raising_on more q (placed.Body place) h = tt
+raising_on {r = r} more q (placed.Raises ball) h =
+    let u = h.1 in
+    let behind : Extends r q 0 = record { words = u.words; substitution = u.substitution; next = (let n = u.next in omega (arith, n)) } in
+    (h.0, unbound_by (extends_on more behind))
 
 -- ---- compounds of words
 

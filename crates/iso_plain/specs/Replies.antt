@@ -77,6 +77,11 @@ pub record IsUnbound {W : Type 0} (p q : Present W) : Type 0 where
   pub substitution : q.substitution ≡ p.substitution
   pub next : q.next ≡ p.next
 
+-- Where an error is raised a store can hold it, and nothing was bound.
+abbrev pub IsRaising : {W : Type 0} → Present W → Present W → Placed → Type 0
+IsRaising p q (placed.Body place) = Unit {0}
+IsRaising p q (placed.Raises ball) = (arities_fit (term_of ball.term) ≡ true) × IsUnbound p q
+
 -- This error was raised, which a store can hold.
 pub record IsRaised {W : Type 0} (p q : Present W) (old new : List (Node W)) (error : Tree) (ball : Ball) : Type 0 where
   pub is : term_of ball.term ≡ error

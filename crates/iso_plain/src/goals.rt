@@ -11,7 +11,7 @@ ghost use Rattle.iso_store_core.specs.Presents.{Holds, meaning, KeepsMarks};
 ghost use Rattle.iso_store_core.specs.Arguments.{members_from};
 ghost use Rattle.iso_plain.specs.Controls.{AreControls};
 ghost use Rattle.iso_plain.specs.Entering.{Adds, Extends};
-ghost use Rattle.iso_plain.specs.Replies.{HasName, HasNoName, IsBound, IsRunAs, IsPlaced, called_of};
+ghost use Rattle.iso_plain.specs.Replies.{HasName, HasNoName, IsBound, IsRunAs, IsPlaced, IsRaising, called_of};
 
 use super::balls;
 use super::bodies::Node;
@@ -139,6 +139,7 @@ fn place_goal<S: Store>(
     requires arity { arity < 256 }
     ensures placed { IfOk result (IsRunAs (S.present store.old) (S.present store.new) nodes.old.items nodes.new.items
         (λ runs. goal_reply runs (meaning (S.present store.old) goal) (key name.now arity))) }
+    ensures raises { IfOk result (IsRaising (S.present store.old) (S.present store.new)) }
     ensures few { nat_lt 255 (arguments.arity (meaning (S.present store.old) goal)) ≡ false }
     ensures full { result ≡ Err StoreFault.Full → S.full store.new }
     ensures nodes { Adds nodes.old.items nodes.new.items }
@@ -173,6 +174,7 @@ pub fn place_argument<S: Store>(
     requires controls { AreControls (S.names store.old) controls.now }
     ensures placed { IfOk result (IsRunAs (S.present store.old) (S.present store.new) nodes.old.items nodes.new.items
         (λ runs. goal_reply runs (arguments.argument 0 (meaning (S.present store.old) goal)) (key name.now arity))) }
+    ensures raises { IfOk result (IsRaising (S.present store.old) (S.present store.new)) }
     ensures full { result ≡ Err StoreFault.Full → S.full store.new }
     ensures nodes { Adds nodes.old.items nodes.new.items }
     ensures names { S.names store.new ≡ S.names store.old }
@@ -196,6 +198,7 @@ pub fn place_called<S: Store>(
     requires controls { AreControls (S.names store.old) controls.now }
     ensures placed { IfOk result (IsPlaced (S.present store.old) (S.present store.new) nodes.old.items nodes.new.items
         (called_of (meaning (S.present store.old) goal)) (key (codes "call") (arguments.arity (meaning (S.present store.old) goal)))) }
+    ensures raises { IfOk result (IsRaising (S.present store.old) (S.present store.new)) }
     ensures full { result ≡ Err StoreFault.Full → S.full store.new }
     ensures nodes { Adds nodes.old.items nodes.new.items }
     ensures names { S.names store.new ≡ S.names store.old }
