@@ -20,7 +20,7 @@ use Rattle.iso_plain.specs.declared.goals.Placed.TheVariants as placed
 use Rattle.iso_plain.specs.declared.replies.Replied.{Replied}
 use Rattle.iso_plain.specs.declared.replies.Replied.TheVariants as replied
 use Rattle.iso_plain.specs.Entering.{Adds}
-use Rattle.iso_plain.specs.Replies.{IsRunAs, IsPlaced, IsReply, IsInside, IsHalt, IsUnbound, called_of}
+use Rattle.iso_plain.specs.Replies.{IsRunAs, IsPlaced, IsReply, IsInside, IsHalt, IsUnbound, IsRaising, called_of}
 use Rattle.iso_plain.proofs.EnteringLemmas.{adds_none, words_same}
 
 module _ {W : Type 0} (p q : Present W) (old new : List (Node W)) (t : Tree) where
@@ -51,9 +51,9 @@ module _ {W : Type 0} (p q : Present W) (old new : List (Node W)) (t : Tree) whe
   catch_error ball h fits unbound adds = subst (λ r. IsInside p q old new r (placed.Raises ball)) (sym (h Calls)) (record { is = refl; fits = fits; unbound = unbound; adds = adds })
 
   pub catch_placed : (answer : Placed) → IsRunAs p q old new (λ runs. goal_reply runs (argument 0 t) (key (codes "catch") 3)) answer
-      → ((ball : Ball) → answer ≡ placed.Raises ball → (arities_fit (term_of ball.term) ≡ true) × IsUnbound p q) → Adds old new → IsReply p q old new (reply built_in.Catch t) (replied.Catches answer)
+      → IsRaising p q answer → Adds old new → IsReply p q old new (reply built_in.Catch t) (replied.Catches answer)
   catch_placed (placed.Body place) h raised adds = catch_body place h
-  catch_placed (placed.Raises ball) h raised adds = (let kept = raised ball refl in catch_error ball h kept.0 kept.1 adds)
+  catch_placed (placed.Raises ball) h raised adds = catch_error ball h raised.0 raised.1 adds
 
 -- ---- a ball is thrown, and the search is ended
 

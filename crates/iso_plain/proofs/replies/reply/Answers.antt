@@ -53,7 +53,8 @@ returns-in-Body-clause-replies g c =
 
 pub returns-in-Raises-clause-replies : goal.returns-in-Raises-clause-replies
 returns-in-Raises-clause-replies g c =
-    rw c.in-Call.is (call_error _ _ _ _ (meaning (g.S.Store.present c.args.store.now) c.args.goal) c.in-Raises.ball (rw c.in-Raises.is at c.in_ok-place-in-Call.ensures.placed) ? ? c.in_ok-place-in-Call.ensures.nodes)
+    let kept = rw c.in-Raises.is at c.in_ok-place-in-Call.ensures.raises in
+    rw c.in-Call.is (call_error _ _ _ _ (meaning (g.S.Store.present c.args.store.now) c.args.goal) c.in-Raises.ball (rw c.in-Raises.is at c.in_ok-place-in-Call.ensures.placed) kept.0 kept.1 c.in_ok-place-in-Call.ensures.nodes)
 
 pub returns-in-Body-2-clause-replies : goal.returns-in-Body-2-clause-replies
 returns-in-Body-2-clause-replies g c =
@@ -61,7 +62,8 @@ returns-in-Body-2-clause-replies g c =
 
 pub returns-in-Raises-2-clause-replies : goal.returns-in-Raises-2-clause-replies
 returns-in-Raises-2-clause-replies g c =
-    rw c.in-Once.is (once_error _ _ _ _ (meaning (g.S.Store.present c.args.store.now) c.args.goal) c.in-Raises-2.ball (rw c.in-Raises-2.is at c.in_ok-place-in-Once.ensures.placed) ? ? c.in_ok-place-in-Once.ensures.nodes)
+    let kept = rw c.in-Raises-2.is at c.in_ok-place-in-Once.ensures.raises in
+    rw c.in-Once.is (once_error _ _ _ _ (meaning (g.S.Store.present c.args.store.now) c.args.goal) c.in-Raises-2.ball (rw c.in-Raises-2.is at c.in_ok-place-in-Once.ensures.placed) kept.0 kept.1 c.in_ok-place-in-Once.ensures.nodes)
 
 pub returns-in-Body-3-clause-replies : goal.returns-in-Body-3-clause-replies
 returns-in-Body-3-clause-replies g c =
@@ -69,7 +71,8 @@ returns-in-Body-3-clause-replies g c =
 
 pub returns-in-Raises-3-clause-replies : goal.returns-in-Raises-3-clause-replies
 returns-in-Raises-3-clause-replies g c =
-    rw c.in-Not.is (not_error _ _ _ _ (meaning (g.S.Store.present c.args.store.now) c.args.goal) c.in-Raises-3.ball (rw c.in-Raises-3.is at c.in_ok-place-in-Not.ensures.placed) ? ? c.in_ok-place-in-Not.ensures.nodes)
+    let kept = rw c.in-Raises-3.is at c.in_ok-place-in-Not.ensures.raises in
+    rw c.in-Not.is (not_error _ _ _ _ (meaning (g.S.Store.present c.args.store.now) c.args.goal) c.in-Raises-3.ball (rw c.in-Raises-3.is at c.in_ok-place-in-Not.ensures.placed) kept.0 kept.1 c.in_ok-place-in-Not.ensures.nodes)
 
 -- ---- catches, balls and the session's end
 
@@ -90,7 +93,7 @@ halted-requires-clause-some g c =
 
 pub returns-in_ok-place_argument-in-Catch-clause-replies : goal.returns-in_ok-place_argument-in-Catch-clause-replies
 returns-in_ok-place_argument-in-Catch-clause-replies g c =
-    rw c.in-Catch.is (catch_placed _ _ _ _ (meaning (g.S.Store.present c.args.store.now) c.args.goal) c.in_ok-place_argument-in-Catch.field-0 c.in_ok-place_argument-in-Catch.ensures.placed ? c.in_ok-place_argument-in-Catch.ensures.nodes)
+    rw c.in-Catch.is (catch_placed _ _ _ _ (meaning (g.S.Store.present c.args.store.now) c.args.goal) c.in_ok-place_argument-in-Catch.field-0 c.in_ok-place_argument-in-Catch.ensures.placed c.in_ok-place_argument-in-Catch.ensures.raises c.in_ok-place_argument-in-Catch.ensures.nodes)
 
 pub returns-in-HaltWith-clause-replies : goal.returns-in-HaltWith-clause-replies
 returns-in-HaltWith-clause-replies g c =
