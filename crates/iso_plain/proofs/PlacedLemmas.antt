@@ -1,18 +1,18 @@
 -- What running a goal comes to.
-use Rattle.std.proofs.Common.{◌≡◌, ℕ, ◌+◌, ◌<◌, List, [], ◌∷◌, map, true, false, refl, sym, ap, ap₂, ◌∙◌, subst, arith, Option, Some, None, nat_lt, if◌then◌else◌}
+use Rattle.std.proofs.Common.{◌≡◌, ℕ, List, [], ◌∷◌, map, true, false, refl, sym, ap, ap₂, ◌∙◌, subst, arith, Option, Some, nat_lt, if◌then◌else◌}
 use Rattle.std.proofs.lemmas.Bool.{false≢true, ltb-true}
 use Rattle.iso_model.specs.Terms.Trees.{Tree, Variable, Integer, Name, Apply, End, More, count, row}
 use Rattle.iso_model.specs.Terms.Arguments.{arity}
 use Rattle.iso_model.specs.Terms.Substitutions.{apply}
 use Rattle.iso_model.specs.Search.Bodies.{Body, Run, converted, map_body}
 use Rattle.iso_model.specs.Search.BuiltIns.{Reply, Raises, goal_reply, converted_reply}
-use Rattle.iso_model.specs.Search.Errors.{Key, type_error_callable, max_arity_error}
+use Rattle.iso_model.specs.Search.Errors.{Key, max_arity_error}
 use Rattle.iso_store_core.specs.Presents.{Present, Makes, meaning}
 use Rattle.iso_plain.specs.declared.bodies.Node.{Node}
 use Rattle.iso_plain.specs.declared.goals.Placed.{Placed}
 use Rattle.iso_plain.specs.declared.goals.Placed.TheVariants as placed
 use Rattle.iso_plain.specs.Entering.{Extends}
-use Rattle.iso_plain.specs.Replies.{Places, IsBound, limited, IsRunAs}
+use Rattle.iso_plain.specs.Replies.{IsBound, limited, IsRunAs}
 use Rattle.iso_plain.proofs.EnteringLemmas.{extends_on}
 use Rattle.iso_plain.proofs.ConvertedLemmas.{converted_goal, other_arguments}
 
@@ -54,8 +54,7 @@ pub run_on : {W : Type 0} {p r : Present W} (more : Extends p r 0) (q : Present 
 run_on {p = p} {r = r} more q old new first second (placed.Body place) same h =
     let at = h.2 in
     let behind : Extends r q 0 = record { words = at.words; substitution = at.substitution; next = (let n = at.next in omega (arith, n)) } in
-    let whole : Extends p q 0 = extends_on more behind in
-    (
+    let whole : Extends p q 0 = extends_on more behind in (
       h.0,
       λ runs. same runs ∙ h.1 runs,
       record {
