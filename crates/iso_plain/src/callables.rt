@@ -101,7 +101,10 @@ fn insert_built_in<S: Store>(
 }
 
 /// The language's own procedures, whose names get atoms. The error is that memory was refused.
-pub fn of_built_ins<S: Store>(alloc: Global, store: &mut S) -> Result<Vec<Vec<Callable>>, AllocError>
+pub fn of_built_ins<S: Store>(
+    alloc: Global,
+    store: &mut S,
+) -> Result<Vec<Vec<Callable>>, AllocError>
     ensures found { IfOk result (λ rows. Indexes (S.names store.new) rows.items (λ k. option_map Callee.BuiltIn (built_in k))) }
     ensures present { S.present store.new ≡ S.present store.old }
 {
