@@ -1,5 +1,5 @@
 -- What is called, as procedures come and clauses are added to them.
-use Rattle.std.proofs.Common.{◌≡◌, ◌<◌, ◌+◌, ◌==◌, ℕ, suc, List, [], ◌∷◌, ◌++◌, length, get_or, set, refl, sym, ap, ap₂, ◌∙◌, subst, arith, Bool, true, false, ◌&&◌, Some, None, Option, option_map, if◌then◌else◌, inl, inr, position, slice_get, Vec, Global}
+use Rattle.std.proofs.Common.{◌≡◌, ◌<◌, ◌+◌, ◌==◌, ℕ, suc, List, [], ◌∷◌, ◌++◌, length, get_or, set, refl, sym, ap, ap₂, ◌∙◌, subst, arith, Bool, true, false, ◌&&◌, ◌||◌, Some, None, Option, option_map, if◌then◌else◌, inl, inr, position, slice_get, Vec, Global}
 use Rattle.std.specs.Option.{option_or}
 use Rattle.std.specs.String.{string_bytes}
 use Rattle.std.specs.Str.{bytes_eq}
@@ -8,7 +8,7 @@ use Rattle.std.proofs.lemmas.List.{length-set}
 use Rattle.std.proofs.lemmas.List.Folds.{position_or_len-set}
 use Rattle.iso_model.specs.Search.Databases as databases
 use Rattle.iso_model.specs.Search.Databases.{Key, Procedures, key, same_key, at_end, with_clause}
-use Rattle.iso_model.specs.Search.BuiltIns.{built_in}
+use Rattle.iso_model.specs.Search.BuiltIns.{built_in, is_built_in, is_control, is_some_built_in}
 use Rattle.iso_model.specs.declared.built_ins.BuiltIn.{BuiltIn}
 use Rattle.iso_store_core.proofs.AtomLemmas.{text-is}
 use Rattle.iso_plain.specs.declared.callables.Callable.{Callable}
@@ -49,6 +49,21 @@ no_parts None None h = (refl, refl)
 
 pub called_none : (ps : List Procedure) (k : Key) → callee_of ps k ≡ None → (built_in k ≡ None) × (place_at ps k ≡ None)
 called_none ps k h = no_parts (built_in k) (place_at ps k) h
+
+-- what is no built-in and no control construct is no built-in
+pub user_alone : (k : Key) → is_built_in k ≡ false → built_in k ≡ None
+user_alone k h = by_or (is_control k) (built_in k) h where
+  by_or : (control : Bool) (o : Option BuiltIn) → control || is_some_built_in o ≡ false → o ≡ None
+  by_or control None h = refl
+  by_or true (Some b) h = absurd (cc h)
+  by_or false (Some b) h = absurd (cc h)
+
+-- without procedures a key calls a built-in alone
+pub callee_first : (k : Key) → callee_of [] k ≡ option_map callee.BuiltIn (built_in k)
+callee_first k = alone (built_in k) where
+  alone : (o : Option BuiltIn) → option_or (option_map callee.BuiltIn o) (option_map callee.User None) ≡ option_map callee.BuiltIn o
+  alone (Some b) = refl
+  alone None = refl
 
 -- ---- procedures come
 

@@ -33,12 +33,12 @@ pub later_cost : (n j r : ℕ) → n < 2 ^ 63 → left_cost (n - j) r ≤ left_c
 later_cost n j r few = left_higher most (n - j) r (below_most (n - j) (omega (arith, few)))
 
 -- what comes next behind a clause that was tried
-pub entered_least : {names : List (List ℕ)} {W : Type 0} (p q : Present W) (old : List (Node W)) (nodes : Vec (Node W) Global) (call : Tree) (clause : Clause) (frames : List Frame) (mark : ℕ) (rest : Option ℕ)
+pub entered_least : {W : Type 0} (names : List (List ℕ)) (p q : Present W) (old : List (Node W)) (nodes : Vec (Node W) Global) (call : Tree) (clause : Clause) (frames : List Frame) (mark : ℕ) (rest : Option ℕ)
     → now_cost (frame_costs frames) (now_behind frames rest) ≡ place_cost frames rest → (entered : Entered) → Enters names p q old nodes.items call clause entered
     → now_cost (frame_costs frames) (now_entered frames entered mark rest) ≤ body_cost most (place_cost frames rest)
-entered_least p q old nodes call clause frames mark rest behind entered.Missed h = omega arith
-entered_least p q old nodes call clause frames mark rest behind entered.Fact h = (let up = cost_above most (place_cost frames rest) in omega (arith, behind, up))
-entered_least p q old nodes call clause frames mark rest behind (entered.Body place) h =
+entered_least names p q old nodes call clause frames mark rest behind entered.Missed h = omega arith
+entered_least names p q old nodes call clause frames mark rest behind entered.Fact h = (let up = cost_above most (place_cost frames rest) in omega (arith, behind, up))
+entered_least names p q old nodes call clause frames mark rest behind (entered.Body place) h =
     let end = h.2 in
     let many = nodes.ok.0 in
     let within = nodes.ok.1 in

@@ -15,7 +15,7 @@ use Rattle.iso_model.specs.Search.Walker.{State, Member, Goal, tried_clause, bef
 use Rattle.iso_model.proofs.Search.CallLemmas.{clause_found, clause_missed}
 use Rattle.iso_store_core.specs.Presents.{Present, KeepsMarks}
 use Rattle.iso_plain.specs.Nodes.{EndsWith, ArePartsOf}
-use Rattle.iso_plain.specs.Written.{term_in}
+use Rattle.iso_plain.specs.Written.{IsPatternOf, term_in}
 use Rattle.iso_plain.specs.declared.bodies.Node.{Node}
 use Rattle.iso_plain.specs.declared.clauses.Clause.{Clause}
 use Rattle.iso_plain.specs.declared.entries.Entered.{Entered}
@@ -60,16 +60,16 @@ true_renamed n (If a b) = refl
 true_renamed n (Choose a b c) = refl
 
 -- a clause without parts has the body `true`, also with its variables renamed
-fact_true : {G : Type 0} {Stands : G → Tree → Type 0} (n : ℕ) (parts : List (Node G)) (b : Body) → ArePartsOf Stands parts b → parts ≡ [] → is_true (map_body (renaming_from n) b) ≡ true
-fact_true {Stands = Stands} n parts b h none =
+fact_true : {G : Type 0} (Stands : G → Tree → Type 0) (n : ℕ) (parts : List (Node G)) (b : Body) → ArePartsOf Stands parts b → parts ≡ [] → is_true (map_body (renaming_from n) b) ≡ true
+fact_true Stands n parts b h none =
     elim (cases_Bool (is_true b)) [
       | inl fact ↦ true_renamed n b ∙ fact
       | inr other ↦ absurd (let ends : EndsWith Stands parts b = rw other at h in let some = ends.some in let many = ap length none in omega (arith, some, many))
     ]
 
 -- one with parts has another
-body_untrue : {G : Type 0} {Stands : G → Tree → Type 0} (n : ℕ) (parts : List (Node G)) (b : Body) → ArePartsOf Stands parts b → 0 < length parts → (is_true (map_body (renaming_from n) b) ≡ false) × EndsWith Stands parts b
-body_untrue {Stands = Stands} n parts b h some =
+body_untrue : {G : Type 0} (Stands : G → Tree → Type 0) (n : ℕ) (parts : List (Node G)) (b : Body) → ArePartsOf Stands parts b → 0 < length parts → (is_true (map_body (renaming_from n) b) ≡ false) × EndsWith Stands parts b
+body_untrue Stands n parts b h some =
     elim (cases_Bool (is_true b)) [
       | inl fact ↦ absurd (let none : parts ≡ [] = rw fact at h in let many = ap length none in omega (arith, some, many))
       | inr other ↦ (true_renamed n b ∙ other, rw other at h)
@@ -150,7 +150,7 @@ module _ {S W M : Type 0} (names : S → List (List ℕ)) (present : S → Prese
     pub fact_engine : Meets p q (p.term attempt.goal) (term_in (names e.store) k.head) k.variables → k.parts.items ≡ []
         → IsEngine names present stands older (onward e store nodes (now_behind e.frames.items attempt.rest)) (tried_clause call c mark behind s)
     fact_engine m none =
-        let fact = before_fact (map_body (renaming_from s.next) c.body) mark behind (fact_true s.next k.parts.items c.body t.is.parts none) in
+        let fact = before_fact (map_body (renaming_from s.next) c.body) mark behind (fact_true (IsPatternOf (names e.store)) s.next k.parts.items c.body t.is.parts none) in
         let v : State = record s { list = before (map_body (renaming_from s.next) c.body) mark behind; subst = compose s.subst m.unifier; next = s.next + c.variables; built = s.built + clause_size c } in
         let next : DoesNext q links e.query.items (now_behind e.frames.items attempt.rest) (option_map (λ b. term_of b.term) e.raised) v =
         next_behind q links e.query.items (option_map (λ b. term_of b.term) e.raised) v attempt.rest behind fact (chain_more links links_add m.words (t.calls).at.on.chain) (goes_on m v.list) in
@@ -162,7 +162,7 @@ module _ {S W M : Type 0} (names : S → List (List ℕ)) (present : S → Prese
     body_engine place m copies end some =
         let b = map_body (renaming_from s.next) c.body in
         let f : Frame = record { todo = todo.Body place; mark = mark; next = attempt.rest } in
-        let body = body_untrue s.next k.parts.items c.body t.is.parts some in
+        let body = body_untrue (IsPatternOf (names e.store)) s.next k.parts.items c.body t.is.parts some in
         let v : State = record s { list = before b mark behind; subst = compose s.subst m.unifier; next = s.next + c.variables; built = s.built + clause_size c } in
         let at : IsBody q nodes.items place (map_body (renaming_from p.next) c.body) = placed_body (names e.store) q (renaming_from p.next) c.variables e.nodes.items nodes.items k.parts.items c.body place body.1 t.is.goal_templates copies end in
         let here : IsBody q nodes.items place b = subst (λ (n : ℕ). IsBody q nodes.items place (map_body (renaming_from n) c.body)) (t.calls).at.on.next_is at in

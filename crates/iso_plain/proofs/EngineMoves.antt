@@ -1,5 +1,5 @@
 -- A call of `resume` is moves up to an event.
-use Rattle.std.proofs.Common.{◌≡◌, ap, ◌∙◌, Result, Ok, Err}
+use Rattle.std.proofs.Common.{ℕ, List, ◌≡◌, ap, ◌∙◌, Result, Ok, Err}
 use Rattle.iso_model.specs.Search.Walker.{State, World, idle}
 use Rattle.iso_model.specs.Search.Additions.{Addition, Adds, Refuses}
 use Rattle.iso_model.specs.declared.pauses.AddFault.{AddFault}

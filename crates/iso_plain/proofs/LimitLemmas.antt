@@ -1,10 +1,12 @@
 -- Where the frames are full the search has as many alternatives.
-use Rattle.std.proofs.Common.{ℕ, List, refl, ◌∙◌, Result, Ok, Err}
+use Rattle.std.proofs.Common.{ℕ, List, refl, ◌∙◌, Result, Ok, Err, Vec, Global}
+use Rattle.iso_atoms.specs.Texts.{KeepsTexts}
 use Rattle.iso_model.specs.declared.pauses.Pause.{Pause}
 use Rattle.iso_model.specs.declared.pauses.Pause.TheVariants as pause
 use Rattle.iso_store_core.specs.declared.shapes.StoreFault.{StoreFault}
 use Rattle.iso_plain.specs.declared.plain.Move.{Move}
 use Rattle.iso_plain.specs.declared.plain.Move.TheVariants as move
+use Rattle.iso_plain.specs.declared.bodies.Node.{Node}
 use Rattle.iso_plain.specs.Stays.{Stays}
 use Rattle.iso_plain.specs.declared.plain.Plain.{Plain}
 use Rattle.iso_plain.specs.Limits.{WhereFull, MoveFull, ResultFull}
@@ -36,7 +38,7 @@ result_full (Err e) f h = tt
 -- ---- what stays
 
 pub stays_same : {S W M : Type 0} (names : S → List (List ℕ)) (e : Plain S W M) → Stays names e e
-stays_same names e = record { limit = refl; settings = refl; procedures = refl; callables = refl; controls = refl; names_kept = all_texts; within = λ h. h }
+stays_same names e = record { limit = refl; settings = refl; procedures = refl; callables = refl; controls = refl; names_kept = all_texts (names e.store); within = λ h. h }
 
 pub stays_on : {S W M : Type 0} (names : S → List (List ℕ)) {old between new : Plain S W M} → Stays names old between → Stays names between new → Stays names old new
 stays_on names {old = old} {between = between} {new = new} a b = record {
@@ -47,4 +49,17 @@ stays_on names {old = old} {between = between} {new = new} a b = record {
   controls = b.controls ∙ a.controls;
   names_kept = keeps-then (names old.store) (names between.store) (names new.store) a.names_kept b.names_kept;
   within = λ h. b.within (a.within h);
+}
+
+-- behind a goal of a built-in, which took a step
+pub stays_behind : {S W M : Type 0} (names : S → List (List ℕ)) {old new : Plain S W M} (store : S) (nodes : Vec (Node W) Global) (steps : ℕ) → KeepsTexts (names old.store) (names store)
+    → Stays names (record old { store = store; nodes = nodes; steps = steps }) new → Stays names old new
+stays_behind names {old = old} {new = new} store nodes steps texts b = record {
+  limit = b.limit;
+  settings = b.settings;
+  procedures = b.procedures;
+  callables = b.callables;
+  controls = b.controls;
+  names_kept = keeps-then (names old.store) (names store) (names new.store) texts b.names_kept;
+  within = b.within;
 }

@@ -154,7 +154,7 @@ module _ {S W M : Type 0} {names : S → List (List ℕ)} {present : S → Prese
   -- with other procedures
   pub idle_again : {e f : Plain S W M} {w after : World} → IsEngine names present stands older e (idle w) → f.now ≡ now.Idle → present f.store ≡ present e.store → KeepsMarks (stands e.store) (stands f.store) → f.base ≡ e.base → f.choices ≡ e.choices → f.steps ≡ e.steps
       → IsWorld names f after → IsEngine names present stands older f (idle after)
-  idle_again {stands = stands} {e = e} {f = f} h idle same keeps base choices steps world = record {
+  idle_again {e = e} {f = f} h idle same keeps base choices steps world = record {
     world = world;
     steps = h.steps ∙ sym steps;
     base = rw base (base_kept (stands e.store) (stands f.store) e.base keeps h.base);
@@ -175,3 +175,9 @@ module _ {S W M : Type 0} {names : S → List (List ℕ)} {present : S → Prese
     no_memory : (a : Addition) → Comes names present stands older a w (Err add.NoMemory) e
     no_memory (Adds after) = engine
     no_memory (Refuses error) = engine
+
+  -- memory was refused while it was added
+  pub unadded : (a : Addition) (w : World) (r : Result Unit AddFault) (f : Plain S W M) → IsErrAnd r (λ x. x ≡ add.NoMemory) → IsEngine names present stands older f (idle w) → Comes names present stands older a w r f
+  unadded (Adds after) w (Err x) f is engine = rw is engine
+  unadded (Refuses error) w (Err x) f is engine = rw is engine
+  unadded a w (Ok u) f is engine = absurd is

@@ -20,8 +20,8 @@ use Rattle.iso_plain.proofs.WrittenLemmas.{clause_kept}
 pub same_texts : {old new : List (List ℕ)} → new ≡ old → KeepsTexts old new
 same_texts {old = old} e = subst (λ (texts : List (List ℕ)). KeepsTexts old texts) (sym e) (λ place text h. h)
 
-pub all_texts : {texts : List (List ℕ)} → KeepsTexts texts texts
-all_texts = λ place text h. h
+pub all_texts : (texts : List (List ℕ)) → KeepsTexts texts texts
+all_texts texts = λ place text h. h
 
 module _ {old new : List (List ℕ)} (keeps : KeepsTexts old new) where
   clauses_kept : {ks : List Clause} {cs : List databases.Clause} → AreClauses old ks cs → AreClauses new ks cs

@@ -1,5 +1,5 @@
 -- How a run begins, and how a clause comes to the database.
-use Rattle.std.specs.Prelude.{◌≡◌, [], Some, true, Result, Ok, Err}
+use Rattle.std.specs.Prelude.{◌≡◌, ℕ, List, [], Some, true, Result, Ok, Err}
 use Rattle.iso_model.specs.Terms.Trees.{Tree, Variable}
 use Rattle.iso_model.specs.Terms.Sorts.{is_term}
 use Rattle.iso_model.specs.Terms.Variables.{variable_count}

@@ -100,18 +100,22 @@ fn insert_built_in<S: Store>(
     insert(alloc, callables, name, arity, Callee::BuiltIn(built_in))
 }
 
-/// The language's own procedures, whose names get atoms. The error is that memory was refused.
-pub fn of_built_ins<S: Store>(
-    alloc: Global,
-    store: &mut S,
-) -> Result<Vec<Vec<Callable>>, AllocError>
-    ensures found { IfOk result (λ rows. Indexes (S.names store.new) rows.items (λ k. option_map Callee.BuiltIn (built_in k))) }
+/// What goals of these procedures of the language itself call, whose names get atoms. The error is that memory was refused.
+fn of_rows<S: Store>(alloc: Global, store: &mut S, rows: &[Row]) -> Result<Vec<Vec<Callable>>, AllocError>
+    ensures found { IfOk result (λ callables. Indexes (S.names store.new) callables.items (callee_among rows.now)) }
     ensures present { S.present store.new ≡ S.present store.old }
 {
     let mut callables = Vec::new(alloc);
-    let rows = built_in_rows();
     for row in rows {
         insert_built_in(alloc, store, &mut callables, row)?;
     }
     Ok(callables)
+}
+
+/// What goals of the language's own procedures call. The error is that memory was refused.
+pub fn of_built_ins<S: Store>(alloc: Global, store: &mut S) -> Result<Vec<Vec<Callable>>, AllocError>
+    ensures found { IfOk result (λ rows. Indexes (S.names store.new) rows.items (λ k. option_map Callee.BuiltIn (built_in k))) }
+    ensures present { S.present store.new ≡ S.present store.old }
+{
+    of_rows(alloc, store, built_in_rows())
 }

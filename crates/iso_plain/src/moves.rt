@@ -1,5 +1,6 @@
 //! The engine's moves: each is some steps of the standard's search (7.7).
 ghost use Rattle.std.specs.Prelude.{◌≡◌, ◌≢◌, ℕ, ◌<◌, ◌≤◌, ◌+◌, true, false, IfOk, OnOk, OnErr, Ok, List, ◌∷◌, length, Err};
+ghost use Rattle.iso_atoms.specs.Texts.{KeepsTexts};
 ghost use Rattle.iso_model.specs.Terms.Trees.{Tree};
 ghost use Rattle.iso_model.specs.Search.Databases as databases;
 ghost use Rattle.iso_model.specs.Search.Databases.{Procedures};
@@ -117,6 +118,9 @@ impl<S: Store + Drop> Plain<S> {
         ensures limit { self.new.limit ≡ self.old.limit }
         ensures settings { settings_of self.new ≡ settings_of self.old }
         ensures procedures { self.new.procedures ≡ self.old.procedures }
+        ensures callables { self.new.callables ≡ self.old.callables }
+        ensures controls { self.new.controls ≡ self.old.controls }
+        ensures names { KeepsTexts (S.names self.old.store) (S.names self.new.store) }
     {
         let clause = attempt.clause + 1;
         keep_choice(

@@ -135,6 +135,7 @@ impl<S: Store + Drop> Plain<S> {
     pub(crate) fn add(&mut self, clause: &Term) -> Result<(), AddFault>
         requires fits { arities_fit (term_of clause.now) ≡ true }
         requires now { self.old.now ≡ Idle }
+        requires engine { (w : World) × IsEngine S.names S.present S.stands S.older self.old (idle w) }
         ensures comes { (w : World) → IsEngine S.names S.present S.stands S.older self.old (idle w)
             → Comes S.names S.present S.stands S.older (consulted (term_of clause.now) w.database) w result self.new }
         ensures now { self.new.now ≡ self.old.now }

@@ -1,18 +1,102 @@
-use Rattle.std.proofs.Common.{refl}
+use Rattle.std.proofs.Common.{◌≡◌, ℕ, List, Some, slice_get, refl, sym, ap, ◌∙◌, subst}
+use Rattle.iso_atoms.specs.Texts.{EachOnce, KeepsTexts}
+use Rattle.iso_model.specs.Search.Walker.{World, idle}
+use Rattle.iso_store_core.specs.Presents.{Present}
+use Rattle.iso_plain.specs.EngineStates.{IsEngine}
+use Rattle.iso_plain.specs.Programs.{IsDatabase}
+use Rattle.iso_plain.specs.declared.plain.Plain.{Plain}
+use Rattle.iso_plain.proofs.CallableLemmas.{index_kept}
 use Rattle.iso_model.specs.Terms.TermOf.{term_of}
-use Rattle.iso_model.specs.Search.Additions.{clause_of}
-use Rattle.iso_plain.proofs.StartLemmas.{idle_again, refused}
+use Rattle.iso_model.specs.Search.Additions.{clause_of, consulted}
+use Rattle.iso_model.specs.Search.Databases.{Key, with_clause, at_end}
+use Rattle.iso_model.specs.Search.BuiltIns.{is_built_in}
+use Rattle.iso_model.specs.Search.Errors.{key}
+use Rattle.iso_store_core.proofs.AtomLemmas.{keeps-then}
+use Rattle.iso_plain.specs.Adding.{IsFound}
+use Rattle.iso_plain.specs.Callables.{callee_of}
+use Rattle.iso_plain.specs.declared.procedures.Functor.{Functor}
+use Rattle.iso_plain.proofs.ControlNames.{controls-kept}
+use Rattle.iso_plain.proofs.StartLemmas.{idle_again, refused, unadded}
+use Rattle.iso_plain.proofs.WorldLemmas.{world_on, database_kept}
+use Rattle.iso_plain.proofs.WrittenLemmas.{clause_kept}
+use Rattle.iso_plain.proofs.AddingLemmas.{user_alone}
 use Rattle.iso_plain.proofs.plain.Plain.add.Goals as goal
+
+-- the key of a head that has one
+one_key : (k j : Key) → Some k ≡ Some j → k ≡ j
+one_key k j h = cc h
+
+pub add-requires-clause-user : goal.add-requires-clause-user
+add-requires-clause-user g c =
+    let added = c.in_ok-checked.ensures in
+    let same = one_key (key c.in-Some.text.now c.in-Some.arity) added.key (sym c.in-Some.ensures ∙ added.named) in
+    user_alone (key c.in-Some.text.now c.in-Some.arity) (ap is_built_in same ∙ added.user)
+
+-- what is called was found before the clause came, and still is behind the names that came
+found : {S W M : Type 0} (names : S → List (List ℕ)) (present : S → Present W) (stands : S → M → Present W → Type 0) (older : M → M → Type 0) (e : Plain S W M) (w : World) (first last : S) (f : Functor) (text : List ℕ)
+    → IsEngine names present stands older e (idle w) → KeepsTexts (names e.store) (names first) → KeepsTexts (names first) (names last) → EachOnce (names last) → slice_get (names last) f.name ≡ Some text
+    → IsFound (names last) f text e.procedures.items e.callables.items
+found names present stands older e w first last f text h one other once place = record {
+  each_once = once;
+  atom = place;
+  found = index_kept (names e.store) (names last) e.callables.items (callee_of e.procedures.items) (keeps-then (names e.store) (names first) (names last) one other) h.world.found;
+}
+
+pub add-requires-clause-named : goal.add-requires-clause-named
+add-requires-clause-named g c =
+    let e = c.args.self.now in
+    let f : Functor = record { name = c.in_ok-name.name; arity = c.in-Some.arity } in
+    (g.S.Store.names c.intern.new.self, found g.S.Store.names g.S.Store.present g.S.Store.stands g.S.Store.older e c.requires.engine.0 c.written_clause.new.store c.intern.new.self f c.in-Some.text.now c.requires.engine.1
+    c.in_ok-kept.ensures.names c.in_ok-name.ensures.names c.in_ok-name.ensures.each_once c.in_ok-name.ensures.place)
 
 pub returns-clause-comes : goal.returns-clause-comes
 returns-clause-comes g c = λ w h.
-    (let added = c.in_ok-prepared.ensures in
-    rw added.fits (idle_again h c.requires.now refl refl refl refl
+    (let e = c.args.self.now in
+    let t = term_of c.args.clause.now in
+    let added = c.in_ok-checked.ensures in
+    let same = one_key (key c.in-Some.text.now c.in-Some.arity) added.key (sym c.in-Some.ensures ∙ added.named) in
+    let first = g.S.Store.names c.written_clause.new.store in
+    let last = g.S.Store.names c.intern.new.self in
+    let f : Functor = record { name = c.in_ok-name.name; arity = c.in-Some.arity } in
+    let new = clause_of t added.body w.database.added in
+    let kept = clause_kept first last c.in_ok-name.ensures.names c.in_ok-kept.kept new (c.in_ok-kept.ensures.clause new (added.clause w.database.added)) in
+    let is_found = found g.S.Store.names g.S.Store.present g.S.Store.stands g.S.Store.older e w c.written_clause.new.store c.intern.new.self f c.in-Some.text.now h c.in_ok-kept.ensures.names c.in_ok-name.ensures.names c.in_ok-name.ensures.each_once c.in_ok-name.ensures.place in
+    let texts = keeps-then (g.S.Store.names e.store) first last c.in_ok-kept.ensures.names c.in_ok-name.ensures.names in
+    let stood = world_on texts h.world in
+    let came = c.in_ok-add.ensures.ok last w.database.procedures new is_found stood.procedures_are kept in
+    rw added.fits (idle_again h c.requires.now (c.in_ok-name.ensures.present ∙ c.in_ok-kept.ensures.present) (λ m p k. c.in_ok-name.ensures.marks m p (c.in_ok-kept.ensures.marks m p k)) refl refl refl
     (record {
-      procedures_are = c.in_ok-add.ensures.ok w.database.procedures (clause_of (term_of c.args.clause.now) added.body w.database.added) added.key h.world.procedures_are (added.clause w.database.added) added.named;
-      operators_are = h.world.operators_are;
-      flags_are = h.world.flags_are;
+      procedures_are = subst (λ (k : Key). IsDatabase last c.add.new.database.items (with_clause at_end w.database.procedures k new)) same came.0;
+      found = came.1;
+      controls_are = stood.controls_are;
+      operators_are = stood.operators_are;
+      flags_are = stood.flags_are;
     })))
 
-pub returns-in_err-prepared-clause-comes : goal.returns-in_err-prepared-clause-comes
-returns-in_err-prepared-clause-comes g c = λ w h. refused (term_of c.args.clause.now) w c.from_residual.result _ c.args.self.now c.in_err-prepared.ensures c.from_residual.ensures.1 h
+pub returns-in_err-checked-clause-comes : goal.returns-in_err-checked-clause-comes
+returns-in_err-checked-clause-comes g c = λ w h. refused (term_of c.args.clause.now) w c.from_residual.result _ c.args.self.now c.in_err-checked.ensures c.from_residual.ensures.1 h
+
+-- memory was refused before the clause came
+pub returns-in_err-kept-clause-comes : goal.returns-in_err-kept-clause-comes
+returns-in_err-kept-clause-comes g c = λ w h.
+    (let ensures = c.in_err-kept.ensures in
+    unadded (consulted (term_of c.args.clause.now) w.database) w c.from_residual-in_err-kept.result _ c.from_residual-in_err-kept.ensures.1
+    (idle_again h c.requires.now ensures.present ensures.marks refl refl refl (world_on ensures.names h.world)))
+
+pub returns-in_err-name-clause-comes : goal.returns-in_err-name-clause-comes
+returns-in_err-name-clause-comes g c = λ w h.
+    (let before = c.in_ok-kept.ensures in
+    let ensures = c.in_err-name.ensures in
+    unadded (consulted (term_of c.args.clause.now) w.database) w c.from_residual-in_err-name.result _ c.from_residual-in_err-name.ensures.1
+    (idle_again h c.requires.now (ensures.present ∙ before.present) (λ m p k. ensures.marks m p (before.marks m p k)) refl refl refl (world_on ensures.names (world_on before.names h.world))))
+
+pub returns-in_err-add-clause-comes : goal.returns-in_err-add-clause-comes
+returns-in_err-add-clause-comes g c = λ w h.
+    (let before = c.in_ok-kept.ensures in
+    let ensures = c.in_ok-name.ensures in
+    let last = g.S.Store.names c.intern.new.self in
+    let stood = world_on ensures.names (world_on before.names h.world) in
+    let same = c.in_err-add.ensures.err last w.database.procedures stood.procedures_are stood.found in
+    unadded (consulted (term_of c.args.clause.now) w.database) w c.from_residual-in_err-add.result _ c.from_residual-in_err-add.ensures.1
+    (idle_again h c.requires.now (ensures.present ∙ before.present) (λ m p k. ensures.marks m p (before.marks m p k)) refl refl refl
+    (record { procedures_are = same.0; found = same.1; controls_are = stood.controls_are; operators_are = stood.operators_are; flags_are = stood.flags_are })))

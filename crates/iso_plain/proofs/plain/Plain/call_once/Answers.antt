@@ -9,7 +9,7 @@ pub returns-in_err-once-clause-kept : goal.returns-in_err-once-clause-kept
 returns-in_err-once-clause-kept g c = λ s h.
     (let e = c.args.self.now in
     let same : c.push_frame.new.frames.items ≡ e.frames.items ++ [] = c.in_err-once.ensures.kept ∙ sym (append-nil e.frames.items) in
-    behind_error c.from_residual.result (keeps_more g.S.Store.names g.S.Store.present g.S.Store.stands g.S.Store.older e e.store e.nodes c.push_frame.new.frames s.world s.stack (keeps_ahead g.S.Store.names g.S.Store.present g.S.Store.stands g.S.Store.older e s c.args.next h) (λ m p k. k) (adds_none e.nodes.items) ([], same)))
+    behind_error c.from_residual.result (keeps_more g.S.Store.names g.S.Store.present g.S.Store.stands g.S.Store.older e e.store e.nodes c.push_frame.new.frames s.world s.stack (keeps_ahead g.S.Store.names g.S.Store.present g.S.Store.stands g.S.Store.older e s c.args.next h) (λ m p k. k) (λ place text h. h) (adds_none e.nodes.items) ([], same)))
 
 pub returns-clause-called : goal.returns-clause-called
 returns-clause-called g c = λ s b h body.

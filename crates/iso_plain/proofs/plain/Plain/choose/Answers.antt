@@ -35,7 +35,7 @@ returns-in_err-other-clause-stopped g c = λ s r.
     (let e = c.args.self.now in
     let same : c.push_frame.new.frames.items ≡ e.frames.items ++ [] = c.in_err-other.ensures.kept ∙ sym (append-nil e.frames.items) in
     behind_error c.from_residual.result (stops_here g.S.Store.names g.S.Store.present g.S.Store.stands g.S.Store.older (record e { frames = c.push_frame.new.frames }) r.own s r.same
-    (keeps_more g.S.Store.names g.S.Store.present g.S.Store.stands g.S.Store.older e e.store e.nodes c.push_frame.new.frames r.own.world r.own.stack (keeps_all g.S.Store.names g.S.Store.present g.S.Store.stands g.S.Store.older e r.own r.engine) (λ m p h. h) (adds_none e.nodes.items) ([], same))))
+    (keeps_more g.S.Store.names g.S.Store.present g.S.Store.stands g.S.Store.older e e.store e.nodes c.push_frame.new.frames r.own.world r.own.stack (keeps_all g.S.Store.names g.S.Store.present g.S.Store.stands g.S.Store.older e r.own r.engine) (λ m p h. h) (λ place text h. h) (adds_none e.nodes.items) ([], same))))
 
 pub returns-in_err-keep_choice-clause-stopped : goal.returns-in_err-keep_choice-clause-stopped
 returns-in_err-keep_choice-clause-stopped g c = λ s r.
@@ -60,7 +60,7 @@ returns-in_err-behind-clause-stopped g c = λ s r.
     behind_error c.from_residual-in_err-behind.result
     (choose_stops g.S.Store.names g.S.Store.present g.S.Store.stands g.S.Store.older e s c.args.frame c.args.place c.requires.now r c.args.condition c.args.next c.push_frame.new.frames c.keep_choice.new.store c.keep_choice.new.choices c.requires.there c.in_ok-other.ensures.pushed
     c.in_ok-keep_choice.ensures.present c.in_ok-keep_choice.ensures.marks c.in_ok-keep_choice.ensures.names gains (record mid { frames = c.push_frame-2.new.frames })
-    (keeps_more g.S.Store.names g.S.Store.present g.S.Store.stands g.S.Store.older mid mid.store mid.nodes c.push_frame-2.new.frames r.own.world stack (keeps_ahead g.S.Store.names g.S.Store.present g.S.Store.stands g.S.Store.older mid _ c.args.frame.next ahead) (λ m p h. h) (adds_none e.nodes.items) ([], same))))
+    (keeps_more g.S.Store.names g.S.Store.present g.S.Store.stands g.S.Store.older mid mid.store mid.nodes c.push_frame-2.new.frames r.own.world stack (keeps_ahead g.S.Store.names g.S.Store.present g.S.Store.stands g.S.Store.older mid _ c.args.frame.next ahead) (λ m p h. h) (λ place text h. h) (adds_none e.nodes.items) ([], same))))
 
 pub returns-in_err-once-clause-stopped : goal.returns-in_err-once-clause-stopped
 returns-in_err-once-clause-stopped g c = λ s r.
@@ -77,7 +77,7 @@ returns-in_err-once-clause-stopped g c = λ s r.
     behind_error c.from_residual-in_err-once.result
     (choose_stops g.S.Store.names g.S.Store.present g.S.Store.stands g.S.Store.older e s c.args.frame c.args.place c.requires.now r c.args.condition c.args.next c.push_frame.new.frames c.keep_choice.new.store c.keep_choice.new.choices c.requires.there c.in_ok-other.ensures.pushed
     c.in_ok-keep_choice.ensures.present c.in_ok-keep_choice.ensures.marks c.in_ok-keep_choice.ensures.names gains (record mid { frames = c.push_frame-3.new.frames })
-    (keeps_more g.S.Store.names g.S.Store.present g.S.Store.stands g.S.Store.older mid mid.store mid.nodes c.push_frame-3.new.frames r.own.world stack (keeps_ahead g.S.Store.names g.S.Store.present g.S.Store.stands g.S.Store.older mid _ c.args.frame.next ahead) (λ m p h. h) (adds_none e.nodes.items) (body_frame c.args.frame _ ∷ [], same))))
+    (keeps_more g.S.Store.names g.S.Store.present g.S.Store.stands g.S.Store.older mid mid.store mid.nodes c.push_frame-3.new.frames r.own.world stack (keeps_ahead g.S.Store.names g.S.Store.present g.S.Store.stands g.S.Store.older mid _ c.args.frame.next ahead) (λ m p h. h) (λ place text h. h) (adds_none e.nodes.items) (body_frame c.args.frame _ ∷ [], same))))
 
 pub returns-clause-moves : goal.returns-clause-moves
 returns-clause-moves g c = λ s r.

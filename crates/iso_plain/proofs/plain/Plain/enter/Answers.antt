@@ -65,5 +65,5 @@ pub returns-clause-cost : goal.returns-clause-cost
 returns-clause-cost g c =
     let e = c.args.self.now in
     rw (c.behind-self.ensures, c.as_slice-2.ensures.value)
-    (entered_least (g.S.Store.present e.store) (g.S.Store.present c.enter.new.store) e.nodes.items c.enter.new.nodes ((g.S.Store.present e.store).term c.args.attempt.goal) c.clause_at-clause.result.now e.frames.items c.args.mark c.args.attempt.rest
+    (entered_least (g.S.Store.names e.store) (g.S.Store.present e.store) (g.S.Store.present c.enter.new.store) e.nodes.items c.enter.new.nodes ((g.S.Store.present e.store).term c.args.attempt.goal) c.clause_at-clause.result.now e.frames.items c.args.mark c.args.attempt.rest
     (behind_cost c.args.attempt.rest c.requires.5.at.on.chain) c.in_ok-entered.entered c.in_ok-entered.ensures.enters)

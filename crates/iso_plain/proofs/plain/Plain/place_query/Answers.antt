@@ -50,6 +50,7 @@ returns-clause-started g c = λ t w q fresh.
     let mid = g.S.Store.present c.new_variables.new.store in
     let after = g.S.Store.present c.copy_parts.new.store in
     let base = fresh.base in
+    let stood = world_on (same_texts (c.in_ok-copy_parts.ensures.names ∙ c.in_ok-variables.ensures.names)) (world_on c.in_ok-parts.ensures.names fresh.world) in
     let ws = c.in_ok-variables.variables.items in
     let vs = c.in_ok-variables.ensures.variables in
     let few = c.variables-count.ensures.few in
@@ -79,7 +80,7 @@ returns-clause-started g c = λ t w q fresh.
       own = s;
       same = same_fresh s refl refl;
       engine = record {
-        world = world_on (same_texts (c.in_ok-copy_parts.ensures.names ∙ c.in_ok-variables.ensures.names)) (world_on c.in_ok-parts.ensures.names fresh.world);
+        world = record { procedures_are = stood.procedures_are; found = stood.found; controls_are = stood.controls_are; operators_are = stood.operators_are; flags_are = stood.flags_are };
         steps = refl;
         base = record { present = base.present; stands_for = c.in_ok-copy_parts.ensures.marks _ _ (c.in_ok-variables.ensures.marks _ _ (c.in_ok-parts.ensures.marks _ _ base.stands_for)); substitution = base.substitution; next = base.next };
         choices = rw fresh.choices none_kept;

@@ -17,7 +17,7 @@ returns-clause-started g c = λ w fresh.
       own = s;
       same = same_fresh s refl refl;
       engine = record {
-        world = fresh.world;
+        world = record { procedures_are = fresh.world.procedures_are; found = fresh.world.found; controls_are = fresh.world.controls_are; operators_are = fresh.world.operators_are; flags_are = fresh.world.flags_are };
         steps = refl;
         base = fresh.base;
         choices = rw fresh.choices none_kept;

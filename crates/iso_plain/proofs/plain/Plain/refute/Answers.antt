@@ -28,7 +28,7 @@ returns-in_err-fail-clause-kept g c = λ s h.
     let mid = record e { store = c.keep_choice.new.store; choices = c.keep_choice.new.choices } in
     let ahead = refute_ahead g.S.Store.names g.S.Store.present g.S.Store.stands g.S.Store.older e s c.args.next h c.keep_choice.new.store c.keep_choice.new.choices c.in_ok-keep_choice.ensures.present c.in_ok-keep_choice.ensures.marks c.in_ok-keep_choice.ensures.names (rw (nodes, frames) at c.in_ok-keep_choice.ensures.gains) in
     let same : c.push_frame.new.frames.items ≡ e.frames.items ++ [] = c.in_err-fail.ensures.kept ∙ sym (append-nil e.frames.items) in
-    behind_error c.from_residual-in_err-fail.result (inr (keeps_more g.S.Store.names g.S.Store.present g.S.Store.stands g.S.Store.older mid mid.store mid.nodes c.push_frame.new.frames s.world (pushed s.list AsIs s).stack (keeps_ahead g.S.Store.names g.S.Store.present g.S.Store.stands g.S.Store.older mid (pushed s.list AsIs s) c.args.next ahead) (λ m p k. k) (adds_none e.nodes.items) ([], same))))
+    behind_error c.from_residual-in_err-fail.result (inr (keeps_more g.S.Store.names g.S.Store.present g.S.Store.stands g.S.Store.older mid mid.store mid.nodes c.push_frame.new.frames s.world (pushed s.list AsIs s).stack (keeps_ahead g.S.Store.names g.S.Store.present g.S.Store.stands g.S.Store.older mid (pushed s.list AsIs s) c.args.next ahead) (λ m p k. k) (λ place text h. h) (adds_none e.nodes.items) ([], same))))
 
 pub returns-in_err-once-clause-kept : goal.returns-in_err-once-clause-kept
 returns-in_err-once-clause-kept g c = λ s h.
@@ -39,7 +39,7 @@ returns-in_err-once-clause-kept g c = λ s h.
     let ahead = refute_ahead g.S.Store.names g.S.Store.present g.S.Store.stands g.S.Store.older e s c.args.next h c.keep_choice.new.store c.keep_choice.new.choices c.in_ok-keep_choice.ensures.present c.in_ok-keep_choice.ensures.marks c.in_ok-keep_choice.ensures.names (rw (nodes, frames) at c.in_ok-keep_choice.ensures.gains) in
     let fail : Frame = record { todo = todo.Fail; mark = c.len-height.result; next = c.args.next } in
     let same : c.push_frame-2.new.frames.items ≡ e.frames.items ++ fail ∷ [] = c.in_err-once.ensures.kept ∙ c.in_ok-fail.ensures.pushed in
-    behind_error c.from_residual-in_err-once.result (inr (keeps_more g.S.Store.names g.S.Store.present g.S.Store.stands g.S.Store.older mid mid.store mid.nodes c.push_frame-2.new.frames s.world (pushed s.list AsIs s).stack (keeps_ahead g.S.Store.names g.S.Store.present g.S.Store.stands g.S.Store.older mid (pushed s.list AsIs s) c.args.next ahead) (λ m p k. k) (adds_none e.nodes.items) (fail ∷ [], same))))
+    behind_error c.from_residual-in_err-once.result (inr (keeps_more g.S.Store.names g.S.Store.present g.S.Store.stands g.S.Store.older mid mid.store mid.nodes c.push_frame-2.new.frames s.world (pushed s.list AsIs s).stack (keeps_ahead g.S.Store.names g.S.Store.present g.S.Store.stands g.S.Store.older mid (pushed s.list AsIs s) c.args.next ahead) (λ m p k. k) (λ place text h. h) (adds_none e.nodes.items) (fail ∷ [], same))))
 
 pub returns-clause-called : goal.returns-clause-called
 returns-clause-called g c = λ s b h body.

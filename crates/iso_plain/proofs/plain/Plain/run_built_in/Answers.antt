@@ -1,11 +1,12 @@
-use Rattle.std.proofs.Common.{◌≡◌, length, ap, refl, subst}
+use Rattle.std.proofs.Common.{◌≡◌, ◌-◌, length, ap, refl, subst}
 use Rattle.std.proofs.lemmas.Result.{on_err_weaker}
 use Rattle.iso_model.specs.Terms.TermOf.{term_of}
 use Rattle.iso_model.specs.Search.BuiltIns.{reply}
 use Rattle.iso_store_core.specs.Presents.{meaning}
 use Rattle.iso_plain.specs.EngineStates.{Falls, cost, weight, phase_of}
 use Rattle.iso_plain.proofs.EnteringLemmas.{adds_none}
-use Rattle.iso_plain.proofs.LimitLemmas.{result_full}
+use Rattle.iso_plain.proofs.LimitLemmas.{result_full, stays_behind}
+use Rattle.iso_plain.proofs.WorldLemmas.{world_on}
 use Rattle.iso_plain.proofs.StandingLemmas.{chain_place}
 use Rattle.iso_plain.proofs.StoppedLemmas.{behind_error, keeps_all, keeps_more}
 use Rattle.iso_plain.proofs.SearchMoves.{stops_here}
@@ -46,7 +47,7 @@ returns-in-Fails-clause-falls g c = fails_falls g.S.Store.names g.S.Store.presen
 
 pub returns-in-Raises-clause-moves : goal.returns-in-Raises-clause-moves
 returns-in-Raises-clause-moves g c = λ s r. (
-  raises_now g.S.Store.names g.S.Store.present g.S.Store.stands g.S.Store.older c.args.self.now c.reply.new.store c.reply.new.nodes s c.args.frame c.args.place c.args.goal c.requires.now c.requires.there r c.requires.steps c.args.built_in c.requires.built_in c.in_ok-replied.ensures.marks c.in_ok-replied.ensures.names c.in_ok-replied.ensures.nodes c.clear.new.self (term_of c.in-Raises.ball.term) (raised_by (g.S.Store.present c.args.self.now.store) (g.S.Store.present c.reply.new.store) c.args.self.now.nodes.items c.reply.new.nodes.items (reply c.args.built_in (meaning (g.S.Store.present c.args.self.now.store) c.args.goal)) c.in-Raises.ball (rw c.in-Raises.is at c.in_ok-replied.ensures.replies)) c.clear.ensures.idle c.clear.ensures.now,
+  raises_now g.S.Store.names g.S.Store.present g.S.Store.stands g.S.Store.older c.args.self.now c.reply.new.store c.reply.new.nodes s c.args.frame c.args.place c.args.goal c.requires.now c.requires.there r c.requires.steps c.args.built_in c.requires.built_in c.in_ok-replied.ensures.marks c.in_ok-replied.ensures.names c.in_ok-replied.ensures.nodes c.clear.new.self (term_of c.in-Raises.ball.term) (raised_by (g.S.Store.present c.args.self.now.store) (g.S.Store.present c.reply.new.store) c.args.self.now.nodes.items c.reply.new.nodes.items (reply c.args.built_in (meaning (g.S.Store.present c.args.self.now.store) c.args.goal)) c.in-Raises.ball (rw c.in-Raises.is at c.in_ok-replied.ensures.replies)) (λ v w. c.clear.ensures.idle v (world_on c.in_ok-replied.ensures.names w)) c.clear.ensures.now,
   ap phase_of c.clear.ensures.now,
 )
 
@@ -142,3 +143,17 @@ pub returns-in-Repeats-clause-frames : goal.returns-in-Repeats-clause-frames
 returns-in-Repeats-clause-frames g c = λ s r.
     (let by = repeats_by (g.S.Store.present c.args.self.now.store) (g.S.Store.present c.reply.new.store) c.args.self.now.nodes.items c.reply.new.nodes.items (reply c.args.built_in (meaning (g.S.Store.present c.args.self.now.store) c.args.goal)) (rw c.in-Repeats.is at c.in_ok-replied.ensures.replies) in
     result_full c.repeat.result (repeat_over g.S.Store.names g.S.Store.present g.S.Store.stands g.S.Store.older c.args.self.now c.reply.new.store c.reply.new.nodes s c.args.frame c.args.place c.args.goal c.requires.now c.requires.there r c.requires.steps c.args.built_in c.requires.built_in c.in_ok-replied.ensures.marks c.in_ok-replied.ensures.names c.in_ok-replied.ensures.nodes by.0 by.1) c.repeat.ensures.frames)
+
+-- ---- what stays
+
+pub returns-in-Raises-clause-stays : goal.returns-in-Raises-clause-stays
+returns-in-Raises-clause-stays g c = stays_behind g.S.Store.names c.reply.new.store c.reply.new.nodes (c.args.self.now.steps - 1) c.in_ok-replied.ensures.names c.clear.ensures.stays
+
+pub returns-in-CallsOnce-clause-stays : goal.returns-in-CallsOnce-clause-stays
+returns-in-CallsOnce-clause-stays g c = stays_behind g.S.Store.names c.reply.new.store c.reply.new.nodes (c.args.self.now.steps - 1) c.in_ok-replied.ensures.names c.call_once.ensures.stays
+
+pub returns-in-Refutes-clause-stays : goal.returns-in-Refutes-clause-stays
+returns-in-Refutes-clause-stays g c = stays_behind g.S.Store.names c.reply.new.store c.reply.new.nodes (c.args.self.now.steps - 1) c.in_ok-replied.ensures.names c.refute.ensures.stays
+
+pub returns-in-Repeats-clause-stays : goal.returns-in-Repeats-clause-stays
+returns-in-Repeats-clause-stays g c = stays_behind g.S.Store.names c.reply.new.store c.reply.new.nodes (c.args.self.now.steps - 1) c.in_ok-replied.ensures.names c.repeat.ensures.stays

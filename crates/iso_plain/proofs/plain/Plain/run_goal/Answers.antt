@@ -14,8 +14,11 @@ use Rattle.iso_plain.proofs.plain.Plain.run_goal.Goals as goal
 pub returns-then-self-eq0-clause-moves : goal.returns-then-self-eq0-clause-moves
 returns-then-self-eq0-clause-moves g c = λ s r. (spends g.S.Store.names g.S.Store.present g.S.Store.stands g.S.Store.older c.args.self.now s c.args.frame c.args.place c.args.goal c.requires.now c.requires.there r c.clear.new.self c.if-self-eq0.true c.clear.ensures.idle c.clear.ensures.now, ap phase_of c.clear.ensures.now)
 
-pub called-requires : goal.called-requires
-called-requires g c = (at g.S.Store.names g.S.Store.present g.S.Store.stands g.S.Store.older c.args.self.now c.requires.stands.0 c.args.frame c.args.place c.args.goal c.requires.now c.requires.there c.requires.stands.1).holds
+pub called-requires-clause-found : goal.called-requires-clause-found
+called-requires-clause-found g c = c.requires.stands.1.engine.world.found
+
+pub called-requires-clause-goal : goal.called-requires-clause-goal
+called-requires-clause-goal g c = (at g.S.Store.names g.S.Store.present g.S.Store.stands g.S.Store.older c.args.self.now c.requires.stands.0 c.args.frame c.args.place c.args.goal c.requires.now c.requires.there c.requires.stands.1).holds
 
 pub returns-in_err-called-clause-stopped : goal.returns-in_err-called-clause-stopped
 returns-in_err-called-clause-stopped g c = λ s r.

@@ -31,7 +31,7 @@ returns-in_err-second-clause-stopped g c = λ s r.
     (let e = c.args.self.now in
     let same : c.push_frame.new.frames.items ≡ e.frames.items ++ [] = c.in_err-second.ensures.kept ∙ sym (append-nil e.frames.items) in
     behind_error c.from_residual.result (stops_here g.S.Store.names g.S.Store.present g.S.Store.stands g.S.Store.older (record e { frames = c.push_frame.new.frames }) r.own s r.same
-    (keeps_more g.S.Store.names g.S.Store.present g.S.Store.stands g.S.Store.older e e.store e.nodes c.push_frame.new.frames r.own.world r.own.stack (keeps_all g.S.Store.names g.S.Store.present g.S.Store.stands g.S.Store.older e r.own r.engine) (λ m p h. h) (adds_none e.nodes.items) ([], same))))
+    (keeps_more g.S.Store.names g.S.Store.present g.S.Store.stands g.S.Store.older e e.store e.nodes c.push_frame.new.frames r.own.world r.own.stack (keeps_all g.S.Store.names g.S.Store.present g.S.Store.stands g.S.Store.older e r.own r.engine) (λ m p h. h) (λ place text h. h) (adds_none e.nodes.items) ([], same))))
 
 pub returns-in_err-keep_choice-clause-stopped : goal.returns-in_err-keep_choice-clause-stopped
 returns-in_err-keep_choice-clause-stopped g c = λ s r.

@@ -1,7 +1,7 @@
 -- The rows before the next one are in.
 use Rattle.std.proofs.Common.{◌≡◌, take}
 use Rattle.iso_plain.specs.Callables.{Indexes, callee_among}
-use Rattle.iso_plain.proofs.callables.of_built_ins.Given as goal
+use Rattle.iso_plain.proofs.callables.of_rows.Given as goal
 
 abbrev pub invariant-loop-row : goal.invariant-loop-row
 invariant-loop-row g l = record {
