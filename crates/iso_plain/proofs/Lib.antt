@@ -31,7 +31,6 @@ pub mod RunCosts
 pub mod EndLemmas
 pub mod CalledLemmas
 pub mod GoalLemmas
-pub mod PlacedLemmas
 pub mod ReplyLemmas
 pub mod RunLemmas
 pub mod CallLemmas

@@ -4,8 +4,7 @@ use Rattle.iso_atoms.specs.Texts.{text_at}
 use Rattle.iso_model.specs.Terms.Arguments.{arity}
 use Rattle.iso_store_core.specs.Presents.{meaning}
 use Rattle.iso_plain.specs.Replies.{HasName, called_of}
-use Rattle.iso_plain.proofs.GoalLemmas.{called_row, called_count, row_length}
-use Rattle.iso_plain.proofs.PlacedLemmas.{made_value}
+use Rattle.iso_plain.proofs.GoalLemmas.{called_row, called_count, row_length, made_value}
 use Rattle.iso_plain.proofs.goals.called_goal.Goals as goal
 
 pub returns-then-argument_count-added-gt-MAX_ARITY-clause-called : goal.returns-then-argument_count-added-gt-MAX_ARITY-clause-called

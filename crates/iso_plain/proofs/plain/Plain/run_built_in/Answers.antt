@@ -18,6 +18,9 @@ use Rattle.iso_plain.proofs.plain.Plain.run_built_in.Goals as goal
 pub reply-requires-clause-goal : goal.reply-requires-clause-goal
 reply-requires-clause-goal g c = (at g.S.Store.names g.S.Store.present g.S.Store.stands g.S.Store.older c.args.self.now c.requires.stands.0 c.args.frame c.args.place c.args.goal c.requires.now c.requires.there c.requires.stands.1).holds
 
+pub reply-requires-clause-controls : goal.reply-requires-clause-controls
+reply-requires-clause-controls g c = c.requires.stands.1.engine.world.controls_are
+
 pub returns-in_err-replied-clause-stopped : goal.returns-in_err-replied-clause-stopped
 returns-in_err-replied-clause-stopped g c = λ s r.
     (let e = c.args.self.now in
