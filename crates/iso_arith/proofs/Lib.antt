@@ -1,0 +1,4 @@
+pub mod RangeLemmas
+pub mod QuotientLemmas
+pub mod PowerLemmas
+pub mod ShiftLemmas

@@ -1,0 +1,8 @@
+//! Values of expressions (ISO/IEC 13211-1:1995, 7.9 and 9), read from a store.
+#![tactic(auto)]
+
+mod faults;
+mod operations;
+mod quotients;
+
+pub use faults::{EvalFault, Refusal};
