@@ -2,3 +2,4 @@ pub mod RangeLemmas
 pub mod QuotientLemmas
 pub mod PowerLemmas
 pub mod ShiftLemmas
+pub mod TableLemmas

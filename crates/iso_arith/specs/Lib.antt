@@ -1,3 +1,4 @@
 pub mod Faults
 pub mod Operations
 pub mod Quotients
+pub mod Tables

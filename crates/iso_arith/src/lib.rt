@@ -4,5 +4,6 @@
 mod faults;
 mod operations;
 mod quotients;
+mod tables;
 
 pub use faults::{EvalFault, Refusal};
