@@ -3,3 +3,4 @@ pub mod QuotientLemmas
 pub mod PowerLemmas
 pub mod ShiftLemmas
 pub mod TableLemmas
+pub mod EvaluableLemmas

@@ -23,16 +23,19 @@ same_names names once a b h k =
 module _ {O : Type 0} where
   -- ---- a table that is made
 
-  names_kept : (old new : List (List ℕ)) → KeepsTexts old new → (table : List (ℕ × O)) → HaveNames old table → map (named_by new) table ≡ map (named_by old) table
+  pub names_kept : (old new : List (List ℕ)) → KeepsTexts old new → (table : List (ℕ × O)) → HaveNames old table → map (named_by new) table ≡ map (named_by old) table
   names_kept old new keeps [] h = refl
   names_kept old new keeps (e ∷ es) h =
       let head : (ℕ × O) → Type 0 = λ x. x.0 < length old in
       ap₂ (λ (t : List ℕ) (ts : List (List ℕ × O)). (t, e.1) ∷ ts) (text-kept old new keeps e.0 (All-head head e es h)) (names_kept old new keeps es (All-tail head e es h))
 
+  pub within_kept : (old new : List (List ℕ)) → KeepsTexts old new → (table : List (ℕ × O)) → HaveNames old table → HaveNames new table
+  within_kept old new keeps table h = All-weaker (λ (e : ℕ × O). e.0 < length old) (λ (e : ℕ × O). e.0 < length new) (λ e. atom-kept old new keeps e.0) table h
+
   -- names may come
   pub table-kept : (old new : List (List ℕ)) → KeepsTexts old new → (table : List (ℕ × O)) (rows : List (List ℕ × O)) → IsTable old table rows → IsTable new table rows
   table-kept old new keeps table rows h = record {
-    within = All-weaker (λ (e : ℕ × O). e.0 < length old) (λ (e : ℕ × O). e.0 < length new) (λ e. atom-kept old new keeps e.0) table h.within;
+    within = within_kept old new keeps table h.within;
     named = names_kept old new keeps table h.within ∙ h.named;
   }
 

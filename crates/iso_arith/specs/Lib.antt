@@ -2,3 +2,4 @@ pub mod Faults
 pub mod Operations
 pub mod Quotients
 pub mod Tables
+pub mod Evaluables
