@@ -4,3 +4,4 @@ pub mod PowerLemmas
 pub mod ShiftLemmas
 pub mod TableLemmas
 pub mod EvaluableLemmas
+pub mod EvaluationLemmas

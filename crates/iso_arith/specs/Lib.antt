@@ -3,3 +3,4 @@ pub mod Operations
 pub mod Quotients
 pub mod Tables
 pub mod Evaluables
+pub mod Evaluations

@@ -2,6 +2,7 @@
 #![tactic(auto)]
 
 mod evaluables;
+mod evaluation;
 mod faults;
 mod operations;
 mod quotients;
