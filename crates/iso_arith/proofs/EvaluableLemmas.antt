@@ -1,12 +1,12 @@
 -- The evaluables: what is found by an atom is the operation of its name.
-use Rattle.std.proofs.Common.{◌≡◌, ◌<◌, ℕ, List, [], ◌∷◌, length, map, Option, Some, None, Bool, true, false, refl, sym, ap, ap₂, ◌∙◌, inl, inr}
+use Rattle.std.proofs.Common.{◌≡◌, ℕ, List, [], ◌∷◌, map, Option, refl, sym, ap, ◌∙◌, inl, inr}
 use Rattle.std.specs.Option.{option_map}
 use Rattle.std.specs.Str.{bytes_eq}
 use Rattle.std.proofs.lemmas.Bool.{cases_Bool}
-use Rattle.iso_atoms.specs.Texts.{EachOnce, KeepsTexts, text_at}
+use Rattle.iso_atoms.specs.Texts.{KeepsTexts, text_at}
 use Rattle.iso_model.specs.Search.Arithmetic.{among}
 use Rattle.iso_arith.specs.declared.evaluables.Evaluables.{Evaluables}
-use Rattle.iso_arith.specs.Tables.{IsTable, HaveNames, named_by}
+use Rattle.iso_arith.specs.Tables.{IsTable, named_by}
 use Rattle.iso_arith.specs.Evaluables.{Means, AreEvaluables, meant_by}
 use Rattle.iso_arith.proofs.TableLemmas.{names_kept, within_kept}
 

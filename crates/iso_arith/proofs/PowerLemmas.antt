@@ -1,5 +1,5 @@
 -- Powers, in range and out of it.
-use Rattle.std.proofs.Common.{◌≡◌, ◌≢◌, ◌^◌, ◌%◌, ◌<◌, ◌≤◌, ℕ, zero, suc, Ok, Err, true, false, arith, refl, sym, ap, ◌∙◌, inl, inr, eqb}
+use Rattle.std.proofs.Common.{◌≡◌, ◌≢◌, ◌^◌, ◌%◌, ◌<◌, ◌≤◌, ℕ, zero, suc, Ok, Err, false, arith, refl, inl, inr, eqb}
 use Rattle.std.specs.Prelude.{ℤ, pos, negsuc, neg_ℤ, unsigned_abs, FitsSigned}
 use Rattle.std.specs.Int.{w64, int_pow}
 use Rattle.std.proofs.lemmas.Bool.{cases_Bool}

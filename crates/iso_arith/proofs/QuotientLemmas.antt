@@ -1,13 +1,12 @@
 -- Quotients that are rounded down, and what they leave.
-use Rattle.std.proofs.Common.{◌≡◌, ◌≢◌, ◌+◌, ◌*◌, ◌/◌, ◌%◌, ◌<◌, ◌≤◌, ℕ, zero, suc, Bool, true, false, arith, refl, sym, ap, ◌∙◌, subst}
-use Rattle.std.specs.Prelude.{ℤ, pos, negsuc, neg_ℤ, ◌-ℤ◌, ◌+ℤ◌, ◌*ℤ◌, int_div, int_rem, int_lt, nat_lt, FitsSigned, if◌then◌else◌}
-use Rattle.std.specs.Int.{w64}
+use Rattle.std.proofs.Common.{◌≡◌, ◌≢◌, ◌*◌, ◌/◌, ◌%◌, ◌<◌, ℕ, zero, suc, true, false, arith, refl, sym, ap}
+use Rattle.std.specs.Prelude.{ℤ, pos, negsuc, neg_ℤ, ◌-ℤ◌, ◌+ℤ◌, int_div, int_rem, int_lt, nat_lt, if◌then◌else◌}
 use Rattle.std.proofs.lemmas.Int.{ints, quot-rem}
 use Rattle.std.proofs.lemmas.Nat.{div-add-mod', mod_below}
 use Rattle.std.proofs.lemmas.Bool.Decides.{nat_tests}
 use Rattle.std.proofs.Math.Nat.{div-eq_of_lt-le, div-eq_of_lt, mod-eq_of_lt}
-use Rattle.std.proofs.Math.IntN.{pred_ℤ, pred_ℤ-*ℤ, -ℤ_one}
-use Rattle.iso_model.specs.Search.Arithmetic.{floored, floored_by, rest}
+use Rattle.std.proofs.Math.IntN.{pred_ℤ-*ℤ, -ℤ_one}
+use Rattle.iso_model.specs.Search.Arithmetic.{floored, rest}
 use Rattle.iso_arith.specs.Quotients.{is_cut_upwards}
 
 -- ---- the next number, divided

@@ -1,6 +1,6 @@
 -- Tables of operations: an entry is found by its atom where it would be found by its name.
-use Rattle.std.proofs.Common.{◌≡◌, ◌<◌, ◌+◌, ℕ, suc, List, [], ◌∷◌, ◌++◌, length, map, take, drop, get_or, Option, Some, None, Bool, true, false, eqb, refl, sym, ap, ap₂, ◌∙◌, subst, arith, add-one, drop-cons}
-use Rattle.std.specs.List.{All, slice_get}
+use Rattle.std.proofs.Common.{◌≡◌, ◌<◌, ◌+◌, ℕ, List, [], ◌∷◌, ◌++◌, length, map, take, drop, get_or, Some, true, false, eqb, refl, sym, ap, ap₂, ◌∙◌, subst, add-one, drop-cons}
+use Rattle.std.specs.List.{slice_get}
 use Rattle.std.specs.Str.{bytes_eq}
 use Rattle.std.specs.Borrow.{Bor}
 use Rattle.std.proofs.lemmas.Option.{slice_get_within, slice_get-get_or}

@@ -1,5 +1,5 @@
 -- What is left to do of an expression that is evaluated.
-use Rattle.std.specs.Prelude.{◌≡◌, ◌<◌, ◌+◌, ◌*◌, ℕ, ℤ, List, [], ◌∷◌, length, true, Result, Ok, Err, MatchResult}
+use Rattle.std.specs.Prelude.{◌≡◌, ◌<◌, ◌+◌, ◌*◌, ℕ, List, [], ◌∷◌, length, true, Result, Ok, MatchResult}
 use Rattle.iso_atoms.specs.Texts.{EachOnce, text_at}
 use Rattle.iso_model.specs.Terms.Trees.{Tree, Apply, count}
 use Rattle.iso_model.specs.Terms.Sorts.{is_row}

@@ -80,8 +80,9 @@ fn begin_binary<S: Store>(
     let Some(operation) = evaluables.binary(name) else {
         return Err(EvalFault::NotEvaluable(name, 2));
     };
-    tasks.push(Task::Right(operation, store.arg(word, 1)))?;
-    Ok(Next::Term(store.arg(word, 0)))
+    let (left, right) = (store.arg(word, 0), store.arg(word, 1));
+    tasks.push(Task::Right(operation, right))?;
+    Ok(Next::Term(left))
 }
 
 /// Begins with an expression: it has a value or an error, or its first argument comes next.

@@ -1,11 +1,5 @@
-use Rattle.std.proofs.Common.{arith, ap, sym, ◌∙◌}
-use Rattle.iso_model.specs.Search.Arithmetic.{value, with_value}
-use Rattle.iso_model.specs.Terms.Trees.{Tree}
 use Rattle.iso_store_core.specs.Presents.{meaning}
-use Rattle.iso_arith.specs.declared.evaluation.Task.TheVariants.{Apply}
-use Rattle.iso_arith.specs.Operations.{does_unary}
-use Rattle.iso_arith.specs.Evaluations.{term_load, tasks_value}
-use Rattle.iso_arith.proofs.EvaluationLemmas.{some_of_one, load_of_one, tasks_value-more, tasks_load-more}
+use Rattle.iso_arith.proofs.EvaluationLemmas.{some_of_one, step_of_one, less_of_one}
 use Rattle.iso_arith.proofs.evaluation.begin_unary.Goals as goal
 
 pub returns-clause-step : goal.returns-clause-step
@@ -16,14 +10,10 @@ returns-clause-step g c =
     let call = c.requires.call in
     let found = c.unary.ensures names call.once c.requires.evaluables call.named in
     let is = some_of_one names c.args.name (meaning p c.args.word) c.unary.result f c.in-Some.is call found in
-    let same = ap (λ (t : Tree). with_value (value t) (does_unary f)) c.arg.ensures.value in
-    tasks_value-more p c.args.tasks.now.items c.push.new.self.items (Apply f) (value (meaning p c.arg.result)) c.in_ok-push.ensures.items ∙ ap (tasks_value p c.args.tasks.now.items) (same ∙ sym is)
+    step_of_one p c.args.tasks.now.items c.push.new.self.items f (meaning p c.arg.result) (meaning p c.args.word) c.in_ok-push.ensures.items c.arg.ensures.value is
 
 pub returns-clause-load : goal.returns-clause-load
 returns-clause-load g c =
     let p = g.S.Store.present c.args.store.now in
     let names = g.S.Store.names c.args.store.now in
-    let all = tasks_load-more p c.args.tasks.now.items c.push.new.self.items (Apply c.in-Some.operation) c.in_ok-push.ensures.items in
-    let less = load_of_one names c.args.name (meaning p c.args.word) c.requires.call in
-    let same = ap term_load c.arg.ensures.value in
-    omega (arith, all, less, same)
+    less_of_one p names c.args.name c.args.tasks.now.items c.push.new.self.items c.in-Some.operation (meaning p c.arg.result) (meaning p c.args.word) c.in_ok-push.ensures.items c.arg.ensures.value c.requires.call

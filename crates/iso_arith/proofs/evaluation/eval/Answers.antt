@@ -1,4 +1,4 @@
-use Rattle.std.proofs.Common.{◌≡◌, Some, Ok, rules, arith, ap, ◌∙◌}
+use Rattle.std.proofs.Common.{Some, Ok, rules, arith, ap}
 use Rattle.std.specs.Prelude.{FitsSigned}
 use Rattle.std.specs.Int.{w64}
 use Rattle.std.proofs.lemmas.Int.{to_z-of_z}
@@ -6,7 +6,7 @@ use Rattle.std.proofs.lemmas.List.Elements.{All-pop}
 use Rattle.iso_model.specs.Search.Arithmetic.{value}
 use Rattle.iso_store_core.specs.Presents.{meaning}
 use Rattle.iso_arith.specs.Evaluations.{IsTask, task_value, next_load}
-use Rattle.iso_arith.proofs.EvaluationLemmas.{fault_stays, fault_answers, term_next, task_next, all_done, tasks_load-more}
+use Rattle.iso_arith.proofs.EvaluationLemmas.{fault_stays, fault_answers, term_next, task_next, made_next, tasks_load-more}
 use Rattle.iso_arith.proofs.evaluation.eval.Goals as goal
 
 pub returns-in_err-next-in-Term : goal.returns-in_err-next-in-Term
@@ -52,5 +52,6 @@ evaluating-preserved g c =
     record {
       tasks = c.in_ok-next-in-Some.ensures.tasks;
       next = c.in_ok-next-in-Some.ensures.next;
-      value = step ∙ task_next p c.pop.new.self.items c.evaluating.tasks.items c.in-Some.task c.evaluating.next c.in-Value.value (value (meaning p c.args.expression)) c.in-Value.is c.in-Some.ensures.items c.evaluating.invariant.value;
+      value = made_next p c.pop.new.self.items c.evaluating.tasks.items c.go_on.new.tasks.items c.in-Some.task c.evaluating.next c.in_ok-next-in-Some.next c.in-Value.value (value (meaning p c.args.expression)) c.in-Value.is
+          c.in-Some.ensures.items c.evaluating.invariant.value step;
     }

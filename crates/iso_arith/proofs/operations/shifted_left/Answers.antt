@@ -1,5 +1,5 @@
-use Rattle.std.proofs.Common.{◌≡◌, ◌<◌, rules, arith, sym, ap, ◌∙◌}
-use Rattle.std.specs.Prelude.{pos, negsuc, unsigned_abs, ok_or}
+use Rattle.std.proofs.Common.{◌≡◌, ◌<◌, arith, ap, ◌∙◌}
+use Rattle.std.specs.Prelude.{pos, unsigned_abs}
 use Rattle.std.proofs.lemmas.Int.{ints}
 use Rattle.iso_arith.specs.Faults.{value_of}
 use Rattle.iso_arith.proofs.ShiftLemmas.{product_is}

@@ -1,4 +1,4 @@
-use Rattle.std.proofs.Common.{◌≡◌, ◌≢◌, true, false, rules, arith}
+use Rattle.std.proofs.Common.{◌≡◌, ◌≢◌, true, false, rules}
 use Rattle.std.specs.Prelude.{pos}
 use Rattle.iso_arith.specs.Quotients.{is_cut_upwards}
 use Rattle.iso_arith.proofs.QuotientLemmas.{floored_is, rest_is, rest_below}

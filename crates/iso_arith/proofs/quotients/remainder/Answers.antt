@@ -1,4 +1,4 @@
-use Rattle.std.proofs.Common.{rules, arith}
+use Rattle.std.proofs.Common.{rules}
 use Rattle.iso_arith.proofs.QuotientLemmas.{rest_is}
 use Rattle.iso_arith.proofs.quotients.remainder.Goals as goal
 

@@ -16,7 +16,7 @@ loop-name-preserved g c =
     let more = table-more names c.loop-name.table.items rows c.in_ok-atom.atom row.0.now row.1 kept c.in_ok-atom.ensures.place in
     record {
       table = table-rows names c.push.new.self.items (c.loop-name.table.items ++ (c.in_ok-atom.atom, row.1) ∷ []) (rows_of (take (c.loop-name.name-index + 1) c.args.rows.now)) (rows ++ (row.0.now, row.1) ∷ [])
-        c.in_ok-push.ensures.items (rows-more c.args.rows.now c.loop-name.name-index row c.loop-name-test.true c.loop-name-item.is) more;
+          c.in_ok-push.ensures.items (rows-more c.args.rows.now c.loop-name.name-index row c.loop-name-test.true c.loop-name-item.is) more;
       names = keeps-then first before names h.names c.in_ok-atom.ensures.names;
       present = c.in_ok-atom.ensures.present ∙ h.present;
       marks = λ m p s. c.in_ok-atom.ensures.marks m p (h.marks m p s);
