@@ -9,4 +9,5 @@ mod quotients;
 mod tables;
 
 pub use evaluables::Evaluables;
+pub use evaluation::eval;
 pub use faults::{EvalFault, Refusal};
