@@ -1,9 +1,4 @@
 //! Values of expressions and their errors. The rows were worked out from the rules of 7.9 and 9, over unbounded integers.
-ghost use Rattle.iso_store_core.specs.Presents.{Holds};
-ghost use Rattle.std.specs.Prelude.{◌≡◌, true};
-ghost use Rattle.iso_model.specs.Terms.Trees.{arities_fit};
-ghost use Rattle.iso_model.specs.Terms.TermOf.{term_of};
-
 use iso_arith::{EvalFault, Evaluables, Refusal, eval};
 use iso_model::{Term, well_formed};
 use iso_ops::{Flags, OpTable};
@@ -47,12 +42,14 @@ fn value_of(alloc: Global, term: &Term) -> Result<String, Fail> {
     let evaluables = Evaluables::new(alloc, &mut store)?;
     match eval(alloc, &store, &evaluables, expression) {
         Ok(value) => write!(out, "{value}")?,
-        Err(EvalFault::Unbound) => out.push_str("unbound")?,
-        Err(EvalFault::NotEvaluable(name, arity)) => {
-            write!(out, "evaluable {}/{arity}", store.text(name))?;
-        }
-        Err(EvalFault::Refused(refusal)) => write_refusal(&mut out, refusal)?,
-        Err(EvalFault::NoMemory) => return Err(Fail::from("no memory")),
+        Err(fault) => match fault {
+            EvalFault::Unbound => out.push_str("unbound")?,
+            EvalFault::NotEvaluable(name, arity) => {
+                write!(out, "evaluable {}/{arity}", store.text(name))?;
+            }
+            EvalFault::Refused(refusal) => write_refusal(&mut out, refusal)?,
+            EvalFault::NoMemory => return Err(Fail::from("no memory")),
+        },
     }
     Ok(out)
 }
