@@ -1,11 +1,14 @@
 //! Values of expressions and their errors. The rows were worked out from the rules of 7.9 and 9, over unbounded integers.
+ghost use Rattle.std.specs.Prelude.{◌≡◌, ◌∷◌, [], IfOk};
+ghost use Rattle.iso_store_core.specs.Presents.{Holds};
+
 use iso_arith::{EvalFault, Evaluables, Refusal, eval};
 use iso_model::{Term, well_formed};
 use iso_ops::{Flags, OpTable};
 use iso_read::read_clause;
 use iso_store::{Nodes, Store};
 use iso_token::Tokens;
-use std::alloc::{AllocError, Global};
+use std::alloc::Global;
 use std::fmt::Write;
 use std::process::Abort;
 use std::test::Fail;
@@ -31,16 +34,13 @@ fn write_refusal(out: &mut String, refusal: Refusal) -> Result<(), Fail> {
     Ok(())
 }
 
-/// The value of an expression, or its error.
-fn value_of(alloc: Global, term: &Term) -> Result<String, Fail> {
-    if !well_formed(term) {
-        return Err(Fail::from("too many arguments"));
-    }
+/// The value of the expression that the word stands for, or its error.
+fn shown<S: Store>(alloc: Global, store: &mut S, expression: S::Word) -> Result<String, Fail>
+    requires { Holds (S.present store.old) expression }
+{
     let mut out = String::new(alloc);
-    let mut store = Nodes::new(alloc, 10_000_000)?;
-    let expression = store.build(term)?;
-    let evaluables = Evaluables::new(alloc, &mut store)?;
-    match eval(alloc, &store, &evaluables, expression) {
+    let evaluables = Evaluables::new(alloc, store)?;
+    match eval(alloc, store, &evaluables, expression) {
         Ok(value) => write!(out, "{value}")?,
         Err(fault) => match fault {
             EvalFault::Unbound => out.push_str("unbound")?,
@@ -52,6 +52,16 @@ fn value_of(alloc: Global, term: &Term) -> Result<String, Fail> {
         },
     }
     Ok(out)
+}
+
+/// The value of an expression, or its error.
+fn value_of(alloc: Global, term: &Term) -> Result<String, Fail> {
+    if !well_formed(term) {
+        return Err(Fail::from("too many arguments"));
+    }
+    let mut store = Nodes::new(alloc, 1_000)?;
+    let expression = store.build(term)?;
+    shown(alloc, &mut store, expression)
 }
 
 /// Checks the value, or the error, of each expression.
@@ -559,34 +569,56 @@ fn first_errors(rt: HostRuntime) -> Result<(), Fail> {
     expect_values(&rt, rt.alloc(), &ERRORS)
 }
 
-fn two(alloc: Global, name: &str, first: Term, second: Term) -> Result<Term, AllocError> {
-    let mut arguments = Vec::new(alloc);
-    arguments.push(first)?;
-    arguments.push(second)?;
-    Ok(Term::Compound(String::from_str(alloc, name)?, arguments))
-}
-
 /// So many sums in one another.
 const MANY: i64 = 1_000_000;
+
+/// Two words.
+fn pair<W: Copy>(alloc: Global, first: W, second: W) -> Result<Vec<W>, Fail>
+    ensures { IfOk result (λ v. v.items ≡ first ∷ second ∷ []) }
+{
+    let mut words = Vec::new(alloc);
+    if words.push(first).is_err() || words.push(second).is_err() {
+        return Err(Fail::from("no memory"));
+    }
+    Ok(words)
+}
+
+/// `1 + (1 + .. (1 + 0))`, or `(('+' + 1) .. + 1) + 1`.
+fn nested<S: Store>(alloc: Global, store: &mut S, to_the_right: bool) -> Result<S::Word, Fail>
+    ensures { IfOk result (λ w. Holds (S.present store.new) w) }
+{
+    let plus = store.intern("+")?;
+    let one = store.int(1)?;
+    let mut sum = if to_the_right {
+        store.int(0)?
+    } else {
+        store.atom(plus)?
+    };
+    'sums: for _ in 0..MANY {
+        let arguments = if to_the_right {
+            pair(alloc, one, sum)?
+        } else {
+            pair(alloc, sum, one)?
+        };
+        sum = store.compound(plus, arguments.as_slice())?;
+    }
+    Ok(sum)
+}
 
 #[test]
 fn a_million_sums_nest_to_the_right(rt: HostRuntime) -> Result<(), Fail> {
     let alloc = rt.alloc();
-    let mut sum = Term::Int(0);
-    for _ in 0..MANY {
-        sum = two(alloc, "+", Term::Int(1), sum)?;
-    }
-    assert_eq!(rt; value_of(alloc, &sum)?.as_str(), "1000000");
+    let mut store = Nodes::new(alloc, 10_000_000)?;
+    let sum = nested(alloc, &mut store, true)?;
+    assert_eq!(rt; shown(alloc, &mut store, sum)?.as_str(), "1000000");
     Ok(())
 }
 
 #[test]
 fn a_million_sums_nest_to_the_left(rt: HostRuntime) -> Result<(), Fail> {
     let alloc = rt.alloc();
-    let mut sum = Term::Var(0);
-    for _ in 0..MANY {
-        sum = two(alloc, "+", sum, Term::Int(1))?;
-    }
-    assert_eq!(rt; value_of(alloc, &sum)?.as_str(), "unbound");
+    let mut store = Nodes::new(alloc, 10_000_000)?;
+    let sum = nested(alloc, &mut store, false)?;
+    assert_eq!(rt; shown(alloc, &mut store, sum)?.as_str(), "evaluable +/0");
     Ok(())
 }
