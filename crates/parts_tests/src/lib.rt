@@ -4,6 +4,8 @@
 #[cfg(test)]
 mod area;
 #[cfg(test)]
+mod arithmetic;
+#[cfg(test)]
 mod atoms;
 #[cfg(test)]
 mod numbering;
