@@ -159,8 +159,8 @@ impl Cells for Nodes {
         arguments[index]
     }
 
-    fn place(&self, word: usize) -> usize {
-        self.walked(word)
+    fn place(&self, word: usize) -> Option<usize> {
+        Some(self.walked(word))
     }
 
     fn is_apart(&self, variable: usize, word: usize) -> bool {
