@@ -1,6 +1,7 @@
 -- Marks of a heap stand on after each change of it.
-use Rattle.std.proofs.Common.{◌≡◌, ◌≢◌, ℕ, zero, suc, ◌+◌, ◌<◌, ◌≤◌, List, [], ◌∷◌, ◌++◌, length, take, drop, set, refl, ap, sym, ◌∙◌, arith, length-append, length-set, length-take, Some, None}
+use Rattle.std.proofs.Common.{◌≡◌, ◌≢◌, ℕ, zero, suc, ◌+◌, ◌<◌, ◌≤◌, List, [], ◌∷◌, ◌++◌, length, take, drop, set, refl, ap, sym, ◌∙◌, arith, length-append, length-set, length-take, Some, None, Bool, true, false, nat_lt, if◌then◌else◌}
 use Rattle.std.specs.List.{slice_get}
+use Rattle.std.proofs.lemmas.Bool.{ltb-false}
 use Rattle.std.proofs.lemmas.List.{take-append-le, take-take, take_all}
 use Rattle.iso_store.specs.declared.heap_cells.HeapWord.{HeapWord}
 use Rattle.iso_store.specs.declared.heap_cells.Cell.{Cell}
@@ -8,7 +9,7 @@ use Rattle.iso_store.specs.declared.heap_cells.Cell.TheVariants.{Unbound, Bound,
 use Rattle.iso_store.specs.declared.heap_cells.HeapMark.{HeapMark}
 use Rattle.iso_store_core.specs.Presents.{Present}
 use Rattle.iso_store.specs.HeapTerms.{bound_count}
-use Rattle.iso_store.specs.HeapStores.{reset, restored, IsHeap, HeapStandsFor, IsOlderMark, present_of_heap, KeepsHeapMarks}
+use Rattle.iso_store.specs.HeapStores.{reset, restored, IsHeap, HeapStandsFor, IsOlderMark, present_of_heap, KeepsHeapMarks, trailed}
 use Rattle.iso_store.proofs.HeapResets.{bound-restored, newer-restored, undone-restored, restored-length, marked-restored}
 
 -- where these are the names of the atoms
@@ -36,6 +37,13 @@ module _ (names : List (List ℕ)) (limit : ℕ) where
       let top = h.newest_top in
       let within = h.cells_top in
       stands-same newest newest cs _ es es m p (newer-restored cs es m e c (omega arith)) h.newest_top (omega (arith, length-set cs e c)) h.trail_top h
+
+  bound-cases : (newest : ℕ) (cs es : List Cell) (e n : ℕ) (w : HeapWord) → slice_get cs e ≡ Some (Unbound n) → (older : Bool) → nat_lt e newest ≡ older → KeepsHeapMarks names limit newest cs es newest (set cs e (Bound n w)) (if older then es ++ Entry e ∷ [] else es)
+  bound-cases newest cs es e n w free true is = trailed-keeps newest cs es e n w free
+  bound-cases newest cs es e n w free false is = newer-keeps newest cs es e (Bound n w) (ltb-false e newest is)
+
+  pub bound-keeps : (newest : ℕ) (cs es : List Cell) (e n : ℕ) (w : HeapWord) → slice_get cs e ≡ Some (Unbound n) → KeepsHeapMarks names limit newest cs es newest (set cs e (Bound n w)) (trailed newest e es)
+  bound-keeps newest cs es e n w free = bound-cases newest cs es e n w free (nat_lt e newest) refl
 
   -- cells more
   pub more-keeps : (newest : ℕ) (cs ds es : List Cell) → KeepsHeapMarks names limit newest cs es newest (cs ++ ds) es

@@ -159,6 +159,23 @@ module _ (names : List (List ℕ)) (cs : List Cell) (next : ℕ) (heap : IsHeap 
       ∙ ap (apply s) (before-at names cs p n i room below ∙ place_term-argument names cs (p - n + i) found.0 found.1 holds.1) in
       (found.0, found.1, holds.0, sym value)
 
+  -- the same, from the functor back
+  pub argument_back : (p f n i : ℕ) → slice_get cs p ≡ Some (Functor f n) → i < n → (w : HeapWord) × (slice_get cs (p - (n - i)) ≡ Some (Argument w)) × (is_word names cs w ≡ true) × (seen w ≡ argument i (seen (Structure p)))
+  argument_back p f n i h below =
+      let room = (heap.functor p f n h).room in
+      let found = argument_word p f n i h below in
+      let same : p - (n - i) ≡ p - n + i = omega arith in
+      (found.0, ap (slice_get cs) same ∙ found.1, found.2, found.3)
+
+  -- only a compound has arguments
+  pub end_arity : (w : HeapWord) → is_word names cs w ≡ true → next_word cs w ≡ None → ((p : ℕ) → w ≢ Structure p) → arity (seen w) ≡ 0
+  end_arity (Var a) holds end other =
+      let found = unbound_cell-is (slice_get cs a) holds end in
+      ap arity (shows_variable a found.0 found.1)
+  end_arity (Structure p) holds end other = absurd (other p refl)
+  end_arity (Int z) holds end other = refl
+  end_arity (Atom x) holds end other = refl
+
   -- the word at the end of the bindings stands for an unbound variable
   pub end_is_variable : (w : HeapWord) (n : ℕ) → is_word names cs w ≡ true → next_word cs w ≡ None → seen w ≡ Variable n → (a : ℕ) × (w ≡ Var a) × (slice_get cs a ≡ Some (Unbound n))
   end_is_variable (Var a) n holds end is =

@@ -33,3 +33,6 @@ pub mod HeapNames
 pub mod HeapSorts
 pub mod HeapResets
 pub mod HeapMarked
+pub mod HeapBound
+pub mod HeapMade
+pub mod HeapCompounds

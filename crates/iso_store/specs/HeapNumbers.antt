@@ -76,6 +76,26 @@ numbered-taken [] a n h = absurd (cc)
 numbered-taken (c ∷ cs) zero n h = or_left (has_cell_number n c) (list_any (has_cell_number n) cs) (number_has n c h)
 numbered-taken (c ∷ cs) (suc a) n h = or_right (has_cell_number n c) (list_any (has_cell_number n) cs) (numbered-taken cs a n h)
 
+has_number-is : (n : ℕ) (c : Cell) → has_cell_number n c ≡ true → number_of (Some c) ≡ Some n
+has_number-is n (Unbound m) h = ap Some (eqb-true m n h)
+has_number-is n (Bound m w) h = ap Some (eqb-true m n h)
+has_number-is n (Argument w) h = absurd (false≢true h)
+has_number-is n (Functor f k) h = absurd (false≢true h)
+has_number-is n (Entry p) h = absurd (false≢true h)
+
+pub taken_from : (cs : List Cell) (n : ℕ) → list_any (has_cell_number n) cs ≡ true → (a : ℕ) × (number_of (slice_get cs a) ≡ Some n)
+taken_from [] n h = absurd (false≢true h)
+taken_from (c ∷ cs) n h =
+    elim (or_cases (has_cell_number n c) (list_any (has_cell_number n) cs) h) [
+      | inl here ↦ (0, has_number-is n c here)
+      | inr there ↦ let t = taken_from cs n there in (suc t.0, t.1)
+    ]
+
+-- a number above those of all variables
+pub untaken : (cs : List Cell) (n : ℕ) → ((a m : ℕ) → number_of (slice_get cs a) ≡ Some m → m < n) → list_any (has_cell_number n) cs ≡ false
+untaken cs n below =
+    false_from_ne_true (list_any (has_cell_number n) cs) (λ h. let t = taken_from cs n h in let less = below t.0 n t.1 in absurd (omega arith))
+
 optional_none : (names : List (List ℕ)) (ts : List Tree) (o : Option HeapWord) → o ≡ None → optional_term names ts o ≡ None
 optional_none names ts o h = ap (optional_term names ts) h
 

@@ -1,5 +1,5 @@
 -- When a list of cells and a next number are a heap, and what marks stand for.
-use Rattle.std.specs.Prelude.{◌≡◌, ◌≢◌, ℕ, zero, suc, ◌+◌, ◌-◌, ◌<◌, ◌≤◌, ◌==◌, List, [], ◌∷◌, length, take, drop, Option, Some, None, Bool, true, false, nat_lt}
+use Rattle.std.specs.Prelude.{◌≡◌, ◌≢◌, ℕ, zero, suc, ◌+◌, ◌-◌, ◌<◌, ◌≤◌, ◌==◌, List, [], ◌∷◌, ◌++◌, length, take, drop, if◌then◌else◌, Option, Some, None, Bool, true, false, nat_lt}
 use Rattle.std.specs.List.{slice_get, list_any}
 use Rattle.iso_model.specs.Terms.Trees.{Variable, End}
 use Rattle.iso_store.specs.declared.heap_cells.HeapWord.{HeapWord}
@@ -136,6 +136,10 @@ reset (e ∷ es) cs = taken_back e (reset es cs)
 -- the cells that the mark brings back
 abbrev pub restored : List Cell → List Cell → HeapMark → List Cell
 restored cs es m = reset (drop m.trail es) (take m.cells cs)
+
+-- the trail once the variable at this place is bound, where the newest mark was made at so many cells
+abbrev pub trailed : ℕ → ℕ → List Cell → List Cell
+trailed newest e es = if nat_lt e newest then es ++ Entry e ∷ [] else es
 
 -- The mark stands for p, in a heap of this room, these names, these cells and this trail, whose newest mark was made at so many cells.
 pub record HeapStandsFor (names : List (List ℕ)) (limit newest : ℕ) (cs es : List Cell) (m : HeapMark) (p : Present HeapWord) : Type 0 where

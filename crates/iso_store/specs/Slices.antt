@@ -15,6 +15,11 @@ module _ {X : Type 0} where
   slice_get-push (d ∷ cs) c zero h = refl
   slice_get-push (d ∷ cs) c (suc w) h = slice_get-push cs c w (omega arith)
 
+  pub slice_get-append : (cs ds : List X) (w : ℕ) → w < length cs → slice_get (cs ++ ds) w ≡ slice_get cs w
+  slice_get-append [] ds w h = absurd (omega arith)
+  slice_get-append (c ∷ cs) ds zero h = refl
+  slice_get-append (c ∷ cs) ds (suc w) h = slice_get-append cs ds w (omega arith)
+
   pub slice_get-last : (cs : List X) (c : X) → slice_get (cs ++ c ∷ []) (length cs) ≡ Some c
   slice_get-last [] c = refl
   slice_get-last (d ∷ cs) c = slice_get-last cs c

@@ -1,20 +1,24 @@
 //! A store of cells in one area: what is made stands on its low stack, the trail on the high one.
-ghost use Rattle.std.specs.Prelude.{◌≡◌, ℕ, ◌+◌, ◌<◌, ◌≤◌, ◌++◌, ◌∷◌, [], length, take, IfOk, is_ok, if◌then◌else◌, None, true};
+ghost use Rattle.std.specs.Prelude.{◌≡◌, ℕ, ◌+◌, ◌<◌, ◌≤◌, ◌++◌, ◌∷◌, [], length, map, take, IfOk, OnOk, OnErr, slice_set, is_ok, if◌then◌else◌, None, true};
+ghost use Rattle.std.specs.List.{All, list_any, position_or_len};
 ghost use Rattle.iso_atoms.specs.Texts.{EachOnce};
 ghost use Rattle.iso_model.specs.Terms.Substitutions.{apply};
 ghost use Rattle.iso_store.specs.HeapTerms.{made_term, heap_substitution, bound_count};
-ghost use Rattle.iso_store.specs.HeapStores.{IsHeap, MayCome, is_word, next_word, variable_of};
+ghost use Rattle.iso_store.specs.HeapStores.{IsHeap, HeapStandsFor, MayCome, has_cell_number, is_word, next_word, present_of_heap, trailed, variable_of};
 
+ghost use Rattle.iso_store.specs.HeapLemmas.{place_term};
 ghost use Rattle.iso_store.specs.HeapProps.{IsBefore-prop, Settles-prop};
 ghost use Rattle.std.proofs.Props.{props};
 
-use super::heap_cells::{Cell, HeapWord};
+use super::cells::Cells;
+use super::heap_cells::{Cell, HeapMark, HeapWord};
 use super::scratch::Scratch;
-use iso_area::Area;
-use iso_atoms::Atoms;
+use iso_area::{Area, Full};
+use iso_atoms::{Atom, Atoms};
 use iso_model::NoMemory;
-use iso_store_core::StoreFault;
+use iso_store_core::{Shape, StoreFault};
 use std::alloc::Global;
+use std::mem;
 
 /// Terms as cells. No call but `new` takes memory for cells.
 #[derive(Drop)]
@@ -34,6 +38,30 @@ pub struct Heap {
     ghost newest_within: { newest ≤ length area.low },
     ghost trail_within: { length area.high ≤ bound_count area.low },
     ghost each_once: { EachOnce atoms },
+}
+
+/// Writes a binding into the cell at this place, and its entry on the trail if the cell is older than the newest mark. The
+/// error is that there is no room for the entry; then nothing changed.
+fn bind_cell(
+    area: &mut Area<Cell>,
+    newest: usize,
+    place: usize,
+    binding: Cell,
+) -> Result<(), Full>
+    requires { place < length area.old.low }
+    ensures low { OnOk result (area.new.low ≡ slice_set area.old.low place binding) }
+    ensures high { OnOk result (area.new.high ≡ trailed newest place area.old.high) }
+    ensures capacity { area.new.capacity ≡ area.old.capacity }
+    ensures unchanged { OnErr result (area.new ≡ area.old) }
+    ensures full { OnErr result (area.old.capacity ≤ length area.old.low + length area.old.high) }
+{
+    if place >= newest {
+        area.set_low(place, binding);
+        return Ok(());
+    }
+    area.push_high(Cell::Entry(place))?;
+    area.set_low(place, binding);
+    Ok(())
 }
 
 impl Heap {
@@ -71,6 +99,32 @@ impl Heap {
             return Err(StoreFault::Full);
         }
         Ok(place)
+    }
+
+    /// Pushes the arguments of a compound; some of them where there is no room for all.
+    fn push_arguments(&mut self, arguments: &[HeapWord]) -> Result<(), StoreFault>
+        requires { All (λ w. is_word (take self.old.named self.old.atoms) self.old.area.low w ≡ true) arguments.now }
+        ensures pushed { OnOk result (self.new.area.low ≡ self.old.area.low ++ map Cell.Argument arguments.now) }
+        ensures kept { take (length self.old.area.low) self.new.area.low ≡ self.old.area.low }
+        ensures more { length self.old.area.low ≤ length self.new.area.low }
+        ensures few { length self.new.area.low ≤ length self.old.area.low + length arguments.now }
+        ensures within { length self.old.area.low ≤ self.old.area.capacity → length self.new.area.low ≤ self.new.area.capacity }
+        ensures substitution { heap_substitution (take self.new.named self.new.atoms) self.new.area.low ≡ heap_substitution (take self.old.named self.old.atoms) self.old.area.low }
+        ensures taken { (n : ℕ) → list_any (has_cell_number n) self.new.area.low ≡ list_any (has_cell_number n) self.old.area.low }
+        ensures high { self.new.area.high ≡ self.old.area.high }
+        ensures capacity { self.new.area.capacity ≡ self.old.area.capacity }
+        ensures atoms { self.new.atoms ≡ self.old.atoms }
+        ensures named { self.new.named ≡ self.old.named }
+        ensures next { self.new.next ≡ self.old.next }
+        ensures newest { self.new.newest ≡ self.old.newest }
+        ensures full { result ≡ Err StoreFault.Full → self.new.area.capacity ≤ length self.new.area.low + length self.new.area.high }
+    {
+        let mut done = 0;
+        while done < arguments.len() {
+            self.push(Cell::Argument(arguments[done]))?;
+            done += 1;
+        }
+        Ok(())
     }
 
     /// What the variable of this cell is bound to.
@@ -114,5 +168,128 @@ impl Heap {
             Some(target) => target,
             None => HeapWord::Var(at),
         }
+    }
+}
+
+impl Cells for Heap {
+    type Word = HeapWord;
+
+    type Mark = HeapMark;
+
+    ghost names = { λ s. s.atoms };
+
+    ghost present = { λ s. present_of_heap (take s.named s.atoms) s.area.low s.next s.area.capacity };
+
+    ghost stands = { λ s. HeapStandsFor s.atoms s.area.capacity s.newest s.area.low s.area.high };
+
+    ghost full = { λ s. s.area.capacity ≤ length s.area.low + length s.area.high };
+
+    ghost at_place = { λ s k. apply (heap_substitution (take s.named s.atoms) s.area.low) (place_term (take s.named s.atoms) s.area.low k) };
+
+    ghost variable_place = { λ s n. position_or_len (has_cell_number n) s.area.low };
+
+    ghost width = { λ n. n + 1 };
+
+    fn shape(&self, word: HeapWord) -> Shape {
+        match self.walked(word) {
+            HeapWord::Var(place) => {
+                let Cell::Unbound(number) = self.area.low(place) else {
+                    unreachable!()
+                };
+                Shape::Var(number)
+            }
+            HeapWord::Structure(place) => {
+                let Cell::Functor(name, count) = self.area.low(place) else {
+                    unreachable!()
+                };
+                Shape::Compound(name, count)
+            }
+            HeapWord::Int(value) => Shape::Int(value),
+            HeapWord::Atom(name) => Shape::Atom(name),
+        }
+    }
+
+    fn arg(&self, word: HeapWord, index: usize) -> HeapWord {
+        let HeapWord::Structure(place) = self.walked(word) else {
+            unreachable!()
+        };
+        let Cell::Functor(_, count) = self.area.low(place) else {
+            unreachable!()
+        };
+        let Cell::Argument(argument) = self.area.low(place - (count - index)) else {
+            unreachable!()
+        };
+        argument
+    }
+
+    fn place(&self, word: HeapWord) -> Option<usize> {
+        match self.walked(word) {
+            HeapWord::Var(place) | HeapWord::Structure(place) => Some(place),
+            HeapWord::Int(_) | HeapWord::Atom(_) => None,
+        }
+    }
+
+    fn is_apart(&self, variable: HeapWord, word: HeapWord) -> bool {
+        let _ = variable;
+        matches!(self.walked(word), HeapWord::Int(_) | HeapWord::Atom(_))
+    }
+
+    fn bind(
+        &mut self,
+        number: u64,
+        variable: HeapWord,
+        word: HeapWord,
+    ) -> Result<(), StoreFault> {
+        let HeapWord::Var(place) = self.walked(variable) else {
+            unreachable!()
+        };
+        let target = self.walked(word);
+        match bind_cell(&mut self.area, self.newest, place, Cell::Bound(number, target)) {
+            Ok(()) => Ok(()),
+            Err(Full) => Err(StoreFault::Full),
+        }
+    }
+
+    fn alloc(&self) -> Global {
+        self.alloc
+    }
+
+    fn swap_scratch(&mut self, scratch: &mut Scratch<HeapWord>) {
+        mem::swap(&mut self.scratch, scratch);
+    }
+
+    fn reserve(&mut self, count: u64) -> u64 {
+        let number = self.next;
+        self.next += count;
+        number
+    }
+
+    fn int(&mut self, value: i64) -> Result<HeapWord, StoreFault> {
+        Ok(HeapWord::Int(value))
+    }
+
+    fn intern(&mut self, name: &str) -> Result<Atom, NoMemory> {
+        self.atoms.intern(name)
+    }
+
+    fn text(&self, atom: Atom) -> &str {
+        self.atoms.text(atom)
+    }
+
+    fn atom(&mut self, name: Atom) -> Result<HeapWord, StoreFault> {
+        self.named = self.atoms.len();
+        Ok(HeapWord::Atom(name))
+    }
+
+    fn compound(&mut self, name: Atom, arguments: &[HeapWord]) -> Result<HeapWord, StoreFault> {
+        self.named = self.atoms.len();
+        self.push_arguments(arguments)?;
+        let place = self.push(Cell::Functor(name, arguments.len()))?;
+        Ok(HeapWord::Structure(place))
+    }
+
+    fn variable(&mut self, number: u64) -> Result<HeapWord, StoreFault> {
+        let place = self.push(Cell::Unbound(number))?;
+        Ok(HeapWord::Var(place))
     }
 }
