@@ -95,3 +95,36 @@ pub marked-restored : (cs es : List Cell) (m : HeapMark) → m.cells ≡ length 
 marked-restored cs es m cells trail =
     let none : drop m.trail es ≡ [] = drop_all m.trail es (omega arith) in
     ap (λ xs. reset xs (take m.cells cs)) none ∙ take_all m.cells cs (omega arith)
+
+-- a binding that is taken back
+pub unbind-bound : (cs : List Cell) (e n : ℕ) (w : HeapWord) → slice_get cs e ≡ Some (Bound n w) → set cs e (Unbound n) ≡ unbound_at cs e
+unbind-bound [] e n w h = refl
+unbind-bound (c ∷ cs) zero n w h = let is : c ≡ Bound n w = cc in ap (λ x. unbound_cell x ∷ cs) (sym is)
+unbind-bound (c ∷ cs) (suc e) n w h = ap (λ xs. c ∷ xs) (unbind-bound cs e n w h)
+
+not_bound-same : (c : Cell) → ((n : ℕ) (w : HeapWord) → c ≢ Bound n w) → unbound_cell c ≡ c
+not_bound-same (Unbound n) other = refl
+not_bound-same (Bound n w) other = absurd (other n w refl)
+not_bound-same (Argument w) other = refl
+not_bound-same (Functor f n) other = refl
+not_bound-same (Entry p) other = refl
+
+pub unbind-other : (cs : List Cell) (e : ℕ) (c : Cell) → slice_get cs e ≡ Some c → ((n : ℕ) (w : HeapWord) → c ≢ Bound n w) → unbound_at cs e ≡ cs
+unbind-other [] e c h other = refl
+unbind-other (x ∷ cs) zero c h other =
+    let is : x ≡ c = cc in
+    ap (λ y. y ∷ cs) (ap unbound_cell is ∙ not_bound-same c other ∙ sym is)
+unbind-other (x ∷ cs) (suc e) c h other = ap (λ xs. x ∷ xs) (unbind-other cs e c h other)
+
+-- the entries from this one on
+pub drop-entry : (es : List Cell) (k left : ℕ) (e : Cell) → slice_get es k ≡ Some e → left ≡ suc k → drop k es ≡ e ∷ drop left es
+drop-entry [] k left e h is = absurd (cc)
+drop-entry (x ∷ es) zero left e h is = let same : x ≡ e = cc in rw is (ap (λ y. y ∷ es) same)
+drop-entry (x ∷ es) (suc k) left e h is = rw is (drop-entry es k (suc k) e h refl)
+
+pub no-entry : (e : Cell) (cs : List Cell) → ((p : ℕ) → e ≢ Entry p) → taken_back e cs ≡ cs
+no-entry (Unbound n) cs other = refl
+no-entry (Bound n w) cs other = refl
+no-entry (Argument w) cs other = refl
+no-entry (Functor f n) cs other = refl
+no-entry (Entry p) cs other = absurd (other p refl)

@@ -20,3 +20,4 @@ pub mod HeapLemmas
 pub mod HeapNumbers
 pub mod HeapUntouched
 pub mod HeapProps
+pub mod HeapRoom

@@ -4,19 +4,29 @@ ghost use Rattle.std.specs.List.{All, list_any, position_or_len};
 ghost use Rattle.iso_atoms.specs.Texts.{EachOnce};
 ghost use Rattle.iso_model.specs.Terms.Substitutions.{apply};
 ghost use Rattle.iso_store.specs.HeapTerms.{made_term, heap_substitution, bound_count};
-ghost use Rattle.iso_store.specs.HeapStores.{IsHeap, HeapStandsFor, MayCome, has_cell_number, is_word, next_word, present_of_heap, trailed, variable_of};
+ghost use Rattle.iso_store.specs.HeapStores.{IsHeap, HeapStandsFor, IsOlderMark, MayCome, empty_heap, has_cell_number, is_word, next_word, present_of_heap, trailed, variable_of};
 
+ghost use Rattle.iso_model.specs.Terms.Variables.{variable_count};
+ghost use Rattle.iso_store_core.specs.Copying.{cells_of};
 ghost use Rattle.iso_store.specs.HeapLemmas.{place_term};
+ghost use Rattle.iso_store.specs.HeapUntouched.{heap-untouched};
+ghost use Rattle.iso_store.specs.HeapRoom.{full-used};
 ghost use Rattle.iso_store.specs.HeapProps.{IsBefore-prop, Settles-prop};
 ghost use Rattle.std.proofs.Props.{props};
 
 use super::cells::Cells;
+use super::copies::{build, copy_out};
 use super::heap_cells::{Cell, HeapMark, HeapWord};
+use super::heap_marks::unwind;
+use super::instances::instantiate;
+use super::patterns::{Places, written};
 use super::scratch::Scratch;
+use super::unify::unify;
+use super::variables::variables;
 use iso_area::{Area, Full};
 use iso_atoms::{Atom, Atoms};
-use iso_model::NoMemory;
-use iso_store_core::{Shape, StoreFault};
+use iso_model::{NoMemory, Term};
+use iso_store_core::{Pattern, Shape, Store, StoreFault};
 use std::alloc::Global;
 use std::mem;
 
@@ -67,6 +77,7 @@ fn bind_cell(
 impl Heap {
     /// An empty store of at most `cells` cells, those of the trail among them.
     pub fn new(alloc: Global, cells: u32) -> Result<Heap, NoMemory>
+        ensures { IfOk result (λ s. ⟦<Heap as Store>⟧.present s ≡ empty_heap cells) }
     {
         let area = Area::new(alloc, cells as usize)?;
         Ok(Heap {
@@ -292,4 +303,119 @@ impl Cells for Heap {
         let place = self.push(Cell::Unbound(number))?;
         Ok(HeapWord::Var(place))
     }
+}
+
+impl Store for Heap {
+    type Word = HeapWord;
+
+    type Mark = HeapMark;
+
+    ghost names = { λ s. s.atoms };
+
+    ghost present = { λ s. present_of_heap (take s.named s.atoms) s.area.low s.next s.area.capacity };
+
+    ghost stands = { λ s. HeapStandsFor s.atoms s.area.capacity s.newest s.area.low s.area.high };
+
+    ghost older = { IsOlderMark };
+
+    ghost full = { λ s. s.area.capacity ≤ length s.area.low + length s.area.high };
+
+    ghost built_cells = { λ t. variable_count t + cells_of (λ n. n + 1) t };
+
+    fn shape(&self, word: HeapWord) -> Shape {
+        Cells::shape(self, word)
+    }
+
+    fn arg(&self, word: HeapWord, index: usize) -> HeapWord {
+        Cells::arg(self, word, index)
+    }
+
+    fn reserve(&mut self, count: u64) -> u64 {
+        Cells::reserve(self, count)
+    }
+
+    fn int(&mut self, value: i64) -> Result<HeapWord, StoreFault> {
+        Cells::int(self, value)
+    }
+
+    fn intern(&mut self, name: &str) -> Result<Atom, NoMemory> {
+        Cells::intern(self, name)
+    }
+
+    fn text(&self, atom: Atom) -> &str {
+        Cells::text(self, atom)
+    }
+
+    fn atom(&mut self, name: Atom) -> Result<HeapWord, StoreFault> {
+        Cells::atom(self, name)
+    }
+
+    fn compound(&mut self, name: Atom, arguments: &[HeapWord]) -> Result<HeapWord, StoreFault> {
+        Cells::compound(self, name, arguments)
+    }
+
+    fn variable(&mut self, number: u64) -> Result<HeapWord, StoreFault> {
+        Cells::variable(self, number)
+    }
+
+    fn fresh(&mut self) -> Result<HeapWord, StoreFault> {
+        let number = Cells::reserve(self, 1);
+        Cells::variable(self, number)
+    }
+
+    fn build(&mut self, term: &Term) -> Result<HeapWord, StoreFault> {
+        build(self.alloc, self, term)
+    }
+
+    fn pattern(&mut self, term: &Term) -> Result<Pattern, NoMemory> {
+        written(self.alloc, self, term, Places::Numbers)
+    }
+
+    fn instantiate(
+        &mut self,
+        pattern: &Pattern,
+        variables: &[HeapWord],
+    ) -> Result<HeapWord, StoreFault> {
+        instantiate(self.alloc, self, pattern, variables)
+    }
+
+    fn unify(&mut self, first: HeapWord, second: HeapWord) -> Result<bool, StoreFault> {
+        unify(self, first, second)
+    }
+
+    fn mark(&mut self) -> HeapMark {
+        let mark = HeapMark {
+            cells: self.area.low_len(),
+            trail: self.area.high_len(),
+            next: self.next,
+            named: self.named,
+            before: self.newest,
+        };
+        self.newest = mark.cells;
+        mark
+    }
+
+    fn undo(&mut self, mark: HeapMark) {
+        self.area.cut_low(mark.cells);
+        unwind(&mut self.area, mark.trail);
+        self.next = mark.next;
+        self.named = mark.named;
+        self.newest = mark.cells;
+    }
+
+    fn forget(&mut self, mark: HeapMark) {
+        self.newest = mark.before;
+    }
+
+    fn copy_out(&self, word: HeapWord) -> Result<Term, NoMemory> {
+        copy_out(self.alloc, self, word)
+    }
+
+    fn variables(&self, word: HeapWord) -> Result<Vec<HeapWord>, NoMemory> {
+        variables(self.alloc, self, word)
+    }
+
+    ghost untouched = { λ s n none. heap-untouched (take s.named s.atoms) s.area.low s.next s.is_heap s.area.capacity n none };
+
+    ghost full_used = { λ s h. full-used s.area.low s.area.high s.area.capacity s.trail_within h };
 }

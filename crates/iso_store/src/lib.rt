@@ -8,6 +8,7 @@ mod copies;
 mod counting;
 mod heap;
 mod heap_cells;
+mod heap_marks;
 mod instances;
 mod joins;
 mod marks;

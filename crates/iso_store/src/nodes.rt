@@ -2,6 +2,7 @@
 ghost use Rattle.std.specs.Prelude.{◌≡◌, ℕ, ◌+◌, ◌<◌, ◌≤◌, ◌++◌, ◌∷◌, [], length, IfOk, is_ok, if◌then◌else◌, MatchOption, true, false};
 ghost use Rattle.std.specs.List.{slice_get, position_or_len};
 ghost use Rattle.iso_atoms.specs.Texts.{EachOnce};
+ghost use Rattle.iso_model.specs.Terms.Sizes.{size};
 ghost use Rattle.iso_model.specs.Terms.Substitutions.{apply};
 ghost use Rattle.iso_store.specs.declared.nodes.Node.TheVariants.{Var};
 ghost use Rattle.iso_store.specs.NodeTerms.{term_at, substitution_of};
@@ -237,6 +238,8 @@ impl Store for Nodes {
     ghost older = { IsOlder };
 
     ghost full = { λ s. s.limit ≤ length s.nodes.items };
+
+    ghost built_cells = { size };
 
     fn shape(&self, word: usize) -> Shape {
         Cells::shape(self, word)
