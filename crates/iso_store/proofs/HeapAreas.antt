@@ -1,6 +1,5 @@
 -- What the calls of a heap's area keep of the heap.
-use Rattle.std.proofs.Common.{◌≡◌, ℕ, suc, ◌<◌, ◌≤◌, List, [], ◌∷◌, ◌++◌, length, set, refl, ap, sym, ◌∙◌, subst, arith, length-append, length-set, OnOk, OnErr, Result, Ok, Err, Some}
-use Rattle.std.specs.List.{slice_get}
+use Rattle.std.proofs.Common.{◌≡◌, ℕ, ◌≤◌, List, [], ◌∷◌, ◌++◌, length, sym, subst, arith, length-append, OnOk, OnErr, Result, Ok, Err}
 use Rattle.iso_area.specs.Stacks.{Stacks, stacks}
 use Rattle.iso_store.specs.declared.heap_cells.Cell.{Cell}
 use Rattle.iso_store.specs.HeapTerms.{bound_count}

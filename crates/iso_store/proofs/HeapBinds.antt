@@ -1,8 +1,7 @@
 -- A binding keeps a heap, and composes its substitution with that binding.
-use Rattle.std.proofs.Common.{◌≡◌, ◌≢◌, ℕ, zero, suc, ◌+◌, ◌-◌, ◌<◌, ◌≤◌, ◌==◌, ◌||◌, List, [], ◌∷◌, ◌++◌, length, set, Bool, true, false, refl, ap, ap₂, sym, ◌∙◌, subst, arith, length-set, Option, Some, None, inl, inr, if◌then◌else◌}
+use Rattle.std.proofs.Common.{◌≡◌, ◌≢◌, ℕ, zero, suc, ◌+◌, ◌-◌, ◌<◌, ◌==◌, ◌||◌, List, [], ◌∷◌, set, true, false, refl, ap, ap₂, sym, ◌∙◌, subst, arith, Option, Some, None, inl, inr, if◌then◌else◌}
 use Rattle.std.specs.List.{slice_get, list_any}
-use Rattle.std.proofs.lemmas.Bool.{false≢true, eq-eqb, ne_eqb, cases_eq}
-use Rattle.iso_model.specs.Terms.Trees.{Tree, Variable}
+use Rattle.std.proofs.lemmas.Bool.{eq-eqb, ne_eqb, cases_eq}
 use Rattle.iso_model.specs.Terms.Variables.{occurs}
 use Rattle.iso_model.specs.Terms.Substitutions.{apply, compose, single}
 use Rattle.iso_store.specs.declared.heap_cells.HeapWord.{HeapWord}
@@ -11,7 +10,7 @@ use Rattle.iso_store.specs.declared.heap_cells.Cell.{Cell}
 use Rattle.iso_store.specs.declared.heap_cells.Cell.TheVariants.{Unbound, Bound, Argument, Functor, Entry}
 use Rattle.iso_store.specs.Rounds.{rounds, rounds_for, Settles, then_rounds}
 use Rattle.iso_store.specs.HeapTerms.{target, word_term, cell_terms, made_term, optional_term, heap_bindings, heap_substitution, bound_count}
-use Rattle.iso_store.specs.HeapStores.{number_of, is_variable_cell, is_functor, is_argument, has_cell_number, is_word, IsFunctor, IsHeap}
+use Rattle.iso_store.specs.HeapStores.{number_of, is_variable_cell, is_functor, is_argument, has_cell_number, is_word, IsHeap}
 use Rattle.iso_store.specs.Slices.{slice_get-set, slice_get-here}
 use Rattle.iso_store.specs.HeapLemmas.{cell_terms-bound}
 use Rattle.iso_store.specs.HeapNumbers.{target_from}

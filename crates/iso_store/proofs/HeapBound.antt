@@ -12,7 +12,7 @@ use Rattle.iso_store.specs.declared.heap_cells.Cell.{Cell}
 use Rattle.iso_store.specs.declared.heap_cells.Cell.TheVariants.{Unbound, Bound, Entry}
 use Rattle.iso_store_core.specs.Presents.{Binds}
 use Rattle.iso_store.specs.Meetings.{IsYounger}
-use Rattle.iso_store.specs.HeapTerms.{made_term, heap_substitution, bound_count}
+use Rattle.iso_store.specs.HeapTerms.{heap_substitution, bound_count}
 use Rattle.iso_store.specs.HeapStores.{number_of, is_word, next_word, IsHeap, present_of_heap, KeepsHeapMarks, trailed}
 use Rattle.iso_store.specs.HeapLemmas.{place_term, cell_terms-bound}
 use Rattle.iso_store.proofs.HeapReads.{seen, end_is_variable, shows_variable, unbound_cell-is}

@@ -1,8 +1,7 @@
 -- Arguments and a functor that come give a word for a compound.
-use Rattle.std.proofs.Common.{◌≡◌, ℕ, suc, zero, ◌+◌, ◌-◌, ◌<◌, ◌≤◌, List, [], ◌∷◌, ◌++◌, length, map, take, get_or, true, false, refl, ap, ap₂, sym, ◌∙◌, subst, arith, length-append, Some}
-use Rattle.std.specs.List.{slice_get, list_any, All}
+use Rattle.std.proofs.Common.{◌≡◌, ℕ, suc, zero, ◌+◌, ◌-◌, ◌<◌, ◌≤◌, List, [], ◌∷◌, ◌++◌, length, map, take, get_or, true, refl, ap, ap₂, sym, ◌∙◌, arith, length-append, Some}
+use Rattle.std.specs.List.{slice_get, All}
 use Rattle.std.proofs.lemmas.List.{take_all, length-map, get_or-map, append_assoc}
-use Rattle.std.proofs.lemmas.Option.{slice_get-get_or}
 use Rattle.iso_atoms.specs.Texts.{text_at}
 use Rattle.iso_model.specs.Terms.Trees.{Tree, Apply, End, row}
 use Rattle.iso_store.specs.declared.heap_cells.HeapWord.{HeapWord}
@@ -13,7 +12,7 @@ use Rattle.iso_store_core.specs.Presents.{Makes}
 use Rattle.iso_store.specs.HeapTerms.{made_term, heap_substitution}
 use Rattle.iso_store.specs.HeapStores.{is_argument, is_functor, is_word, IsFunctor, IsHeap, present_of_heap}
 use Rattle.iso_store.specs.Slices.{slice_get-push, slice_get-last}
-use Rattle.iso_store.specs.HeapLemmas.{place_term, place_term-functor, place_term-argument, terms_before, made_term-more}
+use Rattle.iso_store.specs.HeapLemmas.{place_term-functor, place_term-argument, terms_before, made_term-more}
 use Rattle.iso_store.specs.HeapNumbers.{word_before}
 use Rattle.iso_store.specs.HeapUntouched.{before-length, before-at}
 use Rattle.iso_store.proofs.HeapPushes.{heap-more, substitution-more}

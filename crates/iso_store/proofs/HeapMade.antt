@@ -1,24 +1,22 @@
 -- A cell that comes, and a name, give a word for a term.
-use Rattle.std.proofs.Common.{◌≡◌, ℕ, suc, zero, ◌+◌, ◌-◌, ◌<◌, ◌≤◌, List, [], ◌∷◌, ◌++◌, length, map, take, get_or, true, false, refl, ap, sym, ◌∙◌, subst, arith, length-append, Some, Bool, ◌||◌}
-use Rattle.std.specs.List.{slice_get, list_any, All}
+use Rattle.std.proofs.Common.{◌≡◌, ℕ, ◌+◌, ◌<◌, List, [], ◌∷◌, ◌++◌, length, map, take, get_or, true, false, refl, ap, sym, ◌∙◌, subst, arith, Bool, ◌||◌}
+use Rattle.std.specs.List.{list_any, All}
 use Rattle.std.proofs.lemmas.Bool.{lt-ltb}
 use Rattle.std.proofs.lemmas.List.{take_all, take_more, map-append, append_assoc}
 use Rattle.std.proofs.lemmas.List.Folds.{list_any-append}
 use Rattle.iso_atoms.specs.Texts.{KeepsTexts, text_at}
-use Rattle.iso_store_core.proofs.AtomLemmas.{text-kept, atom-kept}
-use Rattle.iso_model.specs.Terms.Trees.{Tree, Variable, Name, Apply, row, count}
+use Rattle.iso_model.specs.Terms.Trees.{Variable, Name}
 use Rattle.iso_store.specs.declared.heap_cells.HeapWord.{HeapWord}
 use Rattle.iso_store.specs.declared.heap_cells.HeapWord.TheVariants.{Var, Structure, Int, Atom}
 use Rattle.iso_store.specs.declared.heap_cells.Cell.{Cell}
-use Rattle.iso_store.specs.declared.heap_cells.Cell.TheVariants.{Unbound, Bound, Argument, Functor, Entry}
+use Rattle.iso_store.specs.declared.heap_cells.Cell.TheVariants.{Unbound, Argument}
 use Rattle.iso_store_core.specs.Presents.{Makes}
-use Rattle.iso_store.specs.HeapTerms.{made_term, heap_substitution}
 use Rattle.iso_store.specs.HeapStores.{is_variable_cell, is_functor, has_cell_number, is_word, IsHeap, MayCome, present_of_heap}
 use Rattle.iso_store.specs.Slices.{slice_get-last, slice_get-append}
 use Rattle.iso_store.specs.HeapLemmas.{place_term-unbound, made_term-more}
 use Rattle.iso_store.specs.HeapNumbers.{word_before}
 use Rattle.iso_store.proofs.HeapPushes.{word-more, substitution-more}
-use Rattle.iso_store.proofs.HeapNames.{first-kept, word-kept, made-kept, substitution-kept, words-kept}
+use Rattle.iso_store.proofs.HeapNames.{first-kept, substitution-kept, words-kept}
 
 -- all names keep those that were there
 pub all-kept : (names : List (List ℕ)) (named all : ℕ) → all ≡ length names → KeepsTexts (take named names) (take all names)

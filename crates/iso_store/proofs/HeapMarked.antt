@@ -1,15 +1,15 @@
 -- Marks of a heap stand on after each change of it.
-use Rattle.std.proofs.Common.{◌≡◌, ◌≢◌, ℕ, zero, suc, ◌+◌, ◌<◌, ◌≤◌, List, [], ◌∷◌, ◌++◌, length, take, drop, set, refl, ap, sym, ◌∙◌, arith, length-append, length-set, length-take, Some, None, Bool, true, false, nat_lt, if◌then◌else◌}
+use Rattle.std.proofs.Common.{◌≡◌, ℕ, ◌≤◌, List, [], ◌∷◌, ◌++◌, length, take, drop, set, refl, ap, arith, length-append, length-set, length-take, Some, Bool, true, false, nat_lt, if◌then◌else◌}
 use Rattle.std.specs.List.{slice_get}
 use Rattle.std.proofs.lemmas.Bool.{ltb-false}
-use Rattle.std.proofs.lemmas.List.{take-append-le, take-take, take_all}
+use Rattle.std.proofs.lemmas.List.{take-append-le}
 use Rattle.iso_store.specs.declared.heap_cells.HeapWord.{HeapWord}
 use Rattle.iso_store.specs.declared.heap_cells.Cell.{Cell}
-use Rattle.iso_store.specs.declared.heap_cells.Cell.TheVariants.{Unbound, Bound, Argument, Functor, Entry}
+use Rattle.iso_store.specs.declared.heap_cells.Cell.TheVariants.{Unbound, Bound, Entry}
 use Rattle.iso_store.specs.declared.heap_cells.HeapMark.{HeapMark}
 use Rattle.iso_store_core.specs.Presents.{Present}
 use Rattle.iso_store.specs.HeapTerms.{bound_count}
-use Rattle.iso_store.specs.HeapStores.{reset, restored, IsHeap, HeapStandsFor, IsOlderMark, present_of_heap, KeepsHeapMarks, trailed}
+use Rattle.iso_store.specs.HeapStores.{reset, restored, IsHeap, HeapStandsFor, present_of_heap, KeepsHeapMarks, trailed}
 use Rattle.iso_store.proofs.HeapResets.{bound-restored, newer-restored, undone-restored, restored-length, marked-restored}
 
 -- where these are the names of the atoms

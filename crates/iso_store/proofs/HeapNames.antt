@@ -1,8 +1,8 @@
 -- Names that come leave a heap as it is.
-use Rattle.std.proofs.Common.{◌≡◌, ℕ, zero, suc, ◌<◌, ◌≤◌, List, [], ◌∷◌, ◌++◌, length, take, drop, ◌-◌, true, refl, ap, ap₂, sym, ◌∙◌, subst, arith, Option, Some, None, nat_lt}
-use Rattle.std.specs.List.{slice_get, list_any}
+use Rattle.std.proofs.Common.{◌≡◌, ℕ, zero, suc, ◌<◌, ◌≤◌, List, [], ◌∷◌, ◌++◌, length, take, drop, ◌-◌, true, refl, ap, ap₂, sym, ◌∙◌, subst, arith, Option, Some, None}
+use Rattle.std.specs.List.{slice_get}
 use Rattle.std.proofs.lemmas.Bool.{lt-ltb, ltb-true}
-use Rattle.iso_atoms.specs.Texts.{KeepsTexts, text_at}
+use Rattle.iso_atoms.specs.Texts.{KeepsTexts}
 use Rattle.iso_store_core.proofs.AtomLemmas.{text-kept, atom-kept}
 use Rattle.iso_store_core.specs.Presents.{Present, KeepsWords}
 use Rattle.iso_model.specs.Terms.Trees.{Tree, Name, Apply, row}
@@ -13,7 +13,7 @@ use Rattle.iso_store.specs.declared.heap_cells.Cell.TheVariants.{Unbound, Bound,
 use Rattle.iso_store.specs.declared.heap_cells.HeapMark.{HeapMark}
 use Rattle.iso_store.specs.Rounds.{rounds, rounds_for, Settles}
 use Rattle.iso_store.specs.HeapTerms.{target, word_term, cell_term, cell_terms, made_term, optional_term, heap_bindings, heap_substitution, bound_count}
-use Rattle.iso_store.specs.HeapStores.{is_word, IsFunctor, IsHeap, present_of_heap, HeapStandsFor, restored}
+use Rattle.iso_store.specs.HeapStores.{is_word, IsFunctor, IsHeap, present_of_heap, HeapStandsFor}
 use Rattle.iso_store.specs.HeapNumbers.{target_from}
 
 -- the first names stay

@@ -1,17 +1,15 @@
 -- A cell more keeps a heap, and all that stood in it.
-use Rattle.std.proofs.Common.{◌≡◌, ◌≢◌, ℕ, zero, suc, ◌+◌, ◌-◌, ◌<◌, ◌≤◌, List, [], ◌∷◌, ◌++◌, length, true, false, refl, ap, ap₂, sym, ◌∙◌, subst, arith, length-append, Option, Some, None, ◌⊎◌, inl, inr, if◌then◌else◌, ◌==◌}
+use Rattle.std.proofs.Common.{◌≡◌, ℕ, suc, ◌+◌, ◌-◌, ◌<◌, ◌≤◌, List, [], ◌∷◌, ◌++◌, length, true, false, refl, ap, ap₂, sym, ◌∙◌, subst, arith, Option, Some, None, ◌⊎◌, inl, inr, if◌then◌else◌, ◌==◌}
 use Rattle.std.specs.List.{slice_get, list_any}
-use Rattle.std.proofs.lemmas.Bool.{false≢true}
 use Rattle.std.proofs.lemmas.Option.{slice_get_within}
 use Rattle.iso_store.specs.declared.heap_cells.HeapWord.{HeapWord}
 use Rattle.iso_store.specs.declared.heap_cells.HeapWord.TheVariants.{Var, Structure, Int, Atom}
 use Rattle.iso_store.specs.declared.heap_cells.Cell.{Cell}
 use Rattle.iso_store.specs.declared.heap_cells.Cell.TheVariants.{Unbound, Bound, Argument, Functor, Entry}
-use Rattle.iso_model.specs.Terms.Trees.{Tree}
 use Rattle.iso_store.specs.Rounds.{rounds, rounds_for, Settles}
 use Rattle.iso_store.specs.HeapTerms.{target, cell_terms, made_term, optional_term, heap_bindings, heap_substitution, bound_count}
 use Rattle.iso_store.specs.HeapStores.{number_of, is_variable_cell, is_functor, is_argument, has_cell_number, is_word, IsBefore, IsFunctor, IsHeap, MayCome}
-use Rattle.iso_store.specs.Slices.{slice_get-pushed, slice_get-push, slice_get-last}
+use Rattle.iso_store.specs.Slices.{slice_get-pushed, slice_get-push}
 use Rattle.iso_store.specs.HeapLemmas.{made_term-more}
 use Rattle.iso_store.specs.HeapNumbers.{target_from, unnumbered, word_before}
 

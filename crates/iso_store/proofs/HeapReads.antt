@@ -1,22 +1,22 @@
 -- What the cells of a heap show of its words.
-use Rattle.std.proofs.Common.{◌≡◌, ◌≢◌, ℕ, zero, suc, ◌+◌, ◌-◌, ◌<◌, ◌≤◌, List, [], ◌∷◌, length, get_or, true, false, refl, ap, sym, ◌∙◌, subst, arith, Option, Some, None, inl, inr}
+use Rattle.std.proofs.Common.{◌≡◌, ◌≢◌, ℕ, zero, suc, ◌+◌, ◌-◌, ◌<◌, ◌≤◌, List, [], ◌∷◌, length, get_or, true, false, refl, ap, sym, ◌∙◌, arith, Option, Some, None}
 use Rattle.std.specs.List.{slice_get, position_or_len}
 use Rattle.iso_atoms.specs.Texts.{text_at}
-use Rattle.std.proofs.lemmas.Bool.{false≢true, eq-eqb, ne_eqb, ltb-true}
+use Rattle.std.proofs.lemmas.Bool.{false≢true, eq-eqb, ne_eqb}
 use Rattle.std.proofs.lemmas.List.Sums.{position_or_len_is}
 use Rattle.std.proofs.lemmas.Option.{slice_get-get_or, slice_get_within, get_or_from_slice_get}
-use Rattle.iso_model.specs.Terms.Trees.{Tree, Variable, Integer, Name, Apply, End, row, count}
+use Rattle.iso_model.specs.Terms.Trees.{Tree, Variable, Apply, End, row, count}
 use Rattle.iso_model.specs.Terms.Substitutions.{Subst, apply}
 use Rattle.iso_store.specs.declared.heap_cells.HeapWord.{HeapWord}
 use Rattle.iso_store.specs.declared.heap_cells.HeapWord.TheVariants.{Var, Structure, Int, Atom}
 use Rattle.iso_store.specs.declared.heap_cells.Cell.{Cell}
 use Rattle.iso_store.specs.declared.heap_cells.Cell.TheVariants.{Unbound, Bound, Argument, Functor, Entry}
 use Rattle.iso_store_core.specs.Arguments.{member, arity, argument}
-use Rattle.iso_store.specs.Rounds.{rounds, rounds_for}
+use Rattle.iso_store.specs.Rounds.{rounds_for}
 use Rattle.iso_store.specs.RoundLemmas.{rounds_bound}
-use Rattle.iso_store.specs.HeapTerms.{target, cell_terms, made_term, optional_term, heap_bindings, heap_substitution, bound_count}
-use Rattle.iso_store.specs.HeapStores.{number_of, is_variable_cell, is_functor, is_argument, has_cell_number, is_word, IsBefore, IsHeap, next_word, bound_word, variable_of, number_rank, word_rank}
-use Rattle.iso_store.specs.HeapLemmas.{place_term, place_term-unbound, place_term-bound, place_term-argument, place_term-functor, terms_before}
+use Rattle.iso_store.specs.HeapTerms.{cell_terms, made_term, optional_term, heap_bindings, heap_substitution, bound_count}
+use Rattle.iso_store.specs.HeapStores.{number_of, is_variable_cell, is_functor, is_argument, has_cell_number, is_word, IsHeap, next_word, bound_word, variable_of, number_rank, word_rank}
+use Rattle.iso_store.specs.HeapLemmas.{place_term-unbound, place_term-bound, place_term-argument, place_term-functor, terms_before}
 use Rattle.iso_store.specs.HeapNumbers.{target_is}
 use Rattle.iso_store.specs.HeapUntouched.{before-length, before-at, not_bound-value}
 

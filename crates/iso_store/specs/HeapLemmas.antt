@@ -1,15 +1,15 @@
 -- Terms of cells: they are those of the cells before them, whatever comes behind and whatever is bound.
-use Rattle.std.proofs.Common.{◌≡◌, ℕ, zero, suc, ◌+◌, ◌-◌, ◌<◌, ◌≤◌, List, [], ◌∷◌, ◌++◌, length, take, drop, set, get_or, refl, ap, sym, ◌∙◌, subst, arith, length-append, length-take, Some, Option, inl, inr}
+use Rattle.std.proofs.Common.{◌≡◌, ℕ, zero, suc, ◌+◌, ◌-◌, ◌<◌, List, [], ◌∷◌, ◌++◌, length, take, drop, set, get_or, refl, ap, sym, ◌∙◌, arith, length-append, length-take, Some, inl, inr}
 use Rattle.std.specs.List.{slice_get}
 use Rattle.std.proofs.lemmas.List.{append_assoc, get_or_append_left, get_or-take}
 use Rattle.std.proofs.lemmas.Option.{slice_get_within, slice_get_cases}
 use Rattle.std.proofs.Math.Seq.{get_or-append_seam, take-append_seam}
 use Rattle.iso_atoms.specs.Texts.{text_at}
-use Rattle.iso_model.specs.Terms.Trees.{Tree, Variable, Integer, Name, Apply, End, row}
+use Rattle.iso_model.specs.Terms.Trees.{Tree, Variable, Apply, End, row}
 use Rattle.iso_store.specs.declared.heap_cells.HeapWord.{HeapWord}
 use Rattle.iso_store.specs.declared.heap_cells.HeapWord.TheVariants.{Var, Structure, Int, Atom}
 use Rattle.iso_store.specs.declared.heap_cells.Cell.{Cell}
-use Rattle.iso_store.specs.declared.heap_cells.Cell.TheVariants.{Unbound, Bound, Argument, Functor, Entry}
+use Rattle.iso_store.specs.declared.heap_cells.Cell.TheVariants.{Unbound, Bound, Argument, Functor}
 use Rattle.iso_store.specs.HeapTerms.{word_term, cell_term, cell_terms, made_term}
 use Rattle.iso_store.specs.HeapStores.{IsBefore}
 

@@ -1,23 +1,15 @@
 -- The numbers of a heap's variables, and what these are bound to: a number that no variable has is untouched.
-use Rattle.std.proofs.Common.{◌≡◌, ◌≢◌, ℕ, zero, suc, ◌+◌, ◌-◌, ◌<◌, ◌≤◌, ◌==◌, ◌||◌, List, [], ◌∷◌, ◌++◌, length, get_or, drop, take, Bool, true, false, refl, ap, sym, ◌∙◌, arith, Option, Some, None, inl, inr, if◌then◌else◌}
+use Rattle.std.proofs.Common.{◌≡◌, ◌≢◌, ℕ, zero, suc, ◌<◌, ◌==◌, ◌||◌, List, [], ◌∷◌, length, Bool, true, false, refl, ap, sym, ◌∙◌, arith, Option, Some, None, inl, inr, if◌then◌else◌}
 use Rattle.std.specs.List.{slice_get, list_any}
-use Rattle.std.proofs.lemmas.Bool.{false≢true, or_left, or_right, or_cases, eq-eqb, eqb-true, ltb-true, ne_eqb, cases_eq, false_from_ne_true}
-use Rattle.std.proofs.lemmas.List.{length-drop, length-take-le, get_or-drop, get_or-take}
+use Rattle.std.proofs.lemmas.Bool.{false≢true, or_left, or_right, or_cases, eq-eqb, eqb-true, ne_eqb, cases_eq, false_from_ne_true}
 use Rattle.std.proofs.lemmas.Option.{slice_get_within}
-use Rattle.iso_model.specs.Terms.Trees.{Tree, Variable, row, End}
-use Rattle.iso_model.specs.Terms.Variables.{occurs}
-use Rattle.iso_model.specs.Terms.Substitutions.{apply}
-use Rattle.iso_model.specs.Terms.Unification.Applied.{occurs_from}
+use Rattle.iso_model.specs.Terms.Trees.{Tree}
 use Rattle.iso_store.specs.declared.heap_cells.HeapWord.{HeapWord}
 use Rattle.iso_store.specs.declared.heap_cells.HeapWord.TheVariants.{Var, Structure, Int, Atom}
 use Rattle.iso_store.specs.declared.heap_cells.Cell.{Cell}
 use Rattle.iso_store.specs.declared.heap_cells.Cell.TheVariants.{Unbound, Bound, Argument, Functor, Entry}
-use Rattle.iso_store_core.specs.Presents.{Untouched}
-use Rattle.iso_store.specs.Rounds.{bound_or_itself, rounds, rounds_for}
-use Rattle.iso_store.specs.RoundLemmas.{rounds_none}
-use Rattle.iso_store.specs.HeapTerms.{target, cell_terms, made_term, optional_term, heap_bindings, heap_substitution, bound_count}
-use Rattle.iso_store.specs.HeapStores.{number_of, is_variable_cell, is_functor, is_argument, has_cell_number, is_word, IsBefore, IsFunctor, IsHeap, present_of_heap}
-use Rattle.iso_store.specs.HeapLemmas.{cell_terms-length, place_term, place_term-unbound, place_term-bound, place_term-argument, place_term-functor, place_term-is, terms_before, each_place}
+use Rattle.iso_store.specs.HeapTerms.{target, optional_term}
+use Rattle.iso_store.specs.HeapStores.{number_of, is_variable_cell, is_functor, has_cell_number, is_word, IsBefore}
 
 -- what a variable is bound to stands in a cell of its number
 pub target_from : (cs : List Cell) (n : ℕ) (w : HeapWord) → target cs n ≡ Some w → (a : ℕ) × (slice_get cs a ≡ Some (Bound n w))

@@ -1,7 +1,7 @@
 -- When a list of cells and a next number are a heap, and what marks stand for.
 use Rattle.std.specs.Prelude.{◌≡◌, ◌≢◌, ℕ, zero, suc, ◌+◌, ◌-◌, ◌<◌, ◌≤◌, ◌==◌, List, [], ◌∷◌, ◌++◌, length, take, drop, if◌then◌else◌, Option, Some, None, Bool, true, false, nat_lt}
 use Rattle.std.specs.List.{slice_get, list_any}
-use Rattle.iso_model.specs.Terms.Trees.{Variable, End}
+use Rattle.iso_model.specs.Terms.Trees.{Variable}
 use Rattle.iso_store.specs.declared.heap_cells.HeapWord.{HeapWord}
 use Rattle.iso_store.specs.declared.heap_cells.HeapWord.TheVariants.{Var, Structure, Int, Atom}
 use Rattle.iso_store.specs.declared.heap_cells.Cell.{Cell}

@@ -1,11 +1,11 @@
 -- Rounds of bindings: enough of them are one substitution, and one binding more composes it with that binding.
-use Rattle.std.proofs.Common.{◌≡◌, ◌≢◌, ℕ, zero, suc, ◌+◌, ◌==◌, Bool, true, false, refl, ap, sym, ◌∙◌, subst, arith, Option, Some, None, inl, inr, if◌then◌else◌}
-use Rattle.std.proofs.lemmas.Bool.{false≢true, eq-eqb, eqb-true, ne_eqb, cases_eq, false_from_ne_true}
+use Rattle.std.proofs.Common.{◌≡◌, ℕ, zero, suc, true, false, refl, ap, sym, ◌∙◌, Option, Some, None}
+use Rattle.std.proofs.lemmas.Bool.{false≢true, eqb-true}
 use Rattle.iso_model.specs.Terms.Trees.{Tree, Variable}
 use Rattle.iso_model.specs.Terms.Variables.{occurs}
-use Rattle.iso_model.specs.Terms.Substitutions.{Subst, apply, compose, single}
-use Rattle.iso_model.specs.Terms.Unification.Applied.{apply_apply, apply_same, apply_alone, occurs_from, occurs_in, single_at, single_other, apply_single_absent}
-use Rattle.iso_store.specs.Rounds.{is_bound, bound_or_itself, one_round, rounds, Settles}
+use Rattle.iso_model.specs.Terms.Substitutions.{Subst, apply}
+use Rattle.iso_model.specs.Terms.Unification.Applied.{apply_same, occurs_from}
+use Rattle.iso_store.specs.Rounds.{is_bound, bound_or_itself, rounds, Settles}
 
 pub not_bound : (o : Option Tree) → is_bound o ≡ false → o ≡ None
 not_bound None h = refl

@@ -1,5 +1,5 @@
 -- What is at a place of a list that grows, or is changed at a place.
-use Rattle.std.proofs.Common.{◌≡◌, ◌≢◌, ℕ, zero, suc, ◌<◌, List, [], ◌∷◌, ◌++◌, length, set, refl, ap, arith, Option, Some, ◌⊎◌, inl, inr}
+use Rattle.std.proofs.Common.{◌≡◌, ◌≢◌, ℕ, zero, suc, ◌<◌, List, [], ◌∷◌, ◌++◌, length, set, refl, ap, arith, Some, ◌⊎◌, inl, inr}
 use Rattle.std.specs.List.{slice_get}
 
 module _ {X : Type 0} where

@@ -6,6 +6,8 @@ mod area;
 #[cfg(test)]
 mod atoms;
 #[cfg(test)]
+mod heap;
+#[cfg(test)]
 mod numbering;
 #[cfg(test)]
 mod ops;

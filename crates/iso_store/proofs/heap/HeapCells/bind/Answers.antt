@@ -1,4 +1,4 @@
-use Rattle.std.proofs.Common.{take, sym, ◌∙◌, refl}
+use Rattle.std.proofs.Common.{take, ◌∙◌, refl}
 use Rattle.std.proofs.lemmas.Option.{slice_get_within}
 use Rattle.iso_store.specs.declared.heap_cells.Cell.TheVariants.{Unbound}
 use Rattle.iso_store.proofs.HeapReads.{end_is_variable}

@@ -1,4 +1,4 @@
-use Rattle.std.proofs.Common.{take, arith, length, map, ◌++◌, sym, ap, ◌∙◌, ◌≡◌, refl}
+use Rattle.std.proofs.Common.{take, arith, length, map, ◌++◌, ap, ◌∙◌, ◌≡◌, refl}
 use Rattle.std.specs.List.{list_any}
 use Rattle.std.proofs.lemmas.List.{take_all}
 use Rattle.iso_store.specs.HeapTerms.{heap_substitution}

@@ -1,4 +1,4 @@
-use Rattle.std.proofs.Common.{take, ap, sym, ◌∙◌, ◌≡◌, Some}
+use Rattle.std.proofs.Common.{take, ap, sym, ◌∙◌, Some}
 use Rattle.iso_model.specs.Terms.Trees.{Apply, row}
 use Rattle.iso_model.specs.Terms.Substitutions.{apply}
 use Rattle.iso_store_core.proofs.AtomLemmas.{text-kept, atom-kept}

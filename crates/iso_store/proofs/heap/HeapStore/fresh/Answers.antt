@@ -1,6 +1,5 @@
 use Rattle.std.proofs.Common.{ap}
 use Rattle.iso_model.specs.Terms.Trees.{Variable}
-use Rattle.iso_store.proofs.CellCounts.{variable-counted}
 use Rattle.iso_store.proofs.Gathering.{moved-on, made-after}
 use Rattle.iso_store.proofs.heap.HeapStore.fresh.Goals as goal
 

@@ -1,4 +1,4 @@
-use Rattle.std.proofs.Common.{◌≡◌, ap, ◌∙◌, take, drop, length, length-take, arith}
+use Rattle.std.proofs.Common.{◌≡◌, ap, ◌∙◌, take, drop, length-take, arith}
 use Rattle.iso_area.specs.Stacks.{stacks}
 use Rattle.iso_store.specs.HeapStores.{reset, restored}
 use Rattle.iso_store.proofs.HeapResets.{restored-length}
