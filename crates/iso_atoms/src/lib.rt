@@ -94,6 +94,13 @@ impl Atoms {
         self.names.as_slice()[atom.0].as_str()
     }
 
+    /// How many names have a number. Takes no memory.
+    pub fn len(&self) -> usize
+        ensures { result ≡ length self.now }
+    {
+        self.names.len()
+    }
+
     /// How two names compare by their character codes (7.2), which is how their UTF-8 bytes compare. Takes no memory.
     pub fn order(&self, left: Atom, right: Atom) -> Ordering
         requires left { left < length self.now }

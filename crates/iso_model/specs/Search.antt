@@ -5,6 +5,7 @@ pub mod BuiltIns
 pub mod Rows
 pub mod Databases
 pub mod Errors
+pub mod Arithmetic
 pub mod Additions
 pub mod Walker
 pub mod Runs
@@ -12,3 +13,4 @@ pub mod RunLaws
 pub mod Engines
 pub mod WorkedRuns
 pub mod WorkedControl
+pub mod WorkedArithmetic

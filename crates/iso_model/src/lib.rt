@@ -16,6 +16,7 @@ pub mod limit;
 pub mod numbering;
 pub mod pauses;
 pub mod terms;
+pub mod worked_arithmetic;
 pub mod worked_control;
 pub mod worked_runs;
 pub mod worked_terms;

@@ -1,10 +1,10 @@
 -- What is called by the numbers of atoms is what is called by texts, as callables come.
-use Rattle.std.proofs.Common.{◌≡◌, ◌≢◌, ◌<◌, ◌⊎◌, ℕ, zero, suc, List, [], ◌∷◌, ◌++◌, length, get_or, set, refl, sym, ap, ap₂, ◌∙◌, subst, arith, Bool, true, false, ◌&&◌, ◌==◌, inl, inr, Option, Some, None, option_map, slice_get, Vec, Global}
+use Rattle.std.proofs.Common.{◌≡◌, ◌≢◌, ◌<◌, ℕ, zero, suc, List, [], ◌∷◌, ◌++◌, length, get_or, set, refl, sym, ap, ap₂, ◌∙◌, subst, Bool, true, ◌&&◌, ◌==◌, inl, inr, Option, Some, None, option_map, slice_get, Vec, Global}
 use Rattle.std.specs.Option.{option_or}
 use Rattle.std.specs.Str.{bytes_eq}
 use Rattle.std.proofs.lemmas.Bool.{cases_Bool, and_parts, eqb-true, eq-eqb}
 use Rattle.std.proofs.lemmas.List.{get_or-set_same, length-set}
-use Rattle.std.proofs.lemmas.Option.{slice_get_within, slice_get-get_or, get_or_from_slice_get}
+use Rattle.std.proofs.lemmas.Option.{slice_get_within, slice_get-get_or}
 use Rattle.std.proofs.lemmas.Slice.Eq.{bytes_eq-Decides}
 use Rattle.iso_atoms.specs.Texts.{EachOnce, KeepsTexts, text_at}
 use Rattle.iso_model.specs.Search.Databases.{Key, key, same_key}
@@ -16,7 +16,7 @@ use Rattle.iso_store_core.proofs.AtomLemmas.{atom-kept, text-kept, text-is}
 use Rattle.iso_plain.specs.declared.callables.Callable.{Callable}
 use Rattle.iso_plain.specs.declared.callables.Callee.{Callee}
 use Rattle.iso_plain.specs.declared.callables.Callee.TheVariants as callee
-use Rattle.iso_plain.specs.Callables.{where_holds, callee_in, callables_in, callables_at, callee_at, callee_among, Indexes}
+use Rattle.iso_plain.specs.Callables.{where_holds, callee_in, callables_in, callee_at, callee_among, Indexes}
 
 -- ---- a list with an item set
 
@@ -56,9 +56,9 @@ module _ (rows : List (Vec Callable Global)) (place : ℕ) (old new : Vec Callab
         | inr other ↦ (let apart : a ≢ place = λ e. absurd (let both = eq-eqb a place e in cc (both, other)) in
             rw other (ap (λ r. callee_in (callables_in r) n) (set_other rows place a new apart) ∙ or_none (callee_at rows a n)))
       ] where
-    or_none : {X : Type 0} (o : Option X) → o ≡ option_or o None
-    or_none None = refl
-    or_none (Some x) = refl
+        or_none : {X : Type 0} (o : Option X) → o ≡ option_or o None
+        or_none None = refl
+        or_none (Some x) = refl
 
 -- a name more that has none
 pub row_more : (rows : List (Vec Callable Global)) (row : Vec Callable Global) → row.items ≡ [] → (a n : ℕ) → callee_at (rows ++ row ∷ []) a n ≡ callee_at rows a n
@@ -143,16 +143,17 @@ module _ (names : List (List ℕ)) (rows more : List (Vec Callable Global)) (cal
             subst (λ (j : Key). (b : ℕ) × (slice_get names b ≡ Some j.name) × (callee_at more b j.arity ≡ Some d)) same (a, there, found_new gives (ap calls same ∙ was)))
         | inr other ↦ (let no : None ≡ Some d = rw other at h in absurd (cc no))
       ] where
-    found_new : Some c ≡ Some d → calls (key text n) ≡ None → callee_at more a n ≡ Some d
-    found_new gives none = rows_are a n ∙ ap₂ (λ o b. option_or o (where_holds b c)) (nothing (callee_at rows a n) refl) (holds (eq-eqb a a refl) (eq-eqb n n refl)) ∙ gives where
-      nothing : (o : Option Callee) → callee_at rows a n ≡ o → o ≡ None
-      nothing None h = refl
-      nothing (Some x) h =
-          let old = is.sound a n x h in
-          let bad : calls (key text n) ≡ Some x = ap (λ t. calls (key t n)) (sym (text-is names a text there)) ∙ old.1 in
-          absurd (cc (bad, none))
-      holds : {b d : Bool} → b ≡ true → d ≡ true → b && d ≡ true
-      holds e f = ap₂ ◌&&◌ e f
+        found_new : Some c ≡ Some d → calls (key text n) ≡ None → callee_at more a n ≡ Some d
+        found_new gives none = rows_are a n ∙ ap₂ (λ o b. option_or o (where_holds b c)) (nothing (callee_at rows a n) refl) (holds (eq-eqb a a refl) (eq-eqb n n refl)) ∙ gives where
+          nothing : (o : Option Callee) → callee_at rows a n ≡ o → o ≡ None
+          nothing None h = refl
+          nothing (Some x) h =
+              let old = is.sound a n x h in
+              let bad : calls (key text n) ≡ Some x = ap (λ t. calls (key t n)) (sym (text-is names a text there)) ∙ old.1 in
+              absurd (cc (bad, none))
+
+          holds : {b d : Bool} → b ≡ true → d ≡ true → b && d ≡ true
+          holds e f = ap₂ ◌&&◌ e f
 
   pub index_more : Indexes names more also
   index_more = record {

@@ -299,8 +299,7 @@ pub all_read : {W : Type 0} (p q : Present W) (old nodes : List (Node W)) (tasks
 all_read p q old nodes tasks next whole place works none done more adds last =
     let w = rw (none, done) at works in
     let some = (w.1).some in
-    let at = body_meant q (w.1).last in
-    (
+    let at = body_meant q (w.1).last in (
       w.0,
       sym w.2,
       record {

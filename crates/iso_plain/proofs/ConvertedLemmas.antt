@@ -1,8 +1,7 @@
 -- What a term is converted to, by the control construct that it is.
-use Rattle.std.proofs.Common.{◌≡◌, ◌≢◌, ℕ, ◌+◌, ◌<◌, List, [], length, Bool, true, false, refl, sym, ap, ap₂, ◌∙◌, subst, arith, inl, inr, Option, Some, None, codes}
+use Rattle.std.proofs.Common.{◌≡◌, ℕ, List, Bool, true, false, refl, sym, ap, ◌∙◌, arith, inl, inr, Option, Some, None, codes}
 use Rattle.std.specs.Str.{bytes_eq}
 use Rattle.std.proofs.lemmas.Bool.{cases_Bool, true≢false}
-use Rattle.iso_atoms.specs.Texts.{EachOnce, text_at}
 use Rattle.iso_model.specs.Terms.Trees.{Tree, Variable, Integer, Name, Apply, End, More, count}
 use Rattle.iso_model.specs.Terms.Sorts.{is_term}
 use Rattle.iso_model.specs.Terms.Arguments.{member, argument}
@@ -15,7 +14,7 @@ use Rattle.iso_prep.specs.Connectives.{text_of, connective_of, control_of}
 use Rattle.iso_prep.specs.Readings.{is_if, NoChoice}
 use Rattle.iso_prep.proofs.ConnectiveLemmas.{named_by_text}
 use Rattle.iso_prep.proofs.ReadingLemmas.{is_choice, either_plain, either_no_choice}
-use Rattle.iso_plain.specs.Conversions.{joined, chosen}
+use Rattle.iso_plain.specs.Conversions.{joined}
 use Rattle.iso_plain.proofs.GoalLemmas.{row_of_goal, row_whole, member_next}
 
 -- ---- what is no if-then
@@ -80,29 +79,6 @@ converted_joined connective.And a b h = refl
 converted_joined connective.Or a b h = disjunction (converted a) (converted b) (no_choice a h)
 converted_joined connective.If a b h = refl
 
-pub converted_chosen : (c t e : Tree) → converted (two (text_of connective.Or) (two (text_of connective.If) c t) e) ≡ chosen (converted c) (converted t) (converted e)
-converted_chosen c t e = refl
-
--- ---- goals
-
-goal_of_two : (f : List ℕ) (x y : Option Body) (t : Tree) → connective_of f ≡ None → converted_two f x y t ≡ Some (Run t)
-goal_of_two f x y t h =
-    elim (cases_Bool (bytes_eq f (codes ","))) [
-      | inl comma ↦ (let is : Some connective.And ≡ None = rw comma at h in absurd (cc is))
-      | inr no_comma ↦ elim (cases_Bool (bytes_eq f (codes ";"))) [
-        | inl bar ↦ (let is : Some connective.Or ≡ None = rw (no_comma, bar) at h in absurd (cc is))
-        | inr no_bar ↦ elim (cases_Bool (bytes_eq f (codes "->"))) [
-          | inl arrow ↦ (let is : Some connective.If ≡ None = rw (no_comma, no_bar, arrow) at h in absurd (cc is))
-          | inr other ↦ rw (no_comma, no_bar, other) refl
-        ]
-      ]
-    ]
-
--- a compound that is no control construct is a goal
-pub converted_goal : (f : List ℕ) (ts : Tree) → control_of (Apply f ts) ≡ None → converted (Apply f ts) ≡ Some (Run (Apply f ts))
-converted_goal f (More a (More b End)) h = goal_of_two f (converted a) (converted b) (two f a b) h
-converted_goal f ts h = refl
-
 -- ---- the control construct that a compound is
 
 -- one of two arguments
@@ -113,16 +89,6 @@ two_arguments f ts h many =
     let second : members_from 1 ts ≡ More (member 1 ts) (members_from 2 ts) = member_next 1 ts fits (omega (arith, many)) in
     let end : members_from 2 ts ≡ End = ap (λ n. members_from n ts) (sym many) ∙ row_whole ts fits in
     ap (Apply f) (first ∙ ap (More (member 0 ts)) (second ∙ ap (More (member 1 ts)) end))
-
--- none
-pub other_arguments : (f : List ℕ) (ts : Tree) → count ts ≢ 2 → control_of (Apply f ts) ≡ None
-other_arguments f (More a (More b End)) h = absurd (h refl)
-other_arguments f ts h = refl
-
--- one of another name
-pub other_name : (f : List ℕ) (ts : Tree) → connective_of f ≡ None → control_of (Apply f ts) ≡ None
-other_name f (More a (More b End)) h = h
-other_name f ts h = refl
 
 -- the parts of one, as arguments
 pub control_parts : (t : Tree) (f : List ℕ) (ts : Tree) (k : Connective) (a b : Tree) → is_term t ≡ true → t ≡ Apply f ts → count ts ≡ 2 → connective_of f ≡ Some k → a ≡ argument 0 t → b ≡ argument 1 t

@@ -2,9 +2,8 @@
 use Rattle.std.proofs.Common.{◌≡◌, ℕ, zero, suc, ◌+◌, ◌-◌, List, [], ◌∷◌, ◌++◌, Bool, true, false, ◌<◌, ◌≤◌, length, take, drop, get_or, add-one, append_assoc, append-nil, length-append, ◌==◌, refl, ap, sym, ◌∙◌, subst, arith}
 use Rattle.std.proofs.Math.Seq.{drop-cons, take-suc}
 use Rattle.iso_store_core.specs.declared.patterns.Pattern.{Pattern}
-use Rattle.iso_model.specs.Terms.Trees.{Tree, Variable, Integer, Name, Apply, End, More, count}
+use Rattle.iso_model.specs.Terms.Trees.{Tree, Variable, count}
 use Rattle.iso_model.specs.Search.Bodies.{Body, map_body}
-use Rattle.iso_model.specs.Search.Databases.{key_of}
 use Rattle.iso_model.specs.Terms.Substitutions.{Subst, apply, compose}
 use Rattle.iso_model.specs.Terms.Unifiers.{Unifier, NeverEqual}
 use Rattle.iso_model.specs.Terms.Copies.{numbers_from, renamed}

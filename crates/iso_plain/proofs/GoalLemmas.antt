@@ -1,11 +1,13 @@
 -- Goals that are called, and their arguments.
-use Rattle.std.proofs.Common.{◌≡◌, ℕ, zero, suc, ◌+◌, ◌-◌, ◌<◌, ◌≤◌, List, [], ◌∷◌, ◌++◌, map, length, true, false, refl, sym, ap, ap₂, ◌∙◌, subst, arith, inl, inr, nat_le, nat_lt}
-use Rattle.std.proofs.lemmas.Bool.{cases_Bool, and_parts, false≢true, leb-true, ltb-true}
+use Rattle.std.proofs.Common.{◌≡◌, ℕ, zero, suc, ◌+◌, ◌-◌, ◌<◌, List, [], ◌∷◌, ◌++◌, map, length, true, refl, sym, ap, ap₂, ◌∙◌, subst, arith, nat_le}
+use Rattle.std.proofs.lemmas.Bool.{and_parts, false≢true}
 use Rattle.iso_model.specs.Terms.Trees.{Tree, Variable, Integer, Name, Apply, End, More, count, row}
 use Rattle.iso_model.specs.Terms.Sorts.{is_term, is_row}
 use Rattle.iso_model.specs.Terms.Arguments.{arguments, arity, member, argument, others, joined, with_arguments}
+use Rattle.iso_model.specs.Terms.Substitutions.{apply}
 use Rattle.iso_store_core.specs.Arguments.{members_from}
-use Rattle.iso_plain.specs.Replies.{HasName, HasNoName, called_of}
+use Rattle.iso_store_core.specs.Presents.{Present, Makes, meaning}
+use Rattle.iso_plain.specs.Replies.{HasName, called_of}
 
 -- ---- lists of terms
 
@@ -71,14 +73,6 @@ row_of_goal (Apply f ts) h = (and_parts (nat_le (count ts) 255) (is_row ts) (and
 row_of_goal End h = absurd (false≢true h)
 row_of_goal (More t ts) h = absurd (false≢true h)
 
-few_of_term : (t : Tree) → is_term t ≡ true → arity t ≤ 255
-few_of_term (Variable n) h = omega arith
-few_of_term (Integer z) h = omega arith
-few_of_term (Name a) h = omega arith
-few_of_term (Apply f ts) h = (let few = leb-true _ _ (and_parts (nat_le (count ts) 255) (is_row ts) (and_parts (nat_le 1 (count ts)) _ h).1).0 in omega (arith, few))
-few_of_term End h = absurd (false≢true h)
-few_of_term (More t ts) h = absurd (false≢true h)
-
 -- its name, its first argument, and the others
 record HasArguments (t : Tree) : Type 0 where
   name : List ℕ
@@ -109,38 +103,6 @@ module _ (t : Tree) (fits : is_term t ≡ true) (some : 0 < arity t) where
 
   called_is : called_of t ≡ with_arguments parts.first parts.behind
   called_is = ap called_of parts.is
-
-  -- its first argument alone
-  pub called_alone : arity t - 1 ≡ 0 → argument 0 t ≡ called_of t
-  called_alone one =
-      let total : arity t ≡ count parts.behind + 1 = ap arity parts.is in
-      ap (argument 0) parts.is ∙ alone parts.first parts.behind parts.behind_row (omega (arith, total, one)) ∙ sym called_is
-    where
-      alone : (g os : Tree) → is_row os ≡ true → count os ≡ 0 → g ≡ with_arguments g os
-      alone g End r none = refl
-      alone g (Variable n) r none = absurd (false≢true r)
-      alone g (Integer z) r none = absurd (false≢true r)
-      alone g (Name a) r none = absurd (false≢true r)
-      alone g (Apply f ts) r none = absurd (false≢true r)
-      alone g (More u us) r none = absurd (omega (arith, none))
-
-  -- a first argument that has no name stays alone
-  pub called_unnamed : HasNoName (argument 0 t) → argument 0 t ≡ called_of t
-  called_unnamed none =
-      ap (argument 0) parts.is ∙ unnamed parts.first parts.behind parts.behind_row (subst HasNoName (ap (argument 0) parts.is) none) ∙ sym called_is
-    where
-      unnamed : (g os : Tree) → is_row os ≡ true → HasNoName g → g ≡ with_arguments g os
-      unnamed g End r none = refl
-      unnamed g (Variable n) r none = absurd (false≢true r)
-      unnamed g (Integer z) r none = absurd (false≢true r)
-      unnamed g (Name a) r none = absurd (false≢true r)
-      unnamed g (Apply f ts) r none = absurd (false≢true r)
-      unnamed (Name a) (More u us) r none = absurd none
-      unnamed (Apply f ts) (More u us) r none = absurd none
-      unnamed (Variable n) (More u us) r none = refl
-      unnamed (Integer z) (More u us) r none = refl
-      unnamed End (More u us) r none = refl
-      unnamed (More v vs) (More u us) r none = refl
 
   -- a first argument that has a name, with the others behind its own
   pub called_named : (f : List ℕ) (args : Tree) → HasName f (argument 0 t) → (arity t - 1 ≡ 0 → ⊥) → args ≡ joined (joined End (members_from 0 (arguments (argument 0 t)))) (members_from 1 (arguments t)) → Apply f args ≡ called_of t
@@ -188,8 +150,12 @@ module _ (t : Tree) (fits : is_term t ≡ true) (some : 0 < arity t) where
       let behind = ap count behind_is in
       omega (arith, all, sum, behind, total)
 
--- a term has no more arguments than terms have
-pub few_arguments_of : (t : Tree) → is_term t ≡ true → nat_lt 255 (arity t) ≡ false
-few_arguments_of t fits =
-    let few = few_of_term t fits in
-    elim (cases_Bool (nat_lt 255 (arity t))) [ inl over ↦ absurd (let more = ltb-true _ _ over in omega (arith, few, more)) | inr under ↦ under ]
+-- ---- compounds of words
+
+row_applied : {W : Type 0} (p : Present W) (ws : List W) → apply p.substitution (row (map p.term ws)) ≡ row (map (meaning p) ws)
+row_applied p [] = refl
+row_applied p (w ∷ ws) = ap (More (meaning p w)) (row_applied p ws)
+
+-- one that was made stands for its arguments' values
+pub made_value : {W : Type 0} (p q : Present W) (w : W) (f : List ℕ) (ws : List W) → Makes p q w (Apply f (row (map p.term ws))) → meaning q w ≡ Apply f (row (map (meaning p) ws))
+made_value p q w f ws made = ap₂ apply made.substitution made.term ∙ ap (Apply f) (row_applied p ws)

@@ -15,7 +15,7 @@ use Rattle.iso_plain.specs.Entering.{Fits, GoalFits, PartsFit}
 use Rattle.iso_plain.specs.Written.{IsPatternOf, term_in}
 use Rattle.iso_plain.specs.EngineStates.{left_at}
 use Rattle.iso_plain.proofs.NodeLemmas.{each_goal}
-use Rattle.iso_plain.proofs.WrittenLemmas.{term_is, is_written, clause_kept}
+use Rattle.iso_plain.proofs.WrittenLemmas.{term_is, is_written}
 
 -- the clause at a place
 pub record ClauseAt (names : List (List ℕ)) (ks : List Clause) (j : ℕ) (c : databases.Clause) : Type 0 where

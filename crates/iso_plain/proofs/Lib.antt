@@ -33,7 +33,6 @@ pub mod EndLemmas
 pub mod ErrorLemmas
 pub mod CalledLemmas
 pub mod GoalLemmas
-pub mod PlacedLemmas
 pub mod ReplyLemmas
 pub mod RunLemmas
 pub mod CallLemmas

@@ -62,15 +62,15 @@ position_cons p x xs =
       | inl here ↦ position_from p (x ∷ xs) 0 (here_first p x xs here) (omega arith) ∙ sym (ap (λ b. if b then Some 0 else option_map suc (position p xs)) here)
       | inr later ↦ by_rest (position p xs) refl later ∙ sym (ap (λ b. if b then Some 0 else option_map suc (position p xs)) later)
     ] where
-  by_rest : (o : Option ℕ) → position p xs ≡ o → p x ≡ false → position p (x ∷ xs) ≡ option_map suc o
-  by_rest (Some n) h later =
-      let at = position_of p xs n h in
-      let first = later_first p x xs later in
-      position_from p (x ∷ xs) (suc n) (omega (arith, first, at.0)) (omega (arith, at.1))
-  by_rest None h later =
-      let past = position_none p xs h in
-      let first = later_first p x xs later in
-      none_from p (x ∷ xs) (omega (arith, first, past))
+      by_rest : (o : Option ℕ) → position p xs ≡ o → p x ≡ false → position p (x ∷ xs) ≡ option_map suc o
+      by_rest (Some n) h later =
+          let at = position_of p xs n h in
+          let first = later_first p x xs later in
+          position_from p (x ∷ xs) (suc n) (omega (arith, first, at.0)) (omega (arith, at.1))
+      by_rest None h later =
+          let past = position_none p xs h in
+          let first = later_first p x xs later in
+          none_from p (x ∷ xs) (omega (arith, first, past))
 
 -- where a list's first place that passes is, by its first element
 pub found_cases : {X : Type 0} (p : X → Bool) (x : X) (xs : List X) (n : ℕ) → position p (x ∷ xs) ≡ Some n

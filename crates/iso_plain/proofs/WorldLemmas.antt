@@ -1,5 +1,5 @@
 -- What outlives a run stays what it is where names come.
-use Rattle.std.proofs.Common.{◌≡◌, ℕ, List, [], ◌∷◌, subst, sym, Vec, Global}
+use Rattle.std.proofs.Common.{◌≡◌, ℕ, List, subst, sym, Vec, Global}
 use Rattle.iso_atoms.specs.Texts.{KeepsTexts}
 use Rattle.iso_ops.specs.Operators.{Operator}
 use Rattle.iso_ops.specs.declared.settings.Flags.{Flags}

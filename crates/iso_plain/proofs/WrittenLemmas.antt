@@ -1,5 +1,5 @@
 -- Terms, bodies and clauses written out for the store: they stay what they are where names come.
-use Rattle.std.proofs.Common.{◌≡◌, ℕ, ◌+◌, ◌-◌, ◌<◌, List, [], ◌∷◌, ◌++◌, length, take, get_or, add-one, refl, sym, ap, ◌∙◌, subst, arith, true, false, inl, inr, slice_index_or}
+use Rattle.std.proofs.Common.{◌≡◌, ℕ, ◌+◌, ◌-◌, ◌<◌, List, [], ◌∷◌, ◌++◌, length, take, get_or, add-one, refl, sym, ap, ◌∙◌, subst, arith, inl, inr, slice_index_or}
 use Rattle.std.proofs.Math.Seq.{take-suc}
 use Rattle.std.proofs.lemmas.Bool.{cases_Bool}
 use Rattle.iso_atoms.specs.Texts.{KeepsTexts}
@@ -105,10 +105,10 @@ module _ (names : List (List ℕ)) where
         | inl fact ↦ (let none : parts ≡ [] = rw fact at are in rw fact (nothing parts ws none h))
         | inr other ↦ (let ends : EndsWith IsTermOf parts b = rw other at are in rw other (written_ends parts ws b h ends))
       ] where
-    nothing : (parts : List (Node Term)) (ws : List (Node Pattern)) → parts ≡ [] → AreAlike (IsWrittenFor names) parts ws → ws ≡ []
-    nothing [] [] none h = refl
-    nothing [] (w ∷ ws) none h = absurd h
-    nothing (part ∷ parts) ws none h = absurd (cc none)
+        nothing : (parts : List (Node Term)) (ws : List (Node Pattern)) → parts ≡ [] → AreAlike (IsWrittenFor names) parts ws → ws ≡ []
+        nothing [] [] none h = refl
+        nothing [] (w ∷ ws) none h = absurd h
+        nothing (part ∷ parts) ws none h = absurd (cc none)
 
   -- a clause is written
   pub clause_written : (checked : Checked) (kept : Clause) (c : databases.Clause) → IsWrittenFor names checked.head kept.head → AreAlike (IsWrittenFor names) checked.parts.items kept.parts.items → kept.variables ≡ checked.variables

@@ -3,8 +3,6 @@ use Rattle.std.specs.Prelude.{◌≡◌, ◌+◌, ℕ, List, length, Some, true,
 use Rattle.iso_model.specs.Terms.Trees.{Tree, Variable, Name, Apply, arities_fit}
 use Rattle.iso_model.specs.declared.pauses.Ball.{Ball}
 use Rattle.iso_model.specs.Terms.TermOf.{term_of}
-use Rattle.iso_model.specs.Terms.Sorts.{is_term}
-use Rattle.iso_model.specs.Terms.Copies.{copy_from}
 use Rattle.iso_model.specs.Terms.Arguments.{argument, arguments, arity, others, with_arguments}
 use Rattle.iso_model.specs.Terms.Substitutions.{Subst}
 use Rattle.iso_model.specs.Terms.Unifiers.{Unifier, NeverEqual}
@@ -12,7 +10,6 @@ use Rattle.iso_model.specs.Search.Bodies.{Body, converted, map_body}
 use Rattle.iso_model.specs.Search.BuiltIns.{Reply, Fails, Succeeds, Equates, Raises, Calls, CallsOnce, Refutes, Repeats, Catches, Halts, goal_reply}
 use Rattle.iso_model.specs.Search.Errors.{Key, max_arity_error}
 use Rattle.iso_store_core.specs.Presents.{Present, Binds, KeepsWords}
-use Rattle.iso_prep.specs.Preparations.{Preparation}
 use Rattle.iso_plain.specs.declared.bodies.Node.{Node}
 use Rattle.iso_plain.specs.declared.goals.Placed.{Placed}
 use Rattle.iso_plain.specs.declared.goals.Placed.TheVariants as placed
@@ -36,11 +33,6 @@ pub record Places {W : Type 0} (p q : Present W) (old new : List (Node W)) (b : 
 abbrev pub IsBound : Tree → Type 0
 IsBound (Variable n) = ⊥
 IsBound t = Unit {0}
-
--- What was made ready is this goal.
-pub record IsGoalReady (p : Preparation) (t : Tree) : Type 0 where
-  pub copied : converted (copy_from t 0) ≡ Some p.body
-  pub term : is_term t ≡ true
 
 -- an atom or a compound of this name
 abbrev pub HasName : List ℕ → Tree → Type 0

@@ -10,7 +10,7 @@ use Rattle.iso_store.specs.NodeTerms.{term_at, binding_of, substitution_of}
 use Rattle.iso_store.specs.NodeStores.{IsStore, LeadsBack, MayPush, unbound, unbound_at, reset, restored}
 use Rattle.iso_store.specs.declared.marks.NodesMark.{NodesMark}
 use Rattle.iso_store.specs.NodeVariables.{Inside, inside-term, inside-meaning}
-use Rattle.iso_store.proofs.NodeChanges.{slice_get-pushed, slice_get-set, slice_get-here}
+use Rattle.iso_store.specs.Slices.{slice_get-pushed, slice_get-set, slice_get-here}
 
 before-or-not : (a b : ℕ) → (a < b) ⊎ (b ≤ a)
 before-or-not a zero = inr (omega arith)

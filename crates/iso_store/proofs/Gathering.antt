@@ -125,3 +125,8 @@ moved-on r number (Err e) is moved taken = taken
 
 pub grows-within : {W : Type 0} {p q : Present W} {m : ℕ} (k : ℕ) → Grows p q m → m ≤ k → Grows p q k
 grows-within k grows more = record { cells = let a = grows.cells in omega arith; keeps = grows.keeps; limit = grows.limit; within = grows.within }
+
+-- a word that is made after a change that keeps words and bindings
+pub made-after : {W E : Type 0} {p q : Present W} (r : Present W) (t u : Tree) (result : Result W E) → KeepsWords p q → q.substitution ≡ p.substitution → t ≡ u → IfOk result (λ w. Makes q r w t) → IfOk result (λ w. Makes p r w u)
+made-after r t u (Ok w) words same is makes = record { words = keeps-then words makes.words; substitution = makes.substitution ∙ same; holds = makes.holds; term = makes.term ∙ is }
+made-after r t u (Err e) words same is makes = makes

@@ -24,3 +24,15 @@ pub mod Renaming
 pub mod UnifyLemmas
 pub mod SearchLemmas
 pub mod ListingLemmas
+pub mod RoundBound
+pub mod HeapReads
+pub mod HeapPushes
+pub mod HeapAreas
+pub mod HeapBinds
+pub mod HeapNames
+pub mod HeapSorts
+pub mod HeapResets
+pub mod HeapMarked
+pub mod HeapBound
+pub mod HeapMade
+pub mod HeapCompounds

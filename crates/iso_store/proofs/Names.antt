@@ -1,7 +1,6 @@
 -- Names that come leave the terms of the nodes as they are.
 use Rattle.std.proofs.Common.{◌≡◌, ℕ, ◌<◌, List, [], ◌∷◌, ◌++◌, length, take, refl, ap, ap₂, sym, ◌∙◌, Option, Some, None, suc, nat_lt}
 use Rattle.std.specs.List.{slice_get, slice_index_or, list_any}
-use Rattle.std.proofs.lemmas.Option.{slice_get_within, slice_get-get_or, get_or_from_slice_get}
 use Rattle.iso_atoms.specs.Texts.{KeepsTexts}
 use Rattle.iso_store_core.proofs.AtomLemmas.{text-kept, atom-kept}
 use Rattle.iso_model.specs.Terms.Trees.{Tree, Variable, Name, Apply, End, row}

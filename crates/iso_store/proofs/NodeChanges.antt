@@ -1,5 +1,5 @@
 -- A node more and a binding more keep a store.
-use Rattle.std.proofs.Common.{◌≡◌, ◌≢◌, ℕ, zero, suc, ◌<◌, ◌≤◌, ◌==◌, List, [], ◌∷◌, ◌++◌, length, set, Bool, true, false, refl, ap, sym, ◌∙◌, subst, arith, length-append, length-set, Some, None, Vec, Global, ◌⊎◌, inl, inr, if◌then◌else◌}
+use Rattle.std.proofs.Common.{◌≡◌, ◌≢◌, ℕ, ◌<◌, ◌≤◌, ◌==◌, List, [], ◌∷◌, ◌++◌, length, set, Bool, true, false, refl, ap, sym, ◌∙◌, subst, arith, length-append, length-set, Some, None, Vec, Global, ◌⊎◌, inl, inr, if◌then◌else◌}
 use Rattle.std.specs.List.{slice_get}
 use Rattle.std.proofs.lemmas.List.{map-append}
 use Rattle.std.proofs.lemmas.Bool.{false≢true, and_from, or_cases, or_left, or_right, eqb-true, eq-eqb, cases_eq}
@@ -9,36 +9,13 @@ use Rattle.iso_model.specs.Terms.Variables.{occurs, is_in}
 use Rattle.iso_model.specs.Terms.Substitutions.{apply, compose, single}
 use Rattle.iso_store.specs.declared.nodes.Node.{Node}
 use Rattle.iso_store.specs.declared.nodes.Node.TheVariants.{Var, Atom, Compound}
+use Rattle.iso_store.specs.Slices.{slice_get-pushed, slice_get-push, slice_get-set, slice_get-here}
 use Rattle.iso_store.specs.NodeTerms.{term_at, binding_of, binding_at, bindings, bind_all, substitution_of, all_may_bind}
 use Rattle.iso_store.specs.NodeStores.{is_bound, IsStore, MayPush}
 use Rattle.iso_store.specs.NodeLemmas.{term_at-push, term_at-bound}
 use Rattle.iso_store.specs.NodeNumbers.{unnumbered, trail_parts}
 use Rattle.iso_store.proofs.NodeReads.{free_value}
 use Rattle.iso_store.proofs.Trails.{bind_all-push, may_bind-push, may_bind-from}
-
--- a node of a longer list is one of the list, or the last one
-pub slice_get-pushed : (cs : List Node) (c x : Node) (w : ℕ) → slice_get (cs ++ c ∷ []) w ≡ Some x → (slice_get cs w ≡ Some x) ⊎ ((w ≡ length cs) × (c ≡ x))
-slice_get-pushed [] c x zero h = inr (refl, cc)
-slice_get-pushed [] c x (suc w) h = absurd (cc)
-slice_get-pushed (d ∷ cs) c x zero h = inl h
-slice_get-pushed (d ∷ cs) c x (suc w) h = elim (slice_get-pushed cs c x w h) [ inl e ↦ inl e | inr e ↦ inr (ap suc e.0, e.1) ]
-
-pub slice_get-push : (cs : List Node) (c : Node) (w : ℕ) → w < length cs → slice_get (cs ++ c ∷ []) w ≡ slice_get cs w
-slice_get-push [] c w h = absurd (omega arith)
-slice_get-push (d ∷ cs) c zero h = refl
-slice_get-push (d ∷ cs) c (suc w) h = slice_get-push cs c w (omega arith)
-
-pub slice_get-set : (cs : List Node) (e w : ℕ) (v : Node) → w ≢ e → slice_get (set cs e v) w ≡ slice_get cs w
-slice_get-set [] e w v h = refl
-slice_get-set (c ∷ cs) zero zero v h = absurd (h refl)
-slice_get-set (c ∷ cs) zero (suc w) v h = refl
-slice_get-set (c ∷ cs) (suc e) zero v h = refl
-slice_get-set (c ∷ cs) (suc e) (suc w) v h = slice_get-set cs e w v (λ q. h (ap suc q))
-
-pub slice_get-here : (cs : List Node) (e : ℕ) (v x : Node) → slice_get cs e ≡ Some x → slice_get (set cs e v) e ≡ Some v
-slice_get-here [] e v x h = absurd (cc)
-slice_get-here (c ∷ cs) zero v x h = refl
-slice_get-here (c ∷ cs) (suc e) v x h = slice_get-here cs e v x h
 
 -- where these are the names of the atoms
 module _ (names : List (List ℕ)) where

@@ -29,7 +29,7 @@ row-sorted f [] sorted = refl
 row-sorted f (w ∷ ws) sorted =
     and_from (is_term (f w)) (is_row (row (map f ws))) (sorted 0 (omega arith)) (row-sorted f ws (λ k h. sorted (suc k) (omega arith)))
 
-compound-sorted : (f : List ℕ) (ts : Tree) → 0 < count ts → count ts < 256 → is_row ts ≡ true → is_term (Apply f ts) ≡ true
+pub compound-sorted : (f : List ℕ) (ts : Tree) → 0 < count ts → count ts < 256 → is_row ts ≡ true → is_term (Apply f ts) ≡ true
 compound-sorted f ts some few sorted =
     and_from (nat_le 1 (count ts)) (nat_le (count ts) 255 && is_row ts) (le-leb 1 (count ts) (omega arith))
     (and_from (nat_le (count ts) 255) (is_row ts) (le-leb (count ts) 255 (omega arith)) sorted)

@@ -11,3 +11,13 @@ pub mod NodeStores
 pub mod NodeLemmas
 pub mod NodeVariables
 pub mod NodeNumbers
+pub mod Rounds
+pub mod HeapTerms
+pub mod HeapStores
+pub mod RoundLemmas
+pub mod Slices
+pub mod HeapLemmas
+pub mod HeapNumbers
+pub mod HeapUntouched
+pub mod HeapProps
+pub mod HeapRoom

@@ -1,5 +1,5 @@
 //! What unification, copying in and copying out need of a store.
-ghost use Rattle.std.specs.Prelude.{◌≡◌, ℕ, List, Some, slice_get, ◌+◌, ◌<◌, ◌≤◌, ◌^◌, IfOk, OnOk, OnErr, length, map, true, false};
+ghost use Rattle.std.specs.Prelude.{◌≡◌, ℕ, List, Some, slice_get, ◌+◌, ◌<◌, ◌≤◌, ◌^◌, IfOk, IfSome, IsSome, OnOk, OnErr, length, map, true, false};
 ghost use Rattle.std.specs.List.{All};
 ghost use Rattle.iso_atoms.specs.Texts.{EachOnce, KeepsTexts, text_at};
 ghost use Rattle.iso_model.specs.Terms.Trees.{Tree, Integer, Name, Apply, Variable, row};
@@ -51,11 +51,12 @@ pub(crate) trait Cells {
         ensures holds { Holds (present self.now) result }
         ensures value { meaning (present self.now) result ≡ argument index (meaning (present self.now) word) };
 
-    /// The place of what the word stands for: words of one place stand for one term.
-    fn place(&self, word: Self::Word) -> usize
+    /// The place of what the word stands for: words of one place stand for one term. Variables and compounds have places.
+    fn place(&self, word: Self::Word) -> Option<usize>
         requires { Holds (present self.now) word }
-        ensures value { at_place self.now result ≡ meaning (present self.now) word }
-        ensures variable { (n : ℕ) → meaning (present self.now) word ≡ Variable n → variable_place self.now n ≡ result };
+        ensures value { IfSome result (λ k. at_place self.now k ≡ meaning (present self.now) word) }
+        ensures variable { (n : ℕ) → meaning (present self.now) word ≡ Variable n → result ≡ Some (variable_place self.now n) }
+        ensures compound { 0 < arity (meaning (present self.now) word) → IsSome result };
 
     /// Whether it shows without a search that the unbound variable does not occur in what the other word stands for. False
     /// says nothing.

@@ -54,7 +54,7 @@ impl Cells for Counting {
         self.nodes.arg(word, index)
     }
 
-    fn place(&self, word: usize) -> usize {
+    fn place(&self, word: usize) -> Option<usize> {
         self.nodes.place(word)
     }
 

@@ -1,5 +1,5 @@
 //! Words that stand for equal terms, which are joined: a place leads to a word of an earlier place that stands for the same.
-ghost use Rattle.std.specs.Prelude.{◌≡◌, ◌<◌, IfSome, OnOk};
+ghost use Rattle.std.specs.Prelude.{◌≡◌, ◌<◌, IfSome, OnOk, true};
 ghost use Rattle.iso_store_core.specs.Presents.{Holds, meaning};
 ghost use Rattle.iso_store.specs.Unifying.{AreJoined};
 
@@ -21,7 +21,7 @@ fn next_joined<C: Cells>(
     ensures earlier { IfSome result (λ n. n.1 < place) }
 {
     let next = joined.at(place)?;
-    let next_place = store.place(next);
+    let next_place = store.place(next)?;
     if next_place >= place {
         return None;
     }
@@ -43,13 +43,31 @@ pub(crate) fn end_of_joins<C: Cells>(
     ensures holds { Holds (C.present store.now) result }
     ensures value { meaning (C.present store.now) result ≡ meaning (C.present store.now) word }
 {
+    let Some(first) = store.place(word) else {
+        return word;
+    };
     let mut end = word;
-    let mut place = store.place(word);
+    let mut place = first;
     while let Some((next, next_place)) = next_joined(store, place, joined) {
         end = next;
         place = next_place;
     }
     end
+}
+
+/// Whether the two words stand for what is at one place, and so for one term. False says nothing.
+pub(crate) fn are_at_one_place<C: Cells>(store: &C, one: C::Word, other: C::Word) -> bool
+    requires one { Holds (C.present store.now) one }
+    requires other { Holds (C.present store.now) other }
+    ensures { result ≡ true → meaning (C.present store.now) one ≡ meaning (C.present store.now) other }
+{
+    let Some(one_place) = store.place(one) else {
+        return false;
+    };
+    let Some(other_place) = store.place(other) else {
+        return false;
+    };
+    one_place == other_place
 }
 
 /// Joins two words that stand for one term. The error is that memory was refused.
@@ -65,8 +83,12 @@ pub(crate) fn join<C: Cells>(
     requires joined { AreJoined (C.present store.now) (C.at_place store.now) joined.old }
     ensures { OnOk result (AreJoined (C.present store.now) (C.at_place store.now) joined.new) }
 {
-    let one_place = store.place(one);
-    let other_place = store.place(other);
+    let Some(one_place) = store.place(one) else {
+        return Ok(());
+    };
+    let Some(other_place) = store.place(other) else {
+        return Ok(());
+    };
     if one_place < other_place {
         joined.note(other_place, one)
     } else {

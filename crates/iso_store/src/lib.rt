@@ -6,6 +6,9 @@ mod cells;
 mod copies;
 #[cfg(test)]
 mod counting;
+mod heap;
+mod heap_cells;
+mod heap_marks;
 mod instances;
 mod joins;
 mod marks;
@@ -21,6 +24,8 @@ mod tests;
 mod unify;
 mod variables;
 
+pub use heap::Heap;
+pub use heap_cells::{HeapMark, HeapWord};
 pub use iso_store_core::{Part, Pattern, Shape, Store, StoreFault};
 pub use marks::NodesMark;
 pub use nodes::Nodes;

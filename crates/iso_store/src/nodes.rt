@@ -2,6 +2,7 @@
 ghost use Rattle.std.specs.Prelude.{◌≡◌, ℕ, ◌+◌, ◌<◌, ◌≤◌, ◌++◌, ◌∷◌, [], length, IfOk, is_ok, if◌then◌else◌, MatchOption, true, false};
 ghost use Rattle.std.specs.List.{slice_get, position_or_len};
 ghost use Rattle.iso_atoms.specs.Texts.{EachOnce};
+ghost use Rattle.iso_model.specs.Terms.Sizes.{size};
 ghost use Rattle.iso_model.specs.Terms.Substitutions.{apply};
 ghost use Rattle.iso_store.specs.declared.nodes.Node.TheVariants.{Var};
 ghost use Rattle.iso_store.specs.NodeTerms.{term_at, substitution_of};
@@ -159,8 +160,8 @@ impl Cells for Nodes {
         arguments[index]
     }
 
-    fn place(&self, word: usize) -> usize {
-        self.walked(word)
+    fn place(&self, word: usize) -> Option<usize> {
+        Some(self.walked(word))
     }
 
     fn is_apart(&self, variable: usize, word: usize) -> bool {
@@ -237,6 +238,8 @@ impl Store for Nodes {
     ghost older = { IsOlder };
 
     ghost full = { λ s. s.limit ≤ length s.nodes.items };
+
+    ghost built_cells = { size };
 
     fn shape(&self, word: usize) -> Shape {
         Cells::shape(self, word)

@@ -44,7 +44,9 @@ fn enter<C: Cells>(
         Shape::Var(other) => Ok(other == number),
         Shape::Int(_) | Shape::Atom(_) => Ok(false),
         Shape::Compound(_, count) => {
-            let place = store.place(word);
+            let Some(place) = store.place(word) else {
+                unreachable!()
+            };
             if searched.at(place).is_some() {
                 return Ok(false);
             }

@@ -12,7 +12,7 @@ ghost use Rattle.iso_store.specs.Meetings.{IsYounger, IsMeeting};
 ghost use Rattle.iso_store.specs.Unifying.{IsPair, AreJoined, Stands, Steps, ones, others};
 
 use super::cells::Cells;
-use super::joins::{end_of_joins, join};
+use super::joins::{are_at_one_place, end_of_joins, join};
 use super::meetings::{Meeting, meet};
 use super::notes::Notes;
 use super::occurs::occurs;
@@ -96,7 +96,7 @@ fn leave_arguments<C: Cells>(
 {
     let one = end_of_joins(store, one, joined);
     let other = end_of_joins(store, other, joined);
-    if store.place(one) == store.place(other) {
+    if are_at_one_place(store, one, other) {
         return Ok(());
     }
     tasks.push(Task::Join(one, other))?;

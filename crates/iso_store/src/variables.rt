@@ -42,7 +42,9 @@ fn list_next<C: Cells>(
     ensures load { OnOk result (listing_load (C.present store.now) listing.new < 2 * size (meaning (C.present store.now) word) + listing_load (C.present store.now) listing.old) }
 {
     let shape = store.shape(word);
-    let place = store.place(word);
+    let Some(place) = store.place(word) else {
+        return Ok(());
+    };
     if listing.searched.at(place).is_some() {
         return Ok(());
     }

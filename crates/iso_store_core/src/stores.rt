@@ -5,7 +5,6 @@ ghost use Rattle.iso_atoms.specs.Texts.{EachOnce, KeepsTexts, text_at};
 ghost use Rattle.iso_model.specs.Terms.Trees.{Tree, Integer, Name, Apply, Variable, row, arities_fit};
 ghost use Rattle.iso_model.specs.Terms.TermOf.{term_of};
 ghost use Rattle.iso_model.specs.Terms.Sorts.{is_term};
-ghost use Rattle.iso_model.specs.Terms.Sizes.{size};
 ghost use Rattle.iso_model.specs.Terms.Variables.{variables, variable_count};
 ghost use Rattle.iso_model.specs.Terms.Substitutions.{IsSubstitution, apply};
 ghost use Rattle.iso_model.specs.Terms.Copies.{copy_from};
@@ -38,6 +37,8 @@ pub trait Store {
     ghost older: { Self.Mark → Self.Mark → Type 0 };
     // no cell is left
     ghost full: { Self → Type 0 };
+    // how many cells a copy of the term takes at most
+    ghost built_cells: { Tree → ℕ };
 
     /// What the word stands for.
     fn shape(&self, word: Self::Word) -> Shape
@@ -141,7 +142,7 @@ pub trait Store {
         requires next { (present self.old).next < 2 ^ 63 }
         ensures made { IfOk result (λ w. Makes (present self.old) (present self.new) w (copy_from (term_of term.now) (present self.old).next)) }
         ensures numbers { OnOk result (MovesOn (present self.old) (present self.new) (variable_count (term_of term.now))) }
-        ensures cells { Grows (present self.old) (present self.new) (size (term_of term.now)) }
+        ensures cells { Grows (present self.old) (present self.new) (built_cells (term_of term.now)) }
         ensures counted { OnOk result (NumbersHaveCells (present self.old) (present self.new)) }
         ensures full { result ≡ Err StoreFault.Full → full self.new }
         ensures names { KeepsTexts (names self.old) (names self.new) }

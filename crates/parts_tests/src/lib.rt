@@ -4,7 +4,11 @@
 #[cfg(test)]
 mod area;
 #[cfg(test)]
+mod arithmetic;
+#[cfg(test)]
 mod atoms;
+#[cfg(test)]
+mod heap;
 #[cfg(test)]
 mod numbering;
 #[cfg(test)]

@@ -25,7 +25,7 @@ fn compound(alloc: Global, name: &str, arguments: Vec<Term>) -> Result<Term, All
 }
 
 /// The list of the integers from `length` - 1 down to 0.
-fn list(alloc: Global, length: i64) -> Result<Term, AllocError> {
+pub(crate) fn list(alloc: Global, length: i64) -> Result<Term, AllocError> {
     let mut whole = Term::Atom(String::from_str(alloc, "[]")?);
     for value in 0..length {
         let pair = vec![in alloc; Term::Int(value), whole]?;
@@ -35,7 +35,7 @@ fn list(alloc: Global, length: i64) -> Result<Term, AllocError> {
 }
 
 /// f(X, Y, X) = f(a, Z, W)
-fn equation(alloc: Global) -> Result<Term, AllocError> {
+pub(crate) fn equation(alloc: Global) -> Result<Term, AllocError> {
     let left = compound(
         alloc,
         "f",
@@ -51,7 +51,7 @@ fn equation(alloc: Global) -> Result<Term, AllocError> {
 }
 
 /// Whether there was no room. The error is that memory was refused.
-fn is_full(made: Result<usize, StoreFault>) -> Result<bool, StoreFault> {
+pub(crate) fn is_full<W: Copy>(made: Result<W, StoreFault>) -> Result<bool, StoreFault> {
     match made {
         Err(StoreFault::NoMemory) => Err(StoreFault::NoMemory),
         Err(StoreFault::Full) => Ok(true),
@@ -60,7 +60,7 @@ fn is_full(made: Result<usize, StoreFault>) -> Result<bool, StoreFault> {
 }
 
 /// The two sides of the equation that the word stands for.
-fn sides<S: Store>(rt: &impl Abort, store: &S, word: S::Word) -> (S::Word, S::Word)
+pub(crate) fn sides<S: Store>(rt: &impl Abort, store: &S, word: S::Word) -> (S::Word, S::Word)
     requires { Holds (S.present store.now) word }
     ensures first { Holds (S.present store.now) result.0 }
     ensures second { Holds (S.present store.now) result.1 }
@@ -74,7 +74,7 @@ fn sides<S: Store>(rt: &impl Abort, store: &S, word: S::Word) -> (S::Word, S::Wo
 }
 
 /// That the word stands for the term that is shown so.
-fn expect_shown<S: Store>(
+pub(crate) fn expect_shown<S: Store>(
     rt: &impl Abort,
     alloc: Global,
     store: &S,
@@ -89,7 +89,7 @@ fn expect_shown<S: Store>(
 }
 
 /// That the sides of f(X, Y, X) = f(a, Z, W) become equal, and that a mark brings the first back.
-fn expect_unified_and_taken_back<S: Store>(
+pub(crate) fn expect_unified_and_taken_back<S: Store>(
     rt: &impl Abort,
     alloc: Global,
     store: &mut S,
@@ -187,7 +187,7 @@ fn gives_a_name_one_atom(rt: HostRuntime) -> Result<(), Fail> {
 }
 
 /// That a mark that is given up leaves what was bound since, and an older one still takes it back.
-fn expect_taken_back<S: Store>(
+pub(crate) fn expect_taken_back<S: Store>(
     rt: &impl Abort,
     store: &mut S,
     variable: S::Word,
@@ -280,7 +280,7 @@ fn makes_as_many_nodes_as_a_term_has_parts(rt: HostRuntime) -> Result<(), Fail> 
 }
 
 /// The list of the variables from `length` - 1 down to 0.
-fn variable_list(alloc: Global, length: u64) -> Result<Term, AllocError>
+pub(crate) fn variable_list(alloc: Global, length: u64) -> Result<Term, AllocError>
     ensures fits { IfOk result (λ t. arities_fit (term_of t) ≡ true) }
     ensures places { IfOk result (λ t. HasPlaces length (term_of t)) }
 {
@@ -293,7 +293,7 @@ fn variable_list(alloc: Global, length: u64) -> Result<Term, AllocError>
 }
 
 /// f(X, g(Y), X, 7, a), where X and Y have the places 0 and 1
-fn pattern_term(alloc: Global) -> Result<Term, AllocError>
+pub(crate) fn pattern_term(alloc: Global) -> Result<Term, AllocError>
     ensures fits { IfOk result (λ t. arities_fit (term_of t) ≡ true) }
     ensures places { IfOk result (λ t. HasPlaces 2 (term_of t)) }
 {
@@ -304,7 +304,7 @@ fn pattern_term(alloc: Global) -> Result<Term, AllocError>
 }
 
 /// The term, once it is written out, with these words for its variables.
-fn instance<S: Store>(
+pub(crate) fn instance<S: Store>(
     store: &mut S,
     term: &Term,
     variables: &[S::Word],

@@ -1,4 +1,4 @@
-use Rattle.std.proofs.Common.{◌≡◌, ap, ◌∙◌, subst, ◌&&◌, ◌==◌, ℕ}
+use Rattle.std.proofs.Common.{ap, ◌∙◌, ◌&&◌, ◌==◌, ℕ}
 use Rattle.std.specs.Option.{option_or}
 use Rattle.iso_plain.specs.declared.callables.Callable.{Callable}
 use Rattle.iso_plain.specs.Callables.{callee_at, where_holds}

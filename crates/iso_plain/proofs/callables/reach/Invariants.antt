@@ -1,5 +1,5 @@
 -- So many names have a row, and none has more callables than before.
-use Rattle.std.proofs.Common.{◌≡◌, ◌+◌, ℕ, length}
+use Rattle.std.proofs.Common.{◌≡◌, ℕ, length}
 use Rattle.iso_plain.specs.Callables.{callee_at}
 use Rattle.iso_plain.proofs.callables.reach.Given as goal
 

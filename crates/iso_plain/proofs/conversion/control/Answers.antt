@@ -1,9 +1,8 @@
-use Rattle.std.proofs.Common.{◌≡◌, Some, sym, ap, ◌∙◌}
+use Rattle.std.proofs.Common.{◌≡◌, Some, sym, ◌∙◌}
 use Rattle.iso_atoms.specs.Texts.{text_at}
-use Rattle.iso_model.specs.Terms.Trees.{Apply}
 use Rattle.iso_store_core.specs.Presents.{meaning}
-use Rattle.iso_prep.specs.Connectives.{connective_of, control_of}
-use Rattle.iso_plain.proofs.ConvertedLemmas.{control_parts, other_arguments, other_name}
+use Rattle.iso_prep.specs.Connectives.{connective_of}
+use Rattle.iso_plain.proofs.ConvertedLemmas.{control_parts}
 use Rattle.iso_plain.proofs.conversion.control.Goals as goal
 
 pub returns-in_ok-connective-in-Compound : goal.returns-in_ok-connective-in-Compound

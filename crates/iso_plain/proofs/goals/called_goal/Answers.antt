@@ -2,10 +2,9 @@ use Rattle.std.proofs.Common.{◌≡◌, ◌-◌, ◌<◌, length, ap, subst, sy
 use Rattle.std.proofs.lemmas.Bool.{lt-ltb}
 use Rattle.iso_atoms.specs.Texts.{text_at}
 use Rattle.iso_model.specs.Terms.Arguments.{arity}
-use Rattle.iso_store_core.specs.Presents.{Makes, meaning}
+use Rattle.iso_store_core.specs.Presents.{meaning}
 use Rattle.iso_plain.specs.Replies.{HasName, called_of}
-use Rattle.iso_plain.proofs.GoalLemmas.{called_row, called_count, row_length}
-use Rattle.iso_plain.proofs.PlacedLemmas.{made_value}
+use Rattle.iso_plain.proofs.GoalLemmas.{called_row, called_count, row_length, made_value}
 use Rattle.iso_plain.proofs.goals.called_goal.Goals as goal
 
 pub returns-then-argument_count-added-gt-MAX_ARITY-clause-called : goal.returns-then-argument_count-added-gt-MAX_ARITY-clause-called
@@ -27,7 +26,7 @@ compound-requires-clause-some g c =
     let many = λ (e : arity t - 1 ≡ 0). c.if-added-eq0.false (omega (arith, total, e)) in
     let counted = called_count t c.argument_count-added.ensures.term c.requires.some f (subst (HasName f) c.arg-first.ensures.value c.in-Some.ensures.1) many in
     let value = called_row t c.argument_count-added.ensures.term c.requires.some (meaning p) f c.new-words.result.items c.push_arguments.new.words.items c.push_arguments-2.new.words.items (meaning p c.arg-first.result) c.in-Some.ensures.1
-      c.arg-first.ensures.value many c.new-words.ensures.items c.in_ok-push_arguments.ensures.values c.in_ok-push_arguments-2.ensures.values in
+    c.arg-first.ensures.value many c.new-words.ensures.items c.in_ok-push_arguments.ensures.values c.in_ok-push_arguments-2.ensures.values in
     let long = sym (row_length (meaning p) c.push_arguments-2.new.words.items) ∙ ap arity value in
     let slice = ap length c.as_slice.ensures.value in
     let some : 0 < arity (called_of t) = omega (arith, counted, total, c.if-added-eq0.false) in
@@ -43,7 +42,7 @@ compound-requires-clause-few g c =
     let many = λ (e : arity t - 1 ≡ 0). c.if-added-eq0.false (omega (arith, total, e)) in
     let counted = called_count t c.argument_count-added.ensures.term c.requires.some f (subst (HasName f) c.arg-first.ensures.value c.in-Some.ensures.1) many in
     let value = called_row t c.argument_count-added.ensures.term c.requires.some (meaning p) f c.new-words.result.items c.push_arguments.new.words.items c.push_arguments-2.new.words.items (meaning p c.arg-first.result) c.in-Some.ensures.1
-      c.arg-first.ensures.value many c.new-words.ensures.items c.in_ok-push_arguments.ensures.values c.in_ok-push_arguments-2.ensures.values in
+    c.arg-first.ensures.value many c.new-words.ensures.items c.in_ok-push_arguments.ensures.values c.in_ok-push_arguments-2.ensures.values in
     let long = sym (row_length (meaning p) c.push_arguments-2.new.words.items) ∙ ap arity value in
     let slice = ap length c.as_slice.ensures.value in
     omega (arith, long, slice, counted, own, total, c.if-argument_count-added-gt-MAX_ARITY.false)
@@ -57,6 +56,6 @@ returns-clause-called g c =
     let total = c.argument_count-added.ensures.count in
     let many = λ (e : arity t - 1 ≡ 0). c.if-added-eq0.false (omega (arith, total, e)) in
     let value = called_row t c.argument_count-added.ensures.term c.requires.some (meaning p) f c.new-words.result.items c.push_arguments.new.words.items c.push_arguments-2.new.words.items (meaning p c.arg-first.result) c.in-Some.ensures.1
-      c.arg-first.ensures.value many c.new-words.ensures.items c.in_ok-push_arguments.ensures.values c.in_ok-push_arguments-2.ensures.values in
+    c.arg-first.ensures.value many c.new-words.ensures.items c.in_ok-push_arguments.ensures.values c.in_ok-push_arguments-2.ensures.values in
     let made = rw c.as_slice.ensures.value at c.in_ok-compound.ensures.made in
     (made.holds, made_value p q c.in_ok-compound.field-0 f c.push_arguments-2.new.words.items made ∙ value)

@@ -16,11 +16,10 @@ loop-index-preserved g c =
     let items = c.loop-index.words.items in
     let many = c.argument_count-count.ensures.count in
     let within : i < count ts = omega (arith, many, c.loop-index-test.true) in
-    let next : More (member i ts) (members_from (i + 1) ts) ≡ members_from i ts = sym (member_next i ts (row_of_goal t c.argument_count-count.ensures.term) within) in
-    (
+    let next : More (member i ts) (members_from (i + 1) ts) ≡ members_from i ts = sym (member_next i ts (row_of_goal t c.argument_count-count.ensures.term) within) in (
       rw c.in_ok-push.ensures.items
-      (joined_push (meaning p) items c.arg.result (members_from (i + 1) ts) ∙ ap (λ u. joined (row (map (meaning p) items)) (More u (members_from (i + 1) ts))) c.arg.ensures.value
-        ∙ ap (joined (row (map (meaning p) items))) next ∙ c.loop-index.invariant.0),
+          (joined_push (meaning p) items c.arg.result (members_from (i + 1) ts) ∙ ap (λ u. joined (row (map (meaning p) items)) (More u (members_from (i + 1) ts))) c.arg.ensures.value
+          ∙ ap (joined (row (map (meaning p) items))) next ∙ c.loop-index.invariant.0),
       rw c.in_ok-push.ensures.items (All-push (λ w. Holds p w) items c.arg.result c.loop-index.invariant.1 c.arg.ensures.holds),
     )
 

@@ -1,7 +1,4 @@
-use Rattle.std.proofs.Common.{◌≡◌, length, ap, ◌∙◌}
-use Rattle.iso_plain.specs.declared.callables.Callee.TheVariants as callee
-use Rattle.std.specs.Option.{option_or}
-use Rattle.iso_plain.specs.Callables.{callee_at, where_holds}
+use Rattle.std.proofs.Common.{◌≡◌, length, ◌∙◌}
 use Rattle.iso_plain.proofs.procedures.add_procedure.Goals as goal
 
 pub returns-clause-ok : goal.returns-clause-ok

@@ -1,7 +1,4 @@
-use Rattle.std.proofs.Common.{◌∙◌, refl, subst}
-use Rattle.iso_plain.specs.Nodes.{AreAlike}
-use Rattle.iso_plain.specs.Written.{IsWrittenFor}
-use Rattle.iso_plain.proofs.EnteringLemmas.{take_all}
+use Rattle.std.proofs.Common.{◌∙◌, refl}
 use Rattle.iso_plain.proofs.WrittenLemmas.{written_push}
 use Rattle.iso_plain.proofs.writing.written_parts.Goals as goal
 

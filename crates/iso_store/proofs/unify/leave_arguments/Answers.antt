@@ -1,20 +1,20 @@
-use Rattle.std.proofs.Common.{◌≡◌, sym, ap, ◌∙◌}
+use Rattle.std.proofs.Common.{◌≡◌, sym, ◌∙◌}
 use Rattle.iso_store_core.specs.Presents.{meaning}
 use Rattle.iso_store.proofs.UnifyLemmas.{opened, steps-opened, stands-opened, stands-same, steps-same}
 use Rattle.iso_store.proofs.unify.leave_arguments.Goals as goal
 
-pub returns-then-place-clause-stands : goal.returns-then-place-clause-stands
-returns-then-place-clause-stands g c =
+pub returns-then-are_at_one_place-clause-stands : goal.returns-then-are_at_one_place-clause-stands
+returns-then-are_at_one_place-clause-stands g c =
     let p = g.C.Cells.present c.args.store.now in
     let at = g.C.Cells.at_place c.args.store.now in
-    let equal : meaning p c.args.one ≡ meaning p c.args.other = sym c.end_of_joins-one.ensures.value ∙ sym c.place.ensures.value ∙ ap at c.if-place.true ∙ c.place-2.ensures.value ∙ c.end_of_joins-other.ensures.value in
+    let equal : meaning p c.args.one ≡ meaning p c.args.other = sym c.end_of_joins-one.ensures.value ∙ c.are_at_one_place.ensures c.if-are_at_one_place.true ∙ c.end_of_joins-other.ensures.value in
     stands-same p at c.args.joined.now c.end_of_joins-other.new.joined (meaning p c.args.one) (meaning p c.args.other) c.args.tasks.now.items equal c.requires.stands c.end_of_joins-other.ensures.joined
 
-pub returns-then-place-clause-steps : goal.returns-then-place-clause-steps
-returns-then-place-clause-steps g c =
+pub returns-then-are_at_one_place-clause-steps : goal.returns-then-are_at_one_place-clause-steps
+returns-then-are_at_one_place-clause-steps g c =
     let p = g.C.Cells.present c.args.store.now in
     let at = g.C.Cells.at_place c.args.store.now in
-    let equal : meaning p c.args.one ≡ meaning p c.args.other = sym c.end_of_joins-one.ensures.value ∙ sym c.place.ensures.value ∙ ap at c.if-place.true ∙ c.place-2.ensures.value ∙ c.end_of_joins-other.ensures.value in
+    let equal : meaning p c.args.one ≡ meaning p c.args.other = sym c.end_of_joins-one.ensures.value ∙ c.are_at_one_place.ensures c.if-are_at_one_place.true ∙ c.end_of_joins-other.ensures.value in
     steps-same p at c.args.joined.now c.end_of_joins-other.new.joined (meaning p c.args.one) (meaning p c.args.other) c.args.tasks.now.items equal c.requires.stands
 
 pub returns-clause-stands : goal.returns-clause-stands

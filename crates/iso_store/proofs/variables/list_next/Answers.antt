@@ -16,7 +16,7 @@ returns-then-is_some-clause-listing g c =
     let at = g.C.Cells.at_place c.args.store.now in
     let l = c.args.listing.now in
     let some = ap is_some (sym c.at.ensures) ∙ sym c.if-is_some.ensures in
-    let covers = subst (Covers (seen p l)) c.place-place.ensures.value (c.requires.listing.covered c.place-place.result some) in
+    let covers = subst (Covers (seen p l)) c.in-Some.ensures.value (c.requires.listing.covered c.in-Some.place some) in
     subst (λ s. IsListing p at (g.C.Cells.variable_place c.args.store.now) s l) (distinct-known (seen p l) (meaning p c.args.word) covers) c.requires.listing
 
 pub returns-then-is_some-clause-seen : goal.returns-then-is_some-clause-seen
@@ -24,7 +24,7 @@ returns-then-is_some-clause-seen g c =
     let p = g.C.Cells.present c.args.store.now in
     let l = c.args.listing.now in
     let some = ap is_some (sym c.at.ensures) ∙ sym c.if-is_some.ensures in
-    let covers = subst (Covers (seen p l)) c.place-place.ensures.value (c.requires.listing.covered c.place-place.result some) in
+    let covers = subst (Covers (seen p l)) c.in-Some.ensures.value (c.requires.listing.covered c.in-Some.place some) in
     ap (λ s. seen_after p s l.tasks.items) (sym (distinct-known (seen p l) (meaning p c.args.word) covers))
 
 pub returns-then-is_some-clause-load : goal.returns-then-is_some-clause-load
@@ -40,12 +40,12 @@ returns-in_ok-push-in-Compound-2-clause-listing g c =
     let at = g.C.Cells.at_place c.args.store.now in
     let l = c.args.listing.now in
     let here = c.in-Compound.ensures.shape in
-    let one = All-push (IsThere p) l.tasks.items (Leave c.place-place.result) c.requires.listing.there tt in
+    let one = All-push (IsThere p) l.tasks.items (Leave c.in-Some.place) c.requires.listing.there tt in
     let search = compound-there p c.args.word c.in-Compound.count _ here.1 c.requires.word here.2 here.3 c.in-Compound.ensures.term in
     let there : All (IsThere p) c.push-in-Compound-2.new.self.items =
-    rw (c.in_ok-push-in-Compound-2.ensures.items, c.in_ok-push-in-Compound.ensures.items) (All-push (IsThere p) (l.tasks.items ++ Leave c.place-place.result ∷ []) (Search c.args.word 0 c.in-Compound.count) one search) in
-    let sound = are-compound p at l.tasks.items _ c.push-in-Compound-2.new.self.items c.args.word c.place-place.result c.in-Compound.count _ here.1 here.2 here.3
-    c.in-Compound.ensures.term c.place-place.ensures.value c.in_ok-push-in-Compound.ensures.items c.in_ok-push-in-Compound-2.ensures.items (seen p l) c.requires.listing.sound in
+    rw (c.in_ok-push-in-Compound-2.ensures.items, c.in_ok-push-in-Compound.ensures.items) (All-push (IsThere p) (l.tasks.items ++ Leave c.in-Some.place ∷ []) (Search c.args.word 0 c.in-Compound.count) one search) in
+    let sound = are-compound p at l.tasks.items _ c.push-in-Compound-2.new.self.items c.args.word c.in-Some.place c.in-Compound.count _ here.1 here.2 here.3
+    c.in-Compound.ensures.term c.in-Some.ensures.value c.in_ok-push-in-Compound.ensures.items c.in_ok-push-in-Compound-2.ensures.items (seen p l) c.requires.listing.sound in
     listed-tasks p at (g.C.Cells.variable_place c.args.store.now) l (record { found = l.found; searched = l.searched; tasks = c.push-in-Compound-2.new.self }) _ (seen p l) refl refl there sound c.requires.listing
 
 pub returns-in_ok-push-in-Compound-2-clause-seen :
@@ -54,13 +54,13 @@ returns-in_ok-push-in-Compound-2-clause-seen g c =
     let p = g.C.Cells.present c.args.store.now in
     let l = c.args.listing.now in
     let here = c.in-Compound.ensures.shape in
-    after-compound p (g.C.Cells.at_place c.args.store.now) l.tasks.items _ c.push-in-Compound-2.new.self.items c.args.word c.place-place.result c.in-Compound.count _ here.1 here.2 here.3
-    c.in-Compound.ensures.term c.place-place.ensures.value c.in_ok-push-in-Compound.ensures.items c.in_ok-push-in-Compound-2.ensures.items (seen p l)
+    after-compound p (g.C.Cells.at_place c.args.store.now) l.tasks.items _ c.push-in-Compound-2.new.self.items c.args.word c.in-Some.place c.in-Compound.count _ here.1 here.2 here.3
+    c.in-Compound.ensures.term c.in-Some.ensures.value c.in_ok-push-in-Compound.ensures.items c.in_ok-push-in-Compound-2.ensures.items (seen p l)
 
 pub returns-in_ok-push-in-Compound-2-clause-load :
     goal.returns-in_ok-push-in-Compound-2-clause-load
 returns-in_ok-push-in-Compound-2-clause-load g c =
     let p = g.C.Cells.present c.args.store.now in
     let here = c.in-Compound.ensures.shape in
-    load-compound p (g.C.Cells.at_place c.args.store.now) 0 c.args.listing.now.tasks.items _ c.push-in-Compound-2.new.self.items c.args.word c.place-place.result c.in-Compound.count _ here.1 here.2 here.3
-    c.in-Compound.ensures.term c.place-place.ensures.value c.in_ok-push-in-Compound.ensures.items c.in_ok-push-in-Compound-2.ensures.items
+    load-compound p (g.C.Cells.at_place c.args.store.now) 0 c.args.listing.now.tasks.items _ c.push-in-Compound-2.new.self.items c.args.word c.in-Some.place c.in-Compound.count _ here.1 here.2 here.3
+    c.in-Compound.ensures.term c.in-Some.ensures.value c.in_ok-push-in-Compound.ensures.items c.in_ok-push-in-Compound-2.ensures.items

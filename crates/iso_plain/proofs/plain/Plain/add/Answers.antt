@@ -15,9 +15,8 @@ use Rattle.iso_store_core.proofs.AtomLemmas.{keeps-then}
 use Rattle.iso_plain.specs.Adding.{IsFound}
 use Rattle.iso_plain.specs.Callables.{callee_of}
 use Rattle.iso_plain.specs.declared.procedures.Functor.{Functor}
-use Rattle.iso_plain.proofs.ControlNames.{controls-kept}
 use Rattle.iso_plain.proofs.StartLemmas.{idle_again, refused, unadded}
-use Rattle.iso_plain.proofs.WorldLemmas.{world_on, database_kept}
+use Rattle.iso_plain.proofs.WorldLemmas.{world_on}
 use Rattle.iso_plain.proofs.WrittenLemmas.{clause_kept}
 use Rattle.iso_plain.proofs.AddingLemmas.{user_alone}
 use Rattle.iso_plain.proofs.plain.Plain.add.Goals as goal
@@ -45,9 +44,11 @@ found names present stands older e w first last f text h one other once place = 
 pub add-requires-clause-named : goal.add-requires-clause-named
 add-requires-clause-named g c =
     let e = c.args.self.now in
-    let f : Functor = record { name = c.in_ok-name.name; arity = c.in-Some.arity } in
-    (g.S.Store.names c.intern.new.self, found g.S.Store.names g.S.Store.present g.S.Store.stands g.S.Store.older e c.requires.engine.0 c.written_clause.new.store c.intern.new.self f c.in-Some.text.now c.requires.engine.1
-    c.in_ok-kept.ensures.names c.in_ok-name.ensures.names c.in_ok-name.ensures.each_once c.in_ok-name.ensures.place)
+    let f : Functor = record { name = c.in_ok-name.name; arity = c.in-Some.arity } in (
+      g.S.Store.names c.intern.new.self,
+      found g.S.Store.names g.S.Store.present g.S.Store.stands g.S.Store.older e c.requires.engine.0 c.written_clause.new.store c.intern.new.self f c.in-Some.text.now c.requires.engine.1
+          c.in_ok-kept.ensures.names c.in_ok-name.ensures.names c.in_ok-name.ensures.each_once c.in_ok-name.ensures.place,
+    )
 
 pub returns-clause-comes : goal.returns-clause-comes
 returns-clause-comes g c = λ w h.

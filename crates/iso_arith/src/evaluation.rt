@@ -1,0 +1,163 @@
+//! Expressions are evaluated (7.9) by a list of what is left to do, so that the stack of the host stays as it is.
+ghost use Rattle.std.specs.Prelude.{◌≡◌, ◌<◌, ◌+◌, Ok, IfOk, OnOk};
+ghost use Rattle.std.specs.List.{All};
+ghost use Rattle.iso_model.specs.Search.Arithmetic as expressions;
+ghost use Rattle.iso_store_core.specs.Presents.{Holds, meaning};
+ghost use Rattle.iso_arith.specs.Faults.{IsAnswer};
+ghost use Rattle.iso_arith.specs.Evaluables.{AreEvaluables};
+ghost use Rattle.iso_arith.specs.Evaluations.{IsTask, IsNext, IsStep, IsCall, task_value, term_load, task_load, tasks_load, next_load};
+
+use super::evaluables::Evaluables;
+use super::faults::EvalFault;
+use super::operations::{Binary, Unary};
+use iso_atoms::Atom;
+use iso_store_core::{Shape, Store};
+use std::alloc::Global;
+
+/// What is left to do with a value.
+#[derive(Clone, Copy)]
+enum Task<W: Copy> {
+    /// It is the argument of this operation.
+    Apply(Unary),
+    /// It is the left argument of this operation, and this is the right one, which is to be evaluated.
+    Right(Binary, W),
+    /// It is the right argument of this operation, and this is the value of the left one.
+    Combine(Binary, i64),
+}
+
+/// What comes next.
+#[derive(Clone, Copy)]
+enum Next<W: Copy> {
+    /// This expression is to be evaluated.
+    Term(W),
+    /// This is a value.
+    Value(i64),
+}
+
+/// Begins with a compound of one argument, of this name: the argument comes next.
+fn begin_unary<S: Store>(
+    store: &S,
+    evaluables: &Evaluables,
+    name: Atom,
+    word: S::Word,
+    tasks: &mut Vec<Task<S::Word>>,
+) -> Result<Next<S::Word>, EvalFault>
+    requires word { Holds (S.present store.now) word }
+    requires call { IsCall (S.names store.now) name 1 (meaning (S.present store.now) word) }
+    requires evaluables { AreEvaluables (S.names store.now) evaluables.now }
+    requires tasks { All (IsTask (S.present store.now)) tasks.old.items }
+    ensures tasks { OnOk result (All (IsTask (S.present store.now)) tasks.new.items) }
+    ensures next { IfOk result (IsNext (S.present store.now)) }
+    ensures step { IsStep (S.present store.now) (S.names store.now) tasks.old.items tasks.new.items result (expressions.value (meaning (S.present store.now) word)) }
+    ensures load { IfOk result (λ next. next_load (S.present store.now) next + tasks_load (S.present store.now) tasks.new.items
+        < term_load (meaning (S.present store.now) word) + tasks_load (S.present store.now) tasks.old.items) }
+{
+    let Some(operation) = evaluables.unary(name) else {
+        return Err(EvalFault::NotEvaluable(name, 1));
+    };
+    tasks.push(Task::Apply(operation))?;
+    Ok(Next::Term(store.arg(word, 0)))
+}
+
+/// Begins with a compound of two arguments, of this name: the left one comes next.
+fn begin_binary<S: Store>(
+    store: &S,
+    evaluables: &Evaluables,
+    name: Atom,
+    word: S::Word,
+    tasks: &mut Vec<Task<S::Word>>,
+) -> Result<Next<S::Word>, EvalFault>
+    requires word { Holds (S.present store.now) word }
+    requires call { IsCall (S.names store.now) name 2 (meaning (S.present store.now) word) }
+    requires evaluables { AreEvaluables (S.names store.now) evaluables.now }
+    requires tasks { All (IsTask (S.present store.now)) tasks.old.items }
+    ensures tasks { OnOk result (All (IsTask (S.present store.now)) tasks.new.items) }
+    ensures next { IfOk result (IsNext (S.present store.now)) }
+    ensures step { IsStep (S.present store.now) (S.names store.now) tasks.old.items tasks.new.items result (expressions.value (meaning (S.present store.now) word)) }
+    ensures load { IfOk result (λ next. next_load (S.present store.now) next + tasks_load (S.present store.now) tasks.new.items
+        < term_load (meaning (S.present store.now) word) + tasks_load (S.present store.now) tasks.old.items) }
+{
+    let Some(operation) = evaluables.binary(name) else {
+        return Err(EvalFault::NotEvaluable(name, 2));
+    };
+    let (left, right) = (store.arg(word, 0), store.arg(word, 1));
+    tasks.push(Task::Right(operation, right))?;
+    Ok(Next::Term(left))
+}
+
+/// Begins with an expression: it has a value or an error, or its first argument comes next.
+fn begin<S: Store>(
+    store: &S,
+    evaluables: &Evaluables,
+    word: S::Word,
+    tasks: &mut Vec<Task<S::Word>>,
+) -> Result<Next<S::Word>, EvalFault>
+    requires word { Holds (S.present store.now) word }
+    requires evaluables { AreEvaluables (S.names store.now) evaluables.now }
+    requires tasks { All (IsTask (S.present store.now)) tasks.old.items }
+    ensures tasks { OnOk result (All (IsTask (S.present store.now)) tasks.new.items) }
+    ensures next { IfOk result (IsNext (S.present store.now)) }
+    ensures step { IsStep (S.present store.now) (S.names store.now) tasks.old.items tasks.new.items result (expressions.value (meaning (S.present store.now) word)) }
+    ensures load { IfOk result (λ next. next_load (S.present store.now) next + tasks_load (S.present store.now) tasks.new.items
+        < term_load (meaning (S.present store.now) word) + tasks_load (S.present store.now) tasks.old.items) }
+{
+    match store.shape(word) {
+        Shape::Var(_) => Err(EvalFault::Unbound),
+        Shape::Int(value) => Ok(Next::Value(value)),
+        Shape::Atom(name) => Err(EvalFault::NotEvaluable(name, 0)),
+        Shape::Compound(name, count) => match count {
+            1 => begin_unary(store, evaluables, name, word, tasks),
+            2 => begin_binary(store, evaluables, name, word, tasks),
+            _ => Err(EvalFault::NotEvaluable(name, count)),
+        },
+    }
+}
+
+/// Goes on with a value: the task makes another one of it, or the right argument comes next.
+fn go_on<S: Store>(
+    store: &S,
+    task: Task<S::Word>,
+    value: i64,
+    tasks: &mut Vec<Task<S::Word>>,
+) -> Result<Next<S::Word>, EvalFault>
+    requires task { IsTask (S.present store.now) task }
+    requires tasks { All (IsTask (S.present store.now)) tasks.old.items }
+    ensures tasks { OnOk result (All (IsTask (S.present store.now)) tasks.new.items) }
+    ensures next { IfOk result (IsNext (S.present store.now)) }
+    ensures step { IsStep (S.present store.now) (S.names store.now) tasks.old.items tasks.new.items result (task_value (S.present store.now) task (Ok value)) }
+    ensures load { IfOk result (λ next. next_load (S.present store.now) next + tasks_load (S.present store.now) tasks.new.items
+        < task_load (S.present store.now) task + tasks_load (S.present store.now) tasks.old.items) }
+{
+    match task {
+        Task::Apply(operation) => Ok(Next::Value(operation.of(value)?)),
+        Task::Combine(operation, left) => Ok(Next::Value(operation.of(left, value)?)),
+        Task::Right(operation, word) => {
+            tasks.push(Task::Combine(operation, value))?;
+            Ok(Next::Term(word))
+        }
+    }
+}
+
+/// The value of the expression that the word stands for, or why it has none. The store isn't changed.
+pub fn eval<S: Store>(
+    alloc: Global,
+    store: &S,
+    evaluables: &Evaluables,
+    expression: S::Word,
+) -> Result<i64, EvalFault>
+    requires expression { Holds (S.present store.now) expression }
+    requires evaluables { AreEvaluables (S.names store.now) evaluables.now }
+    ensures { IsAnswer (S.names store.now) result (expressions.value (meaning (S.present store.now) expression)) }
+{
+    let mut tasks = Vec::new(alloc);
+    let mut next = Next::Term(expression);
+    'evaluating: loop {
+        next = match next {
+            Next::Term(word) => begin(store, evaluables, word, &mut tasks)?,
+            Next::Value(value) => match tasks.pop() {
+                Some(task) => go_on(store, task, value, &mut tasks)?,
+                None => return Ok(value),
+            },
+        };
+    }
+}

@@ -1,0 +1,80 @@
+-- A cell that comes, and a name, give a word for a term.
+use Rattle.std.proofs.Common.{◌≡◌, ℕ, ◌+◌, ◌<◌, List, [], ◌∷◌, ◌++◌, length, map, take, get_or, true, false, refl, ap, sym, ◌∙◌, subst, arith, Bool, ◌||◌}
+use Rattle.std.specs.List.{list_any, All}
+use Rattle.std.proofs.lemmas.Bool.{lt-ltb}
+use Rattle.std.proofs.lemmas.List.{take_all, take_more, map-append, append_assoc}
+use Rattle.std.proofs.lemmas.List.Folds.{list_any-append}
+use Rattle.iso_atoms.specs.Texts.{KeepsTexts, text_at}
+use Rattle.iso_model.specs.Terms.Trees.{Variable, Name}
+use Rattle.iso_store.specs.declared.heap_cells.HeapWord.{HeapWord}
+use Rattle.iso_store.specs.declared.heap_cells.HeapWord.TheVariants.{Var, Structure, Int, Atom}
+use Rattle.iso_store.specs.declared.heap_cells.Cell.{Cell}
+use Rattle.iso_store.specs.declared.heap_cells.Cell.TheVariants.{Unbound, Argument}
+use Rattle.iso_store_core.specs.Presents.{Makes}
+use Rattle.iso_store.specs.HeapStores.{is_variable_cell, is_functor, has_cell_number, is_word, IsHeap, MayCome, present_of_heap}
+use Rattle.iso_store.specs.Slices.{slice_get-last, slice_get-append}
+use Rattle.iso_store.specs.HeapLemmas.{place_term-unbound, made_term-more}
+use Rattle.iso_store.specs.HeapNumbers.{word_before}
+use Rattle.iso_store.proofs.HeapPushes.{word-more, substitution-more}
+use Rattle.iso_store.proofs.HeapNames.{first-kept, substitution-kept, words-kept}
+
+-- all names keep those that were there
+pub all-kept : (names : List (List ℕ)) (named all : ℕ) → all ≡ length names → KeepsTexts (take named names) (take all names)
+all-kept names named all whole =
+    subst (KeepsTexts (take named names)) (sym (take_all all names (omega arith))) (first-kept names named)
+
+-- an atom
+pub atom-makes : (names : List (List ℕ)) (named all : ℕ) (cs : List Cell) (next limit a : ℕ) → IsHeap (take named names) cs next → all ≡ length names → a < length names
+    → Makes (present_of_heap (take named names) cs next limit) (present_of_heap (take all names) cs next limit) (Atom a) (Name (text_at names a))
+atom-makes names named all cs next limit a heap whole within =
+    let keeps = all-kept names named all whole in
+    let every : take all names ≡ names = take_all all names (omega arith) in
+    let size = ap length every in
+    record {
+      words = words-kept (take named names) (take all names) keeps cs next heap limit limit;
+      substitution = substitution-kept (take named names) (take all names) keeps cs next heap;
+      holds = lt-ltb a (length (take all names)) (omega arith);
+      term = ap (λ xs. Name (text_at xs a)) every;
+    }
+
+-- a variable
+pub variable-makes : (names : List (List ℕ)) (cs : List Cell) (next limit n : ℕ) → IsHeap names cs next → MayCome names cs next (Unbound n)
+    → Makes (present_of_heap names cs next limit) (present_of_heap names (cs ++ Unbound n ∷ []) next limit) (Var (length cs)) (Variable n)
+variable-makes names cs next limit n heap may =
+    let last = slice_get-last cs (Unbound n) in
+    record {
+      words = record {
+        stand = word-more names cs next heap (Unbound n) may;
+        terms = λ w h. made_term-more names cs (Unbound n ∷ []) w (word_before names cs w h);
+      };
+      substitution = substitution-more names cs next heap (Unbound n) may;
+      holds = ap is_variable_cell last;
+      term = place_term-unbound names (cs ++ Unbound n ∷ []) (length cs) n last;
+    }
+
+-- a word that stood stands behind more cells
+pub word-along : (names : List (List ℕ)) (cs ds : List Cell) (w : HeapWord) → is_word names cs w ≡ true → is_word names (cs ++ ds) w ≡ true
+word-along names cs ds (Var a) h = ap is_variable_cell (slice_get-append cs ds a (word_before names cs (Var a) h)) ∙ h
+word-along names cs ds (Structure p) h = ap is_functor (slice_get-append cs ds p (word_before names cs (Structure p) h)) ∙ h
+word-along names cs ds (Int z) h = h
+word-along names cs ds (Atom a) h = h
+
+-- an argument more
+pub argument-pushed : (cs now new : List Cell) (ws : List HeapWord) (k : ℕ) (w : HeapWord) → now ≡ cs ++ map Argument (take k ws) → new ≡ now ++ Argument w ∷ [] → k < length ws → get_or ws k w ≡ w → new ≡ cs ++ map Argument (take (k + 1) ws)
+argument-pushed cs now new ws k w before more below is =
+    let longer : take (k + 1) ws ≡ take k ws ++ w ∷ [] = take_more ws k w below ∙ ap (λ v. take k ws ++ v ∷ []) is in
+    more ∙ ap (λ xs. xs ++ Argument w ∷ []) before ∙ append_assoc cs (map Argument (take k ws)) (Argument w ∷ [])
+    ∙ ap (λ xs. cs ++ xs) (sym (map-append Argument (take k ws) (w ∷ [])) ∙ ap (map Argument) (sym longer))
+
+pub argument-holds : (names : List (List ℕ)) (cs now : List Cell) (ws : List HeapWord) (k : ℕ) (w : HeapWord) (ds : List Cell) → now ≡ cs ++ ds → All (λ v. is_word names cs v ≡ true) ws → k < length ws → get_or ws k w ≡ w → is_word names now w ≡ true
+argument-holds names cs now ws k w ds before all below is =
+    ap (λ xs. is_word names xs w) before ∙ word-along names cs ds w (subst (λ v. is_word names cs v ≡ true) is (all k w below))
+
+-- no variable comes
+pub taken-more : (cs : List Cell) (c : Cell) (n : ℕ) → has_cell_number n c ≡ false → list_any (has_cell_number n) (cs ++ c ∷ []) ≡ list_any (has_cell_number n) cs
+taken-more cs c n h =
+    list_any-append (has_cell_number n) cs (c ∷ []) ∙ ap (λ b. list_any (has_cell_number n) cs || (b || false)) h ∙ or_none (list_any (has_cell_number n) cs)
+  where
+    or_none : (b : Bool) → b || false ≡ b
+    or_none true = refl
+    or_none false = refl

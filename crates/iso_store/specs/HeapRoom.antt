@@ -1,0 +1,17 @@
+-- How much room a heap takes: each entry of the trail is of a cell that is bound.
+use Rattle.std.proofs.Common.{ℕ, ◌+◌, ◌*◌, ◌≤◌, List, [], ◌∷◌, length, arith}
+use Rattle.iso_store.specs.declared.heap_cells.Cell.{Cell}
+use Rattle.iso_store.specs.declared.heap_cells.Cell.TheVariants.{Unbound, Bound, Argument, Functor, Entry}
+use Rattle.iso_store.specs.HeapTerms.{bound_count}
+
+bound-within : (cs : List Cell) → bound_count cs ≤ length cs
+bound-within [] = omega arith
+bound-within (Unbound n ∷ cs) = let inner = bound-within cs in omega arith
+bound-within (Bound n w ∷ cs) = let inner = bound-within cs in omega arith
+bound-within (Argument w ∷ cs) = let inner = bound-within cs in omega arith
+bound-within (Functor f n ∷ cs) = let inner = bound-within cs in omega arith
+bound-within (Entry p ∷ cs) = let inner = bound-within cs in omega arith
+
+-- where both stacks fill the room, the cells are half of it at least
+pub full-used : (cs es : List Cell) (limit : ℕ) → length es ≤ bound_count cs → limit ≤ length cs + length es → limit ≤ 2 * length cs
+full-used cs es limit trailed full = let inner = bound-within cs in omega arith

@@ -1,0 +1,421 @@
+//! A store of cells in one area: what is made stands on its low stack, the trail on the high one.
+ghost use Rattle.std.specs.Prelude.{◌≡◌, ℕ, ◌+◌, ◌<◌, ◌≤◌, ◌++◌, ◌∷◌, [], length, map, take, IfOk, OnOk, OnErr, slice_set, is_ok, if◌then◌else◌, None, true};
+ghost use Rattle.std.specs.List.{All, list_any, position_or_len};
+ghost use Rattle.iso_atoms.specs.Texts.{EachOnce};
+ghost use Rattle.iso_model.specs.Terms.Substitutions.{apply};
+ghost use Rattle.iso_store.specs.HeapTerms.{made_term, heap_substitution, bound_count};
+ghost use Rattle.iso_store.specs.HeapStores.{IsHeap, HeapStandsFor, IsOlderMark, MayCome, empty_heap, has_cell_number, is_word, next_word, present_of_heap, trailed, variable_of};
+
+ghost use Rattle.iso_model.specs.Terms.Variables.{variable_count};
+ghost use Rattle.iso_store_core.specs.Copying.{cells_of};
+ghost use Rattle.iso_store.specs.HeapLemmas.{place_term};
+ghost use Rattle.iso_store.specs.HeapUntouched.{heap-untouched};
+ghost use Rattle.iso_store.specs.HeapRoom.{full-used};
+ghost use Rattle.iso_store.specs.HeapProps.{IsBefore-prop, Settles-prop};
+ghost use Rattle.std.proofs.Props.{props};
+
+use super::cells::Cells;
+use super::copies::{build, copy_out};
+use super::heap_cells::{Cell, HeapMark, HeapWord};
+use super::heap_marks::unwind;
+use super::instances::instantiate;
+use super::patterns::{Places, written};
+use super::scratch::Scratch;
+use super::unify::unify;
+use super::variables::variables;
+use iso_area::{Area, Full};
+use iso_atoms::{Atom, Atoms};
+use iso_model::{NoMemory, Term};
+use iso_store_core::{Pattern, Shape, Store, StoreFault};
+use std::alloc::Global;
+use std::mem;
+
+/// Terms as cells. No call but `new` takes memory for cells.
+#[derive(Drop)]
+pub struct Heap {
+    alloc: Global,
+    /// The names that have an atom.
+    atoms: Atoms,
+    /// How many names had an atom when one was last put into a word or a cell.
+    named: usize,
+    next: u64,
+    area: Area<Cell>,
+    /// The cells at the newest mark: a binding is trailed if its cell is one of these.
+    newest: usize,
+    scratch: Scratch<HeapWord>,
+    ghost is_heap: { IsHeap (take named atoms) area.low next } by { Prim.hlevel (props, IsBefore-prop, Settles-prop) },
+    ghost named_within: { named ≤ length atoms },
+    ghost newest_within: { newest ≤ length area.low },
+    ghost trail_within: { length area.high ≤ bound_count area.low },
+    ghost each_once: { EachOnce atoms },
+}
+
+/// Writes a binding into the cell at this place, and its entry on the trail if the cell is older than the newest mark. The
+/// error is that there is no room for the entry; then nothing changed.
+fn bind_cell(
+    area: &mut Area<Cell>,
+    newest: usize,
+    place: usize,
+    binding: Cell,
+) -> Result<(), Full>
+    requires { place < length area.old.low }
+    ensures low { OnOk result (area.new.low ≡ slice_set area.old.low place binding) }
+    ensures high { OnOk result (area.new.high ≡ trailed newest place area.old.high) }
+    ensures capacity { area.new.capacity ≡ area.old.capacity }
+    ensures unchanged { OnErr result (area.new ≡ area.old) }
+    ensures full { OnErr result (area.old.capacity ≤ length area.old.low + length area.old.high) }
+{
+    if place >= newest {
+        area.set_low(place, binding);
+        return Ok(());
+    }
+    area.push_high(Cell::Entry(place))?;
+    area.set_low(place, binding);
+    Ok(())
+}
+
+impl Heap {
+    /// An empty store of at most `cells` cells, those of the trail among them.
+    pub fn new(alloc: Global, cells: u32) -> Result<Heap, NoMemory>
+        ensures { IfOk result (λ s. ⟦<Heap as Store>⟧.present s ≡ empty_heap cells) }
+    {
+        let area = Area::new(alloc, cells as usize)?;
+        Ok(Heap {
+            alloc,
+            atoms: Atoms::new(alloc),
+            named: 0,
+            next: 0,
+            area,
+            newest: 0,
+            scratch: Scratch::new(alloc),
+        })
+    }
+
+    /// The place of the cell, which comes behind the others.
+    fn push(&mut self, cell: Cell) -> Result<usize, StoreFault>
+        requires { MayCome (take self.old.named self.old.atoms) self.old.area.low self.old.next cell }
+        ensures place { IfOk result (λ a. a ≡ length self.old.area.low) }
+        ensures low { self.new.area.low ≡ (if is_ok result then self.old.area.low ++ cell ∷ [] else self.old.area.low) }
+        ensures high { self.new.area.high ≡ self.old.area.high }
+        ensures capacity { self.new.area.capacity ≡ self.old.area.capacity }
+        ensures atoms { self.new.atoms ≡ self.old.atoms }
+        ensures named { self.new.named ≡ self.old.named }
+        ensures next { self.new.next ≡ self.old.next }
+        ensures newest { self.new.newest ≡ self.old.newest }
+        ensures room { IfOk result (λ _. length self.old.area.low < self.old.area.capacity) }
+        ensures full { result ≡ Err StoreFault.Full → self.old.area.capacity ≤ length self.old.area.low + length self.old.area.high }
+    {
+        let place = self.area.low_len();
+        if self.area.push_low(cell).is_err() {
+            return Err(StoreFault::Full);
+        }
+        Ok(place)
+    }
+
+    /// Pushes the arguments of a compound; some of them where there is no room for all.
+    fn push_arguments(&mut self, arguments: &[HeapWord]) -> Result<(), StoreFault>
+        requires { All (λ w. is_word (take self.old.named self.old.atoms) self.old.area.low w ≡ true) arguments.now }
+        ensures pushed { OnOk result (self.new.area.low ≡ self.old.area.low ++ map Cell.Argument arguments.now) }
+        ensures kept { take (length self.old.area.low) self.new.area.low ≡ self.old.area.low }
+        ensures more { length self.old.area.low ≤ length self.new.area.low }
+        ensures few { length self.new.area.low ≤ length self.old.area.low + length arguments.now }
+        ensures within { length self.old.area.low ≤ self.old.area.capacity → length self.new.area.low ≤ self.new.area.capacity }
+        ensures substitution { heap_substitution (take self.new.named self.new.atoms) self.new.area.low ≡ heap_substitution (take self.old.named self.old.atoms) self.old.area.low }
+        ensures taken { (n : ℕ) → list_any (has_cell_number n) self.new.area.low ≡ list_any (has_cell_number n) self.old.area.low }
+        ensures high { self.new.area.high ≡ self.old.area.high }
+        ensures capacity { self.new.area.capacity ≡ self.old.area.capacity }
+        ensures atoms { self.new.atoms ≡ self.old.atoms }
+        ensures named { self.new.named ≡ self.old.named }
+        ensures next { self.new.next ≡ self.old.next }
+        ensures newest { self.new.newest ≡ self.old.newest }
+        ensures full { result ≡ Err StoreFault.Full → self.new.area.capacity ≤ length self.new.area.low + length self.new.area.high }
+    {
+        let mut done = 0;
+        while done < arguments.len() {
+            self.push(Cell::Argument(arguments[done]))?;
+            done += 1;
+        }
+        Ok(())
+    }
+
+    /// What the variable of this cell is bound to.
+    fn bound_to(&self, place: usize) -> Option<HeapWord>
+        requires { place < length self.now.area.low }
+        ensures { result ≡ next_word self.now.area.low (HeapWord.Var place) }
+    {
+        match self.area.low(place) {
+            Cell::Bound(_, target) => Some(target),
+            _ => None,
+        }
+    }
+
+    /// The place of the variable that the variable of this cell is bound to.
+    fn next_variable(&self, place: usize) -> Option<usize>
+        requires { place < length self.now.area.low }
+        ensures { result ≡ variable_of (next_word self.now.area.low (HeapWord.Var place)) }
+    {
+        match self.bound_to(place)? {
+            HeapWord::Var(next) => Some(next),
+            _ => None,
+        }
+    }
+
+    /// The end of the bindings that the word begins.
+    fn walked(&self, word: HeapWord) -> HeapWord
+        requires { is_word (take self.now.named self.now.atoms) self.now.area.low word ≡ true }
+        ensures holds { is_word (take self.now.named self.now.atoms) self.now.area.low result ≡ true }
+        ensures end { next_word self.now.area.low result ≡ None }
+        ensures same { apply (heap_substitution (take self.now.named self.now.atoms) self.now.area.low) (made_term (take self.now.named self.now.atoms) self.now.area.low result)
+            ≡ apply (heap_substitution (take self.now.named self.now.atoms) self.now.area.low) (made_term (take self.now.named self.now.atoms) self.now.area.low word) }
+    {
+        let HeapWord::Var(first) = word else {
+            return word;
+        };
+        let mut at = first;
+        while let Some(next) = self.next_variable(at) {
+            at = next;
+        }
+        match self.bound_to(at) {
+            Some(target) => target,
+            None => HeapWord::Var(at),
+        }
+    }
+}
+
+impl Cells for Heap {
+    type Word = HeapWord;
+
+    type Mark = HeapMark;
+
+    ghost names = { λ s. s.atoms };
+
+    ghost present = { λ s. present_of_heap (take s.named s.atoms) s.area.low s.next s.area.capacity };
+
+    ghost stands = { λ s. HeapStandsFor s.atoms s.area.capacity s.newest s.area.low s.area.high };
+
+    ghost full = { λ s. s.area.capacity ≤ length s.area.low + length s.area.high };
+
+    ghost at_place = { λ s k. apply (heap_substitution (take s.named s.atoms) s.area.low) (place_term (take s.named s.atoms) s.area.low k) };
+
+    ghost variable_place = { λ s n. position_or_len (has_cell_number n) s.area.low };
+
+    ghost width = { λ n. n + 1 };
+
+    fn shape(&self, word: HeapWord) -> Shape {
+        match self.walked(word) {
+            HeapWord::Var(place) => {
+                let Cell::Unbound(number) = self.area.low(place) else {
+                    unreachable!()
+                };
+                Shape::Var(number)
+            }
+            HeapWord::Structure(place) => {
+                let Cell::Functor(name, count) = self.area.low(place) else {
+                    unreachable!()
+                };
+                Shape::Compound(name, count)
+            }
+            HeapWord::Int(value) => Shape::Int(value),
+            HeapWord::Atom(name) => Shape::Atom(name),
+        }
+    }
+
+    fn arg(&self, word: HeapWord, index: usize) -> HeapWord {
+        let HeapWord::Structure(place) = self.walked(word) else {
+            unreachable!()
+        };
+        let Cell::Functor(_, count) = self.area.low(place) else {
+            unreachable!()
+        };
+        let Cell::Argument(argument) = self.area.low(place - (count - index)) else {
+            unreachable!()
+        };
+        argument
+    }
+
+    fn place(&self, word: HeapWord) -> Option<usize> {
+        match self.walked(word) {
+            HeapWord::Var(place) | HeapWord::Structure(place) => Some(place),
+            HeapWord::Int(_) | HeapWord::Atom(_) => None,
+        }
+    }
+
+    fn is_apart(&self, variable: HeapWord, word: HeapWord) -> bool {
+        let _ = variable;
+        matches!(self.walked(word), HeapWord::Int(_) | HeapWord::Atom(_))
+    }
+
+    fn bind(
+        &mut self,
+        number: u64,
+        variable: HeapWord,
+        word: HeapWord,
+    ) -> Result<(), StoreFault> {
+        let HeapWord::Var(place) = self.walked(variable) else {
+            unreachable!()
+        };
+        let target = self.walked(word);
+        match bind_cell(&mut self.area, self.newest, place, Cell::Bound(number, target)) {
+            Ok(()) => Ok(()),
+            Err(Full) => Err(StoreFault::Full),
+        }
+    }
+
+    fn alloc(&self) -> Global {
+        self.alloc
+    }
+
+    fn swap_scratch(&mut self, scratch: &mut Scratch<HeapWord>) {
+        mem::swap(&mut self.scratch, scratch);
+    }
+
+    fn reserve(&mut self, count: u64) -> u64 {
+        let number = self.next;
+        self.next += count;
+        number
+    }
+
+    fn int(&mut self, value: i64) -> Result<HeapWord, StoreFault> {
+        Ok(HeapWord::Int(value))
+    }
+
+    fn intern(&mut self, name: &str) -> Result<Atom, NoMemory> {
+        self.atoms.intern(name)
+    }
+
+    fn text(&self, atom: Atom) -> &str {
+        self.atoms.text(atom)
+    }
+
+    fn atom(&mut self, name: Atom) -> Result<HeapWord, StoreFault> {
+        self.named = self.atoms.len();
+        Ok(HeapWord::Atom(name))
+    }
+
+    fn compound(&mut self, name: Atom, arguments: &[HeapWord]) -> Result<HeapWord, StoreFault> {
+        self.named = self.atoms.len();
+        self.push_arguments(arguments)?;
+        let place = self.push(Cell::Functor(name, arguments.len()))?;
+        Ok(HeapWord::Structure(place))
+    }
+
+    fn variable(&mut self, number: u64) -> Result<HeapWord, StoreFault> {
+        let place = self.push(Cell::Unbound(number))?;
+        Ok(HeapWord::Var(place))
+    }
+}
+
+impl Store for Heap {
+    type Word = HeapWord;
+
+    type Mark = HeapMark;
+
+    ghost names = { λ s. s.atoms };
+
+    ghost present = { λ s. present_of_heap (take s.named s.atoms) s.area.low s.next s.area.capacity };
+
+    ghost stands = { λ s. HeapStandsFor s.atoms s.area.capacity s.newest s.area.low s.area.high };
+
+    ghost older = { IsOlderMark };
+
+    ghost full = { λ s. s.area.capacity ≤ length s.area.low + length s.area.high };
+
+    ghost built_cells = { λ t. variable_count t + cells_of (λ n. n + 1) t };
+
+    fn shape(&self, word: HeapWord) -> Shape {
+        Cells::shape(self, word)
+    }
+
+    fn arg(&self, word: HeapWord, index: usize) -> HeapWord {
+        Cells::arg(self, word, index)
+    }
+
+    fn reserve(&mut self, count: u64) -> u64 {
+        Cells::reserve(self, count)
+    }
+
+    fn int(&mut self, value: i64) -> Result<HeapWord, StoreFault> {
+        Cells::int(self, value)
+    }
+
+    fn intern(&mut self, name: &str) -> Result<Atom, NoMemory> {
+        Cells::intern(self, name)
+    }
+
+    fn text(&self, atom: Atom) -> &str {
+        Cells::text(self, atom)
+    }
+
+    fn atom(&mut self, name: Atom) -> Result<HeapWord, StoreFault> {
+        Cells::atom(self, name)
+    }
+
+    fn compound(&mut self, name: Atom, arguments: &[HeapWord]) -> Result<HeapWord, StoreFault> {
+        Cells::compound(self, name, arguments)
+    }
+
+    fn variable(&mut self, number: u64) -> Result<HeapWord, StoreFault> {
+        Cells::variable(self, number)
+    }
+
+    fn fresh(&mut self) -> Result<HeapWord, StoreFault> {
+        let number = Cells::reserve(self, 1);
+        Cells::variable(self, number)
+    }
+
+    fn build(&mut self, term: &Term) -> Result<HeapWord, StoreFault> {
+        build(self.alloc, self, term)
+    }
+
+    fn pattern(&mut self, term: &Term) -> Result<Pattern, NoMemory> {
+        written(self.alloc, self, term, Places::Numbers)
+    }
+
+    fn instantiate(
+        &mut self,
+        pattern: &Pattern,
+        variables: &[HeapWord],
+    ) -> Result<HeapWord, StoreFault> {
+        instantiate(self.alloc, self, pattern, variables)
+    }
+
+    fn unify(&mut self, first: HeapWord, second: HeapWord) -> Result<bool, StoreFault> {
+        unify(self, first, second)
+    }
+
+    fn mark(&mut self) -> HeapMark {
+        let mark = HeapMark {
+            cells: self.area.low_len(),
+            trail: self.area.high_len(),
+            next: self.next,
+            named: self.named,
+            before: self.newest,
+        };
+        self.newest = mark.cells;
+        mark
+    }
+
+    fn undo(&mut self, mark: HeapMark) {
+        self.area.cut_low(mark.cells);
+        unwind(&mut self.area, mark.trail);
+        self.next = mark.next;
+        self.named = mark.named;
+        self.newest = mark.cells;
+    }
+
+    fn forget(&mut self, mark: HeapMark) {
+        self.newest = mark.before;
+    }
+
+    fn copy_out(&self, word: HeapWord) -> Result<Term, NoMemory> {
+        copy_out(self.alloc, self, word)
+    }
+
+    fn variables(&self, word: HeapWord) -> Result<Vec<HeapWord>, NoMemory> {
+        variables(self.alloc, self, word)
+    }
+
+    ghost untouched = { λ s n none. heap-untouched (take s.named s.atoms) s.area.low s.next s.is_heap s.area.capacity n none };
+
+    ghost full_used = { λ s h. full-used s.area.low s.area.high s.area.capacity s.trail_within h };
+}
