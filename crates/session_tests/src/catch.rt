@@ -1,4 +1,4 @@
-//! Sessions with `catch/3`, `throw/1`, `halt/0` and `halt/1` (ISO/IEC 13211-1:1995, 7.8.9, 7.8.10 and 8.17), each worked out by hand from the rules: a table a file, and each of its rows
+//! Sessions with `catch/3`, `throw/1`, `halt/0` and `halt/1` (ISO/IEC 13211-1:1995, 7.8.9, 7.8.10, 8.17.3 and 8.17.4), each worked out by hand from the rules: a table a file, and each of its rows
 //! through a session with the plain engine.
 use super::sessions::give_their_output;
 use std::test::Fail;

@@ -118,4 +118,17 @@ pub const ROWS: &[Row] = &[
         output: "end: error a\nanswer 1: X = out\nend: no more\n",
         ..PLAIN
     },
+    Row {
+        name: "variables that are older than the catch",
+        queries: "X = f(Y), catch(( Y = 1, throw(a) ), a, true), Y = 2. X = f(Y), catch(( Y = 1, throw(X) ), f(Z), true), Y = 2.",
+        output: "answer 1: X = f(2), Y = 2\nend: no more\nanswer 1: X = f(2), Y = 2, Z = 1\nend: no more\n",
+        ..PLAIN
+    },
+    Row {
+        name: "a ball whose parts were made in the goal",
+        text: "pair(A, B, A-B).\n",
+        queries: "catch(( T = g(h(X), [X|Y]), Y = b, throw(T) ), B, true), Z = B. catch(( pair(U, 1, P), pair(P, V, Q), throw(Q) ), L-R, true), R = c.",
+        output: "answer 1: T = _1, X = _2, Y = _3, B = g(h(_4),[_4|b]), Z = g(h(_4),[_4|b])\nend: no more\nanswer 1: U = _1, P = _2, V = _3, Q = _4, L = _5-1, R = c\nend: no more\n",
+        ..PLAIN
+    },
 ];

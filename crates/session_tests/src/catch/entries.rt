@@ -112,4 +112,16 @@ pub const ROWS: &[Row] = &[
         output: "answer 1: X = out\nend: no more\nanswer 1: X = out\nend: no more\nend: error x\n",
         ..PLAIN
     },
+    Row {
+        name: "a cut behind a catch, inside another catch",
+        queries: "catch(( catch(( true ; true ), b, X = in), !, throw(b) ), b, X = out). catch(( catch(( true ; throw(b) ), b, X = in), ! ; X = 3 ), b, X = out).",
+        output: "answer 1: X = out\nend: no more\nanswer 1: X = _1\nend: no more\n",
+        ..PLAIN
+    },
+    Row {
+        name: "alternatives older than a catch that was left, inside another catch",
+        queries: "catch(( ( Y = 1 ; Y = 2 ), catch(Z = Y, b, true), Y = 2, throw(c(Z)) ), c(W), true). catch(( ( Y = 1 ; Y = 2 ), catch(throw(d(Y)), d(2), true) ), d(W), true).",
+        output: "answer 1: Y = _1, Z = _2, W = 2\nend: no more\nanswer 1: Y = _1, W = 1\nend: no more\n",
+        ..PLAIN
+    },
 ];

@@ -1,4 +1,4 @@
-//! Sessions that `halt/0` and `halt/1` end (ISO/IEC 13211-1:1995, 8.17.1 and 8.17.2), with their statuses.
+//! Sessions that `halt/0` and `halt/1` end (ISO/IEC 13211-1:1995, 8.17.3 and 8.17.4), with their statuses.
 use crate::rows::{PLAIN, Row};
 
 /// These sessions.

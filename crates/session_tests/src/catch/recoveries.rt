@@ -106,4 +106,10 @@ pub const ROWS: &[Row] = &[
         output: "answer 1: true\nend: no more\nend: no more\n",
         ..PLAIN
     },
+    Row {
+        name: "a recovery's ball drops what is older than its catch",
+        queries: "catch(( ( X = 1 ; X = 2 ), catch(throw(a), a, throw(b(X))) ), b(Y), true). ( X = 1 ; X = 2 ), catch(catch(throw(a), a, throw(b(X))), b(Y), true).",
+        output: "answer 1: X = _1, Y = 1\nend: no more\nanswer 1: X = 1, Y = 1\nanswer 2: X = 2, Y = 2\nend: no more\n",
+        ..PLAIN
+    },
 ];
