@@ -2,6 +2,8 @@
 #![tactic(auto)]
 
 #[cfg(test)]
+mod catch;
+#[cfg(test)]
 mod control;
 #[cfg(test)]
 mod limits;

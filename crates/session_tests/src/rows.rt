@@ -25,6 +25,18 @@ impl Row {
     }
 }
 
+/// What a row has where it says nothing else: no text, no queries, the limits of a session for which none is given, no output, and status 0.
+pub const PLAIN: Row = Row {
+    name: "",
+    text: "",
+    queries: "",
+    budget: None,
+    cells: None,
+    frames: None,
+    output: "",
+    status: 0,
+};
+
 /// The row of this name.
 pub fn row_named(name: &str) -> Option<&'static Row> {
     ROWS.iter().find(|row| row.name == name)

@@ -1,6 +1,5 @@
 //! Sessions with disjunctions (ISO/IEC 13211-1:1995, 7.8.6), if-then (7.8.7) and if-then-else (7.8.8).
-use super::PLAIN;
-use crate::rows::Row;
+use crate::rows::{PLAIN, Row};
 
 /// These sessions.
 pub const ROWS: &[Row] = &[

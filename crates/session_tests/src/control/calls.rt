@@ -1,6 +1,5 @@
 //! Sessions with `call/1` (ISO/IEC 13211-1:1995, 7.8.3), and with `call/2` to `call/8` (own), which add arguments to their goal.
-use super::PLAIN;
-use crate::rows::Row;
+use crate::rows::{PLAIN, Row};
 
 /// These sessions.
 pub const ROWS: &[Row] = &[

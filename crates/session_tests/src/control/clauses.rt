@@ -1,6 +1,5 @@
 //! Sessions with clauses that are refused and clauses that aren't, and with unknown procedures in every construct.
-use super::PLAIN;
-use crate::rows::Row;
+use crate::rows::{PLAIN, Row};
 
 /// These sessions.
 pub const ROWS: &[Row] = &[

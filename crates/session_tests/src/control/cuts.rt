@@ -1,6 +1,5 @@
 //! Sessions with cuts (ISO/IEC 13211-1:1995, 7.8.4): a cut takes away the alternatives that were made since its clause was entered.
-use super::PLAIN;
-use crate::rows::Row;
+use crate::rows::{PLAIN, Row};
 
 /// These sessions.
 pub const ROWS: &[Row] = &[

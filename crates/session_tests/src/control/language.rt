@@ -1,6 +1,5 @@
 //! The examples of docs/LANGUAGE.md as sessions, each a row: one that changes there changes here.
-use super::PLAIN;
-use crate::rows::Row;
+use crate::rows::{PLAIN, Row};
 
 /// The text of the examples.
 const TEXT: &str =

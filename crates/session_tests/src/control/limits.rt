@@ -1,6 +1,5 @@
 //! Sessions with control constructs within few frames and few nodes.
-use super::PLAIN;
-use crate::rows::Row;
+use crate::rows::{PLAIN, Row};
 
 /// These sessions.
 pub const ROWS: &[Row] = &[

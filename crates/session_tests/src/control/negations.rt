@@ -1,6 +1,5 @@
 //! Sessions with negation (ISO/IEC 13211-1:1995, 8.15.1), `once/1` (8.15.2), `repeat/0` (8.15.3) and `false/0` (own).
-use super::PLAIN;
-use crate::rows::Row;
+use crate::rows::{PLAIN, Row};
 
 /// These sessions.
 pub const ROWS: &[Row] = &[

@@ -1,6 +1,5 @@
 //! Sessions with exactly as many steps as their goals take, and with one less. Conjunctions, disjunctions, if-thens and cuts take none.
-use super::PLAIN;
-use crate::rows::Row;
+use crate::rows::{PLAIN, Row};
 
 /// These sessions.
 pub const ROWS: &[Row] = &[
