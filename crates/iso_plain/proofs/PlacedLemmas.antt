@@ -54,8 +54,7 @@ pub run_on : {W : Type 0} {p r : Present W} (more : Extends p r 0) (q : Present 
 run_on {p = p} {r = r} more q old new first second (placed.Body place) same h =
     let at = h.2 in
     let behind : Extends r q 0 = record { words = at.words; substitution = at.substitution; next = (let n = at.next in omega (arith, n)) } in
-    let whole : Extends p q 0 = extends_on more behind in
-    (
+    let whole : Extends p q 0 = extends_on more behind in (
       h.0,
       λ runs. same runs ∙ h.1 runs,
       record {
