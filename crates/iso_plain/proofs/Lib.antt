@@ -43,7 +43,6 @@ pub mod RunMoves
 pub mod ReplyMoves
 pub mod LimitLemmas
 pub mod StoppedLemmas
-pub mod WorldLemmas
 pub mod ThrowLemmas
 pub mod FindLemmas
 pub mod MeetLemmas

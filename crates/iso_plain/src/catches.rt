@@ -32,15 +32,15 @@ impl<S: Store + Drop> Plain<S> {
         requires { (s : State) × EntersCatch S.names S.present S.stands S.older self.old goal s next }
         ensures opened { (s : State) → EntersCatch S.names S.present S.stands S.older self.old goal s next
             → IfOk result (λ end. MatchOption end (self.new ≡ self.old) (λ place. IsAhead S.names S.present S.stands S.older self.new
-                (catching (catcher_of (S.present self.old.store) goal) (recovery_of (S.present self.old.store) goal) s) (Option.Some place))) }
+            (catching (catcher_of (S.present self.old.store) goal) (recovery_of (S.present self.old.store) goal) s) (Option.Some place))) }
         ensures kept { (s : State) → EntersCatch S.names S.present S.stands S.older self.old goal s next
             → OnErr result (WasRefused S.names S.present S.stands S.older self.new s
-                (pushed s.list (Catching (catcher_of (S.present self.old.store) goal) (recovery_of (S.present self.old.store) goal)) s)) }
+            (pushed s.list (Catching (catcher_of (S.present self.old.store) goal) (recovery_of (S.present self.old.store) goal)) s)) }
         ensures full { IfOk result (λ end. MatchOption end (self.old.limit ≤ length self.old.choices.items)
             (λ place. length self.new.choices.items ≡ length self.old.choices.items + 1)) }
         ensures costs { IfOk result (λ end. MatchOption end (self.new ≡ self.old) (λ place.
             (choices_cost self.old.procedures.items (frame_costs self.new.frames.items) self.new.choices.items
-                ≡ choices_cost self.old.procedures.items (frame_costs self.old.frames.items) self.old.choices.items + left_cost 1 (rest_cost (frame_costs self.old.frames.items) next))
+            ≡ choices_cost self.old.procedures.items (frame_costs self.old.frames.items) self.old.choices.items + left_cost 1 (rest_cost (frame_costs self.old.frames.items) next))
             × (rest_cost (frame_costs self.new.frames.items) (Option.Some place) ≡ suc (rest_cost (frame_costs self.old.frames.items) next)))) }
         ensures same { (self.new.steps ≡ self.old.steps) × (self.new.nodes ≡ self.old.nodes) × (S.present self.new.store ≡ S.present self.old.store) }
         ensures stays { Stays S.names self.old self.new }
@@ -78,10 +78,10 @@ impl<S: Store + Drop> Plain<S> {
         requires { (s : State) × (b : Body) × EntersCatch S.names S.present S.stands S.older self.old goal s next × IsBody (S.present self.old.store) self.old.nodes.items body b }
         ensures called { (s : State) (b : Body) → EntersCatch S.names S.present S.stands S.older self.old goal s next → IsBody (S.present self.old.store) self.old.nodes.items body b
             → IfOk result (λ m. WasCalled S.names S.present S.stands S.older m self.new s
-                (calling_inside b (catcher_of (S.present self.old.store) goal) (recovery_of (S.present self.old.store) goal) s)) }
+            (calling_inside b (catcher_of (S.present self.old.store) goal) (recovery_of (S.present self.old.store) goal) s)) }
         ensures kept { (s : State) → EntersCatch S.names S.present S.stands S.older self.old goal s next
             → OnErr result (WasRefused S.names S.present S.stands S.older self.new s
-                (pushed s.list (Catching (catcher_of (S.present self.old.store) goal) (recovery_of (S.present self.old.store) goal)) s)) }
+            (pushed s.list (Catching (catcher_of (S.present self.old.store) goal) (recovery_of (S.present self.old.store) goal)) s)) }
         ensures falls { (w : ℕ) → choices_cost self.old.procedures.items (frame_costs self.old.frames.items) self.old.choices.items
             + rest_cost (frame_costs self.old.frames.items) next + 1 ≤ w → IfOk result (λ m. Falls m (whole_cost (suc self.old.steps) w) (weight self.new)) }
         ensures frames { ResultFull (self.old.limit ≤ length self.old.choices.items) result }
@@ -112,10 +112,10 @@ impl<S: Store + Drop> Plain<S> {
         requires enters { (s : State) × EntersCatch S.names S.present S.stands S.older self.old goal s next }
         ensures called { (s : State) → EntersCatch S.names S.present S.stands S.older self.old goal s next
             → IfOk result (λ m. WasCalled S.names S.present S.stands S.older m self.new s
-                (throwing (term_of ball.term) (catching (catcher_of (S.present self.old.store) goal) (recovery_of (S.present self.old.store) goal) s))) }
+            (throwing (term_of ball.term) (catching (catcher_of (S.present self.old.store) goal) (recovery_of (S.present self.old.store) goal) s))) }
         ensures kept { (s : State) → EntersCatch S.names S.present S.stands S.older self.old goal s next
             → OnErr result (WasRefused S.names S.present S.stands S.older self.new s
-                (pushed s.list (Catching (catcher_of (S.present self.old.store) goal) (recovery_of (S.present self.old.store) goal)) s)) }
+            (pushed s.list (Catching (catcher_of (S.present self.old.store) goal) (recovery_of (S.present self.old.store) goal)) s)) }
         ensures falls { (w : ℕ) → choices_cost self.old.procedures.items (frame_costs self.old.frames.items) self.old.choices.items
             + rest_cost (frame_costs self.old.frames.items) next + 1 ≤ w → IfOk result (λ m. Falls m (whole_cost (suc self.old.steps) w) (weight self.new)) }
         ensures frames { ResultFull (self.old.limit ≤ length self.old.choices.items) result }

@@ -14,8 +14,8 @@ ghost use Rattle.iso_model.specs.Terms.Arguments as arguments;
 ghost use Rattle.iso_model.specs.Search.Errors.{key};
 ghost use Rattle.iso_plain.specs.Entering.{Adds};
 
-use super::bodies::Node;
 use super::balls;
+use super::bodies::Node;
 use super::controls::Controls;
 use super::goals::{Placed, place_argument, place_called};
 use iso_model::{Ball, BuiltIn, NoMemory, Term};
@@ -123,9 +123,13 @@ fn halted<S: Store>(alloc: Global, store: &S, goal: S::Word) -> Result<Replied, 
     let argument = store.arg(goal, 0);
     match store.shape(argument) {
         Shape::Var(_) => Ok(Replied::Raises(balls::instantiation(alloc, "halt", 1)?)),
-        Shape::Int(status) if status < 0 || status > 255 => Ok(Replied::Raises(
-            balls::out_of_domain(alloc, "exit_code", Term::Int(status), "halt", 1)?,
-        )),
+        Shape::Int(status) if status < 0 || status > 255 => Ok(Replied::Raises(balls::out_of_domain(
+            alloc,
+            "exit_code",
+            Term::Int(status),
+            "halt",
+            1,
+        )?)),
         Shape::Int(status) => Ok(Replied::Halts(status as u8)),
         Shape::Atom(_) | Shape::Compound(_, _) => Ok(Replied::Raises(balls::wrong_type(
             alloc,

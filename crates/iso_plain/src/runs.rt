@@ -10,8 +10,8 @@ ghost use Rattle.iso_plain.specs.declared.bodies.Node.TheVariants as node;
 
 use super::bodies::Node;
 use super::calls::Called;
-use super::parts::{Attempt, Frame, Now, Todo, at};
 use super::goals::Placed;
+use super::parts::{Attempt, Frame, Now, Todo, at};
 use super::plain::{Move, Plain};
 use super::replies::{self, Replied};
 use iso_model::{BuiltIn, Limit, Pause};

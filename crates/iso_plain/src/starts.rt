@@ -64,7 +64,8 @@ impl<S: Store + Drop> Plain<S> {
 
     /// Keeps the error of the query that can't be converted (7.6.2), raised by `call/1`; the culprit is all of it.
     fn raise_query(&mut self, culprit: Term) -> Result<(), AllocError>
-        requires { converted (term_of culprit) ≡ None }
+        requires refused { converted (term_of culprit) ≡ None }
+        requires fits { arities_fit (term_of culprit) ≡ true }
         ensures started { OnOk result ((w : World) → IsFresh S.names S.present S.stands S.older self.old w
             → Represents S.names S.present S.stands S.older self.new (started (term_of culprit) self.old.steps w)) }
         ensures kept { (w : World) → IsFresh S.names S.present S.stands S.older self.old w → OnErr result (Keeps S.names S.present S.stands S.older self.new w []) }

@@ -10,10 +10,15 @@ pub place_query-requires-clause-query : goal.place_query-requires-clause-query
 place_query-requires-clause-query g c =
     (term_of c.args.goal.now, query_ready (term_of c.args.goal.now) c.in-Ok.query (meaning_is_term c.args.goal.now ∙ c.requires.fits) c.requires.numbered c.in-Ok.ensures)
 
-pub raise_query-requires : goal.raise_query-requires
-raise_query-requires g c =
+pub raise_query-requires-clause-refused : goal.raise_query-requires-clause-refused
+raise_query-requires-clause-refused g c =
     let found = query_refused (term_of c.args.goal.now) (term_of c.in-Err-Callable.culprit) c.in-Err-Callable.culprit refl c.requires.numbered (rw c.in-Err-Callable.field-0-is at c.in-Err-Callable.ensures) in
     ap converted found.0 ∙ found.1
+
+pub raise_query-requires-clause-fits : goal.raise_query-requires-clause-fits
+raise_query-requires-clause-fits g c =
+    let found = query_refused (term_of c.args.goal.now) (term_of c.in-Err-Callable.culprit) c.in-Err-Callable.culprit refl c.requires.numbered (rw c.in-Err-Callable.field-0-is at c.in-Err-Callable.ensures) in
+    rw found.0 c.requires.fits
 
 pub returns-in-Ok-clause-started : goal.returns-in-Ok-clause-started
 returns-in-Ok-clause-started g c =

@@ -1,9 +1,10 @@
-use Rattle.std.proofs.Common.{refl, ap, Some}
+use Rattle.std.proofs.Common.{[], refl, ap, Some}
 use Rattle.std.specs.Prelude.{codes}
 use Rattle.iso_model.specs.Terms.TermOf.{term_of}
 use Rattle.iso_model.specs.Search.Errors.{key, type_error_callable}
 use Rattle.iso_model.specs.Search.Walker.{started}
-use Rattle.iso_plain.specs.Standing.{none_kept}
+use Rattle.iso_plain.specs.Standing.{ends, none_kept}
+use Rattle.iso_plain.proofs.ErrorLemmas.{callable_fits}
 use Rattle.iso_plain.proofs.StoppedLemmas.{behind_error, keeps_none}
 use Rattle.iso_plain.proofs.StartLemmas.{same_fresh, opening_error}
 use Rattle.iso_plain.proofs.plain.Plain.raise_query.Goals as goal
@@ -22,7 +23,7 @@ returns-clause-started g c = λ w fresh.
         base = fresh.base;
         choices = rw fresh.choices none_kept;
         room = tt;
-        next = (error, opening_error goal c.requires, ap Some c.in_ok-ball.ensures);
+        next = (error, [], opening_error goal c.requires.refused, ends, ap Some c.in_ok-ball.ensures, callable_fits goal (key (codes "call") 1) c.requires.fits);
       };
     })
 
