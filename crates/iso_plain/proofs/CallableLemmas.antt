@@ -60,6 +60,18 @@ module _ (rows : List (Vec Callable Global)) (place : ℕ) (old new : Vec Callab
         or_none None = refl
         or_none (Some x) = refl
 
+-- a row that was left as it was
+pub left_row : (rows : List (Vec Callable Global)) (place : ℕ) (old new : Vec Callable Global) → place < length rows → old ≡ get_or rows place old → new.items ≡ old.items → (a n : ℕ) → callee_at (set rows place new) a n ≡ callee_at rows a n
+left_row rows place old new within there are a n =
+    elim (cases_Bool (a == place)) [
+      | inl here ↦ (let same : a ≡ place = eqb-true a place here in
+          let before : slice_get rows place ≡ Some old = slice_get-get_or rows place old within ∙ ap Some (sym there) in
+          let one = ap (λ r. callee_in (callables_in r) n) (set_here rows place new within) ∙ ap (λ cs. callee_in cs n) are ∙ ap (λ r. callee_in (callables_in r) n) (sym before) in
+          subst (λ (b : ℕ). callee_at (set rows place new) b n ≡ callee_at rows b n) (sym same) one)
+      | inr other ↦ (let apart : a ≢ place = λ e. absurd (let both = eq-eqb a place e in cc (both, other)) in
+          ap (λ r. callee_in (callables_in r) n) (set_other rows place a new apart))
+    ]
+
 -- a name more that has none
 pub row_more : (rows : List (Vec Callable Global)) (row : Vec Callable Global) → row.items ≡ [] → (a n : ℕ) → callee_at (rows ++ row ∷ []) a n ≡ callee_at rows a n
 row_more [] row none zero n = ap (λ cs. callee_in cs n) none

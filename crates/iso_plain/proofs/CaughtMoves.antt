@@ -105,7 +105,7 @@ module _ {S W M : Type 0} (names : S → List (List ℕ)) (present : S → Prese
           c.value ∙ ap (λ (t : Tree). one (codes "call") (apply u t)) (sym caught.recovery_is) ∙ ap (λ (t : Tree). one (codes "call") (apply u t)) (sym own_left.1) ∙ ap (one (codes "call")) (apply_apply entry.subst u g.recovery) in
           behind_meeting v (calling c.term (record entry { subst = compose entry.subst u; next = entry.next + variable_count ball })) new is
           (λ own. (let at = around_itself v (Run call) below g.alternative.list refl own in
-            same_built (record v { list = Goal (Run c.term) below ∷ g.alternative.list }) v entry.built (same_value v c.term call below below g.alternative.list at value)))
+          same_built (record v { list = Goal (Run c.term) below ∷ g.alternative.list }) v entry.built (same_value v c.term call below below g.alternative.list at value)))
           c.engine awake
 
       -- the ball is thrown on

@@ -134,8 +134,18 @@ module _ {S W M : Type 0} (names : S → List (List ℕ)) (present : S → Prese
       let kept_all = ap (λ (v : Vec (kept.Choice W M) Global). length v.items) same in
       record {
         went = record {
-          world = there.world; steps = there.steps; base = there.base; mark = there.mark; newest = there.newest; nodes = there.nodes; frames = there.frames; has = there.has;
-          newer_base = there.newer_base; newer = there.newer; stands_below = there.stands_below; room = there.room;
+          world = there.world;
+          steps = there.steps;
+          base = there.base;
+          mark = there.mark;
+          newest = there.newest;
+          nodes = there.nodes;
+          frames = there.frames;
+          has = there.has;
+          newer_base = there.newer_base;
+          newer = there.newer;
+          stands_below = there.stands_below;
+          room = there.room;
         };
         many = omega (arith, all, count, height_is, kept_all);
       }

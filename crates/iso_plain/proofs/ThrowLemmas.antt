@@ -113,6 +113,7 @@ module _ {W M : Type 0} {left_at : ℕ → ℕ → List Clause} {query : List W}
   other_passes height c at none ball s o = by_left c.left none at.has where
     passes : (l : Left) → at.alternative.left ≡ l → caught_at l at.alternative at.below ball s o ≡ o → caught_at at.alternative.left at.alternative at.below ball s o ≡ o
     passes l e h = subst (λ (x : Left). caught_at x at.alternative at.below ball s o ≡ o) (sym e) h
+
     by_left : (l : engine.Left W) → (IsEntry l → ⊥) → HasLeft left_at query named at.present at.links l at.alternative → caught_at at.alternative.left at.alternative at.below ball s o ≡ o
     by_left (left.Catching goal place) e has = absurd (e tt)
     by_left (left.AsIs place) e has = passes AsIs has.is refl

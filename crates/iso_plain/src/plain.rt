@@ -2,8 +2,8 @@
 ghost use Rattle.std.specs.Prelude.{◌≡◌, []};
 
 use super::bodies::Node;
-use super::controls::Controls;
 use super::callables::Callable;
+use super::controls::Controls;
 use super::parts::{Choice, Frame, Now};
 use super::procedures::Procedure;
 use iso_model::{Ball, Pause};

@@ -107,11 +107,7 @@ impl<S: Store + Drop> Plain<S> {
     }
 
     /// Calls the recovery of a catch, before the members from `next` on (7.8.9). The errors: the store is full, or memory was refused.
-    fn call_recovery(
-        &mut self,
-        recovery: S::Word,
-        next: Option<usize>,
-    ) -> Result<(), StoreFault>
+    fn call_recovery(&mut self, recovery: S::Word, next: Option<usize>) -> Result<(), StoreFault>
         requires { (s : State) × Recovers S.names S.present S.stands S.older self.old recovery s next }
         ensures called { (s : State) → Recovers S.names S.present S.stands S.older self.old recovery s next
             → OnOk result (Calling S.names S.present S.stands S.older self.new (one (codes "call") (meaning (S.present self.old.store) recovery)) s) }

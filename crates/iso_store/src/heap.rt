@@ -5,7 +5,6 @@ ghost use Rattle.iso_atoms.specs.Texts.{EachOnce};
 ghost use Rattle.iso_model.specs.Terms.Substitutions.{apply};
 ghost use Rattle.iso_store.specs.HeapTerms.{made_term, heap_substitution, bound_count};
 ghost use Rattle.iso_store.specs.HeapStores.{IsHeap, HeapStandsFor, IsOlderMark, MayCome, empty_heap, has_cell_number, is_word, next_word, present_of_heap, trailed, variable_of};
-
 ghost use Rattle.iso_model.specs.Terms.Variables.{variable_count};
 ghost use Rattle.iso_store_core.specs.Copying.{cells_of};
 ghost use Rattle.iso_store.specs.HeapLemmas.{place_term};
@@ -52,12 +51,7 @@ pub struct Heap {
 
 /// Writes a binding into the cell at this place, and its entry on the trail if the cell is older than the newest mark. The
 /// error is that there is no room for the entry; then nothing changed.
-fn bind_cell(
-    area: &mut Area<Cell>,
-    newest: usize,
-    place: usize,
-    binding: Cell,
-) -> Result<(), Full>
+fn bind_cell(area: &mut Area<Cell>, newest: usize, place: usize, binding: Cell) -> Result<(), Full>
     requires { place < length area.old.low }
     ensures low { OnOk result (area.new.low ≡ slice_set area.old.low place binding) }
     ensures high { OnOk result (area.new.high ≡ trailed newest place area.old.high) }
@@ -245,17 +239,17 @@ impl Cells for Heap {
         matches!(self.walked(word), HeapWord::Int(_) | HeapWord::Atom(_))
     }
 
-    fn bind(
-        &mut self,
-        number: u64,
-        variable: HeapWord,
-        word: HeapWord,
-    ) -> Result<(), StoreFault> {
+    fn bind(&mut self, number: u64, variable: HeapWord, word: HeapWord) -> Result<(), StoreFault> {
         let HeapWord::Var(place) = self.walked(variable) else {
             unreachable!()
         };
         let target = self.walked(word);
-        match bind_cell(&mut self.area, self.newest, place, Cell::Bound(number, target)) {
+        match bind_cell(
+            &mut self.area,
+            self.newest,
+            place,
+            Cell::Bound(number, target),
+        ) {
             Ok(()) => Ok(()),
             Err(Full) => Err(StoreFault::Full),
         }

@@ -14,9 +14,13 @@ use Rattle.iso_plain.proofs.WorldLemmas.{same_texts}
 use Rattle.iso_plain.proofs.plain.Plain.meet.Goals as goal
 
 pub meets-requires : goal.meets-requires
-meets-requires g c =
-    (c.requires.0, c.requires.1, c.args.next, same_meets g.S.Store.names g.S.Store.present g.S.Store.stands g.S.Store.older c.args.self.now c.args.goal c.requires.1 c.requires.0 c.args.next c.requires.2 c.mark-mark.new.self
-    c.mark-mark.ensures.marks (same_texts c.mark-mark.ensures.names) c.mark-mark.ensures.present)
+meets-requires g c = (
+  c.requires.0,
+  c.requires.1,
+  c.args.next,
+  same_meets g.S.Store.names g.S.Store.present g.S.Store.stands g.S.Store.older c.args.self.now c.args.goal c.requires.1 c.requires.0 c.args.next c.requires.2 c.mark-mark.new.self
+      c.mark-mark.ensures.marks (same_texts c.mark-mark.ensures.names) c.mark-mark.ensures.present,
+)
 
 pub returns-in_err-meets-clause-kept : goal.returns-in_err-meets-clause-kept
 returns-in_err-meets-clause-kept g c = λ s ball h.

@@ -18,10 +18,10 @@ pub returns-in_default-clause-moves : goal.returns-in_default-clause-moves
 returns-in_default-clause-moves g c = λ s r.
     (let next = next_is g.S.Store.names g.S.Store.present g.S.Store.stands g.S.Store.older c.args.self.now r.own (now.Raising c.args.from) c.requires.now r.engine in
     c.end_by_ball.ensures.moves s r (λ ball behind list.
-        (let both : Raise next.0 ∷ next.1 ≡ Raise ball ∷ behind = sym next.2 ∙ list in
-        let same : next.1 ≡ behind = cc in
-        let chain = subst (λ (ms : List Member). Chain (g.S.Store.present c.args.self.now.store) (links_of c.args.self.now) c.args.from ms) same next.3 in
-        rw c.in_default.is at (c.find_catch.ensures r.own ball behind (variables (r.own).query, r.engine.choices) chain))))
+    (let both : Raise next.0 ∷ next.1 ≡ Raise ball ∷ behind = sym next.2 ∙ list in
+    let same : next.1 ≡ behind = cc in
+    let chain = subst (λ (ms : List Member). Chain (g.S.Store.present c.args.self.now.store) (links_of c.args.self.now) c.args.from ms) same next.3 in
+    rw c.in_default.is at (c.find_catch.ensures r.own ball behind (variables (r.own).query, r.engine.choices) chain))))
 
 pub meet-requires : goal.meet-requires
 meet-requires g c =

@@ -28,9 +28,12 @@ returns-in-Functor-clause-shape c =
     let there = c.low-in-Structure.ensures ∙ ap Some c.in-Functor.is in
     let name = (now.is_heap.functor c.in-Structure.place c.in-Functor.name c.in-Functor.count there).name in
     let ts = apply (heap_substitution names now.area.low) (row (terms_before names now.area.low c.in-Structure.place c.in-Functor.count)) in
-    let shown = sym c.in-Structure.ensures.same ∙ shows_compound names now.area.low now.next now.is_heap c.in-Structure.place c.in-Functor.name c.in-Functor.count there in
-    (atom-kept names now.atoms keeps c.in-Functor.name name, ts, shown ∙ ap (λ f. Apply f ts) (sym (text-kept names now.atoms keeps c.in-Functor.name name)),
-    compound_count names now.area.low now.next now.is_heap c.in-Structure.place c.in-Functor.name c.in-Functor.count there)
+    let shown = sym c.in-Structure.ensures.same ∙ shows_compound names now.area.low now.next now.is_heap c.in-Structure.place c.in-Functor.name c.in-Functor.count there in (
+      atom-kept names now.atoms keeps c.in-Functor.name name,
+      ts,
+      shown ∙ ap (λ f. Apply f ts) (sym (text-kept names now.atoms keeps c.in-Functor.name name)),
+      compound_count names now.area.low now.next now.is_heap c.in-Structure.place c.in-Functor.name c.in-Functor.count there,
+    )
 
 pub returns-in-Functor-clause-term : goal.returns-in-Functor-clause-term
 returns-in-Functor-clause-term c =
