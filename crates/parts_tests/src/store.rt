@@ -118,6 +118,18 @@ pub(crate) fn expect_unified_and_taken_back<S: Store>(
     )
 }
 
+/// That a variable isn't unified with a compound that it is in.
+pub(crate) fn expect_occurrence_checked<S: Store>(
+    rt: &impl Abort,
+    store: &mut S,
+) -> Result<(), Fail> {
+    let variable = store.fresh()?;
+    let name = store.intern("f")?;
+    let inside = store.compound(name, &[variable])?;
+    assert!(rt; !store.unify(variable, inside)?);
+    Ok(())
+}
+
 #[test]
 fn unifies_and_takes_back(rt: HostRuntime) -> Result<(), Fail> {
     let alloc = rt.alloc();
@@ -256,11 +268,7 @@ fn is_full_at_its_limit_for_names(rt: HostRuntime) -> Result<(), Fail> {
 fn checks_occurrence(rt: HostRuntime) -> Result<(), Fail> {
     let alloc = rt.alloc();
     let mut store = Nodes::new(alloc, 9)?;
-    let variable = store.fresh()?;
-    let name = store.intern("f")?;
-    let inside = store.compound(name, &[variable])?;
-    assert!(rt; !store.unify(variable, inside)?);
-    Ok(())
+    expect_occurrence_checked(&rt, &mut store)
 }
 
 /// A list of n elements takes 2 n + 1 nodes and no more: with one node less the store is full.
