@@ -1,7 +1,7 @@
 //! The store of cells: the same answers as the store of nodes, and how many cells its calls take.
 use super::store::{
-    equation, expect_occurrence_checked, expect_shown, expect_taken_back,
-    expect_unified_and_taken_back, instance, is_full, list, pattern_term, sides, variable_list,
+    circular, equation, expect_shown, expect_taken_back, expect_unified_and_taken_back, instance,
+    is_full, list, pattern_term, sides, variable_list,
 };
 use iso_model::well_formed;
 use iso_store::{Heap, Shape, Store, StoreFault};
@@ -90,8 +90,13 @@ fn forgets_and_takes_back(rt: HostRuntime) -> Result<(), Fail> {
 #[test]
 fn checks_occurrence(rt: HostRuntime) -> Result<(), Fail> {
     let alloc = rt.alloc();
-    let mut store = Heap::new(alloc, 9)?;
-    expect_occurrence_checked(&rt, &mut store)
+    let mut store = Heap::new(alloc, 100)?;
+    let both = circular(alloc)?;
+    assert!(rt; well_formed(&both));
+    let whole = store.build(&both)?;
+    let (first, second) = sides(&rt, &store, whole);
+    assert!(rt; !store.unify(first, second)?);
+    Ok(())
 }
 
 /// A list of n integers takes 3 n cells and no more.

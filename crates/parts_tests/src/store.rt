@@ -50,6 +50,12 @@ pub(crate) fn equation(alloc: Global) -> Result<Term, AllocError> {
     compound(alloc, "=", vec![in alloc; left, right]?)
 }
 
+/// X = f(X)
+pub(crate) fn circular(alloc: Global) -> Result<Term, AllocError> {
+    let right = compound(alloc, "f", vec![in alloc; Term::Var(0)]?)?;
+    compound(alloc, "=", vec![in alloc; Term::Var(0), right]?)
+}
+
 /// Whether there was no room. The error is that memory was refused.
 pub(crate) fn is_full<W: Copy>(made: Result<W, StoreFault>) -> Result<bool, StoreFault> {
     match made {
@@ -116,18 +122,6 @@ pub(crate) fn expect_unified_and_taken_back<S: Store>(
         first,
         "Compound(\"f\", [Var(0), Var(1), Var(0)])",
     )
-}
-
-/// That a variable isn't unified with a compound that it is in.
-pub(crate) fn expect_occurrence_checked<S: Store>(
-    rt: &impl Abort,
-    store: &mut S,
-) -> Result<(), Fail> {
-    let variable = store.fresh()?;
-    let name = store.intern("f")?;
-    let inside = store.compound(name, &[variable])?;
-    assert!(rt; !store.unify(variable, inside)?);
-    Ok(())
 }
 
 #[test]
@@ -268,7 +262,11 @@ fn is_full_at_its_limit_for_names(rt: HostRuntime) -> Result<(), Fail> {
 fn checks_occurrence(rt: HostRuntime) -> Result<(), Fail> {
     let alloc = rt.alloc();
     let mut store = Nodes::new(alloc, 9)?;
-    expect_occurrence_checked(&rt, &mut store)
+    let variable = store.fresh()?;
+    let name = store.intern("f")?;
+    let inside = store.compound(name, &[variable])?;
+    assert!(rt; !store.unify(variable, inside)?);
+    Ok(())
 }
 
 /// A list of n elements takes 2 n + 1 nodes and no more: with one node less the store is full.
