@@ -1,10 +1,14 @@
 //! The store of cells: the same answers as the store of nodes, and how many cells its calls take.
+ghost use Rattle.std.specs.Prelude.{◌<◌, ◌^◌};
+ghost use Rattle.iso_store_core.specs.Presents.{Holds};
+
 use super::store::{
     circular, equation, expect_shown, expect_taken_back, expect_unified_and_taken_back, instance,
     is_full, list, pattern_term, sides, variable_list,
 };
 use iso_model::well_formed;
 use iso_store::{Heap, Shape, Store, StoreFault};
+use std::process::Abort;
 use std::test::Fail;
 
 #[test]
@@ -58,6 +62,26 @@ fn makes_variables_and_compounds(rt: HostRuntime) -> Result<(), Fail> {
     Ok(())
 }
 
+/// That a variable younger than the newest mark is bound where no cell is left, and an older one isn't.
+fn expect_older_refused<S: Store>(
+    rt: &impl Abort,
+    store: &mut S,
+    older: S::Word,
+    five: S::Word,
+) -> Result<(), StoreFault>
+    requires older { Holds (S.present store.old) older }
+    requires five { Holds (S.present store.old) five }
+    requires next { (S.present store.old).next < 2 ^ 63 }
+{
+    let _ = store.mark();
+    let newer = store.fresh()?;
+    assert!(rt; store.unify(newer, five)?);
+    assert_eq!(rt; store.shape(newer), Shape::Int(5));
+    let refused = store.unify(older, five);
+    assert_eq!(rt; refused, Err(StoreFault::Full));
+    Ok(())
+}
+
 /// A binding takes a cell of the trail only if its variable is older than the newest mark.
 #[test]
 fn trails_bindings_of_older_cells_alone(rt: HostRuntime) -> Result<(), Fail> {
@@ -65,12 +89,7 @@ fn trails_bindings_of_older_cells_alone(rt: HostRuntime) -> Result<(), Fail> {
     let mut store = Heap::new(alloc, 2)?;
     let older = store.fresh()?;
     let five = store.int(5)?;
-    let _ = store.mark();
-    let newer = store.fresh()?;
-    assert!(rt; store.unify(newer, five)?);
-    assert_eq!(rt; store.shape(newer), Shape::Int(5));
-    let refused = store.unify(older, five);
-    assert_eq!(rt; refused, Err(StoreFault::Full));
+    expect_older_refused(&rt, &mut store, older, five)?;
     Ok(())
 }
 
