@@ -36,32 +36,6 @@ fn makes_integers_and_atoms_without_cells(rt: HostRuntime) -> Result<(), Fail> {
     Ok(())
 }
 
-/// Two variables and a compound of them take five cells.
-#[test]
-fn makes_variables_and_compounds(rt: HostRuntime) -> Result<(), Fail> {
-    let alloc = rt.alloc();
-    let mut store = Heap::new(alloc, 5)?;
-    let number = store.reserve(2);
-    assert_eq!(rt; number, 0);
-    let variable = store.variable(1)?;
-    assert_eq!(rt; store.shape(variable), Shape::Var(1));
-    let next = store.fresh()?;
-    let functor = store.intern("f")?;
-    let whole = store.compound(functor, &[variable, next])?;
-    assert_eq!(rt; store.shape(whole), Shape::Compound(functor, 2));
-    let second = store.arg(whole, 1);
-    assert_eq!(rt; store.shape(second), Shape::Var(2));
-    expect_shown(
-        &rt,
-        alloc,
-        &store,
-        whole,
-        "Compound(\"f\", [Var(1), Var(2)])",
-    )?;
-    assert!(rt; is_full(store.fresh())?);
-    Ok(())
-}
-
 /// That a variable younger than the newest mark is bound where no cell is left, and an older one isn't.
 fn expect_older_refused<S: Store>(
     rt: &impl Abort,
