@@ -137,7 +137,7 @@ module _ {W : Type 0} (p : Present W) where
   -- and so does a fault
   pub fault_stays : (names : List (List ℕ)) (xs : List (Task W)) (v w : Value) (e : EvalFault) → IsFault names e v → tasks_value p xs v ≡ w → IsFault names e w
   fault_stays names xs v w Unbound h leads = error_stays xs v w _ h leads
-  fault_stays names xs v w (NotEvaluable a n) h leads = (h.0, error_stays xs v w _ h.1 leads)
+  fault_stays names xs v w (NotEvaluable a n) h leads = (h.0, h.1, error_stays xs v w _ h.2 leads)
   fault_stays names xs v w (Refused r) h leads = error_stays xs v w _ h leads
   fault_stays names xs v w NoMemory h leads = tt
 

@@ -24,7 +24,7 @@ value_of (Err r) = Err (error_of r)
 -- The fault is why an expression of this value has none, where these are the names of the atoms.
 abbrev pub IsFault : List (List ℕ) → EvalFault → Value → Type 0
 IsFault names Unbound v = v ≡ Err unbound
-IsFault names (NotEvaluable a n) v = (a < length names) × (v ≡ Err (not_evaluable (key (text_at names a) n)))
+IsFault names (NotEvaluable a n) v = (a < length names) × (n < 256) × (v ≡ Err (not_evaluable (key (text_at names a) n)))
 IsFault names (Refused r) v = v ≡ Err (error_of r)
 IsFault names NoMemory v = Unit {0}
 

@@ -4,6 +4,8 @@ ghost use Rattle.iso_model.specs.Search.Keys.{key};
 ghost use Rattle.iso_model.specs.Search.BuiltIns as table;
 ghost use Rattle.iso_model.specs.Search.Rows.{entries_of};
 
+use super::library::{Comparison, Library, TypeTest};
+
 /// A procedure of the language itself (7.8, 8).
 #[derive(Clone, Copy, Debug, PartialEq, Eq)]
 pub enum BuiltIn {
@@ -11,10 +13,6 @@ pub enum BuiltIn {
     True,
     /// `fail/0` and `false/0` (7.8.2; the second name is own).
     Fail,
-    /// `=/2`: its two arguments are unified (8.2.1).
-    Unify,
-    /// `\=/2`: its two arguments don't unify (8.2.3).
-    Differ,
     /// `call/1` to `call/8`: the first argument is run, with the others behind its own (7.8.3; those beyond `call/1` are own).
     Call,
     /// `once/1`: the first solution of its argument (8.15.2).
@@ -31,13 +29,15 @@ pub enum BuiltIn {
     Halt,
     /// `halt/1`: the session ends with this status (8.17.4).
     HaltWith,
+    /// One that runs no goal (8.2, 8.3, 8.6, 8.7).
+    Library(Library),
 }
 
 /// The name and the arity of a built-in.
 #[derive(Clone, Copy)]
 pub struct Row(pub &'static str, pub usize, pub BuiltIn);
 
-const ROWS: [Row; 20] = [
+const ROWS: [Row; 38] = [
     Row("true", 0, BuiltIn::True),
     Row("fail", 0, BuiltIn::Fail),
     Row("false", 0, BuiltIn::Fail),
@@ -56,8 +56,78 @@ const ROWS: [Row; 20] = [
     Row("halt", 1, BuiltIn::HaltWith),
     Row("once", 1, BuiltIn::Once),
     Row("\\+", 1, BuiltIn::Not),
-    Row("=", 2, BuiltIn::Unify),
-    Row("\\=", 2, BuiltIn::Differ),
+    Row("=", 2, BuiltIn::Library(Library::Unify)),
+    Row("\\=", 2, BuiltIn::Library(Library::Differ)),
+    Row(
+        "unify_with_occurs_check",
+        2,
+        BuiltIn::Library(Library::Unify),
+    ),
+    Row("var", 1, BuiltIn::Library(Library::Test(TypeTest::Var))),
+    Row(
+        "nonvar",
+        1,
+        BuiltIn::Library(Library::Test(TypeTest::Nonvar)),
+    ),
+    Row("atom", 1, BuiltIn::Library(Library::Test(TypeTest::Atom))),
+    Row(
+        "integer",
+        1,
+        BuiltIn::Library(Library::Test(TypeTest::Integer)),
+    ),
+    Row("float", 1, BuiltIn::Library(Library::Test(TypeTest::Float))),
+    Row(
+        "number",
+        1,
+        BuiltIn::Library(Library::Test(TypeTest::Number)),
+    ),
+    Row(
+        "atomic",
+        1,
+        BuiltIn::Library(Library::Test(TypeTest::Atomic)),
+    ),
+    Row(
+        "compound",
+        1,
+        BuiltIn::Library(Library::Test(TypeTest::Compound)),
+    ),
+    Row(
+        "callable",
+        1,
+        BuiltIn::Library(Library::Test(TypeTest::Callable)),
+    ),
+    Row(
+        "ground",
+        1,
+        BuiltIn::Library(Library::Test(TypeTest::Ground)),
+    ),
+    Row("is", 2, BuiltIn::Library(Library::Is)),
+    Row(
+        "=:=",
+        2,
+        BuiltIn::Library(Library::Compare(Comparison::Equal)),
+    ),
+    Row(
+        "=\\=",
+        2,
+        BuiltIn::Library(Library::Compare(Comparison::Unequal)),
+    ),
+    Row("<", 2, BuiltIn::Library(Library::Compare(Comparison::Less))),
+    Row(
+        "=<",
+        2,
+        BuiltIn::Library(Library::Compare(Comparison::AtMost)),
+    ),
+    Row(
+        ">",
+        2,
+        BuiltIn::Library(Library::Compare(Comparison::Greater)),
+    ),
+    Row(
+        ">=",
+        2,
+        BuiltIn::Library(Library::Compare(Comparison::AtLeast)),
+    ),
 ];
 
 /// The built-ins, each with its name and arity.

@@ -12,6 +12,7 @@ pub mod laws_of_terms;
 pub mod laws_of_unifiers;
 pub mod laws_of_variables;
 pub mod laws_of_writing;
+pub mod library;
 pub mod limit;
 pub mod numbering;
 pub mod pauses;
@@ -24,6 +25,7 @@ pub mod worked_texts;
 
 pub use built_ins::{BuiltIn, Row, built_in, built_in_rows, is_built_in};
 pub use engines::Engine;
+pub use library::{Comparison, Library, TypeTest};
 pub use limit::{Limit, Limits};
 pub use numbering::Numbering;
 pub use pauses::{AddFault, Ball, Ending, Indicator, Pause, Program, StartFault};

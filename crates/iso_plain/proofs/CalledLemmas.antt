@@ -10,12 +10,13 @@ use Rattle.iso_model.specs.Search.Databases.{Key, Procedures, key, key_of, same_
 use Rattle.iso_model.specs.Terms.Arguments.{arity}
 use Rattle.iso_model.specs.Search.BuiltIns.{built_ins, built_in_among}
 use Rattle.iso_model.specs.declared.built_ins.BuiltIn.{BuiltIn}
-use Rattle.iso_model.specs.declared.built_ins.BuiltIn.TheVariants.{True, Fail, Unify, Differ, Call, Once, Not, Repeat, Catch, Throw, Halt, HaltWith}
+use Rattle.iso_model.specs.declared.built_ins.BuiltIn.TheVariants.{True, Fail, Call, Once, Not, Repeat, Catch, Throw, Halt, HaltWith, Library}
+use Rattle.iso_lib.specs.Rows.{library_arity}
 use Rattle.iso_model.specs.Search.Walker.{World}
 use Rattle.iso_plain.specs.declared.clauses.Clause.{Clause}
 use Rattle.iso_plain.specs.declared.procedures.Procedure.{Procedure}
 use Rattle.iso_plain.specs.declared.callables.Callable.{Callable}
-use Rattle.iso_plain.specs.declared.controls.Controls.{Controls}
+use Rattle.iso_plain.specs.declared.vocabulary.Vocabulary.{Vocabulary}
 use Rattle.iso_plain.specs.declared.calls.Called.{Called}
 use Rattle.iso_plain.specs.declared.calls.Called.TheVariants as call
 use Rattle.iso_plain.specs.Programs.{IsDatabase, KeepsWorld, AreClauses, no_clauses, more_clauses, no_procedures, more_procedures}
@@ -42,8 +43,6 @@ same_arity a b h = eqb-true a.arity b.arity (both_of (a.arity == b.arity) (bytes
 abbrev pub HasArity : BuiltIn → ℕ → Type 0
 HasArity True n = n ≡ 0
 HasArity Fail n = n ≡ 0
-HasArity Unify n = n ≡ 2
-HasArity Differ n = n ≡ 2
 HasArity Call n = (0 < n) × (n < 256)
 HasArity Once n = n ≡ 1
 HasArity Not n = n ≡ 1
@@ -52,6 +51,7 @@ HasArity Catch n = n ≡ 3
 HasArity Throw n = n ≡ 1
 HasArity Halt n = n ≡ 0
 HasArity HaltWith n = n ≡ 1
+HasArity (Library row) n = n ≡ library_arity row
 
 abbrev FitRows : List (Key × BuiltIn) → Type 0
 FitRows [] = Unit {0}
@@ -60,7 +60,7 @@ FitRows (e ∷ es) = HasArity e.1 (e.0).arity × FitRows es
 rows_fit : FitRows built_ins
 rows_fit =
     let call : (n : ℕ) → 0 < n → n < 256 → HasArity Call n = λ n some few. (some, few) in
-    (refl, (refl, (refl, (refl, (call 1 (omega arith) (omega arith), (call 2 (omega arith) (omega arith), (call 3 (omega arith) (omega arith), (call 4 (omega arith) (omega arith), (call 5 (omega arith) (omega arith), (call 6 (omega arith) (omega arith), (call 7 (omega arith) (omega arith), (call 8 (omega arith) (omega arith), (refl, (refl, (refl, (refl, (refl, (refl, (refl, (refl, tt))))))))))))))))))))
+    (refl, (refl, (refl, (refl, (call 1 (omega arith) (omega arith), (call 2 (omega arith) (omega arith), (call 3 (omega arith) (omega arith), (call 4 (omega arith) (omega arith), (call 5 (omega arith) (omega arith), (call 6 (omega arith) (omega arith), (call 7 (omega arith) (omega arith), (call 8 (omega arith) (omega arith), (refl, (refl, (refl, (refl, (refl, (refl, (refl, (refl, (refl, (refl, (refl, (refl, (refl, (refl, (refl, (refl, (refl, (refl, (refl, (refl, (refl, (refl, (refl, (refl, (refl, (refl, tt))))))))))))))))))))))))))))))))))))))
 
 arity_among : (es : List (Key × BuiltIn)) → FitRows es → (k : Key) (b : BuiltIn) → built_in_among es k ≡ Some b → HasArity b k.arity
 arity_among [] fit k b h = absurd cc
@@ -117,7 +117,7 @@ first_of : {n : ℕ} (ps : List Procedure) → n < length ps → Procedure
 first_of [] h = absurd (omega (arith, h))
 first_of (p ∷ ps) h = p
 
-pub named_calls : {names : List (List ℕ)} {rows : List (Vec Callable Global)} {controls : Controls} (ps : List Procedure) (ops : List Operator) (flags : Flags) (w : World) (t : Tree) (k : Key) (c : Called) → KeepsWorld names ps rows controls ops flags w → key_of t ≡ Some k → IsNamed ps flags k c → IsCalled ps w t c
+pub named_calls : {names : List (List ℕ)} {rows : List (Vec Callable Global)} {vocabulary : Vocabulary} (ps : List Procedure) (ops : List Operator) (flags : Flags) (w : World) (t : Tree) (k : Key) (c : Called) → KeepsWorld names ps rows vocabulary ops flags w → key_of t ≡ Some k → IsNamed ps flags k c → IsCalled ps w t c
 named_calls ps ops flags w t k (call.BuiltIn b) is named h = record { key = k; named = named; found = h }
 named_calls ps ops flags w t k (call.User place) is named h =
     let at = clauses_there k place (first_of ps (found_procedure k place is.procedures_are h.1).within) is.procedures_are h.1 in
@@ -128,7 +128,7 @@ named_calls ps ops flags w t k (call.Unknown ball) is named h =
     (k, record { named = named; none = h.0 }, no_procedure k is.procedures_are h.1, ap (λ (f : Flags). f.unknown) (sym is.flags_are) ∙ h.2, h.3)
 
 -- The goal that bindings have given this name and arity calls what these call.
-pub calls_shown : {E : Type 0} {names : List (List ℕ)} {rows : List (Vec Callable Global)} {controls : Controls} (ps : List Procedure) (ops : List Operator) (flags : Flags) (w : World) (v : Tree) (k : Key) (r : Result Called E) → KeepsWorld names ps rows controls ops flags w → key_of v ≡ Some k
+pub calls_shown : {E : Type 0} {names : List (List ℕ)} {rows : List (Vec Callable Global)} {vocabulary : Vocabulary} (ps : List Procedure) (ops : List Operator) (flags : Flags) (w : World) (v : Tree) (k : Key) (r : Result Called E) → KeepsWorld names ps rows vocabulary ops flags w → key_of v ≡ Some k
     → IfOk r (IsNamed ps flags k) → IfOk r (IsCalled ps w v)
 calls_shown ps ops flags w v k (Ok c) is shown named = named_calls ps ops flags w v k c is shown named
 calls_shown ps ops flags w v k (Err e) is shown named = tt

@@ -30,7 +30,6 @@ pub mod SameBodies
 pub mod ResumeLemmas
 pub mod RunCosts
 pub mod EndLemmas
-pub mod ErrorLemmas
 pub mod CalledLemmas
 pub mod GoalLemmas
 pub mod ReplyLemmas

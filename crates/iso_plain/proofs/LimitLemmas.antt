@@ -38,7 +38,7 @@ result_full (Err e) f h = tt
 -- ---- what stays
 
 pub stays_same : {S W M : Type 0} (names : S → List (List ℕ)) (e : Plain S W M) → Stays names e e
-stays_same names e = record { limit = refl; settings = refl; procedures = refl; callables = refl; controls = refl; names_kept = all_texts (names e.store); within = λ h. h }
+stays_same names e = record { limit = refl; settings = refl; procedures = refl; callables = refl; vocabulary = refl; names_kept = all_texts (names e.store); within = λ h. h }
 
 pub stays_on : {S W M : Type 0} (names : S → List (List ℕ)) {old between new : Plain S W M} → Stays names old between → Stays names between new → Stays names old new
 stays_on names {old = old} {between = between} {new = new} a b = record {
@@ -46,7 +46,7 @@ stays_on names {old = old} {between = between} {new = new} a b = record {
   settings = b.settings ∙ a.settings;
   procedures = b.procedures ∙ a.procedures;
   callables = b.callables ∙ a.callables;
-  controls = b.controls ∙ a.controls;
+  vocabulary = b.vocabulary ∙ a.vocabulary;
   names_kept = keeps-then (names old.store) (names between.store) (names new.store) a.names_kept b.names_kept;
   within = λ h. b.within (a.within h);
 }
@@ -59,7 +59,7 @@ stays_behind names {old = old} {new = new} store nodes steps texts b = record {
   settings = b.settings;
   procedures = b.procedures;
   callables = b.callables;
-  controls = b.controls;
+  vocabulary = b.vocabulary;
   names_kept = keeps-then (names old.store) (names store) (names new.store) texts b.names_kept;
   within = b.within;
 }

@@ -1,18 +1,22 @@
 -- What goals of built-ins come to is the table's reply.
-use Rattle.std.proofs.Common.{◌≡◌, ℕ, List, Bool, true, false, ◌||◌, nat_lt, nat_abs, int_lt, pos, Option, Some, None, refl, sym, subst, codes, MatchBool, if◌then◌else◌}
+use Rattle.std.proofs.Common.{◌≡◌, ℕ, ℤ, Ok, Err, List, Bool, true, false, ◌||◌, nat_lt, nat_abs, int_lt, pos, Option, Some, None, refl, sym, subst, codes, if◌then◌else◌}
 use Rattle.iso_model.specs.Terms.Trees.{Tree, Variable, Integer, Name, Apply, End, More, arities_fit}
 use Rattle.iso_model.specs.Terms.TermOf.{term_of}
 use Rattle.iso_model.specs.Terms.Arguments.{argument, arity}
 use Rattle.iso_model.specs.Terms.Substitutions.{Subst}
-use Rattle.iso_model.specs.Terms.Unifiers.{Unifier, NeverEqual}
 use Rattle.iso_model.specs.Terms.Unification.{unifier_of}
-use Rattle.iso_model.specs.Search.BuiltIns.{Reply, Fails, Succeeds, Equates, Repeats, Raises, Calls, CallsOnce, Refutes, Catches, Halts, differ, converted_reply, goal_reply, throw_reply, halt_reply, reply}
+use Rattle.iso_model.specs.Search.BuiltIns.{Reply, Fails, Succeeds, Equates, Repeats, Raises, Calls, CallsOnce, Refutes, Catches, Halts, converted_reply, goal_reply, throw_reply, halt_reply, reply}
+use Rattle.iso_model.specs.Search.Arithmetic.{Value, value}
+use Rattle.iso_model.specs.Search.Library.{tested, differ, has_type, with_value_of, comparison_name, compares, library_reply}
+use Rattle.iso_model.specs.declared.library.Library.{Library}
+use Rattle.iso_model.specs.declared.library.Library.TheVariants as row
 use Rattle.iso_model.specs.Search.Bodies.{Body, converted}
+use Rattle.iso_lib.specs.Replies as library
+use Rattle.iso_lib.specs.Replies.{IsDone, IsFailed}
 use Rattle.iso_model.specs.Search.Errors.{Key, key, domain_error, max_arity_error}
 use Rattle.iso_model.specs.declared.built_ins.BuiltIn.{BuiltIn}
 use Rattle.iso_model.specs.declared.built_ins.BuiltIn.TheVariants as built_in
 use Rattle.iso_model.specs.declared.pauses.Ball.{Ball}
-use Rattle.iso_model.proofs.OnTerms.UnifierLemmas.{unifier_of_some, unifier_of_none}
 use Rattle.iso_store_core.specs.Presents.{Present}
 use Rattle.iso_plain.specs.declared.bodies.Node.{Node}
 use Rattle.iso_plain.specs.declared.goals.Placed.{Placed}
@@ -93,11 +97,42 @@ module _ {W : Type 0} (p : Present W) (old : List (Node W)) where
   halt_replied Repeats answer h = absurd h
   halt_replied (Catches inside catcher recovery) answer h = absurd h
 
--- whether terms differ
-pub differ_replied : {W : Type 0} (p q : Present W) (old : List (Node W)) (a b : Tree) (answer : Bool) → MatchBool answer (NeverEqual a b) ((s : Subst) × Unifier a b s) → q ≡ p
-    → IsReply p q old old (differ (unifier_of a b)) (if answer then replied.GoesOn else replied.Fails)
-differ_replied p q old a b true h same = rw (unifier_of_none a b h) (same, refl)
-differ_replied p q old a b false h same = rw (unifier_of_some h.1) (adds_none old)
+-- what the library answers
+pub library_replied : {W : Type 0} (p q : Present W) (nodes : List (Node W)) (x : Reply) → IsDone p q x → IsReply p q nodes nodes x replied.GoesOn
+library_replied p q nodes Succeeds h = (h, refl)
+library_replied p q nodes (Equates a b) h = (h, refl)
+library_replied p q nodes Fails h = absurd h
+library_replied p q nodes (Raises error) h = absurd h
+library_replied p q nodes (Calls b) h = absurd h
+library_replied p q nodes (CallsOnce b) h = absurd h
+library_replied p q nodes (Refutes b) h = absurd h
+library_replied p q nodes Repeats h = absurd h
+library_replied p q nodes (Catches inside catcher recovery) h = absurd h
+library_replied p q nodes (Halts n) h = absurd h
+
+pub library_failed : {W : Type 0} (p q : Present W) (nodes : List (Node W)) (x : Reply) → IsFailed x → IsReply p q nodes nodes x replied.Fails
+library_failed p q nodes Fails h = adds_none nodes
+library_failed p q nodes (Equates a b) h = (h, adds_none nodes)
+library_failed p q nodes Succeeds h = absurd h
+library_failed p q nodes (Raises error) h = absurd h
+library_failed p q nodes (Calls b) h = absurd h
+library_failed p q nodes (CallsOnce b) h = absurd h
+library_failed p q nodes (Refutes b) h = absurd h
+library_failed p q nodes Repeats h = absurd h
+library_failed p q nodes (Catches inside catcher recovery) h = absurd h
+library_failed p q nodes (Halts n) h = absurd h
+
+pub library_raised : {W : Type 0} (p q : Present W) (nodes : List (Node W)) (x : Reply) (ball : Ball) → library.IsRaised p q x ball → IsReply p q nodes nodes x (replied.Raises ball)
+library_raised p q nodes (Raises error) ball h = record { is = h.0.0; fits = h.0.1; unbound = h.1; adds = adds_none nodes }
+library_raised p q nodes Fails ball h = absurd h
+library_raised p q nodes Succeeds ball h = absurd h
+library_raised p q nodes (Equates a b) ball h = absurd h
+library_raised p q nodes (Calls b) ball h = absurd h
+library_raised p q nodes (CallsOnce b) ball h = absurd h
+library_raised p q nodes (Refutes b) ball h = absurd h
+library_raised p q nodes Repeats ball h = absurd h
+library_raised p q nodes (Catches inside catcher recovery) ball h = absurd h
+library_raised p q nodes (Halts n) ball h = absurd h
 
 -- ---- which goals are run inside a catch
 
@@ -108,6 +143,23 @@ IsCatches x = ⊥
 no_catch_differ : (o : Option Subst) → IsCatches (differ o) → ⊥
 no_catch_differ None h = h
 no_catch_differ (Some u) h = h
+
+no_catch_tested : (holds : Bool) → IsCatches (tested holds) → ⊥
+no_catch_tested true h = h
+no_catch_tested false h = h
+
+no_catch_value : (v : Value) (k : Key) (goes_on : ℤ → Reply) → ((z : ℤ) → IsCatches (goes_on z) → ⊥) → IsCatches (with_value_of v k goes_on) → ⊥
+no_catch_value (Ok z) k goes_on none h = none z h
+no_catch_value (Err error) k goes_on none h = h
+
+no_catch_library : (row : Library) (t : Tree) → IsCatches (library_reply row t) → ⊥
+no_catch_library row.Unify t h = h
+no_catch_library row.Differ t h = no_catch_differ (unifier_of (argument 0 t) (argument 1 t)) h
+no_catch_library (row.Test type) t h = no_catch_tested (has_type type (argument 0 t)) h
+no_catch_library row.Is t h = no_catch_value (value (argument 1 t)) (key (codes "is") 2) (λ z. Equates (argument 0 t) (Integer z)) (λ z none. none) h
+no_catch_library (row.Compare c) t h =
+    no_catch_value (value (argument 0 t)) (key (comparison_name c) 2) (λ x. with_value_of (value (argument 1 t)) (key (comparison_name c) 2) (λ y. tested (compares c x y)))
+    (λ x. no_catch_value (value (argument 1 t)) (key (comparison_name c) 2) (λ y. tested (compares c x y)) (λ y. no_catch_tested (compares c x y))) h
 
 no_catch_converted : (runs : Body → Reply) (o : Option Body) (goal : Tree) (k : Key) → ((b : Body) → IsCatches (runs b) → ⊥) → IsCatches (converted_reply runs o goal k) → ⊥
 no_catch_converted runs None goal k none h = h
@@ -148,8 +200,6 @@ no_catch_halt (More t ts) k h = h
 only_catch : (b : BuiltIn) (t : Tree) → IsCatches (reply b t) → b ≡ built_in.Catch
 only_catch built_in.True t h = absurd h
 only_catch built_in.Fail t h = absurd h
-only_catch built_in.Unify t h = absurd h
-only_catch built_in.Differ t h = absurd (no_catch_differ (unifier_of (argument 0 t) (argument 1 t)) h)
 only_catch built_in.Call t h =
     let goal = called_of t in
     absurd (no_catch_goal (λ b. if nat_lt 255 (arity goal) then Raises (max_arity_error (key (codes "call") (arity t))) else Calls b) goal (key (codes "call") (arity t))
@@ -161,6 +211,7 @@ only_catch built_in.Catch t h = refl
 only_catch built_in.Throw t h = absurd (no_catch_throw (argument 0 t) (key (codes "throw") 1) h)
 only_catch built_in.Halt t h = absurd h
 only_catch built_in.HaltWith t h = absurd (no_catch_halt (argument 0 t) (key (codes "halt") 1) h)
+only_catch (built_in.Library row) t h = absurd (no_catch_library row t h)
 
 -- a catch's parts are the goal's arguments
 pub catch_parts : (b : BuiltIn) (t : Tree) (inside : Reply) (catcher recovery : Tree) → reply b t ≡ Catches inside catcher recovery → (b ≡ built_in.Catch) × (catcher ≡ argument 1 t) × (recovery ≡ argument 2 t)

@@ -8,11 +8,13 @@ use Rattle.iso_model.specs.Search.Databases.{Procedures}
 use Rattle.iso_model.specs.Search.Walker.{World}
 use Rattle.iso_plain.specs.declared.callables.Callable.{Callable}
 use Rattle.iso_plain.specs.declared.clauses.Clause.{Clause}
-use Rattle.iso_plain.specs.declared.controls.Controls.{Controls}
+use Rattle.iso_plain.specs.declared.vocabulary.Vocabulary.{Vocabulary}
+use Rattle.iso_plain.specs.Vocabularies.{IsVocabulary}
 use Rattle.iso_plain.specs.declared.procedures.Procedure.{Procedure}
 use Rattle.iso_plain.specs.Callables.{callee_of}
 use Rattle.iso_plain.specs.Programs.{AreClauses, no_clauses, more_clauses, IsProcedure, IsDatabase, no_procedures, more_procedures, KeepsWorld}
 use Rattle.iso_plain.proofs.CallableLemmas.{index_kept}
+use Rattle.iso_arith.proofs.EvaluableLemmas.{evaluables_kept}
 use Rattle.iso_plain.proofs.ControlNames.{controls-kept}
 use Rattle.iso_plain.proofs.WrittenLemmas.{clause_kept}
 
@@ -35,11 +37,14 @@ module _ {old new : List (List ℕ)} (keeps : KeepsTexts old new) where
   database_kept no_procedures = no_procedures
   database_kept (more_procedures {kept = kept} {p = p} is others) = more_procedures (procedure_kept kept p is) (database_kept others)
 
-  pub world_on : {ps : List Procedure} {rows : List (Vec Callable Global)} {controls : Controls} {ops : List Operator} {flags : Flags} {w : World} → KeepsWorld old ps rows controls ops flags w → KeepsWorld new ps rows controls ops flags w
-  world_on {ps = ps} {rows = rows} {controls = controls} is = record {
+  pub vocabulary_kept : (v : Vocabulary) → IsVocabulary old v → IsVocabulary new v
+  vocabulary_kept v is = record { controls = controls-kept old new v.controls keeps is.controls; evaluables = evaluables_kept old new keeps v.evaluables is.evaluables }
+
+  pub world_on : {ps : List Procedure} {rows : List (Vec Callable Global)} {vocabulary : Vocabulary} {ops : List Operator} {flags : Flags} {w : World} → KeepsWorld old ps rows vocabulary ops flags w → KeepsWorld new ps rows vocabulary ops flags w
+  world_on {ps = ps} {rows = rows} {vocabulary = vocabulary} is = record {
     procedures_are = database_kept is.procedures_are;
     found = index_kept old new rows (callee_of ps) keeps is.found;
-    controls_are = controls-kept old new controls keeps is.controls_are;
+    vocabulary_is = vocabulary_kept vocabulary is.vocabulary_is;
     operators_are = is.operators_are;
     flags_are = is.flags_are;
   }

@@ -16,4 +16,5 @@ pub mod Replies
 pub mod Called
 pub mod Costs
 pub mod Controls
+pub mod Vocabularies
 pub mod Conversions

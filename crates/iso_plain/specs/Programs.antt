@@ -11,8 +11,8 @@ use Rattle.iso_plain.specs.declared.clauses.Clause.{Clause}
 use Rattle.iso_plain.specs.declared.procedures.Procedure.{Procedure}
 use Rattle.iso_plain.specs.declared.callables.Callable.{Callable}
 use Rattle.iso_plain.specs.declared.plain.Plain.{Plain}
-use Rattle.iso_plain.specs.declared.controls.Controls.{Controls}
-use Rattle.iso_plain.specs.Controls.{AreControls}
+use Rattle.iso_plain.specs.declared.vocabulary.Vocabulary.{Vocabulary}
+use Rattle.iso_plain.specs.Vocabularies.{IsVocabulary}
 use Rattle.iso_plain.specs.Callables.{Indexes, callee_of}
 use Rattle.iso_plain.specs.Kept.{IsClause}
 
@@ -34,14 +34,14 @@ pub data IsDatabase (names : List (List ℕ)) : List Procedure → Procedures �
   more_procedures : {kept : Procedure} {p : databases.Procedure} {ks : List Procedure} {ps : Procedures} → IsProcedure names kept p → IsDatabase names ks ps → IsDatabase names (kept ∷ ks) (p ∷ ps)
 
 -- Where these are the names of the atoms, these procedures, operators and flags are what outlives a run, this is where procedures are found, and these
--- atoms are the names of the control constructs.
-pub record KeepsWorld (names : List (List ℕ)) (procedures : List Procedure) (callables : List (Vec Callable Global)) (controls : Controls) (ops : List Operator) (flags : Flags) (w : World) : Type 0 where
+-- are the names that it knows beforehand.
+pub record KeepsWorld (names : List (List ℕ)) (procedures : List Procedure) (callables : List (Vec Callable Global)) (vocabulary : Vocabulary) (ops : List Operator) (flags : Flags) (w : World) : Type 0 where
   pub procedures_are : IsDatabase names procedures w.database.procedures
   pub found : Indexes names callables (callee_of procedures)
-  pub controls_are : AreControls names controls
+  pub vocabulary_is : IsVocabulary names vocabulary
   pub operators_are : ops ≡ w.operators
   pub flags_are : flags ≡ w.flags
 
 -- the engine has them
 abbrev pub IsWorld : {S W M : Type 0} → (S → List (List ℕ)) → Plain S W M → World → Type 0
-IsWorld names e w = KeepsWorld (names e.store) e.procedures.items e.callables.items e.controls e.ops e.flags w
+IsWorld names e w = KeepsWorld (names e.store) e.procedures.items e.callables.items e.vocabulary e.ops e.flags w

@@ -10,6 +10,7 @@ use Rattle.iso_model.specs.Search.Bodies.{Body, converted, map_body}
 use Rattle.iso_model.specs.Search.BuiltIns.{Reply, Fails, Succeeds, Equates, Raises, Calls, CallsOnce, Refutes, Repeats, Catches, Halts, goal_reply}
 use Rattle.iso_model.specs.Search.Errors.{Key, max_arity_error}
 use Rattle.iso_store_core.specs.Presents.{Present, Binds, KeepsWords}
+pub use Rattle.iso_lib.specs.Replies.{IsUnbound}
 use Rattle.iso_plain.specs.declared.bodies.Node.{Node}
 use Rattle.iso_plain.specs.declared.goals.Placed.{Placed}
 use Rattle.iso_plain.specs.declared.goals.Placed.TheVariants as placed
@@ -62,12 +63,6 @@ IsRunAs p q old new replied (placed.Raises ball) = (runs : Body → Reply) → r
 -- where this procedure was called for it
 abbrev pub IsPlaced : {W : Type 0} → Present W → Present W → List (Node W) → List (Node W) → Tree → Key → Placed → Type 0
 IsPlaced p q old new goal k answer = IsRunAs p q old new (λ runs. goal_reply (limited goal k runs) goal k) answer
-
--- Nothing was bound: words may have come.
-pub record IsUnbound {W : Type 0} (p q : Present W) : Type 0 where
-  pub words : KeepsWords p q
-  pub substitution : q.substitution ≡ p.substitution
-  pub next : q.next ≡ p.next
 
 -- Where an error is raised a store can hold it, and nothing was bound.
 abbrev pub IsRaising : {W : Type 0} → Present W → Present W → Placed → Type 0

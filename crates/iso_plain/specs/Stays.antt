@@ -12,6 +12,6 @@ pub record Stays {S W M : Type 0} (names : S → List (List ℕ)) (old new : Pla
   pub settings : settings_of new ≡ settings_of old
   pub procedures : new.procedures ≡ old.procedures
   pub callables : new.callables ≡ old.callables
-  pub controls : new.controls ≡ old.controls
+  pub vocabulary : new.vocabulary ≡ old.vocabulary
   pub names_kept : KeepsTexts (names old.store) (names new.store)
   pub within : IsWithin old → IsWithin new

@@ -9,10 +9,10 @@ ghost use Rattle.iso_plain.specs.Programs.{IsWorld};
 ghost use Rattle.iso_plain.specs.Callables.{Indexes, callee_of, place_at};
 ghost use Rattle.iso_plain.specs.Called.{IsNamed, IsCalled};
 
-use super::balls;
 use super::callables::{self, Callee};
 use super::plain::Plain;
 use iso_atoms::Atom;
+use iso_lib::errors;
 use iso_model::{Ball, BuiltIn};
 use iso_ops::Unknown;
 use iso_store_core::{Shape, Store};
@@ -40,7 +40,7 @@ impl<S: Store + Drop> Plain<S> {
         ensures { IfOk result (IsNamed self.entry.now.procedures.items self.entry.now.flags (key name.now arity)) }
     {
         match self.flags.unknown {
-            Unknown::Error => Ok(Called::Unknown(balls::unknown_procedure(
+            Unknown::Error => Ok(Called::Unknown(errors::unknown_procedure(
                 self.alloc, name, arity,
             )?)),
             Unknown::Fail => Ok(Called::Fails),

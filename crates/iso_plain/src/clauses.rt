@@ -8,8 +8,8 @@ ghost use Rattle.iso_prep.specs.Classes.{goals_of};
 ghost use Rattle.iso_plain.specs.Nodes.{ArePartsOf, EachGoal, IsTermOf};
 ghost use Rattle.iso_plain.specs.Kept.{AreTemplates, IsCheckedGoal, IsReady, Refuses, ChecksUser, Prepares};
 
-use super::balls;
 use super::bodies::{self, Node};
+use iso_lib::errors;
 use iso_model::{AddFault, Term, copied, is_built_in};
 use iso_prep::{Fault, Prepared};
 use iso_store_core::Pattern;
@@ -72,7 +72,7 @@ fn check_user(alloc: Global, name: &str, arity: usize) -> Result<(), AddFault>
     ensures { ChecksUser (key name.now arity) result }
 {
     if is_built_in(name, arity) {
-        return Err(AddFault::Refused(balls::static_procedure(alloc, name, arity)?));
+        return Err(AddFault::Refused(errors::static_procedure(alloc, name, arity)?));
     }
     Ok(())
 }
@@ -82,11 +82,11 @@ fn refusal(alloc: Global, fault: Fault) -> Result<AddFault, AllocError>
     ensures { IfOk result (Refuses fault) }
 {
     match fault {
-        Fault::Instantiation => Ok(AddFault::Refused(balls::instantiation(alloc, "consult", 1)?)),
-        Fault::Callable(culprit) => Ok(AddFault::Refused(balls::not_callable(
+        Fault::Instantiation => Ok(AddFault::Refused(errors::instantiation(alloc, "consult", 1)?)),
+        Fault::Callable(culprit) => Ok(AddFault::Refused(errors::not_callable(
             alloc, culprit, "consult", 1,
         )?)),
-        Fault::TooManyVariables => Ok(AddFault::Refused(balls::too_many_variables(alloc)?)),
+        Fault::TooManyVariables => Ok(AddFault::Refused(errors::too_many_variables(alloc)?)),
         Fault::NoMemory => Ok(AddFault::NoMemory),
     }
 }

@@ -13,11 +13,11 @@ ghost use Rattle.iso_plain.specs.Controls.{AreControls};
 ghost use Rattle.iso_plain.specs.Entering.{Adds, Extends};
 ghost use Rattle.iso_plain.specs.Replies.{HasName, HasNoName, IsBound, IsRunAs, IsPlaced, IsRaising, called_of};
 
-use super::balls;
 use super::bodies::Node;
 use super::controls::Controls;
 use super::conversion::convert;
 use iso_atoms::Atom;
+use iso_lib::errors;
 use iso_model::{Ball, MAX_ARITY, NoMemory};
 use iso_store_core::{Shape, Store, StoreFault};
 use std::alloc::Global;
@@ -147,13 +147,13 @@ fn place_goal<S: Store>(
     ensures marks { KeepsMarks (S.stands store.old) (S.stands store.new) }
 {
     if is_unbound(store, goal) {
-        return Ok(Placed::Raises(balls::instantiation(alloc, name, arity)?));
+        return Ok(Placed::Raises(errors::instantiation(alloc, name, arity)?));
     }
     if let Some(place) = convert(alloc, store, controls, nodes, goal)? {
         return Ok(Placed::Body(place));
     }
     let culprit = store.copy_out(goal)?;
-    let ball = balls::not_callable(alloc, culprit, name, arity)?;
+    let ball = errors::not_callable(alloc, culprit, name, arity)?;
     Ok(Placed::Raises(ball))
 }
 
@@ -206,7 +206,7 @@ pub fn place_called<S: Store>(
 {
     let arity = argument_count(store, goal);
     let Some(called) = called_goal(alloc, store, goal)? else {
-        let ball = balls::too_many_arguments(alloc, "call", arity)?;
+        let ball = errors::too_many_arguments(alloc, "call", arity)?;
         return Ok(Placed::Raises(ball));
     };
     place_goal(alloc, store, controls, nodes, called, "call", arity)

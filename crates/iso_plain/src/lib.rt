@@ -2,8 +2,7 @@
 //! (ISO/IEC 13211-1:1995, 7.7), over any store of terms.
 #![tactic(auto)]
 
-// error terms, and clauses as they are kept
-pub mod balls;
+// clauses as they are kept
 pub mod bodies;
 pub mod callables;
 pub mod clauses;
@@ -25,6 +24,7 @@ pub mod plain;
 pub mod replies;
 pub mod runs;
 pub mod throws;
+pub mod vocabulary;
 // what the callers call
 pub mod engine;
 pub mod starts;

@@ -120,7 +120,7 @@ impl<S: Store + Drop> Plain<S> {
         ensures settings { settings_of self.new ≡ settings_of self.old }
         ensures procedures { self.new.procedures ≡ self.old.procedures }
         ensures callables { self.new.callables ≡ self.old.callables }
-        ensures controls { self.new.controls ≡ self.old.controls }
+        ensures vocabulary { self.new.vocabulary ≡ self.old.vocabulary }
         ensures names { KeepsTexts (S.names self.old.store) (S.names self.new.store) }
     {
         let clause = attempt.clause + 1;

@@ -3,9 +3,9 @@ ghost use Rattle.std.specs.Prelude.{◌≡◌, []};
 
 use super::bodies::Node;
 use super::callables::Callable;
-use super::controls::Controls;
 use super::parts::{Choice, Frame, Now};
 use super::procedures::Procedure;
+use super::vocabulary::Vocabulary;
 use iso_model::{Ball, Pause};
 use iso_ops::{Flags, OpTable};
 use iso_store_core::Store;
@@ -26,8 +26,8 @@ pub struct Plain<S: Store> {
     pub(crate) procedures: Vec<Procedure>,
     /// What is callable under each name, by the number of its atom.
     pub(crate) callables: Vec<Vec<Callable>>,
-    /// The names of the control constructs.
-    pub(crate) controls: Controls,
+    /// The names that it knows beforehand.
+    pub(crate) vocabulary: Vocabulary,
     /// The operators as they are now.
     pub(crate) ops: OpTable,
     /// The flags as they are now.

@@ -1,12 +1,12 @@
 //! What goals of the language's own procedures come to (7.8, 8).
-ghost use Rattle.std.specs.Prelude.{◌≡◌, ◌≢◌, ◌<◌, codes, true, IfOk, OnOk, Err, MatchBool, if◌then◌else◌};
-ghost use Rattle.iso_model.specs.Terms.Substitutions.{Subst};
-ghost use Rattle.iso_model.specs.Terms.Unifiers.{Unifier, NeverEqual};
+ghost use Rattle.std.specs.Prelude.{◌≡◌, ◌≢◌, ◌<◌, List, codes, true, IfOk, Err};
+ghost use Rattle.iso_model.specs.Search.Library.{library_reply};
 ghost use Rattle.iso_model.specs.Search.BuiltIns as table;
 ghost use Rattle.iso_atoms.specs.Texts.{KeepsTexts};
 ghost use Rattle.iso_store_core.specs.Presents.{Holds, meaning, KeepsMarks};
+ghost use Rattle.iso_lib.specs.Rows.{library_arity};
 ghost use Rattle.iso_plain.specs.Called.{IsBuiltIn};
-ghost use Rattle.iso_plain.specs.Controls.{AreControls};
+ghost use Rattle.iso_plain.specs.Vocabularies.{IsVocabulary};
 ghost use Rattle.iso_plain.specs.Replies.{IsReply, IsHalt};
 ghost use Rattle.iso_model.specs.Terms.Trees.{arities_fit};
 ghost use Rattle.iso_model.specs.Terms.TermOf.{term_of};
@@ -14,11 +14,11 @@ ghost use Rattle.iso_model.specs.Terms.Arguments as arguments;
 ghost use Rattle.iso_model.specs.Search.Errors.{key};
 ghost use Rattle.iso_plain.specs.Entering.{Adds};
 
-use super::balls;
 use super::bodies::Node;
-use super::controls::Controls;
 use super::goals::{Placed, place_argument, place_called};
-use iso_model::{Ball, BuiltIn, NoMemory, Term};
+use super::vocabulary::Vocabulary;
+use iso_lib::{Fault, Reply, builtin, errors};
+use iso_model::{Ball, BuiltIn, Library, NoMemory, Term};
 use iso_store_core::{Shape, Store, StoreFault};
 use std::alloc::Global;
 
@@ -49,14 +49,14 @@ pub enum Replied {
 pub fn reply<S: Store>(
     alloc: Global,
     store: &mut S,
-    controls: &Controls,
+    vocabulary: &Vocabulary,
     nodes: &mut Vec<Node<S::Word>>,
     built_in: BuiltIn,
     goal: S::Word,
 ) -> Result<Replied, StoreFault>
     requires goal { Holds (S.present store.old) goal }
     requires built_in { IsBuiltIn (meaning (S.present store.old) goal) built_in }
-    requires controls { AreControls (S.names store.old) controls.now }
+    requires vocabulary { IsVocabulary (S.names store.old) vocabulary.now }
     ensures replies { IfOk result (IsReply (S.present store.old) (S.present store.new) nodes.old.items nodes.new.items
         (table.reply built_in (meaning (S.present store.old) goal))) }
     ensures nodes { Adds nodes.old.items nodes.new.items }
@@ -64,18 +64,11 @@ pub fn reply<S: Store>(
     ensures names { KeepsTexts (S.names store.old) (S.names store.new) }
     ensures marks { KeepsMarks (S.stands store.old) (S.stands store.new) }
 {
+    let controls = &vocabulary.controls;
     match built_in {
         BuiltIn::True => Ok(Replied::GoesOn),
         BuiltIn::Fail => Ok(Replied::Fails),
         BuiltIn::Repeat => Ok(Replied::Repeats),
-        BuiltIn::Unify => {
-            let (left, right) = (store.arg(goal, 0), store.arg(goal, 1));
-            Ok(tested(store.unify(left, right)?))
-        }
-        BuiltIn::Differ => {
-            let (left, right) = (store.arg(goal, 0), store.arg(goal, 1));
-            Ok(tested(differ(store, left, right)?))
-        }
         BuiltIn::Call => match place_called(alloc, store, controls, nodes, goal)? {
             Placed::Body(place) => Ok(Replied::Calls(place)),
             Placed::Raises(ball) => Ok(Replied::Raises(ball)),
@@ -94,6 +87,7 @@ pub fn reply<S: Store>(
         BuiltIn::Throw => Ok(Replied::Raises(thrown(alloc, store, goal)?)),
         BuiltIn::Halt => Ok(Replied::Halts(0)),
         BuiltIn::HaltWith => halted(alloc, store, goal),
+        BuiltIn::Library(row) => library(alloc, store, vocabulary, row, goal),
     }
 }
 
@@ -106,7 +100,7 @@ fn thrown<S: Store>(alloc: Global, store: &S, goal: S::Word) -> Result<Ball, NoM
 {
     let argument = store.arg(goal, 0);
     match store.shape(argument) {
-        Shape::Var(_) => balls::instantiation(alloc, "throw", 1),
+        Shape::Var(_) => errors::instantiation(alloc, "throw", 1),
         Shape::Int(_) | Shape::Atom(_) | Shape::Compound(_, _) => Ok(Ball {
             term: store.copy_out(argument)?,
         }),
@@ -122,16 +116,12 @@ fn halted<S: Store>(alloc: Global, store: &S, goal: S::Word) -> Result<Replied, 
 {
     let argument = store.arg(goal, 0);
     match store.shape(argument) {
-        Shape::Var(_) => Ok(Replied::Raises(balls::instantiation(alloc, "halt", 1)?)),
-        Shape::Int(status) if status < 0 || status > 255 => Ok(Replied::Raises(balls::out_of_domain(
-            alloc,
-            "exit_code",
-            Term::Int(status),
-            "halt",
-            1,
-        )?)),
+        Shape::Var(_) => Ok(Replied::Raises(errors::instantiation(alloc, "halt", 1)?)),
+        Shape::Int(status) if status < 0 || status > 255 => Ok(Replied::Raises(
+            errors::out_of_domain(alloc, "exit_code", Term::Int(status), "halt", 1)?,
+        )),
         Shape::Int(status) => Ok(Replied::Halts(status as u8)),
-        Shape::Atom(_) | Shape::Compound(_, _) => Ok(Replied::Raises(balls::wrong_type(
+        Shape::Atom(_) | Shape::Compound(_, _) => Ok(Replied::Raises(errors::wrong_type(
             alloc,
             "integer",
             store.copy_out(argument)?,
@@ -141,31 +131,30 @@ fn halted<S: Store>(alloc: Global, store: &S, goal: S::Word) -> Result<Replied, 
     }
 }
 
-/// What a test comes to.
-fn tested(holds: bool) -> Replied
-    ensures { result ≡ (if holds then Replied.GoesOn else Replied.Fails) }
-{
-    if holds {
-        Replied::GoesOn
-    } else {
-        Replied::Fails
-    }
-}
-
-/// Whether the two terms don't unify (8.2.3); nothing is bound. The errors are those of `reply`.
-fn differ<S: Store>(store: &mut S, left: S::Word, right: S::Word) -> Result<bool, StoreFault>
-    requires left { Holds (S.present store.old) left }
-    requires right { Holds (S.present store.old) right }
-    ensures differs { IfOk result (λ answer. MatchBool answer (NeverEqual (meaning (S.present store.old) left) (meaning (S.present store.old) right))
-        ((s : Subst) × Unifier (meaning (S.present store.old) left) (meaning (S.present store.old) right) s)) }
-    ensures present { OnOk result (S.present store.new ≡ S.present store.old) }
+/// What a goal comes to that runs no other (8.2 to 8.7). The errors: the store is full, or memory was refused.
+fn library<S: Store>(
+    alloc: Global,
+    store: &mut S,
+    vocabulary: &Vocabulary,
+    row: Library,
+    goal: S::Word,
+) -> Result<Replied, StoreFault>
+    requires goal { Holds (S.present store.old) goal }
+    requires arity { arguments.arity (meaning (S.present store.old) goal) ≡ library_arity row }
+    requires vocabulary { IsVocabulary (S.names store.old) vocabulary.now }
+    ensures replies { (nodes : List (Node S.Word)) → IfOk result (IsReply (S.present store.old) (S.present store.new) nodes nodes
+        (library_reply row (meaning (S.present store.old) goal))) }
     ensures full { result ≡ Err StoreFault.Full → S.full store.new }
-    ensures names { KeepsTexts (S.names store.old) (S.names store.new) }
+    ensures names { S.names store.new ≡ S.names store.old }
     ensures marks { KeepsMarks (S.stands store.old) (S.stands store.new) }
 {
-    let mark = store.mark();
-    let equal = store.unify(left, right)?;
-    store.undo(mark);
-    store.forget(mark);
-    Ok(!equal)
+    match builtin(alloc, store, &vocabulary.evaluables, row, goal) {
+        Ok(Reply::Done) => Ok(Replied::GoesOn),
+        Ok(Reply::Fail) => Ok(Replied::Fails),
+        Err(fault) => match fault {
+            Fault::Raise(ball) => Ok(Replied::Raises(ball)),
+            Fault::Full => Err(StoreFault::Full),
+            Fault::NoMemory => Err(StoreFault::NoMemory),
+        },
+    }
 }

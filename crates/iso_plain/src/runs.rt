@@ -138,7 +138,7 @@ impl<S: Store + Drop> Plain<S> {
         let replied = replies::reply(
             self.alloc,
             &mut self.store,
-            &self.controls,
+            &self.vocabulary,
             &mut self.nodes,
             built_in,
             goal,

@@ -7,11 +7,12 @@ ghost use Rattle.iso_model.specs.Search.Bodies.{converted};
 ghost use Rattle.iso_model.specs.Search.Additions.{consulted};
 ghost use Rattle.iso_model.specs.Search.Walker.{World, first_world, idle, started};
 
-use super::controls::Controls;
 use super::parts::{Frame, Now, Todo};
 use super::plain::Plain;
 use super::procedures::{self, Functor};
-use super::{balls, callables, clauses, entries, writing};
+use super::vocabulary::Vocabulary;
+use super::{callables, clauses, entries, writing};
+use iso_lib::errors;
 use iso_model::{AddFault, Term};
 use iso_ops::{Flags, OpTable};
 use iso_prep::{Fault, Prepared};
@@ -40,14 +41,14 @@ impl<S: Store + Drop> Plain<S> {
     {
         let ops = OpTable::initial(alloc)?;
         let callables = callables::of_built_ins(alloc, &mut store)?;
-        let controls = Controls::new(&mut store)?;
+        let vocabulary = Vocabulary::new(alloc, &mut store)?;
         let base = store.mark();
         Ok(Plain {
             alloc,
             store,
             procedures: Vec::new(alloc),
             callables,
-            controls,
+            vocabulary,
             ops,
             flags: Flags::initial(),
             nodes: Vec::new(alloc),
@@ -72,7 +73,7 @@ impl<S: Store + Drop> Plain<S> {
         ensures midway { OnOk result (phase_of self.new.now ≡ Midway) }
         ensures stays { Stays S.names self.old self.new }
     {
-        let ball = balls::not_callable(self.alloc, culprit, "call", 1)?;
+        let ball = errors::not_callable(self.alloc, culprit, "call", 1)?;
         self.raised = Some(ball);
         self.now = Now::Raising(None);
         Ok(())

@@ -120,7 +120,12 @@ impl<S: Store + Drop> Plain<S> {
         ensures steps { self.new.steps ≡ self.old.steps }
         ensures stays { Stays S.names self.old self.new }
     {
-        let call = call_of(self.alloc, &mut self.store, &self.controls, recovery)?;
+        let call = call_of(
+            self.alloc,
+            &mut self.store,
+            &self.vocabulary.controls,
+            recovery,
+        )?;
         let place = self.nodes.len();
         self.nodes.push(Node::Run(call))?;
         self.now = Now::Running(Frame {

@@ -2,14 +2,17 @@
 -- each comes to.
 use Rattle.std.specs.Prelude.{ℕ, nat_lt, int_lt, nat_abs, pos, List, [], ◌∷◌, Bool, true, false, ◌||◌, Option, Some, None, codes, if◌then◌else◌}
 use Rattle.iso_model.specs.Terms.Trees.{Tree, Variable, Integer}
-use Rattle.iso_model.specs.Terms.Substitutions.{Subst}
-use Rattle.iso_model.specs.Terms.Unification.{unifier_of}
 use Rattle.iso_model.specs.Search.Keys.{Key, key, same_key}
+use Rattle.iso_model.specs.Search.Library.{library_reply}
 use Rattle.iso_model.specs.Terms.Arguments.{argument, arguments, arity, others, with_arguments}
 use Rattle.iso_model.specs.Search.Bodies.{Body, converted}
 use Rattle.iso_model.specs.Search.Errors.{instantiation_error, type_error_callable, type_error, domain_error, max_arity_error}
 use Rattle.iso_model.specs.declared.built_ins.BuiltIn.{BuiltIn}
-use Rattle.iso_model.specs.declared.built_ins.BuiltIn.TheVariants.{True, Fail, Unify, Differ, Call, Once, Not, Repeat, Catch, Throw, Halt, HaltWith}
+use Rattle.iso_model.specs.declared.built_ins.BuiltIn.TheVariants.{True, Fail, Call, Once, Not, Repeat, Catch, Throw, Halt, HaltWith, Library}
+use Rattle.iso_model.specs.declared.library.Library.TheVariants as library
+use Rattle.iso_model.specs.declared.library.Comparison.TheVariants as comparison
+use Rattle.iso_model.specs.declared.library.TypeTest.TheVariants as test
+pub use Rattle.iso_model.specs.Search.Replies.{Reply, Fails, Succeeds, Equates, Raises, Calls, CallsOnce, Refutes, Repeats, Catches, Halts}
 
 -- the built-ins by name and arity
 abbrev pub built_ins : List (Key × BuiltIn)
@@ -19,7 +22,17 @@ built_ins =
     ∷ (key (codes "call") 5, Call) ∷ (key (codes "call") 6, Call) ∷ (key (codes "call") 7, Call) ∷ (key (codes "call") 8, Call)
     ∷ (key (codes "catch") 3, Catch) ∷ (key (codes "throw") 1, Throw) ∷ (key (codes "halt") 0, Halt) ∷ (key (codes "halt") 1, HaltWith)
     ∷ (key (codes "once") 1, Once) ∷ (key (codes "\\+") 1, Not)
-    ∷ (key (codes "=") 2, Unify) ∷ (key (codes "\\=") 2, Differ) ∷ []
+    ∷ (key (codes "=") 2, Library library.Unify) ∷ (key (codes "\\=") 2, Library library.Differ)
+    ∷ (key (codes "unify_with_occurs_check") 2, Library library.Unify)
+    ∷ (key (codes "var") 1, Library (library.Test test.Var)) ∷ (key (codes "nonvar") 1, Library (library.Test test.Nonvar))
+    ∷ (key (codes "atom") 1, Library (library.Test test.Atom)) ∷ (key (codes "integer") 1, Library (library.Test test.Integer))
+    ∷ (key (codes "float") 1, Library (library.Test test.Float)) ∷ (key (codes "number") 1, Library (library.Test test.Number))
+    ∷ (key (codes "atomic") 1, Library (library.Test test.Atomic)) ∷ (key (codes "compound") 1, Library (library.Test test.Compound))
+    ∷ (key (codes "callable") 1, Library (library.Test test.Callable)) ∷ (key (codes "ground") 1, Library (library.Test test.Ground))
+    ∷ (key (codes "is") 2, Library library.Is)
+    ∷ (key (codes "=:=") 2, Library (library.Compare comparison.Equal)) ∷ (key (codes "=\\=") 2, Library (library.Compare comparison.Unequal))
+    ∷ (key (codes "<") 2, Library (library.Compare comparison.Less)) ∷ (key (codes "=<") 2, Library (library.Compare comparison.AtMost))
+    ∷ (key (codes ">") 2, Library (library.Compare comparison.Greater)) ∷ (key (codes ">=") 2, Library (library.Compare comparison.AtLeast)) ∷ []
 
 abbrev pub built_in_among : List (Key × BuiltIn) → Key → Option BuiltIn
 built_in_among [] k = None
@@ -40,31 +53,6 @@ is_control k = same_key (key (codes ",") 2) k || (same_key (key (codes ";") 2) k
 -- whether this is the key of a built-in or of a control construct, which no clause may be added to
 abbrev pub is_built_in : Key → Bool
 is_built_in k = is_control k || is_some_built_in (built_in k)
-
--- what a goal of a built-in comes to
-pub data Reply : Type 0 where
-  Fails : Reply
-  Succeeds : Reply
-  Equates : (left : Tree) → (right : Tree) → Reply
-  -- this error is thrown
-  Raises : (error : Tree) → Reply
-  -- this goal is run, and a cut in it is local to it
-  Calls : (goal : Body) → Reply
-  -- the same, for its first solution
-  CallsOnce : (goal : Body) → Reply
-  -- the same, and it succeeds where the goal has no solution
-  Refutes : (goal : Body) → Reply
-  -- it succeeds each time that it is tried
-  Repeats : Reply
-  -- a goal is run, or an error thrown, inside a catch with this catcher and this recovery
-  Catches : (inside : Reply) → (catcher : Tree) → (recovery : Tree) → Reply
-  -- the search ends with this status
-  Halts : (status : ℕ) → Reply
-
--- nothing is bound where terms have a unifier or have none
-abbrev pub differ : Option Subst → Reply
-differ None = Succeeds
-differ (Some u) = Fails
 
 -- a goal is run in this way where it can be converted; else this procedure raises an error
 abbrev pub converted_reply : (Body → Reply) → Option Body → Tree → Key → Reply
@@ -91,13 +79,11 @@ halt_reply (Variable n) k = Raises (instantiation_error k)
 halt_reply (Integer z) k = if int_lt z (pos 0) || int_lt (pos 255) z then Raises (domain_error (codes "exit_code") (Integer z) k) else Halts (nat_abs z)
 halt_reply t k = Raises (type_error (codes "integer") t k)
 
--- what this goal of the built-in comes to (7.8.1 to 7.8.3, 7.8.9, 7.8.10, 8.2.1, 8.2.3, 8.15.1, 8.15.2, 8.15.3, 8.17.3, 8.17.4; call/2 to call/8
+-- what this goal of the built-in comes to (7.8.1 to 7.8.3, 7.8.9, 7.8.10, 8.15.1, 8.15.2, 8.15.3, 8.17.3, 8.17.4; call/2 to call/8
 -- are own)
 abbrev pub reply : BuiltIn → Tree → Reply
 reply True t = Succeeds
 reply Fail t = Fails
-reply Unify t = Equates (argument 0 t) (argument 1 t)
-reply Differ t = differ (unifier_of (argument 0 t) (argument 1 t))
 reply Call t = called_reply (with_arguments (argument 0 t) (others (arguments t))) (key (codes "call") (arity t))
 reply Once t = goal_reply CallsOnce (argument 0 t) (key (codes "once") 1)
 reply Not t = goal_reply Refutes (argument 0 t) (key (codes "\\+") 1)
@@ -106,3 +92,4 @@ reply Catch t = Catches (goal_reply Calls (argument 0 t) (key (codes "catch") 3)
 reply Throw t = throw_reply (argument 0 t) (key (codes "throw") 1)
 reply Halt t = Halts 0
 reply HaltWith t = halt_reply (argument 0 t) (key (codes "halt") 1)
+reply (Library row) t = library_reply row t

@@ -1,5 +1,5 @@
 -- Values: terms that a substitution leaves as they are. What a goal's value runs is made of values.
-use Rattle.std.proofs.Common.{◌≡◌, ℕ, zero, suc, List, true, false, Option, Some, None, refl, sym, ap, ap₂, ◌∙◌, codes, if◌then◌else◌, nat_lt, int_lt, nat_abs, pos, ◌||◌}
+use Rattle.std.proofs.Common.{◌≡◌, ℕ, zero, suc, ℤ, List, Bool, true, false, Ok, Err, Option, Some, None, refl, sym, ap, ap₂, ◌∙◌, codes, if◌then◌else◌, nat_lt, int_lt, nat_abs, pos, ◌||◌}
 use Rattle.std.specs.Str.{bytes_eq}
 use Rattle.iso_model.specs.Terms.Trees.{Tree, Variable, Integer, Name, Apply, End, More}
 use Rattle.iso_model.specs.Terms.Substitutions.{Subst, apply, compose}
@@ -10,10 +10,15 @@ use Rattle.iso_model.specs.Terms.Unification.Applied.{apply_apply, apply_same}
 use Rattle.iso_model.specs.Search.Bodies.{Body, Cut, Run, And, Or, If, Choose, map_body, either, both, converted, converted_two, one, two}
 use Rattle.iso_model.specs.Search.Keys.{Key, key}
 use Rattle.iso_model.specs.Search.Errors.{domain_error, max_arity_error}
-use Rattle.iso_model.specs.Search.BuiltIns.{Reply, Fails, Succeeds, Equates, Raises, Calls, CallsOnce, Refutes, Repeats, Catches, Halts, differ, converted_reply, goal_reply, called_reply, throw_reply, halt_reply, reply}
+use Rattle.iso_model.specs.Search.BuiltIns.{Reply, Fails, Succeeds, Equates, Raises, Calls, CallsOnce, Refutes, Repeats, Catches, Halts, converted_reply, goal_reply, called_reply, throw_reply, halt_reply, reply}
+use Rattle.iso_model.specs.Search.Library.{tested, differ, has_type, with_value_of, comparison_name, compares, compared, library_reply}
+use Rattle.iso_model.specs.Search.Arithmetic.{Value, value}
 use Rattle.iso_model.specs.Search.Walker.{Left, AsIs, Again, Clauses, Catching}
 use Rattle.iso_model.specs.declared.built_ins.BuiltIn.{BuiltIn}
 use Rattle.iso_model.specs.declared.built_ins.BuiltIn.TheVariants as built_in
+use Rattle.iso_model.specs.declared.library.Library.{Library}
+use Rattle.iso_model.specs.declared.library.Library.TheVariants as library
+use Rattle.iso_model.specs.declared.library.Comparison.{Comparison}
 
 -- the term stays as it is under the substitution
 abbrev pub IsValue : Subst → Tree → Type 0
@@ -257,14 +262,31 @@ halt_own r (Apply f ts) k = tt
 halt_own r End k = tt
 halt_own r (More t ts) k = tt
 
-pub reply_own : (r : Subst) (b : BuiltIn) (v : Tree) → IsValue r v → IsOwnReply r (reply b v)
-reply_own r built_in.True v own = tt
-reply_own r built_in.Fail v own = tt
-reply_own r built_in.Unify v own = (argument_value r 0 v own, argument_value r 1 v own)
-reply_own r built_in.Differ v own = differ_own (unifier_of (argument 0 v) (argument 1 v)) where
+-- goes on with the value of an expression, or raises its error
+value_own : (r : Subst) (v : Value) (k : Key) (goes_on : ℤ → Reply) → ((z : ℤ) → IsOwnReply r (goes_on z)) → IsOwnReply r (with_value_of v k goes_on)
+value_own r (Ok z) k goes_on own = own z
+value_own r (Err error) k goes_on own = tt
+
+test_own : (r : Subst) (holds : Bool) → IsOwnReply r (tested holds)
+test_own r true = tt
+test_own r false = tt
+
+library_own : (r : Subst) (row : Library) (v : Tree) → IsValue r v → IsOwnReply r (library_reply row v)
+library_own r library.Unify v own = (argument_value r 0 v own, argument_value r 1 v own)
+library_own r library.Differ v own = differ_own (unifier_of (argument 0 v) (argument 1 v)) where
   differ_own : (o : Option Subst) → IsOwnReply r (differ o)
   differ_own (Some u) = tt
   differ_own None = tt
+library_own r (library.Test type) v own = test_own r (has_type type (argument 0 v))
+library_own r library.Is v own =
+    value_own r (value (argument 1 v)) (key (codes "is") 2) (λ z. Equates (argument 0 v) (Integer z)) (λ z. (argument_value r 0 v own, refl))
+library_own r (library.Compare c) v own =
+    value_own r (value (argument 0 v)) (key (comparison_name c) 2) (λ x. with_value_of (value (argument 1 v)) (key (comparison_name c) 2) (λ y. tested (compares c x y)))
+    (λ x. value_own r (value (argument 1 v)) (key (comparison_name c) 2) (λ y. tested (compares c x y)) (λ y. test_own r (compares c x y)))
+
+pub reply_own : (r : Subst) (b : BuiltIn) (v : Tree) → IsValue r v → IsOwnReply r (reply b v)
+reply_own r built_in.True v own = tt
+reply_own r built_in.Fail v own = tt
 reply_own r built_in.Call v own =
     called_own r (with_arguments (argument 0 v) (others (arguments v))) (key (codes "call") (arity v))
     (with_value r (argument 0 v) (others (arguments v)) (argument_value r 0 v own) (others_value r (arguments v) (arguments_value r v own)))
@@ -276,3 +298,4 @@ reply_own r built_in.Catch v own =
 reply_own r built_in.Throw v own = throw_own r (argument 0 v) (key (codes "throw") 1)
 reply_own r built_in.Halt v own = tt
 reply_own r built_in.HaltWith v own = halt_own r (argument 0 v) (key (codes "halt") 1)
+reply_own r (built_in.Library row) v own = library_own r row v own

@@ -2,31 +2,11 @@ use Rattle.std.proofs.Common.{◌≡◌, arith}
 use Rattle.iso_model.specs.Terms.Arguments.{arity}
 use Rattle.iso_store_core.specs.Presents.{meaning}
 use Rattle.iso_plain.proofs.CalledLemmas.{built_in_arguments}
-use Rattle.iso_plain.proofs.ReplyLemmas.{call_body, call_error, once_body, once_error, not_body, not_error, catch_placed, halt_replied, differ_replied}
+use Rattle.iso_plain.proofs.ReplyLemmas.{call_body, call_error, once_body, once_error, not_body, not_error, catch_placed, halt_replied}
 use Rattle.iso_model.specs.Search.BuiltIns.{reply}
 use Rattle.iso_model.specs.declared.built_ins.BuiltIn.TheVariants as built_in
 use Rattle.iso_plain.proofs.RunMoves.{if_ok_map}
 use Rattle.iso_plain.proofs.replies.reply.Goals as goal
-
-pub arg-left-requires-clause-index : goal.arg-left-requires-clause-index
-arg-left-requires-clause-index g c =
-    let two : arity (meaning (g.S.Store.present c.args.store.now) c.args.goal) ≡ 2 = rw c.in-Unify.is at (built_in_arguments _ c.args.built_in c.requires.built_in) in
-    omega (arith, two)
-
-pub arg-right-requires-clause-index : goal.arg-right-requires-clause-index
-arg-right-requires-clause-index g c =
-    let two : arity (meaning (g.S.Store.present c.args.store.now) c.args.goal) ≡ 2 = rw c.in-Unify.is at (built_in_arguments _ c.args.built_in c.requires.built_in) in
-    omega (arith, two)
-
-pub arg-left-requires-in-Differ-clause-index : goal.arg-left-requires-in-Differ-clause-index
-arg-left-requires-in-Differ-clause-index g c =
-    let two : arity (meaning (g.S.Store.present c.args.store.now) c.args.goal) ≡ 2 = rw c.in-Differ.is at (built_in_arguments _ c.args.built_in c.requires.built_in) in
-    omega (arith, two)
-
-pub arg-right-requires-in-Differ-clause-index : goal.arg-right-requires-in-Differ-clause-index
-arg-right-requires-in-Differ-clause-index g c =
-    let two : arity (meaning (g.S.Store.present c.args.store.now) c.args.goal) ≡ 2 = rw c.in-Differ.is at (built_in_arguments _ c.args.built_in c.requires.built_in) in
-    omega (arith, two)
 
 pub place_called-requires-clause-some : goal.place_called-requires-clause-some
 place_called-requires-clause-some g c = (rw c.in-Call.is at (built_in_arguments (meaning (g.S.Store.present c.args.store.now) c.args.goal) c.args.built_in c.requires.built_in)).0
@@ -40,12 +20,6 @@ pub place_argument-requires-in-Not-clause-some : goal.place_argument-requires-in
 place_argument-requires-in-Not-clause-some g c =
     let one : arity (meaning (g.S.Store.present c.args.store.now) c.args.goal) ≡ 1 = rw c.in-Not.is at (built_in_arguments _ c.args.built_in c.requires.built_in) in
     omega (arith, one)
-
-pub returns-in_ok-differ-in-Differ-clause-replies : goal.returns-in_ok-differ-in-Differ-clause-replies
-returns-in_ok-differ-in-Differ-clause-replies g c =
-    let p = g.S.Store.present c.args.store.now in
-    let differs = rw (c.arg-left-in-Differ.ensures.value, c.arg-right-in-Differ.ensures.value) at c.in_ok-differ-in-Differ.ensures.differs in
-    rw (c.in-Differ.is, c.tested-in-Differ.ensures) (differ_replied p (g.S.Store.present c.differ.new.store) c.args.nodes.now.items _ _ c.in_ok-differ-in-Differ.field-0 differs c.in_ok-differ-in-Differ.ensures.present)
 
 pub returns-in-Body-clause-replies : goal.returns-in-Body-clause-replies
 returns-in-Body-clause-replies g c =
@@ -73,6 +47,9 @@ pub returns-in-Raises-3-clause-replies : goal.returns-in-Raises-3-clause-replies
 returns-in-Raises-3-clause-replies g c =
     let kept = rw c.in-Raises-3.is at c.in_ok-place-in-Not.ensures.raises in
     rw c.in-Not.is (not_error _ _ _ _ (meaning (g.S.Store.present c.args.store.now) c.args.goal) c.in-Raises-3.ball (rw c.in-Raises-3.is at c.in_ok-place-in-Not.ensures.placed) kept.0 kept.1 c.in_ok-place-in-Not.ensures.nodes)
+
+pub library-requires-clause-arity : goal.library-requires-clause-arity
+library-requires-clause-arity g c = rw c.in-Library.is at (built_in_arguments (meaning (g.S.Store.present c.args.store.now) c.args.goal) c.args.built_in c.requires.built_in)
 
 -- ---- catches, balls and the session's end
 

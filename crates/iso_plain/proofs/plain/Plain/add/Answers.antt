@@ -69,7 +69,7 @@ returns-clause-comes g c = λ w h.
     (record {
       procedures_are = subst (λ (k : Key). IsDatabase last c.add.new.database.items (with_clause at_end w.database.procedures k new)) same came.0;
       found = came.1;
-      controls_are = stood.controls_are;
+      vocabulary_is = stood.vocabulary_is;
       operators_are = stood.operators_are;
       flags_are = stood.flags_are;
     })))
@@ -100,4 +100,4 @@ returns-in_err-add-clause-comes g c = λ w h.
     let same = c.in_err-add.ensures.err last w.database.procedures stood.procedures_are stood.found in
     unadded (consulted (term_of c.args.clause.now) w.database) w c.from_residual-in_err-add.result _ c.from_residual-in_err-add.ensures.1
     (idle_again h c.requires.now (ensures.present ∙ before.present) (λ m p k. ensures.marks m p (before.marks m p k)) refl refl refl
-    (record { procedures_are = same.0; found = same.1; controls_are = stood.controls_are; operators_are = stood.operators_are; flags_are = stood.flags_are })))
+    (record { procedures_are = same.0; found = same.1; vocabulary_is = stood.vocabulary_is; operators_are = stood.operators_are; flags_are = stood.flags_are })))

@@ -5,9 +5,8 @@ use Rattle.iso_plain.specs.Callables.{callee_of}
 use Rattle.iso_plain.specs.Programs.{no_procedures}
 use Rattle.iso_plain.proofs.CallableLemmas.{index_same, index_kept}
 use Rattle.iso_plain.proofs.AddingLemmas.{callee_first}
-use Rattle.iso_plain.proofs.ControlNames.{controls-kept}
 use Rattle.iso_plain.proofs.StartLemmas.{same_fresh}
-use Rattle.iso_plain.proofs.WorldLemmas.{same_texts}
+use Rattle.iso_plain.proofs.WorldLemmas.{same_texts, vocabulary_kept}
 use Rattle.iso_plain.proofs.plain.Plain.new.Goals as goal
 
 pub returns-clause-stands : goal.returns-clause-stands
@@ -16,7 +15,7 @@ returns-clause-stands g c =
     let second = g.S.Store.names c.new.new.store in
     let last = g.S.Store.names c.mark-base.new.self in
     let rows = c.in_ok-callables.callables.items in
-    let own = index_kept first second rows _ c.in_ok-controls.ensures.names c.in_ok-callables.ensures.found in
+    let own = index_kept first second rows _ c.in_ok-vocabulary.ensures.names c.in_ok-callables.ensures.found in
     let found = index_kept second last rows _ (same_texts c.mark-base.ensures.names) own in
     record {
       own = idle first_world;
@@ -25,7 +24,7 @@ returns-clause-stands g c =
         world = record {
           procedures_are = rw c.new-2.ensures.items no_procedures;
           found = rw c.new-2.ensures.items (index_same last rows rows _ (callee_of []) (λ a n. refl) callee_first found);
-          controls_are = controls-kept second last c.in_ok-controls.controls (same_texts c.mark-base.ensures.names) c.in_ok-controls.ensures.controls;
+          vocabulary_is = vocabulary_kept (same_texts c.mark-base.ensures.names) c.in_ok-vocabulary.vocabulary c.in_ok-vocabulary.ensures.vocabulary;
           operators_are = c.in_ok-ops.ensures.entries;
           flags_are = c.initial-2.ensures;
         };
@@ -33,8 +32,8 @@ returns-clause-stands g c =
         base = record {
           present = g.S.Store.present c.new.new.store;
           stands_for = c.mark-base.ensures.stands;
-          substitution = ap (λ p. p.substitution) (c.in_ok-controls.ensures.present ∙ c.in_ok-callables.ensures.present) ∙ c.requires.substitution;
-          next = ap (λ p. p.next) (c.in_ok-controls.ensures.present ∙ c.in_ok-callables.ensures.present) ∙ c.requires.next;
+          substitution = ap (λ p. p.substitution) (c.in_ok-vocabulary.ensures.present ∙ c.in_ok-callables.ensures.present) ∙ c.requires.substitution;
+          next = ap (λ p. p.next) (c.in_ok-vocabulary.ensures.present ∙ c.in_ok-callables.ensures.present) ∙ c.requires.next;
         };
         choices = rw c.new-5.ensures.items none_kept;
         room = tt;

@@ -4,7 +4,7 @@ use Rattle.iso_model.specs.Terms.TermOf.{term_of}
 use Rattle.iso_model.specs.Search.Errors.{key, type_error_callable}
 use Rattle.iso_model.specs.Search.Walker.{started}
 use Rattle.iso_plain.specs.Standing.{ends, none_kept}
-use Rattle.iso_plain.proofs.ErrorLemmas.{callable_fits}
+use Rattle.iso_lib.proofs.ErrorLemmas.{callable_fits}
 use Rattle.iso_plain.proofs.StoppedLemmas.{behind_error, keeps_none}
 use Rattle.iso_plain.proofs.StartLemmas.{same_fresh, opening_error}
 use Rattle.iso_plain.proofs.plain.Plain.raise_query.Goals as goal
@@ -18,7 +18,7 @@ returns-clause-started g c = λ w fresh.
       own = s;
       same = same_fresh s refl refl;
       engine = record {
-        world = record { procedures_are = fresh.world.procedures_are; found = fresh.world.found; controls_are = fresh.world.controls_are; operators_are = fresh.world.operators_are; flags_are = fresh.world.flags_are };
+        world = record { procedures_are = fresh.world.procedures_are; found = fresh.world.found; vocabulary_is = fresh.world.vocabulary_is; operators_are = fresh.world.operators_are; flags_are = fresh.world.flags_are };
         steps = refl;
         base = fresh.base;
         choices = rw fresh.choices none_kept;

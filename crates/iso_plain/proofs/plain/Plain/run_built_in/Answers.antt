@@ -19,8 +19,8 @@ use Rattle.iso_plain.proofs.plain.Plain.run_built_in.Goals as goal
 pub reply-requires-clause-goal : goal.reply-requires-clause-goal
 reply-requires-clause-goal g c = (at g.S.Store.names g.S.Store.present g.S.Store.stands g.S.Store.older c.args.self.now c.requires.stands.0 c.args.frame c.args.place c.args.goal c.requires.now c.requires.there c.requires.stands.1).holds
 
-pub reply-requires-clause-controls : goal.reply-requires-clause-controls
-reply-requires-clause-controls g c = c.requires.stands.1.engine.world.controls_are
+pub reply-requires-clause-vocabulary : goal.reply-requires-clause-vocabulary
+reply-requires-clause-vocabulary g c = c.requires.stands.1.engine.world.vocabulary_is
 
 pub returns-in_err-replied-clause-stopped : goal.returns-in_err-replied-clause-stopped
 returns-in_err-replied-clause-stopped g c = λ s r.

@@ -4,7 +4,7 @@ use Rattle.std.proofs.lemmas.Result.{on_err_weaker}
 use Rattle.iso_store_core.specs.Presents.{meaning}
 use Rattle.iso_plain.specs.EngineStates.{Falls, cost, weight, phase_of}
 use Rattle.iso_plain.proofs.EnteringLemmas.{adds_none, words_same}
-use Rattle.iso_plain.proofs.ErrorLemmas.{existence_fits}
+use Rattle.iso_lib.proofs.ErrorLemmas.{existence_fits}
 use Rattle.iso_plain.proofs.StoppedLemmas.{behind_error, keeps_all}
 use Rattle.iso_plain.proofs.SearchMoves.{stops_here}
 use Rattle.iso_plain.proofs.RunLemmas.{calls_engine, ahead_step, one_less}

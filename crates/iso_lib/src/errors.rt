@@ -1,4 +1,4 @@
-//! The error terms that the engine raises (7.12.2), each with the indicator of the procedure that raised it (own).
+//! Error terms (7.12.2), each with the indicator of the procedure that raised it (own).
 ghost use Rattle.std.specs.Prelude.{◌≡◌, ◌<◌, IfOk, codes};
 ghost use Rattle.iso_model.specs.Terms.Trees.{Name};
 ghost use Rattle.iso_model.specs.Terms.TermOf.{term_of};
@@ -6,6 +6,7 @@ ghost use Rattle.iso_model.specs.Search.Bodies.{one, two};
 ghost use Rattle.iso_model.specs.Search.Errors.{key};
 ghost use Rattle.iso_model.specs.Search.Errors as errors;
 ghost use Rattle.iso_model.specs.Search.Additions.{consult_key};
+ghost use Rattle.iso_model.specs.Search.Arithmetic.{not_evaluable};
 
 use iso_model::{Ball, Term};
 use std::alloc::{AllocError, Global};
@@ -101,6 +102,22 @@ pub fn out_of_domain(
     error(alloc, what, place)
 }
 
+/// `type_error(evaluable, Name/Arity)` of this culprit, raised by this procedure (7.9.2).
+pub fn not_evaluable(
+    alloc: Global,
+    culprit: &str,
+    count: usize,
+    name: &str,
+    arity: usize,
+) -> Result<Ball, AllocError>
+    requires count { count < 256 }
+    requires arity { arity < 256 }
+    ensures { IfOk result (λ b. term_of b.term ≡ errors.raised (not_evaluable (key culprit.now count)) (key name.now arity)) }
+{
+    let culprit = indicator(alloc, culprit, count)?;
+    wrong_type(alloc, "evaluable", culprit, name, arity)
+}
+
 /// `existence_error(procedure, PI)`, raised by the unknown procedure itself (7.7.7, 7.12.2 d).
 pub fn unknown_procedure(alloc: Global, name: &str, arity: usize) -> Result<Ball, AllocError>
     requires { arity < 256 }
@@ -130,24 +147,38 @@ pub fn static_procedure(alloc: Global, name: &str, arity: usize) -> Result<Ball,
     error(alloc, what, place)
 }
 
-/// `representation_error(limit)`, raised by this procedure (7.12.2 f).
-fn representation(alloc: Global, limit: &str, name: &str, arity: usize) -> Result<Ball, AllocError>
+/// `kind(what)`, raised by this procedure.
+fn named(
+    alloc: Global,
+    kind: &str,
+    what: &str,
+    name: &str,
+    arity: usize,
+) -> Result<Ball, AllocError>
     requires { arity < 256 }
-    ensures { IfOk result (λ b. term_of b.term ≡ errors.raised (one (codes "representation_error") (Name limit.now)) (key name.now arity)) }
+    ensures { IfOk result (λ b. term_of b.term ≡ errors.raised (one kind.now (Name what.now)) (key name.now arity)) }
 {
     let mut arguments = Vec::with_capacity(alloc, 1)?;
-    let limit = atom(alloc, limit)?;
-    arguments.push(limit)?;
-    let what = Term::Compound(String::from_str(alloc, "representation_error")?, arguments);
+    let what = atom(alloc, what)?;
+    arguments.push(what)?;
+    let what = Term::Compound(String::from_str(alloc, kind)?, arguments);
     let place = indicator(alloc, name, arity)?;
     error(alloc, what, place)
+}
+
+/// `evaluation_error(what)`, raised by this procedure (7.12.2 g).
+pub fn evaluation(alloc: Global, what: &str, name: &str, arity: usize) -> Result<Ball, AllocError>
+    requires { arity < 256 }
+    ensures { IfOk result (λ b. term_of b.term ≡ errors.raised (one (codes "evaluation_error") (Name what.now)) (key name.now arity)) }
+{
+    named(alloc, "evaluation_error", what, name, arity)
 }
 
 /// `representation_error(max_variables)`, raised by `consult/1` (own limit).
 pub fn too_many_variables(alloc: Global) -> Result<Ball, AllocError>
     ensures { IfOk result (λ b. term_of b.term ≡ errors.max_variables_error consult_key) }
 {
-    representation(alloc, "max_variables", "consult", 1)
+    named(alloc, "representation_error", "max_variables", "consult", 1)
 }
 
 /// `representation_error(max_arity)`, raised by this procedure (own limit).
@@ -155,5 +186,5 @@ pub fn too_many_arguments(alloc: Global, name: &str, arity: usize) -> Result<Bal
     requires { arity < 256 }
     ensures { IfOk result (λ b. term_of b.term ≡ errors.max_arity_error (key name.now arity)) }
 {
-    representation(alloc, "max_arity", name, arity)
+    named(alloc, "representation_error", "max_arity", name, arity)
 }
