@@ -5,20 +5,21 @@ use Rattle.iso_atoms.specs.Texts.{KeepsTexts}
 use Rattle.iso_model.specs.Terms.Variables.{variables}
 use Rattle.iso_model.specs.Search.Walker.{State, Alternative}
 use Rattle.iso_store_core.specs.Presents.{Present}
-use Rattle.iso_plain.specs.declared.bodies.Node.{Node}
-use Rattle.iso_plain.specs.declared.parts.Frame.{Frame}
-use Rattle.iso_plain.specs.declared.parts.Choice as kept
+use Rattle.iso_plain_core.specs.declared.bodies.Node.{Node}
+use Rattle.iso_plain_core.specs.declared.parts.Frame.{Frame}
+use Rattle.iso_plain_core.specs.declared.parts.Choice as kept
 use Rattle.iso_plain.specs.declared.plain.Plain.{Plain}
-use Rattle.iso_plain.specs.Standing.{Links, HasLeft, StandsForChoices, HaveRoom, links_at}
-use Rattle.iso_plain.specs.EngineStates.{IsEngine, WentBack, choice_cost, choices_cost, left_at, links_of}
-use Rattle.iso_plain.proofs.StandingLemmas.{newest, choices_keep, last_split}
+use Rattle.iso_plain_core.specs.Standing.{Links, HasLeft, StandsForChoices, HaveRoom, links_at}
+use Rattle.iso_plain.specs.EngineStates.{IsEngine, WentBack, links_of}
+use Rattle.iso_plain_core.specs.Costs.{choice_cost, choices_cost, frame_costs}
+use Rattle.iso_plain_core.specs.ClausePlaces.{left_at}
+use Rattle.iso_plain_core.proofs.StandingLemmas.{newest, choices_keep, last_split}
 use Rattle.iso_plain.proofs.WorldLemmas.{world_on}
-use Rattle.iso_plain.proofs.CostLemmas.{choices_last, choices_on_more, left_place}
+use Rattle.iso_plain_core.proofs.CostLemmas.{choices_last, choices_on_more, left_place}
 use Rattle.std.proofs.lemmas.List.{take-append-drop}
 use Rattle.std.proofs.lemmas.Option.{slice_get_within}
 use Rattle.iso_model.specs.Search.Databases.{Clause}
-use Rattle.iso_plain.specs.Costs.{frame_costs}
-use Rattle.iso_plain.specs.declared.procedures.Procedure.{Procedure}
+use Rattle.iso_plain_core.specs.declared.procedures.Procedure.{Procedure}
 
 pub get_at : {X : Type 0} (xs : List X) (i : ℕ) (x : X) → i < length xs → x ≡ get_or xs i x → slice_get xs i ≡ Some x
 get_at [] i x within is = absurd (omega arith)

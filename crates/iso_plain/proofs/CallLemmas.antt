@@ -7,24 +7,25 @@ use Rattle.iso_model.specs.Search.Databases as databases
 use Rattle.iso_model.specs.Search.Databases.{Procedures}
 use Rattle.iso_model.specs.Search.Walker.{State, Member, Alternative, Clauses, with_others}
 use Rattle.iso_store_core.specs.Presents.{Present, KeepsMarks}
-use Rattle.iso_plain.specs.declared.parts.Attempt.{Attempt}
-use Rattle.iso_plain.specs.declared.parts.Choice as kept
+use Rattle.iso_plain_core.specs.declared.parts.Attempt.{Attempt}
+use Rattle.iso_plain_core.specs.declared.parts.Choice as kept
 use Rattle.iso_plain.specs.declared.plain.Plain.{Plain}
-use Rattle.iso_plain.specs.Costs.{body_cost, left_cost, most, frame_costs, place_cost}
-use Rattle.iso_plain.specs.declared.bodies.Node.{Node}
-use Rattle.iso_plain.specs.declared.clauses.Clause.{Clause}
-use Rattle.iso_plain.specs.declared.entries.Entered.{Entered}
-use Rattle.iso_plain.specs.declared.entries.Entered.TheVariants as entered
-use Rattle.iso_plain.specs.declared.parts.Frame.{Frame}
-use Rattle.iso_plain.specs.Entering.{Enters}
-use Rattle.iso_plain.specs.Next.{now_behind, now_entered}
-use Rattle.iso_plain.specs.declared.parts.Left.TheVariants as left
-use Rattle.iso_plain.specs.Standing.{Among, AtGoal, GainsChoice, StandsForChoice, StandsForChoices}
-use Rattle.iso_plain.specs.EngineStates.{Calls, now_cost, left_at, links_of}
-use Rattle.iso_plain.proofs.CountLemmas.{left_next}
-use Rattle.iso_plain.proofs.CostLemmas.{cost_above, cost_higher, left_higher, below_most}
+use Rattle.iso_plain_core.specs.Costs.{body_cost, left_cost, most, frame_costs, place_cost, now_cost}
+use Rattle.iso_plain_core.specs.declared.bodies.Node.{Node}
+use Rattle.iso_plain_core.specs.declared.clauses.Clause.{Clause}
+use Rattle.iso_plain_core.specs.declared.entries.Entered.{Entered}
+use Rattle.iso_plain_core.specs.declared.entries.Entered.TheVariants as entered
+use Rattle.iso_plain_core.specs.declared.parts.Frame.{Frame}
+use Rattle.iso_plain_core.specs.Entering.{Enters}
+use Rattle.iso_plain_core.specs.Next.{now_behind, now_entered}
+use Rattle.iso_plain_core.specs.declared.parts.Left.TheVariants as left
+use Rattle.iso_plain_core.specs.Standing.{Among, AtGoal, GainsChoice, StandsForChoice, StandsForChoices}
+use Rattle.iso_plain.specs.EngineStates.{Calls, links_of}
+use Rattle.iso_plain_core.specs.ClausePlaces.{left_at}
+use Rattle.iso_plain_core.proofs.CountLemmas.{left_next}
+use Rattle.iso_plain_core.proofs.CostLemmas.{cost_above, cost_higher, left_higher, below_most}
 use Rattle.iso_plain.proofs.WorldLemmas.{world_on}
-use Rattle.iso_plain.proofs.StandingLemmas.{choices_keep, choices_push, marks_stand}
+use Rattle.iso_plain_core.proofs.StandingLemmas.{choices_keep, choices_push, marks_stand}
 
 -- ---- what is left to be done
 

@@ -6,27 +6,28 @@ use Rattle.iso_model.specs.Terms.Variables.{variables}
 use Rattle.iso_model.specs.Search.Bodies.{Body}
 use Rattle.iso_model.specs.Search.Walker.{State, Member, Goal, Leave, Catching, Goes, pushed, step}
 use Rattle.iso_store_core.specs.Presents.{Present, KeepsMarks}
-use Rattle.iso_plain.specs.declared.parts.Todo.{Todo}
-use Rattle.iso_plain.specs.declared.parts.Todo.TheVariants as todo
-use Rattle.iso_plain.specs.declared.parts.Frame.{Frame}
-use Rattle.iso_plain.specs.declared.parts.Left.TheVariants as left
-use Rattle.iso_plain.specs.declared.parts.Choice as kept
-use Rattle.iso_plain.specs.declared.parts.Now.{Now}
-use Rattle.iso_plain.specs.declared.parts.Now.TheVariants as now
+use Rattle.iso_plain_core.specs.declared.parts.Todo.{Todo}
+use Rattle.iso_plain_core.specs.declared.parts.Todo.TheVariants as todo
+use Rattle.iso_plain_core.specs.declared.parts.Frame.{Frame}
+use Rattle.iso_plain_core.specs.declared.parts.Left.TheVariants as left
+use Rattle.iso_plain_core.specs.declared.parts.Choice as kept
+use Rattle.iso_plain_core.specs.declared.parts.Now.{Now}
+use Rattle.iso_plain_core.specs.declared.parts.Now.TheVariants as now
 use Rattle.iso_plain.specs.declared.plain.Move.TheVariants as move
 use Rattle.iso_plain.specs.declared.plain.Plain.{Plain}
 use Rattle.iso_plain.specs.Catches.{EntersCatch, catching, calling_inside, catcher_of, recovery_of}
-use Rattle.iso_plain.specs.Costs.{body_cost, left_cost, most, whole_cost, todo_cost, frame_costs, place_cost}
-use Rattle.iso_plain.specs.Next.{now_behind}
-use Rattle.iso_plain.specs.Standing.{IsBody, a_body, an_end, HasLeft, GainsChoice}
-use Rattle.iso_plain.specs.EngineStates.{IsEngine, IsAhead, Represents, Moves, choices_cost, now_cost, cost, weight, left_at, links_of}
+use Rattle.iso_plain_core.specs.Costs.{body_cost, left_cost, most, whole_cost, todo_cost, frame_costs, place_cost, choices_cost, now_cost}
+use Rattle.iso_plain_core.specs.Next.{now_behind}
+use Rattle.iso_plain_core.specs.Standing.{IsBody, a_body, an_end, HasLeft, GainsChoice}
+use Rattle.iso_plain.specs.EngineStates.{IsEngine, IsAhead, Represents, Moves, cost, weight, links_of}
+use Rattle.iso_plain_core.specs.ClausePlaces.{left_at}
 use Rattle.iso_plain.proofs.AheadLemmas.{AtFrame, at_frame, end_of, engine_frame, engine_place, ahead_frame, ahead_left}
 use Rattle.iso_plain.proofs.ControlCosts.{new_place, old_place, gained_cost}
-use Rattle.iso_plain.proofs.CostLemmas.{cost_more, cost_higher, left_step, left_higher, whole_paid, some_most, below_words, choices_on_more, behind_cost}
+use Rattle.iso_plain_core.proofs.CostLemmas.{cost_more, cost_higher, left_step, left_higher, whole_paid, some_most, below_words, choices_on_more, behind_cost}
 use Rattle.iso_plain.proofs.FailLemmas.{awake_behind}
 use Rattle.iso_plain.proofs.SearchMoves.{goes}
 use Rattle.iso_plain.proofs.SearchSteps.{leave_step}
-use Rattle.iso_plain.proofs.StandingLemmas.{chain_place, choices_length, body_within}
+use Rattle.iso_plain_core.proofs.StandingLemmas.{chain_place, choices_length, body_within}
 use Rattle.iso_plain.proofs.WeightLemmas.{falls_less, cost_as}
 
 -- ---- what is left to be done

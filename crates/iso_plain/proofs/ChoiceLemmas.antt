@@ -7,21 +7,22 @@ use Rattle.iso_model.specs.Search.Databases as databases
 use Rattle.iso_model.specs.Search.Databases.{Procedures}
 use Rattle.iso_model.specs.Search.Walker.{State, Alternative, Clauses, with_others}
 use Rattle.iso_store_core.specs.Presents.{Present}
-use Rattle.iso_plain.specs.declared.procedures.Procedure.{Procedure}
-use Rattle.iso_plain.specs.declared.parts.Choice as kept
+use Rattle.iso_plain_core.specs.declared.procedures.Procedure.{Procedure}
+use Rattle.iso_plain_core.specs.declared.parts.Choice as kept
 use Rattle.iso_plain.specs.declared.plain.Plain.{Plain}
-use Rattle.iso_plain.specs.Programs.{IsDatabase}
-use Rattle.iso_plain.specs.declared.parts.Left.{Left}
-use Rattle.iso_plain.specs.declared.parts.Left.TheVariants as left
-use Rattle.iso_plain.specs.declared.parts.Attempt.{Attempt}
-use Rattle.iso_plain.specs.Costs.{body_cost, most, left_cost, rest_cost}
-use Rattle.iso_plain.specs.Standing.{AtGoal, HasClauses, HasLeft, StandsForChoices, numbers_a_step, most_numbers, entered_at}
-use Rattle.iso_plain.specs.EngineStates.{Calls, WentBack, Retries, left_at, links_of, went_back, clauses_at_place, choice_cost, choices_cost}
-use Rattle.iso_plain.proofs.KeptLemmas.{kept_at}
-use Rattle.iso_plain.proofs.CountLemmas.{clauses_counted, left_next}
-use Rattle.iso_plain.proofs.CostLemmas.{left_step, choices_last}
+use Rattle.iso_plain_core.specs.Programs.{IsDatabase}
+use Rattle.iso_plain_core.specs.declared.parts.Left.{Left}
+use Rattle.iso_plain_core.specs.declared.parts.Left.TheVariants as left
+use Rattle.iso_plain_core.specs.declared.parts.Attempt.{Attempt}
+use Rattle.iso_plain_core.specs.Costs.{body_cost, most, left_cost, rest_cost, choice_cost, choices_cost}
+use Rattle.iso_plain_core.specs.Standing.{AtGoal, HasClauses, HasLeft, StandsForChoices, numbers_a_step, most_numbers, entered_at}
+use Rattle.iso_plain.specs.EngineStates.{Calls, WentBack, Retries, links_of, went_back}
+use Rattle.iso_plain_core.specs.ClausePlaces.{left_at, clauses_at_place}
+use Rattle.iso_plain_core.proofs.KeptLemmas.{kept_at}
+use Rattle.iso_plain_core.proofs.CountLemmas.{clauses_counted, left_next}
+use Rattle.iso_plain_core.proofs.CostLemmas.{left_step, choices_last}
 use Rattle.iso_plain.proofs.WorldLemmas.{world_on}
-use Rattle.iso_plain.proofs.StandingLemmas.{choices_push, choices_keep, item_is, last_split}
+use Rattle.iso_plain_core.proofs.StandingLemmas.{choices_push, choices_keep, item_is, last_split}
 
 -- The clauses behind the one at this place.
 pub record Rest (ps : List Procedure) (db : Procedures) (i j : ℕ) (cs : List databases.Clause) : Type 0 where

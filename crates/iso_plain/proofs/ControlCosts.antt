@@ -2,24 +2,24 @@
 use Rattle.std.proofs.Common.{◌≡◌, ℕ, suc, ◌+◌, ◌-◌, ◌<◌, ◌++◌, List, [], ◌∷◌, length, Option, Some, refl, ap, ◌∙◌, arith, append_assoc, Vec, Global}
 use Rattle.iso_model.specs.Search.Walker.{State}
 use Rattle.iso_store_core.specs.Presents.{Present}
-use Rattle.iso_plain.specs.declared.bodies.Node.TheVariants as node
-use Rattle.iso_plain.specs.declared.parts.Todo.{Todo}
-use Rattle.iso_plain.specs.declared.parts.Todo.TheVariants as todo
-use Rattle.iso_plain.specs.declared.parts.Frame.{Frame}
-use Rattle.iso_plain.specs.declared.parts.Left.{Left}
-use Rattle.iso_plain.specs.declared.parts.Left.TheVariants as left
-use Rattle.iso_plain.specs.declared.parts.Choice as kept
-use Rattle.iso_plain.specs.declared.parts.Now.{Now}
-use Rattle.iso_plain.specs.declared.parts.Now.TheVariants as now
-use Rattle.iso_plain.specs.declared.procedures.Procedure.{Procedure}
+use Rattle.iso_plain_core.specs.declared.bodies.Node.TheVariants as node
+use Rattle.iso_plain_core.specs.declared.parts.Todo.{Todo}
+use Rattle.iso_plain_core.specs.declared.parts.Todo.TheVariants as todo
+use Rattle.iso_plain_core.specs.declared.parts.Frame.{Frame}
+use Rattle.iso_plain_core.specs.declared.parts.Left.{Left}
+use Rattle.iso_plain_core.specs.declared.parts.Left.TheVariants as left
+use Rattle.iso_plain_core.specs.declared.parts.Choice as kept
+use Rattle.iso_plain_core.specs.declared.parts.Now.{Now}
+use Rattle.iso_plain_core.specs.declared.parts.Now.TheVariants as now
+use Rattle.iso_plain_core.specs.declared.procedures.Procedure.{Procedure}
 use Rattle.iso_plain.specs.declared.plain.Plain.{Plain}
-use Rattle.iso_plain.specs.Costs.{body_cost, most, todo_cost, frame_cost, frame_costs, place_cost}
-use Rattle.iso_plain.specs.Next.{IsPlace}
-use Rattle.iso_plain.specs.Standing.{IsAt, GainsChoice}
-use Rattle.iso_plain.specs.EngineStates.{Represents, choice_cost, choices_cost, now_cost, cost, weight}
-use Rattle.iso_plain.proofs.CostLemmas.{cost_above, cost_more, cost_parts, more_cost, newest_cost, choices_last, choices_on_more}
+use Rattle.iso_plain_core.specs.Costs.{body_cost, most, todo_cost, frame_cost, frame_costs, place_cost, choice_cost, choices_cost, now_cost}
+use Rattle.iso_plain_core.specs.Next.{IsPlace}
+use Rattle.iso_plain_core.specs.Standing.{IsAt, GainsChoice}
+use Rattle.iso_plain.specs.EngineStates.{Represents, cost, weight}
+use Rattle.iso_plain_core.proofs.CostLemmas.{cost_above, cost_more, cost_parts, more_cost, newest_cost, choices_last, choices_on_more}
 use Rattle.iso_plain.proofs.ControlMoves.{body_frame, at, and_parts, if_parts, or_parts, choose_parts}
-use Rattle.iso_plain.proofs.StandingLemmas.{chain_place, length_last}
+use Rattle.iso_plain_core.proofs.StandingLemmas.{chain_place, length_last}
 use Rattle.iso_plain.proofs.WeightLemmas.{falls_less}
 
 -- ---- frames and choices that come

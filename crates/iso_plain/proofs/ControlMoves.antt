@@ -5,21 +5,21 @@ use Rattle.iso_model.specs.Search.Bodies.{Body, And, Or, If}
 use Rattle.iso_model.specs.Search.Walker.{State, Goal, CutTo, Alternative, AsIs, Goes, pushed, step}
 use Rattle.iso_model.specs.Search.Runs.{ComesOver}
 use Rattle.iso_store_core.specs.Presents.{Present, KeepsMarks}
-use Rattle.iso_plain.specs.declared.bodies.Node.TheVariants as node
-use Rattle.iso_plain.specs.declared.parts.Todo.TheVariants as todo
-use Rattle.iso_plain.specs.declared.parts.Frame.{Frame}
-use Rattle.iso_plain.specs.declared.parts.Left.TheVariants as left
-use Rattle.iso_plain.specs.declared.parts.Choice as kept
-use Rattle.iso_plain.specs.declared.parts.Now.TheVariants as now
+use Rattle.iso_plain_core.specs.declared.bodies.Node.TheVariants as node
+use Rattle.iso_plain_core.specs.declared.parts.Todo.TheVariants as todo
+use Rattle.iso_plain_core.specs.declared.parts.Frame.{Frame}
+use Rattle.iso_plain_core.specs.declared.parts.Left.TheVariants as left
+use Rattle.iso_plain_core.specs.declared.parts.Choice as kept
+use Rattle.iso_plain_core.specs.declared.parts.Now.TheVariants as now
 use Rattle.iso_plain.specs.declared.plain.Move.TheVariants as move
 use Rattle.iso_plain.specs.declared.plain.Plain.{Plain}
-use Rattle.iso_plain.specs.Standing.{IsAt, IsBody, IsGoalWord, Chain, a_body, a_cut, GainsChoice}
+use Rattle.iso_plain_core.specs.Standing.{IsAt, IsBody, IsGoalWord, Chain, a_body, a_cut, GainsChoice}
 use Rattle.iso_plain.specs.EngineStates.{IsEngine, IsAhead, Represents, Stopped, Keeps, Moves}
 use Rattle.iso_plain.proofs.AheadLemmas.{AtBody, at_body, engine_frame, ahead_frame, members_left, ahead_choice, ahead_other, chain_pushed}
-use Rattle.iso_plain.proofs.PlaceLemmas.{Pair, Triple, and_at, or_at, if_at, choose_at}
+use Rattle.iso_plain_core.proofs.PlaceLemmas.{Pair, Triple, and_at, or_at, if_at, choose_at}
 use Rattle.iso_plain.proofs.SearchMoves.{goes, stops, comes_over}
 use Rattle.iso_plain.proofs.SearchSteps.{parts_step, either_step, condition_step, choose_step}
-use Rattle.iso_plain.proofs.StandingLemmas.{choices_length}
+use Rattle.iso_plain_core.proofs.StandingLemmas.{choices_length}
 
 -- the frame for another body, with this frame's mark and before what is behind it
 abbrev pub body_frame : Frame → ℕ → Frame

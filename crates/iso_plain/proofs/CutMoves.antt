@@ -3,21 +3,21 @@ use Rattle.std.proofs.Common.{◌≡◌, ℕ, ◌+◌, ◌<◌, ◌≤◌, List,
 use Rattle.iso_model.specs.Search.Bodies.{Body}
 use Rattle.iso_model.specs.Search.Walker.{State, Member, Goal, Goes, cut_back, step}
 use Rattle.iso_store_core.specs.Presents.{Present}
-use Rattle.iso_plain.specs.declared.bodies.Node.{Node}
-use Rattle.iso_plain.specs.declared.parts.Todo.{Todo}
-use Rattle.iso_plain.specs.declared.parts.Frame.{Frame}
-use Rattle.iso_plain.specs.declared.parts.Now.{Now}
-use Rattle.iso_plain.specs.declared.parts.Now.TheVariants as now
+use Rattle.iso_plain_core.specs.declared.bodies.Node.{Node}
+use Rattle.iso_plain_core.specs.declared.parts.Todo.{Todo}
+use Rattle.iso_plain_core.specs.declared.parts.Frame.{Frame}
+use Rattle.iso_plain_core.specs.declared.parts.Now.{Now}
+use Rattle.iso_plain_core.specs.declared.parts.Now.TheVariants as now
 use Rattle.iso_plain.specs.declared.plain.Move.TheVariants as move
 use Rattle.iso_plain.specs.declared.plain.Plain.{Plain}
-use Rattle.iso_plain.specs.Costs.{todo_cost, frame_costs, place_cost}
-use Rattle.iso_plain.specs.Next.{now_behind}
-use Rattle.iso_plain.specs.Standing.{IsCut}
-use Rattle.iso_plain.specs.EngineStates.{IsAhead, Represents, Moves, choices_cost, now_cost, cost, weight}
+use Rattle.iso_plain_core.specs.Costs.{todo_cost, frame_costs, place_cost, choices_cost, now_cost}
+use Rattle.iso_plain_core.specs.Next.{now_behind}
+use Rattle.iso_plain_core.specs.Standing.{IsCut}
+use Rattle.iso_plain.specs.EngineStates.{IsAhead, Represents, Moves, cost, weight}
 use Rattle.iso_plain.proofs.AheadLemmas.{AtFrame, at_frame, body_of, cut_of, engine_place}
-use Rattle.iso_plain.proofs.CostLemmas.{cost_above, behind_cost}
+use Rattle.iso_plain_core.proofs.CostLemmas.{cost_above, behind_cost}
 use Rattle.iso_plain.proofs.FailLemmas.{awake_behind}
-use Rattle.iso_plain.proofs.PlaceLemmas.{cut_at}
+use Rattle.iso_plain_core.proofs.PlaceLemmas.{cut_at}
 use Rattle.iso_plain.proofs.SearchMoves.{goes}
 use Rattle.iso_plain.proofs.SearchSteps.{cut_step, cut_back_step}
 use Rattle.iso_plain.proofs.WeightLemmas.{falls_less}

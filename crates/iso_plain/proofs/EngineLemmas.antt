@@ -14,28 +14,28 @@ use Rattle.iso_model.specs.Search.Databases as databases
 use Rattle.iso_model.specs.Search.Walker.{State, Member, Goal, tried_clause, before, clause_size}
 use Rattle.iso_model.proofs.Search.CallLemmas.{clause_found, clause_missed}
 use Rattle.iso_store_core.specs.Presents.{Present, KeepsMarks}
-use Rattle.iso_plain.specs.Nodes.{EndsWith, ArePartsOf}
-use Rattle.iso_plain.specs.Written.{IsPatternOf, term_in}
-use Rattle.iso_plain.specs.declared.bodies.Node.{Node}
-use Rattle.iso_plain.specs.declared.clauses.Clause.{Clause}
-use Rattle.iso_plain.specs.declared.entries.Entered.{Entered}
-use Rattle.iso_plain.specs.declared.entries.Entered.TheVariants as entered
-use Rattle.iso_plain.specs.declared.parts.Attempt.{Attempt}
-use Rattle.iso_plain.specs.declared.parts.Frame.{Frame}
-use Rattle.iso_plain.specs.declared.parts.Todo.TheVariants as todo
-use Rattle.iso_plain.specs.declared.parts.Now.{Now}
-use Rattle.iso_plain.specs.declared.parts.Now.TheVariants as now
+use Rattle.iso_plain_core.specs.Nodes.{EndsWith, ArePartsOf}
+use Rattle.iso_plain_core.specs.Written.{IsPatternOf, term_in}
+use Rattle.iso_plain_core.specs.declared.bodies.Node.{Node}
+use Rattle.iso_plain_core.specs.declared.clauses.Clause.{Clause}
+use Rattle.iso_plain_core.specs.declared.entries.Entered.{Entered}
+use Rattle.iso_plain_core.specs.declared.entries.Entered.TheVariants as entered
+use Rattle.iso_plain_core.specs.declared.parts.Attempt.{Attempt}
+use Rattle.iso_plain_core.specs.declared.parts.Frame.{Frame}
+use Rattle.iso_plain_core.specs.declared.parts.Todo.TheVariants as todo
+use Rattle.iso_plain_core.specs.declared.parts.Now.{Now}
+use Rattle.iso_plain_core.specs.declared.parts.Now.TheVariants as now
 use Rattle.iso_plain.specs.declared.plain.Plain.{Plain}
-use Rattle.iso_plain.specs.Standing.{Links, IsBody, a_body, GoesOn, DoesNext}
-use Rattle.iso_plain.specs.Kept.{IsClause}
-use Rattle.iso_plain.specs.Entering.{Enters, Meets, Copies, Adds, renaming_from}
-use Rattle.iso_plain.specs.Next.{now_behind, now_entered}
+use Rattle.iso_plain_core.specs.Standing.{Links, IsBody, a_body, GoesOn, DoesNext}
+use Rattle.iso_plain_core.specs.Kept.{IsClause}
+use Rattle.iso_plain_core.specs.Entering.{Enters, Meets, Copies, Adds, renaming_from}
+use Rattle.iso_plain_core.specs.Next.{now_behind, now_entered}
 use Rattle.iso_plain.specs.EngineStates.{IsEngine, Calls, links_of}
-use Rattle.iso_plain.proofs.StandingLemmas.{AddsLinks, chain_more, variables_more, next_behind}
-use Rattle.iso_plain.proofs.EnteringLemmas.{adds_none, placed_body}
+use Rattle.iso_plain_core.proofs.StandingLemmas.{AddsLinks, chain_more, variables_more, next_behind}
+use Rattle.iso_plain_core.proofs.EnteringLemmas.{adds_none, placed_body}
 use Rattle.iso_plain.proofs.StoppedLemmas.{base_kept, choices_on}
 use Rattle.iso_plain.proofs.WorldLemmas.{world_on}
-use Rattle.iso_plain.proofs.WrittenLemmas.{term_is}
+use Rattle.iso_plain_core.proofs.WrittenLemmas.{term_is}
 
 -- the members that a clause brings: its body where it isn't `true`
 before_fact : (b : Body) (mark : ℕ) (rest : List Member) → is_true b ≡ true → before b mark rest ≡ rest

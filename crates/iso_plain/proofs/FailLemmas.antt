@@ -9,19 +9,19 @@ use Rattle.iso_model.specs.Search.Engines.{IsAwake}
 use Rattle.iso_model.specs.declared.pauses.Pause.TheVariants as pause
 use Rattle.iso_model.proofs.Search.CallLemmas.{clause_keeps}
 use Rattle.iso_store_core.specs.Presents.{Present}
-use Rattle.iso_plain.specs.declared.entries.Entered.{Entered}
-use Rattle.iso_plain.specs.declared.entries.Entered.TheVariants as entered
-use Rattle.iso_plain.specs.declared.parts.Attempt.{Attempt}
-use Rattle.iso_plain.specs.declared.parts.Frame.{Frame}
-use Rattle.iso_plain.specs.declared.parts.Now.{Now}
-use Rattle.iso_plain.specs.declared.parts.Now.TheVariants as now
+use Rattle.iso_plain_core.specs.declared.entries.Entered.{Entered}
+use Rattle.iso_plain_core.specs.declared.entries.Entered.TheVariants as entered
+use Rattle.iso_plain_core.specs.declared.parts.Attempt.{Attempt}
+use Rattle.iso_plain_core.specs.declared.parts.Frame.{Frame}
+use Rattle.iso_plain_core.specs.declared.parts.Now.{Now}
+use Rattle.iso_plain_core.specs.declared.parts.Now.TheVariants as now
 use Rattle.iso_plain.specs.declared.plain.Move.TheVariants as move
 use Rattle.iso_plain.specs.declared.plain.Plain.{Plain}
-use Rattle.iso_plain.specs.Standing.{DoesNext}
-use Rattle.iso_plain.specs.Programs.{IsWorld}
-use Rattle.iso_plain.specs.Next.{now_at, now_behind, now_entered}
+use Rattle.iso_plain_core.specs.Standing.{DoesNext}
+use Rattle.iso_plain.specs.Worlds.{IsWorld}
+use Rattle.iso_plain_core.specs.Next.{now_at, now_behind, now_entered}
 use Rattle.iso_plain.specs.EngineStates.{IsEngine, Represents, Keeps, Stopped, Retries, Moves, went_back, phase_of, links_of}
-use Rattle.iso_plain.proofs.StandingLemmas.{no_choices}
+use Rattle.iso_plain_core.proofs.StandingLemmas.{no_choices}
 use Rattle.iso_plain.proofs.SearchSteps.{retry_step, resume_step, pass_step, again_step, spent_step, last_step, others_keep}
 use Rattle.iso_plain.proofs.SearchMoves.{goes, ends, stops}
 

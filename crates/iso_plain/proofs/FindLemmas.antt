@@ -5,14 +5,14 @@ use Rattle.iso_model.specs.Terms.Trees.{Tree}
 use Rattle.iso_model.specs.Search.Databases.{Clause}
 use Rattle.iso_model.specs.Search.Walker.{State, Member, Goal, CutTo, Fail, Leave, Alternative, Left, Catching, Outcome, Goes, caught_at, caught, thrown}
 use Rattle.iso_store_core.specs.Presents.{Present}
-use Rattle.iso_plain.specs.declared.bodies.Node.{Node}
-use Rattle.iso_plain.specs.declared.parts.Frame.{Frame}
-use Rattle.iso_plain.specs.declared.parts.Todo.TheVariants as todo
-use Rattle.iso_plain.specs.declared.parts.Choice as kept
-use Rattle.iso_plain.specs.Standing.{Links, IsBefore, IsMember, a_body, a_cut, a_failure, an_end, Chain, leads, ends, StandsForChoices}
+use Rattle.iso_plain_core.specs.declared.bodies.Node.{Node}
+use Rattle.iso_plain_core.specs.declared.parts.Frame.{Frame}
+use Rattle.iso_plain_core.specs.declared.parts.Todo.TheVariants as todo
+use Rattle.iso_plain_core.specs.declared.parts.Choice as kept
+use Rattle.iso_plain_core.specs.Standing.{Links, IsBefore, IsMember, a_body, a_cut, a_failure, an_end, Chain, leads, ends, StandsForChoices}
 use Rattle.iso_plain.specs.Catches.{GoesTo, IsEntry, IsEndOfCatch, caught_by}
 use Rattle.std.proofs.lemmas.Option.{slice_get_within}
-use Rattle.iso_plain.proofs.StandingLemmas.{choices_length, some_same}
+use Rattle.iso_plain_core.proofs.StandingLemmas.{choices_length, some_same}
 use Rattle.iso_plain.proofs.ThrowLemmas.{AtHeight, at_height, entry_catches, other_passes, caught_above}
 
 nothing_there : {X : Type 0} (xs : List X) (i : ℕ) → slice_get xs i ≡ None → length xs ≤ i

@@ -4,20 +4,20 @@ use Rattle.iso_atoms.specs.Texts.{KeepsTexts}
 use Rattle.iso_model.specs.Search.Bodies.{Body}
 use Rattle.iso_model.specs.Search.Walker.{State, Goal, CutTo, Fail, AsIs, Again, pushed}
 use Rattle.iso_store_core.specs.Presents.{Present, KeepsMarks}
-use Rattle.iso_plain.specs.declared.parts.Todo.TheVariants as todo
-use Rattle.iso_plain.specs.declared.parts.Frame.{Frame}
-use Rattle.iso_plain.specs.declared.parts.Left.TheVariants as left
-use Rattle.iso_plain.specs.declared.parts.Choice as kept
-use Rattle.iso_plain.specs.declared.parts.Now.TheVariants as now
+use Rattle.iso_plain_core.specs.declared.parts.Todo.TheVariants as todo
+use Rattle.iso_plain_core.specs.declared.parts.Frame.{Frame}
+use Rattle.iso_plain_core.specs.declared.parts.Left.TheVariants as left
+use Rattle.iso_plain_core.specs.declared.parts.Choice as kept
+use Rattle.iso_plain_core.specs.declared.parts.Now.TheVariants as now
 use Rattle.iso_plain.specs.declared.plain.Plain.{Plain}
-use Rattle.iso_plain.specs.Costs.{body_cost, most, whole_cost, frame_costs, place_cost}
-use Rattle.iso_plain.specs.Next.{now_behind}
-use Rattle.iso_plain.specs.Standing.{IsBody, a_body, a_cut, a_failure, GainsChoice}
-use Rattle.iso_plain.specs.EngineStates.{IsEngine, IsAhead, calling_once, refuting, choices_cost, weight}
+use Rattle.iso_plain_core.specs.Costs.{body_cost, most, whole_cost, frame_costs, place_cost, choices_cost}
+use Rattle.iso_plain_core.specs.Next.{now_behind}
+use Rattle.iso_plain_core.specs.Standing.{IsBody, a_body, a_cut, a_failure, GainsChoice}
+use Rattle.iso_plain.specs.EngineStates.{IsEngine, IsAhead, calling_once, refuting, weight}
 use Rattle.iso_plain.proofs.AheadLemmas.{engine_frame, engine_place, ahead_frame, ahead_choice, members_left}
 use Rattle.iso_plain.proofs.ControlCosts.{grown, new_place, old_place, gained_cost}
-use Rattle.iso_plain.proofs.CostLemmas.{cost_above, cost_more, cost_parts, left_step, whole_paid, called_cost, zero_cost, some_most, below_words, choices_on_more, behind_cost}
-use Rattle.iso_plain.proofs.StandingLemmas.{chain_place, choices_length, body_within}
+use Rattle.iso_plain_core.proofs.CostLemmas.{cost_above, cost_more, cost_parts, left_step, whole_paid, called_cost, zero_cost, some_most, below_words, choices_on_more, behind_cost}
+use Rattle.iso_plain_core.proofs.StandingLemmas.{chain_place, choices_length, body_within}
 
 -- ---- what is left to be done
 

@@ -9,17 +9,18 @@ use Rattle.iso_model.specs.Terms.Variables.{variables}
 use Rattle.iso_model.specs.Search.Walker.{State, Member, Fail, Raise, Alternative, Catching, fails, shortened}
 use Rattle.iso_model.specs.declared.pauses.Ball.{Ball}
 use Rattle.iso_store_core.specs.Presents.{Present}
-use Rattle.iso_plain.specs.declared.parts.Left.{Left}
-use Rattle.iso_plain.specs.declared.parts.Left.TheVariants as left
-use Rattle.iso_plain.specs.declared.parts.Choice as kept
-use Rattle.iso_plain.specs.declared.parts.Now.{Now}
-use Rattle.iso_plain.specs.declared.parts.Now.TheVariants as now
+use Rattle.iso_plain_core.specs.declared.parts.Left.{Left}
+use Rattle.iso_plain_core.specs.declared.parts.Left.TheVariants as left
+use Rattle.iso_plain_core.specs.declared.parts.Choice as kept
+use Rattle.iso_plain_core.specs.declared.parts.Now.{Now}
+use Rattle.iso_plain_core.specs.declared.parts.Now.TheVariants as now
 use Rattle.iso_plain.specs.declared.plain.Plain.{Plain}
-use Rattle.iso_plain.specs.Standing.{Links, Chain, HasCatch, HasLeft, StandsForChoices, GoesOn, DoesNext, entered_at, most_numbers, numbers_a_step}
-use Rattle.iso_plain.specs.EngineStates.{IsEngine, IsAhead, WentBack, went_back, left_at, links_of}
+use Rattle.iso_plain_core.specs.Standing.{Links, Chain, HasCatch, HasLeft, StandsForChoices, GoesOn, DoesNext, entered_at, most_numbers, numbers_a_step}
+use Rattle.iso_plain.specs.EngineStates.{IsEngine, IsAhead, WentBack, went_back, links_of}
+use Rattle.iso_plain_core.specs.ClausePlaces.{left_at}
 use Rattle.iso_plain.specs.Catches.{GoesTo, IsCatchGoal, MeetsBall, IsCaught, catcher_of, recovery_of}
 use Rattle.iso_plain.proofs.AheadLemmas.{room_dropped}
-use Rattle.iso_plain.proofs.StandingLemmas.{lower, choices_keep, choices_length}
+use Rattle.iso_plain_core.proofs.StandingLemmas.{lower, choices_keep, choices_length}
 use Rattle.iso_plain.proofs.StoppedLemmas.{base_kept}
 use Rattle.iso_plain.proofs.WorldLemmas.{world_on}
 

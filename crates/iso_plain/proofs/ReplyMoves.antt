@@ -19,38 +19,39 @@ use Rattle.iso_model.specs.Search.RunLaws.Values.{IsValue, IsOwnBody, IsOwnReply
 use Rattle.iso_model.proofs.Search.CallLemmas.{run_equation, run_equation_missed}
 use Rattle.iso_atoms.specs.Texts.{KeepsTexts}
 use Rattle.iso_store_core.specs.Presents.{Present, KeepsMarks, KeepsWords, Binds, meaning}
-use Rattle.iso_plain.specs.declared.bodies.Node.{Node}
-use Rattle.iso_plain.specs.declared.bodies.Node.TheVariants as node
-use Rattle.iso_plain.specs.declared.parts.Frame.{Frame}
-use Rattle.iso_plain.specs.declared.parts.Todo.TheVariants as todo
-use Rattle.iso_plain.specs.declared.parts.Now.TheVariants as now
+use Rattle.iso_plain_core.specs.declared.bodies.Node.{Node}
+use Rattle.iso_plain_core.specs.declared.bodies.Node.TheVariants as node
+use Rattle.iso_plain_core.specs.declared.parts.Frame.{Frame}
+use Rattle.iso_plain_core.specs.declared.parts.Todo.TheVariants as todo
+use Rattle.iso_plain_core.specs.declared.parts.Now.TheVariants as now
 use Rattle.iso_plain.specs.declared.plain.Move.{Move}
 use Rattle.iso_plain.specs.declared.plain.Move.TheVariants as move
 use Rattle.iso_plain.specs.declared.plain.Plain.{Plain}
-use Rattle.iso_plain.specs.declared.goals.Placed.{Placed}
-use Rattle.iso_plain.specs.declared.goals.Placed.TheVariants as placed
-use Rattle.iso_plain.specs.declared.replies.Replied.TheVariants as replied
+use Rattle.iso_plain_core.specs.declared.goals.Placed.{Placed}
+use Rattle.iso_plain_core.specs.declared.goals.Placed.TheVariants as placed
+use Rattle.iso_plain_core.specs.declared.replies.Replied.TheVariants as replied
 use Rattle.iso_model.specs.declared.pauses.Ball.{Ball}
-use Rattle.iso_plain.specs.Next.{now_behind}
-use Rattle.iso_plain.specs.Called.{IsBuiltIn}
-use Rattle.iso_plain.specs.Entering.{Adds}
+use Rattle.iso_plain_core.specs.Next.{now_behind}
+use Rattle.iso_plain_core.specs.GoalKinds.{IsBuiltIn}
+use Rattle.iso_plain_core.specs.Entering.{Adds}
 use Rattle.iso_plain.specs.Catches.{EntersCatch, throwing, catching, calling_inside, catcher_of, recovery_of}
-use Rattle.iso_plain.specs.Programs.{IsWorld}
-use Rattle.iso_plain.specs.Replies.{IsReply, IsInside, IsUnbound, Places}
-use Rattle.iso_plain.specs.Standing.{IsAt, a_body}
+use Rattle.iso_plain.specs.Worlds.{IsWorld}
+use Rattle.iso_lib.specs.Replies.{IsUnbound}
+use Rattle.iso_plain_core.specs.Replies.{IsReply, IsInside, Places}
+use Rattle.iso_plain_core.specs.Standing.{IsAt, a_body}
 use Rattle.iso_plain.specs.EngineStates.{IsEngine, IsAhead, Represents, StandsFor, Stopped, Keeps, WasCalled, WasRefused, Moves, calling_once, refuting, phase_of}
 use Rattle.iso_plain.proofs.AheadLemmas.{engine_frame, engine_place}
 use Rattle.iso_plain.proofs.EngineMoves.{spent_stands}
-use Rattle.iso_plain.proofs.EnteringLemmas.{words_same}
+use Rattle.iso_plain_core.proofs.EnteringLemmas.{words_same}
 use Rattle.iso_plain.proofs.FailLemmas.{awake_behind}
 use Rattle.iso_plain.proofs.RunLemmas.{AtRun, ahead_step, one_less}
 use Rattle.iso_plain.proofs.RunMoves.{failed_engine, at, runs_to, throws, ends_by}
-use Rattle.iso_plain.proofs.CalledLemmas.{HasArity, built_in_arguments}
-use Rattle.iso_plain.proofs.ReplyLemmas.{catch_parts}
+use Rattle.iso_plain_core.proofs.ArityLemmas.{HasArity, built_in_arguments}
+use Rattle.iso_plain_core.proofs.ReplyLemmas.{catch_parts}
 use Rattle.iso_plain.proofs.SameBodies.{around_own, around_steps, around_pushed, same_first, same_inside}
 use Rattle.iso_plain.proofs.SearchMoves.{goes, goes_as, stops, stops_here, comes_over}
 use Rattle.iso_plain.proofs.SearchSteps.{own_goal}
-use Rattle.iso_plain.proofs.StandingLemmas.{choices_length}
+use Rattle.iso_plain_core.proofs.StandingLemmas.{choices_length}
 
 -- ---- the reply of which this is the answer
 

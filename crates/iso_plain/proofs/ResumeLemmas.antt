@@ -5,19 +5,20 @@ use Rattle.iso_model.specs.Terms.Variables.{variables}
 use Rattle.iso_model.specs.Search.Walker.{State, Alternative, AsIs, Again, fails, pushed}
 use Rattle.iso_model.specs.Search.Walker as walker
 use Rattle.iso_store_core.specs.Presents.{Present}
-use Rattle.iso_plain.specs.declared.parts.Left.{Left}
-use Rattle.iso_plain.specs.declared.parts.Left.TheVariants as left
-use Rattle.iso_plain.specs.declared.parts.Choice as kept
-use Rattle.iso_plain.specs.declared.parts.Now.TheVariants as now
+use Rattle.iso_plain_core.specs.declared.parts.Left.{Left}
+use Rattle.iso_plain_core.specs.declared.parts.Left.TheVariants as left
+use Rattle.iso_plain_core.specs.declared.parts.Choice as kept
+use Rattle.iso_plain_core.specs.declared.parts.Now.TheVariants as now
 use Rattle.iso_plain.specs.declared.plain.Plain.{Plain}
-use Rattle.iso_plain.specs.Costs.{frame_costs, rest_cost}
-use Rattle.iso_plain.specs.Next.{now_behind}
-use Rattle.iso_plain.specs.Standing.{Chain, HasMembers, HasLeft, StandsForChoices, HaveRoom, GoesOn}
-use Rattle.iso_plain.specs.EngineStates.{IsEngine, IsAhead, WentBack, went_back, left_at, links_of, choice_cost, choices_cost, cost}
+use Rattle.iso_plain_core.specs.Costs.{frame_costs, rest_cost, choice_cost, choices_cost}
+use Rattle.iso_plain_core.specs.Next.{now_behind}
+use Rattle.iso_plain_core.specs.Standing.{Chain, HasMembers, HasLeft, StandsForChoices, HaveRoom, GoesOn}
+use Rattle.iso_plain.specs.EngineStates.{IsEngine, IsAhead, WentBack, went_back, links_of, cost}
+use Rattle.iso_plain_core.specs.ClausePlaces.{left_at}
 use Rattle.iso_plain.proofs.AheadLemmas.{engine_place}
-use Rattle.iso_plain.proofs.CostLemmas.{choices_last, behind_cost, left_step}
+use Rattle.iso_plain_core.proofs.CostLemmas.{choices_last, behind_cost, left_step}
 use Rattle.iso_plain.proofs.RunLemmas.{room_less}
-use Rattle.iso_plain.proofs.StandingLemmas.{choices_push, choices_keep, last_split}
+use Rattle.iso_plain_core.proofs.StandingLemmas.{choices_push, choices_keep, last_split}
 use Rattle.iso_plain.proofs.WorldLemmas.{world_on}
 
 module _ {S W M : Type 0} (names : S → List (List ℕ)) (present : S → Present W) (stands : S → M → Present W → Type 0) (older : M → M → Type 0) where

@@ -3,23 +3,23 @@ use Rattle.std.proofs.Common.{◌≡◌, ◌≢◌, ◌+◌, ◌-◌, ◌<◌, �
 use Rattle.iso_store_core.specs.Presents.{Present}
 use Rattle.iso_model.specs.Search.Bodies.{Body}
 use Rattle.iso_model.specs.Search.Walker.{State}
-use Rattle.iso_plain.specs.declared.bodies.Node.{Node}
-use Rattle.iso_plain.specs.declared.parts.Todo.{Todo}
-use Rattle.iso_plain.specs.declared.parts.Todo.TheVariants as todo
-use Rattle.iso_plain.specs.declared.parts.Frame.{Frame}
-use Rattle.iso_plain.specs.declared.parts.Now.{Now}
-use Rattle.iso_plain.specs.declared.parts.Now.TheVariants as now
+use Rattle.iso_plain_core.specs.declared.bodies.Node.{Node}
+use Rattle.iso_plain_core.specs.declared.parts.Todo.{Todo}
+use Rattle.iso_plain_core.specs.declared.parts.Todo.TheVariants as todo
+use Rattle.iso_plain_core.specs.declared.parts.Frame.{Frame}
+use Rattle.iso_plain_core.specs.declared.parts.Now.{Now}
+use Rattle.iso_plain_core.specs.declared.parts.Now.TheVariants as now
 use Rattle.iso_plain.specs.declared.plain.Plain.{Plain}
-use Rattle.iso_plain.specs.Costs.{whole_cost, todo_cost, frame_costs, place_cost}
-use Rattle.iso_plain.specs.Next.{now_behind}
-use Rattle.iso_plain.specs.Standing.{IsBody}
-use Rattle.iso_plain.specs.EngineStates.{Represents, choices_cost, now_cost, cost, weight}
+use Rattle.iso_plain_core.specs.Costs.{whole_cost, todo_cost, frame_costs, place_cost, choices_cost, now_cost}
+use Rattle.iso_plain_core.specs.Next.{now_behind}
+use Rattle.iso_plain_core.specs.Standing.{IsBody}
+use Rattle.iso_plain.specs.EngineStates.{Represents, cost, weight}
 use Rattle.iso_plain.proofs.AheadLemmas.{at_body}
 use Rattle.iso_plain.proofs.ControlCosts.{cost_at}
-use Rattle.iso_plain.proofs.CostLemmas.{cost_above, whole_paid, below_words, behind_cost}
+use Rattle.iso_plain_core.proofs.CostLemmas.{cost_above, whole_paid, below_words, behind_cost}
 use Rattle.iso_plain.proofs.LocalMoves.{goal_paid, rest_paid}
 use Rattle.iso_plain.proofs.RunLemmas.{one_less}
-use Rattle.iso_plain.proofs.StandingLemmas.{body_within}
+use Rattle.iso_plain_core.proofs.StandingLemmas.{body_within}
 use Rattle.iso_plain.proofs.WeightLemmas.{falls_less, cost_as}
 
 -- a frame that asks for failure

@@ -8,18 +8,19 @@ use Rattle.iso_model.specs.Search.Bodies.{Body, Run}
 use Rattle.iso_model.specs.Search.Databases as databases
 use Rattle.iso_model.specs.Search.Walker.{State, Member, Goal, Alternative}
 use Rattle.iso_store_core.specs.Presents.{Present, KeepsMarks, KeepsWords, meaning}
-use Rattle.iso_plain.specs.declared.bodies.Node.{Node}
-use Rattle.iso_plain.specs.declared.bodies.Node.TheVariants as node
-use Rattle.iso_plain.specs.declared.parts.Frame.{Frame}
-use Rattle.iso_plain.specs.declared.parts.Now.TheVariants as now
+use Rattle.iso_plain_core.specs.declared.bodies.Node.{Node}
+use Rattle.iso_plain_core.specs.declared.bodies.Node.TheVariants as node
+use Rattle.iso_plain_core.specs.declared.parts.Frame.{Frame}
+use Rattle.iso_plain_core.specs.declared.parts.Now.TheVariants as now
 use Rattle.iso_plain.specs.declared.plain.Plain.{Plain}
-use Rattle.iso_plain.specs.Entering.{Adds}
-use Rattle.iso_plain.specs.Standing.{IsAt, HaveRoom}
-use Rattle.iso_plain.specs.EngineStates.{IsEngine, IsAhead, Calls, left_at, links_of}
+use Rattle.iso_plain_core.specs.Entering.{Adds}
+use Rattle.iso_plain_core.specs.Standing.{IsAt, HaveRoom}
+use Rattle.iso_plain.specs.EngineStates.{IsEngine, IsAhead, Calls, links_of}
+use Rattle.iso_plain_core.specs.ClausePlaces.{left_at}
 use Rattle.iso_plain.proofs.AheadLemmas.{at_body}
-use Rattle.iso_plain.proofs.EnteringLemmas.{adds_none}
-use Rattle.iso_plain.proofs.PlaceLemmas.{goal_at}
-use Rattle.iso_plain.proofs.StandingLemmas.{AddsLinks, chain_more, variables_more}
+use Rattle.iso_plain_core.proofs.EnteringLemmas.{adds_none}
+use Rattle.iso_plain_core.proofs.PlaceLemmas.{goal_at}
+use Rattle.iso_plain_core.proofs.StandingLemmas.{AddsLinks, chain_more, variables_more}
 use Rattle.iso_plain.proofs.StoppedLemmas.{base_kept, choices_on}
 use Rattle.iso_plain.proofs.WorldLemmas.{world_on}
 

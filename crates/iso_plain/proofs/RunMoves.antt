@@ -8,33 +8,33 @@ use Rattle.iso_model.specs.Search.Databases.{Key, clauses_at}
 use Rattle.iso_model.specs.Search.Errors.{existence_error}
 use Rattle.iso_model.specs.Search.Walker.{State, World, Member, Fail, Raise, Alternative, Ending, Goes, Ends, Budget, idle, fails, run_goal, run_value, tried, with_others, step}
 use Rattle.iso_model.specs.Search.Engines.{IsAwake}
-use Rattle.iso_model.specs.Search.Runs.{Finishes, ComesOver}
+use Rattle.iso_model.specs.Search.Runs.{Finishes, ComesOver, here}
 use Rattle.iso_model.proofs.Search.CallLemmas.{clause_keeps}
 use Rattle.iso_model.specs.declared.limit.Limit.TheVariants as limit
 use Rattle.iso_store_core.specs.Presents.{Present, KeepsMarks, meaning}
-use Rattle.iso_plain.specs.declared.bodies.Node.{Node}
-use Rattle.iso_plain.specs.declared.bodies.Node.TheVariants as node
-use Rattle.iso_plain.specs.declared.parts.Frame.{Frame}
-use Rattle.iso_plain.specs.declared.parts.Todo.TheVariants as todo
-use Rattle.iso_plain.specs.declared.parts.Now.TheVariants as now
+use Rattle.iso_plain_core.specs.declared.bodies.Node.{Node}
+use Rattle.iso_plain_core.specs.declared.bodies.Node.TheVariants as node
+use Rattle.iso_plain_core.specs.declared.parts.Frame.{Frame}
+use Rattle.iso_plain_core.specs.declared.parts.Todo.TheVariants as todo
+use Rattle.iso_plain_core.specs.declared.parts.Now.TheVariants as now
 use Rattle.iso_plain.specs.declared.plain.Move.{Move}
 use Rattle.iso_plain.specs.declared.plain.Move.TheVariants as move
 use Rattle.iso_plain.specs.declared.plain.Plain.{Plain}
-use Rattle.iso_plain.specs.Called.{IsUser, FailsAt}
+use Rattle.iso_plain_core.specs.GoalKinds.{IsUser}
+use Rattle.iso_plain.specs.Called.{FailsAt}
 use Rattle.iso_plain.specs.Catches.{throwing}
-use Rattle.iso_plain.specs.Entering.{Adds}
-use Rattle.iso_plain.specs.Programs.{IsWorld}
-use Rattle.iso_plain.specs.Standing.{IsAt, HaveRoom}
+use Rattle.iso_plain_core.specs.Entering.{Adds}
+use Rattle.iso_plain.specs.Worlds.{IsWorld}
+use Rattle.iso_plain_core.specs.Standing.{IsAt, HaveRoom}
 use Rattle.iso_plain.specs.EngineStates.{IsEngine, Represents, StandsFor, Keeps, Stopped, WasCalled, WasRefused, Moves, phase_of}
-use Rattle.iso_model.specs.Search.Runs.{here}
 use Rattle.iso_model.specs.Terms.Variables.{variables}
 use Rattle.iso_plain.proofs.AheadLemmas.{at_frame, fail_of}
 use Rattle.iso_plain.proofs.EngineMoves.{spent_stands}
-use Rattle.iso_plain.proofs.EnteringLemmas.{adds_none}
+use Rattle.iso_plain_core.proofs.EnteringLemmas.{adds_none}
 use Rattle.iso_plain.proofs.RunLemmas.{AtRun, at_run, room_less, one_less}
 use Rattle.iso_plain.proofs.SearchMoves.{goes, ends, stops, stops_here, comes_over}
 use Rattle.iso_plain.proofs.SearchSteps.{goal_step, goal_end, budget_step, procedure_goal, unknown_goal, tried_steps, others_keep, one_more}
-use Rattle.iso_plain.proofs.StandingLemmas.{choices_length}
+use Rattle.iso_plain_core.proofs.StandingLemmas.{choices_length}
 use Rattle.iso_plain.proofs.StoppedLemmas.{base_kept, choices_on}
 use Rattle.iso_plain.proofs.WorldLemmas.{world_on}
 

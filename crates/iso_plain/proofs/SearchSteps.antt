@@ -10,7 +10,7 @@ use Rattle.iso_model.specs.Search.Databases.{Clause, Key, clauses_at}
 use Rattle.iso_model.specs.Search.BuiltIns.{Reply, reply}
 use Rattle.iso_model.specs.declared.built_ins.BuiltIn.{BuiltIn}
 use Rattle.iso_model.specs.Search.Walker.{State, World, Ending, Member, Goal, CutTo, Fail, Leave, Raise, Meet, Alternative, Left, AsIs, Again, Clauses, Catching, pushed, cut_back, Outcome, Goes, Gives, Ends, Answered, NoMore, Budget, charged, paid, fails, values, under, entered, with_others, tried, retried, backtracked, unknown_called, called, replied, selected, run_goal, run_value, thrown, meets, clause_size, step_list, step}
-use Rattle.iso_plain.specs.Called.{IsBuiltIn, IsUser}
+use Rattle.iso_plain_core.specs.GoalKinds.{IsBuiltIn, IsUser}
 use Rattle.iso_plain.specs.EngineStates.{went_back}
 
 -- by the list

@@ -15,9 +15,9 @@ use Rattle.iso_model.proofs.OnTerms.CopyLemmas.{in_numbers_from}
 use Rattle.iso_model.specs.Search.Databases.{Clause, at_end}
 use Rattle.iso_model.specs.Search.Errors.{key, type_error_callable}
 use Rattle.iso_store_core.specs.Presents.{Present, KeepsMarks}
-use Rattle.iso_plain.specs.declared.parts.Choice as kept
-use Rattle.iso_plain.specs.declared.parts.Now.TheVariants as now
-use Rattle.iso_plain.specs.Standing.{Links, StandsForChoices, none_kept, one_kept}
+use Rattle.iso_plain_core.specs.declared.parts.Choice as kept
+use Rattle.iso_plain_core.specs.declared.parts.Now.TheVariants as now
+use Rattle.iso_plain_core.specs.Standing.{Links, StandsForChoices, none_kept, one_kept}
 use Rattle.std.specs.Prelude.{Result, Ok, Err, IsErrAnd}
 use Rattle.iso_model.specs.Search.RunLaws.Values.{IsTwice}
 use Rattle.iso_model.specs.Search.RunLaws.Sameness.{Same, going, SameStack, no_alternative}
@@ -27,9 +27,9 @@ use Rattle.iso_model.specs.Search.Additions.{Addition, Adds, Refuses, Check, Fit
 use Rattle.iso_model.specs.declared.pauses.AddFault.{AddFault}
 use Rattle.iso_model.specs.declared.pauses.AddFault.TheVariants as add
 use Rattle.iso_plain.specs.declared.plain.Plain.{Plain}
-use Rattle.iso_plain.specs.Programs.{IsWorld}
+use Rattle.iso_plain.specs.Worlds.{IsWorld}
 use Rattle.iso_plain.specs.EngineStates.{IsEngine}
-use Rattle.iso_plain.specs.Kept.{Prepares, IsRefused, AreTemplates}
+use Rattle.iso_plain_core.specs.Kept.{Prepares, IsRefused, AreTemplates}
 use Rattle.iso_plain.specs.Starts.{IsQuery, IsFresh, Comes}
 use Rattle.iso_prep.specs.declared.connectives.Connective.{Connective}
 use Rattle.iso_prep.specs.declared.fault.Fault.TheVariants as fault
@@ -38,8 +38,8 @@ use Rattle.iso_prep.specs.Classes.{goals_of}
 use Rattle.iso_prep.specs.Conversions.{joined, with_calls}
 use Rattle.iso_prep.specs.Preparations.{Preparation, PreparesGoal}
 use Rattle.iso_prep.proofs.ConversionLemmas.{converts}
-use Rattle.iso_plain.specs.Entering.{renaming_from}
-use Rattle.iso_plain.proofs.ClauseLemmas.{body_templates}
+use Rattle.iso_plain_core.specs.Entering.{renaming_from}
+use Rattle.iso_plain_core.proofs.ClauseLemmas.{body_templates}
 use Rattle.iso_plain.proofs.StoppedLemmas.{base_kept}
 
 -- where no choice is stood for, there is none

@@ -1,26 +1,22 @@
 -- What is left of an engine that stops.
-use Rattle.std.proofs.Common.{◌≡◌, ℕ, List, [], refl, inr, Vec, Global, Result, Ok, Err, OnErr}
+use Rattle.std.proofs.Common.{◌≡◌, ℕ, List, [], refl, inr, Vec, Global}
 use Rattle.iso_atoms.specs.Texts.{KeepsTexts}
 use Rattle.iso_model.specs.Terms.Variables.{variables}
 use Rattle.iso_model.specs.Search.Walker.{State, World, Alternative}
 use Rattle.iso_model.specs.Search.Runs.{here}
 use Rattle.iso_store_core.specs.Presents.{Present, KeepsMarks}
-use Rattle.iso_plain.specs.declared.bodies.Node.{Node}
-use Rattle.iso_plain.specs.declared.parts.Frame.{Frame}
-use Rattle.iso_plain.specs.declared.parts.Choice as kept
+use Rattle.iso_plain_core.specs.declared.bodies.Node.{Node}
+use Rattle.iso_plain_core.specs.declared.parts.Frame.{Frame}
+use Rattle.iso_plain_core.specs.declared.parts.Choice as kept
 use Rattle.iso_plain.specs.declared.plain.Plain.{Plain}
-use Rattle.iso_plain.specs.Entering.{Adds}
-use Rattle.iso_plain.specs.Standing.{StandsForChoices, none_kept}
+use Rattle.iso_plain_core.specs.Entering.{Adds}
+use Rattle.iso_plain_core.specs.Standing.{StandsForChoices, none_kept}
 use Rattle.iso_plain.specs.Starts.{IsFresh}
-use Rattle.iso_plain.specs.EngineStates.{IsBase, IsEngine, Keeps, Stopped, left_at, links_of}
+use Rattle.iso_plain.specs.EngineStates.{IsBase, IsEngine, Keeps, Stopped, links_of}
+use Rattle.iso_plain_core.specs.ClausePlaces.{left_at}
 use Rattle.iso_plain.proofs.SearchMoves.{world_settings}
-use Rattle.iso_plain.proofs.StandingLemmas.{choices_more, choices_keep}
+use Rattle.iso_plain_core.proofs.StandingLemmas.{choices_more, choices_keep}
 use Rattle.iso_plain.proofs.WorldLemmas.{world_on}
-
--- what holds, holds behind an error
-pub behind_error : {T E : Type 0} (result : Result T E) {Fact : Type 0} → Fact → OnErr result Fact
-behind_error (Ok t) fact = tt
-behind_error (Err e) fact = fact
 
 -- the mark for the empty store behind calls that keep marks
 pub base_kept : {W M : Type 0} (old new : M → Present W → Type 0) (base : M) → KeepsMarks old new → IsBase old base → IsBase new base

@@ -8,13 +8,13 @@ use Rattle.iso_model.specs.Terms.Trees.{Tree}
 use Rattle.iso_model.specs.Search.Databases.{Clause}
 use Rattle.iso_model.specs.Search.Walker.{State, Member, Leave, Alternative, Left, AsIs, Again, Clauses, Catching, Outcome, Goes, caught_at, caught, thrown, shortened}
 use Rattle.iso_store_core.specs.Presents.{Present}
-use Rattle.iso_plain.specs.declared.parts.Frame.{Frame}
-use Rattle.iso_plain.specs.declared.parts.Left as engine
-use Rattle.iso_plain.specs.declared.parts.Left.TheVariants as left
-use Rattle.iso_plain.specs.declared.parts.Choice as kept
-use Rattle.iso_plain.specs.Standing.{Links, HasLeft, StandsForChoice, StandsForChoices, one_kept, none_kept, links_at}
+use Rattle.iso_plain_core.specs.declared.parts.Frame.{Frame}
+use Rattle.iso_plain_core.specs.declared.parts.Left as engine
+use Rattle.iso_plain_core.specs.declared.parts.Left.TheVariants as left
+use Rattle.iso_plain_core.specs.declared.parts.Choice as kept
+use Rattle.iso_plain_core.specs.Standing.{Links, HasLeft, StandsForChoice, StandsForChoices, one_kept, none_kept, links_at}
 use Rattle.iso_plain.specs.Catches.{GoesTo, IsEntry, IsEndOfCatch, caught_by}
-use Rattle.iso_plain.proofs.StandingLemmas.{choices_length, length_last, at_front, last_is, some_same}
+use Rattle.iso_plain_core.proofs.StandingLemmas.{choices_length, length_last, at_front, last_is, some_same}
 
 -- an alternative at this height is looked for
 caught_here : (height : ℕ) (a : Alternative) (below : List Alternative) (ball : Tree) (s : State) (o : Outcome) → length below ≡ height → caught height (a ∷ below) ball s o ≡ caught_at a.left a below ball s o

@@ -1,11 +1,11 @@
 -- By what moves fall.
 use Rattle.std.proofs.Common.{◌≡◌, ◌<◌, ◌≤◌, ◌+◌, ℕ, suc, Option, refl, ap, ◌∙◌, arith}
-use Rattle.iso_plain.specs.declared.parts.Now.{Now}
-use Rattle.iso_plain.specs.declared.parts.Now.TheVariants as now
+use Rattle.iso_plain_core.specs.declared.parts.Now.{Now}
+use Rattle.iso_plain_core.specs.declared.parts.Now.TheVariants as now
 use Rattle.iso_plain.specs.declared.plain.Plain.{Plain}
-use Rattle.iso_plain.specs.Costs.{body_cost, most, left_cost, whole_cost, rest_cost, frame_costs}
-use Rattle.iso_plain.specs.EngineStates.{choices_cost, now_cost, cost, weight}
-use Rattle.iso_plain.proofs.CostLemmas.{whole_more, whole_paid, called_cost, left_step, cost_above}
+use Rattle.iso_plain_core.specs.Costs.{body_cost, most, left_cost, whole_cost, rest_cost, frame_costs, choices_cost, now_cost}
+use Rattle.iso_plain.specs.EngineStates.{cost, weight}
+use Rattle.iso_plain_core.proofs.CostLemmas.{whole_more, whole_paid, called_cost, left_step, cost_above}
 
 -- the cost of an engine whose choices and frames are those of another
 pub cost_as : {S W M : Type 0} (e new : Plain S W M) (n : Now) → new.now ≡ n → new.choices ≡ e.choices → new.frames ≡ e.frames → new.procedures ≡ e.procedures

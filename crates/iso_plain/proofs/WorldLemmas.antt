@@ -6,17 +6,18 @@ use Rattle.iso_ops.specs.declared.settings.Flags.{Flags}
 use Rattle.iso_model.specs.Search.Databases as databases
 use Rattle.iso_model.specs.Search.Databases.{Procedures}
 use Rattle.iso_model.specs.Search.Walker.{World}
-use Rattle.iso_plain.specs.declared.callables.Callable.{Callable}
-use Rattle.iso_plain.specs.declared.clauses.Clause.{Clause}
-use Rattle.iso_plain.specs.declared.vocabulary.Vocabulary.{Vocabulary}
-use Rattle.iso_plain.specs.Vocabularies.{IsVocabulary}
-use Rattle.iso_plain.specs.declared.procedures.Procedure.{Procedure}
-use Rattle.iso_plain.specs.Callables.{callee_of}
-use Rattle.iso_plain.specs.Programs.{AreClauses, no_clauses, more_clauses, IsProcedure, IsDatabase, no_procedures, more_procedures, KeepsWorld}
-use Rattle.iso_plain.proofs.CallableLemmas.{index_kept}
+use Rattle.iso_plain_core.specs.declared.callables.Callable.{Callable}
+use Rattle.iso_plain_core.specs.declared.clauses.Clause.{Clause}
+use Rattle.iso_plain_core.specs.declared.vocabulary.Vocabulary.{Vocabulary}
+use Rattle.iso_plain_core.specs.Vocabularies.{IsVocabulary}
+use Rattle.iso_plain_core.specs.declared.procedures.Procedure.{Procedure}
+use Rattle.iso_plain_core.specs.Callables.{callee_of}
+use Rattle.iso_plain_core.specs.Programs.{AreClauses, no_clauses, more_clauses, IsProcedure, IsDatabase, no_procedures, more_procedures}
+use Rattle.iso_plain.specs.Worlds.{KeepsWorld}
+use Rattle.iso_plain_core.proofs.CallableLemmas.{index_kept}
 use Rattle.iso_arith.proofs.EvaluableLemmas.{evaluables_kept}
-use Rattle.iso_plain.proofs.ControlNames.{controls-kept}
-use Rattle.iso_plain.proofs.WrittenLemmas.{clause_kept}
+use Rattle.iso_plain_core.proofs.ControlNames.{controls-kept}
+use Rattle.iso_plain_core.proofs.WrittenLemmas.{clause_kept}
 
 -- the same names
 pub same_texts : {old new : List (List ℕ)} → new ≡ old → KeepsTexts old new

@@ -9,23 +9,12 @@ use Rattle.iso_model.specs.Search.Databases as databases
 use Rattle.iso_model.specs.Search.Databases.{Key, key_of, clauses_at}
 use Rattle.iso_model.specs.Search.BuiltIns.{built_in}
 use Rattle.iso_model.specs.Search.Walker.{World}
-use Rattle.iso_model.specs.declared.built_ins.BuiltIn.{BuiltIn}
-use Rattle.iso_plain.specs.declared.procedures.Procedure.{Procedure}
+use Rattle.iso_plain_core.specs.declared.procedures.Procedure.{Procedure}
 use Rattle.iso_plain.specs.declared.calls.Called.{Called}
 use Rattle.iso_plain.specs.declared.calls.Called.TheVariants as call
-use Rattle.iso_plain.specs.Callables.{place_at}
-use Rattle.iso_plain.specs.EngineStates.{left_at}
-
--- The goal is one of this built-in.
-pub record IsBuiltIn (t : Tree) (b : BuiltIn) : Type 0 where
-  pub key : Key
-  pub named : key_of t ≡ Some key
-  pub found : built_in key ≡ Some b
-
--- The goal is one of a user procedure with this key.
-pub record IsUser (t : Tree) (key : Key) : Type 0 where
-  pub named : key_of t ≡ Some key
-  pub none : built_in key ≡ None
+use Rattle.iso_plain_core.specs.Callables.{place_at}
+use Rattle.iso_plain_core.specs.ClausePlaces.{left_at}
+use Rattle.iso_plain_core.specs.GoalKinds.{IsUser, IsBuiltIn}
 
 -- what a goal of this name and arity calls, with these procedures and flags
 abbrev pub IsNamed : List Procedure → Flags → Key → Called → Type 0

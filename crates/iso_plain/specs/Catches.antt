@@ -13,13 +13,13 @@ use Rattle.iso_model.specs.Search.BuiltIns.{Reply, Raises, Halts}
 use Rattle.iso_model.specs.Search.Walker.{State, Member, Alternative, Outcome, Goes, Ends, Goal, Leave, Raise, Meet, Catching, Uncaught, pushed, thrown, shortened}
 use Rattle.iso_model.specs.declared.pauses.Ball.{Ball}
 use Rattle.iso_store_core.specs.Presents.{Present, KeepsWords, meaning}
-use Rattle.iso_plain.specs.declared.parts.Frame.{Frame}
-use Rattle.iso_plain.specs.declared.parts.Todo.TheVariants as todo
-use Rattle.iso_plain.specs.declared.parts.Left.{Left}
-use Rattle.iso_plain.specs.declared.parts.Left.TheVariants as left
-use Rattle.iso_plain.specs.declared.parts.Choice as kept
+use Rattle.iso_plain_core.specs.declared.parts.Frame.{Frame}
+use Rattle.iso_plain_core.specs.declared.parts.Todo.TheVariants as todo
+use Rattle.iso_plain_core.specs.declared.parts.Left.{Left}
+use Rattle.iso_plain_core.specs.declared.parts.Left.TheVariants as left
+use Rattle.iso_plain_core.specs.declared.parts.Choice as kept
 use Rattle.iso_plain.specs.declared.plain.Plain.{Plain}
-use Rattle.iso_plain.specs.Standing.{most_numbers, numbers_a_step}
+use Rattle.iso_plain_core.specs.Standing.{most_numbers, numbers_a_step}
 use Rattle.iso_plain.specs.EngineStates.{IsEngine, IsAhead, HasChoices, went_back}
 
 -- The word is a goal of `catch/3`.

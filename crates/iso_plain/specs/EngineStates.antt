@@ -1,11 +1,11 @@
 -- Which states of the search the engine stands for, what its moves come to, and by what they fall.
-use Rattle.std.specs.Prelude.{◌≡◌, ℕ, zero, suc, ◌+◌, ◌*◌, ◌-◌, ◌<◌, ◌≤◌, List, [], ◌∷◌, length, take, drop, Option, Some, option_map, ◌⊎◌}
+use Rattle.std.specs.Prelude.{◌≡◌, ℕ, suc, ◌+◌, ◌*◌, ◌-◌, ◌<◌, ◌≤◌, List, [], ◌∷◌, length, take, Option, Some, option_map, ◌⊎◌}
 use Rattle.std.specs.List.{slice_get}
 use Rattle.iso_model.specs.Terms.Trees.{Tree, Variable}
 use Rattle.iso_model.specs.Terms.Variables.{variables}
 use Rattle.iso_model.specs.Search.RunLaws.Sameness.{Same, SameStack}
 use Rattle.iso_model.specs.Terms.TermOf.{term_of}
-use Rattle.iso_model.specs.Search.Databases.{Clause, Procedures}
+use Rattle.iso_model.specs.Search.Databases.{Clause}
 use Rattle.iso_model.specs.Search.Walker.{State, World, Alternative, Member, Goal, CutTo, Fail, AsIs, Clauses, pushed, with_others}
 use Rattle.iso_model.specs.Search.Bodies.{Body}
 use Rattle.iso_ops.specs.Operators.{Operator}
@@ -16,25 +16,17 @@ use Rattle.iso_model.specs.Search.Engines.{Phase, Ready, Midway, IsAwake}
 use Rattle.iso_model.specs.declared.pauses.Pause.TheVariants as pause
 use Rattle.iso_model.specs.declared.limit.Limit.TheVariants as limit
 use Rattle.iso_store_core.specs.Presents.{Present}
-use Rattle.iso_plain.specs.Standing.{Among, Links, Chain, AtGoal, HasLeft, StandsForChoices, HaveRoom, GoesOn, DoesNext, most_numbers, numbers_a_step}
-use Rattle.iso_plain.specs.Costs.{left_cost, whole_cost, rest_cost, frame_cost, frame_costs}
-use Rattle.iso_plain.specs.Programs.{IsWorld}
-use Rattle.iso_plain.specs.declared.procedures.Procedure.{Procedure}
-use Rattle.iso_plain.specs.declared.parts.Attempt.{Attempt}
-use Rattle.iso_plain.specs.declared.parts.Left.{Left}
-use Rattle.iso_plain.specs.declared.parts.Left.TheVariants as left
-use Rattle.iso_plain.specs.declared.parts.Choice as kept
-use Rattle.iso_plain.specs.declared.parts.Now.{Now}
-use Rattle.iso_plain.specs.declared.parts.Now.TheVariants as now
+use Rattle.iso_plain_core.specs.Standing.{Among, Links, Chain, AtGoal, HasLeft, StandsForChoices, HaveRoom, GoesOn, DoesNext, most_numbers, numbers_a_step}
+use Rattle.iso_plain_core.specs.Costs.{whole_cost, frame_costs, choices_cost, now_cost}
+use Rattle.iso_plain.specs.Worlds.{IsWorld}
+use Rattle.iso_plain_core.specs.declared.parts.Attempt.{Attempt}
+use Rattle.iso_plain_core.specs.declared.parts.Choice as kept
+use Rattle.iso_plain_core.specs.declared.parts.Now.{Now}
+use Rattle.iso_plain_core.specs.declared.parts.Now.TheVariants as now
 use Rattle.iso_plain.specs.declared.plain.Move.{Move}
 use Rattle.iso_plain.specs.declared.plain.Move.TheVariants as move
 use Rattle.iso_plain.specs.declared.plain.Plain.{Plain}
-
--- the clauses of the procedure at a place of the database, from a clause on
-abbrev pub left_at : Procedures → ℕ → ℕ → List Clause
-left_at [] i j = []
-left_at (p ∷ ps) zero j = drop j p.clauses
-left_at (p ∷ ps) (suc i) j = left_at ps i j
+use Rattle.iso_plain_core.specs.ClausePlaces.{left_at}
 
 -- The mark brings back an empty store.
 pub record IsBase {W M : Type 0} (stands : M → Present W → Type 0) (base : M) : Type 0 where
@@ -179,32 +171,6 @@ module _ {S W M : Type 0} (names : S → List (List ℕ)) (present : S → Prese
   WasCalled (move.Pauses p) e s t = (p ≡ pause.FramesFull) × (e.now ≡ now.Spent limit.Frames) × Keeps e s.world s.stack
 
 -- ---- what falls
-
--- how many clauses the procedure at this place has
-abbrev pub clauses_at_place : List Procedure → ℕ → ℕ
-clauses_at_place [] i = 0
-clauses_at_place (p ∷ ps) zero = length p.clauses.items
-clauses_at_place (p ∷ ps) (suc i) = clauses_at_place ps i
-
--- what is to be done at most at what is left to be tried, over frames with these costs
-abbrev pub choice_cost : {W : Type 0} → List Procedure → List ℕ → Left W → ℕ
-choice_cost ps costs (left.AsIs place) = suc (rest_cost costs place)
-choice_cost ps costs (left.Again place) = suc (rest_cost costs place)
-choice_cost ps costs (left.Catching goal place) = left_cost 1 (rest_cost costs place)
-choice_cost ps costs (left.Clauses attempt) = left_cost (clauses_at_place ps attempt.procedure - attempt.clause) (rest_cost costs attempt.rest)
-
-abbrev pub choices_cost : {W M : Type 0} → List Procedure → List ℕ → List (kept.Choice W M) → ℕ
-choices_cost ps costs [] = 0
-choices_cost ps costs (c ∷ cs) = choice_cost ps costs c.left + choices_cost ps costs cs
-
--- what is to be done at most at what comes next
-abbrev pub now_cost : List ℕ → Now → ℕ
-now_cost costs now.Idle = 0
-now_cost costs now.Failing = 0
-now_cost costs now.Answering = 1
-now_cost costs (now.Running frame) = frame_cost costs frame
-now_cost costs (now.Raising place) = 1
-now_cost costs (now.Spent limit) = 0
 
 -- before the next step
 abbrev pub cost : {S W M : Type 0} → Plain S W M → ℕ

@@ -12,7 +12,7 @@ use Rattle.iso_model.specs.Search.Walker.{World, idle}
 use Rattle.iso_model.specs.declared.pauses.AddFault.{AddFault}
 use Rattle.iso_model.specs.declared.pauses.AddFault.TheVariants as add
 use Rattle.iso_store_core.specs.Presents.{Present}
-use Rattle.iso_plain.specs.Programs.{IsWorld}
+use Rattle.iso_plain.specs.Worlds.{IsWorld}
 use Rattle.iso_plain.specs.EngineStates.{IsBase, IsEngine}
 use Rattle.iso_plain.specs.declared.plain.Plain.{Plain}
 

@@ -5,16 +5,16 @@ ghost use Rattle.iso_model.specs.Search.Walker.{World};
 ghost use Rattle.iso_model.specs.Search.Errors.{key};
 ghost use Rattle.iso_atoms.specs.Texts.{EachOnce, text_at};
 ghost use Rattle.iso_store_core.specs.Presents.{Holds, meaning};
-ghost use Rattle.iso_plain.specs.Programs.{IsWorld};
-ghost use Rattle.iso_plain.specs.Callables.{Indexes, callee_of, place_at};
+ghost use Rattle.iso_plain.specs.Worlds.{IsWorld};
+ghost use Rattle.iso_plain_core.specs.Callables.{Indexes, callee_of, place_at};
 ghost use Rattle.iso_plain.specs.Called.{IsNamed, IsCalled};
 
-use super::callables::{self, Callee};
 use super::plain::Plain;
 use iso_atoms::Atom;
 use iso_lib::errors;
 use iso_model::{Ball, BuiltIn};
 use iso_ops::Unknown;
+use iso_plain_core::callables::{self, Callee};
 use iso_store_core::{Shape, Store};
 use std::alloc::AllocError;
 

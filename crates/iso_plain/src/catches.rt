@@ -6,21 +6,21 @@ ghost use Rattle.iso_model.specs.Search.Bodies.{Body};
 ghost use Rattle.iso_model.specs.Search.Walker.{State, Catching, pushed};
 ghost use Rattle.iso_plain.specs.Catches.{catching, calling_inside, throwing, catcher_of, recovery_of};
 
-use super::parts::{Frame, Left, Now, Todo, at, keep_choice, push_frame};
 use super::plain::{Move, Plain};
 use iso_model::{Ball, Limit, Pause};
+use iso_plain_core::parts::{Frame, Left, Now, Todo, at, keep_choice, push_frame};
 use iso_store_core::{Store, StoreFault};
 use std::alloc::AllocError;
 
 impl<S: Store + Drop> Plain<S> {
     ghost use Rattle.iso_plain.specs.Catches.{EntersCatch};
-    ghost use Rattle.iso_plain.specs.EngineStates.{IsAhead, Represents, Moves, WasRefused, WasCalled, Falls, choices_cost, weight};
-    ghost use Rattle.iso_plain.specs.Costs.{rest_cost, left_cost, frame_costs, whole_cost};
-    ghost use Rattle.iso_plain.specs.Standing.{IsBody};
+    ghost use Rattle.iso_plain.specs.EngineStates.{IsAhead, Represents, Moves, WasRefused, WasCalled, Falls, weight};
+    ghost use Rattle.iso_plain_core.specs.Costs.{choices_cost, rest_cost, left_cost, frame_costs, whole_cost};
+    ghost use Rattle.iso_plain_core.specs.Standing.{IsBody};
     ghost use Rattle.iso_plain.specs.Stays.{Stays};
     ghost use Rattle.iso_plain.specs.Limits.{MoveMet, MoveFull, ResultMet, ResultFull};
-    ghost use Rattle.iso_plain.specs.declared.parts.Now.TheVariants as now;
-    ghost use Rattle.iso_plain.specs.declared.parts.Todo.TheVariants as todo;
+    ghost use Rattle.iso_plain_core.specs.declared.parts.Now.TheVariants as now;
+    ghost use Rattle.iso_plain_core.specs.declared.parts.Todo.TheVariants as todo;
 
     /// Makes the entry of the catch that this goal calls, before the members from `next` on, and before them the catch's end, whose
     /// place it answers; nothing where no choice may be made any more. The error is that memory was refused.

@@ -2,20 +2,20 @@
 ghost use Rattle.std.specs.Prelude.{◌≡◌, ℕ, ◌≤◌, List, Option, IfOk, OnErr};
 ghost use Rattle.iso_model.specs.Search.Walker.{State, World, Alternative, cut_back, shortened};
 ghost use Rattle.iso_model.specs.Search.Runs.{ComesOver};
-ghost use Rattle.iso_plain.specs.declared.bodies.Node.TheVariants as node;
+ghost use Rattle.iso_plain_core.specs.declared.bodies.Node.TheVariants as node;
 
-use super::parts::{Frame, Left, Now, Todo, at, keep_choice, push_frame};
 use super::plain::{Move, Plain};
 use iso_model::{Limit, Pause};
+use iso_plain_core::parts::{Frame, Left, Now, Todo, at, keep_choice, push_frame};
 use iso_store_core::{Store, StoreFault};
 
 impl<S: Store + Drop> Plain<S> {
-    ghost use Rattle.iso_plain.specs.EngineStates.{IsAhead, IsEngine, Keeps, Represents, Stopped, Moves, Falls, choices_cost, weight};
-    ghost use Rattle.iso_plain.specs.Costs.{frame_costs};
+    ghost use Rattle.iso_plain.specs.EngineStates.{IsAhead, IsEngine, Keeps, Represents, Stopped, Moves, Falls, weight};
+    ghost use Rattle.iso_plain_core.specs.Costs.{choices_cost, frame_costs};
     ghost use Rattle.iso_plain.specs.Stays.{Stays};
     ghost use Rattle.iso_plain.specs.Limits.{ResultMet, ResultFull, MoveMet, MoveFull};
-    ghost use Rattle.iso_plain.specs.Standing.{IsCut, IsAt};
-    ghost use Rattle.iso_plain.specs.declared.parts.Now.TheVariants as now;
+    ghost use Rattle.iso_plain_core.specs.Standing.{IsCut, IsAt};
+    ghost use Rattle.iso_plain_core.specs.declared.parts.Now.TheVariants as now;
 
     /// Takes the choices away that were made since so many stood.
     pub(crate) fn cut_to(&mut self, height: usize)

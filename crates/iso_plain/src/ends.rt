@@ -4,11 +4,11 @@ ghost use Rattle.iso_model.specs.Terms.TermOf.{term_of};
 ghost use Rattle.iso_model.specs.Terms.Trees.{Tree};
 ghost use Rattle.iso_model.specs.Search.Walker.{State, Member, Raise};
 ghost use Rattle.iso_plain.specs.Catches.{IsUncaught};
-ghost use Rattle.iso_plain.specs.Standing.{AreVariables};
+ghost use Rattle.iso_plain_core.specs.Standing.{AreVariables};
 
-use super::parts::Now;
 use super::plain::{Move, Plain};
 use iso_model::{Pause, Term};
+use iso_plain_core::parts::Now;
 use iso_store_core::{Store, StoreFault};
 use std::alloc::{AllocError, Global};
 
@@ -30,7 +30,7 @@ impl<S: Store + Drop> Plain<S> {
     ghost use Rattle.iso_plain.specs.EngineStates.{IsBase, Represents, Stopped, Moves, Falls, weight};
     ghost use Rattle.iso_plain.specs.Limits.{MoveMet, ResultMet, MoveFull, ResultFull};
     ghost use Rattle.iso_plain.specs.Stays.{Stays};
-    ghost use Rattle.iso_plain.specs.declared.parts.Now.TheVariants.{Answering, Raising};
+    ghost use Rattle.iso_plain_core.specs.declared.parts.Now.TheVariants.{Answering, Raising};
 
     /// The values of the query's variables, by first occurrence; the engine fails next.
     pub(crate) fn answer(&mut self) -> Result<Move, StoreFault>

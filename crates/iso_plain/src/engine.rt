@@ -8,10 +8,10 @@ ghost use Rattle.iso_model.specs.Search.Walker.{State};
 ghost use Rattle.iso_model.specs.declared.pauses.Pause.TheVariants as pause;
 ghost use Rattle.iso_plain.specs.declared.plain.Move.TheVariants as moved;
 
-use super::parts::Now;
 use super::plain::{Move, Plain};
 use iso_model::{AddFault, Engine, Limit, Pause, StartFault, Term};
 use iso_ops::{Flags, OpTable};
+use iso_plain_core::parts::Now;
 use iso_store_core::{Store, StoreFault};
 
 impl<S: Store + Drop> Plain<S> {

@@ -3,15 +3,15 @@ ghost use Rattle.std.specs.Prelude.{◌≡◌, ℕ, suc, ◌+◌, ◌≤◌, IfO
 ghost use Rattle.iso_model.specs.Search.Bodies.{Body};
 ghost use Rattle.iso_model.specs.Search.Walker.{State, AsIs, Again, pushed};
 
-use super::parts::{Frame, Left, Now, Todo, at, keep_choice, push_frame};
 use super::plain::{Move, Plain};
 use iso_model::{Limit, Pause};
+use iso_plain_core::parts::{Frame, Left, Now, Todo, at, keep_choice, push_frame};
 use iso_store_core::{Store, StoreFault};
 
 impl<S: Store + Drop> Plain<S> {
-    ghost use Rattle.iso_plain.specs.EngineStates.{IsAhead, WasRefused, Keeps, WasCalled, Falls, calling_once, refuting, choices_cost, weight};
-    ghost use Rattle.iso_plain.specs.Costs.{rest_cost, frame_costs, whole_cost};
-    ghost use Rattle.iso_plain.specs.Standing.{IsBody};
+    ghost use Rattle.iso_plain.specs.EngineStates.{IsAhead, WasRefused, Keeps, WasCalled, Falls, calling_once, refuting, weight};
+    ghost use Rattle.iso_plain_core.specs.Costs.{choices_cost, rest_cost, frame_costs, whole_cost};
+    ghost use Rattle.iso_plain_core.specs.Standing.{IsBody};
     ghost use Rattle.iso_plain.specs.Stays.{Stays};
     ghost use Rattle.iso_plain.specs.Limits.{ResultMet, ResultFull};
 

@@ -4,17 +4,18 @@ ghost use Rattle.iso_atoms.specs.Texts.{KeepsTexts};
 ghost use Rattle.iso_model.specs.Terms.Trees.{Tree};
 ghost use Rattle.iso_model.specs.Search.Databases as databases;
 ghost use Rattle.iso_model.specs.Search.Databases.{Procedures};
-ghost use Rattle.iso_plain.specs.Kept.{IsClause};
-ghost use Rattle.iso_plain.specs.Programs.{IsDatabase};
-ghost use Rattle.iso_plain.specs.EngineStates.{left_at, went_back, clauses_at_place};
+ghost use Rattle.iso_plain_core.specs.Kept.{IsClause};
+ghost use Rattle.iso_plain_core.specs.Programs.{IsDatabase};
+ghost use Rattle.iso_plain_core.specs.ClausePlaces.{left_at, clauses_at_place};
+ghost use Rattle.iso_plain.specs.EngineStates.{went_back};
 ghost use Rattle.iso_model.specs.Search.Walker.{State, Member, Alternative, AsIs, Again, fails, pushed, tried, tried_clause, with_others};
 
-use super::clauses::Clause;
-use super::entries;
-use super::parts::{Attempt, Choice, Left, Now, at, behind, keep_choice};
 use super::plain::{Move, Plain};
-use super::procedures::Procedure;
 use iso_model::Pause;
+use iso_plain_core::clauses::Clause;
+use iso_plain_core::entries;
+use iso_plain_core::parts::{Attempt, Choice, Left, Now, at, behind, keep_choice};
+use iso_plain_core::procedures::Procedure;
 use iso_store_core::{Store, StoreFault};
 use std::alloc::AllocError;
 
@@ -38,13 +39,13 @@ fn clause_count(procedures: &[Procedure], place: usize) -> usize
 }
 
 impl<S: Store + Drop> Plain<S> {
-    ghost use Rattle.iso_plain.specs.EngineStates.{IsBase, IsEngine, Represents, Keeps, Stopped, Calls, WentBack, Moves, Falls, Retries, WasRefused, choices_cost, cost, now_cost, weight, phase_of, settings_of};
-    ghost use Rattle.iso_plain.specs.Costs.{body_cost, left_cost, most, rest_cost, frame_costs};
+    ghost use Rattle.iso_plain.specs.EngineStates.{IsBase, IsEngine, Represents, Keeps, Stopped, Calls, WentBack, Moves, Falls, Retries, WasRefused, cost, weight, phase_of, settings_of};
+    ghost use Rattle.iso_plain_core.specs.Costs.{choices_cost, now_cost, body_cost, left_cost, most, rest_cost, frame_costs};
     ghost use Rattle.iso_plain.specs.Stays.{Stays};
     ghost use Rattle.iso_model.specs.Search.Engines.{IsAwake};
     ghost use Rattle.iso_plain.specs.Limits.{ResultMet, ResultFull};
-    ghost use Rattle.iso_plain.specs.declared.parts.Now.TheVariants as now;
-    ghost use Rattle.iso_plain.specs.declared.parts.Left.TheVariants as left;
+    ghost use Rattle.iso_plain_core.specs.declared.parts.Now.TheVariants as now;
+    ghost use Rattle.iso_plain_core.specs.declared.parts.Left.TheVariants as left;
 
     /// Enters the clause, with this cut mark; where its head doesn't unify with the goal the engine fails next (7.7.10).
     pub(crate) fn enter(&mut self, attempt: Attempt<S::Word>, mark: usize) -> Result<(), StoreFault>

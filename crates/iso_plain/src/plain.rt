@@ -1,13 +1,13 @@
 //! The plain engine: its parts, and how a run begins and ends.
 ghost use Rattle.std.specs.Prelude.{◌≡◌, []};
 
-use super::bodies::Node;
-use super::callables::Callable;
-use super::parts::{Choice, Frame, Now};
-use super::procedures::Procedure;
-use super::vocabulary::Vocabulary;
 use iso_model::{Ball, Pause};
 use iso_ops::{Flags, OpTable};
+use iso_plain_core::bodies::Node;
+use iso_plain_core::callables::Callable;
+use iso_plain_core::parts::{Choice, Frame, Now};
+use iso_plain_core::procedures::Procedure;
+use iso_plain_core::vocabulary::Vocabulary;
 use iso_store_core::Store;
 use std::alloc::Global;
 
@@ -53,9 +53,9 @@ impl<S: Store + Drop> Plain<S> {
     ghost use Rattle.iso_plain.specs.Stays.{Stays};
     ghost use Rattle.iso_model.specs.Terms.Trees.{Variable};
     ghost use Rattle.iso_model.specs.Search.Walker.{World, idle};
-    ghost use Rattle.iso_plain.specs.Programs.{IsWorld};
+    ghost use Rattle.iso_plain.specs.Worlds.{IsWorld};
     ghost use Rattle.iso_plain.specs.EngineStates.{IsBase, IsEngine};
-    ghost use Rattle.iso_plain.specs.declared.parts.Now.TheVariants.{Idle};
+    ghost use Rattle.iso_plain_core.specs.declared.parts.Now.TheVariants.{Idle};
 
     /// Drops what is left of a run.
     pub(crate) fn clear(&mut self)

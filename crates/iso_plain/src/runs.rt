@@ -5,26 +5,26 @@ ghost use Rattle.iso_model.specs.Search.Databases as databases;
 ghost use Rattle.iso_model.specs.Search.Walker.{State, Member, tried, with_others};
 ghost use Rattle.iso_model.specs.Search.Runs.{ComesOver};
 ghost use Rattle.iso_store_core.specs.Presents.{meaning};
-ghost use Rattle.iso_plain.specs.Called.{IsBuiltIn};
-ghost use Rattle.iso_plain.specs.declared.bodies.Node.TheVariants as node;
+ghost use Rattle.iso_plain_core.specs.GoalKinds.{IsBuiltIn};
+ghost use Rattle.iso_plain_core.specs.declared.bodies.Node.TheVariants as node;
 
-use super::bodies::Node;
 use super::calls::Called;
-use super::goals::Placed;
-use super::parts::{Attempt, Frame, Now, Todo, at};
 use super::plain::{Move, Plain};
-use super::replies::{self, Replied};
 use iso_model::{BuiltIn, Limit, Pause};
+use iso_plain_core::bodies::Node;
+use iso_plain_core::goals::Placed;
+use iso_plain_core::parts::{Attempt, Frame, Now, Todo, at};
+use iso_plain_core::replies::{self, Replied};
 use iso_store_core::{Store, StoreFault};
 
 impl<S: Store + Drop> Plain<S> {
-    ghost use Rattle.iso_plain.specs.EngineStates.{Represents, Stopped, WasRefused, Moves, Falls, Calls, WasCalled, choices_cost, cost, weight};
-    ghost use Rattle.iso_plain.specs.Costs.{rest_cost, frame_costs, whole_cost};
-    ghost use Rattle.iso_plain.specs.Standing.{IsAt};
+    ghost use Rattle.iso_plain.specs.EngineStates.{Represents, Stopped, WasRefused, Moves, Falls, Calls, WasCalled, cost, weight};
+    ghost use Rattle.iso_plain_core.specs.Costs.{choices_cost, rest_cost, frame_costs, whole_cost};
+    ghost use Rattle.iso_plain_core.specs.Standing.{IsAt};
     ghost use Rattle.iso_plain.specs.Stays.{Stays};
     ghost use Rattle.iso_plain.specs.Limits.{ResultMet, ResultFull};
-    ghost use Rattle.iso_plain.specs.declared.parts.Now.TheVariants as now;
-    ghost use Rattle.iso_plain.specs.declared.parts.Todo.TheVariants as todo;
+    ghost use Rattle.iso_plain_core.specs.declared.parts.Now.TheVariants as now;
+    ghost use Rattle.iso_plain_core.specs.declared.parts.Todo.TheVariants as todo;
 
     /// Does what the frame asks for. The errors: the store is full, or memory was refused.
     pub(crate) fn run(&mut self, frame: Frame) -> Result<Move, StoreFault>

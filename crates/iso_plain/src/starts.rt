@@ -7,14 +7,14 @@ ghost use Rattle.iso_model.specs.Search.Bodies.{converted};
 ghost use Rattle.iso_model.specs.Search.Additions.{consulted};
 ghost use Rattle.iso_model.specs.Search.Walker.{World, first_world, idle, started};
 
-use super::parts::{Frame, Now, Todo};
 use super::plain::Plain;
-use super::procedures::{self, Functor};
-use super::vocabulary::Vocabulary;
-use super::{callables, clauses, entries, writing};
 use iso_lib::errors;
 use iso_model::{AddFault, Term};
 use iso_ops::{Flags, OpTable};
+use iso_plain_core::parts::{Frame, Now, Todo};
+use iso_plain_core::procedures::{self, Functor};
+use iso_plain_core::vocabulary::Vocabulary;
+use iso_plain_core::{callables, clauses, entries, writing};
 use iso_prep::{Fault, Prepared};
 use iso_store_core::{Store, StoreFault};
 use std::alloc::{AllocError, Global};
@@ -26,7 +26,7 @@ impl<S: Store + Drop> Plain<S> {
     ghost use Rattle.iso_plain.specs.EngineStates.{IsEngine, Represents, Keeps, StandsFor, phase_of};
     ghost use Rattle.iso_plain.specs.Starts.{IsQuery, IsFresh, Comes};
     ghost use Rattle.iso_model.specs.Search.Engines.{Ready, Midway};
-    ghost use Rattle.iso_plain.specs.declared.parts.Now.TheVariants.{Idle};
+    ghost use Rattle.iso_plain_core.specs.declared.parts.Now.TheVariants.{Idle};
 
     /// An engine that no goal was started on, without clauses, with the operators and flags before any is set, over this empty store, in which at most so many
     /// alternatives (1 to 16,777,216) stand at once. The error is that memory was refused; the store is dropped then.

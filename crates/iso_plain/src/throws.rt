@@ -10,11 +10,11 @@ ghost use Rattle.iso_model.specs.Search.Bodies.{one};
 ghost use Rattle.iso_atoms.specs.Texts.{KeepsTexts};
 ghost use Rattle.iso_store_core.specs.Presents.{KeepsMarks, meaning};
 
-use super::bodies::Node;
-use super::conversion::call_of;
-use super::parts::{Frame, Left, Now, Todo};
 use super::plain::{Move, Plain};
 use iso_model::{Ball, Numbering, Term};
+use iso_plain_core::bodies::Node;
+use iso_plain_core::conversion::call_of;
+use iso_plain_core::parts::{Frame, Left, Now, Todo};
 use iso_store_core::{Store, StoreFault};
 use std::alloc::{AllocError, Global};
 
@@ -32,13 +32,13 @@ fn count_variables(alloc: Global, term: &Term) -> Result<usize, AllocError>
 
 impl<S: Store + Drop> Plain<S> {
     ghost use Rattle.iso_plain.specs.Catches.{MeetsBall, IsCaught, Recovers, Calling, HasStack, HasThrown};
-    ghost use Rattle.iso_plain.specs.EngineStates.{IsAhead, IsEngine, Represents, Moves, Stopped, Keeps, Falls, cost, choices_cost, weight, links_of, phase_of, went_back};
-    ghost use Rattle.iso_plain.specs.Costs.{body_cost, left_cost, most, rest_cost, frame_costs};
-    ghost use Rattle.iso_plain.specs.Standing.{Chain};
+    ghost use Rattle.iso_plain.specs.EngineStates.{IsAhead, IsEngine, Represents, Moves, Stopped, Keeps, Falls, cost, weight, links_of, phase_of, went_back};
+    ghost use Rattle.iso_plain_core.specs.Costs.{choices_cost, body_cost, left_cost, most, rest_cost, frame_costs};
+    ghost use Rattle.iso_plain_core.specs.Standing.{Chain};
     ghost use Rattle.iso_model.specs.Search.Engines.{IsAwake};
     ghost use Rattle.iso_plain.specs.Stays.{Stays};
     ghost use Rattle.iso_plain.specs.Limits.{ResultMet, ResultFull};
-    ghost use Rattle.iso_plain.specs.declared.parts.Now.TheVariants as now;
+    ghost use Rattle.iso_plain_core.specs.declared.parts.Now.TheVariants as now;
 
     /// Throws the ball, past the members from `next` on.
     pub(crate) fn throw(&mut self, ball: Ball, next: Option<usize>)

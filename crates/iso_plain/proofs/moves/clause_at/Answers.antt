@@ -1,5 +1,5 @@
 use Rattle.std.proofs.Common.{arith}
-use Rattle.iso_plain.proofs.KeptLemmas.{kept_at}
+use Rattle.iso_plain_core.proofs.KeptLemmas.{kept_at}
 use Rattle.iso_plain.proofs.moves.clause_at.Goals as goal
 
 pub index-requires : goal.index-requires

@@ -1,5 +1,5 @@
 use Rattle.std.proofs.Common.{◌≡◌, length, ◌∙◌}
-use Rattle.iso_plain.proofs.CountLemmas.{count_at}
+use Rattle.iso_plain_core.proofs.CountLemmas.{count_at}
 use Rattle.iso_plain.proofs.moves.clause_count.Goals as goal
 
 pub returns : goal.returns

@@ -3,22 +3,22 @@ use Rattle.iso_atoms.specs.Texts.{EachOnce, KeepsTexts}
 use Rattle.iso_model.specs.Search.Walker.{World, idle}
 use Rattle.iso_store_core.specs.Presents.{Present}
 use Rattle.iso_plain.specs.EngineStates.{IsEngine}
-use Rattle.iso_plain.specs.Programs.{IsDatabase}
+use Rattle.iso_plain_core.specs.Programs.{IsDatabase}
 use Rattle.iso_plain.specs.declared.plain.Plain.{Plain}
-use Rattle.iso_plain.proofs.CallableLemmas.{index_kept}
+use Rattle.iso_plain_core.proofs.CallableLemmas.{index_kept}
 use Rattle.iso_model.specs.Terms.TermOf.{term_of}
 use Rattle.iso_model.specs.Search.Additions.{clause_of, consulted}
 use Rattle.iso_model.specs.Search.Databases.{Key, with_clause, at_end}
 use Rattle.iso_model.specs.Search.BuiltIns.{is_built_in}
 use Rattle.iso_model.specs.Search.Errors.{key}
 use Rattle.iso_store_core.proofs.AtomLemmas.{keeps-then}
-use Rattle.iso_plain.specs.Adding.{IsFound}
-use Rattle.iso_plain.specs.Callables.{callee_of}
-use Rattle.iso_plain.specs.declared.procedures.Functor.{Functor}
+use Rattle.iso_plain_core.specs.Adding.{IsFound}
+use Rattle.iso_plain_core.specs.Callables.{callee_of}
+use Rattle.iso_plain_core.specs.declared.procedures.Functor.{Functor}
 use Rattle.iso_plain.proofs.StartLemmas.{idle_again, refused, unadded}
 use Rattle.iso_plain.proofs.WorldLemmas.{world_on}
-use Rattle.iso_plain.proofs.WrittenLemmas.{clause_kept}
-use Rattle.iso_plain.proofs.AddingLemmas.{user_alone}
+use Rattle.iso_plain_core.proofs.WrittenLemmas.{clause_kept}
+use Rattle.iso_plain_core.proofs.AddingLemmas.{user_alone}
 use Rattle.iso_plain.proofs.plain.Plain.add.Goals as goal
 
 -- the key of a head that has one

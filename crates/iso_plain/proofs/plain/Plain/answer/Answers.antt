@@ -1,4 +1,5 @@
-use Rattle.iso_plain.proofs.StoppedLemmas.{behind_error, keeps_all}
+use Rattle.iso_plain_core.proofs.ResultLemmas.{behind_error}
+use Rattle.iso_plain.proofs.StoppedLemmas.{keeps_all}
 use Rattle.iso_plain.proofs.SearchMoves.{stops_here}
 use Rattle.iso_plain.proofs.EndLemmas.{answers_engine}
 use Rattle.iso_plain.proofs.WeightLemmas.{answered_falls}

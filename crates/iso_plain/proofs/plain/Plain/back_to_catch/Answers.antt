@@ -2,15 +2,15 @@ use Rattle.std.proofs.Common.{◌≡◌, suc, ◌+◌, ◌-◌, ◌<◌, ◌≤�
 use Rattle.iso_model.specs.Terms.Trees.{Tree}
 use Rattle.iso_model.specs.Terms.TermOf.{term_of}
 use Rattle.iso_model.specs.Search.Walker.{State, Member, fails, shortened}
-use Rattle.iso_plain.specs.Costs.{frame_costs, rest_cost, left_cost}
-use Rattle.iso_plain.specs.EngineStates.{choices_cost, choice_cost, went_back}
+use Rattle.iso_plain_core.specs.Costs.{frame_costs, rest_cost, left_cost, choices_cost, choice_cost}
+use Rattle.iso_plain.specs.EngineStates.{went_back}
 use Rattle.iso_plain.specs.Catches.{IsCaught}
-use Rattle.iso_plain.specs.declared.parts.Left.{Left}
-use Rattle.iso_plain.proofs.CostLemmas.{choices_last}
+use Rattle.iso_plain_core.specs.declared.parts.Left.{Left}
+use Rattle.iso_plain_core.proofs.CostLemmas.{choices_last}
 use Rattle.iso_plain.proofs.EndLemmas.{failing_engine}
 use Rattle.iso_plain.proofs.RaiseLemmas.{back_at, entry_is, caught_there, kept_ball}
 use Rattle.iso_plain.proofs.ResumeLemmas.{choices_are}
-use Rattle.iso_plain.proofs.StandingLemmas.{choices_length}
+use Rattle.iso_plain_core.proofs.StandingLemmas.{choices_length}
 use Rattle.iso_plain.proofs.WorldLemmas.{same_texts}
 use Rattle.iso_plain.proofs.plain.Plain.back_to_catch.Goals as goal
 

@@ -1,7 +1,7 @@
 use Rattle.std.proofs.Common.{ap, Ok}
-use Rattle.iso_plain.proofs.StoppedLemmas.{behind_error}
-use Rattle.iso_plain.specs.Costs.{rest_cost, frame_costs}
-use Rattle.iso_plain.specs.EngineStates.{choices_cost, cost}
+use Rattle.iso_plain_core.proofs.ResultLemmas.{behind_error}
+use Rattle.iso_plain_core.specs.Costs.{rest_cost, frame_costs, choices_cost}
+use Rattle.iso_plain.specs.EngineStates.{cost}
 use Rattle.iso_plain.proofs.WeightLemmas.{falls_called}
 use Rattle.iso_plain.proofs.plain.Plain.call_first.Goals as goal
 

@@ -1,5 +1,5 @@
 use Rattle.std.proofs.Common.{refl, ap, ◌∙◌}
-use Rattle.iso_plain.specs.Standing.{none_kept}
+use Rattle.iso_plain_core.specs.Standing.{none_kept}
 use Rattle.iso_plain.proofs.WorldLemmas.{world_on, same_texts}
 use Rattle.iso_plain.proofs.plain.Plain.clear.Goals as goal
 

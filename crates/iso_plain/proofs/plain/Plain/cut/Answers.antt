@@ -1,6 +1,6 @@
 use Rattle.iso_plain.proofs.AheadLemmas.{keeps_ahead}
 use Rattle.iso_plain.proofs.CutMoves.{at, cuts, cut_falls}
-use Rattle.iso_plain.proofs.StandingLemmas.{chain_place}
+use Rattle.iso_plain_core.proofs.StandingLemmas.{chain_place}
 use Rattle.iso_plain.proofs.plain.Plain.cut.Goals as goal
 
 pub cut_to-requires : goal.cut_to-requires

@@ -1,11 +1,11 @@
 use Rattle.std.proofs.Common.{◌≡◌, ◌<◌, ◌≤◌, length, Some, arith}
 use Rattle.std.specs.List.{slice_get}
-use Rattle.iso_plain.specs.Costs.{frame_costs}
+use Rattle.iso_plain_core.specs.Costs.{frame_costs}
 use Rattle.iso_plain.proofs.AheadLemmas.{ahead_cut, ahead_uncut}
 use Rattle.iso_plain.proofs.BackLemmas.{get_at}
-use Rattle.iso_plain.proofs.CostLemmas.{choices_fewer}
+use Rattle.iso_plain_core.proofs.CostLemmas.{choices_fewer}
 use Rattle.iso_plain.proofs.RaiseLemmas.{cut_failing, uncut_failing}
-use Rattle.iso_plain.proofs.StandingLemmas.{lower}
+use Rattle.iso_plain_core.proofs.StandingLemmas.{lower}
 use Rattle.iso_plain.proofs.WorldLemmas.{same_texts}
 use Rattle.iso_plain.proofs.plain.Plain.cut_to.Goals as goal
 

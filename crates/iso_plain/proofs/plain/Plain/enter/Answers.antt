@@ -1,12 +1,13 @@
 use Rattle.std.proofs.Common.{arith}
 use Rattle.iso_model.specs.Terms.Variables.{variables}
-use Rattle.iso_plain.proofs.StoppedLemmas.{behind_error, base_kept, choices_on}
-use Rattle.iso_plain.proofs.KeptLemmas.{kept_at, head_fits, kept_parts_fit}
+use Rattle.iso_plain_core.proofs.ResultLemmas.{behind_error}
+use Rattle.iso_plain.proofs.StoppedLemmas.{base_kept, choices_on}
+use Rattle.iso_plain_core.proofs.KeptLemmas.{kept_at, head_fits, kept_parts_fit}
 use Rattle.iso_plain.proofs.WorldLemmas.{world_on, same_texts}
 use Rattle.iso_plain.proofs.CallLemmas.{entered_least}
-use Rattle.iso_plain.proofs.CostLemmas.{behind_cost}
-use Rattle.iso_plain.proofs.EnteringLemmas.{adds_none}
-use Rattle.iso_plain.proofs.StandingLemmas.{chain_place}
+use Rattle.iso_plain_core.proofs.CostLemmas.{behind_cost}
+use Rattle.iso_plain_core.proofs.EnteringLemmas.{adds_none}
+use Rattle.iso_plain_core.proofs.StandingLemmas.{chain_place}
 use Rattle.iso_plain.proofs.EngineLemmas.{Tried, tried_engine}
 use Rattle.iso_plain.proofs.FailLemmas.{awake_entered}
 use Rattle.iso_plain.proofs.plain.Plain.enter.Goals as goal

@@ -1,9 +1,9 @@
 use Rattle.std.proofs.Common.{rules, ◌≡◌, ◌∙◌, length, arith, ap, sym}
 use Rattle.iso_model.specs.Search.Walker.{with_others}
-use Rattle.iso_plain.specs.EngineStates.{went_back, choices_cost}
-use Rattle.iso_plain.specs.Costs.{frame_costs}
-use Rattle.iso_plain.proofs.StoppedLemmas.{behind_error}
-use Rattle.iso_plain.proofs.StandingLemmas.{choices_length}
+use Rattle.iso_plain.specs.EngineStates.{went_back}
+use Rattle.iso_plain_core.specs.Costs.{choices_cost, frame_costs}
+use Rattle.iso_plain_core.proofs.ResultLemmas.{behind_error}
+use Rattle.iso_plain_core.proofs.StandingLemmas.{choices_length}
 use Rattle.iso_plain.proofs.WeightLemmas.{falls_less, back_cost, entered_cost, falls_again}
 use Rattle.iso_plain.proofs.FailLemmas.{ends_run, resumes_on, passes_on, repeats_on, spends_on, tries_on, stops_on}
 use Rattle.iso_plain.proofs.ResumeLemmas.{has_members}

@@ -2,8 +2,8 @@ use Rattle.std.proofs.Common.{◌≡◌, ◌<◌, ℕ, List, length, Option, Som
 use Rattle.std.specs.List.{slice_get}
 use Rattle.iso_model.specs.Terms.Trees.{Tree}
 use Rattle.iso_model.specs.Search.Walker.{State, Member, thrown}
-use Rattle.iso_plain.specs.declared.parts.Frame.{Frame}
-use Rattle.iso_plain.specs.Standing.{Chain}
+use Rattle.iso_plain_core.specs.declared.parts.Frame.{Frame}
+use Rattle.iso_plain_core.specs.Standing.{Chain}
 use Rattle.iso_plain.specs.Catches.{GoesTo}
 use Rattle.iso_plain.specs.EngineStates.{links_of}
 use Rattle.iso_plain.proofs.BackLemmas.{get_at}

@@ -2,7 +2,7 @@
 use Rattle.std.proofs.Common.{◌≡◌, ℕ, List}
 use Rattle.iso_model.specs.Terms.Trees.{Tree}
 use Rattle.iso_model.specs.Search.Walker.{State, Member, thrown}
-use Rattle.iso_plain.specs.Standing.{Chain}
+use Rattle.iso_plain_core.specs.Standing.{Chain}
 use Rattle.iso_plain.specs.EngineStates.{links_of}
 use Rattle.iso_plain.specs.Catches.{HasStack}
 use Rattle.iso_plain.proofs.FindLemmas.{places_left}

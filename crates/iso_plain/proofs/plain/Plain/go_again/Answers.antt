@@ -2,7 +2,7 @@ use Rattle.std.proofs.Common.{◌≡◌, ◌-◌, ◌+◌, arith}
 use Rattle.iso_plain.proofs.FailLemmas.{awake_behind}
 use Rattle.iso_plain.proofs.ResumeLemmas.{has_members, repeated, repeated_cost}
 use Rattle.iso_plain.proofs.RunLemmas.{one_less}
-use Rattle.iso_plain.proofs.StandingLemmas.{chain_place}
+use Rattle.iso_plain_core.proofs.StandingLemmas.{chain_place}
 use Rattle.iso_plain.proofs.plain.Plain.go_again.Goals as goal
 
 pub at-self-requires : goal.at-self-requires

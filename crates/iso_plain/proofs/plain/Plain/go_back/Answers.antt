@@ -1,7 +1,7 @@
 use Rattle.std.proofs.Common.{◌≡◌, ◌<◌, ◌-◌, length, arith, Some}
 use Rattle.std.specs.List.{slice_get}
 use Rattle.iso_plain.proofs.BackLemmas.{get_at, goes_back, back_costs}
-use Rattle.iso_plain.proofs.StandingLemmas.{newest}
+use Rattle.iso_plain_core.proofs.StandingLemmas.{newest}
 use Rattle.iso_plain.proofs.WorldLemmas.{same_texts}
 use Rattle.iso_plain.proofs.plain.Plain.go_back.Goals as goal
 

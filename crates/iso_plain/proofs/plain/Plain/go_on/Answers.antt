@@ -1,7 +1,7 @@
 use Rattle.std.proofs.Common.{◌≡◌, length}
 use Rattle.iso_plain.proofs.FailLemmas.{awake_behind}
 use Rattle.iso_plain.proofs.ResumeLemmas.{has_members, resumed, resumed_cost}
-use Rattle.iso_plain.proofs.StandingLemmas.{chain_place}
+use Rattle.iso_plain_core.proofs.StandingLemmas.{chain_place}
 use Rattle.iso_plain.proofs.WorldLemmas.{same_texts}
 use Rattle.iso_plain.proofs.plain.Plain.go_on.Goals as goal
 

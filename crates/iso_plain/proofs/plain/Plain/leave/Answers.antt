@@ -1,5 +1,5 @@
 use Rattle.iso_plain.proofs.CatchMoves.{at, leaves, leave_falls}
-use Rattle.iso_plain.proofs.StandingLemmas.{chain_place}
+use Rattle.iso_plain_core.proofs.StandingLemmas.{chain_place}
 use Rattle.iso_plain.proofs.plain.Plain.leave.Goals as goal
 
 pub at-self-requires : goal.at-self-requires

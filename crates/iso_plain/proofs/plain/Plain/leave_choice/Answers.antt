@@ -1,9 +1,9 @@
 use Rattle.std.proofs.Common.{◌≡◌, ◌-◌, length, arith, ap, take}
 use Rattle.std.specs.Vec.{with_item}
-use Rattle.iso_plain.specs.declared.parts.Left.TheVariants as left
-use Rattle.iso_plain.specs.Costs.{frame_costs}
-use Rattle.iso_plain.specs.EngineStates.{clauses_at_place, choices_cost}
-use Rattle.iso_plain.proofs.CountLemmas.{count_fits}
+use Rattle.iso_plain_core.specs.declared.parts.Left.TheVariants as left
+use Rattle.iso_plain_core.specs.Costs.{frame_costs, choices_cost}
+use Rattle.iso_plain_core.specs.ClausePlaces.{clauses_at_place}
+use Rattle.iso_plain_core.proofs.CountLemmas.{count_fits}
 use Rattle.iso_plain.proofs.ChoiceLemmas.{rest, within, choices_are, with_left, next_of, set_left, retries_next, retries_last, fewer_next, fewer_choices}
 use Rattle.iso_plain.proofs.WorldLemmas.{same_texts}
 use Rattle.iso_plain.proofs.plain.Plain.leave_choice.Goals as goal

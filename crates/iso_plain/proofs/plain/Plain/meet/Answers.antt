@@ -2,14 +2,14 @@ use Rattle.std.proofs.Common.{◌≡◌, ◌+◌, ◌<◌, ◌≤◌, ℕ, true,
 use Rattle.iso_model.specs.Terms.Trees.{Tree}
 use Rattle.iso_model.specs.Terms.Variables.{variable_count}
 use Rattle.iso_model.specs.Terms.Substitutions.{compose}
-use Rattle.iso_plain.specs.EngineStates.{IsEngine, Keeps, choices_cost}
-use Rattle.iso_plain.specs.Costs.{most, frame_costs, rest_cost}
+use Rattle.iso_plain.specs.EngineStates.{IsEngine, Keeps}
+use Rattle.iso_plain_core.specs.Costs.{choices_cost, most, frame_costs, rest_cost}
 use Rattle.iso_plain.specs.Catches.{HasMet, Recovers, recovery_of, throwing}
 use Rattle.iso_plain.specs.declared.plain.Plain.{Plain}
-use Rattle.iso_plain.specs.declared.parts.Now.TheVariants as now
-use Rattle.iso_plain.proofs.CostLemmas.{cost_above}
+use Rattle.iso_plain_core.specs.declared.parts.Now.TheVariants as now
+use Rattle.iso_plain_core.proofs.CostLemmas.{cost_above}
 use Rattle.iso_plain.proofs.MeetLemmas.{same_meets, unified_recovers, recovery_moved, thrown_on, unified_same, never_same, on_ok_map}
-use Rattle.iso_plain.proofs.StoppedLemmas.{behind_error}
+use Rattle.iso_plain_core.proofs.ResultLemmas.{behind_error}
 use Rattle.iso_plain.proofs.WorldLemmas.{same_texts}
 use Rattle.iso_plain.proofs.plain.Plain.meet.Goals as goal
 

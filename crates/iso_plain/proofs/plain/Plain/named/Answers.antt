@@ -3,12 +3,12 @@ use Rattle.iso_atoms.specs.Texts.{EachOnce, text_at}
 use Rattle.iso_model.specs.Search.BuiltIns.{built_in}
 use Rattle.iso_model.specs.Search.Errors.{key}
 use Rattle.iso_store_core.proofs.AtomLemmas.{text-is}
-use Rattle.iso_plain.specs.declared.callables.Callable.{Callable}
-use Rattle.iso_plain.specs.declared.callables.Callee.TheVariants as callee
-use Rattle.iso_plain.specs.declared.procedures.Procedure.{Procedure}
-use Rattle.iso_plain.specs.Callables.{Indexes, callee_at, callee_of, place_at}
-use Rattle.iso_plain.proofs.CallableLemmas.{index_none}
-use Rattle.iso_plain.proofs.AddingLemmas.{called_own, called_user, called_none}
+use Rattle.iso_plain_core.specs.declared.callables.Callable.{Callable}
+use Rattle.iso_plain_core.specs.declared.callables.Callee.TheVariants as callee
+use Rattle.iso_plain_core.specs.declared.procedures.Procedure.{Procedure}
+use Rattle.iso_plain_core.specs.Callables.{Indexes, callee_at, callee_of, place_at}
+use Rattle.iso_plain_core.proofs.CallableLemmas.{index_none}
+use Rattle.iso_plain_core.proofs.AddingLemmas.{called_own, called_user, called_none}
 use Rattle.iso_plain.proofs.plain.Plain.named.Goals as goal
 
 -- nothing is called by a name that isn't found

@@ -1,10 +1,10 @@
 use Rattle.std.proofs.Common.{[], refl, ap, ◌∙◌}
 use Rattle.iso_model.specs.Search.Walker.{first_world, idle}
-use Rattle.iso_plain.specs.Standing.{none_kept}
-use Rattle.iso_plain.specs.Callables.{callee_of}
-use Rattle.iso_plain.specs.Programs.{no_procedures}
-use Rattle.iso_plain.proofs.CallableLemmas.{index_same, index_kept}
-use Rattle.iso_plain.proofs.AddingLemmas.{callee_first}
+use Rattle.iso_plain_core.specs.Standing.{none_kept}
+use Rattle.iso_plain_core.specs.Callables.{callee_of}
+use Rattle.iso_plain_core.specs.Programs.{no_procedures}
+use Rattle.iso_plain_core.proofs.CallableLemmas.{index_same, index_kept}
+use Rattle.iso_plain_core.proofs.AddingLemmas.{callee_first}
 use Rattle.iso_plain.proofs.StartLemmas.{same_fresh}
 use Rattle.iso_plain.proofs.WorldLemmas.{same_texts, vocabulary_kept}
 use Rattle.iso_plain.proofs.plain.Plain.new.Goals as goal

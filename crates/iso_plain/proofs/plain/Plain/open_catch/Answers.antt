@@ -1,10 +1,11 @@
 use Rattle.std.proofs.Common.{◌≡◌, ◌∙◌, ◌++◌, ◌∷◌, [], length, sym, append-nil, inl, inr}
 use Rattle.iso_model.specs.Search.Walker.{Catching, pushed}
 use Rattle.iso_plain.specs.Catches.{catcher_of, recovery_of}
-use Rattle.iso_plain.proofs.EnteringLemmas.{adds_none}
+use Rattle.iso_plain_core.proofs.EnteringLemmas.{adds_none}
 use Rattle.iso_plain.proofs.AheadLemmas.{keeps_ahead}
 use Rattle.iso_plain.proofs.CatchMoves.{entry_ahead, opened_ahead, opened_costs}
-use Rattle.iso_plain.proofs.StoppedLemmas.{behind_error, keeps_store, keeps_choices, keeps_more}
+use Rattle.iso_plain_core.proofs.ResultLemmas.{behind_error}
+use Rattle.iso_plain.proofs.StoppedLemmas.{keeps_store, keeps_choices, keeps_more}
 use Rattle.iso_plain.proofs.plain.Plain.open_catch.Goals as goal
 
 pub returns-in_err-keep_choice-clause-kept : goal.returns-in_err-keep_choice-clause-kept

@@ -3,23 +3,23 @@ use Rattle.iso_model.specs.Terms.Variables.{variables, variable_count}
 use Rattle.iso_model.specs.Terms.Copies.{numbers_from}
 use Rattle.iso_model.proofs.OnTerms.CopyLemmas.{length-numbers_from}
 use Rattle.iso_model.specs.Search.Bodies.{converted}
-use Rattle.iso_model.specs.Search.Walker.{started, shown_query}
-use Rattle.iso_plain.specs.Nodes.{EachGoal}
-use Rattle.iso_plain.specs.Kept.{IsKeptGoal}
-use Rattle.iso_plain.specs.Standing.{AreVariables, IsBody, a_body, none_kept, ends}
-use Rattle.iso_plain.specs.Entering.{PartsFit, renaming_from}
+use Rattle.iso_model.specs.Search.Walker.{started, shown_query, World}
+use Rattle.iso_plain_core.specs.Nodes.{EachGoal}
+use Rattle.iso_plain_core.specs.Kept.{IsKeptGoal}
+use Rattle.iso_plain_core.specs.Standing.{AreVariables, IsBody, a_body, none_kept, ends}
+use Rattle.iso_plain_core.specs.Entering.{PartsFit, renaming_from}
 use Rattle.iso_atoms.specs.Texts.{KeepsTexts}
 use Rattle.iso_store_core.specs.Presents.{Present, KeepsMarks}
-use Rattle.iso_model.specs.Search.Walker.{World}
 use Rattle.iso_plain.specs.declared.plain.Plain.{Plain}
 use Rattle.iso_plain.specs.EngineStates.{Keeps}
 use Rattle.iso_plain.specs.Starts.{IsFresh}
 use Rattle.iso_plain.proofs.WorldLemmas.{world_on, same_texts}
-use Rattle.iso_plain.proofs.StoppedLemmas.{behind_error, keeps_none, keeps_store, keeps_more}
-use Rattle.iso_plain.proofs.StandingLemmas.{variables_more}
-use Rattle.iso_plain.proofs.KeptLemmas.{kept_parts_fit}
-use Rattle.iso_plain.proofs.PatternLemmas.{variables_hold, copies_renamed}
-use Rattle.iso_plain.proofs.EnteringLemmas.{variables_length, adds_none, copies_some, placed_body}
+use Rattle.iso_plain_core.proofs.ResultLemmas.{behind_error}
+use Rattle.iso_plain.proofs.StoppedLemmas.{keeps_none, keeps_store, keeps_more}
+use Rattle.iso_plain_core.proofs.StandingLemmas.{variables_more}
+use Rattle.iso_plain_core.proofs.KeptLemmas.{kept_parts_fit}
+use Rattle.iso_plain_core.proofs.PatternLemmas.{variables_hold, copies_renamed}
+use Rattle.iso_plain_core.proofs.EnteringLemmas.{variables_length, adds_none, copies_some, placed_body}
 use Rattle.iso_plain.proofs.StartLemmas.{same_fresh, opening_body, query_variables, query_goals, not_renamed}
 use Rattle.iso_plain.proofs.plain.Plain.place_query.Goals as goal
 

@@ -1,7 +1,7 @@
 use Rattle.std.proofs.Common.{◌≡◌, length, arith}
-use Rattle.iso_plain.proofs.StoppedLemmas.{behind_error}
-use Rattle.iso_plain.proofs.KeptLemmas.{kept_at}
-use Rattle.iso_plain.proofs.CountLemmas.{clauses_counted}
+use Rattle.iso_plain_core.proofs.ResultLemmas.{behind_error}
+use Rattle.iso_plain_core.proofs.KeptLemmas.{kept_at}
+use Rattle.iso_plain_core.proofs.CountLemmas.{clauses_counted}
 use Rattle.iso_plain.proofs.CallLemmas.{calls_last}
 use Rattle.iso_plain.proofs.plain.Plain.push_choice.Goals as goal
 

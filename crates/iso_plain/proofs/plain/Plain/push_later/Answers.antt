@@ -1,11 +1,12 @@
 use Rattle.std.proofs.Common.{◌≡◌, ◌+◌, length, arith, ap}
 use Rattle.iso_model.specs.Terms.Variables.{variables}
-use Rattle.iso_plain.specs.EngineStates.{choices_cost, clauses_at_place}
-use Rattle.iso_plain.specs.Costs.{rest_cost, frame_costs}
-use Rattle.iso_plain.proofs.StandingLemmas.{choices_keep}
-use Rattle.iso_plain.proofs.StoppedLemmas.{behind_error, base_kept}
+use Rattle.iso_plain_core.specs.Costs.{choices_cost, rest_cost, frame_costs}
+use Rattle.iso_plain_core.specs.ClausePlaces.{clauses_at_place}
+use Rattle.iso_plain_core.proofs.StandingLemmas.{choices_keep}
+use Rattle.iso_plain_core.proofs.ResultLemmas.{behind_error}
+use Rattle.iso_plain.proofs.StoppedLemmas.{base_kept}
 use Rattle.iso_plain.proofs.ControlCosts.{gained_cost}
-use Rattle.iso_plain.proofs.CountLemmas.{clauses_counted, count_fits}
+use Rattle.iso_plain_core.proofs.CountLemmas.{clauses_counted, count_fits}
 use Rattle.iso_plain.proofs.CallLemmas.{calls_later, later_cost}
 use Rattle.iso_plain.proofs.WorldLemmas.{world_on}
 use Rattle.iso_plain.proofs.plain.Plain.push_later.Goals as goal

@@ -2,15 +2,15 @@ use Rattle.std.proofs.Common.{◌≡◌, ◌+◌, ◌<◌, ◌≤◌, ◌∷◌,
 use Rattle.iso_model.specs.Terms.Trees.{Tree}
 use Rattle.iso_model.specs.Terms.Variables.{variables}
 use Rattle.iso_model.specs.Search.Walker.{Member, Raise}
-use Rattle.iso_plain.specs.Costs.{frame_costs, rest_cost, left_cost, body_cost, most}
-use Rattle.iso_plain.specs.EngineStates.{went_back, cost, choices_cost, links_of}
-use Rattle.iso_plain.specs.Standing.{Chain}
+use Rattle.iso_plain_core.specs.Costs.{frame_costs, rest_cost, left_cost, body_cost, most, choices_cost}
+use Rattle.iso_plain.specs.EngineStates.{went_back, cost, links_of}
+use Rattle.iso_plain_core.specs.Standing.{Chain}
 use Rattle.iso_plain.specs.Catches.{GoesTo, IsUncaught}
-use Rattle.iso_plain.specs.declared.parts.Now.TheVariants as now
+use Rattle.iso_plain_core.specs.declared.parts.Now.TheVariants as now
 use Rattle.iso_plain.proofs.CaughtMoves.{meets_on, stops_there}
-use Rattle.iso_plain.proofs.CostLemmas.{left_step}
+use Rattle.iso_plain_core.proofs.CostLemmas.{left_step}
 use Rattle.iso_plain.proofs.EndLemmas.{next_is}
-use Rattle.iso_plain.proofs.StoppedLemmas.{behind_error}
+use Rattle.iso_plain_core.proofs.ResultLemmas.{behind_error}
 use Rattle.iso_plain.proofs.WeightLemmas.{falls_less}
 use Rattle.iso_plain.proofs.plain.Plain.raise.Goals as goal
 

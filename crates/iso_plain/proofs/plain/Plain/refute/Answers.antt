@@ -1,10 +1,11 @@
 use Rattle.std.proofs.Common.{◌≡◌, ◌∙◌, ◌++◌, ◌∷◌, [], length, arith, refl, sym, append-nil, inl, inr}
 use Rattle.iso_model.specs.Search.Walker.{AsIs, pushed}
-use Rattle.iso_plain.specs.declared.parts.Todo.TheVariants as todo
-use Rattle.iso_plain.specs.declared.parts.Frame.{Frame}
-use Rattle.iso_plain.proofs.EnteringLemmas.{adds_none}
+use Rattle.iso_plain_core.specs.declared.parts.Todo.TheVariants as todo
+use Rattle.iso_plain_core.specs.declared.parts.Frame.{Frame}
+use Rattle.iso_plain_core.proofs.EnteringLemmas.{adds_none}
 use Rattle.iso_plain.proofs.AheadLemmas.{keeps_ahead}
-use Rattle.iso_plain.proofs.StoppedLemmas.{behind_error, keeps_store, keeps_choices, keeps_more}
+use Rattle.iso_plain_core.proofs.ResultLemmas.{behind_error}
+use Rattle.iso_plain.proofs.StoppedLemmas.{keeps_store, keeps_choices, keeps_more}
 use Rattle.iso_plain.proofs.LocalMoves.{refute_ahead, refute_engine, refute_falls}
 use Rattle.iso_plain.proofs.plain.Plain.refute.Goals as goal
 

@@ -2,7 +2,7 @@ use Rattle.std.proofs.Common.{Some, arith, ap, ◌∙◌, inr}
 use Rattle.iso_plain.proofs.AheadLemmas.{at_body}
 use Rattle.iso_plain.proofs.BackLemmas.{get_at}
 use Rattle.iso_plain.proofs.LimitLemmas.{move_full, result_full}
-use Rattle.iso_plain.proofs.StandingLemmas.{body_within}
+use Rattle.iso_plain_core.proofs.StandingLemmas.{body_within}
 use Rattle.iso_plain.proofs.plain.Plain.run_body.Goals as goal
 
 pub index-requires : goal.index-requires

@@ -3,13 +3,14 @@ use Rattle.std.proofs.lemmas.Result.{on_err_weaker}
 use Rattle.iso_model.specs.Terms.TermOf.{term_of}
 use Rattle.iso_model.specs.Search.BuiltIns.{reply}
 use Rattle.iso_store_core.specs.Presents.{meaning}
-use Rattle.iso_plain.specs.declared.goals.Placed.TheVariants as placed
+use Rattle.iso_plain_core.specs.declared.goals.Placed.TheVariants as placed
 use Rattle.iso_plain.specs.EngineStates.{Falls, cost, weight, phase_of}
-use Rattle.iso_plain.proofs.EnteringLemmas.{adds_none}
+use Rattle.iso_plain_core.proofs.EnteringLemmas.{adds_none}
 use Rattle.iso_plain.proofs.LimitLemmas.{result_full, stays_behind}
 use Rattle.iso_plain.proofs.WorldLemmas.{world_on}
-use Rattle.iso_plain.proofs.StandingLemmas.{chain_place}
-use Rattle.iso_plain.proofs.StoppedLemmas.{behind_error, keeps_all, keeps_more}
+use Rattle.iso_plain_core.proofs.StandingLemmas.{chain_place}
+use Rattle.iso_plain_core.proofs.ResultLemmas.{behind_error}
+use Rattle.iso_plain.proofs.StoppedLemmas.{keeps_all, keeps_more}
 use Rattle.iso_plain.proofs.SearchMoves.{stops_here}
 use Rattle.iso_plain.proofs.RunMoves.{at, if_ok_map}
 use Rattle.iso_plain.proofs.RunCosts.{behind_less, step_weight, goes_falls, fails_falls, throws_falls, calls_falls}

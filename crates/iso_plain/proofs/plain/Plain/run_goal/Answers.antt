@@ -3,9 +3,10 @@ use Rattle.iso_model.specs.Terms.TermOf.{term_of}
 use Rattle.std.proofs.lemmas.Result.{on_err_weaker}
 use Rattle.iso_store_core.specs.Presents.{meaning}
 use Rattle.iso_plain.specs.EngineStates.{Falls, cost, weight, phase_of}
-use Rattle.iso_plain.proofs.EnteringLemmas.{adds_none, words_same}
+use Rattle.iso_plain_core.proofs.EnteringLemmas.{adds_none, words_same}
 use Rattle.iso_lib.proofs.ErrorLemmas.{existence_fits}
-use Rattle.iso_plain.proofs.StoppedLemmas.{behind_error, keeps_all}
+use Rattle.iso_plain_core.proofs.ResultLemmas.{behind_error}
+use Rattle.iso_plain.proofs.StoppedLemmas.{keeps_all}
 use Rattle.iso_plain.proofs.SearchMoves.{stops_here}
 use Rattle.iso_plain.proofs.RunLemmas.{calls_engine, ahead_step, one_less}
 use Rattle.iso_plain.proofs.RunMoves.{at, spends, throws_unknown, fails_unknown, called_on, refused_on, over, if_ok_map}

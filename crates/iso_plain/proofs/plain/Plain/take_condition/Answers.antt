@@ -1,6 +1,7 @@
 use Rattle.std.proofs.Common.{◌≡◌, ◌∙◌, ◌++◌, ◌∷◌, [], length, arith, sym, append-nil}
-use Rattle.iso_plain.proofs.EnteringLemmas.{adds_none}
-use Rattle.iso_plain.proofs.StoppedLemmas.{behind_error, keeps_all, keeps_more}
+use Rattle.iso_plain_core.proofs.EnteringLemmas.{adds_none}
+use Rattle.iso_plain_core.proofs.ResultLemmas.{behind_error}
+use Rattle.iso_plain.proofs.StoppedLemmas.{keeps_all, keeps_more}
 use Rattle.iso_plain.proofs.SearchMoves.{stops_here}
 use Rattle.iso_plain.proofs.ControlMoves.{body_frame, if_parts, takes_condition}
 use Rattle.iso_plain.proofs.ControlCosts.{condition_falls}

@@ -1,0 +1,26 @@
+-- What outlives a run, as the engine keeps it.
+use Rattle.std.specs.Prelude.{◌≡◌, ℕ, List, Vec}
+use Rattle.std.specs.Global.{Global}
+use Rattle.iso_model.specs.Search.Walker.{World}
+use Rattle.iso_ops.specs.Operators.{Operator}
+use Rattle.iso_ops.specs.declared.settings.Flags.{Flags}
+use Rattle.iso_plain_core.specs.declared.procedures.Procedure.{Procedure}
+use Rattle.iso_plain_core.specs.declared.callables.Callable.{Callable}
+use Rattle.iso_plain.specs.declared.plain.Plain.{Plain}
+use Rattle.iso_plain_core.specs.declared.vocabulary.Vocabulary.{Vocabulary}
+use Rattle.iso_plain_core.specs.Vocabularies.{IsVocabulary}
+use Rattle.iso_plain_core.specs.Callables.{Indexes, callee_of}
+use Rattle.iso_plain_core.specs.Programs.{IsDatabase}
+
+-- Where these are the names of the atoms, these procedures, operators and flags are what outlives a run, this is where procedures are found, and these
+-- are the names that it knows beforehand.
+pub record KeepsWorld (names : List (List ℕ)) (procedures : List Procedure) (callables : List (Vec Callable Global)) (vocabulary : Vocabulary) (ops : List Operator) (flags : Flags) (w : World) : Type 0 where
+  pub procedures_are : IsDatabase names procedures w.database.procedures
+  pub found : Indexes names callables (callee_of procedures)
+  pub vocabulary_is : IsVocabulary names vocabulary
+  pub operators_are : ops ≡ w.operators
+  pub flags_are : flags ≡ w.flags
+
+-- the engine has them
+abbrev pub IsWorld : {S W M : Type 0} → (S → List (List ℕ)) → Plain S W M → World → Type 0
+IsWorld names e w = KeepsWorld (names e.store) e.procedures.items e.callables.items e.vocabulary e.ops e.flags w

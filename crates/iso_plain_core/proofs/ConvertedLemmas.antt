@@ -1,0 +1,101 @@
+-- What a term is converted to, by the control construct that it is.
+use Rattle.std.proofs.Common.{◌≡◌, ℕ, List, Bool, true, false, refl, sym, ap, ◌∙◌, arith, inl, inr, Option, Some, None, codes}
+use Rattle.std.specs.Str.{bytes_eq}
+use Rattle.std.proofs.lemmas.Bool.{cases_Bool, true≢false}
+use Rattle.iso_model.specs.Terms.Trees.{Tree, Variable, Integer, Name, Apply, End, More, count}
+use Rattle.iso_model.specs.Terms.Sorts.{is_term}
+use Rattle.iso_model.specs.Terms.Arguments.{member, argument}
+use Rattle.iso_model.specs.Search.Bodies as bodies
+use Rattle.iso_model.specs.Search.Bodies.{Body, Run, two, both, either, converted, converted_two}
+use Rattle.iso_store_core.specs.Arguments.{members_from}
+use Rattle.iso_prep.specs.declared.connectives.Connective.{Connective}
+use Rattle.iso_prep.specs.declared.connectives.Connective.TheVariants as connective
+use Rattle.iso_prep.specs.Connectives.{text_of, connective_of, control_of}
+use Rattle.iso_prep.specs.Readings.{is_if, NoChoice}
+use Rattle.iso_prep.proofs.ConnectiveLemmas.{named_by_text}
+use Rattle.iso_prep.proofs.ReadingLemmas.{is_choice, either_plain, either_no_choice}
+use Rattle.iso_plain_core.specs.Conversions.{joined}
+use Rattle.iso_plain_core.proofs.GoalLemmas.{row_of_goal, row_whole, member_next}
+
+-- ---- what is no if-then
+
+choice_of : Option Body → Bool
+choice_of None = false
+choice_of (Some b) = is_choice b
+
+conjunction_no_choice : (x y : Option Body) → choice_of (both bodies.And x y) ≡ false
+unfolding choice_of is_choice
+conjunction_no_choice None y = refl
+conjunction_no_choice (Some a) None = refl
+conjunction_no_choice (Some a) (Some b) = refl
+
+either_of_no_choice : (x y : Option Body) → choice_of (both either x y) ≡ false
+unfolding choice_of
+either_of_no_choice None y = refl
+either_of_no_choice (Some a) None = refl
+either_of_no_choice (Some a) (Some b) = either_no_choice a b
+
+goal_no_choice : (t : Tree) → choice_of (Some (Run t)) ≡ false
+unfolding choice_of is_choice
+goal_no_choice t = refl
+
+two_no_choice : (f : List ℕ) (x y : Option Body) (t : Tree) → is_if (connective_of f) ≡ false → choice_of (converted_two f x y t) ≡ false
+two_no_choice f x y t h =
+    elim (cases_Bool (bytes_eq f (codes ","))) [
+      | inl comma ↦ rw comma (conjunction_no_choice x y)
+      | inr no_comma ↦ elim (cases_Bool (bytes_eq f (codes ";"))) [
+        | inl bar ↦ rw (no_comma, bar) (either_of_no_choice x y)
+        | inr no_bar ↦ elim (cases_Bool (bytes_eq f (codes "->"))) [
+          | inl arrow ↦ (let is : true ≡ false = rw (no_comma, no_bar, arrow) at h in absurd (true≢false is))
+          | inr other ↦ rw (no_comma, no_bar, other) (goal_no_choice t)
+        ]
+      ]
+    ]
+
+name_no_choice : (a : List ℕ) → choice_of (converted (Name a)) ≡ false
+unfolding choice_of is_choice
+name_no_choice a = elim (cases_Bool (bytes_eq a (codes "!"))) [ inl mark ↦ rw mark refl | inr other ↦ rw other refl ]
+
+no_choice : (t : Tree) → is_if (control_of t) ≡ false → choice_of (converted t) ≡ false
+unfolding choice_of is_choice
+no_choice (Variable n) h = refl
+no_choice (Integer z) h = refl
+no_choice (Name a) h = name_no_choice a
+no_choice (Apply f (More a (More b End))) h = two_no_choice f (converted a) (converted b) (two f a b) h
+no_choice (Apply f t) h = refl
+no_choice End h = refl
+no_choice (More t ts) h = refl
+
+-- ---- control constructs
+
+disjunction : (x y : Option Body) → choice_of x ≡ false → both either x y ≡ both bodies.Or x y
+unfolding choice_of
+disjunction None y h = refl
+disjunction (Some a) None h = refl
+disjunction (Some a) (Some b) h = ap Some (either_plain a b h)
+
+pub converted_joined : (k : Connective) (a b : Tree) → NoChoice k a → converted (two (text_of k) a b) ≡ joined k (converted a) (converted b)
+converted_joined connective.And a b h = refl
+converted_joined connective.Or a b h = disjunction (converted a) (converted b) (no_choice a h)
+converted_joined connective.If a b h = refl
+
+-- ---- the control construct that a compound is
+
+-- one of two arguments
+pub two_arguments : (f : List ℕ) (ts : Tree) → is_term (Apply f ts) ≡ true → count ts ≡ 2 → Apply f ts ≡ two f (member 0 ts) (member 1 ts)
+two_arguments f ts h many =
+    let fits = row_of_goal (Apply f ts) h in
+    let first : members_from 0 ts ≡ More (member 0 ts) (members_from 1 ts) = member_next 0 ts fits (omega (arith, many)) in
+    let second : members_from 1 ts ≡ More (member 1 ts) (members_from 2 ts) = member_next 1 ts fits (omega (arith, many)) in
+    let end : members_from 2 ts ≡ End = ap (λ n. members_from n ts) (sym many) ∙ row_whole ts fits in
+    ap (Apply f) (first ∙ ap (More (member 0 ts)) (second ∙ ap (More (member 1 ts)) end))
+
+-- the parts of one, as arguments
+pub control_parts : (t : Tree) (f : List ℕ) (ts : Tree) (k : Connective) (a b : Tree) → is_term t ≡ true → t ≡ Apply f ts → count ts ≡ 2 → connective_of f ≡ Some k → a ≡ argument 0 t → b ≡ argument 1 t
+    → t ≡ two (text_of k) a b
+control_parts t f ts k a b fits is many named first second =
+    let name : f ≡ text_of k = named_by_text f k named in
+    let parts : t ≡ two f (member 0 ts) (member 1 ts) = is ∙ two_arguments f ts (sym (ap is_term is) ∙ fits) many in
+    let one : member 0 ts ≡ a = sym (first ∙ ap (argument 0) is) in
+    let two_is : member 1 ts ≡ b = sym (second ∙ ap (argument 1) is) in
+    parts ∙ (λ i. two (name i) (one i) (two_is i))

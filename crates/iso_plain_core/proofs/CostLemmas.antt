@@ -1,0 +1,227 @@
+-- What is to be done at most: bodies, clauses, steps and frames.
+use Rattle.std.proofs.Common.{◌≡◌, ◌<◌, ◌≤◌, ℕ, zero, suc, ◌+◌, ◌-◌, List, [], ◌∷◌, ◌++◌, length, take, drop, Option, Some, None, ◌⊎◌, inl, inr, refl, sym, ap, ◌∙◌, subst, arith, append_assoc, append-nil, length-take, length-append, min}
+use Rattle.std.specs.List.{slice_index_or, slice_get}
+use Rattle.std.proofs.lemmas.List.{take-append-drop, get_or_append_left}
+use Rattle.std.proofs.lemmas.Option.{slice_get_within}
+use Rattle.iso_plain_core.specs.declared.parts.Frame.{Frame}
+use Rattle.iso_plain_core.specs.declared.parts.Choice as kept
+use Rattle.iso_plain_core.specs.declared.parts.Left.{Left}
+use Rattle.iso_plain_core.specs.declared.parts.Left.TheVariants as left
+use Rattle.iso_plain_core.specs.declared.procedures.Procedure.{Procedure}
+use Rattle.iso_model.specs.Search.Databases.{Clause}
+use Rattle.iso_model.specs.Search.Walker.{Member, Alternative}
+use Rattle.iso_store_core.specs.Presents.{Present}
+use Rattle.iso_plain_core.specs.Standing.{Links, IsBefore, Chain, ends, leads, HasLeft, StandsForChoices, links_at, none_kept, one_kept}
+use Rattle.iso_plain_core.specs.ClausePlaces.{clauses_at_place}
+use Rattle.iso_plain_core.specs.Costs.{choice_cost, choices_cost, now_cost, body_cost, most, left_cost, whole_cost, todo_cost, frame_cost, costs_behind, frame_costs, place_cost}
+use Rattle.iso_plain_core.specs.Next.{IsPlace, now_at, now_behind}
+use Rattle.iso_plain_core.proofs.StandingLemmas.{chain_place}
+use Rattle.std.proofs.Math.Nat.{eq-or-lt_of_le}
+use Rattle.std.proofs.Math.Seq.{get_or-append_seam}
+
+pub cost_above : (k r : ℕ) → r < body_cost k r
+unfolding body_cost
+cost_above zero r = omega arith
+cost_above (suc k) r = let second = cost_above k r in omega (arith, second)
+
+pub cost_more : (k r q : ℕ) → r ≤ q → body_cost k r ≤ body_cost k q
+unfolding body_cost
+cost_more zero r q less = omega (arith, less)
+cost_more (suc k) r q less =
+    let inner = cost_more k r q less in
+    let outer = cost_more k (body_cost k r + 2) (body_cost k q + 2) (omega (arith, inner)) in
+    omega (arith, inner, outer)
+
+cost_up : (k r : ℕ) → body_cost k r ≤ body_cost (suc k) r
+unfolding body_cost
+cost_up k r = omega arith
+
+cost_reaches : (i k r : ℕ) → (i ≡ suc k) ⊎ (i < suc k) → (i ≤ k → body_cost i r ≤ body_cost k r) → body_cost i r ≤ body_cost (suc k) r
+cost_reaches i k r (inl same) below = subst (λ n. body_cost i r ≤ body_cost n r) same (omega arith)
+cost_reaches i k r (inr less) below = let lower = below (omega (arith, less)) in let up = cost_up k r in omega (arith, lower, up)
+
+pub cost_higher : (k i r : ℕ) → i ≤ k → body_cost i r ≤ body_cost k r
+cost_higher zero i r less = let none : i ≡ 0 = omega (arith, less) in subst (λ n. body_cost i r ≤ body_cost n r) none (omega arith)
+cost_higher (suc k) i r less = cost_reaches i k r (eq-or-lt_of_le less) (cost_higher k i r)
+
+-- two parts of a body one behind the other, and a third
+pub cost_parts : (k i j l r : ℕ) → i < k → j < k → l < k → body_cost i (body_cost j r + 2) + (body_cost l r + 2) ≤ body_cost k r
+unfolding body_cost
+cost_parts zero i j l r first second third = absurd (omega (arith, first))
+cost_parts (suc k) i j l r first second third =
+    let a = cost_higher k j r (omega (arith, second)) in
+    let b = cost_more i (body_cost j r + 2) (body_cost k r + 2) (omega (arith, a)) in
+    let c = cost_higher k i (body_cost k r + 2) (omega (arith, first)) in
+    let d = cost_higher k l r (omega (arith, third)) in
+    omega (arith, a, b, c, d)
+
+pub below_most : (n : ℕ) → n < 18446744073709551616 → n ≤ most
+unfolding most
+below_most n less = omega (arith, less)
+
+-- a place of nodes
+pub below_words : (n : ℕ) → n < 18446744073709551616 → n < most
+unfolding most
+below_words n less = less
+
+pub some_most : 0 < most
+unfolding most
+some_most = omega arith
+
+pub zero_cost : (r : ℕ) → body_cost 0 r ≡ suc r
+unfolding body_cost
+zero_cost r = refl
+
+pub left_more : (n r q : ℕ) → r ≤ q → left_cost n r ≤ left_cost n q
+unfolding left_cost
+left_more zero r q less = omega arith
+left_more (suc n) r q less = let one = cost_more most r q less in let others = left_more n r q less in omega (arith, one, others)
+
+left_reaches : (n m r : ℕ) → (n ≡ suc m) ⊎ (n < suc m) → (n ≤ m → left_cost n r ≤ left_cost m r) → left_cost n r ≤ left_cost (suc m) r
+unfolding left_cost
+left_reaches n m r (inl same) below = subst (λ k. left_cost n r ≤ left_cost k r) same (omega arith)
+left_reaches n m r (inr less) below = let lower = below (omega (arith, less)) in omega (arith, lower)
+
+pub left_higher : (m n r : ℕ) → n ≤ m → left_cost n r ≤ left_cost m r
+left_higher zero n r less = let none : n ≡ 0 = omega (arith, less) in subst (λ k. left_cost n r ≤ left_cost k r) none (omega arith)
+left_higher (suc m) n r less = left_reaches n m r (eq-or-lt_of_le less) (left_higher m n r)
+
+pub whole_more : (n w v : ℕ) → w < v → whole_cost n w < whole_cost n v
+unfolding whole_cost
+whole_more zero w v less = less
+whole_more (suc n) w v less =
+    let grown = left_more (suc most) w v (omega (arith, less)) in
+    let inner = whole_more n (w + left_cost (suc most) w) (v + left_cost (suc most) v) (omega (arith, less, grown)) in
+    omega (arith, inner)
+
+whole_at_most : (n w v : ℕ) → (w ≡ v) ⊎ (w < v) → whole_cost n w ≤ whole_cost n v
+whole_at_most n w v (inl same) = subst (λ x. whole_cost n w ≤ whole_cost n x) same (omega arith)
+whole_at_most n w v (inr less) = let h = whole_more n w v less in omega (arith, h)
+
+-- a step is paid: whatever clauses and body come, before what is to be done behind the goal
+pub whole_paid : (n w v : ℕ) → v ≤ w + left_cost (suc most) w → whole_cost n v < whole_cost (suc n) w
+unfolding whole_cost
+whole_paid n w v less = let h = whole_at_most n v (w + left_cost (suc most) w) (eq-or-lt_of_le less) in omega (arith, h)
+
+pub left_step : (n r : ℕ) → left_cost (suc n) r ≡ suc (body_cost most r) + left_cost n r
+unfolding left_cost
+left_step n r = refl
+
+-- one call: its other clauses, and the body of the first
+pub called_cost : (n k s r w : ℕ) → n ≤ most → k ≤ most → s + r ≤ w → s + left_cost n r + body_cost k r ≤ w + left_cost (suc most) w
+called_cost n k s r w few below less =
+    let a = left_higher most n r few in
+    let b = left_more most r w (omega (arith, less)) in
+    let c = cost_higher most k r below in
+    let d = cost_more most r w (omega (arith, less)) in
+    let e = left_step most w in
+    omega (arith, a, b, c, d, e, less)
+
+-- ---- frames
+
+costs_length : (costs : List ℕ) (fs : List Frame) → length (costs_behind costs fs) ≡ length fs
+costs_length costs [] = refl
+costs_length costs (f ∷ fs) = ap suc (costs_length (costs ++ frame_cost costs f ∷ []) fs)
+
+costs_on : (costs : List ℕ) (fs gs : List Frame) → costs_behind costs (fs ++ gs) ≡ costs_behind costs fs ++ costs_behind (costs ++ costs_behind costs fs) gs
+costs_on costs [] gs = ap (λ cs. costs_behind cs gs) (sym (append-nil costs))
+costs_on costs (f ∷ fs) gs =
+    let c = frame_cost costs f in
+    ap (λ cs. c ∷ cs) (costs_on (costs ++ c ∷ []) fs gs ∙ ap (λ xs. costs_behind (costs ++ c ∷ []) fs ++ costs_behind xs gs) (append_assoc costs (c ∷ []) (costs_behind (costs ++ c ∷ []) fs)))
+
+-- older frames cost what they did
+pub more_cost : (fs more : List Frame) (place : Option ℕ) → IsPlace fs place → place_cost (fs ++ more) place ≡ place_cost fs place
+more_cost fs more None within = refl
+more_cost fs more (Some i) within =
+    let many = costs_length [] fs in
+    ap (λ cs. slice_index_or cs i 0) (costs_on [] fs more) ∙ get_or_append_left (frame_costs fs) (costs_behind (frame_costs fs) more) 0 i (omega (arith, within, many))
+
+pub newest_cost : (fs : List Frame) (f : Frame) → place_cost (fs ++ f ∷ []) (Some (length fs)) ≡ frame_cost (frame_costs fs) f
+newest_cost fs f =
+    let many = costs_length [] fs in
+    ap (λ cs. slice_index_or cs (length fs) 0) (costs_on [] fs (f ∷ []))
+    ∙ ap (λ n. slice_index_or (frame_costs fs ++ frame_cost (frame_costs fs) f ∷ []) n 0) (sym many)
+    ∙ get_or-append_seam (frame_costs fs) (frame_cost (frame_costs fs) f) [] 0
+
+pub taken_place : (n : ℕ) (fs : List Frame) (place : Option ℕ) → IsPlace (take n fs) place → IsPlace fs place
+taken_place n fs None within = tt
+taken_place n fs (Some i) within = let short = length-take n fs in shorter i n (length fs) (omega (arith, within, short)) where
+  shorter : (i n m : ℕ) → i < min n m → i < m
+  shorter i n m less = omega (arith, less)
+
+pub taken_cost : (n : ℕ) (fs : List Frame) (place : Option ℕ) → IsPlace (take n fs) place → place_cost (take n fs) place ≡ place_cost fs place
+taken_cost n fs place within =
+    let same = more_cost (take n fs) (drop n fs) place within in
+    sym (sym (ap (λ gs. place_cost gs place) (take-append-drop n fs)) ∙ same)
+
+-- ---- a frame of the list
+
+frame_split : (fs : List Frame) (i : ℕ) (f : Frame) → slice_get fs i ≡ Some f → fs ≡ (take i fs ++ f ∷ []) ++ drop (suc i) fs
+frame_split [] i f there = absurd (cc)
+frame_split (g ∷ fs) zero f there = let same : g ≡ f = cc in ap (λ x. x ∷ fs) same
+frame_split (g ∷ fs) (suc i) f there = ap (λ xs. g ∷ xs) (frame_split fs i f there)
+
+length_taken : (i : ℕ) (fs : List Frame) → i < length fs → length (take i fs) ≡ i
+length_taken zero fs less = refl
+length_taken (suc i) [] less = absurd (omega arith)
+length_taken (suc i) (f ∷ fs) less = ap suc (length_taken i fs (omega arith))
+
+place_before : (fs : List Frame) (place : Option ℕ) (i : ℕ) → length fs ≡ i → IsBefore place i → IsPlace fs place
+place_before fs None i many less = tt
+place_before fs (Some j) i many less = omega (arith, many, less)
+
+-- what is to be done from it on
+pub there_cost : (fs : List Frame) (i : ℕ) (f : Frame) → slice_get fs i ≡ Some f → IsBefore f.next i → place_cost fs (Some i) ≡ frame_cost (frame_costs fs) f
+there_cost fs i f there below =
+    let within = slice_get_within fs i f there in
+    let many = length_taken i fs within in
+    let front = take i fs in
+    let long = length-append front (f ∷ []) in
+    let place : IsPlace (front ++ f ∷ []) (Some i) = omega (arith, long, many) in
+    ap (λ xs. place_cost xs (Some i)) (frame_split fs i f there)
+    ∙ (more_cost (front ++ f ∷ []) (drop (suc i) fs) (Some i) place
+    ∙ (ap (λ n. place_cost (front ++ f ∷ []) (Some n)) (sym many)
+    ∙ (newest_cost front f ∙ ap (todo_cost f.todo) (taken_cost i fs f.next (place_before front f.next i many below)))))
+
+-- what is to be done where the members from a place on come next
+pub behind_cost : {W : Type 0} {p : Present W} {links : Links W} {ms : List Member} (place : Option ℕ) → Chain p links place ms → now_cost (frame_costs links.frames) (now_behind links.frames place) ≡ place_cost links.frames place
+behind_cost None ends = refl
+behind_cost {links = links} (Some i) (leads {f = f} at below member others) =
+    ap (λ o. now_cost (frame_costs links.frames) (now_at o)) at.is ∙ sym (there_cost links.frames i f at.is below)
+
+-- ---- choices
+
+pub choices_last : {W M : Type 0} (ps : List Procedure) (costs : List ℕ) (cs : List (kept.Choice W M)) (c : kept.Choice W M) → choices_cost ps costs (cs ++ c ∷ []) ≡ choices_cost ps costs cs + choice_cost ps costs c.left
+choices_last ps costs [] c = omega arith
+choices_last ps costs (d ∷ cs) c = let more = choices_last ps costs cs c in omega (arith, more)
+
+pub choices_fewer : {W M : Type 0} (n : ℕ) (ps : List Procedure) (costs : List ℕ) (cs : List (kept.Choice W M)) → choices_cost ps costs (take n cs) ≤ choices_cost ps costs cs
+choices_fewer zero ps costs cs = omega arith
+choices_fewer (suc n) ps costs [] = omega arith
+choices_fewer (suc n) ps costs (c ∷ cs) = let more = choices_fewer n ps costs cs in omega (arith, more)
+
+pub left_place : {W : Type 0} (left_at : ℕ → ℕ → List Clause) (query : List W) (named : List ℕ) (p : Present W) (links : Links W) (a : Alternative) (ps : List Procedure) (more : List Frame) (left : Left W) → HasLeft left_at query named p links left a
+    → choice_cost ps (frame_costs (links.frames ++ more)) left ≡ choice_cost ps (frame_costs links.frames) left
+left_place left_at query named p links a ps more (left.AsIs place) h = ap suc (more_cost links.frames more place (chain_place place h.on.chain))
+left_place left_at query named p links a ps more (left.Again place) h = ap suc (more_cost links.frames more place (chain_place place h.on.chain))
+left_place left_at query named p links a ps more (left.Catching goal place) h = ap (left_cost 1) (more_cost links.frames more place (chain_place place h.on.chain))
+left_place left_at query named p links a ps more (left.Clauses attempt) h =
+    ap (left_cost (clauses_at_place ps attempt.procedure - attempt.clause)) (more_cost links.frames more attempt.rest (chain_place attempt.rest h.at.on.chain))
+
+-- over more frames choices cost what they did
+pub choices_on_more : {W M : Type 0} {stands : M → Present W → Type 0} {older : M → M → Type 0} {base : M} {left_at : ℕ → ℕ → List Clause} {query : List W} {named : List ℕ} {links : Links W} {cs : List (kept.Choice W M)} {ks : List Alternative}
+    (ps : List Procedure) (more : List Frame) → StandsForChoices stands older base left_at query named links cs ks
+    → choices_cost ps (frame_costs (links.frames ++ more)) cs ≡ choices_cost ps (frame_costs links.frames) cs
+choices_on_more ps more none_kept = refl
+choices_on_more {left_at = left_at} {query = query} {named = named} {links = links} {cs = cs} ps more (one_kept {before = before} {c = c} {a = a} is on here newer below) =
+    let front = take c.frames links.frames in
+    let rest = drop c.frames links.frames in
+    let whole : front ++ rest ≡ links.frames = take-append-drop c.frames links.frames in
+    let longer : front ++ (rest ++ more) ≡ links.frames ++ more = sym (append_assoc front rest more) ∙ ap (λ fs. fs ++ more) whole in
+    let one = ap (λ fs. choices_cost ps (frame_costs fs) before) (sym longer) ∙ choices_on_more ps (rest ++ more) below in
+    let other = ap (λ fs. choices_cost ps (frame_costs fs) before) (sym whole) ∙ choices_on_more ps rest below in
+    let first = ap (λ fs. choice_cost ps (frame_costs fs) c.left) (sym longer) ∙ left_place left_at query named here.present (links_at c links) a ps (rest ++ more) c.left here.has in
+    let second = ap (λ fs. choice_cost ps (frame_costs fs) c.left) (sym whole) ∙ left_place left_at query named here.present (links_at c links) a ps rest c.left here.has in
+    let old = ap (choices_cost ps (frame_costs links.frames)) is ∙ choices_last ps (frame_costs links.frames) before c in
+    let new = ap (choices_cost ps (frame_costs (links.frames ++ more))) is ∙ choices_last ps (frame_costs (links.frames ++ more)) before c in
+    omega (arith, one, other, first, second, old, new)

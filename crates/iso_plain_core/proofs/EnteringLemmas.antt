@@ -1,0 +1,170 @@
+-- What makers add to a store, call by call.
+use Rattle.std.proofs.Common.{◌≡◌, ℕ, zero, suc, ◌+◌, ◌-◌, List, [], ◌∷◌, ◌++◌, Bool, true, false, ◌<◌, ◌≤◌, length, take, drop, get_or, add-one, append_assoc, append-nil, length-append, ◌==◌, refl, ap, sym, ◌∙◌, subst, arith}
+use Rattle.std.proofs.Math.Seq.{drop-cons, take-suc}
+use Rattle.iso_store_core.specs.declared.patterns.Pattern.{Pattern}
+use Rattle.iso_model.specs.Terms.Trees.{Tree, Variable, count}
+use Rattle.iso_model.specs.Search.Bodies.{Body, map_body}
+use Rattle.iso_model.specs.Terms.Substitutions.{Subst, apply, compose}
+use Rattle.iso_model.specs.Terms.Unifiers.{Unifier, NeverEqual}
+use Rattle.iso_model.specs.Terms.Copies.{numbers_from, renamed}
+use Rattle.iso_store_core.specs.Presents.{Present, meaning, IsUnification, Binds, KeepsWords, Makes, MovesOn, KeepsNumbers}
+use Rattle.iso_plain_core.specs.Standing.{AreVariables, no_word, one_word, IsGoalWord, IsBody}
+use Rattle.iso_plain_core.specs.Entering.{Extends, Adds, IsMade, Copies, CopiesPart, Meets, GoalFits, PartsFit}
+use Rattle.iso_plain_core.specs.Nodes.{EndsWith, IfGoal, AreAlike, EachGoal}
+use Rattle.iso_plain_core.specs.Written.{IsPatternOf}
+use Rattle.iso_plain_core.specs.Kept.{IsKeptGoal}
+use Rattle.iso_plain_core.specs.declared.bodies.Node.{Node}
+use Rattle.iso_plain_core.proofs.NodeLemmas.{alike_so, alike_push, alike_length, any_goal, tree_alike}
+use Rattle.iso_plain_core.proofs.WrittenLemmas.{term_is}
+use Rattle.std.proofs.lemmas.Bool.{eqb-true, eq-eqb, true≢false}
+
+pub words_same : {W : Type 0} (p : Present W) → KeepsWords p p
+words_same p = record { stand = λ w h. h; terms = λ w h. refl }
+
+pub words_on : {W : Type 0} {p q r : Present W} → KeepsWords p q → KeepsWords q r → KeepsWords p r
+words_on a b = record { stand = λ w h. b.stand w (a.stand w h); terms = λ w h. b.terms w (a.stand w h) ∙ a.terms w h }
+
+pub extends_none : {W : Type 0} (p : Present W) → Extends p p 0
+extends_none p = record { words = words_same p; substitution = refl; next = omega arith }
+
+-- a word that comes with a new number
+pub extends_new : {W : Type 0} {p q r : Present W} {w : W} {t : Tree} {n : ℕ} → Extends p q n → Makes q r w t → MovesOn q r 1 → Extends p r (n + 1)
+extends_new {p = p} {q = q} {r = r} {n = n} e m k = record {
+  words = words_on e.words m.words;
+  substitution = m.substitution ∙ e.substitution;
+  next = (let a = k.next in let b = e.next in omega arith);
+}
+
+pub extends_on : {W : Type 0} {p q r : Present W} {m n : ℕ} → Extends p q m → Extends q r n → Extends p r (m + n)
+extends_on {p = p} {q = q} {r = r} {m = m} {n = n} a b = record {
+  words = words_on a.words b.words;
+  substitution = b.substitution ∙ a.substitution;
+  next = (let x = a.next in let y = b.next in omega arith);
+}
+
+-- a variable more, of the next number
+pub variables_push : {W : Type 0} {q : Present W} (ws : List W) (w : W) (n k : ℕ) → AreVariables q ws (numbers_from n k) → q.holds w ≡ true → q.term w ≡ Variable (n + k)
+    → AreVariables q (ws ++ w ∷ []) (numbers_from n (k + 1))
+variables_push {q = q} [] w n zero no_word holds is =
+    let here : q.term w ≡ Variable n = is ∙ ap Variable (omega arith) in
+    one_word holds here no_word
+variables_push (v ∷ ws) w n zero h holds is = elim h [ ]
+variables_push [] w n (suc k) h holds is = elim h [ ]
+variables_push {q = q} (v ∷ ws) w n (suc k) (one_word there same others) holds is =
+    let next : n + suc k ≡ n + 1 + k = omega arith in
+    let count : suc k + 1 ≡ suc (k + 1) = omega arith in
+    rw count (one_word there same (variables_push ws w (n + 1) k others holds (is ∙ ap Variable next)))
+
+pub take_all : {X : Type 0} (xs : List X) (i : ℕ) → length xs ≤ i → take i xs ≡ xs
+take_all [] zero h = refl
+take_all [] (suc i) h = refl
+take_all (x ∷ xs) zero h = absurd (omega arith)
+take_all (x ∷ xs) (suc i) h = ap (λ (ys : List _). x ∷ ys) (take_all xs i (omega arith))
+
+pub adds_none : {X : Type 0} (xs : List X) → Adds xs xs
+adds_none xs = ([], sym (append-nil xs))
+
+pub adds_push : {X : Type 0} (old new : List X) (x : X) → Adds old new → Adds old (new ++ x ∷ [])
+adds_push old new x h = (h.0 ++ x ∷ [], ap (λ (xs : List _). xs ++ x ∷ []) h.1 ∙ append_assoc old h.0 (x ∷ []))
+
+-- as many words as numbers
+pub variables_length : {W : Type 0} {p : Present W} {ws : List W} {ns : List ℕ} → AreVariables p ws ns → length ws ≡ length ns
+variables_length no_word = refl
+variables_length (one_word holds named others) = ap suc (variables_length others)
+
+-- ---- a clause is entered
+
+-- the call and the head, as they are unified
+pub met : {W : Type 0} {p q r : Present W} {call head : W} {t : Tree} {n : ℕ} (P : Tree → Tree → Type 0) → Extends p q n → Makes q r head t → p.holds call ≡ true
+    → P (meaning r call) (meaning r head) → P (apply p.substitution (p.term call)) (apply p.substitution t)
+met {p = p} {q = q} {r = r} {call = call} {head = head} {t = t} P e m held h =
+    let same : r.substitution ≡ p.substitution = m.substitution ∙ e.substitution in
+    let call_is : r.term call ≡ p.term call = m.words.terms call (e.words.stand call held) ∙ e.words.terms call held in
+    subst (λ (x : Tree). P (apply p.substitution (p.term call)) (apply p.substitution x)) m.term
+    (subst (λ (x : Tree). P (apply p.substitution x) (apply p.substitution (r.term head))) call_is
+    (subst (λ (s : Subst). P (apply s (r.term call)) (apply s (r.term head))) same h))
+
+-- the head is never equal to the call
+pub enters_none : {W : Type 0} {p q r : Present W} {call head : W} {t : Tree} {n : ℕ} (s : Present W) (answer : Bool) → Extends p q n → Makes q r head t → p.holds call ≡ true
+    → answer ≡ false → IsUnification r s (meaning r call) (meaning r head) answer → NeverEqual (apply p.substitution (p.term call)) (apply p.substitution t)
+enters_none {p = p} {r = r} {call = call} {head = head} {t = t} s answer e m held negative h =
+    met (λ a b. NeverEqual a b) e m held (subst (λ (x : Bool). IsUnification r s (meaning r call) (meaning r head) x) negative h)
+
+-- what an answer says that there is a unifier
+pub unifier_there : {W : Type 0} (p q : Present W) (a b : Tree) (answer : Bool) → answer ≡ true → IsUnification p q a b answer → (u : Subst) × Unifier a b u × Binds p q u
+unifier_there p q a b answer positive h = subst (λ (x : Bool). IsUnification p q a b x) positive h
+
+-- The head has a unifier with the call, and words come behind it.
+pub meets : {W : Type 0} {p q r s v : Present W} {call : W} (head : W) (t : Tree) {count : ℕ} → Extends p q count → Makes q r head (renamed p.next t) → KeepsNumbers q r → p.holds call ≡ true
+    → ((u : Subst) × Unifier (meaning r call) (meaning r head) u × Binds r s u) → Extends s v 0 → Meets p v (p.term call) t count
+meets {p = p} {q = q} {r = r} {s = s} {v = v} head t {count = count} e m k held h x =
+    let u = h.0 in
+    let b = h.2 in
+    let same : r.substitution ≡ p.substitution = m.substitution ∙ e.substitution in
+    record {
+      unifier = u;
+      is = met (λ a b. Unifier a b u) e m held h.1;
+      substitution = x.substitution ∙ (b.substitution ∙ ap (λ (y : Subst). compose y u) same);
+      next = (let n1 = x.next in let n2 = b.numbers.next in let n3 = k.next in let n4 = e.next in omega arith);
+      words = words_on (words_on e.words (words_on m.words b.words)) x.words;
+    }
+
+-- ---- parts are copied
+
+pub copies_none : {names : List (List ℕ)} {W : Type 0} (p : Present W) (s : Subst) (old : List (Node W)) → Copies names p s old old []
+copies_none p s old = record { more = []; are = sym (append-nil old); nodes = tt }
+
+-- a copied part more
+pub copies_push : {names : List (List ℕ)} {W : Type 0} {p q : Present W} {s : Subst} (old new : List (Node W)) (parts : List (Node Pattern)) (i : ℕ) (part : Node Pattern) (n : Node W) → i < length parts → part ≡ get_or parts i part
+    → Copies names p s old new (take i parts) → CopiesPart names p q s part n → Copies names q s old (new ++ n ∷ []) (take (i + 1) parts)
+copies_push {names = names} {p = p} {q = q} {s = s} old new parts i part n within is h made =
+    let next : take (i + 1) parts ≡ take i parts ++ part ∷ [] = rw (add-one, take-suc parts i part within, ← is) refl in
+    let on : (g : Pattern) (w : _) → Unit {0} → IsMade names p s g w → IsMade names q s g w = λ g w u m. (made.extends.words.stand w m.0, made.extends.words.terms w m.0 ∙ m.1) in
+    let before : AreAlike (IsMade names q s) (take i parts) h.more = alike_so on (take i parts) h.more (any_goal (take i parts)) h.nodes in
+    record {
+      more = h.more ++ n ∷ [];
+      are = ap (λ (xs : List (Node _)). xs ++ n ∷ []) h.are ∙ append_assoc old h.more (n ∷ []);
+      nodes = subst (λ xs. AreAlike (IsMade names q s) xs (h.more ++ n ∷ [])) (sym next) (alike_push (IsMade names q s) (take i parts) h.more part n before made.is);
+    }
+
+-- the next part fits
+pub fits_next : (names : List (List ℕ)) (n : ℕ) (parts : List (Node Pattern)) (i : ℕ) (part : Node Pattern) → i < length parts → part ≡ get_or parts i part → PartsFit names n (drop i parts) → IfGoal (GoalFits names n) part × PartsFit names n (drop (i + 1) parts)
+fits_next names n parts i part within is h =
+    let next : drop i parts ≡ part ∷ drop (i + 1) parts = rw (drop-cons parts i part within, ← is, add-one) refl in
+    subst (PartsFit names n) next h
+
+-- whether there are parts
+pub no_parts : {X : Type 0} (xs : List X) (b : Bool) → b ≡ length xs == 0 → b ≡ true → xs ≡ []
+no_parts [] b is e = refl
+no_parts (x ∷ xs) b is e = absurd (let none = eqb-true (length (x ∷ xs)) 0 (sym is ∙ e) in omega (arith, none))
+
+pub some_parts : {X : Type 0} (xs : List X) (b : Bool) → b ≡ length xs == 0 → b ≡ false → 0 < length xs
+some_parts [] b is e = absurd (true≢false (sym (eq-eqb 0 0 refl) ∙ (sym is ∙ e)))
+some_parts (x ∷ xs) b is e = omega arith
+
+-- where some parts were copied there are some nodes
+pub copies_some : {names : List (List ℕ)} {W : Type 0} {p : Present W} {s : Subst} {old new : List (Node W)} {parts : List (Node Pattern)} → Copies names p s old new parts → 0 < length parts → 0 < length new
+copies_some {names = names} {p = p} {s = s} {old = old} {new = new} {parts = parts} h some =
+    (let all = ap length h.are in let more = length-append old h.more in let same = alike_length (IsMade names p s) parts h.more h.nodes in omega (arith, all, more, same, some))
+
+-- ---- the copied parts of a body are the body, under the substitution
+
+module _ {W : Type 0} (names : List (List ℕ)) (q : Present W) (s : Subst) (n : ℕ) where
+  -- a goal that can be kept was made
+  abbrev IsKeptMade : Pattern → W → Type 0
+  IsKeptMade g w = IsKeptGoal names n g × IsMade names q s g w
+
+  kept_means : (g : Pattern) (w : W) (t : Tree) → IsKeptMade g w → IsPatternOf names g t → IsGoalWord q w (apply s t)
+  kept_means g w t h is = (h.1.0, ap (apply s) (sym (term_is names g t is)) ∙ sym h.1.1)
+
+  pub placed_body : (old new : List (Node W)) (parts : List (Node Pattern)) (b : Body) (place : ℕ) → EndsWith (IsPatternOf names) parts b → EachGoal (IsKeptGoal names n) parts → Copies names q s old new parts → place + 1 ≡ length new
+      → IsBody q new place (map_body s b)
+  placed_body old new parts b place ends goals copies last =
+      let gives : (g : Pattern) (w : W) → IsKeptGoal names n g → IsMade names q s g w → IsKeptMade g w = λ g w kept made. (kept, made) in
+      let alike : AreAlike IsKeptMade parts copies.more = alike_so gives parts copies.more goals copies.nodes in
+      let tree : IsBody q (old ++ copies.more) (length old + (length parts - 1)) (map_body s b) = tree_alike IsKeptMade s kept_means old copies.more alike ends.last in
+      let many = alike_length IsKeptMade parts copies.more alike in
+      let all = ap length copies.are in
+      let sum = length-append old copies.more in
+      let here : length old + (length parts - 1) ≡ place = omega (arith, many, all, sum, last, ends.some) in
+      subst (λ k. IsBody q new k (map_body s b)) here (subst (λ xs. IsBody q xs (length old + (length parts - 1)) (map_body s b)) (sym copies.are) tree)

@@ -1,0 +1,245 @@
+-- Bodies as lists of parts: parts that are alike are those of one body, also behind others.
+use Rattle.std.proofs.Common.{◌≡◌, ℕ, zero, suc, ◌+◌, ◌-◌, ◌<◌, List, [], ◌∷◌, ◌++◌, map, length, refl, sym, ap, ap₂, ◌∙◌, subst, arith, Some, option_map, get_or, take, add-one}
+use Rattle.std.proofs.Math.Seq.{take-suc}
+use Rattle.std.specs.List.{slice_get}
+use Rattle.std.specs.Borrow.{Bor}
+use Rattle.std.proofs.lemmas.List.{length-map, map-append}
+use Rattle.std.proofs.lemmas.Option.{slice_get-map}
+use Rattle.iso_model.specs.declared.terms.Term.{Term}
+use Rattle.iso_model.specs.Terms.Trees.{Tree, Variable}
+use Rattle.iso_model.specs.Terms.Unification.Applied.{apply_none}
+use Rattle.iso_model.specs.Terms.TermOf.{term_of}
+use Rattle.iso_model.specs.Terms.Substitutions.{Subst, apply}
+use Rattle.iso_model.specs.Search.Bodies.{Body, Cut, Run, And, Or, If, Choose, map_body}
+use Rattle.iso_prep.specs.declared.constructs.Construct.{Construct}
+use Rattle.iso_prep.specs.declared.constructs.Construct.TheVariants as construct
+use Rattle.iso_prep.specs.Trees as prepared
+use Rattle.iso_plain_core.specs.declared.bodies.Node.{Node}
+use Rattle.iso_plain_core.specs.declared.bodies.Node.TheVariants as node
+use Rattle.iso_plain_core.specs.Nodes.{At, IsTree, runs, cuts, joins, branches, commits, chooses, EndsWith, IsAlike, AreAlike, IfGoal, EachGoal, IsTermOf, shown, IsGoalCopy, goals_in}
+
+-- ---- parts that are alike
+
+module _ {G H : Type 0} (R : G → H → Type 0) where
+  pub alike_push : (xs : List (Node G)) (ys : List (Node H)) (x : Node G) (y : Node H) → AreAlike R xs ys → IsAlike R x y → AreAlike R (xs ++ x ∷ []) (ys ++ y ∷ [])
+  alike_push [] [] x y h is = (is, tt)
+  alike_push [] (z ∷ ys) x y h is = absurd h
+  alike_push (w ∷ xs) [] x y h is = absurd h
+  alike_push (w ∷ xs) (z ∷ ys) x y h is = (h.0, alike_push xs ys x y h.1 is)
+
+  pub alike_length : (xs : List (Node G)) (ys : List (Node H)) → AreAlike R xs ys → length xs ≡ length ys
+  alike_length [] [] h = refl
+  alike_length [] (y ∷ ys) h = absurd h
+  alike_length (x ∷ xs) [] h = absurd h
+  alike_length (x ∷ xs) (y ∷ ys) h = ap suc (alike_length xs ys h.1)
+
+  -- the part at a place, and the one that is like it behind other parts
+  record Partner (x : Node G) (ys : List (Node H)) (i : ℕ) : Type 0 where
+    part : Node H
+    at : slice_get ys i ≡ Some part
+    is : IsAlike R x part
+
+  partner : (front : List (Node H)) (xs : List (Node G)) (ys : List (Node H)) (i : ℕ) (x : Node G) → AreAlike R xs ys → slice_get xs i ≡ Some x → Partner x (front ++ ys) (length front + i)
+  partner (z ∷ front) xs ys i x h at =
+      let there = partner front xs ys i x h at in
+      let place : length (z ∷ front) + i ≡ suc (length front + i) = omega arith in
+      record { part = there.part; at = ap (slice_get (z ∷ (front ++ ys))) place ∙ there.at; is = there.is }
+  partner [] [] [] i x h at = cc
+  partner [] [] (y ∷ ys) i x h at = absurd h
+  partner [] (w ∷ xs) [] i x h at = absurd h
+  partner [] (w ∷ xs) (y ∷ ys) zero x h at =
+      let same : w ≡ x = cc in
+      record { part = y; at = refl; is = subst (λ z. IsAlike R z y) same h.0 }
+  partner [] (w ∷ xs) (y ∷ ys) (suc i) x h at =
+      let there = partner [] xs ys i x h.1 at in
+      let place : 0 + suc i ≡ suc (0 + i) = omega arith in
+      record { part = there.part; at = ap (slice_get (y ∷ ys)) place ∙ there.at; is = there.is }
+
+-- ---- a part that is like one of a kind
+
+module _ {G H : Type 0} (R : G → H → Type 0) where
+  abbrev Goal_like : G → Node H → Type 0
+  Goal_like g y = (h : H) × (y ≡ node.Run h) × R g h
+
+  goal_like : (g : G) (y : Node H) → IsAlike R (node.Run g) y → Goal_like g y
+  goal_like g (node.Run h) is = (h, refl, is)
+  goal_like g node.Cut is = absurd is
+  goal_like g (node.And e) is = absurd is
+  goal_like g (node.Or e) is = absurd is
+  goal_like g (node.If e) is = absurd is
+  goal_like g (node.Choose b e) is = absurd is
+
+  cut_like : (y : Node H) → IsAlike R node.Cut y → y ≡ node.Cut
+  cut_like (node.Run h) is = absurd is
+  cut_like node.Cut is = refl
+  cut_like (node.And e) is = absurd is
+  cut_like (node.Or e) is = absurd is
+  cut_like (node.If e) is = absurd is
+  cut_like (node.Choose b e) is = absurd is
+
+  and_like : (d : ℕ) (y : Node H) → IsAlike R (node.And d) y → y ≡ node.And d
+  and_like d (node.Run h) is = absurd is
+  and_like d node.Cut is = absurd is
+  and_like d (node.And e) is = ap node.And (sym is)
+  and_like d (node.Or e) is = absurd is
+  and_like d (node.If e) is = absurd is
+  and_like d (node.Choose b e) is = absurd is
+
+  or_like : (d : ℕ) (y : Node H) → IsAlike R (node.Or d) y → y ≡ node.Or d
+  or_like d (node.Run h) is = absurd is
+  or_like d node.Cut is = absurd is
+  or_like d (node.And e) is = absurd is
+  or_like d (node.Or e) is = ap node.Or (sym is)
+  or_like d (node.If e) is = absurd is
+  or_like d (node.Choose b e) is = absurd is
+
+  if_like : (d : ℕ) (y : Node H) → IsAlike R (node.If d) y → y ≡ node.If d
+  if_like d (node.Run h) is = absurd is
+  if_like d node.Cut is = absurd is
+  if_like d (node.And e) is = absurd is
+  if_like d (node.Or e) is = absurd is
+  if_like d (node.If e) is = ap node.If (sym is)
+  if_like d (node.Choose b e) is = absurd is
+
+  choose_like : (c d : ℕ) (y : Node H) → IsAlike R (node.Choose c d) y → y ≡ node.Choose c d
+  choose_like c d (node.Run h) is = absurd is
+  choose_like c d node.Cut is = absurd is
+  choose_like c d (node.And e) is = absurd is
+  choose_like c d (node.Or e) is = absurd is
+  choose_like c d (node.If e) is = absurd is
+  choose_like c d (node.Choose b e) is = ap₂ node.Choose (sym is.0) (sym is.1)
+
+-- where each goal of the first parts is such, parts that are alike are also alike in this way
+module _ {G H : Type 0} {P : G → Type 0} {R Q : G → H → Type 0} (gives : (g : G) (h : H) → P g → R g h → Q g h) where
+  part_alike : (x : Node G) (y : Node H) → IfGoal P x → IsAlike R x y → IsAlike Q x y
+  part_alike (node.Run g) (node.Run h) p r = gives g h p r
+  part_alike node.Cut node.Cut p r = r
+  part_alike (node.And d) (node.And e) p r = r
+  part_alike (node.Or d) (node.Or e) p r = r
+  part_alike (node.If d) (node.If e) p r = r
+  part_alike (node.Choose c d) (node.Choose b e) p r = r
+  part_alike x y p r = absurd r
+
+  pub alike_so : (xs : List (Node G)) (ys : List (Node H)) → EachGoal P xs → AreAlike R xs ys → AreAlike Q xs ys
+  alike_so [] [] p r = tt
+  alike_so [] (y ∷ ys) p r = absurd r
+  alike_so (x ∷ xs) [] p r = absurd r
+  alike_so (x ∷ xs) (y ∷ ys) p r = (part_alike x y p.0 r.0, alike_so xs ys p.1 r.1)
+
+pub each_goal : {G : Type 0} {P Q : G → Type 0} → ((g : G) → P g → Q g) → (xs : List (Node G)) → EachGoal P xs → EachGoal Q xs
+each_goal gives [] h = tt
+each_goal gives (node.Run g ∷ xs) h = (gives g h.0, each_goal gives xs h.1)
+each_goal gives (node.Cut ∷ xs) h = (tt, each_goal gives xs h.1)
+each_goal gives (node.And d ∷ xs) h = (tt, each_goal gives xs h.1)
+each_goal gives (node.Or d ∷ xs) h = (tt, each_goal gives xs h.1)
+each_goal gives (node.If d ∷ xs) h = (tt, each_goal gives xs h.1)
+each_goal gives (node.Choose c d ∷ xs) h = (tt, each_goal gives xs h.1)
+
+pub any_goal : {G : Type 0} (xs : List (Node G)) → EachGoal (λ g. Unit {0}) xs
+any_goal [] = tt
+any_goal (node.Run g ∷ xs) = (tt, any_goal xs)
+any_goal (node.Cut ∷ xs) = (tt, any_goal xs)
+any_goal (node.And d ∷ xs) = (tt, any_goal xs)
+any_goal (node.Or d ∷ xs) = (tt, any_goal xs)
+any_goal (node.If d ∷ xs) = (tt, any_goal xs)
+any_goal (node.Choose c d ∷ xs) = (tt, any_goal xs)
+
+-- a construct's parts are as far apart behind others
+behind_others : (n i k d : ℕ) → k ≡ i + d → n + k ≡ n + i + d
+behind_others n i k d e = omega arith
+
+-- ---- parts that are like those of a body are the body's, with the goals that they stand for under a substitution
+
+module _ {G H : Type 0} {Stands : G → Tree → Type 0} {Means : H → Tree → Type 0} (R : G → H → Type 0) (s : Subst) (means : (g : G) (h : H) (t : Tree) → R g h → Stands g t → Means h (apply s t)) (front : List (Node H)) where
+  pub tree_alike : {xs : List (Node G)} (ys : List (Node H)) {k : ℕ} {b : Body} → AreAlike R xs ys → IsTree Stands xs k b → IsTree Means (front ++ ys) (length front + k) (map_body s b)
+  tree_alike {xs} ys {k} h (runs {g = g} {t = t} at stands) =
+      let p = partner R front xs ys k (node.Run g) h at.is in
+      let l = goal_like R g p.part p.is in
+      runs {g = l.0} (record { is = p.at ∙ ap Some l.1 }) (means g l.0 t l.2 stands)
+  tree_alike {xs} ys {k} h (cuts at) =
+      let p = partner R front xs ys k node.Cut h at.is in
+      cuts (record { is = p.at ∙ ap Some (cut_like R p.part p.is) })
+  tree_alike {xs} ys {k} h (joins {i = i} {j = j} {distance = d} at e f some first second) =
+      let p = partner R front xs ys k (node.And d) h at.is in
+      joins (record { is = p.at ∙ ap Some (and_like R d p.part p.is) }) (behind_others (length front) i k d e) (behind_others (length front) j k 1 f) some (tree_alike ys h first) (tree_alike ys h second)
+  tree_alike {xs} ys {k} h (branches {i = i} {j = j} {distance = d} at e f some first second) =
+      let p = partner R front xs ys k (node.Or d) h at.is in
+      branches (record { is = p.at ∙ ap Some (or_like R d p.part p.is) }) (behind_others (length front) i k d e) (behind_others (length front) j k 1 f) some (tree_alike ys h first) (tree_alike ys h second)
+  tree_alike {xs} ys {k} h (commits {i = i} {j = j} {distance = d} at e f some first second) =
+      let p = partner R front xs ys k (node.If d) h at.is in
+      commits (record { is = p.at ∙ ap Some (if_like R d p.part p.is) }) (behind_others (length front) i k d e) (behind_others (length front) j k 1 f) some (tree_alike ys h first) (tree_alike ys h second)
+  tree_alike {xs} ys {k} h (chooses {h = a} {i = i} {j = j} {condition = c} {next = d} at e f g some other first second third) =
+      let p = partner R front xs ys k (node.Choose c d) h at.is in
+      chooses (record { is = p.at ∙ ap Some (choose_like R c d p.part p.is) }) (behind_others (length front) a k c e) (behind_others (length front) i k d f) (behind_others (length front) j k 1 g) some other
+      (tree_alike ys h first) (tree_alike ys h second) (tree_alike ys h third)
+
+-- goals that stand for terms in another way
+pub tree_keep : {G : Type 0} {Old New : G → Tree → Type 0} {parts : List (Node G)} {i : ℕ} {b : Body} → ((g : G) (t : Tree) → Old g t → New g t) → IsTree Old parts i b → IsTree New parts i b
+tree_keep keeps (runs {g = g} {t = t} at stands) = runs at (keeps g t stands)
+tree_keep keeps (cuts at) = cuts at
+tree_keep keeps (joins at first second some a b) = joins at first second some (tree_keep keeps a) (tree_keep keeps b)
+tree_keep keeps (branches at first second some a b) = branches at first second some (tree_keep keeps a) (tree_keep keeps b)
+tree_keep keeps (commits at first second some a b) = commits at first second some (tree_keep keeps a) (tree_keep keeps b)
+tree_keep keeps (chooses at first second third some also a b c) = chooses at first second third some also (tree_keep keeps a) (tree_keep keeps b) (tree_keep keeps c)
+
+-- ---- bodies that were made ready
+
+-- the goal that the borrowed term is
+abbrev pub IsBorrowed : Bor Term → Tree → Type 0
+IsBorrowed g t = t ≡ term_of g.now
+
+at_shown : (cs : List Construct) (k : ℕ) (c : Construct) → prepared.At cs k c → At (map shown cs) k (shown c)
+at_shown cs k c at = record { is = slice_get-map shown cs k ∙ ap (option_map shown) at.is }
+
+pub tree_shown : {cs : List Construct} {k : ℕ} {b : Body} → prepared.IsTree cs k b → IsTree IsBorrowed (map shown cs) k b
+tree_shown {cs} {k} (prepared.cuts at) = cuts (at_shown cs k construct.Cut at)
+tree_shown {cs} {k} (prepared.runs {g = g} at) = runs (at_shown cs k (construct.Goal g) at) refl
+tree_shown {cs} {k} (prepared.joins {distance = d} at e f some first second) = joins (at_shown cs k (construct.And d) at) e f some (tree_shown first) (tree_shown second)
+tree_shown {cs} {k} (prepared.branches {distance = d} at e f some first second) = branches (at_shown cs k (construct.Or d) at) e f some (tree_shown first) (tree_shown second)
+tree_shown {cs} {k} (prepared.commits {distance = d} at e f some first second) = commits (at_shown cs k (construct.If d) at) e f some (tree_shown first) (tree_shown second)
+tree_shown {cs} {k} (prepared.chooses {condition = c} {next = d} at e f g some other first second third) =
+    chooses (at_shown cs k (construct.Choose c d) at) e f g some other (tree_shown first) (tree_shown second) (tree_shown third)
+
+pub map_none : (b : Body) → map_body Variable b ≡ b
+map_none Cut = refl
+map_none (Run t) = ap Run (apply_none t)
+map_none (And a b) = ap₂ And (map_none a) (map_none b)
+map_none (Or a b) = ap₂ Or (map_none a) (map_none b)
+map_none (If a b) = ap₂ If (map_none a) (map_none b)
+map_none (Choose a b c) = λ i. Choose (map_none a i) (map_none b i) (map_none c i)
+
+-- the copied parts of a body are the body's
+pub copied_ends : (cs : List Construct) (ns : List (Node Term)) (b : Body) → AreAlike IsGoalCopy (map shown cs) ns → prepared.EndsWith cs b → EndsWith IsTermOf ns b
+copied_ends cs ns b h ends =
+    let many : length cs ≡ length ns = sym (length-map cs shown) ∙ alike_length IsGoalCopy (map shown cs) ns h in
+    let means : (g : Bor Term) (n : Term) (t : Tree) → IsGoalCopy g n → IsBorrowed g t → IsTermOf n (apply Variable t) = λ g n t copy is. apply_none t ∙ is ∙ sym copy in
+    let tree : IsTree IsTermOf ns (0 + (length cs - 1)) (map_body Variable b) = tree_alike IsGoalCopy Variable means [] ns h (tree_shown ends.last) in
+    let place : 0 + (length cs - 1) ≡ length ns - 1 = omega (arith, many) in
+    record {
+      some = omega (arith, many, ends.some);
+      last = subst (λ k. IsTree IsTermOf ns k b) place (subst (λ c. IsTree IsTermOf ns (0 + (length cs - 1)) c) (map_none b) tree);
+    }
+
+-- and they have its goals
+pub copied_goals : (cs : List Construct) (ns : List (Node Term)) → AreAlike IsGoalCopy (map shown cs) ns → goals_in ns ≡ prepared.goals_in cs
+copied_goals [] [] h = refl
+copied_goals [] (n ∷ ns) h = absurd h
+copied_goals (c ∷ cs) [] h = absurd h
+copied_goals (construct.Goal g ∷ cs) (node.Run n ∷ ns) h = ap₂ ◌∷◌ h.0 (copied_goals cs ns h.1)
+copied_goals (construct.Goal g ∷ cs) (node.Cut ∷ ns) h = absurd h.0
+copied_goals (construct.Goal g ∷ cs) (node.And e ∷ ns) h = absurd h.0
+copied_goals (construct.Goal g ∷ cs) (node.Or e ∷ ns) h = absurd h.0
+copied_goals (construct.Goal g ∷ cs) (node.If e ∷ ns) h = absurd h.0
+copied_goals (construct.Goal g ∷ cs) (node.Choose b e ∷ ns) h = absurd h.0
+copied_goals (construct.Cut ∷ cs) (n ∷ ns) h = ap (λ x. goals_in (x ∷ ns)) (cut_like IsGoalCopy n h.0) ∙ copied_goals cs ns h.1
+copied_goals (construct.And d ∷ cs) (n ∷ ns) h = ap (λ x. goals_in (x ∷ ns)) (and_like IsGoalCopy d n h.0) ∙ copied_goals cs ns h.1
+copied_goals (construct.Or d ∷ cs) (n ∷ ns) h = ap (λ x. goals_in (x ∷ ns)) (or_like IsGoalCopy d n h.0) ∙ copied_goals cs ns h.1
+copied_goals (construct.If d ∷ cs) (n ∷ ns) h = ap (λ x. goals_in (x ∷ ns)) (if_like IsGoalCopy d n h.0) ∙ copied_goals cs ns h.1
+copied_goals (construct.Choose c d ∷ cs) (n ∷ ns) h = ap (λ x. goals_in (x ∷ ns)) (choose_like IsGoalCopy c d n h.0) ∙ copied_goals cs ns h.1
+
+-- one part more
+pub shown_push : (cs : List Construct) (ns : List (Node Term)) (i : ℕ) (c : Construct) (n : Node Term) → i < length cs → c ≡ get_or cs i c → AreAlike IsGoalCopy (map shown (take i cs)) ns → IsAlike IsGoalCopy (shown c) n
+    → AreAlike IsGoalCopy (map shown (take (i + 1) cs)) (ns ++ n ∷ [])
+shown_push cs ns i c n within is h here =
+    let next : take (i + 1) cs ≡ take i cs ++ c ∷ [] = rw (add-one, take-suc cs i c within, ← is) refl in
+    subst (λ xs. AreAlike IsGoalCopy xs (ns ++ n ∷ [])) (sym (ap (map shown) next ∙ map-append shown (take i cs) (c ∷ []))) (alike_push IsGoalCopy (map shown (take i cs)) ns (shown c) n h here)

@@ -1,0 +1,18 @@
+use Rattle.iso_plain_core.proofs.ControlNames.{gathered}
+use Rattle.iso_plain_core.proofs.controls.Controls.new.Goals as goal
+
+pub returns-in_err-intern-5-clause-names : goal.returns-in_err-intern-5-clause-names
+returns-in_err-intern-5-clause-names g c = λ place text h.
+    c.in_err-intern-5.ensures.names place text (c.in_ok-intern-4.ensures.names place text (c.in_ok-intern-3.ensures.names place text (c.in_ok-intern-2.ensures.names place text (c.in_ok-intern.ensures.names place text h))))
+
+pub returns-clause-controls : goal.returns-clause-controls
+returns-clause-controls g c = gathered _ _ _ _ _ _ _ _ _ _
+    c.in_ok-intern.ensures.place
+    c.in_ok-intern-2.ensures.place c.in_ok-intern-2.ensures.names
+    c.in_ok-intern-3.ensures.place c.in_ok-intern-3.ensures.names
+    c.in_ok-intern-4.ensures.place c.in_ok-intern-4.ensures.names
+    c.in_ok-intern-5.ensures.place c.in_ok-intern-5.ensures.names
+
+pub returns-clause-names : goal.returns-clause-names
+returns-clause-names g c = λ place text h.
+    c.in_ok-intern-5.ensures.names place text (c.in_ok-intern-4.ensures.names place text (c.in_ok-intern-3.ensures.names place text (c.in_ok-intern-2.ensures.names place text (c.in_ok-intern.ensures.names place text h))))

@@ -1,0 +1,51 @@
+use Rattle.std.proofs.Common.{◌≡◌, ◌-◌, [], length, arith, rules, ◌∙◌}
+use Rattle.iso_model.specs.Search.Bodies.{converted}
+use Rattle.iso_store_core.specs.Presents.{meaning}
+use Rattle.iso_plain_core.proofs.EnteringLemmas.{extends_on}
+use Rattle.iso_plain_core.proofs.ConversionLemmas.{popped, popped_load, all_read, adds_on}
+use Rattle.iso_plain_core.proofs.conversion.convert.Goals as goal
+
+pub reading-preserved-in-Into : goal.reading-preserved-in-Into
+reading-preserved-in-Into g c =
+    let whole = converted (meaning (g.S.Store.present c.args.store.now) c.args.goal) in
+    let now = c.reading.invariant in
+    let step = c.in_ok-first-in-Some.ensures in
+    let works = rw c.in-Some.is at now.0 in
+    let read = rw c.in-Into.is at (step.reads whole works.1) in
+    (read.works, extends_on now.1 step.extends, adds_on _ _ _ now.2 step.nodes, step.names ∙ now.3, λ m p h. step.marks m p (now.4 m p h))
+
+pub reading-preserved-in-Whole : goal.reading-preserved-in-Whole
+reading-preserved-in-Whole g c =
+    let whole = converted (meaning (g.S.Store.present c.args.store.now) c.args.goal) in
+    let now = c.reading.invariant in
+    let step = c.in_ok-first-in-Some.ensures in
+    let works = rw c.in-Some.is at now.0 in
+    let read = rw c.in-Whole.is at (step.reads whole works.1) in
+    (read.works, extends_on now.1 step.extends, adds_on _ _ _ now.2 step.nodes, step.names ∙ now.3, λ m p h. step.marks m p (now.4 m p h))
+
+pub reading-smaller : goal.reading-smaller
+reading-smaller g c =
+    let q = g.S.Store.present c.reading.store in
+    let whole = converted (meaning (g.S.Store.present c.args.store.now) c.args.goal) in
+    let load = popped_load q c.pop.new.self.items c.reading.tasks.items c.in-Some-pop.task c.reading.next c.in-None.is c.in-Some-pop.ensures.items in
+    let p = popped q c.reading.nodes.items c.pop.new.self.items c.reading.tasks.items c.in-Some-pop.task c.reading.next whole c.in-None.is c.in-Some-pop.ensures.items c.reading.invariant.0 in
+    let less = (c.in_ok-next-in-Some-pop.ensures.goes_on q p.0 p.1 whole p.2 p.3 p.4).less in
+    omega (arith, load, less)
+
+pub reading-preserved : goal.reading-preserved
+reading-preserved g c =
+    let q = g.S.Store.present c.reading.store in
+    let whole = converted (meaning (g.S.Store.present c.args.store.now) c.args.goal) in
+    let now = c.reading.invariant in
+    let p = popped q c.reading.nodes.items c.pop.new.self.items c.reading.tasks.items c.in-Some-pop.task c.reading.next whole c.in-None.is c.in-Some-pop.ensures.items now.0 in
+    let on = c.in_ok-next-in-Some-pop.ensures in
+    ((on.goes_on q p.0 p.1 whole p.2 p.3 p.4).works, now.1, adds_on _ _ _ now.2 on.nodes, now.3, now.4)
+
+pub returns-in-None-pop-clause-converts : goal.returns-in-None-pop-clause-converts
+returns-in-None-pop-clause-converts g c =
+    let now = c.reading.invariant in
+    let done : c.reading.tasks.items ≡ [] = search rules in
+    let many = c.reading.nodes.ok.0 in
+    let last : c.saturating_sub.result ≡ length c.reading.nodes.items - 1 = omega arith in
+    all_read (g.S.Store.present c.args.store.now) (g.S.Store.present c.reading.store) c.args.nodes.now.items c.reading.nodes.items c.reading.tasks.items c.reading.next (converted (meaning (g.S.Store.present c.args.store.now) c.args.goal)) c.saturating_sub.result
+    now.0 c.in-None.is done now.1 now.2 last

@@ -1,0 +1,34 @@
+use Rattle.std.proofs.Common.{◌≡◌, length, refl, ap, ◌∙◌, subst}
+use Rattle.iso_model.specs.Terms.Substitutions.{Subst}
+use Rattle.iso_store_core.specs.Patterns.{at_places}
+use Rattle.iso_plain_core.specs.Entering.{CopiesPart, word_terms}
+use Rattle.iso_plain_core.proofs.PatternLemmas.{words_hold, words_kept}
+use Rattle.iso_plain_core.proofs.EnteringLemmas.{extends_none, extends_on, copies_none, copies_push, adds_none, adds_push, fits_next}
+use Rattle.iso_plain_core.proofs.entries.copy_parts.Goals as goal
+
+pub loop-part-init : goal.loop-part-init
+loop-part-init g c = record { names = refl; fits = c.requires.fits; copies = copies_none _ _ _; extends = extends_none _; nodes = adds_none _; marks = λ m p h. h }
+
+pub copied_part-requires-clause-fits : goal.copied_part-requires-clause-fits
+copied_part-requires-clause-fits g c =
+    rw c.loop-part.invariant.names (fits_next (g.S.Store.names c.args.store.now) (length c.args.variables.now) c.args.parts.now c.loop-part.part-index c.part-item.result c.loop-part-test.true c.part-item.is c.loop-part.invariant.fits).0
+
+pub copied_part-requires-clause-variables : goal.copied_part-requires-clause-variables
+copied_part-requires-clause-variables g c = words_hold c.args.variables.now c.loop-part.invariant.extends.words c.requires.variables
+
+pub loop-part-preserved : goal.loop-part-preserved
+loop-part-preserved g c =
+    let before = c.loop-part.invariant in
+    let p = g.S.Store.present c.args.store.now in
+    let q = g.S.Store.present c.loop-part.store in
+    let ws = c.args.variables.now in
+    let same : word_terms q ws ≡ word_terms p ws = ap at_places (words_kept ws before.extends.words c.requires.variables) in
+    let made = subst (λ (s : Subst). CopiesPart (g.S.Store.names c.args.store.now) q (g.S.Store.present c.copied_part.new.store) s c.part-item.result c.in_ok-node.node) same (rw before.names at c.in_ok-node.ensures.copies) in
+    record {
+      names = c.in_ok-node.ensures.names ∙ before.names;
+      fits = (fits_next (g.S.Store.names c.args.store.now) (length ws) c.args.parts.now c.loop-part.part-index c.part-item.result c.loop-part-test.true c.part-item.is before.fits).1;
+      copies = rw c.in_ok-push.ensures.items (copies_push _ _ c.args.parts.now c.loop-part.part-index c.part-item.result c.in_ok-node.node c.loop-part-test.true c.part-item.is before.copies made);
+      extends = extends_on before.extends made.extends;
+      nodes = rw c.in_ok-push.ensures.items (adds_push _ _ _ before.nodes);
+      marks = λ m p h. c.in_ok-node.ensures.marks m p (before.marks m p h);
+    }

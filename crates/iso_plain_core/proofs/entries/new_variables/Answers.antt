@@ -1,0 +1,22 @@
+use Rattle.std.proofs.Common.{◌≡◌, ◌+◌, refl, ap, ◌∙◌}
+use Rattle.iso_model.specs.Terms.Trees.{Variable}
+use Rattle.iso_plain_core.specs.Standing.{no_word}
+use Rattle.iso_plain_core.proofs.EnteringLemmas.{extends_none, extends_new, variables_push}
+use Rattle.iso_plain_core.proofs.StandingLemmas.{variables_more}
+use Rattle.iso_plain_core.proofs.entries.new_variables.Goals as goal
+
+pub loop-made-init : goal.loop-made-init
+loop-made-init g c = record { names = refl; variables = rw c.new-variables.ensures.items no_word; extends = extends_none _; marks = λ m p h. h }
+
+pub loop-made-preserved : goal.loop-made-preserved
+loop-made-preserved g c =
+    let before = c.loop-made.invariant in
+    let made = c.in_ok-word.ensures.made in
+    let next = c.in_ok-word.ensures.numbers in
+    let number : (g.S.Store.present c.loop-made.store).next ≡ (g.S.Store.present c.args.store.now).next + c.loop-made._made = before.extends.next in
+    record {
+      names = c.in_ok-word.ensures.names ∙ before.names;
+      variables = rw c.in_ok-push.ensures.items (variables_push _ _ _ _ (variables_more made.words before.variables) made.holds (made.term ∙ ap Variable number));
+      extends = extends_new before.extends made next;
+      marks = λ m p h. c.in_ok-word.ensures.marks m p (before.marks m p h);
+    }

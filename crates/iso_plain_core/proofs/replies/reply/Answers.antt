@@ -1,0 +1,77 @@
+use Rattle.std.proofs.Common.{◌≡◌, arith}
+use Rattle.std.proofs.lemmas.Result.{IfOk-weaker}
+use Rattle.iso_model.specs.Terms.Arguments.{arity}
+use Rattle.iso_store_core.specs.Presents.{meaning}
+use Rattle.iso_plain_core.proofs.ArityLemmas.{built_in_arguments}
+use Rattle.iso_plain_core.proofs.ReplyLemmas.{call_body, call_error, once_body, once_error, not_body, not_error, catch_placed, halt_replied}
+use Rattle.iso_model.specs.Search.BuiltIns.{reply}
+use Rattle.iso_model.specs.declared.built_ins.BuiltIn.TheVariants as built_in
+use Rattle.iso_plain_core.proofs.replies.reply.Goals as goal
+
+pub place_called-requires-clause-some : goal.place_called-requires-clause-some
+place_called-requires-clause-some g c = (rw c.in-Call.is at (built_in_arguments (meaning (g.S.Store.present c.args.store.now) c.args.goal) c.args.built_in c.requires.built_in)).0
+
+pub place_argument-requires-clause-some : goal.place_argument-requires-clause-some
+place_argument-requires-clause-some g c =
+    let one : arity (meaning (g.S.Store.present c.args.store.now) c.args.goal) ≡ 1 = rw c.in-Once.is at (built_in_arguments _ c.args.built_in c.requires.built_in) in
+    omega (arith, one)
+
+pub place_argument-requires-in-Not-clause-some : goal.place_argument-requires-in-Not-clause-some
+place_argument-requires-in-Not-clause-some g c =
+    let one : arity (meaning (g.S.Store.present c.args.store.now) c.args.goal) ≡ 1 = rw c.in-Not.is at (built_in_arguments _ c.args.built_in c.requires.built_in) in
+    omega (arith, one)
+
+pub returns-in-Body-clause-replies : goal.returns-in-Body-clause-replies
+returns-in-Body-clause-replies g c =
+    rw c.in-Call.is (call_body _ _ _ _ (meaning (g.S.Store.present c.args.store.now) c.args.goal) c.in-Body.place (rw c.in-Body.is at c.in_ok-place-in-Call.ensures.placed))
+
+pub returns-in-Raises-clause-replies : goal.returns-in-Raises-clause-replies
+returns-in-Raises-clause-replies g c =
+    let kept = rw c.in-Raises.is at c.in_ok-place-in-Call.ensures.raises in
+    rw c.in-Call.is (call_error _ _ _ _ (meaning (g.S.Store.present c.args.store.now) c.args.goal) c.in-Raises.ball (rw c.in-Raises.is at c.in_ok-place-in-Call.ensures.placed) kept.0 kept.1 c.in_ok-place-in-Call.ensures.nodes)
+
+pub returns-in-Body-2-clause-replies : goal.returns-in-Body-2-clause-replies
+returns-in-Body-2-clause-replies g c =
+    rw c.in-Once.is (once_body _ _ _ _ (meaning (g.S.Store.present c.args.store.now) c.args.goal) c.in-Body-2.place (rw c.in-Body-2.is at c.in_ok-place-in-Once.ensures.placed))
+
+pub returns-in-Raises-2-clause-replies : goal.returns-in-Raises-2-clause-replies
+returns-in-Raises-2-clause-replies g c =
+    let kept = rw c.in-Raises-2.is at c.in_ok-place-in-Once.ensures.raises in
+    rw c.in-Once.is (once_error _ _ _ _ (meaning (g.S.Store.present c.args.store.now) c.args.goal) c.in-Raises-2.ball (rw c.in-Raises-2.is at c.in_ok-place-in-Once.ensures.placed) kept.0 kept.1 c.in_ok-place-in-Once.ensures.nodes)
+
+pub returns-in-Body-3-clause-replies : goal.returns-in-Body-3-clause-replies
+returns-in-Body-3-clause-replies g c =
+    rw c.in-Not.is (not_body _ _ _ _ (meaning (g.S.Store.present c.args.store.now) c.args.goal) c.in-Body-3.place (rw c.in-Body-3.is at c.in_ok-place-in-Not.ensures.placed))
+
+pub returns-in-Raises-3-clause-replies : goal.returns-in-Raises-3-clause-replies
+returns-in-Raises-3-clause-replies g c =
+    let kept = rw c.in-Raises-3.is at c.in_ok-place-in-Not.ensures.raises in
+    rw c.in-Not.is (not_error _ _ _ _ (meaning (g.S.Store.present c.args.store.now) c.args.goal) c.in-Raises-3.ball (rw c.in-Raises-3.is at c.in_ok-place-in-Not.ensures.placed) kept.0 kept.1 c.in_ok-place-in-Not.ensures.nodes)
+
+pub library-requires-clause-arity : goal.library-requires-clause-arity
+library-requires-clause-arity g c = rw c.in-Library.is at (built_in_arguments (meaning (g.S.Store.present c.args.store.now) c.args.goal) c.args.built_in c.requires.built_in)
+
+-- ---- catches, balls and the session's end
+
+pub place_argument-requires-in-Catch-clause-some : goal.place_argument-requires-in-Catch-clause-some
+place_argument-requires-in-Catch-clause-some g c =
+    let three : arity (meaning (g.S.Store.present c.args.store.now) c.args.goal) ≡ 3 = rw c.in-Catch.is at (built_in_arguments _ c.args.built_in c.requires.built_in) in
+    omega (arith, three)
+
+pub thrown-requires-clause-some : goal.thrown-requires-clause-some
+thrown-requires-clause-some g c =
+    let one : arity (meaning (g.S.Store.present c.args.store.now) c.args.goal) ≡ 1 = rw c.in-Throw.is at (built_in_arguments _ c.args.built_in c.requires.built_in) in
+    omega (arith, one)
+
+pub halted-requires-clause-some : goal.halted-requires-clause-some
+halted-requires-clause-some g c =
+    let one : arity (meaning (g.S.Store.present c.args.store.now) c.args.goal) ≡ 1 = rw c.in-HaltWith.is at (built_in_arguments _ c.args.built_in c.requires.built_in) in
+    omega (arith, one)
+
+pub returns-in_ok-place_argument-in-Catch-clause-replies : goal.returns-in_ok-place_argument-in-Catch-clause-replies
+returns-in_ok-place_argument-in-Catch-clause-replies g c =
+    rw c.in-Catch.is (catch_placed _ _ _ _ (meaning (g.S.Store.present c.args.store.now) c.args.goal) c.in_ok-place_argument-in-Catch.field-0 c.in_ok-place_argument-in-Catch.ensures.placed c.in_ok-place_argument-in-Catch.ensures.raises c.in_ok-place_argument-in-Catch.ensures.nodes)
+
+pub returns-in-HaltWith-clause-replies : goal.returns-in-HaltWith-clause-replies
+returns-in-HaltWith-clause-replies g c =
+    rw c.in-HaltWith.is (IfOk-weaker c.halted.result _ _ (halt_replied (g.S.Store.present c.args.store.now) c.args.nodes.now.items (reply built_in.HaltWith (meaning (g.S.Store.present c.args.store.now) c.args.goal))) c.halted.ensures.halts)

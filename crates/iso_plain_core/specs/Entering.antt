@@ -1,0 +1,77 @@
+-- What entering a clause makes of a store and of the nodes.
+use Rattle.std.specs.Prelude.{◌≡◌, ℕ, ◌+◌, ◌<◌, List, [], ◌++◌, map, length, true}
+use Rattle.iso_model.specs.Terms.Trees.{Tree, Variable, arities_fit}
+use Rattle.iso_model.specs.Terms.Substitutions.{Subst, apply, compose}
+use Rattle.iso_model.specs.Terms.Unifiers.{Unifier, NeverEqual}
+use Rattle.iso_model.specs.Terms.Copies.{renamed}
+use Rattle.iso_store_core.specs.Presents.{Present, KeepsWords}
+use Rattle.iso_store_core.specs.Patterns.{HasPlaces, at_places}
+use Rattle.iso_store_core.specs.declared.patterns.Pattern.{Pattern}
+use Rattle.iso_plain_core.specs.Written.{IsWritten, term_in}
+use Rattle.iso_plain_core.specs.Nodes.{IsAlike, AreAlike, EachGoal}
+use Rattle.iso_plain_core.specs.declared.bodies.Node.{Node}
+use Rattle.iso_plain_core.specs.declared.clauses.Clause.{Clause}
+use Rattle.iso_plain_core.specs.declared.entries.Entered.{Entered}
+use Rattle.iso_plain_core.specs.declared.entries.Entered.TheVariants as entered
+
+-- The term can be made in a store, with its variables standing for n words.
+pub record Fits (n : ℕ) (t : Tree) : Type 0 where
+  pub arities : arities_fit t ≡ true
+  pub below : HasPlaces n t
+
+-- The pattern is written for such a term, where these are the names of the atoms.
+pub record GoalFits (names : List (List ℕ)) (n : ℕ) (g : Pattern) : Type 0 where
+  pub written : IsWritten names g
+  pub fits : Fits n (term_in names g)
+
+-- so are the goals among the parts
+abbrev pub PartsFit : List (List ℕ) → ℕ → List (Node Pattern) → Type 0
+PartsFit names n parts = EachGoal (GoalFits names n) parts
+
+-- Words and numbers come, no binding changes.
+pub record Extends {W : Type 0} (p q : Present W) (count : ℕ) : Type 0 where
+  pub words : KeepsWords p q
+  pub substitution : q.substitution ≡ p.substitution
+  pub next : q.next ≡ p.next + count
+
+-- the terms of the words, by their places
+abbrev pub word_terms : {W : Type 0} → Present W → List W → Subst
+word_terms p ws = at_places (map p.term ws)
+
+-- the word stands for the goal under the substitution
+abbrev pub IsMade : {W : Type 0} → List (List ℕ) → Present W → Subst → Pattern → W → Type 0
+IsMade names p s g w = (p.holds w ≡ true) × (p.term w ≡ apply s (term_in names g))
+
+-- A node comes for the part.
+pub record CopiesPart {W : Type 0} (names : List (List ℕ)) (p q : Present W) (s : Subst) (part : Node Pattern) (n : Node W) : Type 0 where
+  pub extends : Extends p q 0
+  pub is : IsAlike (IsMade names q s) part n
+
+-- items that were added at the end
+abbrev pub Adds : {X : Type 0} → List X → List X → Type 0
+Adds {X} old new = (more : List X) × (new ≡ old ++ more)
+
+-- Nodes for the parts were added at the end.
+pub record Copies {W : Type 0} (names : List (List ℕ)) (p : Present W) (s : Subst) (old new : List (Node W)) (parts : List (Node Pattern)) : Type 0 where
+  pub more : List (Node W)
+  pub are : new ≡ old ++ more
+  pub nodes : AreAlike (IsMade names p s) parts more
+
+-- The head, with its variables new, was unified with the call, and the store is under the unifier.
+pub record Meets {W : Type 0} (p q : Present W) (call head : Tree) (count : ℕ) : Type 0 where
+  pub unifier : Subst
+  pub is : Unifier (apply p.substitution call) (apply p.substitution (renamed p.next head)) unifier
+  pub substitution : q.substitution ≡ compose p.substitution unifier
+  pub next : q.next ≡ p.next + count
+  pub words : KeepsWords p q
+
+-- each variable by its new one
+abbrev pub renaming_from : ℕ → Subst
+renaming_from n x = Variable (n + x)
+
+-- What trying the clause for a call comes to.
+abbrev pub Enters : {W : Type 0} → List (List ℕ) → Present W → Present W → List (Node W) → List (Node W) → Tree → Clause → Entered → Type 0
+Enters names p q old new call clause entered.Missed = NeverEqual (apply p.substitution call) (apply p.substitution (renamed p.next (term_in names clause.head)))
+Enters names p q old new call clause entered.Fact = Meets p q call (term_in names clause.head) clause.variables × (clause.parts.items ≡ [])
+Enters names p q old new call clause (entered.Body place) =
+    Meets p q call (term_in names clause.head) clause.variables × Copies names q (renaming_from p.next) old new clause.parts.items × (place + 1 ≡ length new) × (0 < length clause.parts.items)

@@ -1,0 +1,103 @@
+-- Clauses as the engine keeps them, and the checks by which they come.
+use Rattle.std.specs.Prelude.{◌≡◌, ℕ, ◌<◌, ◌≤◌, List, [], ◌∷◌, Some, Result, Ok, Err, true, false}
+use Rattle.iso_model.specs.Terms.Trees.{Tree}
+use Rattle.iso_model.specs.Terms.Sorts.{is_term}
+use Rattle.iso_model.specs.Terms.TermOf.{term_of}
+use Rattle.iso_model.specs.Terms.Variables.{occurs}
+use Rattle.iso_model.specs.Search.Bodies.{Body}
+use Rattle.iso_model.specs.Search.Databases as databases
+use Rattle.iso_model.specs.Search.Databases.{Key, key_of}
+use Rattle.iso_model.specs.Search.BuiltIns.{is_built_in}
+use Rattle.iso_model.specs.Search.Errors.{permission_error}
+use Rattle.iso_model.specs.Search.Additions.{most_variables, consult_key, Check, Fits, Faulty, UnboundHead, NotCallable, TooManyVariables, checked, prepared, fault_error, clause_of}
+use Rattle.iso_model.specs.declared.terms.Term.{Term}
+use Rattle.iso_model.specs.declared.pauses.AddFault.{AddFault}
+use Rattle.iso_model.specs.declared.pauses.AddFault.TheVariants as add
+use Rattle.iso_prep.specs.declared.fault.Fault.{Fault}
+use Rattle.iso_prep.specs.declared.fault.Fault.TheVariants as fault
+use Rattle.iso_prep.specs.Preparations.{Preparation, clause_preparation}
+use Rattle.iso_store_core.specs.declared.patterns.Pattern.{Pattern}
+use Rattle.iso_plain_core.specs.declared.clauses.Checked.{Checked}
+use Rattle.iso_plain_core.specs.declared.clauses.Clause.{Clause}
+use Rattle.iso_plain_core.specs.Written.{IsPatternOf, IsWritten, term_in}
+use Rattle.iso_plain_core.specs.Nodes.{ArePartsOf, EachGoal, IsTermOf}
+
+-- A callable term whose variables are below n.
+pub record IsTemplate (n : ℕ) (t : Tree) : Type 0 where
+  pub is : is_term t ≡ true
+  pub key : (k : Key) × (key_of t ≡ Some k)
+  pub below : (x : ℕ) → occurs x t ≡ true → x < n
+
+-- Each of the terms is one.
+abbrev pub AreTemplates : ℕ → List Tree → Type 0
+AreTemplates n [] = Unit {0}
+AreTemplates n (t ∷ ts) = IsTemplate n t × AreTemplates n ts
+
+-- the Rust term is one
+abbrev pub IsCheckedGoal : ℕ → Term → Type 0
+IsCheckedGoal n g = IsTemplate n (term_of g)
+
+-- What was checked is the clause of the database.
+pub record IsChecked (kept : Checked) (c : databases.Clause) : Type 0 where
+  pub head : term_of kept.head ≡ c.head
+  pub parts : ArePartsOf IsTermOf kept.parts.items c.body
+  pub variables : kept.variables ≡ c.variables
+  pub few : c.variables ≤ most_variables
+  pub head_template : IsTemplate c.variables c.head
+  pub goal_templates : EachGoal (IsCheckedGoal c.variables) kept.parts.items
+
+-- The pattern is written for one, where these are the names of the atoms.
+pub record IsKeptGoal (names : List (List ℕ)) (n : ℕ) (g : Pattern) : Type 0 where
+  pub written : IsWritten names g
+  pub template : IsTemplate n (term_in names g)
+
+-- The engine keeps the clause of the database so.
+pub record IsClause (names : List (List ℕ)) (kept : Clause) (c : databases.Clause) : Type 0 where
+  pub head : IsPatternOf names kept.head c.head
+  pub parts : ArePartsOf (IsPatternOf names) kept.parts.items c.body
+  pub variables : kept.variables ≡ c.variables
+  pub few : c.variables ≤ most_variables
+  pub head_template : IsTemplate c.variables c.head
+  pub goal_templates : EachGoal (IsKeptGoal names c.variables) kept.parts.items
+
+-- What was made ready is this clause, which fits but for its procedure.
+pub record IsReady (p : Preparation) (t : Tree) : Type 0 where
+  pub key : Key
+  pub body : Body
+  pub term : is_term t ≡ true
+  pub fits : prepared t ≡ Fits key body
+  pub is : p ≡ clause_preparation t body
+
+-- the checks found a fault, for which this is the error of a clause of the text
+abbrev pub IsRefused : Check → Tree → Type 0
+IsRefused (Fits k b) error = ⊥
+IsRefused (Faulty fault) error = fault_error consult_key fault ≡ error
+
+-- What refuses a clause that wasn't made ready for this reason.
+abbrev pub Refuses : Fault → AddFault → Type 0
+Refuses fault.Instantiation (add.Refused ball) = term_of ball.term ≡ fault_error consult_key UnboundHead
+Refuses (fault.Callable culprit) (add.Refused ball) = term_of ball.term ≡ fault_error consult_key (NotCallable (term_of culprit))
+Refuses fault.TooManyVariables (add.Refused ball) = term_of ball.term ≡ fault_error consult_key TooManyVariables
+Refuses fault.NoMemory (add.Refused ball) = ⊥
+Refuses fault add.NoMemory = Unit {0}
+
+-- The head is that of no built-in, or the clause is refused.
+abbrev pub ChecksUser : Key → Result Unit AddFault → Type 0
+ChecksUser k (Ok u) = is_built_in k ≡ false
+ChecksUser k (Err (add.Refused ball)) = (is_built_in k ≡ true) × (term_of ball.term ≡ permission_error k consult_key)
+ChecksUser k (Err add.NoMemory) = Unit {0}
+
+-- The clause may be added, whatever its number will be.
+pub record IsAddition (t : Tree) (kept : Checked) : Type 0 where
+  pub body : Body
+  pub key : Key
+  pub clause : (n : ℕ) → IsChecked kept (clause_of t body n)
+  pub named : key_of (term_of kept.head) ≡ Some key
+  pub user : is_built_in key ≡ false
+  pub fits : checked t ≡ Fits key body
+
+-- The clause is to be added, or refused with its error.
+abbrev pub Prepares : Tree → Result Checked AddFault → Type 0
+Prepares t (Ok kept) = IsAddition t kept
+Prepares t (Err (add.Refused ball)) = IsRefused (checked t) (term_of ball.term)
+Prepares t (Err add.NoMemory) = Unit {0}

@@ -1,0 +1,16 @@
+pub mod Nodes
+pub mod Standing
+pub mod Written
+pub mod Callables
+pub mod Entering
+pub mod Kept
+pub mod Programs
+pub mod Adding
+pub mod Next
+pub mod ClausePlaces
+pub mod Costs
+pub mod Replies
+pub mod GoalKinds
+pub mod Controls
+pub mod Vocabularies
+pub mod Conversions

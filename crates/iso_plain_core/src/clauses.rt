@@ -1,0 +1,128 @@
+//! Clauses as the engine keeps them: checked, converted, with their variables numbered 0, 1, .. (7.4, 7.6).
+ghost use Rattle.std.specs.Prelude.{◌≡◌, ◌<◌, ◌↔◌, ℕ, IsTrue, IfOk, MatchOption, codes, Some, None, true};
+ghost use Rattle.iso_model.specs.Terms.Trees.{Tree, Name, arities_fit};
+ghost use Rattle.iso_model.specs.Terms.TermOf.{term_of};
+ghost use Rattle.iso_model.specs.Search.Databases.{key_of};
+ghost use Rattle.iso_model.specs.Search.Errors.{key};
+ghost use Rattle.iso_prep.specs.Classes.{goals_of};
+ghost use Rattle.iso_plain_core.specs.Nodes.{ArePartsOf, EachGoal, IsTermOf};
+ghost use Rattle.iso_plain_core.specs.Kept.{AreTemplates, IsCheckedGoal, IsReady, Refuses, ChecksUser, Prepares};
+
+use super::bodies::{self, Node};
+use iso_lib::errors;
+use iso_model::{AddFault, Term, copied, is_built_in};
+use iso_prep::{Fault, Prepared};
+use iso_store_core::Pattern;
+use std::alloc::{AllocError, Global};
+
+/// A clause that was checked and converted: its variables are numbered 0, 1, .. by first occurrence, and a body `true` has no parts.
+#[derive(Drop)]
+pub struct Checked {
+    pub head: Term,
+    /// The converted body's parts, its own last.
+    pub parts: Vec<Node<Term>>,
+    pub variables: usize,
+}
+
+/// A clause ready to be tried: the same, with its terms written out for the store.
+#[derive(Drop)]
+pub struct Clause {
+    pub head: Pattern,
+    pub parts: Vec<Node<Pattern>>,
+    pub variables: usize,
+}
+
+/// Whether the body is `true`, as a fact's is.
+fn is_true(body: &Term) -> bool
+    ensures { IsTrue result ↔ (term_of body.now ≡ Name (codes "true")) }
+{
+    match body {
+        Term::Atom(name) => name.as_str() == "true",
+        _ => false,
+    }
+}
+
+/// The name and the number of arguments of a callable term.
+pub fn indicator_of(term: &Term) -> Option<(&str, usize)>
+    ensures { MatchOption result (key_of (term_of term.now) ≡ None)
+        (λ p. key_of (term_of term.now) ≡ Some (key p.0.now p.1)) }
+{
+    match term {
+        Term::Atom(name) => Some((name.as_str(), 0)),
+        Term::Compound(name, arguments) => Some((name.as_str(), arguments.len())),
+        Term::Var(_) | Term::Int(_) => None,
+    }
+}
+
+/// The parts of a body, none of one that is `true`; where the body's goals can be kept, so can those among the parts. The error is
+/// that memory was refused.
+fn parts_of(alloc: Global, prepared: &Prepared) -> Result<Vec<Node<Term>>, AllocError>
+    ensures parts { IfOk result (λ parts. ArePartsOf IsTermOf parts.items prepared.now.body) }
+    ensures goals { (n : ℕ) → AreTemplates n (goals_of prepared.now.body) → IfOk result (λ parts. EachGoal (IsCheckedGoal n) parts.items) }
+{
+    if is_true(prepared.body()) {
+        return Ok(Vec::new(alloc));
+    }
+    bodies::parts_of(alloc, prepared)
+}
+
+/// That the head is that of no built-in and of no control construct.
+fn check_user(alloc: Global, name: &str, arity: usize) -> Result<(), AddFault>
+    requires { arity < 256 }
+    ensures { ChecksUser (key name.now arity) result }
+{
+    if is_built_in(name, arity) {
+        return Err(AddFault::Refused(errors::static_procedure(alloc, name, arity)?));
+    }
+    Ok(())
+}
+
+/// The error by which a clause is refused that wasn't prepared for this reason, raised by `consult/1`.
+fn refusal(alloc: Global, fault: Fault) -> Result<AddFault, AllocError>
+    ensures { IfOk result (Refuses fault) }
+{
+    match fault {
+        Fault::Instantiation => Ok(AddFault::Refused(errors::instantiation(alloc, "consult", 1)?)),
+        Fault::Callable(culprit) => Ok(AddFault::Refused(errors::not_callable(
+            alloc, culprit, "consult", 1,
+        )?)),
+        Fault::TooManyVariables => Ok(AddFault::Refused(errors::too_many_variables(alloc)?)),
+        Fault::NoMemory => Ok(AddFault::NoMemory),
+    }
+}
+
+/// The prepared clause as it is kept. Refused where its head is that of a built-in or of a control construct.
+fn kept(alloc: Global, prepared: &Prepared) -> Result<Checked, AddFault>
+    requires { (t : Tree) × IsReady prepared.now t }
+    ensures { (t : Tree) → IsReady prepared.now t → Prepares t result }
+{
+    let Some(head) = prepared.head() else {
+        unreachable!();
+    };
+    let Some((name, arity)) = indicator_of(head) else {
+        unreachable!();
+    };
+    check_user(alloc, name, arity)?;
+    let head = copied(alloc, head)?;
+    let parts = parts_of(alloc, prepared)?;
+    Ok(Checked {
+        head,
+        parts,
+        variables: prepared.variables(),
+    })
+}
+
+/// The clause, checked and converted (8.9.2, with Info `consult/1`). Refused where the head is a variable
+/// (`instantiation_error`) or a number (`type_error(callable, Head)`), where the body can't be converted
+/// (`type_error(callable, Body)`), where there are more than 65,535 distinct variables
+/// (`representation_error(max_variables)`), or where the head is that of a built-in
+/// (`permission_error(modify, static_procedure, PI)`), checked in this order.
+pub fn prepare(alloc: Global, clause: &Term) -> Result<Checked, AddFault>
+    requires { arities_fit (term_of clause.now) ≡ true }
+    ensures { Prepares (term_of clause.now) result }
+{
+    match iso_prep::prepare(alloc, clause) {
+        Ok(prepared) => kept(alloc, &prepared),
+        Err(fault) => Err(refusal(alloc, fault)?),
+    }
+}

@@ -1,0 +1,146 @@
+//! The entry of a clause: its variables get new numbers, its head is unified with the goal, and the parts of its body are
+//! copied (7.7.10, 7.7.11).
+ghost use Rattle.std.specs.Prelude.{◌≡◌, ◌+◌, ◌<◌, ◌^◌, IfOk, OnOk, length, Err};
+ghost use Rattle.std.specs.List.{All};
+ghost use Rattle.iso_model.specs.Terms.Substitutions.{apply};
+ghost use Rattle.iso_model.specs.Terms.Copies.{numbers_from};
+ghost use Rattle.iso_store_core.specs.Presents.{KeepsMarks, KeepsNumbers, Makes, Holds};
+ghost use Rattle.iso_plain_core.specs.Standing.{AreVariables};
+ghost use Rattle.iso_plain_core.specs.Nodes.{IfGoal};
+ghost use Rattle.iso_plain_core.specs.Written.{term_in};
+ghost use Rattle.iso_plain_core.specs.Entering.{Enters, Extends, GoalFits, PartsFit, word_terms, CopiesPart, Copies, Adds};
+
+use super::bodies::Node;
+use super::clauses::Clause;
+use iso_store_core::{Pattern, Store, StoreFault};
+use std::alloc::Global;
+
+/// So many new variables, numbered from the next number on. The errors: the store is full, or memory was refused.
+pub fn new_variables<S: Store>(
+    alloc: Global,
+    store: &mut S,
+    count: usize,
+) -> Result<Vec<S::Word>, StoreFault>
+    requires { (S.present store.old).next + count < 2 ^ 63 }
+    ensures variables { IfOk result (λ ws. AreVariables (S.present store.new) ws.items (numbers_from (S.present store.old).next count)) }
+    ensures extends { IfOk result (λ _. Extends (S.present store.old) (S.present store.new) count) }
+    ensures full { result ≡ Err StoreFault.Full → S.full store.new }
+    ensures names { S.names store.new ≡ S.names store.old }
+    ensures marks { KeepsMarks (S.stands store.old) (S.stands store.new) }
+{
+    let mut variables = Vec::new(alloc);
+    for _made in 0..count {
+        let word = store.fresh()?;
+        variables.push(word)?;
+    }
+    Ok(variables)
+}
+
+/// The pattern's term in the store, with these words for its variables 0, 1, .. The errors: the store is full, or memory was refused.
+pub fn instantiate<S: Store>(
+    store: &mut S,
+    pattern: &Pattern,
+    variables: &[S::Word],
+) -> Result<S::Word, StoreFault>
+    requires fits { GoalFits (S.names store.old) (length variables.now) pattern.now }
+    requires variables { All (λ w. Holds (S.present store.old) w) variables.now }
+    ensures made { IfOk result (λ w. Makes (S.present store.old) (S.present store.new) w
+        (apply (word_terms (S.present store.old) variables.now) (term_in (S.names store.old) pattern.now))) }
+    ensures numbers { OnOk result (KeepsNumbers (S.present store.old) (S.present store.new)) }
+    ensures full { result ≡ Err StoreFault.Full → S.full store.new }
+    ensures names { S.names store.new ≡ S.names store.old }
+    ensures marks { KeepsMarks (S.stands store.old) (S.stands store.new) }
+{
+    store.instantiate(pattern, variables)
+}
+
+/// The part with its goal in the store, these words for its variables. The errors: the store is full, or memory was refused.
+fn copied_part<S: Store>(
+    store: &mut S,
+    part: &Node<Pattern>,
+    variables: &[S::Word],
+) -> Result<Node<S::Word>, StoreFault>
+    requires fits { IfGoal (GoalFits (S.names store.old) (length variables.now)) part.now }
+    requires variables { All (λ w. Holds (S.present store.old) w) variables.now }
+    ensures copies { IfOk result (CopiesPart (S.names store.old) (S.present store.old) (S.present store.new) (word_terms (S.present store.old) variables.now) part.now) }
+    ensures full { result ≡ Err StoreFault.Full → S.full store.new }
+    ensures names { S.names store.new ≡ S.names store.old }
+    ensures marks { KeepsMarks (S.stands store.old) (S.stands store.new) }
+{
+    match part {
+        Node::Run(goal) => Ok(Node::Run(instantiate(store, goal, variables)?)),
+        Node::Cut => Ok(Node::Cut),
+        Node::And(first) => Ok(Node::And(*first)),
+        Node::Or(first) => Ok(Node::Or(*first)),
+        Node::If(condition) => Ok(Node::If(*condition)),
+        Node::Choose(condition, next) => Ok(Node::Choose(*condition, *next)),
+    }
+}
+
+/// Appends the parts to the nodes, their goals made in the store with these words for their variables. The errors: the store is
+/// full, or memory was refused.
+pub fn copy_parts<S: Store>(
+    store: &mut S,
+    nodes: &mut Vec<Node<S::Word>>,
+    parts: &[Node<Pattern>],
+    variables: &[S::Word],
+) -> Result<(), StoreFault>
+    requires fits { PartsFit (S.names store.old) (length variables.now) parts.now }
+    requires variables { All (λ w. Holds (S.present store.old) w) variables.now }
+    ensures copies { OnOk result (Copies (S.names store.old) (S.present store.new) (word_terms (S.present store.old) variables.now) nodes.old.items nodes.new.items parts.now) }
+    ensures extends { OnOk result (Extends (S.present store.old) (S.present store.new) 0) }
+    ensures full { result ≡ Err StoreFault.Full → S.full store.new }
+    ensures nodes { Adds nodes.old.items nodes.new.items }
+    ensures names { S.names store.new ≡ S.names store.old }
+    ensures marks { KeepsMarks (S.stands store.old) (S.stands store.new) }
+{
+    for part in parts {
+        let node = copied_part(store, part, variables)?;
+        nodes.push(node)?;
+    }
+    Ok(())
+}
+
+/// What trying a clause comes to.
+#[derive(Clone, Copy)]
+pub enum Entered {
+    /// Its head doesn't unify with the goal.
+    Missed,
+    /// Its head was unified, and its body is `true`.
+    Fact,
+    /// Its head was unified, and its body is at this place of the nodes.
+    Body(usize),
+}
+
+/// Enters the clause for the goal (7.7.10): its head is unified with the goal, and its body's parts are appended. The errors: the
+/// store is full, or memory was refused.
+pub fn enter<S: Store>(
+    alloc: Global,
+    store: &mut S,
+    nodes: &mut Vec<Node<S::Word>>,
+    clause: &Clause,
+    goal: S::Word,
+) -> Result<Entered, StoreFault>
+    requires goal { Holds (S.present store.old) goal }
+    requires room { (S.present store.old).next + clause.now.variables < 2 ^ 63 }
+    requires head_fits { GoalFits (S.names store.old) clause.now.variables clause.now.head }
+    requires parts_fit { PartsFit (S.names store.old) clause.now.variables clause.now.parts.items }
+    ensures enters { IfOk result (Enters (S.names store.old) (S.present store.old) (S.present store.new) nodes.old.items nodes.new.items
+        ((S.present store.old).term goal) clause.now) }
+    ensures full { result ≡ Err StoreFault.Full → S.full store.new }
+    ensures nodes { Adds nodes.old.items nodes.new.items }
+    ensures names { S.names store.new ≡ S.names store.old }
+    ensures marks { KeepsMarks (S.stands store.old) (S.stands store.new) }
+{
+    let variables = new_variables(alloc, store, clause.variables)?;
+    let head = instantiate(store, &clause.head, variables.as_slice())?;
+    if !store.unify(goal, head)? {
+        return Ok(Entered::Missed);
+    }
+    let parts = clause.parts.as_slice();
+    copy_parts(store, nodes, parts, variables.as_slice())?;
+    if parts.is_empty() {
+        return Ok(Entered::Fact);
+    }
+    Ok(Entered::Body(nodes.len() - 1))
+}

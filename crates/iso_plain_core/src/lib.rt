@@ -1,0 +1,17 @@
+//! What the plain engine stands on: clauses as they are kept, goals converted in the store, and what is called under each name.
+#![tactic(auto)]
+
+// clauses as they are kept, and what is called under each name
+pub mod bodies;
+pub mod callables;
+pub mod clauses;
+pub mod procedures;
+pub mod writing;
+// goals, converted and answered in the store, and the parts of the engine
+pub mod controls;
+pub mod conversion;
+pub mod entries;
+pub mod goals;
+pub mod parts;
+pub mod replies;
+pub mod vocabulary;

@@ -1,0 +1,148 @@
+//! The engine's parts: the members of the list of goals, and choices.
+ghost use Rattle.std.specs.Prelude.{◌≡◌, ◌+◌, ◌≤◌, ◌++◌, ◌∷◌, [], IfOk, OnOk, OnErr, length};
+ghost use Rattle.iso_atoms.specs.Texts.{KeepsTexts};
+ghost use Rattle.iso_store_core.specs.Presents.{KeepsMarks};
+ghost use Rattle.iso_plain_core.specs.Next.{IsPlace, now_behind, now_entered};
+ghost use Rattle.iso_plain_core.specs.Standing.{GainsChoice};
+
+use super::entries::Entered;
+use iso_model::Limit;
+use iso_store_core::Store;
+use std::alloc::AllocError;
+
+/// What a member of the list of goals asks for.
+#[derive(Clone, Copy)]
+pub enum Todo {
+    /// To run the body at this place of the nodes.
+    Body(usize),
+    /// To take the choices away that were made since so many stood as the mark says.
+    CutBack,
+    /// To go back to the newest choice.
+    Fail,
+    /// To leave the catch whose choice has this mark for its place (7.8.9).
+    Leave,
+}
+
+/// A member of the list of goals, with its cut mark (how many choices stood when it came), and the place of the member
+/// behind it.
+#[derive(Clone, Copy)]
+pub struct Frame {
+    pub todo: Todo,
+    pub mark: usize,
+    pub next: Option<usize>,
+}
+
+/// A clause to be entered for a goal, and the place of the member behind the goal.
+#[derive(Clone, Copy)]
+pub struct Attempt<W> {
+    pub procedure: usize,
+    pub clause: usize,
+    pub goal: W,
+    pub rest: Option<usize>,
+}
+
+/// What is left to be tried at a choice.
+#[derive(Clone, Copy)]
+pub enum Left<W> {
+    /// The members from this place on, as they are.
+    AsIs(Option<usize>),
+    /// The members from this place on, again and again (8.15.3).
+    Again(Option<usize>),
+    /// The clauses from this one on.
+    Clauses(Attempt<W>),
+    /// Nothing: it is the entry of the catch that this goal calls, before the members from this place on (7.8.9).
+    Catching(W, Option<usize>),
+}
+
+/// What is left to be tried, and what to go back to first.
+#[derive(Clone, Copy)]
+pub struct Choice<W, M> {
+    pub mark: M,
+    /// How many nodes of bodies stood when it was made.
+    pub nodes: usize,
+    /// How many frames stood when it was made.
+    pub frames: usize,
+    pub left: Left<W>,
+}
+
+/// What the engine does next.
+#[derive(Clone, Copy)]
+pub enum Now {
+    /// Nothing: no goal was started, or its run has ended.
+    Idle,
+    /// Go on with the newest alternative.
+    Failing,
+    /// No member is left: give an answer.
+    Answering,
+    /// Do what this member asks for.
+    Running(Frame),
+    /// Throw the ball that was kept, past the members from this place on (7.8.10).
+    Raising(Option<usize>),
+    /// Nothing any more: this limit was met.
+    Spent(Limit),
+}
+
+/// To run the member at this place, or to give an answer where there is none.
+pub fn at(frames: &[Frame], place: Option<usize>) -> Now
+    requires { IsPlace frames.now place }
+    ensures { result ≡ now_behind frames.now place }
+{
+    match place {
+        Some(place) => Now::Running(frames[place]),
+        None => Now::Answering,
+    }
+}
+
+/// What to do behind a clause that was tried, with this cut mark, before the member at the place `rest`.
+pub fn behind(frames: &[Frame], entered: Entered, mark: usize, rest: Option<usize>) -> Now
+    requires { IsPlace frames.now rest }
+    ensures { result ≡ now_entered frames.now entered mark rest }
+{
+    match entered {
+        Entered::Missed => Now::Failing,
+        Entered::Fact => at(frames, rest),
+        Entered::Body(body) => Now::Running(Frame {
+            todo: Todo::Body(body),
+            mark,
+            next: rest,
+        }),
+    }
+}
+
+/// Appends the frame; the answer is its place. The error is that memory was refused.
+pub fn push_frame(frames: &mut Vec<Frame>, frame: Frame) -> Result<usize, AllocError>
+    ensures place { IfOk result (λ place. place ≡ length frames.old.items) }
+    ensures pushed { OnOk result (frames.new.items ≡ frames.old.items ++ frame ∷ []) }
+    ensures kept { OnErr result (frames.new.items ≡ frames.old.items) }
+{
+    let place = frames.len();
+    frames.push(frame)?;
+    Ok(place)
+}
+
+/// Appends a choice at which this is left to be tried, with a mark of the store as it is; so many nodes and frames stand. The
+/// error is that memory was refused.
+pub fn keep_choice<S: Store>(
+    store: &mut S,
+    choices: &mut Vec<Choice<S::Word, S::Mark>>,
+    left: Left<S::Word>,
+    nodes: usize,
+    frames: usize,
+) -> Result<(), AllocError>
+    ensures present { S.present store.new ≡ S.present store.old }
+    ensures names { KeepsTexts (S.names store.old) (S.names store.new) }
+    ensures marks { KeepsMarks (S.stands store.old) (S.stands store.new) }
+    ensures gains { OnOk result (GainsChoice (S.stands store.old) (S.stands store.new) S.older (S.present store.old) nodes frames left
+        choices.old.items choices.new.items) }
+    ensures kept { OnErr result (choices.new.items ≡ choices.old.items) }
+    ensures count { length choices.new.items ≤ length choices.old.items + 1 }
+{
+    let mark = store.mark();
+    choices.push(Choice {
+        mark,
+        nodes,
+        frames,
+        left,
+    })?;
+    Ok(())
+}

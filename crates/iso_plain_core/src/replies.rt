@@ -1,0 +1,160 @@
+//! What goals of the language's own procedures come to (7.8, 8).
+ghost use Rattle.std.specs.Prelude.{◌≡◌, ◌≢◌, ◌<◌, List, codes, true, IfOk, Err};
+ghost use Rattle.iso_model.specs.Search.Library.{library_reply};
+ghost use Rattle.iso_model.specs.Search.BuiltIns as table;
+ghost use Rattle.iso_atoms.specs.Texts.{KeepsTexts};
+ghost use Rattle.iso_store_core.specs.Presents.{Holds, meaning, KeepsMarks};
+ghost use Rattle.iso_lib.specs.Rows.{library_arity};
+ghost use Rattle.iso_plain_core.specs.GoalKinds.{IsBuiltIn};
+ghost use Rattle.iso_plain_core.specs.Vocabularies.{IsVocabulary};
+ghost use Rattle.iso_plain_core.specs.Replies.{IsReply, IsHalt};
+ghost use Rattle.iso_model.specs.Terms.Trees.{arities_fit};
+ghost use Rattle.iso_model.specs.Terms.TermOf.{term_of};
+ghost use Rattle.iso_model.specs.Terms.Arguments as arguments;
+ghost use Rattle.iso_model.specs.Search.Errors.{key};
+ghost use Rattle.iso_plain_core.specs.Entering.{Adds};
+
+use super::bodies::Node;
+use super::goals::{Placed, place_argument, place_called};
+use super::vocabulary::Vocabulary;
+use iso_lib::{Fault, Reply, builtin, errors};
+use iso_model::{Ball, BuiltIn, Library, NoMemory, Term};
+use iso_store_core::{Shape, Store, StoreFault};
+use std::alloc::Global;
+
+/// What a goal of a built-in comes to.
+#[derive(Drop)]
+pub enum Replied {
+    /// The search goes on behind it.
+    GoesOn,
+    /// It fails.
+    Fails,
+    /// This error is raised.
+    Raises(Ball),
+    /// The body at this place of the nodes is run, and a cut in it is local to it (7.8.3).
+    Calls(usize),
+    /// The same, for its first solution (8.15.2).
+    CallsOnce(usize),
+    /// The same, and it succeeds where the body has no solution (8.15.1).
+    Refutes(usize),
+    /// It succeeds each time that it is tried (8.15.3).
+    Repeats,
+    /// The same as what it holds, inside a catch: a body is run, or an error raised (7.8.9).
+    Catches(Placed),
+    /// The session ends with this status (8.17.3, 8.17.4).
+    Halts(u8),
+}
+
+/// Runs the goal of this built-in: what it comes to. The errors: the store is full, or memory was refused.
+pub fn reply<S: Store>(
+    alloc: Global,
+    store: &mut S,
+    vocabulary: &Vocabulary,
+    nodes: &mut Vec<Node<S::Word>>,
+    built_in: BuiltIn,
+    goal: S::Word,
+) -> Result<Replied, StoreFault>
+    requires goal { Holds (S.present store.old) goal }
+    requires built_in { IsBuiltIn (meaning (S.present store.old) goal) built_in }
+    requires vocabulary { IsVocabulary (S.names store.old) vocabulary.now }
+    ensures replies { IfOk result (IsReply (S.present store.old) (S.present store.new) nodes.old.items nodes.new.items
+        (table.reply built_in (meaning (S.present store.old) goal))) }
+    ensures nodes { Adds nodes.old.items nodes.new.items }
+    ensures full { result ≡ Err StoreFault.Full → S.full store.new }
+    ensures names { KeepsTexts (S.names store.old) (S.names store.new) }
+    ensures marks { KeepsMarks (S.stands store.old) (S.stands store.new) }
+{
+    let controls = &vocabulary.controls;
+    match built_in {
+        BuiltIn::True => Ok(Replied::GoesOn),
+        BuiltIn::Fail => Ok(Replied::Fails),
+        BuiltIn::Repeat => Ok(Replied::Repeats),
+        BuiltIn::Call => match place_called(alloc, store, controls, nodes, goal)? {
+            Placed::Body(place) => Ok(Replied::Calls(place)),
+            Placed::Raises(ball) => Ok(Replied::Raises(ball)),
+        },
+        BuiltIn::Once => match place_argument(alloc, store, controls, nodes, goal, "once", 1)? {
+            Placed::Body(place) => Ok(Replied::CallsOnce(place)),
+            Placed::Raises(ball) => Ok(Replied::Raises(ball)),
+        },
+        BuiltIn::Not => match place_argument(alloc, store, controls, nodes, goal, "\\+", 1)? {
+            Placed::Body(place) => Ok(Replied::Refutes(place)),
+            Placed::Raises(ball) => Ok(Replied::Raises(ball)),
+        },
+        BuiltIn::Catch => Ok(Replied::Catches(place_argument(
+            alloc, store, controls, nodes, goal, "catch", 3,
+        )?)),
+        BuiltIn::Throw => Ok(Replied::Raises(thrown(alloc, store, goal)?)),
+        BuiltIn::Halt => Ok(Replied::Halts(0)),
+        BuiltIn::HaltWith => halted(alloc, store, goal),
+        BuiltIn::Library(row) => library(alloc, store, vocabulary, row, goal),
+    }
+}
+
+/// The ball that a goal of `throw/1` throws, or the error where it is unbound (7.8.10). The error is that memory was refused.
+fn thrown<S: Store>(alloc: Global, store: &S, goal: S::Word) -> Result<Ball, NoMemory>
+    requires goal { Holds (S.present store.now) goal }
+    requires some { 0 < arguments.arity (meaning (S.present store.now) goal) }
+    ensures ball { IfOk result (λ b. table.throw_reply (arguments.argument 0 (meaning (S.present store.now) goal)) (key (codes "throw") 1) ≡ table.Raises (term_of b.term)) }
+    ensures fits { IfOk result (λ b. arities_fit (term_of b.term) ≡ true) }
+{
+    let argument = store.arg(goal, 0);
+    match store.shape(argument) {
+        Shape::Var(_) => errors::instantiation(alloc, "throw", 1),
+        Shape::Int(_) | Shape::Atom(_) | Shape::Compound(_, _) => Ok(Ball {
+            term: store.copy_out(argument)?,
+        }),
+    }
+}
+
+/// What a goal of `halt/1` comes to (8.17.4). The error is that memory was refused.
+fn halted<S: Store>(alloc: Global, store: &S, goal: S::Word) -> Result<Replied, StoreFault>
+    requires goal { Holds (S.present store.now) goal }
+    requires some { 0 < arguments.arity (meaning (S.present store.now) goal) }
+    ensures halts { IfOk result (IsHalt (table.halt_reply (arguments.argument 0 (meaning (S.present store.now) goal)) (key (codes "halt") 1))) }
+    ensures full { result ≢ Err StoreFault.Full }
+{
+    let argument = store.arg(goal, 0);
+    match store.shape(argument) {
+        Shape::Var(_) => Ok(Replied::Raises(errors::instantiation(alloc, "halt", 1)?)),
+        Shape::Int(status) if status < 0 || status > 255 => Ok(Replied::Raises(
+            errors::out_of_domain(alloc, "exit_code", Term::Int(status), "halt", 1)?,
+        )),
+        Shape::Int(status) => Ok(Replied::Halts(status as u8)),
+        Shape::Atom(_) | Shape::Compound(_, _) => Ok(Replied::Raises(errors::wrong_type(
+            alloc,
+            "integer",
+            store.copy_out(argument)?,
+            "halt",
+            1,
+        )?)),
+    }
+}
+
+/// What a goal comes to that runs no other (8.2 to 8.7). The errors: the store is full, or memory was refused.
+fn library<S: Store>(
+    alloc: Global,
+    store: &mut S,
+    vocabulary: &Vocabulary,
+    row: Library,
+    goal: S::Word,
+) -> Result<Replied, StoreFault>
+    requires goal { Holds (S.present store.old) goal }
+    requires arity { arguments.arity (meaning (S.present store.old) goal) ≡ library_arity row }
+    requires vocabulary { IsVocabulary (S.names store.old) vocabulary.now }
+    ensures replies { (nodes : List (Node S.Word)) → IfOk result (IsReply (S.present store.old) (S.present store.new) nodes nodes
+        (library_reply row (meaning (S.present store.old) goal))) }
+    ensures full { result ≡ Err StoreFault.Full → S.full store.new }
+    ensures names { S.names store.new ≡ S.names store.old }
+    ensures marks { KeepsMarks (S.stands store.old) (S.stands store.new) }
+{
+    match builtin(alloc, store, &vocabulary.evaluables, row, goal) {
+        Ok(Reply::Done) => Ok(Replied::GoesOn),
+        Ok(Reply::Fail) => Ok(Replied::Fails),
+        Err(fault) => match fault {
+            Fault::Raise(ball) => Ok(Replied::Raises(ball)),
+            Fault::Full => Err(StoreFault::Full),
+            Fault::NoMemory => Err(StoreFault::NoMemory),
+        },
+    }
+}
