@@ -639,4 +639,10 @@ pub const ROWS: &[Row] = &[
         output: "answer 1: true\nend: no more\n",
         status: 0,
     },
+    Row {
+        name: "a value, a type test, and errors of expressions",
+        queries: "X is 1 + 2 * 3, integer(X). X is foo + 1. 1 < 1 // 0.",
+        output: "answer 1: X = 7\nend: no more\nend: error error(type_error(evaluable,foo/0),(is)/2)\nend: error error(evaluation_error(zero_divisor),(<)/2)\n",
+        ..PLAIN
+    },
 ];
