@@ -2,9 +2,13 @@
 #![tactic(auto)]
 
 #[cfg(test)]
+mod arithmetic;
+#[cfg(test)]
 mod catch;
 #[cfg(test)]
 mod control;
+#[cfg(test)]
+mod language;
 #[cfg(test)]
 mod limits;
 pub mod quitter;
@@ -18,6 +22,8 @@ mod rows;
 mod sessions;
 #[cfg(test)]
 mod term_texts;
+#[cfg(test)]
+mod types;
 #[cfg(test)]
 mod words;
 #[cfg(test)]

@@ -37,12 +37,27 @@ pub const PLAIN: Row = Row {
     status: 0,
 };
 
+/// A session that full frames end, with nothing before it.
+pub const FRAMES_FULL: Row = Row {
+    output: "end: frames full\n",
+    status: 3,
+    ..PLAIN
+};
+
+/// A session that a full heap ends, with nothing before it: it has room for 100 nodes.
+pub const HEAP_FULL: Row = Row {
+    cells: Some(100),
+    output: "end: heap full\n",
+    status: 3,
+    ..PLAIN
+};
+
 /// The row of this name.
 pub fn row_named(name: &str) -> Option<&'static Row> {
     ROWS.iter().find(|row| row.name == name)
 }
 
-/// Sessions over definite clauses.
+/// Sessions over definite clauses, and what else other tests need by name.
 pub const ROWS: &[Row] = &[
     Row {
         name: "nothing",
@@ -623,5 +638,11 @@ pub const ROWS: &[Row] = &[
         frames: None,
         output: "answer 1: true\nend: no more\n",
         status: 0,
+    },
+    Row {
+        name: "a value, a type test, and errors of expressions",
+        queries: "X is 1 + 2 * 3, integer(X). X is foo + 1. 1 < 1 // 0.",
+        output: "answer 1: X = 7\nend: no more\nend: error error(type_error(evaluable,foo/0),(is)/2)\nend: error error(evaluation_error(zero_divisor),(<)/2)\n",
+        ..PLAIN
     },
 ];

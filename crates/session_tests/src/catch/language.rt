@@ -1,9 +1,6 @@
 //! The examples of docs/LANGUAGE.md with `catch/3`, `throw/1` and `halt` as sessions, each a row: one that changes there changes here.
+use crate::language::TEXT;
 use crate::rows::{PLAIN, Row};
-
-/// The text of the examples.
-const TEXT: &str =
-    "a(1). a(2). a(3).\np(X) :- !, a(X).\np(9).\nq(X) :- a(X), X \\= 1, ! .\nq(9).\n";
 
 /// These sessions.
 pub const ROWS: &[Row] = &[

@@ -1,5 +1,5 @@
 //! Sessions with `catch/3` within few frames and few nodes. A catch's alternative stands until its goal has failed or thrown, or a cut takes it away; also while the catch is left.
-use crate::rows::{PLAIN, Row};
+use crate::rows::{FRAMES_FULL, HEAP_FULL, PLAIN, Row};
 
 /// These sessions.
 pub const ROWS: &[Row] = &[
@@ -14,9 +14,7 @@ pub const ROWS: &[Row] = &[
         name: "one frame: a catch that was left still stands",
         queries: "catch(true, _, true), catch(true, _, true).",
         frames: Some(1),
-        output: "end: frames full\n",
-        status: 3,
-        ..PLAIN
+        ..FRAMES_FULL
     },
     Row {
         name: "two frames: two catches, one behind the other",
@@ -29,9 +27,7 @@ pub const ROWS: &[Row] = &[
         name: "one frame: a catch inside another needs two",
         queries: "catch(catch(true, _, true), _, true).",
         frames: Some(1),
-        output: "end: frames full\n",
-        status: 3,
-        ..PLAIN
+        ..FRAMES_FULL
     },
     Row {
         name: "two frames: a catch inside another",
@@ -44,9 +40,7 @@ pub const ROWS: &[Row] = &[
         name: "one frame: a catch's goal with an alternative needs two",
         queries: "catch(( true ; true ), _, true).",
         frames: Some(1),
-        output: "end: frames full\n",
-        status: 3,
-        ..PLAIN
+        ..FRAMES_FULL
     },
     Row {
         name: "two frames: a catch's goal with an alternative",
@@ -59,9 +53,7 @@ pub const ROWS: &[Row] = &[
         name: "one frame: an alternative behind a catch that was left needs two",
         queries: "catch(true, _, true), ( true ; true ).",
         frames: Some(1),
-        output: "end: frames full\n",
-        status: 3,
-        ..PLAIN
+        ..FRAMES_FULL
     },
     Row {
         name: "two frames: an alternative behind a catch that was left",
@@ -95,9 +87,7 @@ pub const ROWS: &[Row] = &[
         name: "one frame: a cut in a catch's goal leaves the catch's own alternative",
         queries: "catch(( !, catch(true, _, true) ), _, true).",
         frames: Some(1),
-        output: "end: frames full\n",
-        status: 3,
-        ..PLAIN
+        ..FRAMES_FULL
     },
     Row {
         name: "two frames: a cut in a catch's goal gives the goal's alternatives up",
@@ -110,9 +100,7 @@ pub const ROWS: &[Row] = &[
         name: "one frame: a catch inside a negation needs two",
         queries: "\\+ catch(fail, _, true).",
         frames: Some(1),
-        output: "end: frames full\n",
-        status: 3,
-        ..PLAIN
+        ..FRAMES_FULL
     },
     Row {
         name: "two frames: a catch inside a negation, and one in the condition of an if-then-else",
@@ -152,36 +140,25 @@ pub const ROWS: &[Row] = &[
         text: "r :- r. r.\n",
         queries: "catch(r, _, true). true.",
         frames: Some(10),
-        output: "end: frames full\n",
-        status: 3,
-        ..PLAIN
+        ..FRAMES_FULL
     },
     Row {
         name: "no catch takes a full heap",
         text: "f(X) :- f(g(X)).\n",
         queries: "catch(f(a), _, true). true.",
-        cells: Some(100),
-        output: "end: heap full\n",
-        status: 3,
-        ..PLAIN
+        ..HEAP_FULL
     },
     Row {
         name: "nodes that catch takes",
         text: "grow(X) :- catch(grow(g(X)), _, true).\n",
         queries: "grow(a).",
-        cells: Some(100),
-        output: "end: heap full\n",
-        status: 3,
-        ..PLAIN
+        ..HEAP_FULL
     },
     Row {
         name: "nodes that a ball takes",
         text: "grow(X) :- catch(throw(g(X)), Y, grow(Y)).\n",
         queries: "grow(a).",
-        cells: Some(100),
-        output: "end: heap full\n",
-        status: 3,
-        ..PLAIN
+        ..HEAP_FULL
     },
     Row {
         name: "failure gives the nodes of a ball back",

@@ -1,5 +1,5 @@
 //! Sessions with control constructs within few frames and few nodes.
-use crate::rows::{PLAIN, Row};
+use crate::rows::{FRAMES_FULL, HEAP_FULL, PLAIN, Row};
 
 /// These sessions.
 pub const ROWS: &[Row] = &[
@@ -14,9 +14,7 @@ pub const ROWS: &[Row] = &[
         name: "one frame: two disjunctions need two",
         queries: "( true ; true ), ( true ; true ).",
         frames: Some(1),
-        output: "end: frames full\n",
-        status: 3,
-        ..PLAIN
+        ..FRAMES_FULL
     },
     Row {
         name: "two frames: two disjunctions",
@@ -83,9 +81,7 @@ pub const ROWS: &[Row] = &[
         text: "l(z). l(s(N)) :- ( true ; true ), l(N).\n",
         queries: "l(s(s(s(z)))).",
         frames: Some(3),
-        output: "end: frames full\n",
-        status: 3,
-        ..PLAIN
+        ..FRAMES_FULL
     },
     Row {
         name: "answers before full frames, which end the session",
@@ -100,54 +96,37 @@ pub const ROWS: &[Row] = &[
         name: "too few nodes for a query",
         queries: "( X = a ; X = b ).",
         cells: Some(1),
-        output: "end: heap full\n",
-        status: 3,
-        ..PLAIN
+        ..HEAP_FULL
     },
     Row {
         name: "nodes that call takes",
         text: "grow(X) :- call(grow, g(X)).\n",
         queries: "grow(a).",
-        cells: Some(100),
-        output: "end: heap full\n",
-        status: 3,
-        ..PLAIN
+        ..HEAP_FULL
     },
     Row {
         name: "nodes that a disjunction takes",
         text: "grow(X) :- ( grow(g(X)) ; true ).\n",
         queries: "grow(a).",
-        cells: Some(100),
-        output: "end: heap full\n",
-        status: 3,
-        ..PLAIN
+        ..HEAP_FULL
     },
     Row {
         name: "nodes that an if-then-else takes",
         text: "grow(X) :- ( true -> grow(g(X)) ; true ).\n",
         queries: "grow(a).",
-        cells: Some(100),
-        output: "end: heap full\n",
-        status: 3,
-        ..PLAIN
+        ..HEAP_FULL
     },
     Row {
         name: "nodes that a negation takes",
         text: "grow(X) :- \\+ grow(g(X)).\n",
         queries: "grow(a).",
-        cells: Some(100),
-        output: "end: heap full\n",
-        status: 3,
-        ..PLAIN
+        ..HEAP_FULL
     },
     Row {
         name: "nodes that once takes",
         text: "grow(X) :- once(grow(g(X))).\n",
         queries: "grow(a).",
-        cells: Some(100),
-        output: "end: heap full\n",
-        status: 3,
-        ..PLAIN
+        ..HEAP_FULL
     },
     Row {
         name: "answers before a full heap",
