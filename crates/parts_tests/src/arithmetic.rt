@@ -1,7 +1,8 @@
 //! Values of expressions and their errors. The rows were worked out from the rules of 7.9 and 9, over unbounded integers.
-ghost use Rattle.std.specs.Prelude.{◌≡◌, ◌∷◌, [], IfOk};
+ghost use Rattle.std.specs.Prelude.{IfOk};
 ghost use Rattle.iso_store_core.specs.Presents.{Holds};
 
+use super::store::pair;
 use iso_arith::{EvalFault, Evaluables, Refusal, eval};
 use iso_model::{Term, well_formed};
 use iso_ops::{Flags, OpTable};
@@ -571,17 +572,6 @@ fn first_errors(rt: HostRuntime) -> Result<(), Fail> {
 
 /// So many sums in one another.
 const MANY: i64 = 1_000_000;
-
-/// Two words.
-fn pair<W: Copy>(alloc: Global, first: W, second: W) -> Result<Vec<W>, Fail>
-    ensures { IfOk result (λ v. v.items ≡ first ∷ second ∷ []) }
-{
-    let mut words = Vec::new(alloc);
-    if words.push(first).is_err() || words.push(second).is_err() {
-        return Err(Fail::from("no memory"));
-    }
-    Ok(words)
-}
 
 /// `1 + (1 + .. (1 + 0))`, or `(('+' + 1) .. + 1) + 1`.
 fn nested<S: Store>(alloc: Global, store: &mut S, to_the_right: bool) -> Result<S::Word, Fail>

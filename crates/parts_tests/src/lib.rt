@@ -10,6 +10,8 @@ mod atoms;
 #[cfg(test)]
 mod heap;
 #[cfg(test)]
+mod nodes;
+#[cfg(test)]
 mod numbering;
 #[cfg(test)]
 mod ops;
@@ -23,6 +25,8 @@ mod read_texts;
 mod sizes;
 #[cfg(test)]
 mod store;
+#[cfg(test)]
+mod store_terms;
 #[cfg(test)]
 mod token;
 #[cfg(test)]
