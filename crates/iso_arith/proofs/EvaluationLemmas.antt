@@ -49,29 +49,29 @@ of_two f (More t ts) row n = absurd (omega arith)
 of_two f End row n = absurd (omega arith)
 of_two f ts row n = absurd (true≢false (sym row))
 
-module _ (names : List (List ℕ)) (name : ℕ) (t : Tree) where
-  call_one : IsCall names name 1 t → t ≡ Apply (text_at names name) (More (argument 0 t) End)
-  call_one h = subst (λ (u : Tree). u ≡ Apply (text_at names name) (More (argument 0 u) End)) (sym h.is) (of_one (text_at names name) h.arguments h.row h.counted)
+module _ (names : List (List ℕ)) (name n : ℕ) (t : Tree) (h : IsCall names name n t) where
+  call_one : n ≡ 1 → t ≡ Apply (text_at names name) (More (argument 0 t) End)
+  call_one one = subst (λ (u : Tree). u ≡ Apply (text_at names name) (More (argument 0 u) End)) (sym h.is) (of_one (text_at names name) h.arguments h.row (h.counted ∙ one))
 
-  call_two : IsCall names name 2 t → t ≡ Apply (text_at names name) (More (argument 0 t) (More (argument 1 t) End))
-  call_two h = subst (λ (u : Tree). u ≡ Apply (text_at names name) (More (argument 0 u) (More (argument 1 u) End))) (sym h.is) (of_two (text_at names name) h.arguments h.row h.counted)
+  call_two : n ≡ 2 → t ≡ Apply (text_at names name) (More (argument 0 t) (More (argument 1 t) End))
+  call_two two = subst (λ (u : Tree). u ≡ Apply (text_at names name) (More (argument 0 u) (More (argument 1 u) End))) (sym h.is) (of_two (text_at names name) h.arguments h.row (h.counted ∙ two))
 
   -- its value is that of its operation
-  pub some_of_one : (r : Option Unary) (f : Unary) → r ≡ Some f → IsCall names name 1 t → option_map does_unary r ≡ among operations_of_one (text_at names name)
+  pub some_of_one : n ≡ 1 → (r : Option Unary) (f : Unary) → r ≡ Some f → option_map does_unary r ≡ among operations_of_one (text_at names name)
       → value t ≡ with_value (value (argument 0 t)) (does_unary f)
-  some_of_one r f some h found = ap value (call_one h) ∙ ap (λ (o : Option (ℤ → Value)). applied_one o (value (argument 0 t)) (key (text_at names name) 1)) (sym found ∙ ap (option_map does_unary) some)
+  some_of_one one r f some found = ap value (call_one one) ∙ ap (λ (o : Option (ℤ → Value)). applied_one o (value (argument 0 t)) (key (text_at names name) 1)) (sym found ∙ ap (option_map does_unary) some)
 
-  pub some_of_two : (r : Option Binary) (f : Binary) → r ≡ Some f → IsCall names name 2 t → option_map does_binary r ≡ among operations_of_two (text_at names name)
+  pub some_of_two : n ≡ 2 → (r : Option Binary) (f : Binary) → r ≡ Some f → option_map does_binary r ≡ among operations_of_two (text_at names name)
       → value t ≡ with_value (value (argument 0 t)) (λ a. with_value (value (argument 1 t)) (does_binary f a))
-  some_of_two r f some h found =
-      ap value (call_two h) ∙ ap (λ (o : Option (ℤ → ℤ → Value)). applied_two o (value (argument 0 t)) (value (argument 1 t)) (key (text_at names name) 2)) (sym found ∙ ap (option_map does_binary) some)
+  some_of_two two r f some found =
+      ap value (call_two two) ∙ ap (λ (o : Option (ℤ → ℤ → Value)). applied_two o (value (argument 0 t)) (value (argument 1 t)) (key (text_at names name) 2)) (sym found ∙ ap (option_map does_binary) some)
 
   -- its arguments are smaller
-  load_of_one : IsCall names name 1 t → term_load (argument 0 t) + 1 < term_load t
-  load_of_one h = let e = ap size (call_one h) in omega arith
+  pub load_of_one : n ≡ 1 → term_load (argument 0 t) + 1 < term_load t
+  load_of_one one = let e = ap size (call_one one) in omega arith
 
-  load_of_two : IsCall names name 2 t → term_load (argument 0 t) + (2 + term_load (argument 1 t)) < term_load t
-  load_of_two h = let e = ap size (call_two h) in omega arith
+  pub load_of_two : n ≡ 2 → term_load (argument 0 t) + (2 + term_load (argument 1 t)) < term_load t
+  load_of_two two = let e = ap size (call_two two) in omega arith
 
 -- ---- tasks
 
@@ -103,19 +103,17 @@ module _ {W : Type 0} (p : Present W) where
   tasks_load-more xs ys x more = ap (tasks_load p) more ∙ tasks_load-push xs x
 
   -- what is left to do is less
-  pub less_of_one : (names : List (List ℕ)) (name : ℕ) (xs ys : List (Task W)) (f : Unary) (a t : Tree) → ys ≡ xs ++ Apply_task f ∷ [] → a ≡ argument 0 t → IsCall names name 1 t
+  pub less_of_one : (xs ys : List (Task W)) (f : Unary) (a t : Tree) → ys ≡ xs ++ Apply_task f ∷ [] → a ≡ argument 0 t → term_load (argument 0 t) + 1 < term_load t
       → term_load a + tasks_load p ys < term_load t + tasks_load p xs
-  less_of_one names name xs ys f a t more first call =
+  less_of_one xs ys f a t more first less =
       let all = tasks_load-more xs ys (Apply_task f) more in
-      let less = load_of_one names name t call in
       let same = ap term_load first in
       omega arith
 
-  pub less_of_two : (names : List (List ℕ)) (name : ℕ) (xs ys : List (Task W)) (f : Binary) (a t : Tree) (w : W) → ys ≡ xs ++ Right f w ∷ [] → a ≡ argument 0 t → meaning p w ≡ argument 1 t
-      → IsCall names name 2 t → term_load a + tasks_load p ys < term_load t + tasks_load p xs
-  less_of_two names name xs ys f a t w more first second call =
+  pub less_of_two : (xs ys : List (Task W)) (f : Binary) (a t : Tree) (w : W) → ys ≡ xs ++ Right f w ∷ [] → a ≡ argument 0 t → meaning p w ≡ argument 1 t
+      → term_load (argument 0 t) + (2 + term_load (argument 1 t)) < term_load t → term_load a + tasks_load p ys < term_load t + tasks_load p xs
+  less_of_two xs ys f a t w more first second less =
       let all = tasks_load-more xs ys (Right f w) more in
-      let less = load_of_two names name t call in
       let left = ap term_load first in
       let right = ap term_load second in
       omega arith

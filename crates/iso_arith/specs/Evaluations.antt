@@ -22,6 +22,7 @@ pub record IsCall (names : List (List ℕ)) (name n : ℕ) (t : Tree) : Type 0 w
   pub is : t ≡ Apply (text_at names name) arguments
   pub row : is_row arguments ≡ true
   pub counted : count arguments ≡ n
+  pub few : n < 256
 
 -- how much there is to do at most
 abbrev pub term_load : Tree → ℕ

@@ -34,16 +34,17 @@ enum Next<W: Copy> {
     Value(i64),
 }
 
-/// Begins with a compound of one argument, of this name: the argument comes next.
-fn begin_unary<S: Store>(
+/// Begins with a compound of this name and so many arguments: it is no evaluable, or its first argument comes next.
+fn begin_compound<S: Store>(
     store: &S,
     evaluables: &Evaluables,
     name: Atom,
+    count: usize,
     word: S::Word,
     tasks: &mut Vec<Task<S::Word>>,
 ) -> Result<Next<S::Word>, EvalFault>
     requires word { Holds (S.present store.now) word }
-    requires call { IsCall (S.names store.now) name 1 (meaning (S.present store.now) word) }
+    requires call { IsCall (S.names store.now) name count (meaning (S.present store.now) word) }
     requires evaluables { AreEvaluables (S.names store.now) evaluables.now }
     requires tasks { All (IsTask (S.present store.now)) tasks.old.items }
     ensures tasks { OnOk result (All (IsTask (S.present store.now)) tasks.new.items) }
@@ -52,37 +53,22 @@ fn begin_unary<S: Store>(
     ensures load { IfOk result (λ next. next_load (S.present store.now) next + tasks_load (S.present store.now) tasks.new.items
         < term_load (meaning (S.present store.now) word) + tasks_load (S.present store.now) tasks.old.items) }
 {
-    let Some(operation) = evaluables.unary(name) else {
-        return Err(EvalFault::NotEvaluable(name, 1));
-    };
-    tasks.push(Task::Apply(operation))?;
+    match count {
+        1 => {
+            let Some(operation) = evaluables.unary(name) else {
+                return Err(EvalFault::NotEvaluable(name, 1));
+            };
+            tasks.push(Task::Apply(operation))?;
+        }
+        2 => {
+            let Some(operation) = evaluables.binary(name) else {
+                return Err(EvalFault::NotEvaluable(name, 2));
+            };
+            tasks.push(Task::Right(operation, store.arg(word, 1)))?;
+        }
+        _ => return Err(EvalFault::NotEvaluable(name, count)),
+    }
     Ok(Next::Term(store.arg(word, 0)))
-}
-
-/// Begins with a compound of two arguments, of this name: the left one comes next.
-fn begin_binary<S: Store>(
-    store: &S,
-    evaluables: &Evaluables,
-    name: Atom,
-    word: S::Word,
-    tasks: &mut Vec<Task<S::Word>>,
-) -> Result<Next<S::Word>, EvalFault>
-    requires word { Holds (S.present store.now) word }
-    requires call { IsCall (S.names store.now) name 2 (meaning (S.present store.now) word) }
-    requires evaluables { AreEvaluables (S.names store.now) evaluables.now }
-    requires tasks { All (IsTask (S.present store.now)) tasks.old.items }
-    ensures tasks { OnOk result (All (IsTask (S.present store.now)) tasks.new.items) }
-    ensures next { IfOk result (IsNext (S.present store.now)) }
-    ensures step { IsStep (S.present store.now) (S.names store.now) tasks.old.items tasks.new.items result (expressions.value (meaning (S.present store.now) word)) }
-    ensures load { IfOk result (λ next. next_load (S.present store.now) next + tasks_load (S.present store.now) tasks.new.items
-        < term_load (meaning (S.present store.now) word) + tasks_load (S.present store.now) tasks.old.items) }
-{
-    let Some(operation) = evaluables.binary(name) else {
-        return Err(EvalFault::NotEvaluable(name, 2));
-    };
-    let (left, right) = (store.arg(word, 0), store.arg(word, 1));
-    tasks.push(Task::Right(operation, right))?;
-    Ok(Next::Term(left))
 }
 
 /// Begins with an expression: it has a value or an error, or its first argument comes next.
@@ -105,11 +91,9 @@ fn begin<S: Store>(
         Shape::Var(_) => Err(EvalFault::Unbound),
         Shape::Int(value) => Ok(Next::Value(value)),
         Shape::Atom(name) => Err(EvalFault::NotEvaluable(name, 0)),
-        Shape::Compound(name, count) => match count {
-            1 => begin_unary(store, evaluables, name, word, tasks),
-            2 => begin_binary(store, evaluables, name, word, tasks),
-            _ => Err(EvalFault::NotEvaluable(name, count)),
-        },
+        Shape::Compound(name, count) => {
+            begin_compound(store, evaluables, name, count, word, tasks)
+        }
     }
 }
 

@@ -10,6 +10,10 @@ mod atoms;
 #[cfg(test)]
 mod heap;
 #[cfg(test)]
+mod library;
+#[cfg(test)]
+mod nodes;
+#[cfg(test)]
 mod numbering;
 #[cfg(test)]
 mod ops;
@@ -23,6 +27,10 @@ mod read_texts;
 mod sizes;
 #[cfg(test)]
 mod store;
+#[cfg(test)]
+mod store_terms;
+#[cfg(test)]
+mod texts;
 #[cfg(test)]
 mod token;
 #[cfg(test)]

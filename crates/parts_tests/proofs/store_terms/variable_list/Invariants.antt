@@ -3,7 +3,7 @@ use Rattle.std.proofs.Common.{◌≡◌, true}
 use Rattle.iso_model.specs.Terms.Trees.{arities_fit}
 use Rattle.iso_model.specs.Terms.TermOf.{term_of}
 use Rattle.iso_store_core.specs.Patterns.{HasPlaces}
-use Rattle.parts_tests.proofs.store.variable_list.Given as goal
+use Rattle.parts_tests.proofs.store_terms.variable_list.Given as goal
 
 abbrev pub invariant-loop-number : goal.invariant-loop-number
 invariant-loop-number l = record {
