@@ -1,5 +1,5 @@
 -- Variables of one kind: terms that have no others, and substitutions that put no others in for them.
-use Rattle.std.proofs.Common.{◌≡◌, ℕ, zero, suc, ◌<◌, List, [], ◌∷◌, length, get_or, true, sym, arith, inl, inr}
+use Rattle.std.proofs.Common.{◌≡◌, ℕ, suc, ◌<◌, List, [], ◌∷◌, length, get_or, true, sym, arith, inl, inr}
 use Rattle.std.proofs.lemmas.Bool.{false≢true, or_cases, eqb-true, cases_eq}
 use Rattle.iso_model.specs.Terms.Trees.{Tree, Variable, End, row}
 use Rattle.iso_model.specs.Terms.Variables.{occurs}
