@@ -9,10 +9,11 @@ use Rattle.iso_store.specs.declared.nodes.Node.TheVariants.{Var, Int, Atom, Comp
 use Rattle.iso_store.specs.NodeTerms.{term_at, binding_of, substitution_of}
 use Rattle.iso_store.specs.NodeStores.{IsStore, LeadsBack, MayPush, unbound, unbound_at, reset, restored}
 use Rattle.iso_store.specs.declared.marks.NodesMark.{NodesMark}
-use Rattle.iso_store.specs.NodeVariables.{Inside, inside-term, inside-meaning}
-use Rattle.iso_store.specs.Slices.{slice_get-pushed, slice_get-set, slice_get-here}
+use Rattle.iso_store.specs.NodeVariables.{inside-term, inside-meaning}
+use Rattle.iso_store.specs.VariableKinds.{Inside}
+use Rattle.iso_store.specs.Slices.{slice_get-pushed, slice_get-set, slice_get-here, slice_get-taken}
 
-before-or-not : (a b : ℕ) → (a < b) ⊎ (b ≤ a)
+pub before-or-not : (a b : ℕ) → (a < b) ⊎ (b ≤ a)
 before-or-not a zero = inr (omega arith)
 before-or-not zero (suc b) = inl (omega arith)
 before-or-not (suc a) (suc b) = elim (before-or-not a b) [ inl h ↦ inl (omega arith) | inr h ↦ inr (omega arith) ]
@@ -46,12 +47,6 @@ unbound_at-was (c ∷ cs) (suc e) (suc w) n j h = unbound_at-was cs e w n j h
 reset-was : (es : List ℕ) (cs : List Node) (w n j : ℕ) → slice_get (reset es cs) w ≡ Some (Var n (Some j)) → slice_get cs w ≡ Some (Var n (Some j))
 reset-was [] cs w n j h = h
 reset-was (e ∷ es) cs w n j h = reset-was es cs w n j (unbound_at-was (reset es cs) e w n j h)
-
-take-was : (k : ℕ) (cs : List Node) (w : ℕ) (x : Node) → slice_get (take k cs) w ≡ Some x → slice_get cs w ≡ Some x
-take-was zero cs w x h = absurd (cc)
-take-was (suc k) [] w x h = h
-take-was (suc k) (c ∷ cs) zero x h = h
-take-was (suc k) (c ∷ cs) (suc w) x h = take-was k cs w x h
 
 -- where these are the names of the atoms
 module _ (names : List (List ℕ)) where
@@ -106,5 +101,5 @@ module _ (names : List (List ℕ)) where
 
   pub leads-restored : (cs : List Node) (es : List ℕ) (m : NodesMark) (top high : ℕ) → IsStore names (restored cs es m) (take m.trail es) m.next → LeadsBack cs top → ((k : ℕ) → k ≤ top → k < length (restored cs es m) → k ≤ high) → LeadsBack (restored cs es m) high
   leads-restored cs es m top high store back enough w n j there forward =
-      let was = take-was m.nodes cs w (Var n (Some j)) (reset-was (drop m.trail es) (take m.nodes cs) w n j there) in
+      let was = slice_get-taken m.nodes cs w (Var n (Some j)) (reset-was (drop m.trail es) (take m.nodes cs) w n j there) in
       enough j (back w n j was forward) (store.target w n j there)

@@ -12,9 +12,8 @@ use Rattle.iso_store_core.specs.Presents.{Makes}
 use Rattle.iso_store.specs.HeapTerms.{made_term, heap_substitution}
 use Rattle.iso_store.specs.HeapStores.{is_argument, is_functor, is_word, IsFunctor, IsHeap, present_of_heap}
 use Rattle.iso_store.specs.Slices.{slice_get-push, slice_get-last}
-use Rattle.iso_store.specs.HeapLemmas.{place_term-functor, place_term-argument, terms_before, made_term-more}
+use Rattle.iso_store.specs.HeapLemmas.{place_term-functor, place_term-argument, terms_before, before-length, before-at, made_term-more}
 use Rattle.iso_store.specs.HeapNumbers.{word_before}
-use Rattle.iso_store.specs.HeapUntouched.{before-length, before-at}
 use Rattle.iso_store.proofs.HeapPushes.{heap-more, substitution-more}
 use Rattle.iso_store.proofs.HeapNames.{word-kept, made-kept, substitution-kept}
 use Rattle.iso_store.proofs.HeapMade.{all-kept, word-along}

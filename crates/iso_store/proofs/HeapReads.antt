@@ -16,9 +16,9 @@ use Rattle.iso_store.specs.Rounds.{rounds_for}
 use Rattle.iso_store.specs.RoundLemmas.{rounds_bound}
 use Rattle.iso_store.specs.HeapTerms.{cell_terms, made_term, optional_term, heap_bindings, heap_substitution, bound_count}
 use Rattle.iso_store.specs.HeapStores.{number_of, is_variable_cell, is_functor, is_argument, has_cell_number, is_word, IsHeap, next_word, bound_word, variable_of, number_rank, word_rank}
-use Rattle.iso_store.specs.HeapLemmas.{place_term-unbound, place_term-bound, place_term-argument, place_term-functor, terms_before}
+use Rattle.iso_store.specs.HeapLemmas.{place_term-unbound, place_term-bound, place_term-argument, place_term-functor, terms_before, before-length, before-at}
 use Rattle.iso_store.specs.HeapNumbers.{target_is}
-use Rattle.iso_store.specs.HeapUntouched.{before-length, before-at, not_bound-value}
+use Rattle.iso_store.specs.HeapUntouched.{not_bound-value}
 
 pub applied-count : (s : Subst) (us : List Tree) → count (apply s (row us)) ≡ length us
 applied-count s [] = refl

@@ -17,9 +17,8 @@ use Rattle.iso_store.specs.Rounds.{bound_or_itself, rounds, rounds_for}
 use Rattle.iso_store.specs.RoundLemmas.{rounds_left, rounds_none}
 use Rattle.iso_store.specs.HeapTerms.{made_term, heap_bindings, heap_substitution, bound_count}
 use Rattle.iso_store.specs.HeapStores.{is_word, IsBefore, IsHeap}
-use Rattle.iso_store.specs.HeapLemmas.{place_term, place_term-unbound, place_term-bound, place_term-argument, place_term-functor, terms_before, each_place}
-use Rattle.iso_store.specs.HeapNumbers.{word_before}
-use Rattle.iso_store.specs.HeapUntouched.{before-length, before-at, binding_is}
+use Rattle.iso_store.specs.HeapLemmas.{place_term, place_term-unbound, place_term-bound, place_term-argument, place_term-functor, terms_before, before-length, before-at, each_place}
+use Rattle.iso_store.specs.HeapNumbers.{word_before, binding_is}
 use Rattle.iso_store.proofs.NodeSorts.{compound-sorted}
 use Rattle.iso_store.proofs.HeapReads.{high_value}
 
@@ -62,7 +61,7 @@ module _ (names : List (List ℕ)) (cs : List Cell) (next : ℕ) (heap : IsHeap 
   sorted-cell a (Entry p) h before = absurd (heap.entry a p h)
 
   sorted-made : (w : HeapWord) → is_word names cs w ≡ true → Sorted (made_term names cs w)
-  sorted-made w h = sorted-word (length cs) w (word_before names cs w h) (each_place names Sorted cs sorted-cell)
+  sorted-made w h = sorted-word (length cs) w (word_before names cs w h) (each_place names Sorted cs (length cs) (omega arith) (λ a c there below before. sorted-cell a c there before))
 
   sorted-bound : (k n : ℕ) (o : Option Tree) → heap_bindings names cs n ≡ o → Sorted (rounds (heap_bindings names cs) k n)
   sorted-bound zero n o is = refl

@@ -26,6 +26,7 @@ pub mod SearchLemmas
 pub mod ListingLemmas
 pub mod RoundBound
 pub mod HeapReads
+pub mod HeapApart
 pub mod HeapPushes
 pub mod HeapAreas
 pub mod HeapBinds

@@ -1,7 +1,7 @@
 -- Terms of cells: they are those of the cells before them, whatever comes behind and whatever is bound.
-use Rattle.std.proofs.Common.{◌≡◌, ℕ, zero, suc, ◌+◌, ◌-◌, ◌<◌, List, [], ◌∷◌, ◌++◌, length, take, drop, set, get_or, refl, ap, sym, ◌∙◌, arith, length-append, length-take, Some, inl, inr}
+use Rattle.std.proofs.Common.{◌≡◌, ℕ, zero, suc, ◌+◌, ◌-◌, ◌<◌, ◌≤◌, List, [], ◌∷◌, ◌++◌, length, take, drop, set, get_or, refl, ap, sym, ◌∙◌, arith, length-append, length-take, Some, inl, inr}
 use Rattle.std.specs.List.{slice_get}
-use Rattle.std.proofs.lemmas.List.{append_assoc, get_or_append_left, get_or-take}
+use Rattle.std.proofs.lemmas.List.{append_assoc, get_or_append_left, get_or-drop, get_or-take, length-drop, length-take-le}
 use Rattle.std.proofs.lemmas.Option.{slice_get_within, slice_get_cases}
 use Rattle.std.proofs.Math.Seq.{get_or-append_seam, take-append_seam}
 use Rattle.iso_atoms.specs.Texts.{text_at}
@@ -84,18 +84,30 @@ module _ (names : List (List ℕ)) where
       let size : length ts ≡ p = omega (arith, length-take p (cell_terms names [] cs), cell_terms-length [] cs) in
       place_term-is cs p (Functor f n) h ∙ ap (λ k. Apply (text_at names f) (row (drop (k - n) ts))) size
 
-  -- what is true of the term of each cell if it is true of those of the cells before
-  module _ (P : Tree → Type 0) (cs : List Cell) (each : (a : ℕ) (c : Cell) → slice_get cs a ≡ Some c → ((j : ℕ) → j < a → P (place_term cs j)) → P (place_term cs a)) where
-    place_below : (k a : ℕ) → a < k → a < length cs → P (place_term cs a)
-    place_below zero a h within = absurd (omega arith)
-    place_below (suc k) a h within =
+  pub before-length : (cs : List Cell) (p n : ℕ) → n ≤ p → p < length cs → length (terms_before cs p n) ≡ n
+  before-length cs p n room within =
+      let ts = cell_terms names [] cs in
+      let size = cell_terms-length [] cs in
+      let taken : length (take p ts) ≡ p = length-take-le p ts (omega arith) in
+      omega (arith, length-drop (p - n) (take p ts))
+
+  pub before-at : (cs : List Cell) (p n i : ℕ) → n ≤ p → i < n → get_or (terms_before cs p n) i End ≡ place_term cs (p - n + i)
+  before-at cs p n i room below =
+      let ts = cell_terms names [] cs in
+      get_or-drop (p - n) (take p ts) i End ∙ get_or-take p ts (p - n + i) End (omega arith)
+
+  -- what is true of the term of each cell before the place top if it is true of those of the cells before
+  module _ (P : Tree → Type 0) (cs : List Cell) (top : ℕ) (within : top ≤ length cs) (each : (a : ℕ) (c : Cell) → slice_get cs a ≡ Some c → a < top → ((j : ℕ) → j < a → P (place_term cs j)) → P (place_term cs a)) where
+    place_below : (k a : ℕ) → a < k → a < top → P (place_term cs a)
+    place_below zero a h below = absurd (omega arith)
+    place_below (suc k) a h below =
         elim ((slice_get_cases cs a).1) [
-          | inl found ↦ each a found.0 found.2 (λ j less. place_below k j (omega arith) (omega arith))
+          | inl found ↦ each a found.0 found.2 below (λ j less. place_below k j (omega arith) (omega arith))
           | inr past ↦ let beyond = past.0 in absurd (omega arith)
         ]
 
-    pub each_place : (a : ℕ) → a < length cs → P (place_term cs a)
-    each_place a within = place_below (suc a) a (omega arith) within
+    pub each_place : (a : ℕ) → a < top → P (place_term cs a)
+    each_place a below = place_below (suc a) a (omega arith) below
 
   -- cells more
   pub place_term-more : (cs ds : List Cell) (a : ℕ) → a < length cs → place_term (cs ++ ds) a ≡ place_term cs a

@@ -8,7 +8,7 @@ use Rattle.iso_store.specs.declared.heap_cells.HeapWord.{HeapWord}
 use Rattle.iso_store.specs.declared.heap_cells.HeapWord.TheVariants.{Var, Structure, Int, Atom}
 use Rattle.iso_store.specs.declared.heap_cells.Cell.{Cell}
 use Rattle.iso_store.specs.declared.heap_cells.Cell.TheVariants.{Unbound, Bound, Argument, Functor, Entry}
-use Rattle.iso_store.specs.HeapTerms.{target, optional_term}
+use Rattle.iso_store.specs.HeapTerms.{target, cell_terms, made_term, optional_term, heap_bindings}
 use Rattle.iso_store.specs.HeapStores.{number_of, is_variable_cell, is_functor, has_cell_number, is_word, IsBefore}
 
 -- what a variable is bound to stands in a cell of its number
@@ -88,8 +88,16 @@ pub untaken : (cs : List Cell) (n : ℕ) → ((a m : ℕ) → number_of (slice_g
 untaken cs n below =
     false_from_ne_true (list_any (has_cell_number n) cs) (λ h. let t = taken_from cs n h in let less = below t.0 n t.1 in absurd (omega arith))
 
-optional_none : (names : List (List ℕ)) (ts : List Tree) (o : Option HeapWord) → o ≡ None → optional_term names ts o ≡ None
-optional_none names ts o h = ap (optional_term names ts) h
+binding_parts : (names : List (List ℕ)) (cs : List Cell) (n : ℕ) (t : Tree) (o : Option HeapWord) → target cs n ≡ o → heap_bindings names cs n ≡ Some t → (a : ℕ) × (w : HeapWord) × (slice_get cs a ≡ Some (Bound n w)) × (made_term names cs w ≡ t)
+binding_parts names cs n t None is h = let both : None ≡ Some t = sym (ap (optional_term names (cell_terms names [] cs)) is) ∙ h in absurd (cc)
+binding_parts names cs n t (Some w) is h =
+    let both : Some (made_term names cs w) ≡ Some t = sym (ap (optional_term names (cell_terms names [] cs)) is) ∙ h in
+    let from = target_from cs n w is in
+    (from.0, w, from.1, cc)
+
+-- the binding of a variable stands in a cell of its number
+pub binding_is : (names : List (List ℕ)) (cs : List Cell) (n : ℕ) (t : Tree) → heap_bindings names cs n ≡ Some t → (a : ℕ) × (w : HeapWord) × (slice_get cs a ≡ Some (Bound n w)) × (made_term names cs w ≡ t)
+binding_is names cs n t h = binding_parts names cs n t (target cs n) refl h
 
 -- a word that is there leads to a cell that is there
 variable_within : (cs : List Cell) (a : ℕ) (o : Option Cell) → slice_get cs a ≡ o → is_variable_cell o ≡ true → a < length cs

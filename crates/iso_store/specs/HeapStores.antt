@@ -66,6 +66,17 @@ IsBefore k (Structure p) = p < k
 IsBefore k (Int z) = Unit {0}
 IsBefore k (Atom a) = Unit {0}
 
+-- the place that the word leads to
+abbrev pub word_place : HeapWord → Option ℕ
+word_place (Var a) = Some a
+word_place (Structure p) = Some p
+word_place (Int z) = None
+word_place (Atom a) = None
+
+-- A binding that leads from its variable to a cell behind it leads to no cell behind top.
+abbrev pub HeapLeadsBack : List Cell → ℕ → Type 0
+HeapLeadsBack cs top = (a n : ℕ) (w : HeapWord) (j : ℕ) → slice_get cs a ≡ Some (Bound n w) → word_place w ≡ Some j → a < j → j ≤ top
+
 -- A compound's functor: its name has an atom, and its arguments, 1 to 255, are in the cells before it.
 pub record IsFunctor (names : List (List ℕ)) (cs : List Cell) (p f n : ℕ) : Type 0 where
   pub name : f < length names

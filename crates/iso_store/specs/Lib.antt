@@ -9,6 +9,7 @@ pub mod Unifying
 pub mod NodeTerms
 pub mod NodeStores
 pub mod NodeLemmas
+pub mod VariableKinds
 pub mod NodeVariables
 pub mod NodeNumbers
 pub mod Rounds
@@ -18,6 +19,7 @@ pub mod RoundLemmas
 pub mod Slices
 pub mod HeapLemmas
 pub mod HeapNumbers
+pub mod HeapVariables
 pub mod HeapUntouched
 pub mod HeapProps
 pub mod HeapRoom

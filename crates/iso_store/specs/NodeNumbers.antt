@@ -11,7 +11,8 @@ use Rattle.iso_store.specs.declared.nodes.Node.TheVariants.{Var, Int, Atom, Comp
 use Rattle.iso_store_core.specs.Presents.{Untouched}
 use Rattle.iso_store.specs.NodeTerms.{term_at, binding_of, binding_at, bindings, bind_all, substitution_of}
 use Rattle.iso_store.specs.NodeStores.{is_bound, has_number, IsStore, present_of}
-use Rattle.iso_store.specs.NodeVariables.{Inside, inside-term, inside-meaning}
+use Rattle.iso_store.specs.NodeVariables.{inside-term, inside-meaning}
+use Rattle.iso_store.specs.VariableKinds.{Inside}
 
 -- no node of the list has the number
 pub unnumbered : (cs : List Node) (n : ℕ) → list_any (has_number n) cs ≡ false → (w : ℕ) (b : _) → slice_get cs w ≢ Some (Var n b)

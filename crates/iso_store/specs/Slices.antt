@@ -1,5 +1,5 @@
 -- What is at a place of a list that grows, or is changed at a place.
-use Rattle.std.proofs.Common.{◌≡◌, ◌≢◌, ℕ, zero, suc, ◌<◌, List, [], ◌∷◌, ◌++◌, length, set, refl, ap, arith, Some, ◌⊎◌, inl, inr}
+use Rattle.std.proofs.Common.{◌≡◌, ◌≢◌, ℕ, zero, suc, ◌<◌, List, [], ◌∷◌, ◌++◌, length, take, set, refl, ap, arith, Some, ◌⊎◌, inl, inr}
 use Rattle.std.specs.List.{slice_get}
 
 module _ {X : Type 0} where
@@ -35,3 +35,10 @@ module _ {X : Type 0} where
   slice_get-here [] e v x h = absurd (cc)
   slice_get-here (c ∷ cs) zero v x h = refl
   slice_get-here (c ∷ cs) (suc e) v x h = slice_get-here cs e v x h
+
+  -- what is among the first elements is in the list
+  pub slice_get-taken : (k : ℕ) (cs : List X) (w : ℕ) (x : X) → slice_get (take k cs) w ≡ Some x → slice_get cs w ≡ Some x
+  slice_get-taken zero cs w x h = absurd (cc)
+  slice_get-taken (suc k) [] w x h = h
+  slice_get-taken (suc k) (c ∷ cs) zero x h = h
+  slice_get-taken (suc k) (c ∷ cs) (suc w) x h = slice_get-taken k cs w x h

@@ -4,7 +4,7 @@ ghost use Rattle.std.specs.List.{All, list_any, position_or_len};
 ghost use Rattle.iso_atoms.specs.Texts.{EachOnce};
 ghost use Rattle.iso_model.specs.Terms.Substitutions.{apply};
 ghost use Rattle.iso_store.specs.HeapTerms.{made_term, heap_substitution, bound_count};
-ghost use Rattle.iso_store.specs.HeapStores.{IsHeap, HeapStandsFor, IsOlderMark, MayCome, empty_heap, has_cell_number, is_word, next_word, present_of_heap, trailed, variable_of};
+ghost use Rattle.iso_store.specs.HeapStores.{IsHeap, HeapStandsFor, HeapLeadsBack, IsOlderMark, MayCome, empty_heap, has_cell_number, is_word, next_word, present_of_heap, trailed, variable_of};
 ghost use Rattle.iso_model.specs.Terms.Variables.{variable_count};
 ghost use Rattle.iso_store_core.specs.Copying.{cells_of};
 ghost use Rattle.iso_store.specs.HeapLemmas.{place_term};
@@ -19,6 +19,7 @@ use super::heap_cells::{Cell, HeapMark, HeapWord};
 use super::heap_marks::unwind;
 use super::instances::instantiate;
 use super::patterns::{Places, written};
+use super::reaches::{farther_to, within};
 use super::scratch::Scratch;
 use super::unify::unify;
 use super::variables::variables;
@@ -41,11 +42,14 @@ pub struct Heap {
     area: Area<Cell>,
     /// The cells at the newest mark: a binding is trailed if its cell is one of these.
     newest: usize,
+    /// No binding leads from a cell before its target to a target behind this place.
+    forward: usize,
     scratch: Scratch<HeapWord>,
     ghost is_heap: { IsHeap (take named atoms) area.low next } by { Prim.hlevel (props, IsBefore-prop, Settles-prop) },
     ghost named_within: { named ≤ length atoms },
     ghost newest_within: { newest ≤ length area.low },
     ghost trail_within: { length area.high ≤ bound_count area.low },
+    ghost leads_back: { HeapLeadsBack area.low forward },
     ghost each_once: { EachOnce atoms },
 }
 
@@ -81,6 +85,7 @@ impl Heap {
             next: 0,
             area,
             newest: 0,
+            forward: 0,
             scratch: Scratch::new(alloc),
         })
     }
@@ -235,8 +240,15 @@ impl Cells for Heap {
     }
 
     fn is_apart(&self, variable: HeapWord, word: HeapWord) -> bool {
-        let _ = variable;
-        matches!(self.walked(word), HeapWord::Int(_) | HeapWord::Atom(_))
+        let HeapWord::Var(place) = self.walked(variable) else {
+            return false;
+        };
+        match self.walked(word) {
+            HeapWord::Var(target) | HeapWord::Structure(target) => {
+                self.forward < place && target < place
+            }
+            HeapWord::Int(_) | HeapWord::Atom(_) => true,
+        }
     }
 
     fn bind(&mut self, number: u64, variable: HeapWord, word: HeapWord) -> Result<(), StoreFault> {
@@ -244,6 +256,7 @@ impl Cells for Heap {
             unreachable!()
         };
         let target = self.walked(word);
+        self.forward = farther_to(self.forward, place, &target);
         match bind_cell(
             &mut self.area,
             self.newest,
@@ -392,6 +405,7 @@ impl Store for Heap {
     fn undo(&mut self, mark: HeapMark) {
         self.area.cut_low(mark.cells);
         unwind(&mut self.area, mark.trail);
+        self.forward = within(self.forward, mark.cells);
         self.next = mark.next;
         self.named = mark.named;
         self.newest = mark.cells;

@@ -1,5 +1,8 @@
 //! How far bindings lead forward, from a variable to a place behind it.
-ghost use Rattle.std.specs.Prelude.{ℕ, ◌<◌, ◌≤◌};
+ghost use Rattle.std.specs.Prelude.{◌≡◌, ℕ, ◌<◌, ◌≤◌, Some};
+ghost use Rattle.iso_store.specs.HeapStores.{word_place};
+
+use super::heap_cells::HeapWord;
 
 /// How far they lead once one leads from `place` to `target`, where the others lead no farther than `reach`.
 pub(crate) fn farther(reach: usize, place: usize, target: usize) -> usize
@@ -10,6 +13,17 @@ pub(crate) fn farther(reach: usize, place: usize, target: usize) -> usize
         target
     } else {
         reach
+    }
+}
+
+/// How far they lead once one leads from `place` to where this word leads, and the others no farther than `reach`.
+pub(crate) fn farther_to(reach: usize, place: usize, word: &HeapWord) -> usize
+    ensures others { reach ≤ result }
+    ensures this_one { (j : ℕ) → word_place word.now ≡ Some j → place < j → j ≤ result }
+{
+    match word {
+        HeapWord::Var(target) | HeapWord::Structure(target) => farther(reach, place, *target),
+        HeapWord::Int(_) | HeapWord::Atom(_) => reach,
     }
 }
 

@@ -1,6 +1,7 @@
 use Rattle.std.proofs.Common.{take, ◌∙◌, refl}
 use Rattle.std.proofs.lemmas.Option.{slice_get_within}
 use Rattle.iso_store.specs.declared.heap_cells.Cell.TheVariants.{Unbound}
+use Rattle.iso_store.proofs.HeapApart.{heap-leads-bound}
 use Rattle.iso_store.proofs.HeapReads.{end_is_variable}
 use Rattle.iso_store.proofs.HeapBound.{end_cell, binding-area, binding-marks, binding-binds, binding-places}
 use Rattle.iso_store.proofs.heap.HeapCells.bind.Goals as goal
@@ -20,7 +21,9 @@ pub invariant_of-self : goal.invariant_of-self
 invariant_of-self c =
     let now = c.args.self.now in
     let after = binding-area (take now.named now.atoms) now.area.low now.next now.is_heap c.args.variable c.args.word c.in-Var.place c.args.number c.walked-target.result c.in-Var.ensures.holds c.in-Var.ensures.end c.in-Var.ensures.same c.walked-target.ensures.holds c.walked-target.ensures.end c.walked-target.ensures.same c.requires.variable c.requires.absent c.requires.younger now.newest now.area c.bind_cell.new.area refl now.newest_within now.trail_within c.bind_cell.result c.bind_cell.ensures.low c.bind_cell.ensures.high c.bind_cell.ensures.unchanged in
-    record { is_heap = after.is_heap; named_within = now.named_within; newest_within = after.newest_within; trail_within = after.trail_within; each_once = now.each_once }
+    let free = end_cell (take now.named now.atoms) now.area.low now.next now.is_heap c.args.variable c.in-Var.place c.args.number c.in-Var.ensures.holds c.in-Var.ensures.end c.in-Var.ensures.same c.requires.variable in
+    let leads = heap-leads-bound now.area c.bind_cell.new.area c.in-Var.place c.args.number c.walked-target.result now.forward c.farther_to-self.result (Unbound c.args.number) free now.leads_back c.farther_to-self.ensures.others c.farther_to-self.ensures.this_one c.bind_cell.result c.bind_cell.ensures.low c.bind_cell.ensures.unchanged in
+    record { is_heap = after.is_heap; named_within = now.named_within; newest_within = after.newest_within; trail_within = after.trail_within; leads_back = leads; each_once = now.each_once }
 
 pub returns-in-Ok-clause-bound : goal.returns-in-Ok-clause-bound
 returns-in-Ok-clause-bound c =

@@ -13,7 +13,7 @@ pub invariant_of-self : goal.invariant_of-self
 invariant_of-self c =
     let now = c.args.self.now in
     let whole = c.len-self.ensures in
-    record { is_heap = heap-kept (take now.named now.atoms) (take c.len-self.result now.atoms) (all-kept now.atoms now.named c.len-self.result whole) now.area.low now.next now.is_heap; named_within = omega arith; newest_within = now.newest_within; trail_within = now.trail_within; each_once = now.each_once }
+    record { is_heap = heap-kept (take now.named now.atoms) (take c.len-self.result now.atoms) (all-kept now.atoms now.named c.len-self.result whole) now.area.low now.next now.is_heap; named_within = omega arith; newest_within = now.newest_within; trail_within = now.trail_within; leads_back = now.leads_back; each_once = now.each_once }
 
 pub push-requires : goal.push-requires
 push-requires c =

@@ -7,7 +7,7 @@ invariant_of-self c =
     let now = c.args.self.now in
     let grows = c.intern.ensures.grows in
     let within = now.named_within in
-    record { is_heap = rw (take-kept now.atoms c.intern.new.self now.named c.intern.ensures.kept now.named_within) now.is_heap; named_within = omega arith; newest_within = now.newest_within; trail_within = now.trail_within; each_once = c.intern.ensures.each_once }
+    record { is_heap = rw (take-kept now.atoms c.intern.new.self now.named c.intern.ensures.kept now.named_within) now.is_heap; named_within = omega arith; newest_within = now.newest_within; trail_within = now.trail_within; leads_back = now.leads_back; each_once = c.intern.ensures.each_once }
 
 pub returns-clause-marks : goal.returns-clause-marks
 returns-clause-marks c m p h =

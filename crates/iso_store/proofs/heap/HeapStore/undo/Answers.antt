@@ -1,6 +1,7 @@
 use Rattle.std.proofs.Common.{◌≡◌, ap, ◌∙◌, take, drop, length-take, arith}
 use Rattle.iso_area.specs.Stacks.{stacks}
 use Rattle.iso_store.specs.HeapStores.{reset, restored}
+use Rattle.iso_store.proofs.HeapApart.{heap-leads-restored}
 use Rattle.iso_store.proofs.HeapResets.{restored-length}
 use Rattle.iso_store.proofs.HeapMarked.{undone-stands}
 use Rattle.iso_store.proofs.heap.HeapStore.undo.Goals as goal
@@ -19,6 +20,7 @@ invariant_of-self c =
       named_within = h.named_top;
       newest_within = rw area (omega arith);
       trail_within = rw area (omega (arith, length-take m.trail now.area.high));
+      leads_back = rw area (heap-leads-restored (take m.named now.atoms) now.area.low now.area.high m now.forward c.within-self.result h.is_heap now.leads_back (λ k low below. c.within-self.ensures k low (omega arith)));
       each_once = now.each_once;
     }
 
