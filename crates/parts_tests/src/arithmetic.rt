@@ -3,26 +3,14 @@ ghost use Rattle.std.specs.Prelude.{IfOk};
 ghost use Rattle.iso_store_core.specs.Presents.{Holds};
 
 use super::store::pair;
+use super::texts::read_term;
 use iso_arith::{EvalFault, Evaluables, Refusal, eval};
 use iso_model::{Term, well_formed};
-use iso_ops::{Flags, OpTable};
-use iso_read::read_clause;
 use iso_store::{Nodes, Store};
-use iso_token::Tokens;
 use std::alloc::Global;
 use std::fmt::Write;
 use std::process::Abort;
 use std::test::Fail;
-
-/// The term of a clause's text.
-fn read(alloc: Global, text: &str) -> Result<Term, Fail> {
-    let ops = OpTable::initial(alloc)?;
-    let mut tokens = Tokens::new(text);
-    match read_clause(alloc, &mut tokens, &ops, &Flags::initial()) {
-        Ok(Some(read)) => Ok(read.term),
-        Ok(None) | Err(_) => Err(Fail::from("not read")),
-    }
-}
 
 /// The error of an operation.
 fn write_refusal(out: &mut String, refusal: Refusal) -> Result<(), Fail> {
@@ -68,7 +56,7 @@ fn value_of(alloc: Global, term: &Term) -> Result<String, Fail> {
 /// Checks the value, or the error, of each expression.
 fn expect_values(rt: &impl Abort, alloc: Global, rows: &[(&str, &str)]) -> Result<(), Fail> {
     for (text, wanted) in rows {
-        let found = value_of(alloc, &read(alloc, text)?)?;
+        let found = value_of(alloc, &read_term(alloc, text)?)?;
         assert_eq!(rt; found.as_str(), *wanted, "of {text:?}");
     }
     Ok(())

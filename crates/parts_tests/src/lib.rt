@@ -10,6 +10,8 @@ mod atoms;
 #[cfg(test)]
 mod heap;
 #[cfg(test)]
+mod library;
+#[cfg(test)]
 mod nodes;
 #[cfg(test)]
 mod numbering;
@@ -27,6 +29,8 @@ mod sizes;
 mod store;
 #[cfg(test)]
 mod store_terms;
+#[cfg(test)]
+mod texts;
 #[cfg(test)]
 mod token;
 #[cfg(test)]

@@ -1,10 +1,8 @@
 //! Clauses and goals that are prepared: their heads and bodies, the classes and last uses of their variables, their constructs, and the
 //! faults in their order.
+use super::texts::read_term;
 use iso_model::Term;
-use iso_ops::{Flags, OpTable};
 use iso_prep::{Class, Construct, Fault, Prepared, prepare, prepare_goal};
-use iso_read::read_clause;
-use iso_token::Tokens;
 use std::alloc::{AllocError, Global};
 use std::fmt::Write;
 use std::process::Abort;
@@ -90,16 +88,6 @@ fn shown(alloc: Global, outcome: Result<Prepared, Fault>) -> Result<String, Fail
             write_term(&mut out, &culprit)?;
             Ok(out)
         }
-    }
-}
-
-/// The term of a clause's text.
-fn term_of(alloc: Global, text: &str) -> Result<Term, Fail> {
-    let ops = OpTable::initial(alloc)?;
-    let mut tokens = Tokens::new(text);
-    match read_clause(alloc, &mut tokens, &ops, &Flags::initial()) {
-        Ok(Some(read)) => Ok(read.term),
-        Ok(None) | Err(_) => Err(Fail::from("not read")),
     }
 }
 
@@ -204,7 +192,7 @@ static GOALS: [(&str, &str); 6] = [
 fn clauses_are_prepared(rt: HostRuntime) -> Result<(), Fail> {
     let alloc = rt.alloc();
     for (text, wanted) in &CLAUSES {
-        let found = shown(alloc, prepare(alloc, &term_of(alloc, text)?))?;
+        let found = shown(alloc, prepare(alloc, &read_term(alloc, text)?))?;
         assert_eq!(rt; found.as_str(), *wanted, "of {text:?}");
     }
     Ok(())
@@ -214,7 +202,7 @@ fn clauses_are_prepared(rt: HostRuntime) -> Result<(), Fail> {
 fn faults_come_in_their_order(rt: HostRuntime) -> Result<(), Fail> {
     let alloc = rt.alloc();
     for (text, wanted) in &FAULTY {
-        let found = shown(alloc, prepare(alloc, &term_of(alloc, text)?))?;
+        let found = shown(alloc, prepare(alloc, &read_term(alloc, text)?))?;
         assert_eq!(rt; found.as_str(), *wanted, "of {text:?}");
     }
     Ok(())
@@ -224,7 +212,7 @@ fn faults_come_in_their_order(rt: HostRuntime) -> Result<(), Fail> {
 fn goals_are_prepared(rt: HostRuntime) -> Result<(), Fail> {
     let alloc = rt.alloc();
     for (text, wanted) in &GOALS {
-        let found = shown(alloc, prepare_goal(alloc, &term_of(alloc, text)?))?;
+        let found = shown(alloc, prepare_goal(alloc, &read_term(alloc, text)?))?;
         assert_eq!(rt; found.as_str(), *wanted, "of {text:?}");
     }
     Ok(())

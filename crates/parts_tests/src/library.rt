@@ -1,0 +1,593 @@
+//! Built-ins that run no goal, each by `builtin`, and the error terms. The rows were worked out from what the table of the definitions
+//! asks of each goal. A refused allocation is passed on, so that a test that meets one ends in that error. This refuses the first
+//! allocation of the tests that make few, and so on with 2, 3 up to 200:
+//!
+//!     ulimit -s unlimited; rt try --test --fail-alloc 1 -- library::short
+//!
+//! Each test then passes or fails with the text `error: AllocError` or `error: NoMemory`, or with `error: memory refused` where the
+//! built-in says so, and none fails in an assertion. At 200 both pass.
+ghost use Rattle.std.specs.Prelude.{◌≡◌};
+ghost use Rattle.iso_store_core.specs.Presents.{Holds};
+ghost use Rattle.iso_lib.specs.Rows.{library_arity};
+
+use super::store_terms::compound;
+use super::texts::{read_term, write_term};
+use iso_arith::Evaluables;
+use iso_lib::{Fault, Reply, builtin, errors};
+use iso_model::{Ball, Comparison, Library, Term, TypeTest, well_formed};
+use iso_store::{Nodes, Shape, Store};
+use std::alloc::{AllocError, Global};
+use std::process::Abort;
+use std::test::Fail;
+
+/// How many arguments a built-in has.
+fn arguments(row: Library) -> usize
+    ensures { result ≡ library_arity row }
+{
+    match row {
+        Library::Test(_) => 1,
+        Library::Unify | Library::Differ | Library::Is | Library::Compare(_) => 2,
+    }
+}
+
+/// What came of a goal, and the goal as it stands then.
+fn shown<S: Store>(alloc: Global, store: &S, outcome: &str, goal: S::Word) -> Result<String, Fail>
+    requires { Holds (S.present store.now) goal }
+{
+    let mut out = String::from_str(alloc, outcome)?;
+    out.push_str(" ")?;
+    write_term(&mut out, &store.copy_out(goal)?)?;
+    Ok(out)
+}
+
+/// The text of a term.
+fn text_of(alloc: Global, term: &Term) -> Result<String, Fail> {
+    let mut out = String::new(alloc);
+    write_term(&mut out, term)?;
+    Ok(out)
+}
+
+/// Runs a goal: what comes of it, and the goal as it stands then. Where it fails, and where the store is full, what was bound is taken
+/// back first.
+fn outcome<S: Store>(
+    rt: &impl Abort,
+    alloc: Global,
+    store: &mut S,
+    row: Library,
+    goal: S::Word,
+) -> Result<String, Fail>
+    requires { Holds (S.present store.old) goal }
+{
+    let evaluables = Evaluables::new(alloc, store)?;
+    let Shape::Compound(_, count) = store.shape(goal) else {
+        panic!(rt; "no compound");
+    };
+    assert_eq!(rt; count, arguments(row));
+    let before = store.mark();
+    match builtin(alloc, store, &evaluables, row, goal) {
+        Ok(Reply::Done) => shown(alloc, &*store, "done", goal),
+        Ok(Reply::Fail) => {
+            store.undo(before);
+            shown(alloc, &*store, "fails", goal)
+        }
+        Err(fault) => match fault {
+            Fault::Raise(ball) => {
+                let error = text_of(alloc, &ball.term)?;
+                shown(alloc, &*store, error.as_str(), goal)
+            }
+            Fault::Full => {
+                store.undo(before);
+                shown(alloc, &*store, "full", goal)
+            }
+            Fault::NoMemory => Err(Fail::from("memory refused")),
+        },
+    }
+}
+
+/// The outcome of a goal in a store of so many nodes.
+fn outcome_of(
+    rt: &impl Abort,
+    alloc: Global,
+    nodes: u32,
+    row: Library,
+    term: &Term,
+) -> Result<String, Fail> {
+    assert!(rt; well_formed(term));
+    let mut store = Nodes::new(alloc, nodes)?;
+    let goal = store.build(term)?;
+    outcome(rt, alloc, &mut store, row, goal)
+}
+
+/// Checks the outcome of each goal.
+fn expect_outcomes(
+    rt: &impl Abort,
+    alloc: Global,
+    rows: &[(Library, &str, &str)],
+) -> Result<(), Fail> {
+    for (row, text, wanted) in rows {
+        let term = read_term(alloc, text)?;
+        let found = outcome_of(rt, alloc, 100, *row, &term)?;
+        assert_eq!(rt; found.as_str(), *wanted, "of {text:?}");
+    }
+    Ok(())
+}
+
+/// Terms that are unified, or that don't unify.
+static EQUATIONS: [(Library, &str, &str); 12] = [
+    (
+        Library::Unify,
+        "f(X, b) = f(a, Y).",
+        "done =(f(a,b),f(a,b))",
+    ),
+    (Library::Unify, "f(X, Y) = X.", "fails =(f(_0,_1),_0)"),
+    (Library::Unify, "1 = 1.", "done =(1,1)"),
+    (Library::Unify, "X = X.", "done =(_0,_0)"),
+    (
+        Library::Unify,
+        "f(X, b) = f(a, c).",
+        "fails =(f(_0,b),f(a,c))",
+    ),
+    (Library::Differ, "a \\= b.", "done \\=(a,b)"),
+    (
+        Library::Differ,
+        "f(X, b) \\= f(a, c).",
+        "done \\=(f(_0,b),f(a,c))",
+    ),
+    (Library::Differ, "X \\= f(X).", "done \\=(_0,f(_0))"),
+    (Library::Differ, "X \\= a.", "fails \\=(_0,a)"),
+    (Library::Differ, "X \\= Y.", "fails \\=(_0,_1)"),
+    (Library::Differ, "f(a) \\= f(a).", "fails \\=(f(a),f(a))"),
+    (
+        Library::Differ,
+        "f(X, Y, X) \\= f(a, Z, b).",
+        "done \\=(f(_0,_1,_0),f(a,_2,b))",
+    ),
+];
+
+/// Types of terms.
+static TYPES: [(Library, &str, &str); 30] = [
+    (Library::Test(TypeTest::Var), "var(X).", "done var(_0)"),
+    (Library::Test(TypeTest::Var), "var(a).", "fails var(a)"),
+    (
+        Library::Test(TypeTest::Nonvar),
+        "nonvar(1).",
+        "done nonvar(1)",
+    ),
+    (
+        Library::Test(TypeTest::Nonvar),
+        "nonvar(X).",
+        "fails nonvar(_0)",
+    ),
+    (Library::Test(TypeTest::Atom), "atom([]).", "done atom([])"),
+    (Library::Test(TypeTest::Atom), "atom(1).", "fails atom(1)"),
+    (
+        Library::Test(TypeTest::Atom),
+        "atom(f(a)).",
+        "fails atom(f(a))",
+    ),
+    (
+        Library::Test(TypeTest::Integer),
+        "integer(-1).",
+        "done integer(-1)",
+    ),
+    (
+        Library::Test(TypeTest::Integer),
+        "integer(a).",
+        "fails integer(a)",
+    ),
+    (
+        Library::Test(TypeTest::Integer),
+        "integer(X).",
+        "fails integer(_0)",
+    ),
+    (
+        Library::Test(TypeTest::Float),
+        "float(1).",
+        "fails float(1)",
+    ),
+    (
+        Library::Test(TypeTest::Float),
+        "float(X).",
+        "fails float(_0)",
+    ),
+    (
+        Library::Test(TypeTest::Number),
+        "number(1).",
+        "done number(1)",
+    ),
+    (
+        Library::Test(TypeTest::Number),
+        "number(a).",
+        "fails number(a)",
+    ),
+    (
+        Library::Test(TypeTest::Atomic),
+        "atomic(a).",
+        "done atomic(a)",
+    ),
+    (
+        Library::Test(TypeTest::Atomic),
+        "atomic(1).",
+        "done atomic(1)",
+    ),
+    (
+        Library::Test(TypeTest::Atomic),
+        "atomic(f(a)).",
+        "fails atomic(f(a))",
+    ),
+    (
+        Library::Test(TypeTest::Atomic),
+        "atomic(X).",
+        "fails atomic(_0)",
+    ),
+    (
+        Library::Test(TypeTest::Compound),
+        "compound([1]).",
+        "done compound('.'(1,[]))",
+    ),
+    (
+        Library::Test(TypeTest::Compound),
+        "compound([]).",
+        "fails compound([])",
+    ),
+    (
+        Library::Test(TypeTest::Compound),
+        "compound(X).",
+        "fails compound(_0)",
+    ),
+    (
+        Library::Test(TypeTest::Callable),
+        "callable(a).",
+        "done callable(a)",
+    ),
+    (
+        Library::Test(TypeTest::Callable),
+        "callable(f(1)).",
+        "done callable(f(1))",
+    ),
+    (
+        Library::Test(TypeTest::Callable),
+        "callable(1).",
+        "fails callable(1)",
+    ),
+    (
+        Library::Test(TypeTest::Callable),
+        "callable(X).",
+        "fails callable(_0)",
+    ),
+    (
+        Library::Test(TypeTest::Ground),
+        "ground(1).",
+        "done ground(1)",
+    ),
+    (
+        Library::Test(TypeTest::Ground),
+        "ground(f(a, g(b))).",
+        "done ground(f(a,g(b)))",
+    ),
+    (
+        Library::Test(TypeTest::Ground),
+        "ground(f(a, g(X))).",
+        "fails ground(f(a,g(_0)))",
+    ),
+    (
+        Library::Test(TypeTest::Ground),
+        "ground(X).",
+        "fails ground(_0)",
+    ),
+    (
+        Library::Test(TypeTest::Ground),
+        "ground(a).",
+        "done ground(a)",
+    ),
+];
+
+/// Values that are unified with the left argument.
+static VALUES: [(Library, &str, &str); 13] = [
+    (Library::Is, "X is 1 + 2.", "done is(3,+(1,2))"),
+    (Library::Is, "3 is 1 + 2.", "done is(3,+(1,2))"),
+    (Library::Is, "4 is 1 + 2.", "fails is(4,+(1,2))"),
+    (Library::Is, "f(X) is 1.", "fails is(f(_0),1)"),
+    (Library::Is, "1 + 2 is 1 + 2.", "fails is(+(1,2),+(1,2))"),
+    (
+        Library::Is,
+        "X is X + 1.",
+        "error(instantiation_error,/(is,2)) is(_0,+(_0,1))",
+    ),
+    (
+        Library::Is,
+        "X is foo.",
+        "error(type_error(evaluable,/(foo,0)),/(is,2)) is(_0,foo)",
+    ),
+    (
+        Library::Is,
+        "f(X, Y) is foo(1, X, 3).",
+        "error(type_error(evaluable,/(foo,3)),/(is,2)) is(f(_0,_1),foo(1,_0,3))",
+    ),
+    (
+        Library::Is,
+        "X is 1 // 0.",
+        "error(evaluation_error(zero_divisor),/(is,2)) is(_0,//(1,0))",
+    ),
+    (
+        Library::Is,
+        "X is 9223372036854775807 + 1.",
+        "error(evaluation_error(int_overflow),/(is,2)) is(_0,+(9223372036854775807,1))",
+    ),
+    (
+        Library::Is,
+        "X is 7 / 2.",
+        "error(evaluation_error(undefined),/(is,2)) is(_0,/(7,2))",
+    ),
+    (
+        Library::Is,
+        "X is 2 ^ -1.",
+        "error(type_error(float,2),/(is,2)) is(_0,^(2,-1))",
+    ),
+    (
+        Library::Is,
+        "a is X.",
+        "error(instantiation_error,/(is,2)) is(a,_0)",
+    ),
+];
+
+/// Values that are compared, and of two errors the left one.
+static COMPARISONS: [(Library, &str, &str); 20] = [
+    (
+        Library::Compare(Comparison::Equal),
+        "1 + 1 =:= 2.",
+        "done =:=(+(1,1),2)",
+    ),
+    (
+        Library::Compare(Comparison::Equal),
+        "1 =:= 2.",
+        "fails =:=(1,2)",
+    ),
+    (
+        Library::Compare(Comparison::Unequal),
+        "1 =\\= 2.",
+        "done =\\=(1,2)",
+    ),
+    (
+        Library::Compare(Comparison::Unequal),
+        "2 =\\= 1 + 1.",
+        "fails =\\=(2,+(1,1))",
+    ),
+    (
+        Library::Compare(Comparison::Less),
+        "-2 < -1.",
+        "done <(-2,-1)",
+    ),
+    (Library::Compare(Comparison::Less), "2 < 2.", "fails <(2,2)"),
+    (Library::Compare(Comparison::Less), "3 < 2.", "fails <(3,2)"),
+    (
+        Library::Compare(Comparison::AtMost),
+        "2 =< 2.",
+        "done =<(2,2)",
+    ),
+    (
+        Library::Compare(Comparison::AtMost),
+        "1 =< 2.",
+        "done =<(1,2)",
+    ),
+    (
+        Library::Compare(Comparison::AtMost),
+        "3 =< 2.",
+        "fails =<(3,2)",
+    ),
+    (
+        Library::Compare(Comparison::Greater),
+        "3 > 2.",
+        "done >(3,2)",
+    ),
+    (
+        Library::Compare(Comparison::Greater),
+        "2 > 2.",
+        "fails >(2,2)",
+    ),
+    (
+        Library::Compare(Comparison::Greater),
+        "1 > 2.",
+        "fails >(1,2)",
+    ),
+    (
+        Library::Compare(Comparison::AtLeast),
+        "2 >= 2.",
+        "done >=(2,2)",
+    ),
+    (
+        Library::Compare(Comparison::AtLeast),
+        "3 >= 2.",
+        "done >=(3,2)",
+    ),
+    (
+        Library::Compare(Comparison::AtLeast),
+        "1 >= 2.",
+        "fails >=(1,2)",
+    ),
+    (
+        Library::Compare(Comparison::Equal),
+        "X =:= 1 / 0.",
+        "error(instantiation_error,/(=:=,2)) =:=(_0,/(1,0))",
+    ),
+    (
+        Library::Compare(Comparison::Less),
+        "1 / 0 < X.",
+        "error(evaluation_error(zero_divisor),/(<,2)) <(/(1,0),_0)",
+    ),
+    (
+        Library::Compare(Comparison::Unequal),
+        "1 =\\= f(X).",
+        "error(type_error(evaluable,/(f,1)),/(=\\=,2)) =\\=(1,f(_0))",
+    ),
+    (
+        Library::Compare(Comparison::AtLeast),
+        "1 >= a.",
+        "error(type_error(evaluable,/(a,0)),/(>=,2)) >=(1,a)",
+    ),
+];
+
+#[test]
+fn unifies_terms(rt: HostRuntime) -> Result<(), Fail> {
+    expect_outcomes(&rt, rt.alloc(), &EQUATIONS)
+}
+
+#[test]
+fn tests_types(rt: HostRuntime) -> Result<(), Fail> {
+    expect_outcomes(&rt, rt.alloc(), &TYPES)
+}
+
+#[test]
+fn finds_values(rt: HostRuntime) -> Result<(), Fail> {
+    expect_outcomes(&rt, rt.alloc(), &VALUES)
+}
+
+#[test]
+fn compares_values(rt: HostRuntime) -> Result<(), Fail> {
+    expect_outcomes(&rt, rt.alloc(), &COMPARISONS)
+}
+
+/// The goal `X Name 1 Operation 0`, for which the reader isn't called.
+fn goal(alloc: Global, name: &str, operation: &str) -> Result<Term, AllocError> {
+    let right = compound(
+        alloc,
+        operation,
+        vec![in alloc; Term::Int(1), Term::Int(0)]?,
+    )?;
+    compound(alloc, name, vec![in alloc; Term::Var(0), right]?)
+}
+
+/// Checks the outcome of one goal in a store of so many nodes.
+fn expect_outcome(
+    rt: &impl Abort,
+    alloc: Global,
+    nodes: u32,
+    row: Library,
+    term: &Term,
+    wanted: &str,
+) -> Result<(), Fail> {
+    assert_eq!(rt; outcome_of(rt, alloc, nodes, row, term)?.as_str(), wanted);
+    Ok(())
+}
+
+/// A value takes a node, of which the goal itself takes five.
+#[test]
+fn finds_the_store_full(rt: HostRuntime) -> Result<(), Fail> {
+    let alloc = rt.alloc();
+    let goal = goal(alloc, "is", "+")?;
+    expect_outcome(&rt, alloc, 5, Library::Is, &goal, "full is(_0,+(1,0))")?;
+    expect_outcome(&rt, alloc, 6, Library::Is, &goal, "done is(1,+(1,0))")
+}
+
+#[test]
+fn a_single_equation(rt: HostRuntime) -> Result<(), Fail> {
+    let alloc = rt.alloc();
+    let goal = goal(alloc, "=", "+")?;
+    expect_outcome(
+        &rt,
+        alloc,
+        9,
+        Library::Unify,
+        &goal,
+        "done =(+(1,0),+(1,0))",
+    )
+}
+
+#[test]
+fn a_single_difference(rt: HostRuntime) -> Result<(), Fail> {
+    let alloc = rt.alloc();
+    let goal = goal(alloc, "\\=", "+")?;
+    expect_outcome(
+        &rt,
+        alloc,
+        9,
+        Library::Differ,
+        &goal,
+        "fails \\=(_0,+(1,0))",
+    )
+}
+
+#[test]
+fn a_single_type_test(rt: HostRuntime) -> Result<(), Fail> {
+    let alloc = rt.alloc();
+    let row = Library::Test(TypeTest::Ground);
+    let goal = compound(alloc, "ground", vec![in alloc; Term::Int(1)]?)?;
+    expect_outcome(&rt, alloc, 9, row, &goal, "done ground(1)")
+}
+
+#[test]
+fn a_single_error(rt: HostRuntime) -> Result<(), Fail> {
+    let alloc = rt.alloc();
+    let wanted = "error(evaluation_error(zero_divisor),/(is,2)) is(_0,//(1,0))";
+    let goal = goal(alloc, "is", "//")?;
+    expect_outcome(&rt, alloc, 5, Library::Is, &goal, wanted)
+}
+
+#[test]
+fn a_single_comparison(rt: HostRuntime) -> Result<(), Fail> {
+    let alloc = rt.alloc();
+    let row = Library::Compare(Comparison::Less);
+    let wanted = "error(type_error(evaluable,/(foo,2)),/(<,2)) <(foo(1,0),_0)";
+    let left = compound(alloc, "foo", vec![in alloc; Term::Int(1), Term::Int(0)]?)?;
+    let goal = compound(alloc, "<", vec![in alloc; left, Term::Var(0)]?)?;
+    expect_outcome(&rt, alloc, 9, row, &goal, wanted)
+}
+
+/// Checks the text of a ball.
+fn expect_ball(rt: &impl Abort, alloc: Global, ball: Ball, wanted: &str) -> Result<(), Fail> {
+    assert_eq!(rt; text_of(alloc, &ball.term)?.as_str(), wanted);
+    Ok(())
+}
+
+#[test]
+fn makes_parts_of_errors(rt: HostRuntime) -> Result<(), Fail> {
+    let alloc = rt.alloc();
+    let atom = errors::atom(alloc, "a")?;
+    assert_eq!(rt; text_of(alloc, &atom)?.as_str(), "a");
+    let whole = errors::compound2(alloc, "f", Term::Int(1), atom)?;
+    assert_eq!(rt; text_of(alloc, &whole)?.as_str(), "f(1,a)");
+    let indicator = errors::indicator(alloc, "foo", 255)?;
+    assert_eq!(rt; text_of(alloc, &indicator)?.as_str(), "/(foo,255)");
+    Ok(())
+}
+
+#[test]
+fn makes_errors_of_arguments(rt: HostRuntime) -> Result<(), Fail> {
+    let alloc = rt.alloc();
+    let ball = errors::instantiation(alloc, "p", 1)?;
+    expect_ball(&rt, alloc, ball, "error(instantiation_error,/(p,1))")?;
+    let ball = errors::wrong_type(alloc, "list", Term::Int(3), "p", 0)?;
+    expect_ball(&rt, alloc, ball, "error(type_error(list,3),/(p,0))")?;
+    let ball = errors::not_callable(alloc, Term::Int(3), "call", 1)?;
+    expect_ball(&rt, alloc, ball, "error(type_error(callable,3),/(call,1))")?;
+    let ball = errors::out_of_domain(alloc, "flag", Term::Int(3), "p", 2)?;
+    expect_ball(&rt, alloc, ball, "error(domain_error(flag,3),/(p,2))")
+}
+
+#[test]
+fn makes_errors_of_procedures(rt: HostRuntime) -> Result<(), Fail> {
+    let alloc = rt.alloc();
+    let ball = errors::unknown_procedure(alloc, "foo", 0)?;
+    let wanted = "error(existence_error(procedure,/(foo,0)),/(foo,0))";
+    expect_ball(&rt, alloc, ball, wanted)?;
+    let ball = errors::static_procedure(alloc, "foo", 3)?;
+    let wanted = "error(permission_error(modify,static_procedure,/(foo,3)),/(consult,1))";
+    expect_ball(&rt, alloc, ball, wanted)
+}
+
+#[test]
+fn makes_errors_of_values_and_limits(rt: HostRuntime) -> Result<(), Fail> {
+    let alloc = rt.alloc();
+    let ball = errors::not_evaluable(alloc, "foo", 2, "is", 2)?;
+    let wanted = "error(type_error(evaluable,/(foo,2)),/(is,2))";
+    expect_ball(&rt, alloc, ball, wanted)?;
+    let ball = errors::evaluation(alloc, "undefined", "is", 2)?;
+    let wanted = "error(evaluation_error(undefined),/(is,2))";
+    expect_ball(&rt, alloc, ball, wanted)?;
+    let ball = errors::too_many_variables(alloc)?;
+    let wanted = "error(representation_error(max_variables),/(consult,1))";
+    expect_ball(&rt, alloc, ball, wanted)?;
+    let ball = errors::too_many_arguments(alloc, "call", 8)?;
+    let wanted = "error(representation_error(max_arity),/(call,8))";
+    expect_ball(&rt, alloc, ball, wanted)
+}
