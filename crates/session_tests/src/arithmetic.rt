@@ -11,6 +11,7 @@ mod errors;
 mod language;
 mod limits;
 mod loops;
+mod orders;
 mod programs;
 mod results;
 mod steps;
@@ -54,6 +55,11 @@ fn sessions_within_small_limits_give_their_output(rt: HostRuntime) -> Result<(),
 #[test]
 fn loops_give_their_output(rt: HostRuntime) -> Result<(), Fail> {
     give_their_output(&rt, rt.alloc(), loops::ROWS)
+}
+
+#[test]
+fn orders_of_errors_give_their_output(rt: HostRuntime) -> Result<(), Fail> {
+    give_their_output(&rt, rt.alloc(), orders::ROWS)
 }
 
 #[test]

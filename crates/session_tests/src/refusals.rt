@@ -129,14 +129,3 @@ fn operators_and_lists(rt: HostRuntime) -> Result<(), Fail> {
     assert!(rt; ends_rightly(rt.alloc(), "lists and double quoted items"));
     Ok(())
 }
-
-#[test]
-fn values_and_errors_of_expressions(rt: HostRuntime) -> Result<(), Fail> {
-    assert!(rt;
-        ends_rightly(
-            rt.alloc(),
-            "a value, a type test, and errors of expressions"
-        )
-    );
-    Ok(())
-}

@@ -57,7 +57,7 @@ pub fn row_named(name: &str) -> Option<&'static Row> {
     ROWS.iter().find(|row| row.name == name)
 }
 
-/// Sessions over definite clauses, and what else other tests need by name.
+/// Sessions over definite clauses.
 pub const ROWS: &[Row] = &[
     Row {
         name: "nothing",
@@ -638,11 +638,5 @@ pub const ROWS: &[Row] = &[
         frames: None,
         output: "answer 1: true\nend: no more\n",
         status: 0,
-    },
-    Row {
-        name: "a value, a type test, and errors of expressions",
-        queries: "X is 1 + 2 * 3, integer(X). X is foo + 1. 1 < 1 // 0.",
-        output: "answer 1: X = 7\nend: no more\nend: error error(type_error(evaluable,foo/0),(is)/2)\nend: error error(evaluation_error(zero_divisor),(<)/2)\n",
-        ..PLAIN
     },
 ];

@@ -6,14 +6,14 @@ use crate::rows::{PLAIN, Row};
 pub const ROWS: &[Row] = &[
     Row {
         name: "steps of is: 1",
-        queries: "X is 1 + 2.",
+        queries: "X is 1 + 2 * 3.",
         budget: Some(1),
-        output: "answer 1: X = 3\nend: no more\n",
+        output: "answer 1: X = 7\nend: no more\n",
         ..PLAIN
     },
     Row {
         name: "steps of is: 0 are too few",
-        queries: "X is 1 + 2.",
+        queries: "X is 1 + 2 * 3.",
         budget: Some(0),
         output: "end: budget\n",
         ..PLAIN
