@@ -19,16 +19,18 @@ fn makes_integers_and_atoms_without_cells(rt: HostRuntime) -> Result<(), Fail> {
     Ok(())
 }
 
-/// Two variables and their compound take five cells.
+/// Two variables and their compound take five cells, and no more: with four the store is full.
 #[test]
 fn makes_variables_and_compounds(rt: HostRuntime) -> Result<(), Fail> {
     let alloc = rt.alloc();
-    let mut store = Heap::new(alloc, 5)?;
-    let functor = store.intern("f")?;
-    let first = store.fresh()?;
-    let second = store.fresh()?;
-    let _ = store.compound(functor, &[first, second])?;
-    assert!(rt; is_full(store.fresh())?);
+    for (cells, short) in [(5, false), (4, true)] {
+        let mut store = Heap::new(alloc, cells)?;
+        let functor = store.intern("f")?;
+        let first = store.fresh()?;
+        let second = store.fresh()?;
+        let made = store.compound(functor, &[first, second]);
+        assert_eq!(rt; is_full(made)?, short, "of {cells} cells");
+    }
     Ok(())
 }
 

@@ -1,11 +1,11 @@
 //! Built-ins that run no goal, each by `builtin`, and the error terms. The rows were worked out from what the table of the definitions
 //! asks of each goal. A refused allocation is passed on, so that a test that meets one ends in that error. This refuses the first
-//! allocation of the tests that make few, and so on with 2, 3 up to 200:
+//! allocation of each test of a single goal, and so on to the 78th; `library::makes` does so for the tests of error terms:
 //!
-//!     ulimit -s unlimited; rt try --test --fail-alloc 1 -- library::short
+//!     ulimit -s unlimited; for n in $(seq 78); do rt try --test --fail-alloc $n -- library::a_single; done
 //!
-//! Each test then passes or fails with the text `error: AllocError` or `error: NoMemory`, or with `error: memory refused` where the
-//! built-in says so, and none fails in an assertion. At 200 both pass.
+//! Each test then passes, or fails with the text `error: AllocError`, `error: AllocFailed { .. }` or `error: NoMemory`, or with
+//! `error: "memory refused"` where the built-in says so, and none fails in an assertion. The last time all pass.
 ghost use Rattle.std.specs.Prelude.{◌≡◌};
 ghost use Rattle.iso_store_core.specs.Presents.{Holds};
 ghost use Rattle.iso_lib.specs.Rows.{library_arity};
@@ -511,8 +511,9 @@ fn a_single_difference(rt: HostRuntime) -> Result<(), Fail> {
 fn a_single_type_test(rt: HostRuntime) -> Result<(), Fail> {
     let alloc = rt.alloc();
     let row = Library::Test(TypeTest::Ground);
-    let goal = compound(alloc, "ground", vec![in alloc; Term::Int(1)]?)?;
-    expect_outcome(&rt, alloc, 9, row, &goal, "done ground(1)")
+    let inner = compound(alloc, "f", vec![in alloc; Term::Var(0)]?)?;
+    let goal = compound(alloc, "ground", vec![in alloc; inner]?)?;
+    expect_outcome(&rt, alloc, 9, row, &goal, "fails ground(f(_0))")
 }
 
 #[test]

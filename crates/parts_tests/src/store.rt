@@ -1,11 +1,12 @@
 //! What each store does, in a store of nodes and in one of cells: each check is written once, over any store. A refused allocation
-//! is passed on, so that a test that meets one ends in that error. This refuses the first allocation of each test, and so on with
-//! 2, 3 up to 80, and likewise for `nodes` and `heap`:
+//! is passed on, so that a test that meets one ends in that error. This refuses the first allocation of each test, and so on to the
+//! 124th; `nodes` and `heap` in place of `store` do so for the tests of one store alone:
 //!
-//!     ulimit -s unlimited; rt try --test --fail-alloc 1 -- store
+//!     ulimit -s unlimited; for n in $(seq 124); do rt try --test --fail-alloc $n -- store; done
 //!
-//! Each test then passes or fails with the text `error: AllocError`, `error: AllocFailed { .. }` or `error: NoMemory`, and none
-//! fails in an assertion. At 80 all pass but the one of long lists: the others make 79 allocations at most.
+//! Each test then passes, or fails with the text `error: AllocError`, `error: AllocFailed { .. }`, `error: NoMemory` or
+//! `error: "no memory"`, and none fails in an assertion. The last time all pass but the one of long lists, which makes more
+//! allocations, as those of `nodes` and `heap` that build lists do. Long lists need the deep stack under `rt try`.
 ghost use Rattle.std.specs.Prelude.{◌≡◌, ◌<◌, ◌^◌, ◌∷◌, [], ℕ, IfOk, OnOk, length, true, false};
 ghost use Rattle.std.specs.List.{All};
 ghost use Rattle.iso_model.specs.Terms.Trees.{arities_fit};
