@@ -1,2 +1,4 @@
 pub mod Replies
-pub mod Rows
+pub mod Lists
+pub mod Checks
+pub mod Merging

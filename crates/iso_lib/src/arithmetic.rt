@@ -3,7 +3,7 @@ ghost use Rattle.std.specs.Prelude.{◌≡◌, ◌≢◌, ◌<◌, ◌≤◌, If
 ghost use Rattle.iso_model.specs.Terms.Arguments.{arity};
 ghost use Rattle.iso_model.specs.Search.Errors.{key, raised as raised_by};
 ghost use Rattle.iso_model.specs.Search.Arithmetic.{Value, value};
-ghost use Rattle.iso_model.specs.Search.Library.{library_reply, comparison_name, compares};
+ghost use Rattle.iso_model.specs.Search.Library.{library_answer, comparison_name, compares};
 ghost use Rattle.iso_model.specs.declared.library.Library.TheVariants as row;
 ghost use Rattle.iso_store_core.specs.Presents.{Holds, meaning, KeepsMarks};
 ghost use Rattle.iso_arith.specs.Evaluables.{AreEvaluables};
@@ -82,7 +82,7 @@ pub(crate) fn is<S: Store>(
     requires goal { Holds (S.present store.old) goal }
     requires arity { 2 ≤ arity (meaning (S.present store.old) goal) }
     requires evaluables { AreEvaluables (S.names store.old) evaluables.now }
-    ensures replies { IsReply (S.present store.old) (S.present store.new) (library_reply row.Is (meaning (S.present store.old) goal)) result }
+    ensures replies { IsReply (S.present store.old) (S.present store.new) (library_answer row.Is (meaning (S.present store.old) goal)) result }
     ensures full { result ≡ Err Fault.Full → S.full store.new }
     ensures names { S.names store.new ≡ S.names store.old }
     ensures marks { KeepsMarks (S.stands store.old) (S.stands store.new) }
@@ -132,7 +132,7 @@ pub(crate) fn compare<S: Store>(
     requires goal { Holds (S.present store.now) goal }
     requires arity { 2 ≤ arity (meaning (S.present store.now) goal) }
     requires evaluables { AreEvaluables (S.names store.now) evaluables.now }
-    ensures replies { IsReply (S.present store.now) (S.present store.now) (library_reply (row.Compare comparison) (meaning (S.present store.now) goal)) result }
+    ensures replies { IsReply (S.present store.now) (S.present store.now) (library_answer (row.Compare comparison) (meaning (S.present store.now) goal)) result }
     ensures full { result ≢ Err Fault.Full }
 {
     let name = name_of(comparison);

@@ -1,7 +1,7 @@
 //! Terms that are unified, or that don't unify (8.2).
 ghost use Rattle.std.specs.Prelude.{◌≡◌, ◌≤◌, Err};
 ghost use Rattle.iso_model.specs.Terms.Arguments.{arity};
-ghost use Rattle.iso_model.specs.Search.Library.{library_reply};
+ghost use Rattle.iso_model.specs.Search.Library.{library_answer};
 ghost use Rattle.iso_model.specs.declared.library.Library.TheVariants as row;
 ghost use Rattle.iso_store_core.specs.Presents.{Holds, meaning, KeepsMarks};
 ghost use Rattle.iso_lib.specs.Replies.{IsReply};
@@ -13,7 +13,7 @@ use iso_store_core::Store;
 pub(crate) fn unify<S: Store>(store: &mut S, goal: S::Word) -> Result<Reply, Fault>
     requires goal { Holds (S.present store.old) goal }
     requires arity { 2 ≤ arity (meaning (S.present store.old) goal) }
-    ensures replies { IsReply (S.present store.old) (S.present store.new) (library_reply row.Unify (meaning (S.present store.old) goal)) result }
+    ensures replies { IsReply (S.present store.old) (S.present store.new) (library_answer row.Unify (meaning (S.present store.old) goal)) result }
     ensures full { result ≡ Err Fault.Full → S.full store.new }
     ensures names { S.names store.new ≡ S.names store.old }
     ensures marks { KeepsMarks (S.stands store.old) (S.stands store.new) }
@@ -26,7 +26,7 @@ pub(crate) fn unify<S: Store>(store: &mut S, goal: S::Word) -> Result<Reply, Fau
 pub(crate) fn differ<S: Store>(store: &mut S, goal: S::Word) -> Result<Reply, Fault>
     requires goal { Holds (S.present store.old) goal }
     requires arity { 2 ≤ arity (meaning (S.present store.old) goal) }
-    ensures replies { IsReply (S.present store.old) (S.present store.new) (library_reply row.Differ (meaning (S.present store.old) goal)) result }
+    ensures replies { IsReply (S.present store.old) (S.present store.new) (library_answer row.Differ (meaning (S.present store.old) goal)) result }
     ensures full { result ≡ Err Fault.Full → S.full store.new }
     ensures names { S.names store.new ≡ S.names store.old }
     ensures marks { KeepsMarks (S.stands store.old) (S.stands store.new) }

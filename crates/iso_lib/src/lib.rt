@@ -1,12 +1,22 @@
-//! Built-ins that run no goal (ISO/IEC 13211-1:1995, 8.2, 8.3, 8.6 and 8.7), over any store of terms, and the error terms (7.12.2).
+//! Built-ins that run no goal (ISO/IEC 13211-1:1995, 8.2, 8.3, 8.5 to 8.7), over any store of terms, and the error terms (7.12.2).
 #![tactic(auto)]
 
 mod arithmetic;
+mod copies;
 mod equations;
 pub mod errors;
+mod functors;
 mod library;
+pub mod lists;
+mod order;
 mod outcomes;
+mod parts;
+mod runs;
+mod sorting;
 mod types;
+mod univ;
+mod variables;
 
+pub use copies::unify_copy;
 pub use library::builtin;
 pub use outcomes::{Fault, Reply};

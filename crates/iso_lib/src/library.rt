@@ -1,16 +1,23 @@
 //! The built-ins that run no goal, one by one.
-ghost use Rattle.std.specs.Prelude.{◌≡◌, ◌≤◌, Err};
+ghost use Rattle.std.specs.Prelude.{◌≡◌, ◌<◌, ◌^◌, Err};
+ghost use Rattle.iso_atoms.specs.Texts.{KeepsTexts};
 ghost use Rattle.iso_model.specs.Terms.Arguments.{arity};
-ghost use Rattle.iso_model.specs.Search.Library.{library_reply};
+ghost use Rattle.iso_model.specs.Search.Library.{library_answer, library_arity};
 ghost use Rattle.iso_store_core.specs.Presents.{Holds, meaning, KeepsMarks};
 ghost use Rattle.iso_arith.specs.Evaluables.{AreEvaluables};
 ghost use Rattle.iso_lib.specs.Replies.{IsReply};
-ghost use Rattle.iso_lib.specs.Rows.{library_arity};
 
 use super::arithmetic::{compare, is};
+use super::copies::copy_term;
 use super::equations::{differ, unify};
+use super::functors::functor;
+use super::order::{compare_terms, order};
 use super::outcomes::{Fault, Reply};
+use super::parts::arg;
+use super::sorting::{keysort, sort};
 use super::types::test;
+use super::univ::univ;
+use super::variables::term_variables;
 use iso_arith::Evaluables;
 use iso_model::Library;
 use iso_store_core::Store;
@@ -27,10 +34,11 @@ pub fn builtin<S: Store>(
 ) -> Result<Reply, Fault>
     requires goal { Holds (S.present store.old) goal }
     requires arity { arity (meaning (S.present store.old) goal) ≡ library_arity row }
+    requires next { (S.present store.old).next < 2 ^ 63 }
     requires evaluables { AreEvaluables (S.names store.old) evaluables.now }
-    ensures replies { IsReply (S.present store.old) (S.present store.new) (library_reply row (meaning (S.present store.old) goal)) result }
+    ensures replies { IsReply (S.present store.old) (S.present store.new) (library_answer row (meaning (S.present store.old) goal)) result }
     ensures full { result ≡ Err Fault.Full → S.full store.new }
-    ensures names { S.names store.new ≡ S.names store.old }
+    ensures names { KeepsTexts (S.names store.old) (S.names store.new) }
     ensures marks { KeepsMarks (S.stands store.old) (S.stands store.new) }
 {
     match row {
@@ -39,5 +47,14 @@ pub fn builtin<S: Store>(
         Library::Test(kind) => test(store, kind, goal),
         Library::Is => is(alloc, store, evaluables, goal),
         Library::Compare(comparison) => compare(alloc, store, evaluables, comparison, goal),
+        Library::Arg => arg(alloc, store, goal),
+        Library::CopyTerm => copy_term(alloc, store, goal),
+        Library::Functor => functor(alloc, store, goal),
+        Library::Univ => univ(alloc, store, goal),
+        Library::TermVariables => term_variables(alloc, store, goal),
+        Library::Order(test) => order(store, test, goal),
+        Library::CompareTerms => compare_terms(alloc, store, goal),
+        Library::Sort => sort(alloc, store, goal),
+        Library::Keysort => keysort(alloc, store, goal),
     }
 }

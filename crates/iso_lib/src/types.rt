@@ -1,7 +1,7 @@
 //! Type testing (8.3).
 ghost use Rattle.std.specs.Prelude.{◌≡◌, ◌≢◌, ◌<◌, IfOk, Err};
 ghost use Rattle.iso_model.specs.Terms.Arguments.{arity};
-ghost use Rattle.iso_model.specs.Search.Library.{library_reply, has_type};
+ghost use Rattle.iso_model.specs.Search.Library.{library_answer, has_type};
 ghost use Rattle.iso_model.specs.declared.library.Library.TheVariants as row;
 ghost use Rattle.iso_store_core.specs.Presents.{Holds, meaning};
 ghost use Rattle.iso_lib.specs.Replies.{IsReply};
@@ -41,7 +41,7 @@ fn has_type<S: Store>(store: &S, kind: TypeTest, word: S::Word) -> Result<bool, 
 pub(crate) fn test<S: Store>(store: &S, kind: TypeTest, goal: S::Word) -> Result<Reply, Fault>
     requires goal { Holds (S.present store.now) goal }
     requires arity { 0 < arity (meaning (S.present store.now) goal) }
-    ensures replies { IsReply (S.present store.now) (S.present store.now) (library_reply (row.Test kind) (meaning (S.present store.now) goal)) result }
+    ensures replies { IsReply (S.present store.now) (S.present store.now) (library_answer (row.Test kind) (meaning (S.present store.now) goal)) result }
     ensures full { result ≢ Err Fault.Full }
 {
     let holds = has_type(store, kind, store.arg(goal, 0))?;

@@ -2,6 +2,8 @@
 pub mod Trees
 pub mod TermOf
 pub mod Sorts
+pub mod Types
+pub mod Lists
 pub mod Sizes
 pub mod Building
 pub mod Copying
@@ -14,6 +16,7 @@ pub mod Clashes
 pub mod Copies
 pub mod Numbering
 pub mod Order
+pub mod Sorting
 pub mod Arguments
 pub mod VariableLaws
 pub mod UnifierLaws

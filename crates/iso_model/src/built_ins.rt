@@ -4,7 +4,7 @@ ghost use Rattle.iso_model.specs.Search.Keys.{key};
 ghost use Rattle.iso_model.specs.Search.BuiltIns as table;
 ghost use Rattle.iso_model.specs.Search.Rows.{entries_of};
 
-use super::library::{Comparison, Library, TypeTest};
+use super::library::{Comparison, Library, OrderTest, TypeTest};
 
 /// A procedure of the language itself (7.8, 8).
 #[derive(Clone, Copy, Debug, PartialEq, Eq)]
@@ -29,7 +29,9 @@ pub enum BuiltIn {
     Halt,
     /// `halt/1`: the session ends with this status (8.17.4).
     HaltWith,
-    /// One that runs no goal (8.2, 8.3, 8.6, 8.7).
+    /// `findall/3`: copies of the first argument, one for each solution of the second, in a list that is unified with the third (8.10.1).
+    Findall,
+    /// One that runs no goal (8.2, 8.3, 8.5 to 8.7).
     Library(Library),
 }
 
@@ -37,7 +39,7 @@ pub enum BuiltIn {
 #[derive(Clone, Copy)]
 pub struct Row(pub &'static str, pub usize, pub BuiltIn);
 
-const ROWS: [Row; 38] = [
+const ROWS: [Row; 53] = [
     Row("true", 0, BuiltIn::True),
     Row("fail", 0, BuiltIn::Fail),
     Row("false", 0, BuiltIn::Fail),
@@ -56,6 +58,7 @@ const ROWS: [Row; 38] = [
     Row("halt", 1, BuiltIn::HaltWith),
     Row("once", 1, BuiltIn::Once),
     Row("\\+", 1, BuiltIn::Not),
+    Row("findall", 3, BuiltIn::Findall),
     Row("=", 2, BuiltIn::Library(Library::Unify)),
     Row("\\=", 2, BuiltIn::Library(Library::Differ)),
     Row(
@@ -128,6 +131,40 @@ const ROWS: [Row; 38] = [
         2,
         BuiltIn::Library(Library::Compare(Comparison::AtLeast)),
     ),
+    Row("arg", 3, BuiltIn::Library(Library::Arg)),
+    Row("copy_term", 2, BuiltIn::Library(Library::CopyTerm)),
+    Row("functor", 3, BuiltIn::Library(Library::Functor)),
+    Row("=..", 2, BuiltIn::Library(Library::Univ)),
+    Row(
+        "term_variables",
+        2,
+        BuiltIn::Library(Library::TermVariables),
+    ),
+    Row(
+        "==",
+        2,
+        BuiltIn::Library(Library::Order(OrderTest::Identical)),
+    ),
+    Row(
+        "\\==",
+        2,
+        BuiltIn::Library(Library::Order(OrderTest::NotIdentical)),
+    ),
+    Row("@<", 2, BuiltIn::Library(Library::Order(OrderTest::Before))),
+    Row(
+        "@=<",
+        2,
+        BuiltIn::Library(Library::Order(OrderTest::NotAfter)),
+    ),
+    Row("@>", 2, BuiltIn::Library(Library::Order(OrderTest::After))),
+    Row(
+        "@>=",
+        2,
+        BuiltIn::Library(Library::Order(OrderTest::NotBefore)),
+    ),
+    Row("compare", 3, BuiltIn::Library(Library::CompareTerms)),
+    Row("sort", 2, BuiltIn::Library(Library::Sort)),
+    Row("keysort", 2, BuiltIn::Library(Library::Keysort)),
 ];
 
 /// The built-ins, each with its name and arity.

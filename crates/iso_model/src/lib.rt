@@ -25,9 +25,9 @@ pub mod worked_texts;
 
 pub use built_ins::{BuiltIn, Row, built_in, built_in_rows, is_built_in};
 pub use engines::Engine;
-pub use library::{Comparison, Library, TypeTest};
+pub use library::{Comparison, Library, OrderTest, TypeTest};
 pub use limit::{Limit, Limits};
 pub use numbering::Numbering;
 pub use pauses::{AddFault, Ball, Ending, Indicator, Pause, Program, StartFault};
 pub use std::alloc::AllocError as NoMemory;
-pub use terms::{MAX_ARITY, Term, copied, renumbered, well_formed};
+pub use terms::{MAX_ARITY, Term, copied, renumbered, renumbered_from, well_formed};

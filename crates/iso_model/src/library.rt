@@ -1,6 +1,6 @@
 //! Built-ins that look at their arguments, or unify them; they run no goal.
 
-/// A built-in that runs no goal (8.2, 8.3, 8.6, 8.7).
+/// A built-in that runs no goal (8.2 to 8.7).
 #[derive(Clone, Copy, Debug, PartialEq, Eq)]
 pub enum Library {
     /// `=/2`, and `unify_with_occurs_check/2`, which is the same here: its two arguments are unified (8.2.1, 8.2.2).
@@ -13,6 +13,27 @@ pub enum Library {
     Is,
     /// The values of the two arguments compare so (8.7).
     Compare(Comparison),
+    /// `arg/3`: the argument of the second argument at the place that is the first one is unified with the third (8.5.2).
+    Arg,
+    /// `copy_term/2`: the second argument is unified with a copy of the first, with new variables (8.5.4).
+    CopyTerm,
+    /// `functor/3`: the name and the arity of a term, or the term of a name and an arity (8.5.1).
+    Functor,
+    /// `=../2`: the list of a term's name and arguments, or the term of such a list (8.5.3).
+    Univ,
+    /// `term_variables/2`: the list of a term's variables (8.5.5 of the second corrigendum).
+    TermVariables,
+    /// The two arguments stand so in the standard order (8.4.1).
+    Order(OrderTest),
+    /// `compare/3`: the first argument is unified with `<`, `=` or `>`, as the second stands to the third in the standard order
+    /// (8.4.2 of the second corrigendum).
+    CompareTerms,
+    /// `sort/2`: the second argument is unified with the list of the elements of the first in the standard order, identical
+    /// ones merged (8.4.3 of the second corrigendum).
+    Sort,
+    /// `keysort/2`: the second argument is unified with the list of the pairs of the first in the order of their keys (8.4.4 of
+    /// the second corrigendum).
+    Keysort,
 }
 
 /// How two integers are compared (8.7).
@@ -30,6 +51,23 @@ pub enum Comparison {
     Greater,
     /// `>=/2`
     AtLeast,
+}
+
+/// How two terms stand in the standard order (8.4.1).
+#[derive(Clone, Copy, Debug, PartialEq, Eq)]
+pub enum OrderTest {
+    /// `==/2`: they are identical.
+    Identical,
+    /// `\==/2`
+    NotIdentical,
+    /// `@</2`: the first comes before the second.
+    Before,
+    /// `@=</2`
+    NotAfter,
+    /// `@>/2`
+    After,
+    /// `@>=/2`
+    NotBefore,
 }
 
 /// A type of terms that is tested for (8.3).

@@ -54,11 +54,13 @@ impl Numbering {
 
     /// The place of the variable; how many there are, if it is not there.
     pub fn place_or_len(&self, number: u64) -> usize
-        ensures { result ≡ place_of number self.now }
+        ensures place { result ≡ place_of number self.now }
+        ensures small { result < 2 ^ 63 }
     {
+        let count = self.len();
         match self.place(number) {
             Some(place) => place,
-            None => self.len(),
+            None => count,
         }
     }
 

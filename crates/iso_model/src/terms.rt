@@ -152,6 +152,8 @@ enum Naming<'n> {
     Same,
     /// Each by its place among these; one that isn't there by how many there are.
     Places(&'n Numbering),
+    /// So, behind this number.
+    From(&'n Numbering, u32),
 }
 
 /// The number of this variable in a copy.
@@ -161,6 +163,7 @@ fn name_of(naming: Naming<'_>, number: u64) -> u64
     match naming {
         Naming::Same => number,
         Naming::Places(variables) => variables.place_or_len(number) as u64,
+        Naming::From(variables, first) => first as u64 + variables.place_or_len(number) as u64,
     }
 }
 
@@ -288,4 +291,17 @@ pub fn renumbered(alloc: Global, term: &Term, variables: &Numbering) -> Result<T
     ensures { IfOk result (λ copy. term_of copy ≡ apply (λ x. Variable (place_of x variables.now)) (term_of term.now)) }
 {
     copied_by(alloc, Naming::Places(variables), term)
+}
+
+/// The same with this number added to each: for the term's own variables a copy of it, whose variables are numbered from there on. The
+/// error is that memory was refused.
+pub fn renumbered_from(
+    alloc: Global,
+    term: &Term,
+    variables: &Numbering,
+    first: u32,
+) -> Result<Term, AllocError>
+    ensures { IfOk result (λ copy. term_of copy ≡ apply (λ x. Variable (first + place_of x variables.now)) (term_of term.now)) }
+{
+    copied_by(alloc, Naming::From(variables, first), term)
 }

@@ -1,5 +1,5 @@
 //! Worked runs of control constructs. All are the contract of a function that does nothing.
-ghost use Rattle.iso_model.specs.Search.WorkedControl.{CutTakesAlternativesAway, CutIsLocalToCall, CutActsThroughConjunctions, CutInThenAndCondition, ConditionsDecideOnce, NegationTakesAStep, OnceIsOnce, RepeatTakesSteps, GoalsAreChecked, ArgumentsAreAdded, CatchRunsItsGoal, LeftCatchesDontCatch, HaltEnds};
+ghost use Rattle.iso_model.specs.Search.WorkedControl.{CutTakesAlternativesAway, CutIsLocalToCall, CutActsThroughConjunctions, CutInThenAndCondition, ConditionsDecideOnce, NegationTakesAStep, OnceIsOnce, RepeatTakesSteps, GoalsAreChecked, ArgumentsAreAdded, CatchRunsItsGoal, LeftCatchesDontCatch, FindallChecks, HaltEnds};
 
 /// What goals without clauses answer, construct by construct.
 pub fn worked_control()
@@ -27,6 +27,8 @@ pub fn worked_control()
     ensures catch { CatchRunsItsGoal }
     // A catch that was left doesn't catch (7.8.9, 7.8.10).
     ensures left_catch { LeftCatchesDontCatch }
+    // The goal and the result of a findall/3 are checked before the goal is run (8.10.1.3).
+    ensures findall_errors { FindallChecks }
     // `halt` ends the search with its status (8.17.3, 8.17.4).
     ensures halt { HaltEnds }
 {}

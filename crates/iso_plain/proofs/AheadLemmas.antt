@@ -3,11 +3,11 @@ use Rattle.std.proofs.Common.{◌≡◌, ℕ, zero, suc, ◌+◌, ◌*◌, ◌-�
 use Rattle.std.specs.Prelude.{option_map}
 use Rattle.std.specs.List.{slice_get}
 use Rattle.iso_atoms.specs.Texts.{KeepsTexts}
-use Rattle.iso_model.specs.Terms.Trees.{arities_fit}
+use Rattle.iso_model.specs.Terms.Trees.{Tree, arities_fit}
 use Rattle.iso_model.specs.Terms.TermOf.{term_of}
 use Rattle.iso_model.specs.Terms.Variables.{variables}
-use Rattle.iso_model.specs.Search.Bodies.{Body}
-use Rattle.iso_model.specs.Search.Walker.{State, World, Member, Goal, CutTo, Fail, Leave, Alternative, pushed, cut_back, shortened}
+use Rattle.iso_model.specs.Search.Bodies.{Body, Run}
+use Rattle.iso_model.specs.Search.Walker.{State, World, Member, Goal, CutTo, Fail, Leave, Gather, Alternative, pushed, cut_back, shortened}
 use Rattle.iso_model.specs.Search.Walker as walker
 use Rattle.iso_store_core.specs.Presents.{Present, KeepsMarks}
 use Rattle.iso_model.specs.declared.pauses.Ball.{Ball}
@@ -20,7 +20,7 @@ use Rattle.iso_plain_core.specs.declared.parts.Now.{Now}
 use Rattle.iso_plain_core.specs.declared.parts.Now.TheVariants as now
 use Rattle.iso_plain.specs.declared.plain.Plain.{Plain}
 use Rattle.iso_plain_core.specs.Next.{IsPlace, now_behind}
-use Rattle.iso_plain_core.specs.Standing.{Among, Links, IsBefore, IsBody, IsMember, a_body, a_cut, a_failure, an_end, Chain, leads, HasMembers, HasLeft, StandsForChoice, StandsForChoices, GainsChoice, HaveRoom, GoesOn, DoesNext, entered_at, most_numbers, numbers_a_step}
+use Rattle.iso_plain_core.specs.Standing.{Among, Links, IsBefore, IsBody, IsMember, a_body, a_cut, a_failure, an_end, a_template, Chain, leads, HasMembers, HasLeft, StandsForChoice, StandsForChoices, GainsChoice, HaveRoom, GoesOn, DoesNext, entered_at, most_numbers, numbers_a_step}
 use Rattle.iso_plain.specs.Catches.{throwing}
 use Rattle.iso_plain.specs.EngineStates.{IsEngine, IsAhead, Keeps, links_of}
 use Rattle.iso_plain_core.specs.ClausePlaces.{left_at}
@@ -40,24 +40,39 @@ body_of p nodes f m k asks (a_body {i = i} {b = b} is body) =
 body_of p nodes f m k asks (a_cut is) = absurd (let other : todo.CutBack ≡ todo.Body k = sym is ∙ asks in cc)
 body_of p nodes f m k asks (a_failure is) = absurd (let other : todo.Fail ≡ todo.Body k = sym is ∙ asks in cc)
 body_of p nodes f m k asks (an_end is) = absurd (let other : todo.Leave ≡ todo.Body k = sym is ∙ asks in cc)
+body_of p nodes f m k asks (a_template {i = i} is body) = absurd (let other : todo.Gather i ≡ todo.Body k = sym is ∙ asks in cc)
 
 pub cut_of : {W : Type 0} (p : Present W) (nodes : List (Node W)) (f : Frame) (m : Member) → f.todo ≡ todo.CutBack → IsMember p nodes f m → m ≡ CutTo f.mark
 cut_of p nodes f m asks (a_body {i = i} is body) = absurd (let other : todo.Body i ≡ todo.CutBack = sym is ∙ asks in cc)
 cut_of p nodes f m asks (a_cut is) = refl
 cut_of p nodes f m asks (a_failure is) = absurd (let other : todo.Fail ≡ todo.CutBack = sym is ∙ asks in cc)
 cut_of p nodes f m asks (an_end is) = absurd (let other : todo.Leave ≡ todo.CutBack = sym is ∙ asks in cc)
+cut_of p nodes f m asks (a_template {i = i} is body) = absurd (let other : todo.Gather i ≡ todo.CutBack = sym is ∙ asks in cc)
 
 pub fail_of : {W : Type 0} (p : Present W) (nodes : List (Node W)) (f : Frame) (m : Member) → f.todo ≡ todo.Fail → IsMember p nodes f m → m ≡ Fail
 fail_of p nodes f m asks (a_body {i = i} is body) = absurd (let other : todo.Body i ≡ todo.Fail = sym is ∙ asks in cc)
 fail_of p nodes f m asks (a_cut is) = absurd (let other : todo.CutBack ≡ todo.Fail = sym is ∙ asks in cc)
 fail_of p nodes f m asks (a_failure is) = refl
 fail_of p nodes f m asks (an_end is) = absurd (let other : todo.Leave ≡ todo.Fail = sym is ∙ asks in cc)
+fail_of p nodes f m asks (a_template {i = i} is body) = absurd (let other : todo.Gather i ≡ todo.Fail = sym is ∙ asks in cc)
 
 pub end_of : {W : Type 0} (p : Present W) (nodes : List (Node W)) (f : Frame) (m : Member) → f.todo ≡ todo.Leave → IsMember p nodes f m → m ≡ Leave f.mark
 end_of p nodes f m asks (a_body {i = i} is body) = absurd (let other : todo.Body i ≡ todo.Leave = sym is ∙ asks in cc)
 end_of p nodes f m asks (a_cut is) = absurd (let other : todo.CutBack ≡ todo.Leave = sym is ∙ asks in cc)
 end_of p nodes f m asks (a_failure is) = absurd (let other : todo.Fail ≡ todo.Leave = sym is ∙ asks in cc)
 end_of p nodes f m asks (an_end is) = refl
+end_of p nodes f m asks (a_template {i = i} is body) = absurd (let other : todo.Gather i ≡ todo.Leave = sym is ∙ asks in cc)
+
+-- a template, whose word is at this place
+pub template_at : {W : Type 0} (p : Present W) (nodes : List (Node W)) (f : Frame) (m : Member) (k : ℕ) → f.todo ≡ todo.Gather k → IsMember p nodes f m → (t : Tree) × (m ≡ Gather f.mark t) × IsBody p nodes k (Run t)
+template_at p nodes f m k asks (a_template {i = i} {t = t} is body) =
+    let same : todo.Gather i ≡ todo.Gather k = sym is ∙ asks in
+    let place : i ≡ k = cc in
+    (t, refl, subst (λ (n : ℕ). IsBody p nodes n (Run t)) place body)
+template_at p nodes f m k asks (a_body {i = i} is body) = absurd (let other : todo.Body i ≡ todo.Gather k = sym is ∙ asks in cc)
+template_at p nodes f m k asks (a_cut is) = absurd (let other : todo.CutBack ≡ todo.Gather k = sym is ∙ asks in cc)
+template_at p nodes f m k asks (a_failure is) = absurd (let other : todo.Fail ≡ todo.Gather k = sym is ∙ asks in cc)
+template_at p nodes f m k asks (an_end is) = absurd (let other : todo.Leave ≡ todo.Gather k = sym is ∙ asks in cc)
 
 place_before : (frames : List Frame) (place : Option ℕ) → IsPlace frames place → IsBefore place (length frames)
 place_before frames None within = tt

@@ -9,7 +9,7 @@ use Rattle.iso_plain_core.specs.declared.bodies.Node.{Node}
 use Rattle.iso_plain_core.specs.declared.parts.Frame.{Frame}
 use Rattle.iso_plain_core.specs.declared.parts.Todo.TheVariants as todo
 use Rattle.iso_plain_core.specs.declared.parts.Choice as kept
-use Rattle.iso_plain_core.specs.Standing.{Links, IsBefore, IsMember, a_body, a_cut, a_failure, an_end, Chain, leads, ends, StandsForChoices}
+use Rattle.iso_plain_core.specs.Standing.{Links, IsBefore, IsMember, a_body, a_cut, a_failure, an_end, a_template, Chain, leads, ends, StandsForChoices}
 use Rattle.iso_plain.specs.Catches.{GoesTo, IsEntry, IsEndOfCatch, caught_by}
 use Rattle.std.proofs.lemmas.Option.{slice_get_within}
 use Rattle.iso_plain_core.proofs.StandingLemmas.{choices_length, some_same}
@@ -41,6 +41,7 @@ module _ {W M : Type 0} {stands : M → Present W → Type 0} {older : M → M �
   member_passes f ball ms s are (a_cut is) none = refl
   member_passes f ball ms s are (a_failure is) none = refl
   member_passes f ball ms s are (an_end is) none = end_passes f ball ms s are is none
+  member_passes f ball ms s are (a_template is body) none = refl
 
   -- one that is
   pub member_catches : {p : Present W} {nodes : List (Node W)} {links : Links W} {cs : List (kept.Choice W M)} {m : Member} (f : Frame) (ball : Tree) (ms : List Member) (s : State)
@@ -48,6 +49,7 @@ module _ {W M : Type 0} {stands : M → Present W → Type 0} {older : M → M �
   member_catches f ball ms s are (a_body {i = i} is body) end = absurd (let other : todo.Body i ≡ todo.Leave = sym is ∙ end.asks in cc)
   member_catches f ball ms s are (a_cut is) end = absurd (let other : todo.CutBack ≡ todo.Leave = sym is ∙ end.asks in cc)
   member_catches f ball ms s are (a_failure is) end = absurd (let other : todo.Fail ≡ todo.Leave = sym is ∙ end.asks in cc)
+  member_catches f ball ms s are (a_template {i = i} is body) end = absurd (let other : todo.Gather i ≡ todo.Leave = sym is ∙ end.asks in cc)
   member_catches f ball ms s are (an_end is) end =
       let h = at_height f.mark end.choice end.stands are in
       let e = entry_catches f.mark end.choice h end.entry in

@@ -10,6 +10,7 @@ pub mod ControlMoves
 pub mod ControlCosts
 pub mod CutMoves
 pub mod CatchMoves
+pub mod GatherMoves
 pub mod LocalMoves
 pub mod SameBodies
 pub mod ResumeLemmas

@@ -135,8 +135,8 @@ module _ {S W M : Type 0} (names : S → List (List ℕ)) (present : S → Prese
         (subst (λ (b : Option Ball). IsEngine names present stands older (record e { store = store; raised = b; now = now.Raising place }) (throwing (term_of (h.kept.0).term) s)) (sym h.kept.1) thrown)
 
 -- what two stores make of a meeting is what others with the same terms make of it
-pub unified_same : {W : Type 0} {goal : W} {ball : Tree} (p q r t : Present W) (answer : Bool) → p ≡ r → t ≡ q → answer ≡ true → HasMet p q goal ball answer → Unified r t goal ball
-unified_same {goal = goal} {ball = ball} p q r t answer from to is h = subst (λ (x : Present _). Unified x t goal ball) from (subst (λ (y : Present _). Unified p y goal ball) (sym to) (rw is at h))
+pub unified_same : {W : Type 0} (goal : W) (ball : Tree) (p q r t : Present W) (answer : Bool) → p ≡ r → t ≡ q → answer ≡ true → HasMet p q goal ball answer → Unified r t goal ball
+unified_same goal ball p q r t answer from to is h = subst (λ (x : Present _). Unified x t goal ball) from (subst (λ (y : Present _). Unified p y goal ball) (sym to) (rw is at h))
 
 pub never_same : {W : Type 0} (goal : W) (ball : Tree) (p q r : Present W) (answer : Bool) → p ≡ r → answer ≡ false → HasMet p q goal ball answer
     → NeverEqual (catcher_of r goal) (apply r.substitution (copy_from ball r.next))

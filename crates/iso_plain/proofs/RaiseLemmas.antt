@@ -72,6 +72,7 @@ module _ {S W M : Type 0} (names : S → List (List ℕ)) (present : S → Prese
       by_left (left.Catching goal place) has = (goal, place, refl)
       by_left (left.AsIs place) has = absurd (let other = sym has.is ∙ catches in cc)
       by_left (left.Again place) has = absurd (let other = sym has.is ∙ catches in cc)
+      by_left (left.Gathering result place gathered) has = absurd (let other = sym has.is ∙ catches in cc)
       by_left (left.Clauses attempt) has = absurd (let other = sym has.left ∙ catches in cc)
 
     -- the choice is gone, and its catcher is to meet the ball
@@ -111,29 +112,34 @@ module _ {S W M : Type 0} (names : S → List (List ℕ)) (present : S → Prese
   -- ---- going back to a catch
 
   -- The engine went back to the choice that is the catch's entry.
-  pub record BackAt (e : Plain S W M) (c : kept.Choice W M) (s : State) (ball : Tree) (behind : List Member) (height : ℕ) (g : GoesTo ball behind s height) : Type 0 where
-    pub went : WentBack names present stands older e c s g.alternative g.below
+  pub record BackAt (e : Plain S W M) (mark : M) (s : State) (ball : Tree) (behind : List Member) (height : ℕ) (g : GoesTo ball behind s height) : Type 0 where
+    pub choice : kept.Choice W M
+    pub mark_is : choice.mark ≡ mark
+    pub went : WentBack names present stands older e choice s g.alternative g.below
     pub many : length e.choices.items ≡ height + 1
 
-  pub back_at : (e one two : Plain S W M) (c : kept.Choice W M) (s : State) (ball : Tree) (behind : List Member) (height : ℕ) (g : GoesTo ball behind s height)
+  pub back_at : (e one two : Plain S W M) (mark : M) (s : State) (ball : Tree) (behind : List Member) (height : ℕ) (g : GoesTo ball behind s height)
       → IsEngine names present stands older one (record (fails s) { stack = shortened (height + 1) s.stack }) → two.choices ≡ one.choices
-      → ((t : State) → IsEngine names present stands older one t → (a : Alternative) × (below : List Alternative) × (t.stack ≡ a ∷ below) × WentBack names present stands older two c t a below)
-      → BackAt two c s ball behind height g
-  back_at e one two c s ball behind height g is same back =
+      → ((t : State) → IsEngine names present stands older one t → (c : kept.Choice W M) × (a : Alternative) × (below : List Alternative) × (t.stack ≡ a ∷ below) × (c.mark ≡ mark) × WentBack names present stands older two c t a below)
+      → BackAt two mark s ball behind height g
+  back_at e one two mark s ball behind height g is same back =
       let t : State = record (fails s) { stack = shortened (height + 1) s.stack } in
       let plus : height + 1 ≡ suc height = omega arith in
       let stack : shortened (height + 1) s.stack ≡ g.alternative ∷ g.below = ap (λ (n : ℕ). shortened n s.stack) plus ∙ g.stack in
       let b = back t is in
-      let both : b.0 ∷ b.1 ≡ g.alternative ∷ g.below = sym b.2 ∙ stack in
-      let first : b.0 ≡ g.alternative = cc in
-      let others : b.1 ≡ g.below = cc in
+      let c = b.0 in
+      let both : b.1 ∷ b.2 ≡ g.alternative ∷ g.below = sym b.3 ∙ stack in
+      let first : b.1 ≡ g.alternative = cc in
+      let others : b.2 ≡ g.below = cc in
       let there : WentBack names present stands older two c t g.alternative g.below =
-      subst (λ (x : Alternative). WentBack names present stands older two c t x g.below) first (subst (λ (ys : List Alternative). WentBack names present stands older two c t b.0 ys) others b.3) in
+      subst (λ (x : Alternative). WentBack names present stands older two c t x g.below) first (subst (λ (ys : List Alternative). WentBack names present stands older two c t b.1 ys) others b.5) in
       let all = choices_length is.choices in
       let height_is = g.height_is in
       let count : length (shortened (height + 1) s.stack) ≡ suc (length g.below) = ap length stack in
       let kept_all = ap (λ (v : Vec (kept.Choice W M) Global). length v.items) same in
       record {
+        choice = c;
+        mark_is = b.4;
         went = record {
           world = there.world;
           steps = there.steps;

@@ -5,18 +5,21 @@ use Rattle.iso_model.specs.Terms.TermOf.{term_of}
 use Rattle.iso_model.specs.Terms.Arguments.{arity, argument}
 use Rattle.iso_model.specs.Terms.Substitutions.{Subst, apply, compose}
 use Rattle.iso_model.specs.Terms.Unifiers.{Unifier, NeverEqual}
+use Rattle.iso_model.specs.Terms.Copies.{copy_from}
+use Rattle.iso_model.specs.Terms.Sizes.{size}
+use Rattle.iso_model.specs.Terms.Variables.{variable_count}
 use Rattle.iso_model.specs.Search.Bodies.{Body, Run, map_body}
-use Rattle.iso_model.specs.Search.BuiltIns.{Reply, Fails, Succeeds, Equates, Raises, Calls, CallsOnce, Refutes, Repeats, Catches, Halts, reply}
+use Rattle.iso_model.specs.Search.BuiltIns.{Reply, Fails, Succeeds, Equates, EquatesCopy, Raises, Calls, CallsOnce, Refutes, Repeats, Catches, Gathers, Halts, reply}
 use Rattle.iso_model.specs.declared.built_ins.BuiltIn.{BuiltIn}
 use Rattle.iso_model.specs.declared.built_ins.BuiltIn.TheVariants as built_in
 use Rattle.iso_model.specs.declared.pauses.Pause.{Pause}
 use Rattle.iso_model.specs.declared.limit.Limit.TheVariants as limit
-use Rattle.iso_model.specs.Search.Walker.{State, World, Goal, CutTo, Fail, Leave, Raise, Goes, AsIs, Again, Catching, Halted, idle, fails, with_goal, pushed, step}
+use Rattle.iso_model.specs.Search.Walker.{State, World, Goal, CutTo, Fail, Leave, Raise, Goes, AsIs, Again, Gather, Catching, Gathering, Halted, idle, fails, with_goal, pushed, step}
 use Rattle.iso_model.specs.Search.Engines.{IsAwake}
 use Rattle.iso_model.specs.Search.Runs.{Finishes, ComesOver}
 use Rattle.iso_model.specs.Search.RunLaws.Sameness.{Around}
 use Rattle.iso_model.specs.Search.RunLaws.Values.{IsValue, IsOwnBody, IsOwnReply, value_is, reply_own}
-use Rattle.iso_model.proofs.Search.CallLemmas.{run_equation, run_equation_missed}
+use Rattle.iso_model.proofs.Search.CallLemmas.{run_equation, run_equation_missed, run_copy, run_copy_missed}
 use Rattle.iso_atoms.specs.Texts.{KeepsTexts}
 use Rattle.iso_store_core.specs.Presents.{Present, KeepsMarks, KeepsWords, Binds, meaning}
 use Rattle.iso_plain_core.specs.declared.bodies.Node.{Node}
@@ -35,8 +38,9 @@ use Rattle.iso_plain_core.specs.Next.{now_behind}
 use Rattle.iso_plain_core.specs.GoalKinds.{IsBuiltIn}
 use Rattle.iso_plain_core.specs.Entering.{Adds}
 use Rattle.iso_plain.specs.Catches.{EntersCatch, throwing, catching, calling_inside, catcher_of, recovery_of}
+use Rattle.iso_plain.specs.Gathers.{EntersFindall, FindsAll, finding, template_of, result_of}
 use Rattle.iso_plain.specs.Worlds.{IsWorld}
-use Rattle.iso_lib.specs.Replies.{IsUnbound}
+use Rattle.iso_lib.specs.Replies.{IsUnbound, UnifiesCopy}
 use Rattle.iso_plain_core.specs.Replies.{IsReply, IsInside, Places}
 use Rattle.iso_plain_core.specs.Standing.{IsAt, a_body}
 use Rattle.iso_plain.specs.EngineStates.{IsEngine, IsAhead, Represents, StandsFor, Stopped, Keeps, WasCalled, WasRefused, Moves, calling_once, refuting, phase_of}
@@ -44,11 +48,11 @@ use Rattle.iso_plain.proofs.AheadLemmas.{engine_frame, engine_place}
 use Rattle.iso_plain.proofs.EngineMoves.{spent_stands}
 use Rattle.iso_plain_core.proofs.EnteringLemmas.{words_same}
 use Rattle.iso_plain.proofs.FailLemmas.{awake_behind}
-use Rattle.iso_plain.proofs.RunLemmas.{AtRun, ahead_step, one_less}
+use Rattle.iso_plain.proofs.RunLemmas.{AtRun, ahead_step, ahead_more, one_less}
 use Rattle.iso_plain.proofs.RunMoves.{failed_engine, at, runs_to, throws, ends_by}
 use Rattle.iso_plain_core.proofs.ArityLemmas.{HasArity, built_in_arguments}
-use Rattle.iso_plain_core.proofs.ReplyLemmas.{catch_parts}
-use Rattle.iso_plain.proofs.SameBodies.{around_own, around_steps, around_pushed, same_first, same_inside}
+use Rattle.iso_plain_core.proofs.ReplyLemmas.{catch_parts, gather_parts}
+use Rattle.iso_plain.proofs.SameBodies.{around_own, around_steps, around_pushed, same_first, same_inside, same_finding}
 use Rattle.iso_plain.proofs.SearchMoves.{goes, goes_as, stops, stops_here, comes_over}
 use Rattle.iso_plain.proofs.SearchSteps.{own_goal}
 use Rattle.iso_plain_core.proofs.StandingLemmas.{choices_length}
@@ -58,33 +62,39 @@ use Rattle.iso_plain_core.proofs.StandingLemmas.{choices_length}
 -- The goal went on: with the bindings that there were, or with a unifier more.
 pub data WentOn {W : Type 0} (p q : Present W) : Reply → Type 0 where
   as_before : q ≡ p → WentOn p q Succeeds
-  unified : {a b : Tree} (s : Subst) → Unifier a b s → Binds p q s → WentOn p q (Equates a b)
+  unified : {made : ℕ} {a b : Tree} (s : Subst) → Unifier a b s → Binds p q s → WentOn p q (Equates made a b)
+  unified_copy : {a b : Tree} → UnifiesCopy p q a b → WentOn p q (EquatesCopy a b)
 
 pub went_on : {W : Type 0} (p q : Present W) (old new : List (Node W)) (x : Reply) → IsReply p q old new x replied.GoesOn → WentOn p q x
 went_on p q old new Succeeds h = as_before h.0
-went_on p q old new (Equates a b) h = unified h.0.0 h.0.1 h.0.2
+went_on p q old new (Equates made a b) h = unified h.0.0 h.0.1 h.0.2
+went_on p q old new (EquatesCopy a b) h = unified_copy h.0
 went_on p q old new Fails h = absurd h
 went_on p q old new (Raises error) h = absurd h
 went_on p q old new (Calls b) h = absurd h
 went_on p q old new (CallsOnce b) h = absurd h
 went_on p q old new (Refutes b) h = absurd h
+went_on p q old new (Gathers template b result) h = absurd h
 went_on p q old new Repeats h = absurd h
 went_on p q old new (Catches inside catcher recovery) h = absurd h
 went_on p q old new (Halts n) h = absurd h
 
 -- The goal failed.
-pub data Failed : Reply → Type 0 where
-  at_once : Failed Fails
-  never_equal : {a b : Tree} → NeverEqual a b → Failed (Equates a b)
+pub data Failed {W : Type 0} (p : Present W) : Reply → Type 0 where
+  at_once : Failed p Fails
+  never_equal : {made : ℕ} {a b : Tree} → NeverEqual a b → Failed p (Equates made a b)
+  never_copy : {a b : Tree} → NeverEqual a (apply p.substitution (copy_from b p.next)) → Failed p (EquatesCopy a b)
 
-pub failed_on : {W : Type 0} (p q : Present W) (old new : List (Node W)) (x : Reply) → IsReply p q old new x replied.Fails → Failed x
+pub failed_on : {W : Type 0} (p q : Present W) (old new : List (Node W)) (x : Reply) → IsReply p q old new x replied.Fails → Failed p x
 failed_on p q old new Fails h = at_once
-failed_on p q old new (Equates a b) h = never_equal h.0
+failed_on p q old new (Equates made a b) h = never_equal h.0
+failed_on p q old new (EquatesCopy a b) h = never_copy h.0
 failed_on p q old new Succeeds h = absurd h
 failed_on p q old new (Raises error) h = absurd h
 failed_on p q old new (Calls b) h = absurd h
 failed_on p q old new (CallsOnce b) h = absurd h
 failed_on p q old new (Refutes b) h = absurd h
+failed_on p q old new (Gathers template b result) h = absurd h
 failed_on p q old new Repeats h = absurd h
 failed_on p q old new (Catches inside catcher recovery) h = absurd h
 failed_on p q old new (Halts n) h = absurd h
@@ -93,10 +103,12 @@ pub raised_by : {W : Type 0} (p q : Present W) (old new : List (Node W)) (x : Re
 raised_by p q old new (Raises error) ball h = (ap Raises (sym h.is), h.fits, h.unbound)
 raised_by p q old new Fails ball h = absurd h
 raised_by p q old new Succeeds ball h = absurd h
-raised_by p q old new (Equates a b) ball h = absurd h
+raised_by p q old new (Equates made a b) ball h = absurd h
+raised_by p q old new (EquatesCopy a b) ball h = absurd h
 raised_by p q old new (Calls b) ball h = absurd h
 raised_by p q old new (CallsOnce b) ball h = absurd h
 raised_by p q old new (Refutes b) ball h = absurd h
+raised_by p q old new (Gathers template b result) ball h = absurd h
 raised_by p q old new Repeats ball h = absurd h
 raised_by p q old new (Catches inside catcher recovery) ball h = absurd h
 raised_by p q old new (Halts n) ball h = absurd h
@@ -105,10 +117,12 @@ pub calls_by : {W : Type 0} (p q : Present W) (old new : List (Node W)) (x : Rep
 calls_by p q old new (Calls b) place h = (b, refl, h)
 calls_by p q old new Fails place h = absurd h
 calls_by p q old new Succeeds place h = absurd h
-calls_by p q old new (Equates a b) place h = absurd h
+calls_by p q old new (Equates made a b) place h = absurd h
+calls_by p q old new (EquatesCopy a b) place h = absurd h
 calls_by p q old new (Raises error) place h = absurd h
 calls_by p q old new (CallsOnce b) place h = absurd h
 calls_by p q old new (Refutes b) place h = absurd h
+calls_by p q old new (Gathers template b result) place h = absurd h
 calls_by p q old new Repeats place h = absurd h
 calls_by p q old new (Catches inside catcher recovery) place h = absurd h
 calls_by p q old new (Halts n) place h = absurd h
@@ -117,19 +131,23 @@ pub once_by : {W : Type 0} (p q : Present W) (old new : List (Node W)) (x : Repl
 once_by p q old new (CallsOnce b) place h = (b, refl, h)
 once_by p q old new Fails place h = absurd h
 once_by p q old new Succeeds place h = absurd h
-once_by p q old new (Equates a b) place h = absurd h
+once_by p q old new (Equates made a b) place h = absurd h
+once_by p q old new (EquatesCopy a b) place h = absurd h
 once_by p q old new (Raises error) place h = absurd h
 once_by p q old new (Calls b) place h = absurd h
 once_by p q old new (Refutes b) place h = absurd h
+once_by p q old new (Gathers template b result) place h = absurd h
 once_by p q old new Repeats place h = absurd h
 once_by p q old new (Catches inside catcher recovery) place h = absurd h
 once_by p q old new (Halts n) place h = absurd h
 
 pub refutes_by : {W : Type 0} (p q : Present W) (old new : List (Node W)) (x : Reply) (place : ℕ) → IsReply p q old new x (replied.Refutes place) → (b : Body) × (x ≡ Refutes b) × Places p q old new b place
 refutes_by p q old new (Refutes b) place h = (b, refl, h)
+refutes_by p q old new (Gathers template b result) place h = absurd h
 refutes_by p q old new Fails place h = absurd h
 refutes_by p q old new Succeeds place h = absurd h
-refutes_by p q old new (Equates a b) place h = absurd h
+refutes_by p q old new (Equates made a b) place h = absurd h
+refutes_by p q old new (EquatesCopy a b) place h = absurd h
 refutes_by p q old new (Raises error) place h = absurd h
 refutes_by p q old new (Calls b) place h = absurd h
 refutes_by p q old new (CallsOnce b) place h = absurd h
@@ -141,11 +159,13 @@ pub repeats_by : {W : Type 0} (p q : Present W) (old new : List (Node W)) (x : R
 repeats_by p q old new Repeats h = (refl, h.0)
 repeats_by p q old new Fails h = absurd h
 repeats_by p q old new Succeeds h = absurd h
-repeats_by p q old new (Equates a b) h = absurd h
+repeats_by p q old new (Equates made a b) h = absurd h
+repeats_by p q old new (EquatesCopy a b) h = absurd h
 repeats_by p q old new (Raises error) h = absurd h
 repeats_by p q old new (Calls b) h = absurd h
 repeats_by p q old new (CallsOnce b) h = absurd h
 repeats_by p q old new (Refutes b) h = absurd h
+repeats_by p q old new (Gathers template b result) h = absurd h
 repeats_by p q old new (Catches inside catcher recovery) h = absurd h
 repeats_by p q old new (Halts n) h = absurd h
 
@@ -154,11 +174,13 @@ pub catches_by : {W : Type 0} (p q : Present W) (old new : List (Node W)) (x : R
 catches_by p q old new (Catches inside catcher recovery) placed h = (inside, catcher, recovery, refl, h)
 catches_by p q old new Fails placed h = absurd h
 catches_by p q old new Succeeds placed h = absurd h
-catches_by p q old new (Equates a b) placed h = absurd h
+catches_by p q old new (Equates made a b) placed h = absurd h
+catches_by p q old new (EquatesCopy a b) placed h = absurd h
 catches_by p q old new (Raises error) placed h = absurd h
 catches_by p q old new (Calls b) placed h = absurd h
 catches_by p q old new (CallsOnce b) placed h = absurd h
 catches_by p q old new (Refutes b) placed h = absurd h
+catches_by p q old new (Gathers template b result) placed h = absurd h
 catches_by p q old new Repeats placed h = absurd h
 catches_by p q old new (Halts n) placed h = absurd h
 
@@ -166,23 +188,42 @@ pub halts_by : {W : Type 0} (p q : Present W) (old new : List (Node W)) (x : Rep
 halts_by p q old new (Halts n) status h = ap Halts (sym h)
 halts_by p q old new Fails status h = absurd h
 halts_by p q old new Succeeds status h = absurd h
-halts_by p q old new (Equates a b) status h = absurd h
+halts_by p q old new (Equates made a b) status h = absurd h
+halts_by p q old new (EquatesCopy a b) status h = absurd h
 halts_by p q old new (Raises error) status h = absurd h
 halts_by p q old new (Calls b) status h = absurd h
 halts_by p q old new (CallsOnce b) status h = absurd h
 halts_by p q old new (Refutes b) status h = absurd h
+halts_by p q old new (Gathers template b result) status h = absurd h
 halts_by p q old new Repeats status h = absurd h
 halts_by p q old new (Catches inside catcher recovery) status h = absurd h
+
+pub gathers_by : {W : Type 0} (p q : Present W) (old new : List (Node W)) (x : Reply) (place : ℕ) → IsReply p q old new x (replied.Gathers place)
+    → (template : Tree) × (b : Body) × (result : Tree) × (x ≡ Gathers template b result) × Places p q old new b place
+gathers_by p q old new (Gathers template b result) place h = (template, b, result, refl, h)
+gathers_by p q old new Fails place h = absurd h
+gathers_by p q old new Succeeds place h = absurd h
+gathers_by p q old new (Equates made a b) place h = absurd h
+gathers_by p q old new (EquatesCopy a b) place h = absurd h
+gathers_by p q old new (Raises error) place h = absurd h
+gathers_by p q old new (Calls b) place h = absurd h
+gathers_by p q old new (CallsOnce b) place h = absurd h
+gathers_by p q old new (Refutes b) place h = absurd h
+gathers_by p q old new Repeats place h = absurd h
+gathers_by p q old new (Catches inside catcher recovery) place h = absurd h
+gathers_by p q old new (Halts n) place h = absurd h
 
 -- what is inside a catch
 pub inside_calls : {W : Type 0} (p q : Present W) (old new : List (Node W)) (x : Reply) (place : ℕ) → IsInside p q old new x (placed.Body place) → (b : Body) × (x ≡ Calls b) × Places p q old new b place
 inside_calls p q old new (Calls b) place h = (b, refl, h)
 inside_calls p q old new Fails place h = absurd h
 inside_calls p q old new Succeeds place h = absurd h
-inside_calls p q old new (Equates a b) place h = absurd h
+inside_calls p q old new (Equates made a b) place h = absurd h
+inside_calls p q old new (EquatesCopy a b) place h = absurd h
 inside_calls p q old new (Raises error) place h = absurd h
 inside_calls p q old new (CallsOnce b) place h = absurd h
 inside_calls p q old new (Refutes b) place h = absurd h
+inside_calls p q old new (Gathers template b result) place h = absurd h
 inside_calls p q old new Repeats place h = absurd h
 inside_calls p q old new (Catches inside catcher recovery) place h = absurd h
 inside_calls p q old new (Halts n) place h = absurd h
@@ -192,10 +233,12 @@ pub inside_raises : {W : Type 0} (p q : Present W) (old new : List (Node W)) (x 
 inside_raises p q old new (Raises error) ball h = (ap Raises (sym h.is), h.fits, h.unbound)
 inside_raises p q old new Fails ball h = absurd h
 inside_raises p q old new Succeeds ball h = absurd h
-inside_raises p q old new (Equates a b) ball h = absurd h
+inside_raises p q old new (Equates made a b) ball h = absurd h
+inside_raises p q old new (EquatesCopy a b) ball h = absurd h
 inside_raises p q old new (Calls b) ball h = absurd h
 inside_raises p q old new (CallsOnce b) ball h = absurd h
 inside_raises p q old new (Refutes b) ball h = absurd h
+inside_raises p q old new (Gathers template b result) ball h = absurd h
 inside_raises p q old new Repeats ball h = absurd h
 inside_raises p q old new (Catches inside catcher recovery) ball h = absurd h
 inside_raises p q old new (Halts n) ball h = absurd h
@@ -242,13 +285,30 @@ module _ {S W M : Type 0} (names : S → List (List ℕ)) (present : S → Prese
         goes names present stands older e (record mid { now = now_behind e.frames.items f.next }) s r (record o { list = a.behind; subst = v; built = built; steps = n }) h
         (engine_place names present stands older mid (record o { list = a.behind; subst = v; built = built; steps = n }) f.next ahead) (awake_behind e.frames.items f.next)
 
+    -- a copy, as the search makes it
+    same_copy : (y : Tree) → apply (present e.store).substitution (copy_from y (present e.store).next) ≡ apply o.subst (copy_from y o.next)
+    same_copy y = ap₂ (λ (v : Subst) (m : ℕ). apply v (copy_from y m)) a.ahead.goes.subst a.ahead.goes.next
+
+    went_copy : (y : Tree) (v : Subst) {x : Tree} (u : UnifiesCopy (present e.store) (present store) x y) → (present store).substitution ≡ v
+        → step o ≡ Goes (record o { list = a.behind; subst = v; next = o.next + variable_count y; built = o.built + (1 + size y); steps = n }) → Moves names present stands older move.Goes s (record mid { now = now_behind e.frames.items f.next })
+    went_copy y v u substitution h =
+        let ahead = ahead_more names present stands older e store nodes (record o { list = a.behind }) f.next n (o.built + (1 + size y)) (variable_count y) v a.ahead (one_less e.steps more) keeps texts adds u.words substitution u.next u.few in
+        goes names present stands older e (record mid { now = now_behind e.frames.items f.next }) s r (record o { list = a.behind; subst = v; next = o.next + variable_count y; built = o.built + (1 + size y); steps = n }) h
+        (engine_place names present stands older mid (record o { list = a.behind; subst = v; next = o.next + variable_count y; built = o.built + (1 + size y); steps = n }) f.next ahead) (awake_behind e.frames.items f.next)
+
     pub goes_on : (x : Reply) → reply b t ≡ x → WentOn (present e.store) (present store) x → Moves names present stands older move.Goes s (record mid { now = now_behind e.frames.items f.next })
     goes_on Succeeds is (as_before same) =
         went o.built o.subst (subst (λ (q : Present W). KeepsWords (present e.store) q) (sym same) (words_same (present e.store))) (ap (λ (q : Present W). q.substitution) same ∙ a.ahead.goes.subst) (ap (λ (q : Present W). q.next) same)
         (runs_to names present stands older e s f k w doing there r (record o { list = a.behind }) more (own_goal t a.behind o b Succeeds is_own is))
-    goes_on (Equates x y) is (unified u unifier binds) =
-        went (o.built + 2) (compose o.subst u) binds.words (binds.substitution ∙ ap (λ (v : Subst). compose v u) a.ahead.goes.subst) binds.numbers.next
-        (runs_to names present stands older e s f k w doing there r (record o { list = a.behind; subst = compose o.subst u; built = o.built + 2 }) more (own_goal t a.behind o b (Equates x y) is_own is ∙ run_equation x y a.behind o u unifier))
+    goes_on (Equates made x y) is (unified u unifier binds) =
+        went (o.built + made) (compose o.subst u) binds.words (binds.substitution ∙ ap (λ (v : Subst). compose v u) a.ahead.goes.subst) binds.numbers.next
+        (runs_to names present stands older e s f k w doing there r (record o { list = a.behind; subst = compose o.subst u; built = o.built + made }) more (own_goal t a.behind o b (Equates made x y) is_own is ∙ run_equation made x y a.behind o u unifier))
+    goes_on (EquatesCopy x y) is (unified_copy u) =
+        let copy = same_copy y in
+        let unifier : Unifier x (apply o.subst (copy_from y o.next)) u.unifier = subst (λ (z : Tree). Unifier x z u.unifier) copy u.is in
+        went_copy y (compose o.subst u.unifier) u (u.substitution ∙ ap (λ (v : Subst). compose v u.unifier) a.ahead.goes.subst)
+        (runs_to names present stands older e s f k w doing there r (record o { list = a.behind; subst = compose o.subst u.unifier; next = o.next + variable_count y; built = o.built + (1 + size y) }) more
+        (own_goal t a.behind o b (EquatesCopy x y) is_own is ∙ run_copy x y a.behind o u.unifier unifier))
     goes_on Fails is x3 = elim x3 [ ]
     goes_on (Raises error) is x4 = elim x4 [ ]
     goes_on (Calls goal) is x5 = elim x5 [ ]
@@ -257,17 +317,26 @@ module _ {S W M : Type 0} (names : S → List (List ℕ)) (present : S → Prese
     goes_on Repeats is x8 = elim x8 [ ]
     goes_on (Catches inside catcher recovery) is x9 = elim x9 [ ]
     goes_on (Halts status) is x10 = elim x10 [ ]
+    goes_on (Gathers template goal result) is x11 = elim x11 [ ]
 
     -- ---- it failed
 
-    failed : (built : ℕ) → step o ≡ Goes (record o { list = Fail ∷ []; built = built; steps = n }) → Moves names present stands older move.Goes s (record mid { now = now.Failing })
-    failed built h =
-        goes names present stands older e (record mid { now = now.Failing }) s r (record o { list = Fail ∷ []; built = built; steps = n }) h (failed_engine names present stands older e store nodes o n built (one_less e.steps more) keeps texts adds r.engine) tt
+    -- the next number doesn't count then
+    failed_at : (number built : ℕ) → step o ≡ Goes (record o { list = Fail ∷ []; next = number; built = built; steps = n }) → Moves names present stands older move.Goes s (record mid { now = now.Failing })
+    failed_at number built h =
+        goes names present stands older e (record mid { now = now.Failing }) s r (record o { list = Fail ∷ []; next = number; built = built; steps = n }) h (failed_engine names present stands older e store nodes o n number built (one_less e.steps more) keeps texts adds r.engine) tt
 
-    pub fails_now : (x : Reply) → reply b t ≡ x → Failed x → Moves names present stands older move.Goes s (record mid { now = now.Failing })
+    failed : (built : ℕ) → step o ≡ Goes (record o { list = Fail ∷ []; built = built; steps = n }) → Moves names present stands older move.Goes s (record mid { now = now.Failing })
+    failed built h = failed_at o.next built h
+
+    pub fails_now : (x : Reply) → reply b t ≡ x → Failed (present e.store) x → Moves names present stands older move.Goes s (record mid { now = now.Failing })
     fails_now Fails is at_once = failed o.built (runs_to names present stands older e s f k w doing there r (fails o) more (own_goal t a.behind o b Fails is_own is))
-    fails_now (Equates x y) is (never_equal never) =
-        failed (o.built + 2) (runs_to names present stands older e s f k w doing there r (record o { list = Fail ∷ []; built = o.built + 2 }) more (own_goal t a.behind o b (Equates x y) is_own is ∙ run_equation_missed x y a.behind o never))
+    fails_now (Equates made x y) is (never_equal never) =
+        failed (o.built + made) (runs_to names present stands older e s f k w doing there r (record o { list = Fail ∷ []; built = o.built + made }) more (own_goal t a.behind o b (Equates made x y) is_own is ∙ run_equation_missed made x y a.behind o never))
+    fails_now (EquatesCopy x y) is (never_copy never) =
+        let missed : NeverEqual x (apply o.subst (copy_from y o.next)) = subst (λ (z : Tree). NeverEqual x z) (same_copy y) never in
+        failed_at (o.next + variable_count y) (o.built + (1 + size y))
+        (runs_to names present stands older e s f k w doing there r (record o { list = Fail ∷ []; next = o.next + variable_count y; built = o.built + (1 + size y) }) more (own_goal t a.behind o b (EquatesCopy x y) is_own is ∙ run_copy_missed x y a.behind o missed))
     fails_now Succeeds is x3 = elim x3 [ ]
     fails_now (Raises error) is x4 = elim x4 [ ]
     fails_now (Calls goal) is x5 = elim x5 [ ]
@@ -276,6 +345,7 @@ module _ {S W M : Type 0} (names : S → List (List ℕ)) (present : S → Prese
     fails_now Repeats is x8 = elim x8 [ ]
     fails_now (Catches inside catcher recovery) is x9 = elim x9 [ ]
     fails_now (Halts status) is x10 = elim x10 [ ]
+    fails_now (Gathers template goal result) is x11 = elim x11 [ ]
 
     -- ---- a ball is thrown
 
@@ -502,3 +572,64 @@ module _ {S W M : Type 0} (names : S → List (List ℕ)) (present : S → Prese
 
         pub call_inside_over : e.limit ≤ length e.choices.items → ComesOver e.limit s
         call_inside_over = over_inside called_inside calls_to refl
+
+    -- ---- for all of its solutions
+
+    module _ (template result : Tree) (c : Body) (is : reply b t ≡ Gathers template c result) (place : ℕ) (h : Places (present e.store) (present store) e.nodes.items nodes.items c place) where
+      -- the state behind the goal
+      abbrev pub behind_findall : State
+      behind_findall = behind o.built
+
+      -- the goal's word stands for what it did
+      same_goal : meaning (present store) w ≡ t
+      same_goal = ap₂ (λ (v : Subst) (x : Tree). apply v x) h.substitution (h.words.terms w a.holds)
+
+      goal_parts : (b ≡ built_in.Findall) × (template ≡ argument 0 t) × (result ≡ argument 2 t)
+      goal_parts = gather_parts b t template result c is
+
+      template_same : template_of (present store) w ≡ template
+      template_same = ap (argument 0) same_goal ∙ sym goal_parts.1
+
+      result_same : result_of (present store) w ≡ result
+      result_same = ap (argument 2) same_goal ∙ sym goal_parts.2
+
+      pub enters_findall : EntersFindall names present stands older mid w behind_findall f.next
+      enters_findall = record {
+        ahead = behind_ahead o.built h.words h.substitution h.next;
+        space = (let room = a.ahead.goes.room in let all = a.ahead.steps in let one = one_less e.steps more in omega (arith, room, all, one));
+        holds = h.words.stand w a.holds;
+        three = ap arity same_goal ∙ subst (λ (x : BuiltIn). HasArity x (arity t)) goal_parts.0 (built_in_arguments t b is_own);
+      }
+
+      -- the state that the walker comes to
+      abbrev pub walker_finds : State
+      walker_finds = record (pushed a.behind (Gathering result [] 0) behind_findall) { list = Goal c (suc (length o.stack)) ∷ Gather (length o.stack) template ∷ a.behind; built = (with_goal c o).built }
+
+      finds_to : step o ≡ Goes walker_finds
+      finds_to =
+          runs_to names present stands older e s f k w doing there r (record (with_goal c (pushed a.behind (Gathering result [] 0) o)) { list = Goal c (suc (length o.stack)) ∷ Gather (length o.stack) template ∷ a.behind }) more
+          (own_goal t a.behind o b (Gathers template c result) is_own is)
+
+      pub finds_now : (new : Plain S W M) (m : Move) → FindsAll names present stands older m new (template_of (present store) w) (result_of (present store) w) h.body behind_findall → Moves names present stands older m s new
+      finds_now new move.Goes was =
+          let own = own_reply (Gathers template c result) is in
+          let values = subst (λ (v : Subst). map_body v h.body ≡ c) a.ahead.goes.subst h.values ∙ sym own.1 in
+          let value : apply o.subst was.0 ≡ apply o.subst template = was.1 ∙ (template_same ∙ sym own.0) in
+          let engine = subst (λ (x : Tree). IsEngine names present stands older new (finding h.body was.0 x behind_findall)) result_same (was.2).0 in
+          goes_as names present stands older e new s r walker_finds (finding h.body was.0 result behind_findall) finds_to
+          (same_finding behind_findall h.body c was.0 template result (suc (length o.stack)) (length o.stack) (with_goal c o).built a.behind values value own.2 (around_steps o a.behind o.built n around))
+          engine (was.2).1
+      finds_now new (move.Pauses p) was =
+          let stopped = was.2 in
+          rw stopped.0 (spent_stands names present stands older limit.Frames new.now new s (ap phase_of stopped.1) (stops_here names present stands older new o s r.same stopped.2), ap phase_of stopped.1)
+
+      pub find_stops : (new : Plain S W M) → WasRefused names present stands older new behind_findall (pushed behind_findall.list (Gathering (result_of (present store) w) [] 0) behind_findall) → Stopped names present stands older new s
+      find_stops new (inl kept) = stops_here names present stands older new o s r.same kept
+      find_stops new (inr kept) =
+          stops names present stands older new o walker_finds s (pushed a.behind (Gathering result [] 0) o).stack r.same finds_to refl refl
+          (subst (λ (x : Tree). Keeps names present stands older new o.world (pushed a.behind (Gathering x [] 0) o).stack) result_same kept)
+
+      pub find_over : e.limit ≤ length e.choices.items → ComesOver e.limit s
+      find_over full =
+          let many = choices_length r.engine.choices in
+          comes_over names present stands older e s r walker_finds e.limit finds_to refl (omega (arith, many, full))

@@ -1,5 +1,6 @@
 -- Members that the newest choice kept are gone on with: the choice goes, or stays.
-use Rattle.std.proofs.Common.{◌≡◌, ℕ, suc, ◌+◌, ◌-◌, ◌<◌, ◌≤◌, ◌++◌, List, [], ◌∷◌, length, take, Option, refl, ap, sym, ◌∙◌, subst, arith, Vec, Global}
+use Rattle.std.proofs.Common.{◌≡◌, ℕ, suc, ◌+◌, ◌-◌, ◌<◌, ◌≤◌, ◌++◌, List, [], ◌∷◌, length, take, get_or, Option, Some, refl, ap, sym, ◌∙◌, subst, arith, Vec, Global}
+use Rattle.std.specs.List.{slice_get}
 use Rattle.iso_atoms.specs.Texts.{KeepsTexts}
 use Rattle.iso_model.specs.Terms.Variables.{variables}
 use Rattle.iso_model.specs.Search.Walker.{State, Alternative, AsIs, Again, fails, pushed}
@@ -18,11 +19,33 @@ use Rattle.iso_plain_core.specs.ClausePlaces.{left_at}
 use Rattle.iso_plain.proofs.AheadLemmas.{engine_place}
 use Rattle.iso_plain_core.proofs.CostLemmas.{choices_last, behind_cost, left_step}
 use Rattle.iso_plain.proofs.RunLemmas.{room_less}
-use Rattle.iso_plain_core.proofs.StandingLemmas.{choices_push, choices_keep, last_split}
+use Rattle.iso_plain_core.proofs.StandingLemmas.{choices_push, choices_keep, item_is, last_split, last_is, length_last, front_is, some_same}
 use Rattle.iso_plain.proofs.WorldLemmas.{world_on}
+
+-- marks that are older than this one stand on
+pub marks_of : {W M : Type 0} (older : M → M → Type 0) {old new : M → Present W → Type 0} (mark other : M) → other ≡ mark → ((m : M) (p : Present W) → older m mark → old m p → new m p) → (m : M) (p : Present W) → older m other → old m p → new m p
+marks_of older mark other same h m p less stood = h m p (subst (λ (x : _). older m x) same less) stood
 
 module _ {S W M : Type 0} (names : S → List (List ℕ)) (present : S → Present W) (stands : S → M → Present W → Type 0) (older : M → M → Type 0) where
   module _ (e : Plain S W M) (c : kept.Choice W M) (s : State) (a : Alternative) (below : List Alternative) (w : WentBack names present stands older e c s a below) where
+    -- it is the newest one
+    pub newest_is : (n : ℕ) (x : kept.Choice W M) → n ≡ length e.choices.items → x ≡ get_or e.choices.items (n - 1) x → x ≡ c
+    newest_is n x many at = item_is e.choices.items (length e.choices.items - 1) c x w.newest (at ∙ ap (λ (k : ℕ). get_or e.choices.items (k - 1) x) many)
+
+    pub newest_at : (i : ℕ) (x : kept.Choice W M) → i + 1 ≡ length e.choices.items → x ≡ get_or e.choices.items i x → x ≡ c
+    newest_at i x many at =
+        let place : length e.choices.items - 1 ≡ i = omega (arith, many) in
+        item_is e.choices.items i c x (subst (λ (k : ℕ). slice_get e.choices.items k ≡ Some c) place w.newest) at
+
+    -- so the last one is
+    pub popped_is : (xs : List (kept.Choice W M)) (x : kept.Choice W M) → e.choices.items ≡ xs ++ x ∷ [] → (x ≡ c) × (xs ≡ take (length e.choices.items - 1) e.choices.items)
+    popped_is xs x split =
+        let many : length e.choices.items - 1 ≡ length xs = (let n = ap length split in let m = length_last xs x in omega (arith, n, m)) in
+        let there : slice_get e.choices.items (length xs) ≡ Some c = subst (λ (k : ℕ). slice_get e.choices.items k ≡ Some c) many w.newest in
+        let here : slice_get e.choices.items (length xs) ≡ Some x = ap (λ (ys : List (kept.Choice W M)). slice_get ys (length xs)) split ∙ last_is xs x in
+        let front : take (length e.choices.items - 1) e.choices.items ≡ xs = ap (λ (k : ℕ). take k e.choices.items) many ∙ (ap (take (length xs)) split ∙ front_is xs x) in
+        (some_same (sym here ∙ there), sym front)
+
     -- the members that are left
     pub has_members : (l : Left W) → c.left ≡ l → HasLeft (left_at s.world.database.procedures) e.query.items (variables s.query) (present e.store) (links_of e) l a
     has_members l is = subst (λ (x : Left W). HasLeft (left_at s.world.database.procedures) e.query.items (variables s.query) (present e.store) (links_of e) x a) is w.has

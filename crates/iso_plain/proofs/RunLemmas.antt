@@ -1,5 +1,5 @@
 -- The engine is at a goal.
-use Rattle.std.proofs.Common.{◌≡◌, ◌≢◌, ◌-◌, ℕ, zero, suc, List, [], ◌∷◌, Option, true, refl, ap, sym, ◌∙◌, subst, arith, Vec, Global}
+use Rattle.std.proofs.Common.{◌≡◌, ◌≢◌, ◌-◌, ◌+◌, ◌≤◌, ℕ, zero, suc, List, [], ◌∷◌, Option, true, refl, ap, sym, ◌∙◌, subst, arith, Vec, Global}
 use Rattle.iso_atoms.specs.Texts.{KeepsTexts}
 use Rattle.iso_model.specs.Terms.Trees.{Tree}
 use Rattle.iso_model.specs.Terms.Variables.{variables}
@@ -14,7 +14,7 @@ use Rattle.iso_plain_core.specs.declared.parts.Frame.{Frame}
 use Rattle.iso_plain_core.specs.declared.parts.Now.TheVariants as now
 use Rattle.iso_plain.specs.declared.plain.Plain.{Plain}
 use Rattle.iso_plain_core.specs.Entering.{Adds}
-use Rattle.iso_plain_core.specs.Standing.{IsAt, HaveRoom}
+use Rattle.iso_plain_core.specs.Standing.{IsAt, HaveRoom, numbers_a_step}
 use Rattle.iso_plain.specs.EngineStates.{IsEngine, IsAhead, Calls, links_of}
 use Rattle.iso_plain_core.specs.ClausePlaces.{left_at}
 use Rattle.iso_plain.proofs.AheadLemmas.{at_body}
@@ -73,11 +73,12 @@ module _ {S W M : Type 0} (names : S → List (List ℕ)) (present : S → Prese
         clauses = clauses;
       }
 
-  -- a step was taken, bindings came and nodes, and the goals behind the goal come next
-  pub ahead_step : (e : Plain S W M) (store : S) (nodes : Vec (Node W) Global) (s : State) (place : Option ℕ) (n built : ℕ) (q : Subst) → IsAhead names present stands older e s place → e.steps ≡ suc n
-      → KeepsMarks (stands e.store) (stands store) → KeepsTexts (names e.store) (names store) → Adds e.nodes.items nodes.items → KeepsWords (present e.store) (present store) → (present store).substitution ≡ q → (present store).next ≡ (present e.store).next
-      → IsAhead names present stands older (record e { store = store; nodes = nodes; steps = n }) (record s { subst = q; built = built; steps = n }) place
-  ahead_step e store nodes s place n built q h many keeps texts adds words substitution next =
+  -- a step was taken, bindings, nodes and numbers came, and the goals behind the goal come next
+  pub ahead_more : (e : Plain S W M) (store : S) (nodes : Vec (Node W) Global) (s : State) (place : Option ℕ) (n built count : ℕ) (q : Subst) → IsAhead names present stands older e s place → e.steps ≡ suc n
+      → KeepsMarks (stands e.store) (stands store) → KeepsTexts (names e.store) (names store) → Adds e.nodes.items nodes.items → KeepsWords (present e.store) (present store) → (present store).substitution ≡ q
+      → (present store).next ≡ (present e.store).next + count → count ≤ numbers_a_step
+      → IsAhead names present stands older (record e { store = store; nodes = nodes; steps = n }) (record s { subst = q; next = s.next + count; built = built; steps = n }) place
+  ahead_more e store nodes s place n built count q h many keeps texts adds words substitution next few =
       let more : AddsLinks (links_of e) (record { nodes = nodes.items; frames = e.frames.items }) = record { nodes = adds; frames = adds_none e.frames.items } in
       record {
         world = world_on texts h.world;
@@ -87,9 +88,19 @@ module _ {S W M : Type 0} (names : S → List (List ℕ)) (present : S → Prese
         room = room_less n s.stack (subst (λ (k : ℕ). HaveRoom k s.stack) many h.room);
         goes = record {
           subst = substitution;
-          next = next ∙ h.goes.next;
-          room = (let room = h.goes.room in let all = h.steps in omega (arith, room, all, many));
+          next = next ∙ ap (λ (m : ℕ). m + count) h.goes.next;
+          room = (let room = h.goes.room in let all = h.steps in omega (arith, room, all, many, few));
           words = variables_more words h.goes.words;
         };
         chain = chain_more (record { nodes = nodes.items; frames = e.frames.items }) more words h.chain;
       }
+
+  -- the same where no number came
+  pub ahead_step : (e : Plain S W M) (store : S) (nodes : Vec (Node W) Global) (s : State) (place : Option ℕ) (n built : ℕ) (q : Subst) → IsAhead names present stands older e s place → e.steps ≡ suc n
+      → KeepsMarks (stands e.store) (stands store) → KeepsTexts (names e.store) (names store) → Adds e.nodes.items nodes.items → KeepsWords (present e.store) (present store) → (present store).substitution ≡ q → (present store).next ≡ (present e.store).next
+      → IsAhead names present stands older (record e { store = store; nodes = nodes; steps = n }) (record s { subst = q; built = built; steps = n }) place
+  ahead_step e store nodes s place n built q h many keeps texts adds words substitution next =
+      let none : s.next + 0 ≡ s.next = omega arith in
+      let same : (present store).next ≡ (present e.store).next + 0 = omega (arith, next) in
+      subst (λ (m : ℕ). IsAhead names present stands older (record e { store = store; nodes = nodes; steps = n }) (record s { subst = q; next = m; built = built; steps = n }) place) none
+      (ahead_more e store nodes s place n built 0 q h many keeps texts adds words substitution same (omega arith))

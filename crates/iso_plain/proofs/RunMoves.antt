@@ -72,9 +72,9 @@ module _ {S W M : Type 0} (names : S → List (List ℕ)) (present : S → Prese
       )
 
   -- A goal took a step and failed, whatever is bound now, and whatever nodes came.
-  pub failed_engine : (e : Plain S W M) (store : S) (nodes : Vec (Node W) Global) (s : State) (n built : ℕ) → e.steps ≡ suc n → KeepsMarks (stands e.store) (stands store) → KeepsTexts (names e.store) (names store) → Adds e.nodes.items nodes.items → IsEngine names present stands older e s
-      → IsEngine names present stands older (record e { store = store; nodes = nodes; steps = n; now = now.Failing }) (record s { list = Fail ∷ []; built = built; steps = n })
-  failed_engine e store nodes s n built many keeps texts adds is = record {
+  pub failed_engine : (e : Plain S W M) (store : S) (nodes : Vec (Node W) Global) (s : State) (n number built : ℕ) → e.steps ≡ suc n → KeepsMarks (stands e.store) (stands store) → KeepsTexts (names e.store) (names store) → Adds e.nodes.items nodes.items → IsEngine names present stands older e s
+      → IsEngine names present stands older (record e { store = store; nodes = nodes; steps = n; now = now.Failing }) (record s { list = Fail ∷ []; next = number; built = built; steps = n })
+  failed_engine e store nodes s n number built many keeps texts adds is = record {
     world = world_on texts is.world;
     steps = refl;
     base = base_kept (stands e.store) (stands store) e.base keeps is.base;
@@ -133,7 +133,7 @@ module _ {S W M : Type 0} (names : S → List (List ℕ)) (present : S → Prese
     pub fails_unknown : e.steps ≢ 0 → FailsAt own.world call → Moves names present stands older move.Goes s (record e { steps = e.steps - 1; now = now.Failing })
     fails_unknown more is =
         goes names present stands older e (record e { steps = e.steps - 1; now = now.Failing }) s r (record (fails own) { steps = e.steps - 1 }) (runs_to (fails own) more (goes_nowhere is))
-        (failed_engine e e.store e.nodes own (e.steps - 1) own.built (one_less e.steps more) (λ m p h. h) (λ place text h. h) (adds_none e.nodes.items) r.engine) tt
+        (failed_engine e e.store e.nodes own (e.steps - 1) own.next own.built (one_less e.steps more) (λ m p h. h) (λ place text h. h) (adds_none e.nodes.items) r.engine) tt
 
     -- ---- a call of a procedure with these clauses
     module _ (more : e.steps ≢ 0) (key : Key) (c : databases.Clause) (cs : List databases.Clause) (user : IsUser call key) (found : clauses_at own.world.database.procedures key ≡ Some (c ∷ cs)) where

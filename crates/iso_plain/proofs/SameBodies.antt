@@ -1,9 +1,10 @@
 -- Bodies with the same values come to states that are the same.
-use Rattle.std.proofs.Common.{◌≡◌, ℕ, List, ◌∷◌, refl, sym, ◌∙◌}
+use Rattle.std.proofs.Common.{◌≡◌, ℕ, List, [], ◌∷◌, refl, sym, ◌∙◌}
 use Rattle.iso_model.specs.Terms.Trees.{Tree}
+use Rattle.iso_model.specs.Terms.Substitutions.{apply}
 use Rattle.iso_model.specs.Search.Bodies.{Body, map_body}
-use Rattle.iso_model.specs.Search.Walker.{State, Member, Goal, Fail, AsIs, Catching, pushed}
-use Rattle.iso_model.specs.Search.RunLaws.Sameness.{flat, Around, Same, going, failing, same_alternative}
+use Rattle.iso_model.specs.Search.Walker.{State, Member, Goal, Fail, Gather, AsIs, Catching, Gathering, pushed}
+use Rattle.iso_model.specs.Search.RunLaws.Sameness.{flat, Around, Same, going, failing, same_alternative, same_gathering}
 use Rattle.iso_model.specs.Search.RunLaws.SameSteps.{put_alike, list_same}
 use Rattle.iso_model.specs.Search.RunLaws.Values.{IsValue}
 use Rattle.iso_model.specs.Search.RunLaws.SameLaws.{same_back, same_on}
@@ -41,3 +42,15 @@ same_inside s b c catcher recovery mark built rest ms same one other at =
       beside = record { stack = same_alternative at.agree refl (list_same rest) refl (one, other) (one, other) at.beside.stack; world = refl; steps = refl };
     })
     (put_alike s.subst s.subst (flat ms) (flat ms) b c mark same (list_same ms))
+
+-- so for all of its solutions, with templates of the same value
+pub same_finding : (s : State) (b c : Body) (t template result : Tree) (mark height built : ℕ) (rest : List Member) → map_body s.subst b ≡ map_body s.subst c → apply s.subst t ≡ apply s.subst template → IsValue s.subst result → Around s s
+    → Same (record (pushed rest (Gathering result [] 0) s) { list = Goal b mark ∷ Gather height t ∷ rest }) (record (pushed rest (Gathering result [] 0) s) { list = Goal c mark ∷ Gather height template ∷ rest; built = built })
+same_finding s b c t template result mark height built rest same value own at =
+    going
+    (record {
+      agree = at.agree;
+      next = refl;
+      beside = record { stack = same_alternative at.agree refl (list_same rest) refl own own at.beside.stack; world = refl; steps = refl };
+    })
+    (put_alike s.subst s.subst (Gather height t ∷ flat rest) (Gather height template ∷ flat rest) b c mark same (same_gathering value (list_same rest)))

@@ -9,9 +9,10 @@ use Rattle.iso_model.specs.Search.Bodies.{Body, Cut, Run, And, Or, If, Choose}
 use Rattle.iso_model.specs.Search.Databases.{Clause, Key, clauses_at}
 use Rattle.iso_model.specs.Search.BuiltIns.{Reply, reply}
 use Rattle.iso_model.specs.declared.built_ins.BuiltIn.{BuiltIn}
-use Rattle.iso_model.specs.Search.Walker.{State, World, Ending, Member, Goal, CutTo, Fail, Leave, Raise, Meet, Alternative, Left, AsIs, Again, Clauses, Catching, pushed, cut_back, Outcome, Goes, Gives, Ends, Answered, NoMore, Budget, charged, paid, fails, values, under, entered, with_others, tried, retried, backtracked, unknown_called, called, replied, selected, run_goal, run_value, thrown, meets, clause_size, step_list, step}
+use Rattle.iso_model.specs.Search.Walker.{State, World, Ending, Member, Goal, CutTo, Fail, Leave, Raise, Meet, Alternative, Left, AsIs, Again, Clauses, Catching, Gather, Gathering, gathered_at, pushed, cut_back, Outcome, Goes, Gives, Ends, Answered, NoMore, Budget, charged, paid, fails, values, under, entered, with_others, tried, retried, backtracked, unknown_called, called, replied, selected, run_goal, run_value, thrown, meets, clause_size, step_list, step}
 use Rattle.iso_plain_core.specs.GoalKinds.{IsBuiltIn, IsUser}
 use Rattle.iso_plain.specs.EngineStates.{went_back}
+use Rattle.iso_plain.specs.Gathers.{found}
 
 -- by the list
 pub step_is : (s : State) (ms : List Member) → s.list ≡ ms → step s ≡ step_list ms s
@@ -36,6 +37,11 @@ resume_step s rest a below list stack left = back_step s rest a below AsIs list 
 pub pass_step : (s : State) (rest : List Member) (a : Alternative) (below : List Alternative) (catcher recovery : Tree) → s.list ≡ Fail ∷ rest → s.stack ≡ a ∷ below → a.left ≡ Catching catcher recovery
     → step s ≡ Goes (fails (went_back a below s))
 pass_step s rest a below catcher recovery list stack left = back_step s rest a below (Catching catcher recovery) list stack left
+
+-- the result of a findall/3 is unified with the list of what was gathered
+pub found_step : (s : State) (rest : List Member) (a : Alternative) (below : List Alternative) (result : Tree) (copies : List Tree) (count : ℕ) → s.list ≡ Fail ∷ rest → s.stack ≡ a ∷ below → a.left ≡ Gathering result copies count
+    → step s ≡ Goes (found result copies (went_back a below s))
+found_step s rest a below result copies count list stack left = back_step s rest a below (Gathering result copies count) list stack left
 
 -- and again, for which a step is needed
 pub again_step : (s : State) (rest : List Member) (a : Alternative) (below : List Alternative) (n : ℕ) → s.list ≡ Fail ∷ rest → s.stack ≡ a ∷ below → a.left ≡ Again → s.steps ≡ suc n
@@ -67,6 +73,11 @@ meet_step s ball catcher recovery rest list = step_is s (Meet ball catcher recov
 
 pub leave_step : (s : State) (height : ℕ) (rest : List Member) → s.list ≡ Leave height ∷ rest → step s ≡ Goes (record s { list = rest })
 leave_step s height rest list = step_is s (Leave height ∷ rest) list
+
+-- ---- the end of the goal of a findall/3
+
+pub gather_step : (s : State) (height : ℕ) (template : Tree) (rest : List Member) → s.list ≡ Gather height template ∷ rest → step s ≡ Goes (fails (record s { stack = gathered_at height (apply s.subst template) s.stack }))
+gather_step s height template rest list = step_is s (Gather height template ∷ rest) list
 
 -- ---- a body
 

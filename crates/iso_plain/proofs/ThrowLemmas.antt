@@ -6,8 +6,9 @@ use Rattle.std.proofs.lemmas.Bool.{eqb-true, cases_Bool, eq-eqb}
 use Rattle.std.proofs.lemmas.Option.{slice_get_within}
 use Rattle.iso_model.specs.Terms.Trees.{Tree}
 use Rattle.iso_model.specs.Search.Databases.{Clause}
-use Rattle.iso_model.specs.Search.Walker.{State, Member, Leave, Alternative, Left, AsIs, Again, Clauses, Catching, Outcome, Goes, caught_at, caught, thrown, shortened}
-use Rattle.iso_store_core.specs.Presents.{Present}
+use Rattle.iso_model.specs.Search.Walker.{State, Member, Leave, Alternative, Left, AsIs, Again, Clauses, Catching, Gathering, Outcome, Goes, caught_at, caught, thrown, shortened}
+use Rattle.iso_store_core.specs.Presents.{Present, meaning}
+use Rattle.iso_plain_core.specs.Solutions.{copies_of}
 use Rattle.iso_plain_core.specs.declared.parts.Frame.{Frame}
 use Rattle.iso_plain_core.specs.declared.parts.Left as engine
 use Rattle.iso_plain_core.specs.declared.parts.Left.TheVariants as left
@@ -105,6 +106,7 @@ module _ {W M : Type 0} {left_at : ℕ → ℕ → List Clause} {query : List W}
     by_left (left.Catching goal place) e has = (_, _, has.is)
     by_left (left.AsIs place) e has = absurd e
     by_left (left.Again place) e has = absurd e
+    by_left (left.Gathering result place g) e has = absurd e
     by_left (left.Clauses attempt) e has = absurd e
 
   -- any other
@@ -118,6 +120,7 @@ module _ {W M : Type 0} {left_at : ℕ → ℕ → List Clause} {query : List W}
     by_left (left.Catching goal place) e has = absurd (e tt)
     by_left (left.AsIs place) e has = passes AsIs has.is refl
     by_left (left.Again place) e has = passes Again has.is refl
+    by_left (left.Gathering result place g) e has = passes (Gathering (meaning at.present result) (copies_of g) g.variables) has.is refl
     by_left (left.Clauses attempt) e has = passes (Clauses has.call (left_at attempt.procedure attempt.clause)) has.left refl
 
 -- a choice that is no entry of a catch
@@ -129,4 +132,5 @@ no_entry {W} {M} choices f c there none h =
       by_left (left.Catching goal place) never e = never goal place refl
       by_left (left.AsIs place) never e = e
       by_left (left.Again place) never e = e
+      by_left (left.Gathering result place g) never e = e
       by_left (left.Clauses attempt) never e = e

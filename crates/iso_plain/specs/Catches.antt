@@ -12,6 +12,7 @@ use Rattle.iso_model.specs.Search.Bodies.{Body, Run, one}
 use Rattle.iso_model.specs.Search.BuiltIns.{Reply, Raises, Halts}
 use Rattle.iso_model.specs.Search.Walker.{State, Member, Alternative, Outcome, Goes, Ends, Goal, Leave, Raise, Meet, Catching, Uncaught, pushed, thrown, shortened}
 use Rattle.iso_model.specs.declared.pauses.Ball.{Ball}
+use Rattle.iso_lib.specs.Replies.{UnifiesCopy, MeetsCopy}
 use Rattle.iso_store_core.specs.Presents.{Present, KeepsWords, meaning}
 use Rattle.iso_plain_core.specs.declared.parts.Frame.{Frame}
 use Rattle.iso_plain_core.specs.declared.parts.Todo.TheVariants as todo
@@ -83,17 +84,12 @@ pub record IsEndOfCatch {W M : Type 0} (choices : List (kept.Choice W M)) (f : F
   pub entry : IsEntry choice.left
 
 -- A copy of the ball was unified with the catcher of this goal.
-pub record Unified {W : Type 0} (p q : Present W) (goal : W) (ball : Tree) : Type 0 where
-  pub unifier : Subst
-  pub is : Unifier (catcher_of p goal) (apply p.substitution (copy_from ball p.next)) unifier
-  pub substitution : q.substitution ≡ compose p.substitution unifier
-  pub next : q.next ≡ p.next + variable_count ball
-  pub words : KeepsWords p q
-  pub few : variable_count ball ≤ numbers_a_step
+abbrev pub Unified : {W : Type 0} → Present W → Present W → W → Tree → Type 0
+Unified p q goal ball = UnifiesCopy p q (catcher_of p goal) ball
 
 -- the ball met the catcher of this goal: they were unified, or can't be
 abbrev pub HasMet : {W : Type 0} → Present W → Present W → W → Tree → Bool → Type 0
-HasMet p q goal ball answer = MatchBool answer (Unified p q goal ball) (NeverEqual (catcher_of p goal) (apply p.substitution (copy_from ball p.next)))
+HasMet p q goal ball answer = MeetsCopy p q (catcher_of p goal) ball answer
 
 module _ {S W M : Type 0} (names : S → List (List ℕ)) (present : S → Present W) (stands : S → M → Present W → Type 0) (older : M → M → Type 0) where
   -- The engine, in this state, is about to enter the catch that this goal calls, with its members from this place of the frames on behind it.

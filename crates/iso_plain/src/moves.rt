@@ -8,13 +8,14 @@ ghost use Rattle.iso_plain_core.specs.Kept.{IsClause};
 ghost use Rattle.iso_plain_core.specs.Programs.{IsDatabase};
 ghost use Rattle.iso_plain_core.specs.ClausePlaces.{left_at, clauses_at_place};
 ghost use Rattle.iso_plain.specs.EngineStates.{went_back};
+ghost use Rattle.iso_plain_core.specs.declared.parts.Choice as kept;
 ghost use Rattle.iso_model.specs.Search.Walker.{State, Member, Alternative, AsIs, Again, fails, pushed, tried, tried_clause, with_others};
 
 use super::plain::{Move, Plain};
 use iso_model::Pause;
 use iso_plain_core::clauses::Clause;
 use iso_plain_core::entries;
-use iso_plain_core::parts::{Attempt, Choice, Left, Now, at, behind, keep_choice};
+use iso_plain_core::parts::{Attempt, Left, Now, at, behind, keep_choice};
 use iso_plain_core::procedures::Procedure;
 use iso_store_core::{Store, StoreFault};
 use std::alloc::AllocError;
@@ -81,12 +82,12 @@ impl<S: Store + Drop> Plain<S> {
         Ok(())
     }
 
-    /// Goes back to the newest choice, which stays: the store, the nodes and the frames are as they were when it was made (7.7.8).
-    pub(crate) fn go_back(&mut self) -> Choice<S::Word, S::Mark>
+    /// Goes back to the newest choice, which stays: the store, the nodes and the frames are as they were when it was made (7.7.8). Its mark.
+    pub(crate) fn go_back(&mut self) -> S::Mark
         requires some { 0 < length self.old.choices.items }
         requires failing { (s : State) × IsEngine S.names S.present S.stands S.older self.old s }
-        ensures back { (s : State) → IsEngine S.names S.present S.stands S.older self.old s → (a : Alternative) × (below : List Alternative)
-            × (s.stack ≡ a ∷ below) × WentBack S.names S.present S.stands S.older self.new result s a below }
+        ensures back { (s : State) → IsEngine S.names S.present S.stands S.older self.old s → (c : kept.Choice S.Word S.Mark) × (a : Alternative) × (below : List Alternative)
+            × (s.stack ≡ a ∷ below) × (c.mark ≡ result) × WentBack S.names S.present S.stands S.older self.new c s a below }
         ensures steps { self.new.steps ≡ self.old.steps }
         ensures choices { self.new.choices ≡ self.old.choices }
         ensures now { self.new.now ≡ self.old.now }
@@ -95,11 +96,12 @@ impl<S: Store + Drop> Plain<S> {
             ≡ choices_cost self.old.procedures.items (frame_costs self.old.frames.items) self.old.choices.items }
         ensures stays { Stays S.names self.old self.new }
     {
-        let choice = self.choices[self.choices.len() - 1];
-        self.store.undo(choice.mark);
-        self.nodes.truncate(choice.nodes);
-        self.frames.truncate(choice.frames);
-        choice
+        let choice = &self.choices[self.choices.len() - 1];
+        let (mark, nodes, frames) = (choice.mark, choice.nodes, choice.frames);
+        self.store.undo(mark);
+        self.nodes.truncate(nodes);
+        self.frames.truncate(frames);
+        mark
     }
 
     /// Keeps the clauses behind the attempt's as a choice (7.7.8). The error is that memory was refused.
@@ -136,11 +138,11 @@ impl<S: Store + Drop> Plain<S> {
     }
 
     /// Leaves the newest choice at its next clause, or takes it away where this is its last one; how many stand below it.
-    fn leave_choice(&mut self, choice: Choice<S::Word, S::Mark>, attempt: Attempt<S::Word>) -> usize
+    fn leave_choice(&mut self, mark: S::Mark, attempt: Attempt<S::Word>) -> usize
         requires some { 0 < length self.old.choices.items }
-        requires left { choice.left ≡ left.Clauses attempt }
-        requires back { (s : State) × (a : Alternative) × (below : List Alternative) × WentBack S.names S.present S.stands S.older self.old choice s a below }
-        ensures calls { (s : State) (a : Alternative) (below : List Alternative) → WentBack S.names S.present S.stands S.older self.old choice s a below
+        requires back { (c : kept.Choice S.Word S.Mark) × (s : State) × (a : Alternative) × (below : List Alternative) × (c.mark ≡ mark) × (c.left ≡ left.Clauses attempt)
+            × WentBack S.names S.present S.stands S.older self.old c s a below }
+        ensures calls { (c : kept.Choice S.Word S.Mark) (s : State) (a : Alternative) (below : List Alternative) → c.mark ≡ mark → c.left ≡ left.Clauses attempt → WentBack S.names S.present S.stands S.older self.old c s a below
             → Retries S.names S.present S.stands S.older self.new attempt s a below }
         ensures below { result + 1 ≡ length self.old.choices.items }
         ensures steps { self.new.steps ≡ self.old.steps }
@@ -155,17 +157,17 @@ impl<S: Store + Drop> Plain<S> {
             self.choices[newest].left = Left::Clauses(Attempt { clause, ..attempt });
         } else {
             self.choices.truncate(newest);
-            self.store.forget(choice.mark);
+            self.store.forget(mark);
         }
         newest
     }
 
     /// Goes on with the members from this place on, which the newest choice kept, and takes the choice away (7.8.6).
-    fn go_on(&mut self, choice: Choice<S::Word, S::Mark>, place: Option<usize>)
+    fn go_on(&mut self, mark: S::Mark, place: Option<usize>)
         requires some { 0 < length self.old.choices.items }
-        requires left { choice.left ≡ left.AsIs place }
-        requires back { (s : State) × (a : Alternative) × (below : List Alternative) × WentBack S.names S.present S.stands S.older self.old choice s a below }
-        ensures goes { (s : State) (a : Alternative) (below : List Alternative) → WentBack S.names S.present S.stands S.older self.old choice s a below
+        requires back { (c : kept.Choice S.Word S.Mark) × (s : State) × (a : Alternative) × (below : List Alternative) × (c.mark ≡ mark) × (c.left ≡ left.AsIs place)
+            × WentBack S.names S.present S.stands S.older self.old c s a below }
+        ensures goes { (c : kept.Choice S.Word S.Mark) (s : State) (a : Alternative) (below : List Alternative) → c.mark ≡ mark → c.left ≡ left.AsIs place → WentBack S.names S.present S.stands S.older self.old c s a below
             → (a.left ≡ AsIs) × IsEngine S.names S.present S.stands S.older self.new (went_back a below s) }
         ensures awake { IsAwake (phase_of self.new.now) }
         ensures steps { self.new.steps ≡ self.old.steps }
@@ -173,16 +175,16 @@ impl<S: Store + Drop> Plain<S> {
         ensures costs { cost self.new < choices_cost self.old.procedures.items (frame_costs self.old.frames.items) self.old.choices.items }
     {
         self.choices.truncate(self.choices.len() - 1);
-        self.store.forget(choice.mark);
+        self.store.forget(mark);
         self.now = at(self.frames.as_slice(), place);
     }
 
     /// Takes the newest choice away, which is the entry of a catch: nothing is left to be tried there (7.8.9).
-    fn pass_catch(&mut self, choice: Choice<S::Word, S::Mark>)
+    fn pass_catch(&mut self, mark: S::Mark)
         requires some { 0 < length self.old.choices.items }
-        requires left { (goal : S.Word) × (place : Option ℕ) × (choice.left ≡ left.Catching goal place) }
-        requires back { (s : State) × (a : Alternative) × (below : List Alternative) × WentBack S.names S.present S.stands S.older self.old choice s a below }
-        ensures fails { (s : State) (a : Alternative) (below : List Alternative) → WentBack S.names S.present S.stands S.older self.old choice s a below
+        requires back { (c : kept.Choice S.Word S.Mark) × (s : State) × (a : Alternative) × (below : List Alternative) × (c.mark ≡ mark) × ((goal : S.Word) × (place : Option ℕ) × (c.left ≡ left.Catching goal place))
+            × WentBack S.names S.present S.stands S.older self.old c s a below }
+        ensures fails { (c : kept.Choice S.Word S.Mark) (s : State) (a : Alternative) (below : List Alternative) → c.mark ≡ mark → WentBack S.names S.present S.stands S.older self.old c s a below
             → IsEngine S.names S.present S.stands S.older self.new (fails (went_back a below s)) }
         ensures awake { IsAwake (phase_of self.new.now) }
         ensures steps { self.new.steps ≡ self.old.steps }
@@ -190,17 +192,17 @@ impl<S: Store + Drop> Plain<S> {
         ensures costs { cost self.new < choices_cost self.old.procedures.items (frame_costs self.old.frames.items) self.old.choices.items }
     {
         self.choices.truncate(self.choices.len() - 1);
-        self.store.forget(choice.mark);
+        self.store.forget(mark);
         self.now = Now::Failing;
     }
 
     /// Goes on with the members from this place on, which the newest choice keeps on; this takes a step (8.15.3).
-    fn go_again(&mut self, choice: Choice<S::Word, S::Mark>, place: Option<usize>)
+    fn go_again(&mut self, place: Option<usize>)
         requires some { 0 < length self.old.choices.items }
-        requires left { choice.left ≡ left.Again place }
         requires steps { self.old.steps ≢ 0 }
-        requires back { (s : State) × (a : Alternative) × (below : List Alternative) × WentBack S.names S.present S.stands S.older self.old choice s a below }
-        ensures goes { (s : State) (a : Alternative) (below : List Alternative) → WentBack S.names S.present S.stands S.older self.old choice s a below
+        requires back { (c : kept.Choice S.Word S.Mark) × (s : State) × (a : Alternative) × (below : List Alternative) × (c.left ≡ left.Again place)
+            × WentBack S.names S.present S.stands S.older self.old c s a below }
+        ensures goes { (c : kept.Choice S.Word S.Mark) (s : State) (a : Alternative) (below : List Alternative) → c.left ≡ left.Again place → WentBack S.names S.present S.stands S.older self.old c s a below
             → (a.left ≡ Again) × IsEngine S.names S.present S.stands S.older self.new (record (pushed a.list Again (went_back a below s)) { steps = self.new.steps }) }
         ensures awake { IsAwake (phase_of self.new.now) }
         ensures step { self.new.steps + 1 ≡ self.old.steps }
@@ -227,11 +229,10 @@ impl<S: Store + Drop> Plain<S> {
             self.clear();
             return Ok(Move::Pauses(Pause::NoMore));
         }
-        let choice = self.go_back();
-        let left = choice.left;
-        match left {
+        let mark = self.go_back();
+        match self.choices[self.choices.len() - 1].left {
             Left::AsIs(place) => {
-                self.go_on(choice, place);
+                self.go_on(mark, place);
                 Ok(Move::Goes)
             }
             Left::Again(_) if self.steps == 0 => {
@@ -239,15 +240,19 @@ impl<S: Store + Drop> Plain<S> {
                 Ok(Move::Pauses(Pause::Budget))
             }
             Left::Again(place) => {
-                self.go_again(choice, place);
+                self.go_again(place);
                 Ok(Move::Goes)
             }
             Left::Catching(_, _) => {
-                self.pass_catch(choice);
+                self.pass_catch(mark);
+                Ok(Move::Goes)
+            }
+            Left::Gathering(solutions, place, _) => {
+                self.end_gathering(mark, solutions, place)?;
                 Ok(Move::Goes)
             }
             Left::Clauses(attempt) => {
-                let below = self.leave_choice(choice, attempt);
+                let below = self.leave_choice(mark, attempt);
                 self.enter(attempt, below)?;
                 Ok(Move::Goes)
             }

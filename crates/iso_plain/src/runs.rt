@@ -46,6 +46,7 @@ impl<S: Store + Drop> Plain<S> {
                 Ok(Move::Goes)
             }
             Todo::Leave => Ok(self.leave(frame)),
+            Todo::Gather(place) => self.gather(frame, place),
         }
     }
 
@@ -170,6 +171,7 @@ impl<S: Store + Drop> Plain<S> {
             Replied::Repeats => self.repeat(frame.next),
             Replied::Catches(Placed::Body(body)) => self.call_inside(body, goal, frame.next),
             Replied::Catches(Placed::Raises(ball)) => self.throw_inside(ball, goal, frame.next),
+            Replied::Gathers(body) => self.find_all(body, goal, frame.next),
             Replied::Halts(status) => {
                 self.clear();
                 Ok(Move::Pauses(Pause::Halt(status)))

@@ -3,7 +3,6 @@
 ghost use Rattle.std.specs.Prelude.{◌≡◌, ℕ, ◌+◌, ◌<◌, ◌≤◌, true, codes, IfOk, OnOk, OnErr, ◌∷◌, List, Option, MatchBool, MatchOption, Err};
 ghost use Rattle.iso_model.specs.Terms.Trees.{Tree, arities_fit};
 ghost use Rattle.iso_model.specs.Terms.TermOf.{term_of};
-ghost use Rattle.iso_model.specs.Terms.Variables.{variable_count};
 ghost use Rattle.iso_model.specs.Search.Walker.{State, Member, Raise};
 ghost use Rattle.iso_plain.specs.Catches.{GoesTo, IsUncaught, IsEndOfCatch, HasMet, throwing, catcher_of, recovery_of};
 ghost use Rattle.iso_model.specs.Search.Bodies.{one};
@@ -11,24 +10,12 @@ ghost use Rattle.iso_atoms.specs.Texts.{KeepsTexts};
 ghost use Rattle.iso_store_core.specs.Presents.{KeepsMarks, meaning};
 
 use super::plain::{Move, Plain};
-use iso_model::{Ball, Numbering, Term};
+use iso_lib::unify_copy;
+use iso_model::Ball;
 use iso_plain_core::bodies::Node;
 use iso_plain_core::conversion::call_of;
 use iso_plain_core::parts::{Frame, Left, Now, Todo};
 use iso_store_core::{Store, StoreFault};
-use std::alloc::{AllocError, Global};
-
-/// The most variables of a ball that is caught; one with more is refused as memory is.
-const MOST_VARIABLES: usize = 536_870_912;
-
-/// How many distinct variables the term has. The error is that memory was refused.
-fn count_variables(alloc: Global, term: &Term) -> Result<usize, AllocError>
-    ensures { IfOk result (λ count. count ≡ variable_count (term_of term.now)) }
-{
-    let mut variables = Numbering::new(alloc);
-    variables.note_all(alloc, term)?;
-    Ok(variables.len())
-}
 
 impl<S: Store + Drop> Plain<S> {
     ghost use Rattle.iso_plain.specs.Catches.{MeetsBall, IsCaught, Recovers, Calling, HasStack, HasThrown};
@@ -97,13 +84,14 @@ impl<S: Store + Drop> Plain<S> {
     {
         self.now = Now::Failing;
         self.cut_to(height + 1);
-        let choice = self.go_back();
-        self.choices.truncate(height);
-        self.store.forget(choice.mark);
-        match choice.left {
+        let mark = self.go_back();
+        let entry = match self.choices[height].left {
             Left::Catching(goal, next) => (goal, next),
             _ => unreachable!(),
-        }
+        };
+        self.choices.truncate(height);
+        self.store.forget(mark);
+        entry
     }
 
     /// Calls the recovery of a catch, before the members from `next` on (7.8.9). The errors: the store is full, or memory was refused.
@@ -152,12 +140,8 @@ impl<S: Store + Drop> Plain<S> {
         let Some(ball) = &self.raised else {
             unreachable!();
         };
-        if count_variables(self.alloc, &ball.term)? > MOST_VARIABLES {
-            return Err(StoreFault::NoMemory);
-        }
-        let copy = self.store.build(&ball.term)?;
         let catcher = self.store.arg(goal, 1);
-        self.store.unify(catcher, copy)
+        unify_copy(self.alloc, &mut self.store, catcher, &ball.term)
     }
 
     /// Has the ball met by the catcher of this goal of `catch/3`: its recovery is called, or the ball is thrown on, past the members from

@@ -1,14 +1,14 @@
 -- Built-ins and their arguments.
-use Rattle.std.proofs.Common.{◌≡◌, ℕ, ◌<◌, List, [], ◌∷◌, Bool, true, false, ◌&&◌, ◌==◌, Some, refl, ap, sym, subst, arith, inl, inr}
+use Rattle.std.proofs.Common.{◌≡◌, ℕ, ◌<◌, List, [], ◌∷◌, Bool, true, false, ◌&&◌, ◌==◌, nat_lt, Some, refl, ap, sym, subst, inl, inr}
 use Rattle.std.specs.Str.{bytes_eq}
-use Rattle.std.proofs.lemmas.Bool.{cases_Bool, eqb-true}
+use Rattle.std.proofs.lemmas.Bool.{cases_Bool, eqb-true, ltb-true}
 use Rattle.iso_model.specs.Terms.Trees.{Tree, Variable, Integer, Name, Apply, End, More}
 use Rattle.iso_model.specs.Search.Databases.{Key, same_key}
 use Rattle.iso_model.specs.Terms.Arguments.{arity}
 use Rattle.iso_model.specs.Search.BuiltIns.{built_ins, built_in_among}
 use Rattle.iso_model.specs.declared.built_ins.BuiltIn.{BuiltIn}
-use Rattle.iso_model.specs.declared.built_ins.BuiltIn.TheVariants.{True, Fail, Call, Once, Not, Repeat, Catch, Throw, Halt, HaltWith, Library}
-use Rattle.iso_lib.specs.Rows.{library_arity}
+use Rattle.iso_model.specs.declared.built_ins.BuiltIn.TheVariants.{True, Fail, Call, Once, Not, Repeat, Catch, Throw, Halt, HaltWith, Findall, Library}
+use Rattle.iso_model.specs.Search.Library.{library_arity}
 use Rattle.iso_plain_core.specs.GoalKinds.{IsBuiltIn}
 
 pub some_same : {X : Type 0} {x y : X} → Some x ≡ Some y → x ≡ y
@@ -37,23 +37,53 @@ HasArity Catch n = n ≡ 3
 HasArity Throw n = n ≡ 1
 HasArity Halt n = n ≡ 0
 HasArity HaltWith n = n ≡ 1
+HasArity Findall n = n ≡ 3
 HasArity (Library row) n = n ≡ library_arity row
 
-abbrev FitRows : List (Key × BuiltIn) → Type 0
-FitRows [] = Unit {0}
-FitRows (e ∷ es) = HasArity e.1 (e.0).arity × FitRows es
+-- whether a built-in of the table has so many
+abbrev has_arity : BuiltIn → ℕ → Bool
+has_arity True n = n == 0
+has_arity Fail n = n == 0
+has_arity Call n = nat_lt 0 n && nat_lt n 256
+has_arity Once n = n == 1
+has_arity Not n = n == 1
+has_arity Repeat n = n == 0
+has_arity Catch n = n == 3
+has_arity Throw n = n == 1
+has_arity Halt n = n == 0
+has_arity HaltWith n = n == 1
+has_arity Findall n = n == 3
+has_arity (Library row) n = n == library_arity row
 
-rows_fit : FitRows built_ins
-rows_fit =
-    let call : (n : ℕ) → 0 < n → n < 256 → HasArity Call n = λ n some few. (some, few) in
-    (refl, (refl, (refl, (refl, (call 1 (omega arith) (omega arith), (call 2 (omega arith) (omega arith), (call 3 (omega arith) (omega arith), (call 4 (omega arith) (omega arith), (call 5 (omega arith) (omega arith), (call 6 (omega arith) (omega arith), (call 7 (omega arith) (omega arith), (call 8 (omega arith) (omega arith), (refl, (refl, (refl, (refl, (refl, (refl, (refl, (refl, (refl, (refl, (refl, (refl, (refl, (refl, (refl, (refl, (refl, (refl, (refl, (refl, (refl, (refl, (refl, (refl, (refl, (refl, tt))))))))))))))))))))))))))))))))))))))
+arity_is : (b : BuiltIn) (n : ℕ) → has_arity b n ≡ true → HasArity b n
+arity_is True n h = eqb-true n 0 h
+arity_is Fail n h = eqb-true n 0 h
+arity_is Call n h = let both = both_of (nat_lt 0 n) (nat_lt n 256) h in (ltb-true 0 n both.0, ltb-true n 256 both.1)
+arity_is Once n h = eqb-true n 1 h
+arity_is Not n h = eqb-true n 1 h
+arity_is Repeat n h = eqb-true n 0 h
+arity_is Catch n h = eqb-true n 3 h
+arity_is Throw n h = eqb-true n 1 h
+arity_is Halt n h = eqb-true n 0 h
+arity_is HaltWith n h = eqb-true n 1 h
+arity_is Findall n h = eqb-true n 3 h
+arity_is (Library row) n h = eqb-true n (library_arity row) h
 
-arity_among : (es : List (Key × BuiltIn)) → FitRows es → (k : Key) (b : BuiltIn) → built_in_among es k ≡ Some b → HasArity b k.arity
+abbrev fit_rows : List (Key × BuiltIn) → Bool
+fit_rows [] = true
+fit_rows (e ∷ es) = has_arity e.1 (e.0).arity && fit_rows es
+
+-- so has each row
+rows_fit : fit_rows built_ins ≡ true
+rows_fit = refl
+
+arity_among : (es : List (Key × BuiltIn)) → fit_rows es ≡ true → (k : Key) (b : BuiltIn) → built_in_among es k ≡ Some b → HasArity b k.arity
 arity_among [] fit k b h = absurd cc
 arity_among (e ∷ es) fit k b h =
+    let fits = both_of (has_arity e.1 (e.0).arity) (fit_rows es) fit in
     elim (cases_Bool (same_key e.0 k)) [
-      | inl here ↦ (let is : Some e.1 ≡ Some b = rw here at h in subst (λ (x : BuiltIn). HasArity x k.arity) (some_same is) (subst (λ (n : ℕ). HasArity e.1 n) (same_arity e.0 k here) fit.0))
-      | inr later ↦ arity_among es fit.1 k b (rw later at h)
+      | inl here ↦ (let is : Some e.1 ≡ Some b = rw here at h in subst (λ (x : BuiltIn). HasArity x k.arity) (some_same is) (subst (λ (n : ℕ). HasArity e.1 n) (same_arity e.0 k here) (arity_is e.1 (e.0).arity fits.0)))
+      | inr later ↦ arity_among es fits.1 k b (rw later at h)
     ]
 
 -- a goal of a built-in has its arguments

@@ -16,6 +16,8 @@ pub mod CountLemmas
 pub mod ArityLemmas
 pub mod GoalLemmas
 pub mod ReplyLemmas
+pub mod SolutionLemmas
+pub mod GatheringLemmas
 pub mod ResultLemmas
 pub mod ControlNames
 pub mod CallableLemmas

@@ -1,19 +1,18 @@
 -- What goals of built-ins come to is the table's reply.
-use Rattle.std.proofs.Common.{◌≡◌, ℕ, ℤ, Ok, Err, List, Bool, true, false, ◌||◌, nat_lt, nat_abs, int_lt, pos, Option, Some, None, refl, sym, subst, codes, if◌then◌else◌}
+use Rattle.std.proofs.Common.{◌≡◌, ℕ, ℤ, Ok, Err, List, Bool, true, false, ◌||◌, nat_lt, nat_abs, int_lt, pos, Option, Some, None, refl, ap, sym, ◌∙◌, subst, codes, if◌then◌else◌}
 use Rattle.iso_model.specs.Terms.Trees.{Tree, Variable, Integer, Name, Apply, End, More, arities_fit}
 use Rattle.iso_model.specs.Terms.TermOf.{term_of}
 use Rattle.iso_model.specs.Terms.Arguments.{argument, arity}
 use Rattle.iso_model.specs.Terms.Substitutions.{Subst}
+use Rattle.iso_model.specs.Terms.Lists.{is_partial_list}
 use Rattle.iso_model.specs.Terms.Unification.{unifier_of}
-use Rattle.iso_model.specs.Search.BuiltIns.{Reply, Fails, Succeeds, Equates, Repeats, Raises, Calls, CallsOnce, Refutes, Catches, Halts, converted_reply, goal_reply, throw_reply, halt_reply, reply}
-use Rattle.iso_model.specs.Search.Arithmetic.{Value, value}
-use Rattle.iso_model.specs.Search.Library.{tested, differ, has_type, with_value_of, comparison_name, compares, library_reply}
-use Rattle.iso_model.specs.declared.library.Library.{Library}
-use Rattle.iso_model.specs.declared.library.Library.TheVariants as row
+use Rattle.iso_model.specs.Search.BuiltIns.{Reply, Fails, Succeeds, Equates, EquatesCopy, Repeats, Raises, Calls, CallsOnce, Refutes, Catches, Gathers, Halts, converted_reply, goal_reply, called_reply, findall_reply, throw_reply, halt_reply, answered, reply}
+use Rattle.iso_model.specs.Search.Library.{library_answer}
+use Rattle.iso_model.specs.Search.Replies.{Answer, Fail, Succeed, Equate, EquateCopy, Raise}
 use Rattle.iso_model.specs.Search.Bodies.{Body, converted}
 use Rattle.iso_lib.specs.Replies as library
 use Rattle.iso_lib.specs.Replies.{IsDone, IsFailed, IsUnbound}
-use Rattle.iso_model.specs.Search.Errors.{Key, key, domain_error, max_arity_error}
+use Rattle.iso_model.specs.Search.Errors.{Key, key, domain_error, max_arity_error, type_error}
 use Rattle.iso_model.specs.declared.built_ins.BuiltIn.{BuiltIn}
 use Rattle.iso_model.specs.declared.built_ins.BuiltIn.TheVariants as built_in
 use Rattle.iso_model.specs.declared.pauses.Ball.{Ball}
@@ -59,6 +58,28 @@ module _ {W : Type 0} (p q : Present W) (old new : List (Node W)) (t : Tree) whe
   catch_placed (placed.Body place) h raised adds = catch_body place h
   catch_placed (placed.Raises ball) h raised adds = catch_error ball h raised.0 raised.1 adds
 
+-- a goal is run for all of its solutions
+module _ {W : Type 0} (p q : Present W) (old new : List (Node W)) (t : Tree) where
+  abbrev for_all : Body → Reply
+  for_all b = if is_partial_list (argument 2 t) then Gathers (argument 0 t) b (argument 2 t) else Raises (type_error (codes "list") (argument 2 t) (key (codes "findall") 3))
+
+  pub findall_error : (ball : Ball) → IsRunAs p q old new (λ runs. goal_reply runs (argument 1 t) (key (codes "findall") 3)) (placed.Raises ball) → arities_fit (term_of ball.term) ≡ true → IsUnbound p q → Adds old new
+      → IsReply p q old new (reply built_in.Findall t) (replied.Raises ball)
+  findall_error ball h fits unbound adds = subst (λ r. IsReply p q old new r (replied.Raises ball)) (sym (h for_all)) (record { is = refl; fits = fits; unbound = unbound; adds = adds })
+
+  pub findall_body : (place : _) → IsRunAs p q old new (λ runs. goal_reply runs (argument 1 t) (key (codes "findall") 3)) (placed.Body place) → is_partial_list (argument 2 t) ≡ true
+      → IsReply p q old new (reply built_in.Findall t) (replied.Gathers place)
+  findall_body place h partial =
+      let is : reply built_in.Findall t ≡ Gathers (argument 0 t) h.0 (argument 2 t) = h.1 for_all ∙ ap (λ x. if x then Gathers (argument 0 t) h.0 (argument 2 t) else Raises (type_error (codes "list") (argument 2 t) (key (codes "findall") 3))) partial in
+      subst (λ r. IsReply p q old new r (replied.Gathers place)) (sym is) h.2
+
+  pub findall_no_list : (place : _) (ball : Ball) → IsRunAs p q old new (λ runs. goal_reply runs (argument 1 t) (key (codes "findall") 3)) (placed.Body place) → is_partial_list (argument 2 t) ≡ false
+      → term_of ball.term ≡ type_error (codes "list") (argument 2 t) (key (codes "findall") 3) → arities_fit (term_of ball.term) ≡ true → IsReply p q old new (reply built_in.Findall t) (replied.Raises ball)
+  findall_no_list place ball h none is_error fits =
+      let is : reply built_in.Findall t ≡ Raises (type_error (codes "list") (argument 2 t) (key (codes "findall") 3)) = h.1 for_all ∙ ap (λ x. if x then Gathers (argument 0 t) h.0 (argument 2 t) else Raises (type_error (codes "list") (argument 2 t) (key (codes "findall") 3))) none in
+      subst (λ r. IsReply p q old new r (replied.Raises ball)) (sym is)
+      (record { is = is_error; fits = fits; unbound = record { words = (h.2).words; substitution = (h.2).substitution; next = (h.2).next }; adds = (h.2).adds })
+
 -- ---- a ball is thrown, and the search is ended
 
 module _ {W : Type 0} (p : Present W) (old : List (Node W)) where
@@ -78,6 +99,7 @@ module _ {W : Type 0} (p : Present W) (old : List (Node W)) where
   halt_replied (Raises error) (replied.Refutes place) h = absurd h
   halt_replied (Raises error) replied.Repeats h = absurd h
   halt_replied (Raises error) (replied.Catches placed) h = absurd h
+  halt_replied (Raises error) (replied.Gathers place) h = absurd h
   halt_replied (Raises error) (replied.Halts status) h = absurd h
   halt_replied (Halts n) (replied.Halts status) h = h
   halt_replied (Halts n) replied.GoesOn h = absurd h
@@ -88,130 +110,138 @@ module _ {W : Type 0} (p : Present W) (old : List (Node W)) where
   halt_replied (Halts n) (replied.Refutes place) h = absurd h
   halt_replied (Halts n) replied.Repeats h = absurd h
   halt_replied (Halts n) (replied.Catches placed) h = absurd h
+  halt_replied (Halts n) (replied.Gathers place) h = absurd h
   halt_replied Fails answer h = absurd h
   halt_replied Succeeds answer h = absurd h
-  halt_replied (Equates a b) answer h = absurd h
+  halt_replied (Equates made a b) answer h = absurd h
+  halt_replied (EquatesCopy a b) answer h = absurd h
   halt_replied (Calls b) answer h = absurd h
   halt_replied (CallsOnce b) answer h = absurd h
   halt_replied (Refutes b) answer h = absurd h
   halt_replied Repeats answer h = absurd h
   halt_replied (Catches inside catcher recovery) answer h = absurd h
+  halt_replied (Gathers template b result) answer h = absurd h
 
 -- what the library answers
-pub library_replied : {W : Type 0} (p q : Present W) (nodes : List (Node W)) (x : Reply) → IsDone p q x → IsReply p q nodes nodes x replied.GoesOn
-library_replied p q nodes Succeeds h = (h, refl)
-library_replied p q nodes (Equates a b) h = (h, refl)
-library_replied p q nodes Fails h = absurd h
-library_replied p q nodes (Raises error) h = absurd h
-library_replied p q nodes (Calls b) h = absurd h
-library_replied p q nodes (CallsOnce b) h = absurd h
-library_replied p q nodes (Refutes b) h = absurd h
-library_replied p q nodes Repeats h = absurd h
-library_replied p q nodes (Catches inside catcher recovery) h = absurd h
-library_replied p q nodes (Halts n) h = absurd h
+pub library_replied : {W : Type 0} (p q : Present W) (nodes : List (Node W)) (x : Answer) → IsDone p q x → IsReply p q nodes nodes (answered x) replied.GoesOn
+library_replied p q nodes Succeed h = (h, refl)
+library_replied p q nodes (Equate made a b) h = (h, refl)
+library_replied p q nodes (EquateCopy a b) h = (h, refl)
+library_replied p q nodes Fail h = absurd h
+library_replied p q nodes (Raise error) h = absurd h
 
-pub library_failed : {W : Type 0} (p q : Present W) (nodes : List (Node W)) (x : Reply) → IsFailed x → IsReply p q nodes nodes x replied.Fails
-library_failed p q nodes Fails h = adds_none nodes
-library_failed p q nodes (Equates a b) h = (h, adds_none nodes)
-library_failed p q nodes Succeeds h = absurd h
-library_failed p q nodes (Raises error) h = absurd h
-library_failed p q nodes (Calls b) h = absurd h
-library_failed p q nodes (CallsOnce b) h = absurd h
-library_failed p q nodes (Refutes b) h = absurd h
-library_failed p q nodes Repeats h = absurd h
-library_failed p q nodes (Catches inside catcher recovery) h = absurd h
-library_failed p q nodes (Halts n) h = absurd h
+pub library_failed : {W : Type 0} (p q : Present W) (nodes : List (Node W)) (x : Answer) → IsFailed p x → IsReply p q nodes nodes (answered x) replied.Fails
+library_failed p q nodes Fail h = adds_none nodes
+library_failed p q nodes (Equate made a b) h = (h, adds_none nodes)
+library_failed p q nodes (EquateCopy a b) h = (h, adds_none nodes)
+library_failed p q nodes Succeed h = absurd h
+library_failed p q nodes (Raise error) h = absurd h
 
-pub library_raised : {W : Type 0} (p q : Present W) (nodes : List (Node W)) (x : Reply) (ball : Ball) → library.IsRaised p q x ball → IsReply p q nodes nodes x (replied.Raises ball)
-library_raised p q nodes (Raises error) ball h = record { is = h.0.0; fits = h.0.1; unbound = h.1; adds = adds_none nodes }
-library_raised p q nodes Fails ball h = absurd h
-library_raised p q nodes Succeeds ball h = absurd h
-library_raised p q nodes (Equates a b) ball h = absurd h
-library_raised p q nodes (Calls b) ball h = absurd h
-library_raised p q nodes (CallsOnce b) ball h = absurd h
-library_raised p q nodes (Refutes b) ball h = absurd h
-library_raised p q nodes Repeats ball h = absurd h
-library_raised p q nodes (Catches inside catcher recovery) ball h = absurd h
-library_raised p q nodes (Halts n) ball h = absurd h
+pub library_raised : {W : Type 0} (p q : Present W) (nodes : List (Node W)) (x : Answer) (ball : Ball) → library.IsRaised p q x ball → IsReply p q nodes nodes (answered x) (replied.Raises ball)
+library_raised p q nodes (Raise error) ball h = record { is = h.0.0; fits = h.0.1; unbound = h.1; adds = adds_none nodes }
+library_raised p q nodes Fail ball h = absurd h
+library_raised p q nodes Succeed ball h = absurd h
+library_raised p q nodes (Equate made a b) ball h = absurd h
+library_raised p q nodes (EquateCopy a b) ball h = absurd h
 
--- ---- which goals are run inside a catch
+-- ---- which goals are run inside a catch, and which for all of their solutions
+
+-- Replies of a kind of which errors, and the end of the search, are none.
+module _ (Is : Reply → Type 0) (none_raised : (error : Tree) → Is (Raises error) → ⊥) (none_halted : (n : ℕ) → Is (Halts n) → ⊥) where
+  none_converted : (runs : Body → Reply) (o : Option Body) (goal : Tree) (k : Key) → ((b : Body) → Is (runs b) → ⊥) → Is (converted_reply runs o goal k) → ⊥
+  none_converted runs None goal k none h = none_raised _ h
+  none_converted runs (Some b) goal k none h = none b h
+
+  none_goal : (runs : Body → Reply) (goal : Tree) (k : Key) → ((b : Body) → Is (runs b) → ⊥) → Is (goal_reply runs goal k) → ⊥
+  none_goal runs (Variable n) k none h = none_raised _ h
+  none_goal runs (Integer z) k none h = none_converted runs (converted (Integer z)) (Integer z) k none h
+  none_goal runs (Name a) k none h = none_converted runs (converted (Name a)) (Name a) k none h
+  none_goal runs (Apply f ts) k none h = none_converted runs (converted (Apply f ts)) (Apply f ts) k none h
+  none_goal runs End k none h = none_converted runs (converted End) End k none h
+  none_goal runs (More t ts) k none h = none_converted runs (converted (More t ts)) (More t ts) k none h
+
+  none_called : (goal : Tree) (k : Key) → ((b : Body) → Is (Calls b) → ⊥) → Is (called_reply goal k) → ⊥
+  none_called goal k none h = none_goal (λ b. if nat_lt 255 (arity goal) then Raises (max_arity_error k) else Calls b) goal k (λ b. limited b (nat_lt 255 (arity goal))) h where
+    limited : (b : Body) (x : Bool) → Is (if x then Raises (max_arity_error k) else Calls b) → ⊥
+    limited b true i = none_raised _ i
+    limited b false i = none b i
+
+  none_thrown : (t : Tree) (k : Key) → Is (throw_reply t k) → ⊥
+  none_thrown (Variable n) k h = none_raised _ h
+  none_thrown (Integer z) k h = none_raised _ h
+  none_thrown (Name a) k h = none_raised _ h
+  none_thrown (Apply f ts) k h = none_raised _ h
+  none_thrown End k h = none_raised _ h
+  none_thrown (More t ts) k h = none_raised _ h
+
+  none_status : (x : Bool) (error : Tree) (n : ℕ) → Is (if x then Raises error else Halts n) → ⊥
+  none_status true error n h = none_raised _ h
+  none_status false error n h = none_halted n h
+
+  none_ended : (t : Tree) (k : Key) → Is (halt_reply t k) → ⊥
+  none_ended (Variable n) k h = none_raised _ h
+  none_ended (Integer z) k h = none_status (int_lt z (pos 0) || int_lt (pos 255) z) (domain_error (codes "exit_code") (Integer z) k) (nat_abs z) h
+  none_ended (Name a) k h = none_raised _ h
+  none_ended (Apply f ts) k h = none_raised _ h
+  none_ended End k h = none_raised _ h
+  none_ended (More t ts) k h = none_raised _ h
+
+  none_found : (template goal result : Tree) (k : Key) → ((b : Body) → Is (Gathers template b result) → ⊥) → Is (findall_reply template goal result k) → ⊥
+  none_found template goal result k none h =
+      none_goal (λ b. if is_partial_list result then Gathers template b result else Raises (type_error (codes "list") result k)) goal k (λ b. partial b (is_partial_list result)) h where
+        partial : (b : Body) (x : Bool) → Is (if x then Gathers template b result else Raises (type_error (codes "list") result k)) → ⊥
+        partial b true i = none b i
+        partial b false i = none_raised _ i
 
 abbrev IsCatches : Reply → Type 0
 IsCatches (Catches inside catcher recovery) = Unit {0}
 IsCatches x = ⊥
 
-no_catch_differ : (o : Option Subst) → IsCatches (differ o) → ⊥
-no_catch_differ None h = h
-no_catch_differ (Some u) h = h
+abbrev IsGathers : Reply → Type 0
+IsGathers (Gathers template b result) = Unit {0}
+IsGathers x = ⊥
 
-no_catch_tested : (holds : Bool) → IsCatches (tested holds) → ⊥
-no_catch_tested true h = h
-no_catch_tested false h = h
+no_catch_answered : (x : Answer) → IsCatches (answered x) → ⊥
+no_catch_answered Fail h = h
+no_catch_answered Succeed h = h
+no_catch_answered (Equate made a b) h = h
+no_catch_answered (EquateCopy a b) h = h
+no_catch_answered (Raise error) h = h
 
-no_catch_value : (v : Value) (k : Key) (goes_on : ℤ → Reply) → ((z : ℤ) → IsCatches (goes_on z) → ⊥) → IsCatches (with_value_of v k goes_on) → ⊥
-no_catch_value (Ok z) k goes_on none h = none z h
-no_catch_value (Err error) k goes_on none h = h
-
-no_catch_library : (row : Library) (t : Tree) → IsCatches (library_reply row t) → ⊥
-no_catch_library row.Unify t h = h
-no_catch_library row.Differ t h = no_catch_differ (unifier_of (argument 0 t) (argument 1 t)) h
-no_catch_library (row.Test type) t h = no_catch_tested (has_type type (argument 0 t)) h
-no_catch_library row.Is t h = no_catch_value (value (argument 1 t)) (key (codes "is") 2) (λ z. Equates (argument 0 t) (Integer z)) (λ z none. none) h
-no_catch_library (row.Compare c) t h =
-    no_catch_value (value (argument 0 t)) (key (comparison_name c) 2) (λ x. with_value_of (value (argument 1 t)) (key (comparison_name c) 2) (λ y. tested (compares c x y)))
-    (λ x. no_catch_value (value (argument 1 t)) (key (comparison_name c) 2) (λ y. tested (compares c x y)) (λ y. no_catch_tested (compares c x y))) h
-
-no_catch_converted : (runs : Body → Reply) (o : Option Body) (goal : Tree) (k : Key) → ((b : Body) → IsCatches (runs b) → ⊥) → IsCatches (converted_reply runs o goal k) → ⊥
-no_catch_converted runs None goal k none h = h
-no_catch_converted runs (Some b) goal k none h = none b h
-
-no_catch_goal : (runs : Body → Reply) (goal : Tree) (k : Key) → ((b : Body) → IsCatches (runs b) → ⊥) → IsCatches (goal_reply runs goal k) → ⊥
-no_catch_goal runs (Variable n) k none h = h
-no_catch_goal runs (Integer z) k none h = no_catch_converted runs (converted (Integer z)) (Integer z) k none h
-no_catch_goal runs (Name a) k none h = no_catch_converted runs (converted (Name a)) (Name a) k none h
-no_catch_goal runs (Apply f ts) k none h = no_catch_converted runs (converted (Apply f ts)) (Apply f ts) k none h
-no_catch_goal runs End k none h = no_catch_converted runs (converted End) End k none h
-no_catch_goal runs (More t ts) k none h = no_catch_converted runs (converted (More t ts)) (More t ts) k none h
-
-no_catch_limited : (goal : Tree) (k : Key) (x : Bool) (b : Body) → IsCatches (if x then Raises (max_arity_error k) else Calls b) → ⊥
-no_catch_limited goal k true b h = h
-no_catch_limited goal k false b h = h
-
-no_catch_throw : (t : Tree) (k : Key) → IsCatches (throw_reply t k) → ⊥
-no_catch_throw (Variable n) k h = h
-no_catch_throw (Integer z) k h = h
-no_catch_throw (Name a) k h = h
-no_catch_throw (Apply f ts) k h = h
-no_catch_throw End k h = h
-no_catch_throw (More t ts) k h = h
-
-no_catch_status : (x : Bool) (error : Tree) (n : ℕ) → IsCatches (if x then Raises error else Halts n) → ⊥
-no_catch_status true error n h = h
-no_catch_status false error n h = h
-
-no_catch_halt : (t : Tree) (k : Key) → IsCatches (halt_reply t k) → ⊥
-no_catch_halt (Variable n) k h = h
-no_catch_halt (Integer z) k h = no_catch_status (int_lt z (pos 0) || int_lt (pos 255) z) (domain_error (codes "exit_code") (Integer z) k) (nat_abs z) h
-no_catch_halt (Name a) k h = h
-no_catch_halt (Apply f ts) k h = h
-no_catch_halt End k h = h
-no_catch_halt (More t ts) k h = h
+no_gatherer_answered : (x : Answer) → IsGathers (answered x) → ⊥
+no_gatherer_answered Fail h = h
+no_gatherer_answered Succeed h = h
+no_gatherer_answered (Equate made a b) h = h
+no_gatherer_answered (EquateCopy a b) h = h
+no_gatherer_answered (Raise error) h = h
 
 only_catch : (b : BuiltIn) (t : Tree) → IsCatches (reply b t) → b ≡ built_in.Catch
 only_catch built_in.True t h = absurd h
 only_catch built_in.Fail t h = absurd h
-only_catch built_in.Call t h =
-    let goal = called_of t in
-    absurd (no_catch_goal (λ b. if nat_lt 255 (arity goal) then Raises (max_arity_error (key (codes "call") (arity t))) else Calls b) goal (key (codes "call") (arity t))
-    (λ b. no_catch_limited goal (key (codes "call") (arity t)) (nat_lt 255 (arity goal)) b) h)
-only_catch built_in.Once t h = absurd (no_catch_goal CallsOnce (argument 0 t) (key (codes "once") 1) (λ b none. none) h)
-only_catch built_in.Not t h = absurd (no_catch_goal Refutes (argument 0 t) (key (codes "\\+") 1) (λ b none. none) h)
+only_catch built_in.Call t h = absurd (none_called IsCatches (λ e i. i) (λ n i. i) (called_of t) (key (codes "call") (arity t)) (λ b i. i) h)
+only_catch built_in.Once t h = absurd (none_goal IsCatches (λ e i. i) (λ n i. i) CallsOnce (argument 0 t) (key (codes "once") 1) (λ b i. i) h)
+only_catch built_in.Not t h = absurd (none_goal IsCatches (λ e i. i) (λ n i. i) Refutes (argument 0 t) (key (codes "\\+") 1) (λ b i. i) h)
 only_catch built_in.Repeat t h = absurd h
 only_catch built_in.Catch t h = refl
-only_catch built_in.Throw t h = absurd (no_catch_throw (argument 0 t) (key (codes "throw") 1) h)
+only_catch built_in.Throw t h = absurd (none_thrown IsCatches (λ e i. i) (λ n i. i) (argument 0 t) (key (codes "throw") 1) h)
 only_catch built_in.Halt t h = absurd h
-only_catch built_in.HaltWith t h = absurd (no_catch_halt (argument 0 t) (key (codes "halt") 1) h)
-only_catch (built_in.Library row) t h = absurd (no_catch_library row t h)
+only_catch built_in.HaltWith t h = absurd (none_ended IsCatches (λ e i. i) (λ n i. i) (argument 0 t) (key (codes "halt") 1) h)
+only_catch built_in.Findall t h = absurd (none_found IsCatches (λ e i. i) (λ n i. i) (argument 0 t) (argument 1 t) (argument 2 t) (key (codes "findall") 3) (λ b i. i) h)
+only_catch (built_in.Library row) t h = absurd (no_catch_answered (library_answer row t) h)
+
+only_findall : (b : BuiltIn) (t : Tree) → IsGathers (reply b t) → b ≡ built_in.Findall
+only_findall built_in.True t h = absurd h
+only_findall built_in.Fail t h = absurd h
+only_findall built_in.Call t h = absurd (none_called IsGathers (λ e i. i) (λ n i. i) (called_of t) (key (codes "call") (arity t)) (λ b i. i) h)
+only_findall built_in.Once t h = absurd (none_goal IsGathers (λ e i. i) (λ n i. i) CallsOnce (argument 0 t) (key (codes "once") 1) (λ b i. i) h)
+only_findall built_in.Not t h = absurd (none_goal IsGathers (λ e i. i) (λ n i. i) Refutes (argument 0 t) (key (codes "\\+") 1) (λ b i. i) h)
+only_findall built_in.Repeat t h = absurd h
+only_findall built_in.Catch t h = absurd h
+only_findall built_in.Throw t h = absurd (none_thrown IsGathers (λ e i. i) (λ n i. i) (argument 0 t) (key (codes "throw") 1) h)
+only_findall built_in.Halt t h = absurd h
+only_findall built_in.HaltWith t h = absurd (none_ended IsGathers (λ e i. i) (λ n i. i) (argument 0 t) (key (codes "halt") 1) h)
+only_findall built_in.Findall t h = refl
+only_findall (built_in.Library row) t h = absurd (no_gatherer_answered (library_answer row t) h)
 
 -- a catch's parts are the goal's arguments
 pub catch_parts : (b : BuiltIn) (t : Tree) (inside : Reply) (catcher recovery : Tree) → reply b t ≡ Catches inside catcher recovery → (b ≡ built_in.Catch) × (catcher ≡ argument 1 t) × (recovery ≡ argument 2 t)
@@ -219,3 +249,33 @@ catch_parts b t inside catcher recovery is =
     let own : b ≡ built_in.Catch = only_catch b t (subst (λ (x : Reply). IsCatches x) (sym is) tt) in
     let there : Catches (goal_reply Calls (argument 0 t) (key (codes "catch") 3)) (argument 1 t) (argument 2 t) ≡ Catches inside catcher recovery = subst (λ (x : BuiltIn). reply x t ≡ Catches inside catcher recovery) own is in
     (own, cc, cc)
+
+-- so where a goal is run for all of its solutions
+abbrev HasParts : Tree → Reply → Type 0
+HasParts t (Gathers template b result) = (template ≡ argument 0 t) × (result ≡ argument 2 t)
+HasParts t x = Unit {0}
+
+found_parts : (t goal : Tree) (k : Key) → HasParts t (findall_reply (argument 0 t) goal (argument 2 t) k)
+found_parts t goal k = by_goal goal where
+  partial : (b : Body) (x : Bool) → HasParts t (if x then Gathers (argument 0 t) b (argument 2 t) else Raises (type_error (codes "list") (argument 2 t) k))
+  partial b true = (refl, refl)
+  partial b false = tt
+
+  by_body : (o : Option Body) (g : Tree) → HasParts t (converted_reply (λ b. if is_partial_list (argument 2 t) then Gathers (argument 0 t) b (argument 2 t) else Raises (type_error (codes "list") (argument 2 t) k)) o g k)
+  by_body None g = tt
+  by_body (Some b) g = partial b (is_partial_list (argument 2 t))
+
+  by_goal : (g : Tree) → HasParts t (findall_reply (argument 0 t) g (argument 2 t) k)
+  by_goal (Variable n) = tt
+  by_goal (Integer z) = by_body (converted (Integer z)) (Integer z)
+  by_goal (Name a) = by_body (converted (Name a)) (Name a)
+  by_goal (Apply f ts) = by_body (converted (Apply f ts)) (Apply f ts)
+  by_goal End = by_body (converted End) End
+  by_goal (More u us) = by_body (converted (More u us)) (More u us)
+
+pub gather_parts : (b : BuiltIn) (t template result : Tree) (c : Body) → reply b t ≡ Gathers template c result → (b ≡ built_in.Findall) × (template ≡ argument 0 t) × (result ≡ argument 2 t)
+gather_parts b t template result c is =
+    let own : b ≡ built_in.Findall = only_findall b t (subst (λ (x : Reply). IsGathers x) (sym is) tt) in
+    let there : reply built_in.Findall t ≡ Gathers template c result = subst (λ (x : BuiltIn). reply x t ≡ Gathers template c result) own is in
+    let parts = subst (λ (x : Reply). HasParts t x) there (found_parts t (argument 1 t) (key (codes "findall") 3)) in
+    (own, parts.0, parts.1)

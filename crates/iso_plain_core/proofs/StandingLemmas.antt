@@ -14,7 +14,7 @@ use Rattle.iso_plain_core.specs.declared.bodies.Node.{Node}
 use Rattle.iso_plain_core.specs.declared.parts.Frame.{Frame}
 use Rattle.iso_plain_core.specs.declared.parts.Choice as kept
 use Rattle.iso_plain_core.specs.Nodes.{At, IsTree, runs, cuts, joins, branches, commits, chooses}
-use Rattle.iso_plain_core.specs.Standing.{Among, Links, IsBody, IsMember, a_body, a_cut, a_failure, an_end, Chain, ends, leads, First, StandsOn, StandsForChoice, StandsForChoices, none_kept, one_kept, links_at, Newest, AreVariables, no_word, one_word, GoesOn, DoesNext}
+use Rattle.iso_plain_core.specs.Standing.{Among, Links, IsBody, IsMember, a_body, a_cut, a_failure, an_end, a_template, Chain, ends, leads, First, StandsOn, StandsForChoice, StandsForChoices, none_kept, one_kept, links_at, Newest, AreVariables, no_word, one_word, GoesOn, DoesNext}
 use Rattle.iso_plain_core.specs.Entering.{Adds}
 use Rattle.iso_plain_core.proofs.NodeLemmas.{tree_keep}
 
@@ -65,12 +65,14 @@ member_more more keeps (a_body is body) = a_body is (body_more more keeps body)
 member_more more keeps (a_cut is) = a_cut is
 member_more more keeps (a_failure is) = a_failure is
 member_more more keeps (an_end is) = an_end is
+member_more more keeps (a_template is body) = a_template is (body_more more keeps body)
 
 pub member_keep : {W : Type 0} {p q : Present W} {nodes : List (Node W)} {f : Frame} {m : Member} → KeepsWords p q → IsMember p nodes f m → IsMember q nodes f m
 member_keep keeps (a_body is body) = a_body is (body_keep keeps body)
 member_keep keeps (a_cut is) = a_cut is
 member_keep keeps (a_failure is) = a_failure is
 member_keep keeps (an_end is) = an_end is
+member_keep keeps (a_template is body) = a_template is (body_keep keeps body)
 
 -- nodes and frames that were added at the end
 pub record AddsLinks {W : Type 0} (old new : Links W) : Type 0 where
@@ -97,7 +99,7 @@ chain_place {links = links} (Some i) (leads at below member others) = slice_get_
 pub last_is : {X : Type 0} (xs : List X) (x : X) → slice_get (xs ++ x ∷ []) (length xs) ≡ Some x
 last_is xs x = (at_last xs x).is
 
-front_is : {X : Type 0} (xs : List X) (x : X) → take (length xs) (xs ++ x ∷ []) ≡ xs
+pub front_is : {X : Type 0} (xs : List X) (x : X) → take (length xs) (xs ++ x ∷ []) ≡ xs
 front_is [] x = refl
 front_is (y ∷ xs) x = ap (λ (zs : List _). y ∷ zs) (front_is xs x)
 

@@ -44,6 +44,7 @@ todo_cost (todo.Body k) rest = body_cost k rest
 todo_cost todo.CutBack rest = suc rest
 todo_cost todo.Fail rest = suc rest
 todo_cost todo.Leave rest = suc rest
+todo_cost (todo.Gather place) rest = suc rest
 
 abbrev pub frame_cost : List ℕ → Frame → ℕ
 frame_cost costs f = todo_cost f.todo (rest_cost costs f.next)
@@ -67,6 +68,7 @@ abbrev pub choice_cost : {W : Type 0} → List Procedure → List ℕ → Left W
 choice_cost ps costs (left.AsIs place) = suc (rest_cost costs place)
 choice_cost ps costs (left.Again place) = suc (rest_cost costs place)
 choice_cost ps costs (left.Catching goal place) = left_cost 1 (rest_cost costs place)
+choice_cost ps costs (left.Gathering result place gathered) = suc (rest_cost costs place)
 choice_cost ps costs (left.Clauses attempt) = left_cost (clauses_at_place ps attempt.procedure - attempt.clause) (rest_cost costs attempt.rest)
 
 abbrev pub choices_cost : {W M : Type 0} → List Procedure → List ℕ → List (kept.Choice W M) → ℕ

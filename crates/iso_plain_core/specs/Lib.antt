@@ -1,4 +1,6 @@
 pub mod Nodes
+pub mod Solutions
+pub mod Gathering
 pub mod Standing
 pub mod Written
 pub mod Callables

@@ -4,13 +4,14 @@ use Rattle.iso_model.specs.Terms.Trees.{Tree, Variable, Name, Apply, arities_fit
 use Rattle.iso_model.specs.declared.pauses.Ball.{Ball}
 use Rattle.iso_model.specs.Terms.TermOf.{term_of}
 use Rattle.iso_model.specs.Terms.Arguments.{argument, arguments, arity, others, with_arguments}
-use Rattle.iso_model.specs.Terms.Substitutions.{Subst}
+use Rattle.iso_model.specs.Terms.Substitutions.{Subst, apply}
+use Rattle.iso_model.specs.Terms.Copies.{copy_from}
 use Rattle.iso_model.specs.Terms.Unifiers.{Unifier, NeverEqual}
 use Rattle.iso_model.specs.Search.Bodies.{Body, converted, map_body}
-use Rattle.iso_model.specs.Search.BuiltIns.{Reply, Fails, Succeeds, Equates, Raises, Calls, CallsOnce, Refutes, Repeats, Catches, Halts, goal_reply}
+use Rattle.iso_model.specs.Search.BuiltIns.{Reply, Fails, Succeeds, Equates, EquatesCopy, Raises, Calls, CallsOnce, Refutes, Repeats, Catches, Gathers, Halts, goal_reply}
 use Rattle.iso_model.specs.Search.Errors.{Key, max_arity_error}
 use Rattle.iso_store_core.specs.Presents.{Present, Binds, KeepsWords}
-use Rattle.iso_lib.specs.Replies.{IsUnbound}
+use Rattle.iso_lib.specs.Replies.{IsUnbound, UnifiesCopy}
 use Rattle.iso_plain_core.specs.declared.bodies.Node.{Node}
 use Rattle.iso_plain_core.specs.declared.goals.Placed.{Placed}
 use Rattle.iso_plain_core.specs.declared.goals.Placed.TheVariants as placed
@@ -92,13 +93,16 @@ IsInside p q old new reply placed = ⊥
 abbrev pub IsReply : {W : Type 0} → Present W → Present W → List (Node W) → List (Node W) → Reply → Replied → Type 0
 IsReply p q old new Fails replied.Fails = Adds old new
 IsReply p q old new Succeeds replied.GoesOn = (q ≡ p) × (new ≡ old)
-IsReply p q old new (Equates a b) replied.GoesOn = ((s : Subst) × Unifier a b s × Binds p q s) × (new ≡ old)
-IsReply p q old new (Equates a b) replied.Fails = NeverEqual a b × Adds old new
+IsReply p q old new (Equates made a b) replied.GoesOn = ((s : Subst) × Unifier a b s × Binds p q s) × (new ≡ old)
+IsReply p q old new (Equates made a b) replied.Fails = NeverEqual a b × Adds old new
+IsReply p q old new (EquatesCopy a b) replied.GoesOn = UnifiesCopy p q a b × (new ≡ old)
+IsReply p q old new (EquatesCopy a b) replied.Fails = NeverEqual a (apply p.substitution (copy_from b p.next)) × Adds old new
 IsReply p q old new (Raises error) (replied.Raises ball) = IsRaised p q old new error ball
 IsReply p q old new (Catches inside catcher recovery) (replied.Catches placed) = IsInside p q old new inside placed
 IsReply p q old new (Halts n) (replied.Halts status) = status ≡ n
 IsReply p q old new (Calls b) (replied.Calls place) = Places p q old new b place
 IsReply p q old new (CallsOnce b) (replied.CallsOnce place) = Places p q old new b place
 IsReply p q old new (Refutes b) (replied.Refutes place) = Places p q old new b place
+IsReply p q old new (Gathers template b result) (replied.Gathers place) = Places p q old new b place
 IsReply p q old new Repeats replied.Repeats = (q ≡ p) × (new ≡ old)
 IsReply p q old new reply answer = ⊥

@@ -4,13 +4,16 @@ use Rattle.std.specs.List.{slice_get}
 use Rattle.iso_model.specs.Terms.Trees.{Tree, Variable, arities_fit}
 use Rattle.iso_model.specs.Terms.Arguments.{arity, argument}
 use Rattle.iso_model.specs.Terms.Variables.{variables}
+use Rattle.iso_model.specs.Terms.Lists.{list_of}
 use Rattle.iso_model.specs.Terms.Substitutions.{Subst}
-use Rattle.iso_model.specs.Search.Bodies.{Body}
+use Rattle.iso_model.specs.Search.Bodies.{Body, Run}
 use Rattle.iso_model.specs.Search.Databases.{Clause}
-use Rattle.iso_model.specs.Search.Walker.{State, Member, Goal, CutTo, Fail, Leave, Raise, Alternative, AsIs, Again, Clauses, Catching, idle}
+use Rattle.iso_model.specs.Search.Walker.{State, Member, Goal, CutTo, Fail, Leave, Raise, Gather, Alternative, AsIs, Again, Clauses, Catching, Gathering, idle}
 use Rattle.iso_model.specs.Search.Walker as walker
 use Rattle.iso_store_core.specs.Presents.{Present, meaning}
 use Rattle.iso_plain_core.specs.Nodes.{At, IsTree}
+use Rattle.iso_plain_core.specs.Solutions.{copies_of}
+use Rattle.iso_plain_core.specs.declared.solutions.Gathered.{Gathered}
 use Rattle.iso_plain_core.specs.declared.bodies.Node.{Node}
 use Rattle.iso_plain_core.specs.declared.bodies.Node.TheVariants as node
 use Rattle.iso_plain_core.specs.declared.parts.Todo.TheVariants as todo
@@ -55,6 +58,7 @@ pub data IsMember {W : Type 0} (p : Present W) (nodes : List (Node W)) (f : Fram
   a_cut : f.todo ≡ todo.CutBack → IsMember p nodes f (CutTo f.mark)
   a_failure : f.todo ≡ todo.Fail → IsMember p nodes f Fail
   an_end : f.todo ≡ todo.Leave → IsMember p nodes f (Leave f.mark)
+  a_template : {i : ℕ} {t : Tree} → f.todo ≡ todo.Gather i → IsBody p nodes i (Run t) → IsMember p nodes f (Gather f.mark t)
 
 -- The place is before the i-th, or none.
 abbrev pub IsBefore : Option ℕ → ℕ → Type 0
@@ -122,12 +126,21 @@ module _ {W : Type 0} (left_at : ℕ → ℕ → List Clause) (query : List W) (
     pub on : OnList p links query named place a.list a.subst a.next
     pub is : a.left ≡ Catching (argument 1 (meaning p goal)) (argument 2 (meaning p goal))
 
+  -- The alternative is that of a findall/3 whose result is this word, with the members from this place on behind it. It has gathered these copies, of which a
+  -- store can hold the list.
+  pub record HasGathered (p : Present W) (links : Links W) (result : W) (place : Option ℕ) (gathered : Gathered) (a : Alternative) : Type 0 where
+    pub holds : p.holds result ≡ true
+    pub on : OnList p links query named place a.list a.subst a.next
+    pub is : a.left ≡ Gathering (meaning p result) (copies_of gathered) gathered.variables
+    pub fits : arities_fit (list_of (copies_of gathered)) ≡ true
+
   -- over this store, this is left to be tried at the alternative
   abbrev pub HasLeft : Present W → Links W → Left W → Alternative → Type 0
   HasLeft p links (left.Clauses attempt) a = HasClauses p links attempt a
   HasLeft p links (left.AsIs place) a = HasMembers p links place AsIs a
   HasLeft p links (left.Again place) a = HasMembers p links place Again a
   HasLeft p links (left.Catching goal place) a = HasCatch p links goal place a
+  HasLeft p links (left.Gathering result place gathered) a = HasGathered p links result place gathered a
 
 -- Choices are made of an engine's marks (whether a mark stands for a store, and which is older), its mark for the empty store, the clauses left at a
 -- procedure from a place on, and the words of the query's variables with their numbers.
@@ -167,18 +180,19 @@ pub record GainsChoice {W M : Type 0} (old new : M → Present W → Type 0) (ol
 abbrev pub most_numbers : ℕ
 most_numbers = 4611686018427387904
 
--- a step uses at most so many: those of a clause that is entered, or of a ball that is caught
+-- a step uses at most so many: those of a clause that is entered, of a ball that is caught, or of the list that a findall/3 has gathered
 abbrev pub numbers_a_step : ℕ
 numbers_a_step = 536870912
 
--- how many clauses are entered, or balls caught, at once where this is tried, without a step
+-- how many clauses are entered, balls caught, or lists made, at once where this is tried, without a step
 abbrev pub entered_at : walker.Left → ℕ
 entered_at AsIs = 0
 entered_at Again = 0
 entered_at (Clauses call cs) = 1
 entered_at (Catching catcher recovery) = 1
+entered_at (Gathering result copies count) = 1
 
--- Room is left for the numbers of a clause entered or a ball caught at each alternative, and in each step that is left.
+-- Room is left for the numbers of a clause entered, a ball caught or a list made at each alternative, and in each step that is left.
 abbrev pub HaveRoom : ℕ → List Alternative → Type 0
 HaveRoom steps [] = Unit {0}
 HaveRoom steps (a ∷ ks) = (a.next + numbers_a_step * (steps + entered_at a.left) ≤ most_numbers) × HaveRoom steps ks

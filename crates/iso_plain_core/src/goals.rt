@@ -157,30 +157,31 @@ fn place_goal<S: Store>(
     Ok(Placed::Raises(ball))
 }
 
-/// Appends the body of the goal that is the first argument of this one, for which the procedure of this name and arity was called,
-/// or gives the error that it raises. The errors: the store is full, or memory was refused.
+/// Appends the body of the goal that is the argument of this one at this place, for which the procedure of this name and arity was
+/// called, or gives the error that it raises. The errors: the store is full, or memory was refused.
 pub fn place_argument<S: Store>(
     alloc: Global,
     store: &mut S,
     controls: &Controls,
     nodes: &mut Vec<Node<S::Word>>,
     goal: S::Word,
+    index: usize,
     name: &str,
     arity: usize,
 ) -> Result<Placed, StoreFault>
     requires goal { Holds (S.present store.old) goal }
     requires arity { arity < 256 }
-    requires some { 0 < arguments.arity (meaning (S.present store.old) goal) }
+    requires index { index < arguments.arity (meaning (S.present store.old) goal) }
     requires controls { AreControls (S.names store.old) controls.now }
     ensures placed { IfOk result (IsRunAs (S.present store.old) (S.present store.new) nodes.old.items nodes.new.items
-        (λ runs. goal_reply runs (arguments.argument 0 (meaning (S.present store.old) goal)) (key name.now arity))) }
+        (λ runs. goal_reply runs (arguments.argument index (meaning (S.present store.old) goal)) (key name.now arity))) }
     ensures raises { IfOk result (IsRaising (S.present store.old) (S.present store.new)) }
     ensures full { result ≡ Err StoreFault.Full → S.full store.new }
     ensures nodes { Adds nodes.old.items nodes.new.items }
     ensures names { S.names store.new ≡ S.names store.old }
     ensures marks { KeepsMarks (S.stands store.old) (S.stands store.new) }
 {
-    let argument = store.arg(goal, 0);
+    let argument = store.arg(goal, index);
     place_goal(alloc, store, controls, nodes, argument, name, arity)
 }
 

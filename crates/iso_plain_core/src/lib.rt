@@ -14,4 +14,5 @@ pub mod entries;
 pub mod goals;
 pub mod parts;
 pub mod replies;
+pub mod solutions;
 pub mod vocabulary;

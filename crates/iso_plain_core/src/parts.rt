@@ -4,11 +4,15 @@ ghost use Rattle.iso_atoms.specs.Texts.{KeepsTexts};
 ghost use Rattle.iso_store_core.specs.Presents.{KeepsMarks};
 ghost use Rattle.iso_plain_core.specs.Next.{IsPlace, now_behind, now_entered};
 ghost use Rattle.iso_plain_core.specs.Standing.{GainsChoice};
+ghost use Rattle.iso_plain_core.specs.Solutions.{Gains};
+ghost use Rattle.iso_plain_core.specs.Gathering.{ChangesAt, SameCopies};
+ghost use Rattle.iso_model.specs.Terms.TermOf.{term_of};
 
 use super::entries::Entered;
-use iso_model::Limit;
+use super::solutions::Gathered;
+use iso_model::{Limit, NoMemory, Term};
 use iso_store_core::Store;
-use std::alloc::AllocError;
+use std::alloc::{AllocError, Global};
 
 /// What a member of the list of goals asks for.
 #[derive(Clone, Copy)]
@@ -21,6 +25,9 @@ pub enum Todo {
     Fail,
     /// To leave the catch whose choice has this mark for its place (7.8.9).
     Leave,
+    /// To gather a copy of the template, whose word is at this place of the nodes, at the choice that has this mark for its place, and
+    /// to go back to the newest choice (8.10.1).
+    Gather(usize),
 }
 
 /// A member of the list of goals, with its cut mark (how many choices stood when it came), and the place of the member
@@ -42,7 +49,7 @@ pub struct Attempt<W> {
 }
 
 /// What is left to be tried at a choice.
-#[derive(Clone, Copy)]
+#[derive(Drop)]
 pub enum Left<W> {
     /// The members from this place on, as they are.
     AsIs(Option<usize>),
@@ -52,10 +59,12 @@ pub enum Left<W> {
     Clauses(Attempt<W>),
     /// Nothing: it is the entry of the catch that this goal calls, before the members from this place on (7.8.9).
     Catching(W, Option<usize>),
+    /// To unify this word, the result of a findall/3, with the list of what was gathered, before the members from this place on (8.10.1).
+    Gathering(W, Option<usize>, Gathered),
 }
 
 /// What is left to be tried, and what to go back to first.
-#[derive(Clone, Copy)]
+#[derive(Drop)]
 pub struct Choice<W, M> {
     pub mark: M,
     /// How many nodes of bodies stood when it was made.
@@ -145,4 +154,24 @@ pub fn keep_choice<S: Store>(
         left,
     })?;
     Ok(())
+}
+
+/// Adds a copy of the solution to what is gathered at the choice at this place; where none stands there, or it gathers nothing, nothing
+/// changes. The error is that memory was refused.
+pub fn gather<W, M>(
+    alloc: Global,
+    choices: &mut Vec<Choice<W, M>>,
+    place: usize,
+    solution: &Term,
+) -> Result<(), NoMemory>
+    ensures gains { OnOk result (ChangesAt (Gains (term_of solution.now)) place choices.old.items choices.new.items) }
+    ensures kept { OnErr result (ChangesAt SameCopies place choices.old.items choices.new.items) }
+{
+    if place >= choices.len() {
+        return Ok(());
+    }
+    match &mut choices[place].left {
+        Left::Gathering(_, _, gathered) => gathered.add(alloc, solution),
+        _ => Ok(()),
+    }
 }

@@ -1,11 +1,13 @@
 //! What goals of the language's own procedures come to (7.8, 8).
-ghost use Rattle.std.specs.Prelude.{◌≡◌, ◌≢◌, ◌<◌, List, codes, true, IfOk, Err};
-ghost use Rattle.iso_model.specs.Search.Library.{library_reply};
+ghost use Rattle.std.specs.Prelude.{◌≡◌, ◌≢◌, ◌<◌, ◌^◌, List, codes, true, IfOk, Err};
+ghost use Rattle.iso_model.specs.Search.Library.{library_answer, library_arity};
 ghost use Rattle.iso_model.specs.Search.BuiltIns as table;
+ghost use Rattle.iso_model.specs.declared.built_ins.BuiltIn.TheVariants as built_in;
+ghost use Rattle.iso_model.specs.Search.Replies.{answered};
 ghost use Rattle.iso_atoms.specs.Texts.{KeepsTexts};
 ghost use Rattle.iso_store_core.specs.Presents.{Holds, meaning, KeepsMarks};
-ghost use Rattle.iso_lib.specs.Rows.{library_arity};
 ghost use Rattle.iso_plain_core.specs.GoalKinds.{IsBuiltIn};
+ghost use Rattle.iso_plain_core.specs.Controls.{AreControls};
 ghost use Rattle.iso_plain_core.specs.Vocabularies.{IsVocabulary};
 ghost use Rattle.iso_plain_core.specs.Replies.{IsReply, IsHalt};
 ghost use Rattle.iso_model.specs.Terms.Trees.{arities_fit};
@@ -15,9 +17,10 @@ ghost use Rattle.iso_model.specs.Search.Errors.{key};
 ghost use Rattle.iso_plain_core.specs.Entering.{Adds};
 
 use super::bodies::Node;
+use super::controls::Controls;
 use super::goals::{Placed, place_argument, place_called};
 use super::vocabulary::Vocabulary;
-use iso_lib::{Fault, Reply, builtin, errors};
+use iso_lib::{Fault, Reply, builtin, errors, lists};
 use iso_model::{Ball, BuiltIn, Library, NoMemory, Term};
 use iso_store_core::{Shape, Store, StoreFault};
 use std::alloc::Global;
@@ -41,6 +44,8 @@ pub enum Replied {
     Repeats,
     /// The same as what it holds, inside a catch: a body is run, or an error raised (7.8.9).
     Catches(Placed),
+    /// The body at this place of the nodes is run for all of its solutions (8.10.1).
+    Gathers(usize),
     /// The session ends with this status (8.17.3, 8.17.4).
     Halts(u8),
 }
@@ -56,6 +61,7 @@ pub fn reply<S: Store>(
 ) -> Result<Replied, StoreFault>
     requires goal { Holds (S.present store.old) goal }
     requires built_in { IsBuiltIn (meaning (S.present store.old) goal) built_in }
+    requires next { (S.present store.old).next < 2 ^ 63 }
     requires vocabulary { IsVocabulary (S.names store.old) vocabulary.now }
     ensures replies { IfOk result (IsReply (S.present store.old) (S.present store.new) nodes.old.items nodes.new.items
         (table.reply built_in (meaning (S.present store.old) goal))) }
@@ -73,20 +79,21 @@ pub fn reply<S: Store>(
             Placed::Body(place) => Ok(Replied::Calls(place)),
             Placed::Raises(ball) => Ok(Replied::Raises(ball)),
         },
-        BuiltIn::Once => match place_argument(alloc, store, controls, nodes, goal, "once", 1)? {
+        BuiltIn::Once => match place_argument(alloc, store, controls, nodes, goal, 0, "once", 1)? {
             Placed::Body(place) => Ok(Replied::CallsOnce(place)),
             Placed::Raises(ball) => Ok(Replied::Raises(ball)),
         },
-        BuiltIn::Not => match place_argument(alloc, store, controls, nodes, goal, "\\+", 1)? {
+        BuiltIn::Not => match place_argument(alloc, store, controls, nodes, goal, 0, "\\+", 1)? {
             Placed::Body(place) => Ok(Replied::Refutes(place)),
             Placed::Raises(ball) => Ok(Replied::Raises(ball)),
         },
         BuiltIn::Catch => Ok(Replied::Catches(place_argument(
-            alloc, store, controls, nodes, goal, "catch", 3,
+            alloc, store, controls, nodes, goal, 0, "catch", 3,
         )?)),
         BuiltIn::Throw => Ok(Replied::Raises(thrown(alloc, store, goal)?)),
         BuiltIn::Halt => Ok(Replied::Halts(0)),
         BuiltIn::HaltWith => halted(alloc, store, goal),
+        BuiltIn::Findall => findall(alloc, store, controls, nodes, goal),
         BuiltIn::Library(row) => library(alloc, store, vocabulary, row, goal),
     }
 }
@@ -131,6 +138,36 @@ fn halted<S: Store>(alloc: Global, store: &S, goal: S::Word) -> Result<Replied, 
     }
 }
 
+/// What a goal of `findall/3` comes to (8.10.1). The errors: the store is full, or memory was refused.
+fn findall<S: Store>(
+    alloc: Global,
+    store: &mut S,
+    controls: &Controls,
+    nodes: &mut Vec<Node<S::Word>>,
+    goal: S::Word,
+) -> Result<Replied, StoreFault>
+    requires goal { Holds (S.present store.old) goal }
+    requires three { arguments.arity (meaning (S.present store.old) goal) ≡ 3 }
+    requires controls { AreControls (S.names store.old) controls.now }
+    ensures replies { IfOk result (IsReply (S.present store.old) (S.present store.new) nodes.old.items nodes.new.items
+        (table.reply built_in.Findall (meaning (S.present store.old) goal))) }
+    ensures nodes { Adds nodes.old.items nodes.new.items }
+    ensures full { result ≡ Err StoreFault.Full → S.full store.new }
+    ensures names { S.names store.new ≡ S.names store.old }
+    ensures marks { KeepsMarks (S.stands store.old) (S.stands store.new) }
+{
+    let solutions = store.arg(goal, 2);
+    let place = match place_argument(alloc, store, controls, nodes, goal, 1, "findall", 3)? {
+        Placed::Body(place) => place,
+        Placed::Raises(ball) => return Ok(Replied::Raises(ball)),
+    };
+    if lists::is_partial_list(store, solutions) {
+        return Ok(Replied::Gathers(place));
+    }
+    let culprit = store.copy_out(solutions)?;
+    Ok(Replied::Raises(errors::wrong_type(alloc, "list", culprit, "findall", 3)?))
+}
+
 /// What a goal comes to that runs no other (8.2 to 8.7). The errors: the store is full, or memory was refused.
 fn library<S: Store>(
     alloc: Global,
@@ -141,11 +178,12 @@ fn library<S: Store>(
 ) -> Result<Replied, StoreFault>
     requires goal { Holds (S.present store.old) goal }
     requires arity { arguments.arity (meaning (S.present store.old) goal) ≡ library_arity row }
+    requires next { (S.present store.old).next < 2 ^ 63 }
     requires vocabulary { IsVocabulary (S.names store.old) vocabulary.now }
     ensures replies { (nodes : List (Node S.Word)) → IfOk result (IsReply (S.present store.old) (S.present store.new) nodes nodes
-        (library_reply row (meaning (S.present store.old) goal))) }
+        (answered (library_answer row (meaning (S.present store.old) goal)))) }
     ensures full { result ≡ Err StoreFault.Full → S.full store.new }
-    ensures names { S.names store.new ≡ S.names store.old }
+    ensures names { KeepsTexts (S.names store.old) (S.names store.new) }
     ensures marks { KeepsMarks (S.stands store.old) (S.stands store.new) }
 {
     match builtin(alloc, store, &vocabulary.evaluables, row, goal) {

@@ -10,7 +10,7 @@ ghost use Rattle.iso_session_core.specs.Progress.{outcome_of};
 use iso_model::{Engine, Limits, NoMemory};
 use iso_plain::plain::Plain;
 use iso_session_core::{Choice, Ended, Fault, refused_session, session_on};
-use iso_store::{Nodes, Store};
+use iso_store::{Heap, Store};
 use std::alloc::Global;
 use std::io::Write;
 
@@ -35,7 +35,7 @@ pub fn session<W: Write>(
     }
 }
 
-/// A session with the plain engine over nodes.
+/// A session with the plain engine over cells.
 fn plain_session<W: Write>(
     alloc: Global,
     text: &str,
@@ -53,13 +53,13 @@ fn plain_session<W: Write>(
     session_on(alloc, &mut engine, text, queries, limits.budget, out)
 }
 
-/// A new plain engine over nodes. The error is that memory was refused.
-fn plain_engine(alloc: Global, limits: &Limits) -> Result<Plain<Nodes>, NoMemory>
-    ensures ready { IfOk result (λ engine. ⟦<Plain<Nodes> as Engine>⟧.phase engine ≡ Ready) }
-    ensures new { IfOk result (λ engine. ⟦<Plain<Nodes> as Engine>⟧.stands_for engine (idle first_world)) }
-    ensures frames { IfOk result (λ engine. (s : State) → ⟦<Plain<Nodes> as Engine>⟧.frames_pieces engine s → ComesOver limits.now.frames s) }
-    ensures cells { IfOk result (λ engine. (⟦<Nodes as Store>⟧.present engine.store).limit ≡ limits.now.cells) }
+/// A new plain engine over cells. The error is that memory was refused.
+fn plain_engine(alloc: Global, limits: &Limits) -> Result<Plain<Heap>, NoMemory>
+    ensures ready { IfOk result (λ engine. ⟦<Plain<Heap> as Engine>⟧.phase engine ≡ Ready) }
+    ensures new { IfOk result (λ engine. ⟦<Plain<Heap> as Engine>⟧.stands_for engine (idle first_world)) }
+    ensures frames { IfOk result (λ engine. (s : State) → ⟦<Plain<Heap> as Engine>⟧.frames_pieces engine s → ComesOver limits.now.frames s) }
+    ensures cells { IfOk result (λ engine. (⟦<Heap as Store>⟧.present engine.store).limit ≡ limits.now.cells) }
 {
-    let store = Nodes::new(alloc, limits.cells)?;
+    let store = Heap::new(alloc, limits.cells)?;
     Plain::new(alloc, store, limits.frames)
 }

@@ -6,11 +6,11 @@ use Rattle.iso_model.specs.Terms.Variables.{is_in, distinct_from, variable_count
 use Rattle.iso_store_core.specs.Copying.{cells_of}
 use Rattle.iso_store_core.specs.Presents.{Present, KeepsNumbers, TakesNumber, TakesFrom, MovesOn, Grows, NumbersHaveCells}
 
-added : (seen : List ℕ) (n : ℕ) (b : Bool) → length (if b then seen else (seen ++ n ∷ [])) ≤ length seen + 1
+pub added : (seen : List ℕ) (n : ℕ) (b : Bool) → length (if b then seen else (seen ++ n ∷ [])) ≤ length seen + 1
 added seen n true = omega arith
 added seen n false = omega (arith, length-append seen (n ∷ []))
 
-counted-from : (seen : List ℕ) (t : Tree) → length (distinct_from seen t) + cells_of (λ n. 1) t ≤ length seen + size t
+counted-from : (seen : List ℕ) (t : Tree) → length (distinct_from seen t) + cells_of 1 (λ n. 1) t ≤ length seen + size t
 counted-from seen (Variable n) = let one = added seen n (is_in n seen) in omega arith
 counted-from seen (Integer z) = omega arith
 counted-from seen (Name a) = omega arith
@@ -19,11 +19,11 @@ counted-from seen End = omega arith
 counted-from seen (More t ts) = omega (arith, counted-from seen t, counted-from (distinct_from seen t) ts)
 
 -- a node for each variable, and one for each other part
-pub nodes-within : (t : Tree) → variable_count t + cells_of (λ n. 1) t ≤ size t
+pub nodes-within : (t : Tree) → variable_count t + cells_of 1 (λ n. 1) t ≤ size t
 nodes-within t = let whole = counted-from [] t in omega arith
 
 -- no more where wider compounds take more
-pub nodes-no-wider : (t : Tree) → cells_of (λ n. 1) t ≤ cells_of (λ n. n + 1) t
+pub nodes-no-wider : (t : Tree) → cells_of 1 (λ n. 1) t ≤ cells_of 1 (λ n. n + 1) t
 nodes-no-wider (Variable n) = omega arith
 nodes-no-wider (Integer z) = omega arith
 nodes-no-wider (Name a) = omega arith

@@ -28,7 +28,7 @@ argument-at [] k d h = absurd (omega arith)
 argument-at (w ∷ ws) zero d h = refl
 argument-at (w ∷ ws) (suc k) d h = argument-at ws k d (omega arith)
 
-list-ext : (xs ys : List Tree) → length xs ≡ length ys → ((k : ℕ) → k < length xs → get_or xs k End ≡ get_or ys k End) → xs ≡ ys
+pub list-ext : (xs ys : List Tree) → length xs ≡ length ys → ((k : ℕ) → k < length xs → get_or xs k End ≡ get_or ys k End) → xs ≡ ys
 list-ext [] [] h same = refl
 list-ext [] (y ∷ ys) h same = absurd (omega arith)
 list-ext (x ∷ xs) [] h same = absurd (omega arith)

@@ -15,8 +15,8 @@ use Rattle.iso_store_core.specs.Arguments.{member, arity, argument}
 use Rattle.iso_store.specs.Rounds.{rounds_for}
 use Rattle.iso_store.specs.RoundLemmas.{rounds_bound}
 use Rattle.iso_store.specs.HeapTerms.{cell_terms, made_term, optional_term, heap_bindings, heap_substitution, bound_count}
-use Rattle.iso_store.specs.HeapStores.{number_of, is_variable_cell, is_functor, is_argument, has_cell_number, is_word, IsHeap, next_word, bound_word, variable_of, number_rank, word_rank}
-use Rattle.iso_store.specs.HeapLemmas.{place_term-unbound, place_term-bound, place_term-argument, place_term-functor, terms_before, before-length, before-at}
+use Rattle.iso_store.specs.HeapStores.{number_of, is_variable_cell, is_functor, is_argument, has_cell_number, cell_word, is_word, IsHeap, next_word, bound_word, variable_of, number_rank, word_rank}
+use Rattle.iso_store.specs.HeapLemmas.{place_term, place_term-unbound, place_term-bound, place_term-argument, place_term-functor, terms_before, before-length, before-at}
 use Rattle.iso_store.specs.HeapNumbers.{target_is}
 use Rattle.iso_store.specs.HeapUntouched.{not_bound-value}
 
@@ -54,13 +54,10 @@ functor_cell (Some (Argument v)) h = absurd (false≢true h)
 functor_cell (Some (Functor f n)) h = (f, n, refl)
 functor_cell (Some (Entry p)) h = absurd (false≢true h)
 
-pub argument_cell : (o : Option Cell) → is_argument o ≡ true → (w : HeapWord) × (o ≡ Some (Argument w))
+-- the cell of an argument
+pub argument_cell : (o : Option Cell) → is_argument o ≡ true → (c : Cell) × (o ≡ Some c)
 argument_cell None h = absurd (false≢true h)
-argument_cell (Some (Unbound n)) h = absurd (false≢true h)
-argument_cell (Some (Bound n v)) h = absurd (false≢true h)
-argument_cell (Some (Argument v)) h = (v, refl)
-argument_cell (Some (Functor f n)) h = absurd (false≢true h)
-argument_cell (Some (Entry p)) h = absurd (false≢true h)
+argument_cell (Some c) h = (c, refl)
 
 pub variable_is : (o : Option HeapWord) (a : ℕ) → variable_of o ≡ Some a → o ≡ Some (Var a)
 variable_is None a h = absurd (cc)
@@ -145,27 +142,35 @@ module _ (names : List (List ℕ)) (cs : List Cell) (next : ℕ) (heap : IsHeap 
   pub compound_arity : (p f n : ℕ) → slice_get cs p ≡ Some (Functor f n) → arity (seen (Structure p)) ≡ n
   compound_arity p f n h = ap arity (shows_compound p f n h) ∙ compound_count p f n h
 
+  -- an argument's cell stands for what its word stands for
+  cell_seen : (a : ℕ) (c : Cell) → slice_get cs a ≡ Some c → is_argument (slice_get cs a) ≡ true → (is_word names cs (cell_word a c) ≡ true) × (made_term names cs (cell_word a c) ≡ place_term names cs a)
+  cell_seen a (Unbound n) h is = (ap is_variable_cell h, refl)
+  cell_seen a (Bound n v) h is = (ap is_variable_cell h, refl)
+  cell_seen a (Argument w) h is = let holds = heap.argument a w h in (holds.0, sym (place_term-argument names cs a w h holds.1))
+  cell_seen a (Functor f n) h is = absurd (false≢true (sym (ap is_argument h) ∙ is))
+  cell_seen a (Entry p) h is = absurd (false≢true (sym (ap is_argument h) ∙ is))
+
   -- the word of an argument
-  pub argument_word : (p f n i : ℕ) → slice_get cs p ≡ Some (Functor f n) → i < n → (w : HeapWord) × (slice_get cs (p - n + i) ≡ Some (Argument w)) × (is_word names cs w ≡ true) × (seen w ≡ argument i (seen (Structure p)))
+  pub argument_word : (p f n i : ℕ) → slice_get cs p ≡ Some (Functor f n) → i < n → (c : Cell) × (slice_get cs (p - n + i) ≡ Some c) × (is_word names cs (cell_word (p - n + i) c) ≡ true) × (seen (cell_word (p - n + i) c) ≡ argument i (seen (Structure p)))
   argument_word p f n i h below =
       let is = heap.functor p f n h in
       let room = is.room in
       let found = argument_cell (slice_get cs (p - n + i)) (is.arguments i below) in
-      let holds = heap.argument (p - n + i) found.0 found.1 in
+      let holds = cell_seen (p - n + i) found.0 found.1 (is.arguments i below) in
       let size = before-length names cs p n room (slice_get_within cs p (Functor f n) h) in
       let s = heap_substitution names cs in
-      let value : argument i (seen (Structure p)) ≡ seen found.0 =
+      let value : argument i (seen (Structure p)) ≡ seen (cell_word (p - n + i) found.0) =
       ap (argument i) (shows_compound p f n h) ∙ applied-member s (terms_before names cs p n) i (omega arith)
-      ∙ ap (apply s) (before-at names cs p n i room below ∙ place_term-argument names cs (p - n + i) found.0 found.1 holds.1) in
+      ∙ ap (apply s) (before-at names cs p n i room below ∙ sym holds.1) in
       (found.0, found.1, holds.0, sym value)
 
   -- the same, from the functor back
-  pub argument_back : (p f n i : ℕ) → slice_get cs p ≡ Some (Functor f n) → i < n → (w : HeapWord) × (slice_get cs (p - (n - i)) ≡ Some (Argument w)) × (is_word names cs w ≡ true) × (seen w ≡ argument i (seen (Structure p)))
+  pub argument_back : (p f n i : ℕ) → slice_get cs p ≡ Some (Functor f n) → i < n → (c : Cell) × (slice_get cs (p - (n - i)) ≡ Some c) × (is_word names cs (cell_word (p - (n - i)) c) ≡ true) × (seen (cell_word (p - (n - i)) c) ≡ argument i (seen (Structure p)))
   argument_back p f n i h below =
       let room = (heap.functor p f n h).room in
       let found = argument_word p f n i h below in
       let same : p - (n - i) ≡ p - n + i = omega arith in
-      (found.0, ap (slice_get cs) same ∙ found.1, found.2, found.3)
+      rw same found
 
   -- only a compound has arguments
   pub end_arity : (w : HeapWord) → is_word names cs w ≡ true → next_word cs w ≡ None → ((p : ℕ) → w ≢ Structure p) → arity (seen w) ≡ 0

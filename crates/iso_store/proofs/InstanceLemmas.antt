@@ -56,9 +56,9 @@ occurs-append x (t ∷ ts) us = ap (λ b. occurs x t || b) (occurs-append x ts u
     or-assoc true b c = refl
     or-assoc false b c = refl
 
-cells-append : (width : ℕ → ℕ) (ts us : List Tree) → cells_of width (row (ts ++ us)) ≡ cells_of width (row ts) + cells_of width (row us)
-cells-append width [] us = omega arith
-cells-append width (t ∷ ts) us = omega (arith, cells-append width ts us)
+cells-append : (atomic : ℕ) (width : ℕ → ℕ) (ts us : List Tree) → cells_of atomic width (row (ts ++ us)) ≡ cells_of atomic width (row ts) + cells_of atomic width (row us)
+cells-append atomic width [] us = omega arith
+cells-append atomic width (t ∷ ts) us = omega (arith, cells-append atomic width ts us)
 
 count-row : (ts : List Tree) → count (row ts) ≡ length ts
 count-row [] = refl
@@ -96,10 +96,10 @@ module _ (f : List ℕ) (n : ℕ) (ts : List Tree) where
         | inr there ↦ or_right (occurs x (row front)) (occurs x (row (Apply f (row end) ∷ []))) (or_left (occurs x (row end)) false there)
       ]
 
-  gathered-cells : (width : ℕ → ℕ) → cells_of width (row (with_step (Gather f n) ts)) ≡ cells_of width (row ts) + width (taken (length ts) n)
-  gathered-cells width =
-      let new = cells-append width front (Apply f (row end) ∷ []) in
-      let old = sym (cells-append width front end) ∙ ap (λ us. cells_of width (row us)) whole in
+  gathered-cells : (atomic : ℕ) (width : ℕ → ℕ) → cells_of atomic width (row (with_step (Gather f n) ts)) ≡ cells_of atomic width (row ts) + width (taken (length ts) n)
+  gathered-cells atomic width =
+      let new = cells-append atomic width front (Apply f (row end) ∷ []) in
+      let old = sym (cells-append atomic width front end) ∙ ap (λ us. cells_of atomic width (row us)) whole in
       let many = ap width (count-row end ∙ length-drop (length ts - n) ts) in
       omega arith
 
@@ -116,8 +116,8 @@ leaf-fits ts u h = (and_parts (arities_fit (row ts)) (arities_fit (row (u ∷ []
 leaf-occurs : (ts : List Tree) (u : Tree) (x : ℕ) → occurs x (row ts) ≡ true → occurs x (row (ts ++ u ∷ [])) ≡ true
 leaf-occurs ts u x o = occurs-append x ts (u ∷ []) ∙ or_left (occurs x (row ts)) (occurs x (row (u ∷ []))) o
 
-leaf-cells : (width : ℕ → ℕ) (ts : List Tree) (u : Tree) → cells_of width (row (ts ++ u ∷ [])) ≡ cells_of width (row ts) + cells_of width u
-leaf-cells width ts u = let all = cells-append width ts (u ∷ []) in omega arith
+leaf-cells : (atomic : ℕ) (width : ℕ → ℕ) (ts : List Tree) (u : Tree) → cells_of atomic width (row (ts ++ u ∷ [])) ≡ cells_of atomic width (row ts) + cells_of atomic width u
+leaf-cells atomic width ts u = let all = cells-append atomic width ts (u ∷ []) in omega arith
 
 module _ (names : List (List ℕ)) where
   part-fits : (k : Part) (ts : List Tree) → arities_fit (row (with_step (part_step names Variable k) ts)) ≡ true → arities_fit (row ts) ≡ true
@@ -132,13 +132,13 @@ module _ (names : List (List ℕ)) where
   part-occurs (Atom a) ts x o = leaf-occurs ts (Name (text_at names a)) x o
   part-occurs (Compound a n) ts x o = gathered-occurs (text_at names a) n ts x o
 
-  pub part-grows : (width : ℕ → ℕ) (k : Part) (ts : List Tree) → cells_of width (row (with_step (part_step names Variable k) ts)) ≡ cells_of width (row ts) + part_cells width (length ts) k
-  part-grows width (Place j) ts = leaf-cells width ts (Variable j)
-  part-grows width (Number z) ts = leaf-cells width ts (Integer z)
-  part-grows width (Atom a) ts = leaf-cells width ts (Name (text_at names a))
-  part-grows width (Compound a n) ts = gathered-cells (text_at names a) n ts width
+  pub part-grows : (atomic : ℕ) (width : ℕ → ℕ) (k : Part) (ts : List Tree) → cells_of atomic width (row (with_step (part_step names Variable k) ts)) ≡ cells_of atomic width (row ts) + part_cells atomic width (length ts) k
+  part-grows atomic width (Place j) ts = leaf-cells atomic width ts (Variable j)
+  part-grows atomic width (Number z) ts = leaf-cells atomic width ts (Integer z)
+  part-grows atomic width (Atom a) ts = leaf-cells atomic width ts (Name (text_at names a))
+  part-grows atomic width (Compound a n) ts = gathered-cells (text_at names a) n ts atomic width
 
-  part-applied : (s : Subst) (k : Part) (ts : List Tree) → map (apply s) (with_step (part_step names Variable k) ts) ≡ with_step (part_step names s k) (map (apply s) ts)
+  pub part-applied : (s : Subst) (k : Part) (ts : List Tree) → map (apply s) (with_step (part_step names Variable k) ts) ≡ with_step (part_step names s k) (map (apply s) ts)
   part-applied s (Place j) ts = map-append (apply s) ts (Variable j ∷ [])
   part-applied s (Number z) ts = map-append (apply s) ts (Integer z ∷ [])
   part-applied s (Atom a) ts = map-append (apply s) ts (Name (text_at names a) ∷ [])
@@ -160,11 +160,11 @@ module _ (names : List (List ℕ)) where
   after-occurs [] ts x o = o
   after-occurs (k ∷ ks) ts x o = after-occurs ks (with_step (part_step names Variable k) ts) x (part-occurs k ts x o)
 
-  after-cells : (width : ℕ → ℕ) (ks : List Part) (ts : List Tree) → cells_of width (row ts) ≤ cells_of width (row (after_parts names ks ts))
-  after-cells width [] ts = omega arith
-  after-cells width (k ∷ ks) ts =
-      let inner = after-cells width ks (with_step (part_step names Variable k) ts) in
-      let one = part-grows width k ts in
+  after-cells : (atomic : ℕ) (width : ℕ → ℕ) (ks : List Part) (ts : List Tree) → cells_of atomic width (row ts) ≤ cells_of atomic width (row (after_parts names ks ts))
+  after-cells atomic width [] ts = omega arith
+  after-cells atomic width (k ∷ ks) ts =
+      let inner = after-cells atomic width ks (with_step (part_step names Variable k) ts) in
+      let one = part-grows atomic width k ts in
       omega arith
 
   -- ---- the parts of a term, as far as the first ones
@@ -181,17 +181,17 @@ module _ (names : List (List ℕ)) where
       others : (i : ℕ) → after_parts names (drop i ks) (so_far i) ≡ t ∷ []
       others i = sym (after-append names (take i ks) (drop i ks) []) ∙ ap (λ js. after_parts names js []) (take-append-drop i ks) ∙ whole.term
 
-      pub cells-so-far : (width : ℕ → ℕ) (i : ℕ) → cells_of width (row (so_far i)) ≤ cells_of width t
-      cells-so-far width i =
-          let within = after-cells width (drop i ks) (so_far i) in
-          let all = ap (λ ts. cells_of width (row ts)) (others i) in
+      pub cells-so-far : (atomic : ℕ) (width : ℕ → ℕ) (i : ℕ) → cells_of atomic width (row (so_far i)) ≤ cells_of atomic width t
+      cells-so-far atomic width i =
+          let within = after-cells atomic width (drop i ks) (so_far i) in
+          let all = ap (λ ts. cells_of atomic width (row ts)) (others i) in
           omega arith
 
-      pub cells-more : (width : ℕ → ℕ) (i : ℕ) (k : Part) → i < length ks → k ≡ get_or ks i k → cells_of width (row (so_far i)) + part_cells width (length (so_far i)) k ≤ cells_of width t
-      cells-more width i k below is =
-          let one = part-grows width k (so_far i) in
-          let next = ap (λ ts. cells_of width (row ts)) (next-part i k below is) in
-          let within = cells-so-far width (suc i) in
+      pub cells-more : (atomic : ℕ) (width : ℕ → ℕ) (i : ℕ) (k : Part) → i < length ks → k ≡ get_or ks i k → cells_of atomic width (row (so_far i)) + part_cells atomic width (length (so_far i)) k ≤ cells_of atomic width t
+      cells-more atomic width i k below is =
+          let one = part-grows atomic width k (so_far i) in
+          let next = ap (λ ts. cells_of atomic width (row ts)) (next-part i k below is) in
+          let within = cells-so-far atomic width (suc i) in
           omega arith
 
       pub all-parts : (i : ℕ) → length ks ≤ i → so_far i ≡ t ∷ []

@@ -22,6 +22,7 @@ pub mod InstanceLemmas
 pub mod Placing
 pub mod Renaming
 pub mod UnifyLemmas
+pub mod OrderLemmas
 pub mod SearchLemmas
 pub mod ListingLemmas
 pub mod RoundBound
@@ -37,3 +38,5 @@ pub mod HeapMarked
 pub mod HeapBound
 pub mod HeapMade
 pub mod HeapCompounds
+pub mod HeapBuilding
+pub mod HeapBuilt

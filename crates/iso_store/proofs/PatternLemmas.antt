@@ -1,5 +1,5 @@
 -- Terms that are written out part by part.
-use Rattle.std.proofs.Common.{◌≡◌, ℕ, ◌+◌, ◌<◌, List, [], ◌∷◌, ◌++◌, length, map, reverse, get_or, suc, refl, ap, ap₂, sym, ◌∙◌, arith}
+use Rattle.std.proofs.Common.{◌≡◌, ℕ, ◌+◌, ◌<◌, List, [], ◌∷◌, ◌++◌, length, map, reverse, refl, ap, sym, ◌∙◌, arith}
 use Rattle.std.specs.Borrow.{Bor}
 use Rattle.std.specs.List.{All}
 use Rattle.std.proofs.lemmas.List.{map-append, length-map}
@@ -8,7 +8,7 @@ use Rattle.std.proofs.lemmas.List.Sorted.{All-permutation, IsPermutation-reverse
 use Rattle.std.proofs.lemmas.Grind.{reverse_onto}
 use Rattle.iso_atoms.specs.Texts.{KeepsTexts}
 use Rattle.iso_model.specs.declared.terms.Term.{Term}
-use Rattle.iso_model.specs.Terms.Trees.{Tree, Variable, Name, Apply, row}
+use Rattle.iso_model.specs.Terms.Trees.{Tree, Variable, Apply, row}
 use Rattle.iso_model.specs.Terms.TermOf.{term_of}
 use Rattle.iso_model.specs.Terms.Sizes.{size}
 use Rattle.iso_model.specs.Terms.Substitutions.{Subst, apply}
@@ -16,7 +16,6 @@ use Rattle.iso_model.specs.Terms.Building.{Give, Gather, with_step, with_steps}
 use Rattle.iso_model.proofs.OnTerms.BuildingLemmas.{with_steps-more, with_gathered}
 use Rattle.iso_model.proofs.OnTerms.CostOfRows.{apply-row}
 use Rattle.iso_store_core.specs.declared.patterns.Part.{Part}
-use Rattle.iso_store_core.specs.declared.patterns.Part.TheVariants.{Variable as Place, Integer as Number, Atom, Compound}
 use Rattle.iso_store_core.specs.Patterns.{IsNamed, IsPattern, part_step, after_parts}
 use Rattle.iso_store.specs.Writing.{terms_left}
 use Rattle.iso_store_core.proofs.PatternLemmas.{parts-named, steps-kept}

@@ -30,13 +30,13 @@ module _ (g : ℕ → ℕ) where
   arities-renamed End = refl
   arities-renamed (More t ts) = ap₂ ◌&&◌ (arities-renamed t) (arities-renamed ts)
 
-  pub cells-renamed : (width : ℕ → ℕ) (t : Tree) → cells_of width (apply renaming t) ≡ cells_of width t
-  cells-renamed width (Variable n) = refl
-  cells-renamed width (Integer z) = refl
-  cells-renamed width (Name a) = refl
-  cells-renamed width (Apply f ts) = ap₂ (λ n m. width n + m) (count-renamed ts) (cells-renamed width ts)
-  cells-renamed width End = refl
-  cells-renamed width (More t ts) = ap₂ ◌+◌ (cells-renamed width t) (cells-renamed width ts)
+  pub cells-renamed : (atomic : ℕ) (width : ℕ → ℕ) (t : Tree) → cells_of atomic width (apply renaming t) ≡ cells_of atomic width t
+  cells-renamed atomic width (Variable n) = refl
+  cells-renamed atomic width (Integer z) = refl
+  cells-renamed atomic width (Name a) = refl
+  cells-renamed atomic width (Apply f ts) = ap₂ (λ n m. width n + m) (count-renamed ts) (cells-renamed atomic width ts)
+  cells-renamed atomic width End = refl
+  cells-renamed atomic width (More t ts) = ap₂ ◌+◌ (cells-renamed atomic width t) (cells-renamed atomic width ts)
 
 -- each variable of the term has its place among those that cover it
 pub places-covered : (vs : List ℕ) (t : Tree) → Covers vs t → HasPlaces (length vs) (apply (λ x. Variable (place_of x vs)) t)

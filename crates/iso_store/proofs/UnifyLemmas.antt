@@ -40,7 +40,7 @@ from-row (suc i) (t ∷ ts) = from-row i ts
 pub arguments-compound : (i : ℕ) (f : List ℕ) (ts : List Tree) (t : Tree) → t ≡ Apply f (row ts) → arguments_from i t ≡ drop i ts
 arguments-compound i f ts t is = ap (arguments_from i) is ∙ from-row i ts
 
-count-row : (ts : List Tree) → count (row ts) ≡ length ts
+pub count-row : (ts : List Tree) → count (row ts) ≡ length ts
 count-row [] = refl
 count-row (t ∷ ts) = omega (arith, count-row ts)
 
@@ -75,12 +75,12 @@ abbrev Picks : {W : Type 0} → (W → W → W) → Type 1
 Picks {W} side = (P : W → Type 0) (w v : W) → P w → P v → P (side w v)
 
 module _ {W : Type 0} (p : Present W) where
-  terms-append : (side : W → W → W) (now : List Tree) (xs ys : List (Task W)) → terms p side now (xs ++ ys) ≡ terms p side (terms p side now ys) xs
+  pub terms-append : (side : W → W → W) (now : List Tree) (xs ys : List (Task W)) → terms p side now (xs ++ ys) ≡ terms p side (terms p side now ys) xs
   terms-append side now [] ys = refl
   terms-append side now (Unify w v i n ∷ xs) ys = ap (λ us. us ++ arguments_from i (meaning p (side w v))) (terms-append side now xs ys)
   terms-append side now (Join w v ∷ xs) ys = terms-append side now xs ys
 
-  terms-now : (side : W → W → W) (now : List Tree) (xs : List (Task W)) → terms p side now xs ≡ now ++ terms p side [] xs
+  pub terms-now : (side : W → W → W) (now : List Tree) (xs : List (Task W)) → terms p side now xs ≡ now ++ terms p side [] xs
   terms-now side now [] = sym (append-nil now)
   terms-now side now (Unify w v i n ∷ xs) =
       ap (λ us. us ++ arguments_from i (meaning p (side w v))) (terms-now side now xs) ∙ append_assoc now (terms p side [] xs) (arguments_from i (meaning p (side w v)))
@@ -209,18 +209,18 @@ module _ {W : Type 0} (p : Present W) (xs ys zs : List (Task W)) (w v : W) (n : 
   right_arguments : arguments_from 0 (meaning p v) ≡ o.right
   right_arguments = arguments-compound 0 o.name o.right (meaning p v) (other ∙ o.right_is)
 
-  ones-opened : ones p [] zs ≡ o.left ++ ones p [] xs
+  pub ones-opened : ones p [] zs ≡ o.left ++ ones p [] xs
   ones-opened =
       ap (ones p []) both ∙ terms-append p (λ one other. one) [] xs (Join w v ∷ Unify w v 0 n ∷ []) ∙ ap (λ us. ones p us xs) left_arguments ∙ terms-now p (λ one other. one) o.left xs
 
-  others-opened : others p [] zs ≡ o.right ++ others p [] xs
+  pub others-opened : others p [] zs ≡ o.right ++ others p [] xs
   others-opened =
       ap (others p []) both ∙ terms-append p (λ one other. other) [] xs (Join w v ∷ Unify w v 0 n ∷ []) ∙ ap (λ us. others p us xs) right_arguments ∙ terms-now p (λ one other. other) o.right xs
 
-  ones-before : ones p (a ∷ []) xs ≡ Apply o.name (row o.left) ∷ ones p [] xs
+  pub ones-before : ones p (a ∷ []) xs ≡ Apply o.name (row o.left) ∷ ones p [] xs
   ones-before = terms-now p (λ one other. one) (a ∷ []) xs ∙ ap (λ t. t ∷ ones p [] xs) o.left_is
 
-  others-before : others p (b ∷ []) xs ≡ Apply o.name (row o.right) ∷ others p [] xs
+  pub others-before : others p (b ∷ []) xs ≡ Apply o.name (row o.right) ∷ others p [] xs
   others-before = terms-now p (λ one other. other) (b ∷ []) xs ∙ ap (λ t. t ∷ others p [] xs) o.right_is
 
   same : length o.left ≡ length o.right
@@ -298,17 +298,20 @@ module _ {W : Type 0} (p : Present W) (xs : List (Task W)) (w v : W) (i n : ℕ)
       joins = stands.joins;
     }
 
+    pub ones-last : ones p [] (xs ++ Unify w v i n ∷ []) ≡ ones p (a ∷ []) xs
+    ones-last = ones-popped ∙ ap (λ us. ones p us xs) left_last
+
+    pub others-last : others p [] (xs ++ Unify w v i n ∷ []) ≡ others p (b ∷ []) xs
+    others-last = others-popped ∙ ap (λ us. others p us xs) right_last
+
     pub steps-last : (q : Present W) (new : List (Task W)) → Steps p q (a ∷ []) (b ∷ []) xs new → Steps p q [] [] (xs ++ Unify w v i n ∷ []) new
-    steps-last q new steps =
-        let ones_same : ones p [] (xs ++ Unify w v i n ∷ []) ≡ ones p (a ∷ []) xs = ones-popped ∙ ap (λ us. ones p us xs) left_last in
-        let others_same : others p [] (xs ++ Unify w v i n ∷ []) ≡ others p (b ∷ []) xs = others-popped ∙ ap (λ us. others p us xs) right_last in
-        record {
-          bound = rw (ones_same, others_same) steps.bound;
-          falls = λ m measures.
-              let less = steps.falls m measures in
-              let size = length-append xs (Unify w v i n ∷ []) in
-              rw (ones_same, others_same) (omega arith);
-        }
+    steps-last q new steps = record {
+      bound = rw (ones-last, others-last) steps.bound;
+      falls = λ m measures.
+          let less = steps.falls m measures in
+          let size = length-append xs (Unify w v i n ∷ []) in
+          rw (ones-last, others-last) (omega arith);
+    }
 
   -- others behind them
   module _ (ys : List (Task W)) (more : ys ≡ xs ++ Unify w v (i + 1) n ∷ []) where
@@ -321,20 +324,21 @@ module _ {W : Type 0} (p : Present W) (xs : List (Task W)) (w v : W) (i n : ℕ)
           joins = stands.joins;
         })
 
+    pub ones-more : ones p [] (xs ++ Unify w v i n ∷ []) ≡ ones p (a ∷ []) ys
+    ones-more = ones-popped ∙ ap (λ us. ones p us xs) left_more ∙ sym (ap (ones p (a ∷ [])) more ∙ terms-append p (λ one other. one) (a ∷ []) xs (Unify w v (i + 1) n ∷ []))
+
+    pub others-more : others p [] (xs ++ Unify w v i n ∷ []) ≡ others p (b ∷ []) ys
+    others-more = others-popped ∙ ap (λ us. others p us xs) right_more ∙ sym (ap (others p (b ∷ [])) more ∙ terms-append p (λ one other. other) (b ∷ []) xs (Unify w v (i + 1) n ∷ []))
+
     pub steps-more : (q : Present W) (new : List (Task W)) → Steps p q (a ∷ []) (b ∷ []) ys new → Steps p q [] [] (xs ++ Unify w v i n ∷ []) new
-    steps-more q new steps =
-        let ones_same : ones p [] (xs ++ Unify w v i n ∷ []) ≡ ones p (a ∷ []) ys =
-        ones-popped ∙ ap (λ us. ones p us xs) left_more ∙ sym (ap (ones p (a ∷ [])) more ∙ terms-append p (λ one other. one) (a ∷ []) xs (Unify w v (i + 1) n ∷ [])) in
-        let others_same : others p [] (xs ++ Unify w v i n ∷ []) ≡ others p (b ∷ []) ys =
-        others-popped ∙ ap (λ us. others p us xs) right_more ∙ sym (ap (others p (b ∷ [])) more ∙ terms-append p (λ one other. other) (b ∷ []) xs (Unify w v (i + 1) n ∷ [])) in
-        record {
-          bound = rw (ones_same, others_same) steps.bound;
-          falls = λ m measures.
-              let less = steps.falls m measures in
-              let old = length-append xs (Unify w v i n ∷ []) in
-              let pushed = ap length more ∙ length-append xs (Unify w v (i + 1) n ∷ []) in
-              rw (ones_same, others_same) (omega arith);
-        }
+    steps-more q new steps = record {
+      bound = rw (ones-more, others-more) steps.bound;
+      falls = λ m measures.
+          let less = steps.falls m measures in
+          let old = length-append xs (Unify w v i n ∷ []) in
+          let pushed = ap length more ∙ length-append xs (Unify w v (i + 1) n ∷ []) in
+          rw (ones-more, others-more) (omega arith);
+    }
 
 -- ---- words that are joined
 module _ {W : Type 0} (p : Present W) (xs : List (Task W)) (w v : W) where

@@ -36,10 +36,11 @@ is_functor (Some (Argument w)) = false
 is_functor (Some (Functor f n)) = true
 is_functor (Some (Entry p)) = false
 
+-- whether the cell may be an argument of a compound: a variable may stand there itself
 abbrev pub is_argument : Option Cell → Bool
 is_argument None = false
-is_argument (Some (Unbound n)) = false
-is_argument (Some (Bound n w)) = false
+is_argument (Some (Unbound n)) = true
+is_argument (Some (Bound n w)) = true
 is_argument (Some (Argument w)) = true
 is_argument (Some (Functor f n)) = false
 is_argument (Some (Entry p)) = false
@@ -51,6 +52,14 @@ has_cell_number x (Bound n w) = n == x
 has_cell_number x (Argument w) = false
 has_cell_number x (Functor f n) = false
 has_cell_number x (Entry p) = false
+
+-- the word of an argument whose cell is at this place
+abbrev pub cell_word : ℕ → Cell → HeapWord
+cell_word a (Unbound n) = Var a
+cell_word a (Bound n w) = Var a
+cell_word a (Argument w) = w
+cell_word a (Functor f n) = Var a
+cell_word a (Entry p) = Var a
 
 -- whether the word stands for a term, where these names have an atom
 abbrev pub is_word : List (List ℕ) → List Cell → HeapWord → Bool

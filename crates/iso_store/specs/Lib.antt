@@ -6,6 +6,7 @@ pub mod Notes
 pub mod Searching
 pub mod Listing
 pub mod Unifying
+pub mod Comparing
 pub mod NodeTerms
 pub mod NodeStores
 pub mod NodeLemmas
@@ -23,3 +24,5 @@ pub mod HeapVariables
 pub mod HeapUntouched
 pub mod HeapProps
 pub mod HeapRoom
+pub mod HeapBuilds
+pub mod FlatCells

@@ -22,12 +22,12 @@ IsReady variables count (Number z) = Unit {0}
 IsReady variables count (Atom a) = Unit {0}
 IsReady variables count (Compound a n) = (0 < taken count n) × (taken count n < 256)
 
--- how many cells the part takes
-abbrev pub part_cells : (ℕ → ℕ) → ℕ → Part → ℕ
-part_cells width count (Place k) = 0
-part_cells width count (Number z) = 1
-part_cells width count (Atom a) = 1
-part_cells width count (Compound a n) = width (taken count n)
+-- how many cells the part takes, where an integer or an atom takes so many and a compound of n arguments takes width n
+abbrev pub part_cells : ℕ → (ℕ → ℕ) → ℕ → Part → ℕ
+part_cells atomic width count (Place k) = 0
+part_cells atomic width count (Number z) = atomic
+part_cells atomic width count (Atom a) = atomic
+part_cells atomic width count (Compound a n) = width (taken count n)
 
 -- the variables by their places
 abbrev pub placed_by : Places → Subst

@@ -34,6 +34,8 @@ pub(crate) trait Cells {
     ghost at_place: { Self → ℕ → Tree };
     // the place of the variable of a number
     ghost variable_place: { Self → ℕ → ℕ };
+    // how many cells an integer or an atom takes
+    ghost atomic: { ℕ };
     // how many cells a compound of so many arguments takes
     ghost width: { ℕ → ℕ };
 
@@ -112,7 +114,7 @@ pub(crate) trait Cells {
     fn int(&mut self, value: i64) -> Result<Self::Word, StoreFault>
         ensures made { IfOk result (λ w. Makes (present self.old) (present self.new) w (Integer value)) }
         ensures numbers { OnOk result (KeepsNumbers (present self.old) (present self.new)) }
-        ensures cells { Grows (present self.old) (present self.new) 1 }
+        ensures cells { Grows (present self.old) (present self.new) atomic }
         ensures full { result ≡ Err StoreFault.Full → full self.new }
         ensures names { names self.new ≡ names self.old }
         ensures marks { KeepsMarks (stands self.old) (stands self.new) };
@@ -136,7 +138,7 @@ pub(crate) trait Cells {
         requires name { name < length (names self.old) }
         ensures made { IfOk result (λ w. Makes (present self.old) (present self.new) w (Name (text_at (names self.old) name))) }
         ensures numbers { OnOk result (KeepsNumbers (present self.old) (present self.new)) }
-        ensures cells { Grows (present self.old) (present self.new) 1 }
+        ensures cells { Grows (present self.old) (present self.new) atomic }
         ensures full { result ≡ Err StoreFault.Full → full self.new }
         ensures names { names self.new ≡ names self.old }
         ensures marks { KeepsMarks (stands self.old) (stands self.new) };

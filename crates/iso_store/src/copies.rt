@@ -155,7 +155,7 @@ fn make<C: Cells>(
     ensures made { IfOk result (λ w. Makes (C.present store.old) (C.present store.new) w
         (apply (placed_terms (map (C.present store.old).term words.now) variables.now) (term_of term.now))) }
     ensures numbers { OnOk result (KeepsNumbers (C.present store.old) (C.present store.new)) }
-    ensures cells { Grows (C.present store.old) (C.present store.new) (cells_of C.width (term_of term.now)) }
+    ensures cells { Grows (C.present store.old) (C.present store.new) (cells_of C.atomic C.width (term_of term.now)) }
     ensures full { result ≡ Err StoreFault.Full → C.full store.new }
     ensures names { KeepsTexts (C.names store.old) (C.names store.new) }
     ensures marks { KeepsMarks (C.stands store.old) (C.stands store.new) }
@@ -202,7 +202,7 @@ pub(crate) fn build<C: Cells>(
     requires next { (C.present store.old).next < 2 ^ 63 }
     ensures made { IfOk result (λ w. Makes (C.present store.old) (C.present store.new) w (copy_from (term_of term.now) (C.present store.old).next)) }
     ensures numbers { OnOk result (MovesOn (C.present store.old) (C.present store.new) (variable_count (term_of term.now))) }
-    ensures cells { Grows (C.present store.old) (C.present store.new) (variable_count (term_of term.now) + cells_of C.width (term_of term.now)) }
+    ensures cells { Grows (C.present store.old) (C.present store.new) (variable_count (term_of term.now) + cells_of C.atomic C.width (term_of term.now)) }
     ensures counted { OnOk result (NumbersHaveCells (C.present store.old) (C.present store.new)) }
     ensures full { result ≡ Err StoreFault.Full → C.full store.new }
     ensures names { KeepsTexts (C.names store.old) (C.names store.new) }

@@ -42,6 +42,8 @@ impl Cells for Counting {
 
     ghost variable_place = { λ s. ⟦<Nodes as Cells>⟧.variable_place s.nodes };
 
+    ghost atomic = { ⟦<Nodes as Cells>⟧.atomic };
+
     ghost width = { ⟦<Nodes as Cells>⟧.width };
 
     fn shape(&self, word: usize) -> Shape {

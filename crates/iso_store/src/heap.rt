@@ -4,9 +4,9 @@ ghost use Rattle.std.specs.List.{All, list_any, position_or_len};
 ghost use Rattle.iso_atoms.specs.Texts.{EachOnce};
 ghost use Rattle.iso_model.specs.Terms.Substitutions.{apply};
 ghost use Rattle.iso_store.specs.HeapTerms.{made_term, heap_substitution, bound_count};
-ghost use Rattle.iso_store.specs.HeapStores.{IsHeap, HeapStandsFor, HeapLeadsBack, IsOlderMark, MayCome, empty_heap, has_cell_number, is_word, next_word, present_of_heap, trailed, variable_of};
-ghost use Rattle.iso_model.specs.Terms.Variables.{variable_count};
-ghost use Rattle.iso_store_core.specs.Copying.{cells_of};
+ghost use Rattle.iso_store.specs.HeapStores.{IsHeap, HeapStandsFor, HeapLeadsBack, IsOlderMark, MayCome, cell_word, empty_heap, has_cell_number, is_word, next_word, present_of_heap, trailed, variable_of};
+ghost use Rattle.iso_model.specs.Terms.Sizes.{size};
+ghost use Rattle.iso_store_core.specs.Presents.{KeepsWords, KeepsMarks};
 ghost use Rattle.iso_store.specs.HeapLemmas.{place_term};
 ghost use Rattle.iso_store.specs.HeapUntouched.{heap-untouched};
 ghost use Rattle.iso_store.specs.HeapRoom.{full-used};
@@ -14,20 +14,24 @@ ghost use Rattle.iso_store.specs.HeapProps.{IsBefore-prop, Settles-prop};
 ghost use Rattle.std.proofs.Props.{props};
 
 use super::cells::Cells;
-use super::copies::{build, copy_out};
+use super::copies::copy_out;
+use super::flat_cells::CellArea;
+use super::heap_builds::build_in_place;
 use super::heap_cells::{Cell, HeapMark, HeapWord};
 use super::heap_marks::unwind;
 use super::instances::instantiate;
+use super::order::compare;
 use super::patterns::{Places, written};
 use super::reaches::{farther_to, within};
 use super::scratch::Scratch;
 use super::unify::unify;
 use super::variables::variables;
-use iso_area::{Area, Full};
+use iso_area::Full;
 use iso_atoms::{Atom, Atoms};
 use iso_model::{NoMemory, Term};
 use iso_store_core::{Pattern, Shape, Store, StoreFault};
 use std::alloc::Global;
+use std::cmp::Ordering;
 use std::mem;
 
 /// Terms as cells. No call but `new` takes memory for cells.
@@ -39,7 +43,7 @@ pub struct Heap {
     /// How many names had an atom when one was last put into a word or a cell.
     named: usize,
     next: u64,
-    area: Area<Cell>,
+    area: CellArea,
     /// The cells at the newest mark: a binding is trailed if its cell is one of these.
     newest: usize,
     /// No binding leads from a cell before its target to a target behind this place.
@@ -55,7 +59,7 @@ pub struct Heap {
 
 /// Writes a binding into the cell at this place, and its entry on the trail if the cell is older than the newest mark. The
 /// error is that there is no room for the entry; then nothing changed.
-fn bind_cell(area: &mut Area<Cell>, newest: usize, place: usize, binding: Cell) -> Result<(), Full>
+fn bind_cell(area: &mut CellArea, newest: usize, place: usize, binding: Cell) -> Result<(), Full>
     requires { place < length area.old.low }
     ensures low { OnOk result (area.new.low ≡ slice_set area.old.low place binding) }
     ensures high { OnOk result (area.new.high ≡ trailed newest place area.old.high) }
@@ -72,12 +76,22 @@ fn bind_cell(area: &mut Area<Cell>, newest: usize, place: usize, binding: Cell) 
     Ok(())
 }
 
+/// The word of an argument whose cell is this one, at this place.
+fn word_of(cell: Cell, place: usize) -> HeapWord
+    ensures { result ≡ cell_word place cell }
+{
+    match cell {
+        Cell::Argument(word) => word,
+        _ => HeapWord::Var(place),
+    }
+}
+
 impl Heap {
     /// An empty store of at most `cells` cells, those of the trail among them.
     pub fn new(alloc: Global, cells: u32) -> Result<Heap, NoMemory>
         ensures { IfOk result (λ s. ⟦<Heap as Store>⟧.present s ≡ empty_heap cells) }
     {
-        let area = Area::new(alloc, cells as usize)?;
+        let area = CellArea::new(alloc, cells as usize)?;
         Ok(Heap {
             alloc,
             atoms: Atoms::new(alloc),
@@ -91,7 +105,7 @@ impl Heap {
     }
 
     /// The place of the cell, which comes behind the others.
-    fn push(&mut self, cell: Cell) -> Result<usize, StoreFault>
+    pub(crate) fn push(&mut self, cell: Cell) -> Result<usize, StoreFault>
         requires { MayCome (take self.old.named self.old.atoms) self.old.area.low self.old.next cell }
         ensures place { IfOk result (λ a. a ≡ length self.old.area.low) }
         ensures low { self.new.area.low ≡ (if is_ok result then self.old.area.low ++ cell ∷ [] else self.old.area.low) }
@@ -109,6 +123,20 @@ impl Heap {
             return Err(StoreFault::Full);
         }
         Ok(place)
+    }
+
+    /// From now on words and cells may have each atom.
+    pub(crate) fn know_names(&mut self)
+        ensures words { KeepsWords (⟦<Heap as Cells>⟧.present self.old) (⟦<Heap as Cells>⟧.present self.new) }
+        ensures substitution { (⟦<Heap as Cells>⟧.present self.new).substitution ≡ (⟦<Heap as Cells>⟧.present self.old).substitution }
+        ensures named { self.new.named ≡ length self.old.atoms }
+        ensures atoms { self.new.atoms ≡ self.old.atoms }
+        ensures area { self.new.area ≡ self.old.area }
+        ensures next { self.new.next ≡ self.old.next }
+        ensures newest { self.new.newest ≡ self.old.newest }
+        ensures marks { KeepsMarks (⟦<Heap as Cells>⟧.stands self.old) (⟦<Heap as Cells>⟧.stands self.new) }
+    {
+        self.named = self.atoms.len();
     }
 
     /// Pushes the arguments of a compound; some of them where there is no room for all.
@@ -198,6 +226,8 @@ impl Cells for Heap {
 
     ghost variable_place = { λ s n. position_or_len (has_cell_number n) s.area.low };
 
+    ghost atomic = { 0 };
+
     ghost width = { λ n. n + 1 };
 
     fn shape(&self, word: HeapWord) -> Shape {
@@ -226,10 +256,8 @@ impl Cells for Heap {
         let Cell::Functor(_, count) = self.area.low(place) else {
             unreachable!()
         };
-        let Cell::Argument(argument) = self.area.low(place - (count - index)) else {
-            unreachable!()
-        };
-        argument
+        let place = place - (count - index);
+        word_of(self.area.low(place), place)
     }
 
     fn place(&self, word: HeapWord) -> Option<usize> {
@@ -327,7 +355,9 @@ impl Store for Heap {
 
     ghost full = { λ s. s.area.capacity ≤ length s.area.low + length s.area.high };
 
-    ghost built_cells = { λ t. variable_count t + cells_of (λ n. n + 1) t };
+    ghost atomic_cells = { 0 };
+
+    ghost built_cells = { size };
 
     fn shape(&self, word: HeapWord) -> Shape {
         Cells::shape(self, word)
@@ -371,7 +401,10 @@ impl Store for Heap {
     }
 
     fn build(&mut self, term: &Term) -> Result<HeapWord, StoreFault> {
-        build(self.alloc, self, term)
+        match term {
+            Term::Var(_) => Store::fresh(self),
+            _ => build_in_place(self.alloc, self, term),
+        }
     }
 
     fn pattern(&mut self, term: &Term) -> Result<Pattern, NoMemory> {
@@ -388,6 +421,10 @@ impl Store for Heap {
 
     fn unify(&mut self, first: HeapWord, second: HeapWord) -> Result<bool, StoreFault> {
         unify(self, first, second)
+    }
+
+    fn compare(&mut self, one: HeapWord, other: HeapWord) -> Result<Ordering, NoMemory> {
+        compare(self, one, other)
     }
 
     fn mark(&mut self) -> HeapMark {

@@ -19,12 +19,20 @@ pub(crate) enum Cell {
     Unbound(u64),
     /// A variable with its number, and what it is bound to.
     Bound(u64, HeapWord),
-    /// An argument of a compound.
+    /// An argument of a compound. A variable may stand there itself.
     Argument(HeapWord),
     /// The name and the arity of the compound whose arguments are in the cells before this one.
     Functor(Atom, usize),
     /// The place of a binding, on the trail.
     Entry(usize),
+}
+
+/// What comes to be an argument of a compound that is built.
+#[derive(Clone, Copy)]
+pub(crate) enum Piece {
+    Word(HeapWord),
+    /// The variable of this place among those of the term. It may have no cell yet.
+    Variable(usize),
 }
 
 /// What a heap was: its cells, its bindings, its next variable number and its names, and the cells at the mark before.

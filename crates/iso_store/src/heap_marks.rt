@@ -3,11 +3,11 @@ ghost use Rattle.std.specs.Prelude.{◌≡◌, ◌≤◌, length, take, drop};
 ghost use Rattle.iso_area.specs.Stacks.{stacks};
 ghost use Rattle.iso_store.specs.HeapStores.{unbound_at, reset};
 
+use super::flat_cells::CellArea;
 use super::heap_cells::Cell;
-use iso_area::Area;
 
 /// Takes the binding at this place back.
-fn unbind(area: &mut Area<Cell>, place: usize)
+fn unbind(area: &mut CellArea, place: usize)
     ensures { area.new ≡ stacks (unbound_at area.old.low place) area.old.high area.old.capacity }
 {
     if place < area.low_len() {
@@ -18,7 +18,7 @@ fn unbind(area: &mut Area<Cell>, place: usize)
 }
 
 /// Takes the bindings from the entry `top` of the trail on back, the newest first.
-pub(crate) fn unwind(area: &mut Area<Cell>, top: usize)
+pub(crate) fn unwind(area: &mut CellArea, top: usize)
     requires { top ≤ length area.old.high }
     ensures { area.new ≡ stacks (reset (drop top area.old.high) area.old.low) (take top area.old.high) area.old.capacity }
 {

@@ -55,7 +55,7 @@ fn make_part<C: Cells>(
     ensures gathers { OnOk result (Gathers (C.present store.old) (C.present store.new) words.new.items
         (with_step (part_step (C.names store.old) (at_places (map (C.present store.old).term variables.now)) part) (map (C.present store.old).term words.old.items))) }
     ensures numbers { OnOk result (KeepsNumbers (C.present store.old) (C.present store.new)) }
-    ensures cells { Grows (C.present store.old) (C.present store.new) (part_cells C.width (length words.old.items) part) }
+    ensures cells { Grows (C.present store.old) (C.present store.new) (part_cells C.atomic C.width (length words.old.items) part) }
     ensures full { result ≡ Err StoreFault.Full → C.full store.new }
     ensures names { C.names store.new ≡ C.names store.old }
     ensures marks { KeepsMarks (C.stands store.old) (C.stands store.new) }
@@ -91,7 +91,7 @@ pub(crate) fn instantiate<C: Cells>(
     ensures made { (t : Tree) → IsPattern (C.names store.old) pattern.now.parts.items t
         → IfOk result (λ w. Makes (C.present store.old) (C.present store.new) w (apply (at_places (map (C.present store.old).term variables.now)) t)) }
     ensures numbers { OnOk result (KeepsNumbers (C.present store.old) (C.present store.new)) }
-    ensures cells { (t : Tree) → IsPattern (C.names store.old) pattern.now.parts.items t → Grows (C.present store.old) (C.present store.new) (cells_of C.width t) }
+    ensures cells { (t : Tree) → IsPattern (C.names store.old) pattern.now.parts.items t → Grows (C.present store.old) (C.present store.new) (cells_of C.atomic C.width t) }
     ensures full { result ≡ Err StoreFault.Full → C.full store.new }
     ensures names { C.names store.new ≡ C.names store.old }
     ensures marks { KeepsMarks (C.stands store.old) (C.stands store.new) }

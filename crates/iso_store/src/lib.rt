@@ -6,7 +6,9 @@ mod cells;
 mod copies;
 #[cfg(test)]
 mod counting;
+mod flat_cells;
 mod heap;
+mod heap_builds;
 mod heap_cells;
 mod heap_marks;
 mod instances;
@@ -16,6 +18,7 @@ mod meetings;
 mod nodes;
 mod notes;
 mod occurs;
+mod order;
 mod patterns;
 mod reaches;
 mod scratch;

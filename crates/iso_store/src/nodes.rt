@@ -13,6 +13,7 @@ use super::cells::Cells;
 use super::copies::{build, copy_out};
 use super::instances::instantiate;
 use super::marks::{NodesMark, unwind};
+use super::order::compare;
 use super::patterns::{Places, written};
 use super::reaches::{farther, within};
 use super::scratch::Scratch;
@@ -22,6 +23,7 @@ use iso_atoms::{Atom, Atoms};
 use iso_model::{NoMemory, Term};
 use iso_store_core::{Pattern, Shape, Store, StoreFault};
 use std::alloc::Global;
+use std::cmp::Ordering;
 use std::mem;
 
 /// What a place of the store holds. Places are named by their index.
@@ -137,6 +139,8 @@ impl Cells for Nodes {
 
     ghost variable_place = { λ s n. position_or_len (has_number n) s.nodes.items };
 
+    ghost atomic = { 1 };
+
     ghost width = { λ _. 1 };
 
     fn shape(&self, word: usize) -> Shape {
@@ -239,6 +243,8 @@ impl Store for Nodes {
 
     ghost full = { λ s. s.limit ≤ length s.nodes.items };
 
+    ghost atomic_cells = { 1 };
+
     ghost built_cells = { size };
 
     fn shape(&self, word: usize) -> Shape {
@@ -296,6 +302,10 @@ impl Store for Nodes {
 
     fn unify(&mut self, first: usize, second: usize) -> Result<bool, StoreFault> {
         unify(self, first, second)
+    }
+
+    fn compare(&mut self, one: usize, other: usize) -> Result<Ordering, NoMemory> {
+        compare(self, one, other)
     }
 
     fn mark(&mut self) -> NodesMark {

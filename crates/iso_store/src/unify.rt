@@ -10,6 +10,7 @@ ghost use Rattle.iso_model.specs.Terms.Unifiers.{NeverEqual};
 ghost use Rattle.iso_store_core.specs.Presents.{Holds, meaning, IsUnification, Grows, KeepsMarks};
 ghost use Rattle.iso_store.specs.Meetings.{IsYounger, IsMeeting};
 ghost use Rattle.iso_store.specs.Unifying.{IsPair, AreJoined, Stands, Steps, ones, others};
+ghost use Rattle.iso_store.specs.Comparing.{order_left};
 
 use super::cells::Cells;
 use super::joins::{are_at_one_place, end_of_joins, join};
@@ -22,7 +23,7 @@ use iso_store_core::StoreFault;
 
 /// What is left to do of making two terms equal.
 #[derive(Clone, Copy)]
-enum Task<W: Copy> {
+pub(crate) enum Task<W: Copy> {
     /// The arguments of the compounds that the words stand for are to be made equal, from this place on; each has so many.
     Unify(W, W, usize, usize),
     /// The words stand for one term, as all arguments are equal that are made so before this task.
@@ -77,7 +78,7 @@ fn bind_checked<C: Cells>(
 }
 
 /// Leaves two compounds of so many arguments to be made equal, unless they are joined.
-fn leave_arguments<C: Cells>(
+pub(crate) fn leave_arguments<C: Cells>(
     store: &C,
     one: C::Word,
     other: C::Word,
@@ -93,6 +94,8 @@ fn leave_arguments<C: Cells>(
     requires stands { Stands (C.present store.now) (C.at_place store.now) joined.old (meaning (C.present store.now) one ∷ []) (meaning (C.present store.now) other ∷ []) tasks.old.items }
     ensures stands { OnOk result (Stands (C.present store.now) (C.at_place store.now) joined.new [] [] tasks.new.items) }
     ensures steps { OnOk result (Steps (C.present store.now) (C.present store.now) (meaning (C.present store.now) one ∷ []) (meaning (C.present store.now) other ∷ []) tasks.old.items tasks.new.items) }
+    ensures order { OnOk result (order_left (C.present store.now) [] [] tasks.new.items
+        ≡ order_left (C.present store.now) (meaning (C.present store.now) one ∷ []) (meaning (C.present store.now) other ∷ []) tasks.old.items) }
 {
     let one = end_of_joins(store, one, joined);
     let other = end_of_joins(store, other, joined);

@@ -8,6 +8,7 @@ ghost use Rattle.iso_model.specs.Terms.Sorts.{is_term};
 ghost use Rattle.iso_model.specs.Terms.Variables.{variables, variable_count};
 ghost use Rattle.iso_model.specs.Terms.Substitutions.{IsSubstitution, apply};
 ghost use Rattle.iso_model.specs.Terms.Copies.{copy_from};
+ghost use Rattle.iso_model.specs.Terms.Order.{term_cmp};
 ghost use Rattle.iso_store_core.specs.Presents.{Present, Holds, meaning, KeepsWords, Makes, KeepsNumbers, TakesNumber, MovesOn, Grows, NumbersHaveCells, IsUnification, KeepsMarks, Untouched};
 ghost use Rattle.iso_store_core.specs.Arguments.{arity, argument};
 ghost use Rattle.iso_store_core.specs.Shapes.{IsShape};
@@ -18,6 +19,7 @@ use super::patterns::Pattern;
 use super::shapes::{Shape, StoreFault};
 use iso_atoms::Atom;
 use iso_model::{NoMemory, Term};
+use std::cmp::Ordering;
 
 /// Words that stand for terms. A word has the term that it was made with, and stands for what the bindings make of it.
 /// After an error, and after `unify` answers false, the caller goes back to a mark.
@@ -37,6 +39,8 @@ pub trait Store {
     ghost older: { Self.Mark → Self.Mark → Type 0 };
     // no cell is left
     ghost full: { Self → Type 0 };
+    // how many cells an integer or an atom takes at most
+    ghost atomic_cells: { ℕ };
     // how many cells a copy of the term takes at most
     ghost built_cells: { Tree → ℕ };
 
@@ -71,7 +75,7 @@ pub trait Store {
     fn int(&mut self, value: i64) -> Result<Self::Word, StoreFault>
         ensures made { IfOk result (λ w. Makes (present self.old) (present self.new) w (Integer value)) }
         ensures numbers { OnOk result (KeepsNumbers (present self.old) (present self.new)) }
-        ensures cells { Grows (present self.old) (present self.new) 1 }
+        ensures cells { Grows (present self.old) (present self.new) atomic_cells }
         ensures full { result ≡ Err StoreFault.Full → full self.new }
         ensures names { names self.new ≡ names self.old }
         ensures marks { KeepsMarks (stands self.old) (stands self.new) };
@@ -95,7 +99,7 @@ pub trait Store {
         requires name { name < length (names self.old) }
         ensures made { IfOk result (λ w. Makes (present self.old) (present self.new) w (Name (text_at (names self.old) name))) }
         ensures numbers { OnOk result (KeepsNumbers (present self.old) (present self.new)) }
-        ensures cells { Grows (present self.old) (present self.new) 1 }
+        ensures cells { Grows (present self.old) (present self.new) atomic_cells }
         ensures full { result ≡ Err StoreFault.Full → full self.new }
         ensures names { names self.new ≡ names self.old }
         ensures marks { KeepsMarks (stands self.old) (stands self.new) };
@@ -167,7 +171,7 @@ pub trait Store {
         ensures made { (t : Tree) → IsPattern (names self.old) pattern.now.parts.items t
             → IfOk result (λ w. Makes (present self.old) (present self.new) w (apply (at_places (map (present self.old).term variables.now)) t)) }
         ensures numbers { OnOk result (KeepsNumbers (present self.old) (present self.new)) }
-        ensures cells { (t : Tree) → IsPattern (names self.old) pattern.now.parts.items t → Grows (present self.old) (present self.new) (cells_of (λ n. n + 1) t) }
+        ensures cells { (t : Tree) → IsPattern (names self.old) pattern.now.parts.items t → Grows (present self.old) (present self.new) (cells_of atomic_cells (λ n. n + 1) t) }
         ensures full { result ≡ Err StoreFault.Full → full self.new }
         ensures names { names self.new ≡ names self.old }
         ensures marks { KeepsMarks (stands self.old) (stands self.new) };
@@ -180,6 +184,16 @@ pub trait Store {
         ensures unified { IfOk result (IsUnification (present self.old) (present self.new) (meaning (present self.old) first) (meaning (present self.old) second)) }
         ensures cells { Grows (present self.old) (present self.new) 0 }
         ensures full { result ≡ Err StoreFault.Full → full self.new }
+        ensures names { names self.new ≡ names self.old }
+        ensures marks { KeepsMarks (stands self.old) (stands self.new) };
+
+    /// How the two terms compare in the standard order (7.2; that older variables come first is own). The error is that memory
+    /// was refused; where neither is a compound, none is asked for.
+    fn compare(&mut self, one: Self::Word, other: Self::Word) -> Result<Ordering, NoMemory>
+        requires one { Holds (present self.old) one }
+        requires other { Holds (present self.old) other }
+        ensures order { IfOk result (λ o. o ≡ term_cmp (meaning (present self.old) one) (meaning (present self.old) other)) }
+        ensures present { present self.new ≡ present self.old }
         ensures names { names self.new ≡ names self.old }
         ensures marks { KeepsMarks (stands self.old) (stands self.new) };
 

@@ -18,6 +18,8 @@ mod numbering;
 #[cfg(test)]
 mod ops;
 #[cfg(test)]
+mod order;
+#[cfg(test)]
 mod prep;
 #[cfg(test)]
 mod read;

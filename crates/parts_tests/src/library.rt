@@ -6,15 +6,15 @@
 //!
 //! Each test then passes, or fails with the text `error: AllocError`, `error: AllocFailed { .. }` or `error: NoMemory`, or with
 //! `error: "memory refused"` where the built-in says so, and none fails in an assertion. The last time all pass.
-ghost use Rattle.std.specs.Prelude.{◌≡◌};
+ghost use Rattle.std.specs.Prelude.{◌≡◌, ◌<◌, ◌^◌};
 ghost use Rattle.iso_store_core.specs.Presents.{Holds};
-ghost use Rattle.iso_lib.specs.Rows.{library_arity};
+ghost use Rattle.iso_model.specs.Search.Library.{library_arity};
 
 use super::store_terms::compound;
 use super::texts::{read_term, write_term};
 use iso_arith::Evaluables;
 use iso_lib::{Fault, Reply, builtin, errors};
-use iso_model::{Ball, Comparison, Library, Term, TypeTest, well_formed};
+use iso_model::{Ball, Comparison, Library, OrderTest, Term, TypeTest, well_formed};
 use iso_store::{Nodes, Shape, Store};
 use std::alloc::{AllocError, Global};
 use std::process::Abort;
@@ -27,6 +27,9 @@ fn arguments(row: Library) -> usize
     match row {
         Library::Test(_) => 1,
         Library::Unify | Library::Differ | Library::Is | Library::Compare(_) => 2,
+        Library::CopyTerm | Library::Univ | Library::TermVariables => 2,
+        Library::Order(_) | Library::Sort | Library::Keysort => 2,
+        Library::Arg | Library::Functor | Library::CompareTerms => 3,
     }
 }
 
@@ -56,7 +59,8 @@ fn outcome<S: Store>(
     row: Library,
     goal: S::Word,
 ) -> Result<String, Fail>
-    requires { Holds (S.present store.old) goal }
+    requires goal { Holds (S.present store.old) goal }
+    requires next { (S.present store.old).next < 2 ^ 63 }
 {
     let evaluables = Evaluables::new(alloc, store)?;
     let Shape::Compound(_, count) = store.shape(goal) else {
@@ -427,9 +431,168 @@ static COMPARISONS: [(Library, &str, &str); 20] = [
     ),
 ];
 
+/// Parts of terms, and terms of their parts.
+static PARTS: [(Library, &str, &str); 14] = [
+    (Library::Arg, "arg(2, f(a, X), b).", "done arg(2,f(a,b),b)"),
+    (
+        Library::Arg,
+        "arg(3, f(a, X), b).",
+        "fails arg(3,f(a,_0),b)",
+    ),
+    (
+        Library::Arg,
+        "arg(1, a, X).",
+        "error(type_error(compound,a),/(arg,3)) arg(1,a,_0)",
+    ),
+    (
+        Library::CopyTerm,
+        "copy_term(f(X, Y, X), C).",
+        "done copy_term(f(_0,_1,_0),f(_3,_4,_3))",
+    ),
+    (
+        Library::CopyTerm,
+        "copy_term(f(X), f(a, b)).",
+        "fails copy_term(f(_0),f(a,b))",
+    ),
+    (
+        Library::Functor,
+        "functor(f(a, b), N, A).",
+        "done functor(f(a,b),f,2)",
+    ),
+    (
+        Library::Functor,
+        "functor(T, f, 2).",
+        "done functor(f(_1,_2),f,2)",
+    ),
+    (
+        Library::Functor,
+        "functor(T, f, -1).",
+        "error(domain_error(not_less_than_zero,-1),/(functor,3)) functor(_0,f,-1)",
+    ),
+    (
+        Library::Univ,
+        "f(a) =.. L.",
+        "done =..(f(a),'.'(f,'.'(a,[])))",
+    ),
+    (
+        Library::Univ,
+        "T =.. [f, X].",
+        "done =..(f(_1),'.'(f,'.'(_1,[])))",
+    ),
+    (
+        Library::Univ,
+        "T =.. [f, X|Y].",
+        "error(instantiation_error,/(=..,2)) =..(_0,'.'(f,'.'(_1,_2)))",
+    ),
+    (
+        Library::TermVariables,
+        "term_variables(f(X, Y, X), L).",
+        "done term_variables(f(_0,_1,_0),'.'(_0,'.'(_1,[])))",
+    ),
+    (
+        Library::TermVariables,
+        "term_variables(f(X, Y), [L]).",
+        "fails term_variables(f(_0,_1),'.'(_2,[]))",
+    ),
+    (
+        Library::TermVariables,
+        "term_variables(X, a).",
+        "error(type_error(list,a),/(term_variables,2)) term_variables(_0,a)",
+    ),
+];
+
+/// The order of terms, and lists in order.
+static ORDERS: [(Library, &str, &str); 15] = [
+    (
+        Library::Order(OrderTest::Identical),
+        "f(X) == f(X).",
+        "done ==(f(_0),f(_0))",
+    ),
+    (
+        Library::Order(OrderTest::NotIdentical),
+        "X \\== Y.",
+        "done \\==(_0,_1)",
+    ),
+    (
+        Library::Order(OrderTest::Before),
+        "X @< 1.",
+        "done @<(_0,1)",
+    ),
+    (
+        Library::Order(OrderTest::NotAfter),
+        "b @=< a.",
+        "fails @=<(b,a)",
+    ),
+    (
+        Library::Order(OrderTest::After),
+        "f(a) @> b.",
+        "done @>(f(a),b)",
+    ),
+    (
+        Library::Order(OrderTest::NotBefore),
+        "a @>= a.",
+        "done @>=(a,a)",
+    ),
+    (
+        Library::CompareTerms,
+        "compare(O, a, b).",
+        "done compare(<,a,b)",
+    ),
+    (
+        Library::CompareTerms,
+        "compare(>, a, b).",
+        "fails compare(>,a,b)",
+    ),
+    (
+        Library::CompareTerms,
+        "compare(x, a, b).",
+        "error(domain_error(order,x),/(compare,3)) compare(x,a,b)",
+    ),
+    (
+        Library::Sort,
+        "sort([b, X, b], L).",
+        "done sort('.'(b,'.'(_0,'.'(b,[]))),'.'(_0,'.'(b,[])))",
+    ),
+    (
+        Library::Sort,
+        "sort([a], [b]).",
+        "fails sort('.'(a,[]),'.'(b,[]))",
+    ),
+    (
+        Library::Sort,
+        "sort([a|T], L).",
+        "error(instantiation_error,/(sort,2)) sort('.'(a,_0),_1)",
+    ),
+    (
+        Library::Keysort,
+        "keysort([b-1, a-2, b-0], L).",
+        "done keysort('.'(-(b,1),'.'(-(a,2),'.'(-(b,0),[]))),'.'(-(a,2),'.'(-(b,1),'.'(-(b,0),[]))))",
+    ),
+    (
+        Library::Keysort,
+        "keysort([a-1, X], L).",
+        "error(instantiation_error,/(keysort,2)) keysort('.'(-(a,1),'.'(_0,[])),_1)",
+    ),
+    (
+        Library::Keysort,
+        "keysort([a], L).",
+        "error(type_error(pair,a),/(keysort,2)) keysort('.'(a,[]),_0)",
+    ),
+];
+
+#[test]
+fn puts_terms_in_order(rt: HostRuntime) -> Result<(), Fail> {
+    expect_outcomes(&rt, rt.alloc(), &ORDERS)
+}
+
 #[test]
 fn unifies_terms(rt: HostRuntime) -> Result<(), Fail> {
     expect_outcomes(&rt, rt.alloc(), &EQUATIONS)
+}
+
+#[test]
+fn finds_parts(rt: HostRuntime) -> Result<(), Fail> {
+    expect_outcomes(&rt, rt.alloc(), &PARTS)
 }
 
 #[test]

@@ -18,6 +18,7 @@ use super::store_terms::{circular, compound, equation, list, pattern_term, varia
 use iso_model::{Term, well_formed};
 use iso_store::{Heap, Nodes, Shape, Store, StoreFault};
 use std::alloc::Global;
+use std::cmp::Ordering;
 use std::process::Abort;
 use std::test::Fail;
 
@@ -31,7 +32,7 @@ pub(crate) fn is_full<W: Copy>(made: Result<W, StoreFault>) -> Result<bool, Stor
 }
 
 /// The two sides of the equation that the word stands for.
-fn sides<S: Store>(rt: &impl Abort, store: &S, word: S::Word) -> (S::Word, S::Word)
+pub(crate) fn sides<S: Store>(rt: &impl Abort, store: &S, word: S::Word) -> (S::Word, S::Word)
     requires { Holds (S.present store.now) word }
     ensures first { Holds (S.present store.now) result.0 }
     ensures second { Holds (S.present store.now) result.1 }
@@ -340,7 +341,7 @@ fn lists_variables(rt: HostRuntime) -> Result<(), Fail> {
     expect_variables_listed(&rt, alloc, &mut heap)
 }
 
-/// That a list of so many variables has them, and is equal to a copy of its own.
+/// That a list of so many variables has them, and is identical to a copy of its own.
 fn expect_long_list<S: Store>(
     rt: &impl Abort,
     alloc: Global,
@@ -357,6 +358,7 @@ fn expect_long_list<S: Store>(
         assert_eq!(rt; store.shape(*variable), Shape::Var(place as u64));
     }
     let again = instance(store, &term, variables.as_slice())?;
+    assert_eq!(rt; store.compare(whole, again)?, Ordering::Equal);
     assert!(rt; store.unify(whole, again)?);
     Ok(())
 }

@@ -11,6 +11,8 @@ mod control;
 mod language;
 #[cfg(test)]
 mod limits;
+#[cfg(test)]
+mod order;
 pub mod quitter;
 #[cfg(test)]
 mod readers;
@@ -21,7 +23,13 @@ mod rows;
 #[cfg(test)]
 mod sessions;
 #[cfg(test)]
+mod small_cells;
+#[cfg(test)]
+mod solutions;
+#[cfg(test)]
 mod term_texts;
+#[cfg(test)]
+mod terms;
 #[cfg(test)]
 mod types;
 #[cfg(test)]

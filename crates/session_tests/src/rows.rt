@@ -44,7 +44,7 @@ pub const FRAMES_FULL: Row = Row {
     ..PLAIN
 };
 
-/// A session that a full heap ends, with nothing before it: it has room for 100 nodes.
+/// A session that a full heap ends, with nothing before it: it has room for 100 cells.
 pub const HEAP_FULL: Row = Row {
     cells: Some(100),
     output: "end: heap full\n",

@@ -5,11 +5,13 @@ use Rattle.iso_model.specs.Terms.Substitutions.{Subst, apply, compose}
 use Rattle.iso_model.specs.Terms.Unifiers.{Unifier, NeverEqual, IsUnifierOf}
 use Rattle.iso_model.specs.Terms.Unification.{unifier_of}
 use Rattle.iso_model.specs.Terms.Unification.Unique.{unifier_unique}
-use Rattle.iso_model.specs.Terms.Copies.{renamed}
+use Rattle.iso_model.specs.Terms.Copies.{copy_from, renamed}
+use Rattle.iso_model.specs.Terms.Sizes.{size}
+use Rattle.iso_model.specs.Terms.Variables.{variable_count}
 use Rattle.iso_model.specs.Search.Bodies.{map_body}
 use Rattle.iso_model.specs.Search.Databases.{Clause}
-use Rattle.iso_model.specs.Search.Walker.{State, Member, Fail, Alternative, Goes, before, under, entered, equated, replied, clause_size, with_others, tried, tried_clause, fails}
-use Rattle.iso_model.specs.Search.BuiltIns.{Equates}
+use Rattle.iso_model.specs.Search.Walker.{State, Member, Fail, Alternative, Goes, before, under, entered, equated, with_copy, replied, clause_size, with_others, tried, tried_clause, fails}
+use Rattle.iso_model.specs.Search.BuiltIns.{Equates, EquatesCopy}
 use Rattle.iso_model.specs.Terms.Unification.{unifier_of_is}
 
 answer_same : (a b : Tree) (u : Subst) (found : Option Subst) → Unifier a b u → IsUnifierOf a b found → found ≡ Some u
@@ -69,14 +71,24 @@ tried_missed call c (d ∷ ds) rest s never =
     ap (λ o. entered o c s.next (length s.stack) rest (counted c p)) (unify_none s.subst call (apply s.subst (renamed s.next c.head)) never)
 
 -- an equation's terms have this unifier
-pub run_equation : (a b : Tree) (rest : List Member) (s : State) (u : Subst) → Unifier a b u
-    → replied (Equates a b) rest s ≡ Goes (record s { list = rest; subst = compose s.subst u; built = s.built + 2 })
-run_equation a b rest s u h = ap (λ o. Goes (equated o rest (record s { built = s.built + 2 }))) (unify_found s.subst a b h)
+pub run_equation : (made : ℕ) (a b : Tree) (rest : List Member) (s : State) (u : Subst) → Unifier a b u
+    → replied (Equates made a b) rest s ≡ Goes (record s { list = rest; subst = compose s.subst u; built = s.built + made })
+run_equation made a b rest s u h = ap (λ o. Goes (equated o rest (record s { built = s.built + made }))) (unify_found s.subst a b h)
 
 -- they are never equal
-pub run_equation_missed : (a b : Tree) (rest : List Member) (s : State) → NeverEqual a b
-    → replied (Equates a b) rest s ≡ Goes (record s { list = Fail ∷ []; built = s.built + 2 })
-run_equation_missed a b rest s never = ap (λ o. Goes (equated o rest (record s { built = s.built + 2 }))) (unify_none s.subst a b never)
+pub run_equation_missed : (made : ℕ) (a b : Tree) (rest : List Member) (s : State) → NeverEqual a b
+    → replied (Equates made a b) rest s ≡ Goes (record s { list = Fail ∷ []; built = s.built + made })
+run_equation_missed made a b rest s never = ap (λ o. Goes (equated o rest (record s { built = s.built + made }))) (unify_none s.subst a b never)
+
+-- a term and a copy have this unifier
+pub run_copy : (a b : Tree) (rest : List Member) (s : State) (u : Subst) → Unifier a (apply s.subst (copy_from b s.next)) u
+    → replied (EquatesCopy a b) rest s ≡ Goes (record s { list = rest; subst = compose s.subst u; next = s.next + variable_count b; built = s.built + (1 + size b) })
+run_copy a b rest s u h = ap (λ o. Goes (equated o rest (with_copy b s))) (unify_found s.subst a (apply s.subst (copy_from b s.next)) h)
+
+-- they are never equal
+pub run_copy_missed : (a b : Tree) (rest : List Member) (s : State) → NeverEqual a (apply s.subst (copy_from b s.next))
+    → replied (EquatesCopy a b) rest s ≡ Goes (record s { list = Fail ∷ []; next = s.next + variable_count b; built = s.built + (1 + size b) })
+run_copy_missed a b rest s never = ap (λ o. Goes (equated o rest (with_copy b s))) (unify_none s.subst a (apply s.subst (copy_from b s.next)) never)
 
 -- the clause is tried, whose head has this unifier with the call
 pub clause_found : (call : Tree) (c : Clause) (mark : ℕ) (rest : List Member) (s : State) (u : Subst) → Unifier call (apply s.subst (renamed s.next c.head)) u

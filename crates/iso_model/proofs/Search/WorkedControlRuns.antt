@@ -2,7 +2,7 @@
 use Rattle.std.proofs.Common.{◌≡◌, ℕ, zero, suc, [], ◌∷◌, Option, Some, None, option_map, refl, sym, ap, ◌∙◌, subst}
 use Rattle.iso_model.specs.Search.Walker.{State, Event, Outcome, Goes, Gives, Ends, step}
 use Rattle.iso_model.specs.Search.Runs.{Trace, Then, Stops, Run, goes, gives, ends}
-use Rattle.iso_model.specs.Search.WorkedControl.{CutTakesAlternativesAway, CutIsLocalToCall, CutActsThroughConjunctions, CutInThenAndCondition, ConditionsDecideOnce, NegationTakesAStep, OnceIsOnce, RepeatTakesSteps, GoalsAreChecked, ArgumentsAreAdded, CatchRunsItsGoal, LeftCatchesDontCatch, HaltEnds}
+use Rattle.iso_model.specs.Search.WorkedControl.{CutTakesAlternativesAway, CutIsLocalToCall, CutActsThroughConjunctions, CutInThenAndCondition, ConditionsDecideOnce, NegationTakesAStep, OnceIsOnce, RepeatTakesSteps, GoalsAreChecked, ArgumentsAreAdded, CatchRunsItsGoal, LeftCatchesDontCatch, FindallChecks, HaltEnds}
 
 abbrev walk_on : (State → Option Trace) → Outcome → Option Trace
 walk_on on (Goes t) = on t
@@ -79,6 +79,10 @@ catch_run = (run_walked 30 _ _ refl, run_walked 30 _ _ refl)
 pub left_run : LeftCatchesDontCatch
 unfolding step walked
 left_run = (run_walked 20 _ _ refl, run_walked 20 _ _ refl)
+
+pub findall_run : FindallChecks
+unfolding step walked
+findall_run = (run_walked 20 _ _ refl, run_walked 20 _ _ refl, run_walked 20 _ _ refl, run_walked 20 _ _ refl, run_walked 20 _ _ refl)
 
 pub halt_run : HaltEnds
 unfolding step walked

@@ -104,7 +104,7 @@ pub equation_run : EquationsAreChecked
 unfolding step
 equation_run n =
     let goal = two (codes "=") (Variable 0) (one (codes "f") (Variable 0)) in
-    goes (ap (charged n) (run_equation_missed (Variable 0) (one (codes "f") (Variable 0)) [] (started goal (suc n) empty) never_within)) (ends refl)
+    goes (ap (charged n) (run_equation_missed 2 (Variable 0) (one (codes "f") (Variable 0)) [] (started goal (suc n) empty) never_within)) (ends refl)
 
 pub unknown_run : UnknownIsAnError
 unfolding step

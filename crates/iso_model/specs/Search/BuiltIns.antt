@@ -3,16 +3,18 @@
 use Rattle.std.specs.Prelude.{ℕ, nat_lt, int_lt, nat_abs, pos, List, [], ◌∷◌, Bool, true, false, ◌||◌, Option, Some, None, codes, if◌then◌else◌}
 use Rattle.iso_model.specs.Terms.Trees.{Tree, Variable, Integer}
 use Rattle.iso_model.specs.Search.Keys.{Key, key, same_key}
-use Rattle.iso_model.specs.Search.Library.{library_reply}
+use Rattle.iso_model.specs.Search.Library.{library_answer}
 use Rattle.iso_model.specs.Terms.Arguments.{argument, arguments, arity, others, with_arguments}
+use Rattle.iso_model.specs.Terms.Lists.{is_partial_list}
 use Rattle.iso_model.specs.Search.Bodies.{Body, converted}
 use Rattle.iso_model.specs.Search.Errors.{instantiation_error, type_error_callable, type_error, domain_error, max_arity_error}
 use Rattle.iso_model.specs.declared.built_ins.BuiltIn.{BuiltIn}
-use Rattle.iso_model.specs.declared.built_ins.BuiltIn.TheVariants.{True, Fail, Call, Once, Not, Repeat, Catch, Throw, Halt, HaltWith, Library}
+use Rattle.iso_model.specs.declared.built_ins.BuiltIn.TheVariants.{True, Fail, Call, Once, Not, Repeat, Catch, Throw, Halt, HaltWith, Findall, Library}
 use Rattle.iso_model.specs.declared.library.Library.TheVariants as library
 use Rattle.iso_model.specs.declared.library.Comparison.TheVariants as comparison
+use Rattle.iso_model.specs.declared.library.OrderTest.TheVariants as order
 use Rattle.iso_model.specs.declared.library.TypeTest.TheVariants as test
-pub use Rattle.iso_model.specs.Search.Replies.{Reply, Fails, Succeeds, Equates, Raises, Calls, CallsOnce, Refutes, Repeats, Catches, Halts}
+pub use Rattle.iso_model.specs.Search.Replies.{Reply, Fails, Succeeds, Equates, EquatesCopy, Raises, Calls, CallsOnce, Refutes, Repeats, Catches, Gathers, Halts, answered}
 
 -- the built-ins by name and arity
 abbrev pub built_ins : List (Key × BuiltIn)
@@ -21,7 +23,7 @@ built_ins =
     ∷ (key (codes "call") 1, Call) ∷ (key (codes "call") 2, Call) ∷ (key (codes "call") 3, Call) ∷ (key (codes "call") 4, Call)
     ∷ (key (codes "call") 5, Call) ∷ (key (codes "call") 6, Call) ∷ (key (codes "call") 7, Call) ∷ (key (codes "call") 8, Call)
     ∷ (key (codes "catch") 3, Catch) ∷ (key (codes "throw") 1, Throw) ∷ (key (codes "halt") 0, Halt) ∷ (key (codes "halt") 1, HaltWith)
-    ∷ (key (codes "once") 1, Once) ∷ (key (codes "\\+") 1, Not)
+    ∷ (key (codes "once") 1, Once) ∷ (key (codes "\\+") 1, Not) ∷ (key (codes "findall") 3, Findall)
     ∷ (key (codes "=") 2, Library library.Unify) ∷ (key (codes "\\=") 2, Library library.Differ)
     ∷ (key (codes "unify_with_occurs_check") 2, Library library.Unify)
     ∷ (key (codes "var") 1, Library (library.Test test.Var)) ∷ (key (codes "nonvar") 1, Library (library.Test test.Nonvar))
@@ -32,7 +34,15 @@ built_ins =
     ∷ (key (codes "is") 2, Library library.Is)
     ∷ (key (codes "=:=") 2, Library (library.Compare comparison.Equal)) ∷ (key (codes "=\\=") 2, Library (library.Compare comparison.Unequal))
     ∷ (key (codes "<") 2, Library (library.Compare comparison.Less)) ∷ (key (codes "=<") 2, Library (library.Compare comparison.AtMost))
-    ∷ (key (codes ">") 2, Library (library.Compare comparison.Greater)) ∷ (key (codes ">=") 2, Library (library.Compare comparison.AtLeast)) ∷ []
+    ∷ (key (codes ">") 2, Library (library.Compare comparison.Greater)) ∷ (key (codes ">=") 2, Library (library.Compare comparison.AtLeast))
+    ∷ (key (codes "arg") 3, Library library.Arg) ∷ (key (codes "copy_term") 2, Library library.CopyTerm)
+    ∷ (key (codes "functor") 3, Library library.Functor) ∷ (key (codes "=..") 2, Library library.Univ)
+    ∷ (key (codes "term_variables") 2, Library library.TermVariables)
+    ∷ (key (codes "==") 2, Library (library.Order order.Identical)) ∷ (key (codes "\\==") 2, Library (library.Order order.NotIdentical))
+    ∷ (key (codes "@<") 2, Library (library.Order order.Before)) ∷ (key (codes "@=<") 2, Library (library.Order order.NotAfter))
+    ∷ (key (codes "@>") 2, Library (library.Order order.After)) ∷ (key (codes "@>=") 2, Library (library.Order order.NotBefore))
+    ∷ (key (codes "compare") 3, Library library.CompareTerms)
+    ∷ (key (codes "sort") 2, Library library.Sort) ∷ (key (codes "keysort") 2, Library library.Keysort) ∷ []
 
 abbrev pub built_in_among : List (Key × BuiltIn) → Key → Option BuiltIn
 built_in_among [] k = None
@@ -68,6 +78,10 @@ goal_reply runs goal k = converted_reply runs (converted goal) goal k
 abbrev pub called_reply : Tree → Key → Reply
 called_reply goal k = goal_reply (λ b. if nat_lt 255 (arity goal) then Raises (max_arity_error k) else Calls b) goal k
 
+-- the result of a findall/3 is to be a partial list (8.10.1.3, as corrected)
+abbrev pub findall_reply : Tree → Tree → Tree → Key → Reply
+findall_reply template goal result k = goal_reply (λ b. if is_partial_list result then Gathers template b result else Raises (type_error (codes "list") result k)) goal k
+
 -- a ball is not to be unbound (7.8.10.3)
 abbrev pub throw_reply : Tree → Key → Reply
 throw_reply (Variable n) k = Raises (instantiation_error k)
@@ -79,7 +93,7 @@ halt_reply (Variable n) k = Raises (instantiation_error k)
 halt_reply (Integer z) k = if int_lt z (pos 0) || int_lt (pos 255) z then Raises (domain_error (codes "exit_code") (Integer z) k) else Halts (nat_abs z)
 halt_reply t k = Raises (type_error (codes "integer") t k)
 
--- what this goal of the built-in comes to (7.8.1 to 7.8.3, 7.8.9, 7.8.10, 8.15.1, 8.15.2, 8.15.3, 8.17.3, 8.17.4; call/2 to call/8
+-- what this goal of the built-in comes to (7.8.1 to 7.8.3, 7.8.9, 7.8.10, 8.10.1, 8.15.1, 8.15.2, 8.15.3, 8.17.3, 8.17.4; call/2 to call/8
 -- are own)
 abbrev pub reply : BuiltIn → Tree → Reply
 reply True t = Succeeds
@@ -92,4 +106,5 @@ reply Catch t = Catches (goal_reply Calls (argument 0 t) (key (codes "catch") 3)
 reply Throw t = throw_reply (argument 0 t) (key (codes "throw") 1)
 reply Halt t = Halts 0
 reply HaltWith t = halt_reply (argument 0 t) (key (codes "halt") 1)
-reply (Library row) t = library_reply row t
+reply Findall t = findall_reply (argument 0 t) (argument 1 t) (argument 2 t) (key (codes "findall") 3)
+reply (Library row) t = answered (library_answer row t)

@@ -5,6 +5,8 @@ pub mod Named
 pub mod Quiets
 pub mod Moves
 pub mod Marks
+pub mod TermValues
+pub mod LibraryValues
 pub mod Values
 pub mod Sameness
 pub mod SameSteps

@@ -1,5 +1,5 @@
 -- The standard's search, step by step (ISO/IEC 13211-1:1995, 7.7): depth first, clauses in their order, goals from left to right.
-use Rattle.std.specs.Prelude.{ℕ, zero, suc, ◌+◌, ◌-◌, List, [], ◌∷◌, length, drop, map, Option, Some, None, option_map, codes, ◌==◌, if◌then◌else◌}
+use Rattle.std.specs.Prelude.{ℕ, zero, suc, ◌+◌, ◌-◌, List, [], ◌∷◌, ◌++◌, length, drop, map, Option, Some, None, option_map, codes, ◌==◌, if◌then◌else◌}
 use Rattle.iso_ops.specs.Operators.{Operator}
 use Rattle.iso_ops.specs.InitialOperators.{initial_entries}
 use Rattle.iso_ops.specs.declared.settings.Flags.{Flags}
@@ -12,9 +12,10 @@ use Rattle.iso_model.specs.Terms.Variables.{variables, variable_count}
 use Rattle.iso_model.specs.Terms.Substitutions.{Subst, apply, compose}
 use Rattle.iso_model.specs.Terms.Unification.{unifier_of}
 use Rattle.iso_model.specs.Terms.Copies.{copy_from, renamed}
+use Rattle.iso_model.specs.Terms.Lists.{list_of}
 use Rattle.iso_model.specs.Search.Bodies.{Body, Cut, Run, And, Or, If, Choose, one, converted, body_term, map_body, is_true}
 use Rattle.iso_model.specs.Search.Databases.{Clause, Key, Database, key, key_of, no_clauses, clauses_at}
-use Rattle.iso_model.specs.Search.BuiltIns.{Reply, Fails, Succeeds, Equates, Raises, Calls, CallsOnce, Refutes, Repeats, Catches, Halts, built_in, reply}
+use Rattle.iso_model.specs.Search.BuiltIns.{Reply, Fails, Succeeds, Equates, EquatesCopy, Raises, Calls, CallsOnce, Refutes, Repeats, Catches, Gathers, Halts, built_in, reply}
 use Rattle.iso_model.specs.Search.Errors.{type_error_callable, existence_error}
 use Rattle.iso_model.specs.declared.built_ins.BuiltIn.{BuiltIn}
 
@@ -31,7 +32,8 @@ abbrev pub first_world : World
 first_world = record { database = no_clauses; operators = initial_entries; flags = initial_flags; runs = 0 }
 
 -- A member of the list of goals: a goal with its cut mark (a height of the stack), a cut back to a height, failure, the end of a catch's goal (its
--- alternative stands at this height), a thrown ball, or a ball that is to be caught by this catcher (7.7.3, 7.8.4, 7.8.9, 7.8.10).
+-- alternative stands at this height), a thrown ball, a ball that is to be caught by this catcher, or the end of the goal of a findall/3 (the alternative
+-- that gathers stands at this height) with the template (7.7.3, 7.8.4, 7.8.9, 7.8.10, 8.10.1).
 pub data Member : Type 0 where
   Goal : (body : Body) → (mark : ℕ) → Member
   CutTo : (height : ℕ) → Member
@@ -39,14 +41,16 @@ pub data Member : Type 0 where
   Leave : (height : ℕ) → Member
   Raise : (ball : Tree) → Member
   Meet : (ball : Tree) → (catcher : Tree) → (recovery : Tree) → Member
+  Gather : (height : ℕ) → (template : Tree) → Member
 
 -- what is left to be tried at an alternative: its goals as they are, once or again and again, these clauses for this call, or nothing: it is the entry
--- of a catch
+-- of a catch; or what a findall/3 has gathered: the result, and the copies of its solutions so far, whose variables are 0, 1, .. up to this count
 pub data Left : Type 0 where
   AsIs : Left
   Again : Left
   Clauses : (call : Tree) → (clauses : List Clause) → Left
   Catching : (catcher : Tree) → (recovery : Tree) → Left
+  Gathering : (result : Tree) → (copies : List Tree) → (count : ℕ) → Left
 
 -- An alternative: the goals, the substitution, the next number and what was built, as they were when it was made, and what is left to
 -- be tried (7.7.8).
@@ -162,18 +166,6 @@ abbrev pub tried : Tree → List Clause → List Member → State → State
 tried call [] rest s = fails s
 tried call (c ∷ cs) rest s = tried_clause call c (length s.stack) rest (with_others call cs rest s)
 
--- What is left at an alternative is tried. A further solution of `repeat` takes a step (8.15.3; that it does is own).
-abbrev pub retried : Left → State → Outcome
-retried AsIs s = Goes s
-retried Again s = paid s.steps s (Goes (pushed s.list Again s))
-retried (Clauses call cs) s = Goes (tried call cs s.list s)
-retried (Catching catcher recovery) s = Goes (fails s)
-
--- failure goes on with the newest alternative; where there is none the search ends
-abbrev pub backtracked : List Alternative → State → Outcome
-backtracked [] s = Ends NoMore s.world
-backtracked (a ∷ below) s = retried a.left (record s { list = a.list; subst = a.subst; next = a.next; built = a.built; stack = below })
-
 -- A call of an unknown procedure raises an error, or fails, as the flag `unknown` says (7.7.7, 7.11.2.4).
 abbrev pub unknown_called : Unknown → Key → List Member → State → State
 unknown_called on_unknown.Error k rest s = record s { list = Raise (existence_error k) ∷ rest }
@@ -193,8 +185,12 @@ equated (Some u) rest s = record s { list = rest; subst = u }
 abbrev pub with_goal : Body → State → State
 with_goal b s = record s { built = s.built + size (body_term b) }
 
+-- A copy of the term is made, whose variables are numbered from the next number on (8.5.4); an argument that it is unified with counts 1 (own).
+abbrev pub with_copy : Tree → State → State
+with_copy t s = record s { next = s.next + variable_count t; built = s.built + (1 + size t) }
+
 -- A goal of a built-in comes to this. Where it runs a goal, a cut in that is one back to the height of the stack at its call. A catch's goal is run, or
--- its error raised, inside the catch: behind its alternative and before its end.
+-- its error raised, inside the catch: behind its alternative and before its end. The goal of a findall/3 is run over an alternative that gathers.
 abbrev pub replied : Reply → List Member → State → Outcome
 replied Fails rest s = Goes (fails s)
 replied Succeeds rest s = Goes (record s { list = rest })
@@ -205,8 +201,25 @@ replied (Refutes b) rest s =
     Goes (record (pushed rest AsIs (with_goal b s)) { list = Goal b (suc (length s.stack)) ∷ CutTo (length s.stack) ∷ Fail ∷ rest })
 replied Repeats rest s = Goes (record (pushed rest Again s) { list = rest })
 replied (Catches inside catcher recovery) rest s = replied inside (Leave (length s.stack) ∷ rest) (pushed rest (Catching catcher recovery) s)
+replied (Gathers template b result) rest s =
+    Goes (record (with_goal b (pushed rest (Gathering result [] 0) s)) { list = Goal b (suc (length s.stack)) ∷ Gather (length s.stack) template ∷ rest })
 replied (Halts status) rest s = Ends (Halted status) s.world
-replied (Equates a b) rest s = Goes (equated (under s.subst (unifier_of a b)) rest (record s { built = s.built + 2 }))
+replied (Equates made a b) rest s = Goes (equated (under s.subst (unifier_of a b)) rest (record s { built = s.built + made }))
+replied (EquatesCopy a b) rest s = Goes (equated (under s.subst (unifier_of a (apply s.subst (copy_from b s.next)))) rest (with_copy b s))
+
+-- What is left at an alternative is tried. A further solution of `repeat` takes a step (8.15.3; that it does is own). Where the goal of a findall/3 has no
+-- further solution, the result is unified with the list of the copies, whose variables are numbered on from the next number (8.10.1).
+abbrev pub retried : Left → State → Outcome
+retried AsIs s = Goes s
+retried Again s = paid s.steps s (Goes (pushed s.list Again s))
+retried (Clauses call cs) s = Goes (tried call cs s.list s)
+retried (Catching catcher recovery) s = Goes (fails s)
+retried (Gathering result copies count) s = replied (EquatesCopy result (list_of copies)) s.list s
+
+-- failure goes on with the newest alternative; where there is none the search ends
+abbrev pub backtracked : List Alternative → State → Outcome
+backtracked [] s = Ends NoMore s.world
+backtracked (a ∷ below) s = retried a.left (record s { list = a.list; subst = a.subst; next = a.next; built = a.built; stack = below })
 
 -- what a goal of this name and arity runs: a built-in where there is one, else a user procedure
 abbrev pub selected : Option BuiltIn → Key → Tree → List Member → State → Outcome
@@ -247,6 +260,16 @@ abbrev pub meets : Tree → Tree → Tree → List Member → State → State
 meets ball catcher recovery rest s =
     met (under s.subst (unifier_of (apply s.subst catcher) (apply s.subst (copy_from ball s.next)))) ball recovery rest (record s { built = s.built + size ball })
 
+-- a copy of this solution comes behind those that the alternative has gathered, and its variables behind theirs
+abbrev pub gathered : Left → Tree → Left
+gathered (Gathering result copies count) t = Gathering result (copies ++ copy_from t count ∷ []) (count + variable_count t)
+gathered left t = left
+
+-- so at the alternative that stands at this height
+abbrev pub gathered_at : ℕ → Tree → List Alternative → List Alternative
+gathered_at height t [] = []
+gathered_at height t (a ∷ below) = (if length below == height then record a { left = gathered a.left t } else a) ∷ gathered_at height t below
+
 -- A goal is selected by its value under the substitution, which has the name and the arity that the goal was made with.
 abbrev pub run_value : Tree → List Member → State → Outcome
 run_value t rest s = run_goal (key_of t) t rest s
@@ -268,6 +291,7 @@ step_list (Fail ∷ rest) s = backtracked s.stack s
 step_list (Leave height ∷ rest) s = Goes (record s { list = rest })
 step_list (Raise ball ∷ rest) s = thrown ball rest s
 step_list (Meet ball catcher recovery ∷ rest) s = Goes (meets ball catcher recovery rest s)
+step_list (Gather height template ∷ rest) s = Goes (fails (record s { stack = gathered_at height (apply s.subst template) s.stack }))
 step_list (Goal b mark ∷ rest) s = step_goal b mark rest s
 
 -- One step: it takes the first member of the list. An empty list is a solution, and failure comes next.

@@ -106,6 +106,21 @@ LeftCatchesDontCatch =
     Answers (throw_goal (Name (codes "a"))) 1 [] (Uncaught (Name (codes "a")))
     × Answers (and_goal (catch_goal true_goal (Name (codes "a")) true_goal) (throw_goal (Name (codes "a")))) 3 [] (Uncaught (Name (codes "a")))
 
+abbrev pub findall_goal : Tree → Tree → Tree → Tree
+findall_goal template goal result = Apply (codes "findall") (More template (More goal (More result End)))
+
+-- `findall(a, G, b)` throws an instantiation error, `findall(a, 1, b)` a type error of the goal, and `findall(a, true, b)` one of the result, before any goal
+-- runs; the goal takes steps of its own; and a ball that it throws ends the search, as `halt` does.
+abbrev pub FindallChecks : Type 0
+FindallChecks =
+    Answers (findall_goal (Name (codes "a")) (Variable 0) (Name (codes "b"))) 1 [] (Uncaught (error (Name (codes "instantiation_error")) (codes "findall") 3))
+    × Answers (findall_goal (Name (codes "a")) (number 1) (Name (codes "b"))) 1 []
+    (Uncaught (error (two (codes "type_error") (Name (codes "callable")) (number 1)) (codes "findall") 3))
+    × Answers (findall_goal (Name (codes "a")) true_goal (Name (codes "b"))) 1 []
+    (Uncaught (error (two (codes "type_error") (Name (codes "list")) (Name (codes "b"))) (codes "findall") 3))
+    × Answers (findall_goal (Name (codes "a")) true_goal (Variable 0)) 1 [] Budget
+    × Answers (findall_goal (Name (codes "a")) (or_goal true_goal (throw_goal (Name (codes "b")))) (Variable 0)) 3 [] (Uncaught (Name (codes "b")))
+
 -- `halt` ends with the status 0, `true, halt(3)` with 3; a status of 256 is out of the domain.
 abbrev pub HaltEnds : Type 0
 HaltEnds =

@@ -1,5 +1,5 @@
 -- The arguments of a compound, by their places.
-use Rattle.std.specs.Prelude.{ℕ, zero, suc}
+use Rattle.std.specs.Prelude.{ℕ, zero, suc, List, [], ◌∷◌}
 use Rattle.iso_model.specs.Terms.Trees.{Tree, Variable, Integer, Name, Apply, End, More, count}
 
 -- the arguments of a compound, as a list of terms; of another term none
@@ -25,6 +25,11 @@ member i t = End
 abbrev pub argument : ℕ → Tree → Tree
 argument i t = member i (arguments t)
 
+-- the members of a list of terms
+abbrev pub listed : Tree → List Tree
+listed (More t ts) = t ∷ listed ts
+listed t = []
+
 -- the members of a list of terms behind its first
 abbrev pub others : Tree → Tree
 others (More t ts) = ts
@@ -41,3 +46,8 @@ with_arguments t End = t
 with_arguments (Name a) us = Apply a us
 with_arguments (Apply f ts) us = Apply f (joined ts us)
 with_arguments t us = t
+
+-- so many variables, from this number on, as a list of terms
+abbrev pub variables_from : ℕ → ℕ → Tree
+variables_from n zero = End
+variables_from n (suc count) = More (Variable n) (variables_from (suc n) count)

@@ -1,4 +1,4 @@
-use Rattle.iso_model.proofs.Search.WorkedControlRuns.{added_run, catch_run, left_run, halt_run}
+use Rattle.iso_model.proofs.Search.WorkedControlRuns.{added_run, catch_run, left_run, findall_run, halt_run}
 use Rattle.iso_model.proofs.Search.WorkedControlRuns.{checked_run}
 use Rattle.iso_model.proofs.Search.WorkedControlRuns.{condition_run}
 use Rattle.iso_model.proofs.Search.WorkedControlRuns.{cut_run}
@@ -45,6 +45,9 @@ returns-clause-catch c = catch_run
 
 pub returns-clause-left_catch : goal.returns-clause-left_catch
 returns-clause-left_catch c = left_run
+
+pub returns-clause-findall_errors : goal.returns-clause-findall_errors
+returns-clause-findall_errors c = findall_run
 
 pub returns-clause-halt : goal.returns-clause-halt
 returns-clause-halt c = halt_run

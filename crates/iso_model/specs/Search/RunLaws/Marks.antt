@@ -1,7 +1,7 @@
 -- Cut marks: each is a height at which the stack stands still, and what follows a mark is marked over what the mark leaves of the stack. The end of a
--- catch's goal is marked by the height at which the catch's alternative stands. Every step keeps this, so an engine may keep its alternatives in one
+-- catch's goal is marked by the height at which the catch's alternative stands; of the end of a findall's goal nothing is said. Every step keeps this, so an engine may keep its alternatives in one
 -- stack, a cut gives back the newest of them, and a thrown ball finds its catch.
-use Rattle.std.proofs.Common.{◌≡◌, ℕ, zero, suc, ◌+◌, ◌-◌, ◌≤◌, List, [], ◌∷◌, true, false, Option, Some, None, length, drop, refl, sym, ap, ◌∙◌, subst, arith, ◌==◌, if◌then◌else◌}
+use Rattle.std.proofs.Common.{◌≡◌, ℕ, zero, suc, ◌+◌, ◌-◌, ◌≤◌, List, [], ◌∷◌, Bool, true, false, Option, Some, None, length, drop, refl, sym, ap, ◌∙◌, subst, arith, ◌==◌, if◌then◌else◌}
 use Rattle.iso_ops.specs.declared.settings.Unknown.{Unknown}
 use Rattle.iso_ops.specs.declared.settings.Unknown.TheVariants as on_unknown
 use Rattle.iso_model.specs.Terms.Trees.{Tree, Variable}
@@ -9,11 +9,12 @@ use Rattle.iso_model.specs.Terms.Sizes.{size}
 use Rattle.iso_model.specs.Terms.Substitutions.{Subst, apply}
 use Rattle.iso_model.specs.Terms.Unification.{unifier_of}
 use Rattle.iso_model.specs.Terms.Copies.{copy_from, renamed}
+use Rattle.iso_model.specs.Terms.Lists.{list_of}
 use Rattle.iso_model.specs.Search.Bodies.{Body, Cut, Run, And, Or, If, Choose, map_body, is_true, converted}
 use Rattle.iso_model.specs.Search.Databases.{Clause, Key, key_of, clauses_at}
-use Rattle.iso_model.specs.Search.BuiltIns.{Reply, Fails, Succeeds, Equates, Raises, Calls, CallsOnce, Refutes, Repeats, Catches, Halts, built_in, reply}
+use Rattle.iso_model.specs.Search.BuiltIns.{Reply, Fails, Succeeds, Equates, EquatesCopy, Raises, Calls, CallsOnce, Refutes, Repeats, Catches, Gathers, Halts, built_in, reply}
 use Rattle.iso_model.specs.declared.built_ins.BuiltIn.{BuiltIn}
-use Rattle.iso_model.specs.Search.Walker.{State, World, Member, Goal, CutTo, Fail, Leave, Raise, Meet, Left, AsIs, Again, Clauses, Catching, Alternative, Outcome, Goes, Gives, Ends, charged, paid, before, entered, under, with_others, tried, retried, backtracked, unknown_called, called, equated, replied, selected, run_goal, run_value, caught_at, caught, thrown, met, meets, clause_size, shortened, cut_back, pushed, step_goal, step_list, step, opening, started}
+use Rattle.iso_model.specs.Search.Walker.{State, World, Member, Goal, CutTo, Fail, Leave, Raise, Meet, Gather, Left, AsIs, Again, Clauses, Catching, Gathering, Alternative, Outcome, Goes, Gives, Ends, charged, paid, before, entered, under, with_others, tried, retried, backtracked, unknown_called, called, equated, replied, selected, run_goal, run_value, caught_at, caught, thrown, met, meets, gathered, gathered_at, clause_size, shortened, cut_back, pushed, step_goal, step_list, step, opening, started, with_copy}
 
 -- The first stack is what is left of the second when some of its newest alternatives are taken away.
 pub data Under : List Alternative → List Alternative → Type 0 where
@@ -34,6 +35,7 @@ pub data Marked : List Alternative → List Member → Type 0 where
   leaving : {low stack : List Alternative} {a : Alternative} {h : ℕ} {rest : List Member} → Under (a ∷ low) stack → length low ≡ h → IsCatching a.left → Marked low rest → Marked stack (Leave h ∷ rest)
   raising : {low stack : List Alternative} {ball : Tree} {rest : List Member} → Under low stack → Marked low rest → Marked stack (Raise ball ∷ rest)
   meeting : {low stack : List Alternative} {ball catcher recovery : Tree} {rest : List Member} → Under low stack → Marked low rest → Marked stack (Meet ball catcher recovery ∷ rest)
+  gathering : {low stack : List Alternative} {h : ℕ} {template : Tree} {rest : List Member} → Under low stack → Marked low rest → Marked stack (Gather h template ∷ rest)
 
 -- the list of each alternative is marked over those below it
 pub data Stacked : List Alternative → Type 0 where
@@ -81,10 +83,52 @@ marked_on h (failing k rest) = failing (under_on k h) rest
 marked_on h (leaving k e c rest) = leaving (under_on k h) e c rest
 marked_on h (raising k rest) = raising (under_on k h) rest
 marked_on h (meeting k rest) = meeting (under_on k h) rest
+marked_on h (gathering k rest) = gathering (under_on k h) rest
 
 stacked_under : {low stack : List Alternative} → Under low stack → Stacked stack → Stacked low
 stacked_under all k = k
 stacked_under (above h) (more m k) = stacked_under h k
+
+-- ---- what is gathered
+
+gathered_length : (height : ℕ) (t : Tree) (stack : List Alternative) → length (gathered_at height t stack) ≡ length stack
+gathered_length height t [] = refl
+gathered_length height t (a ∷ below) = ap suc (gathered_length height t below)
+
+gathered_under : {low stack : List Alternative} (height : ℕ) (t : Tree) → Under low stack → Under (gathered_at height t low) (gathered_at height t stack)
+gathered_under height t all = all
+gathered_under height t (above h) = above (gathered_under height t h)
+
+gathered_catching : (l : Left) (t : Tree) → IsCatching l → IsCatching (gathered l t)
+gathered_catching (Catching catcher recovery) t h = tt
+gathered_catching AsIs t h = absurd h
+gathered_catching Again t h = absurd h
+gathered_catching (Clauses call cs) t h = absurd h
+gathered_catching (Gathering result copies count) t h = absurd h
+
+gathered_entry : (height : ℕ) (t : Tree) (a : Alternative) (here : Bool) → IsCatching a.left → IsCatching (if here then record a { left = gathered a.left t } else a).left
+gathered_entry height t a true h = gathered_catching a.left t h
+gathered_entry height t a false h = h
+
+gathered_marked : {stack : List Alternative} {ms : List Member} (height : ℕ) (t : Tree) → Marked stack ms → Marked (gathered_at height t stack) ms
+gathered_marked height t done = done
+gathered_marked height t (goal {low = low} k e rest) = goal (gathered_under height t k) (gathered_length height t low ∙ e) (gathered_marked height t rest)
+gathered_marked height t (cut {low = low} k e rest) = cut (gathered_under height t k) (gathered_length height t low ∙ e) (gathered_marked height t rest)
+gathered_marked height t (failing k rest) = failing (gathered_under height t k) (gathered_marked height t rest)
+gathered_marked height t (leaving {low = low} {a = a} k e c rest) =
+    leaving (gathered_under height t k) (gathered_length height t low ∙ e) (gathered_entry height t a (length low == height) c) (gathered_marked height t rest)
+gathered_marked height t (raising k rest) = raising (gathered_under height t k) (gathered_marked height t rest)
+gathered_marked height t (meeting k rest) = meeting (gathered_under height t k) (gathered_marked height t rest)
+gathered_marked height t (gathering k rest) = gathering (gathered_under height t k) (gathered_marked height t rest)
+
+gathered_list : (height : ℕ) (t : Tree) (a : Alternative) (here : Bool) {stack : List Alternative} → Marked stack a.list → Marked stack (if here then record a { left = gathered a.left t } else a).list
+gathered_list height t a true h = h
+gathered_list height t a false h = h
+
+gathered_stacked : {stack : List Alternative} (height : ℕ) (t : Tree) → Stacked stack → Stacked (gathered_at height t stack)
+gathered_stacked height t none = none
+gathered_stacked height t (more {a = a} {below = below} marked k) =
+    more (gathered_list height t a (length below == height) (gathered_marked height t marked)) (gathered_stacked height t k)
 
 -- ---- steps
 
@@ -132,11 +176,17 @@ paid_marked : (n : ℕ) (s : State) (o : Outcome) → KeepsMarked o → KeepsMar
 paid_marked zero s o h = tt
 paid_marked (suc n) s o h = charged_marked n o h
 
+equated_marked : (u : Option Subst) (rest : List Member) (s : State) → Marked s.stack rest → Stacked s.stack → IsMarked (equated u rest s)
+equated_marked None rest s marked k = fails_marked s k
+equated_marked (Some u) rest s marked k = record { list = marked; stack = k }
+
 retried_marked : (l : Left) (s : State) → Marked s.stack s.list → Stacked s.stack → KeepsMarked (retried l s)
 retried_marked AsIs s marked k = record { list = marked; stack = k }
 retried_marked Again s marked k = paid_marked s.steps s (Goes (pushed s.list Again s)) (record { list = marked_on (above all) marked; stack = more marked k })
 retried_marked (Clauses call cs) s marked k = tried_marked call cs s.list s marked k
 retried_marked (Catching catcher recovery) s marked k = fails_marked s k
+retried_marked (Gathering result copies count) s marked k =
+    equated_marked (under s.subst (unifier_of result (apply s.subst (copy_from (list_of copies) s.next)))) s.list (with_copy (list_of copies) s) marked k
 
 backtracked_marked : (stack : List Alternative) (s : State) → Stacked stack → KeepsMarked (backtracked stack s)
 backtracked_marked [] s k = tt
@@ -150,20 +200,18 @@ called_marked : (cs : Option (List Clause)) (k : Key) (t : Tree) (rest : List Me
 called_marked (Some cs) k t rest s marked stacked = tried_marked t cs rest s marked stacked
 called_marked None k t rest s marked stacked = unknown_marked s.world.flags.unknown k rest s marked stacked
 
-equated_marked : (u : Option Subst) (rest : List Member) (s : State) → Marked s.stack rest → Stacked s.stack → IsMarked (equated u rest s)
-equated_marked None rest s marked k = fails_marked s k
-equated_marked (Some u) rest s marked k = record { list = marked; stack = k }
-
 replied_marked : (r : Reply) (rest : List Member) (s : State) → Marked s.stack rest → Stacked s.stack → KeepsMarked (replied r rest s)
 replied_marked Fails rest s marked k = fails_marked s k
 replied_marked Succeeds rest s marked k = record { list = marked; stack = k }
-replied_marked (Equates a b) rest s marked k = equated_marked (under s.subst (unifier_of a b)) rest (record s { built = s.built + 2 }) marked k
+replied_marked (Equates made a b) rest s marked k = equated_marked (under s.subst (unifier_of a b)) rest (record s { built = s.built + made }) marked k
+replied_marked (EquatesCopy a b) rest s marked k = equated_marked (under s.subst (unifier_of a (apply s.subst (copy_from b s.next)))) rest (with_copy b s) marked k
 replied_marked (Raises error) rest s marked k = record { list = raising all marked; stack = k }
 replied_marked (Calls b) rest s marked k = record { list = goal all refl marked; stack = k }
 replied_marked (CallsOnce b) rest s marked k = record { list = goal all refl (cut all refl marked); stack = k }
 replied_marked (Refutes b) rest s marked k = record { list = goal all refl (cut (above all) refl (failing all marked)); stack = more marked k }
 replied_marked (Catches inside catcher recovery) rest s marked k =
     replied_marked inside (Leave (length s.stack) ∷ rest) (pushed rest (Catching catcher recovery) s) (leaving all refl tt marked) (more marked k)
+replied_marked (Gathers template b result) rest s marked k = record { list = goal all refl (gathering (above all) marked); stack = more marked k }
 replied_marked (Halts status) rest s marked k = tt
 replied_marked Repeats rest s marked k = record { list = marked_on (above all) marked; stack = more marked k }
 
@@ -188,6 +236,7 @@ caught_at_marked (Catching catcher recovery) a below ball s o (more marked k) ot
 caught_at_marked AsIs a below ball s o k other = other
 caught_at_marked Again a below ball s o k other = other
 caught_at_marked (Clauses call cs) a below ball s o k other = other
+caught_at_marked (Gathering result copies count) a below ball s o k other = other
 
 caught_marked : (height : ℕ) (stack : List Alternative) (ball : Tree) (s : State) (o : Outcome) → Stacked stack → KeepsMarked o → KeepsMarked (caught height stack ball s o)
 caught_marked height [] ball s o k other = other
@@ -206,6 +255,7 @@ thrown_marked ball (CutTo height ∷ rest) s k = thrown_marked ball rest s k
 thrown_marked ball (Fail ∷ rest) s k = thrown_marked ball rest s k
 thrown_marked ball (Raise other ∷ rest) s k = thrown_marked ball rest s k
 thrown_marked ball (Meet other catcher recovery ∷ rest) s k = thrown_marked ball rest s k
+thrown_marked ball (Gather height template ∷ rest) s k = thrown_marked ball rest s k
 
 met_marked : (u : Option Subst) (ball recovery : Tree) {low : List Alternative} (rest : List Member) (s : State) → Under low s.stack → Marked low rest → Stacked s.stack → IsMarked (met u ball recovery rest s)
 met_marked None ball recovery rest s h marked k = record { list = raising h marked; stack = k }
@@ -220,6 +270,9 @@ list_marked (Raise ball ∷ rest) s marked k = thrown_marked ball rest s k
 list_marked (Meet ball catcher recovery ∷ rest) s (meeting h marked) k =
     let t = met_marked (under s.subst (unifier_of (apply s.subst catcher) (apply s.subst (copy_from ball s.next)))) ball recovery rest (record s { built = s.built + size ball }) h marked k in
     record { list = t.list; stack = t.stack }
+list_marked (Gather height template ∷ rest) s marked k =
+    let t = apply s.subst template in
+    fails_marked (record s { stack = gathered_at height t s.stack }) (gathered_stacked height t k)
 list_marked (Goal b m ∷ rest) s (goal h e marked) k = goal_marked b m rest s h e marked k
 
 -- a step keeps the marks

@@ -2,9 +2,9 @@
 use Rattle.std.proofs.Common.{◌≡◌, ℕ, List, [], ◌∷◌, refl, sym, ap, ◌∙◌, subst, arith}
 use Rattle.iso_model.specs.Terms.Substitutions.{Subst, apply}
 use Rattle.iso_model.specs.Search.Bodies.{Body, Cut, Run, And, Or, If, Choose}
-use Rattle.iso_model.specs.Search.Walker.{State, Member, Goal, CutTo, Fail, Leave, Raise, Meet, Alternative}
+use Rattle.iso_model.specs.Search.Walker.{State, Member, Goal, CutTo, Fail, Leave, Raise, Meet, Gather, Alternative}
 use Rattle.iso_model.specs.Search.RunLaws.SameSteps.{is_run}
-use Rattle.iso_model.specs.Search.RunLaws.Sameness.{put, flat, SameList, no_member, same_goal, same_construct, same_cut, same_failure, same_leave, same_ball, same_meeting, Agree, SameStack, no_alternative, same_alternative, Beside, Same, going, failing}
+use Rattle.iso_model.specs.Search.RunLaws.Sameness.{put, flat, SameList, no_member, same_goal, same_construct, same_cut, same_failure, same_leave, same_ball, same_meeting, same_gathering, Agree, SameStack, no_alternative, same_alternative, Beside, Same, going, failing}
 
 pub list_back : {r q : Subst} {ms ns : List Member} → SameList r q ms ns → SameList q r ns ms
 list_back no_member = no_member
@@ -15,6 +15,7 @@ list_back (same_failure others) = same_failure (list_back others)
 list_back (same_leave others) = same_leave (list_back others)
 list_back (same_ball others) = same_ball (list_back others)
 list_back (same_meeting catcher recovery others) = same_meeting (sym catcher) (sym recovery) (list_back others)
+list_back (same_gathering value others) = same_gathering (sym value) (list_back others)
 
 agree_back : {r q : Subst} {vs ws : List ℕ} (n m : ℕ) → n ≡ m → Agree r q vs ws n → Agree q r ws vs m
 agree_back n m e h = record { shown = sym h.shown; beyond = λ x more. sym (h.beyond x (omega (arith, e, more))); twice = h.other; other = h.twice }
@@ -45,6 +46,7 @@ list_on_list (same_failure others) (same_failure more) = same_failure (list_on_l
 list_on_list (same_leave others) (same_leave more) = same_leave (list_on_list others more)
 list_on_list (same_ball others) (same_ball more) = same_ball (list_on_list others more)
 list_on_list (same_meeting catcher recovery others) (same_meeting catcher' recovery' more) = same_meeting (catcher ∙ catcher') (recovery ∙ recovery') (list_on_list others more)
+list_on_list (same_gathering value others) (same_gathering again more) = same_gathering (value ∙ again) (list_on_list others more)
 
 agree_on_agree : {r q p : Subst} {us vs ws : List ℕ} (n m : ℕ) → n ≡ m → Agree r q us vs n → Agree q p vs ws m → Agree r p us ws n
 agree_on_agree n m e h k = record { shown = h.shown ∙ k.shown; beyond = λ x more. h.beyond x more ∙ k.beyond x (omega (arith, e, more)); twice = h.twice; other = k.other }
@@ -74,6 +76,7 @@ failure_first (Fail ∷ ms) ns e = (ms, refl)
 failure_first (Leave height ∷ ms) ns e = absurd (cc)
 failure_first (Raise ball ∷ ms) ns e = absurd (cc)
 failure_first (Meet ball catcher recovery ∷ ms) ns e = absurd (cc)
+failure_first (Gather height template ∷ ms) ns e = absurd (cc)
 
 fails_left : {r q : Subst} {ms ns : List Member} (others : List Member) → SameList r q ms ns → ns ≡ Fail ∷ others → (front : List Member) × (ms ≡ Fail ∷ front)
 fails_left others no_member e = absurd (cc)
@@ -84,6 +87,7 @@ fails_left others (same_failure {ms = ms} more) e = (ms, refl)
 fails_left others (same_leave more) e = absurd (cc)
 fails_left others (same_ball more) e = absurd (cc)
 fails_left others (same_meeting catcher recovery more) e = absurd (cc)
+fails_left others (same_gathering value more) e = absurd (cc)
 
 failing_left : (s t : State) (ns : List Member) → SameList s.subst t.subst (flat s.list) (flat t.list) → t.list ≡ Fail ∷ ns → (ms : List Member) × (s.list ≡ Fail ∷ ms)
 failing_left s t ns list is =

@@ -1,7 +1,7 @@
 -- States that are the same have one run.
 use Rattle.std.proofs.Common.{◌≡◌, ℕ, List, [], ◌∷◌, refl, sym, ap, ◌∙◌, subst, ◌⊎◌, inl, inr}
 use Rattle.iso_model.specs.Search.Bodies.{Body, Cut, Run, And, Or, If, Choose}
-use Rattle.iso_model.specs.Search.Walker.{State, World, Member, Goal, CutTo, Fail, Leave, Raise, Meet, Event, Ending, Outcome, Goes, Gives, Ends, idle, step_list, step}
+use Rattle.iso_model.specs.Search.Walker.{State, World, Member, Goal, CutTo, Fail, Leave, Raise, Meet, Gather, Event, Ending, Outcome, Goes, Gives, Ends, idle, step_list, step}
 use Rattle.iso_model.specs.Search.Runs.{Trace, Then, goes, gives, ends, Quiet, here, onward, Comes, Finishes}
 use Rattle.iso_model.specs.Search.Runs as runs
 use Rattle.iso_model.specs.Search.RunLaws.Named.{run_of, run_of_is, run_of_only}
@@ -40,6 +40,7 @@ begins (Fail ∷ ms) = inr (open_other refl)
 begins (Leave height ∷ ms) = inr (open_other refl)
 begins (Raise ball ∷ ms) = inr (open_other refl)
 begins (Meet ball catcher recovery ∷ ms) = inr (open_other refl)
+begins (Gather height template ∷ ms) = inr (open_other refl)
 
 -- a conjunction is taken apart
 taken_apart : (s : State) (a b : Body) (mark : ℕ) (others : List Member) → s.list ≡ Goal (And a b) mark ∷ others → step s ≡ Goes (record s { list = Goal a mark ∷ Goal b mark ∷ others })

@@ -10,14 +10,15 @@ use Rattle.iso_model.specs.Terms.Unifiers.{Unifier, IsUnifierOf}
 use Rattle.iso_model.specs.Terms.Unification.{unifier_of, unifier_of_is}
 use Rattle.iso_model.specs.Terms.Unification.Applied.{apply_apply, apply_same}
 use Rattle.iso_model.specs.Terms.Copies.{copy_from, renamed, place_of}
+use Rattle.iso_model.specs.Terms.Lists.{list_of}
 use Rattle.iso_model.specs.Search.Bodies.{Body, Cut, Run, And, Or, If, Choose, one, map_body, is_true}
 use Rattle.iso_model.specs.Search.Databases.{Clause, Key, key_of, clauses_at}
-use Rattle.iso_model.specs.Search.BuiltIns.{Reply, Fails, Succeeds, Equates, Raises, Calls, CallsOnce, Refutes, Repeats, Catches, Halts, built_in, reply}
+use Rattle.iso_model.specs.Search.BuiltIns.{Reply, Fails, Succeeds, Equates, EquatesCopy, Raises, Calls, CallsOnce, Refutes, Repeats, Catches, Gathers, Halts, built_in, reply}
 use Rattle.iso_model.specs.declared.built_ins.BuiltIn.{BuiltIn}
-use Rattle.iso_model.specs.Search.Walker.{State, World, Member, Goal, CutTo, Fail, Leave, Raise, Meet, Left, AsIs, Again, Clauses, Catching, Alternative, Event, Ending, Outcome, Goes, Gives, Ends, Answered, NoMore, Budget, Uncaught, Halted, charged, paid, before, entered, under, tried_clause, with_others, tried, retried, backtracked, unknown_called, called, equated, with_goal, replied, selected, run_goal, run_value, caught_at, caught, thrown, met, meets, fails, values, clause_size, shortened, cut_back, pushed, step_goal, step_list, step}
+use Rattle.iso_model.specs.Search.Walker.{State, World, Member, Goal, CutTo, Fail, Leave, Raise, Meet, Gather, Left, AsIs, Again, Clauses, Catching, Gathering, Alternative, Event, Ending, Outcome, Goes, Gives, Ends, Answered, NoMore, Budget, Uncaught, Halted, charged, paid, before, entered, under, tried_clause, with_others, tried, retried, backtracked, unknown_called, called, equated, with_goal, replied, selected, run_goal, run_value, caught_at, caught, thrown, met, meets, gathered, gathered_at, fails, values, clause_size, shortened, cut_back, pushed, step_goal, step_list, step, with_copy}
 use Rattle.iso_model.specs.Search.Runs.{Quiet, here, onward}
 use Rattle.iso_model.specs.Search.RunLaws.Values.{IsValue, IsOwnBody, IsOwnLeft, IsOwnReply, value_is, twice_on, reply_own}
-use Rattle.iso_model.specs.Search.RunLaws.Sameness.{put, flat, SameList, no_member, same_goal, same_construct, same_cut, same_failure, same_leave, same_ball, same_meeting, Agree, SameStack, no_alternative, same_alternative, Beside, Around, Same, going, failing}
+use Rattle.iso_model.specs.Search.RunLaws.Sameness.{put, flat, SameList, no_member, same_goal, same_construct, same_cut, same_failure, same_leave, same_ball, same_meeting, same_gathering, Agree, SameStack, no_alternative, same_alternative, Beside, Around, Same, going, failing}
 
 -- ---- substitutions
 
@@ -49,6 +50,7 @@ list_on u (same_failure others) = same_failure (list_on u others)
 list_on u (same_leave others) = same_leave (list_on u others)
 list_on u (same_ball others) = same_ball (list_on u others)
 list_on {r} {q} u (same_meeting {c = c} {d = d} {x = x} {y = y} catcher recovery others) = same_meeting (value_on r q u c d catcher) (value_on r q u x y recovery) (list_on u others)
+list_on {r} {q} u (same_gathering {c = c} {d = d} value others) = same_gathering (value_on r q u c d value) (list_on u others)
 
 map_on : (r u : Subst) (vs : List ℕ) → map (compose r u) vs ≡ map (apply u) (map r vs)
 map_on r u [] = refl
@@ -183,6 +185,7 @@ list_same (Fail ∷ ms) = same_failure (list_same ms)
 list_same (Leave height ∷ ms) = same_leave (list_same ms)
 list_same (Raise ball ∷ ms) = same_ball (list_same ms)
 list_same (Meet ball catcher recovery ∷ ms) = same_meeting refl refl (list_same ms)
+list_same (Gather height template ∷ ms) = same_gathering refl (list_same ms)
 
 pub stack_length : {vs ws : List ℕ} {xs ys : List Alternative} → SameStack vs ws xs ys → length xs ≡ length ys
 stack_length no_alternative = refl
@@ -196,6 +199,28 @@ dropped_same (suc n) (same_alternative agree next list left own other others) = 
 pub shortened_same : {vs ws : List ℕ} {xs ys : List Alternative} (height : ℕ) → SameStack vs ws xs ys → SameStack vs ws (shortened height xs) (shortened height ys)
 shortened_same {vs} {ws} {xs} {ys} height same =
     subst (λ (n : ℕ). SameStack vs ws (shortened height xs) (drop (n - height) ys)) (stack_length same) (dropped_same (length xs - height) same)
+
+-- what is gathered leaves values
+gathered_own : (r : Subst) (l : Left) (v : Tree) → IsOwnLeft r l → IsOwnLeft r (gathered l v)
+gathered_own r (Gathering result copies count) v own = own
+gathered_own r AsIs v own = own
+gathered_own r Again v own = own
+gathered_own r (Clauses call cs) v own = own
+gathered_own r (Catching catcher recovery) v own = own
+
+-- the same copy comes to both
+gathered_first : {vs ws : List ℕ} (a b : Alternative) {xs ys : List Alternative} (v : Tree) (here : Bool) → Agree a.subst b.subst vs ws a.next → a.next ≡ b.next → SameList a.subst b.subst (flat a.list) (flat b.list) → a.left ≡ b.left
+    → IsOwnLeft a.subst a.left → IsOwnLeft b.subst b.left → SameStack vs ws xs ys
+    → SameStack vs ws ((if here then record a { left = gathered a.left v } else a) ∷ xs) ((if here then record b { left = gathered b.left v } else b) ∷ ys)
+gathered_first a b v true agree next list left own other others =
+    same_alternative agree next list (ap (λ (l : Left). gathered l v) left) (gathered_own a.subst a.left v own) (gathered_own b.subst b.left v other) others
+gathered_first a b v false agree next list left own other others = same_alternative agree next list left own other others
+
+gathered_same : {vs ws : List ℕ} {xs ys : List Alternative} (height : ℕ) (v : Tree) → SameStack vs ws xs ys → SameStack vs ws (gathered_at height v xs) (gathered_at height v ys)
+gathered_same height v no_alternative = no_alternative
+gathered_same {vs} {ws} height v (same_alternative {a = a} {b = b} {xs = xs} {ys = ys} agree next list left own other others) =
+    subst (λ (n : ℕ). SameStack vs ws (gathered_at height v (a ∷ xs)) ((if n == height then record b { left = gathered b.left v } else b) ∷ gathered_at height v ys)) (stack_length others)
+    (gathered_first a b v (length xs == height) agree next list left own other (gathered_same height v others))
 
 -- ---- what steps come to
 
@@ -271,15 +296,54 @@ called_same s t ms ns (Some cs) k v own other at list = tried_same s t ms ns v c
 called_same s t ms ns None k v own other at list =
     subst (λ (w : World). Same (unknown_called s.world.flags.unknown k ms s) (unknown_called w.flags.unknown k ns t)) at.beside.world (unknown_same s t ms ns s.world.flags.unknown k at list)
 
-equated_same : (s t : State) (ms ns : List Member) (o : Option Subst) (a b : Tree) → AreValues s.subst t.subst a b → IsUnifierOf a b o → Around s t → SameList s.subst t.subst (flat ms) (flat ns)
-    → Same (equated (under s.subst o) ms (record s { built = s.built + 2 })) (equated (under t.subst o) ns (record t { built = t.built + 2 }))
-equated_same s t ms ns None a b are is at list = failing [] [] refl refl (record { stack = at.beside.stack; world = at.beside.world; steps = at.beside.steps })
-equated_same s t ms ns (Some u) a b are is at list = going (record { agree = agree_on u a b are is at.agree; next = at.next; beside = record { stack = at.beside.stack; world = at.beside.world; steps = at.beside.steps } }) (list_on u list)
+equated_same : (s t : State) (ms ns : List Member) (made : ℕ) (o : Option Subst) (a b : Tree) → AreValues s.subst t.subst a b → IsUnifierOf a b o → Around s t → SameList s.subst t.subst (flat ms) (flat ns)
+    → Same (equated (under s.subst o) ms (record s { built = s.built + made })) (equated (under t.subst o) ns (record t { built = t.built + made }))
+equated_same s t ms ns made None a b are is at list = failing [] [] refl refl (record { stack = at.beside.stack; world = at.beside.world; steps = at.beside.steps })
+equated_same s t ms ns made (Some u) a b are is at list = going (record { agree = agree_on u a b are is at.agree; next = at.next; beside = record { stack = at.beside.stack; world = at.beside.world; steps = at.beside.steps } }) (list_on u list)
+
+-- a term with other variables, none of which is used yet
+copied_same : (r q : Subst) (n : ℕ) (t : Tree) → ((x : ℕ) → n ≤ x → r x ≡ q x) → apply r (copy_from t n) ≡ apply q (copy_from t n)
+copied_same r q n t beyond =
+    let new : Subst = λ x. Variable (n + place_of x (variables t)) in
+    apply_apply new r t ∙ (apply_same (compose new r) (compose new q) t (λ x o. beyond (n + place_of x (variables t)) (omega arith)) ∙ sym (apply_apply new q t))
+
+-- a term was unified with a copy, or not
+copy_equated_same : (s t : State) (ms ns : List Member) (o : Option Subst) (a b c : Tree) → AreValues s.subst t.subst a c → IsUnifierOf a c o → Around s t → SameList s.subst t.subst (flat ms) (flat ns)
+    → Same (equated (under s.subst o) ms (with_copy b s)) (equated (under t.subst o) ns (with_copy b t))
+copy_equated_same s t ms ns None a b c are is at list = failing [] [] refl refl (record { stack = at.beside.stack; world = at.beside.world; steps = at.beside.steps })
+copy_equated_same s t ms ns (Some u) a b c are is at list = going (record {
+  agree = agree_more (variable_count b) (agree_on u a c are is at.agree);
+  next = ap (λ (n : ℕ). n + variable_count b) at.next;
+  beside = record { stack = at.beside.stack; world = at.beside.world; steps = at.beside.steps };
+}) (list_on u list)
+
+copies_same : (s t : State) (ms ns : List Member) (a b : Tree) → IsValue s.subst a → IsValue t.subst a → Around s t → SameList s.subst t.subst (flat ms) (flat ns) → SameOut (replied (EquatesCopy a b) ms s) (replied (EquatesCopy a b) ns t)
+copies_same s t ms ns a b own other at list =
+    let c = apply s.subst (copy_from b s.next) in
+    let same : c ≡ apply t.subst (copy_from b t.next) = copied_same s.subst t.subst s.next b at.agree.beyond ∙ ap (λ (n : ℕ). apply t.subst (copy_from b n)) at.next in
+    let are : AreValues s.subst t.subst a c = record {
+      first = own;
+      second = value_is s.subst (copy_from b s.next) at.agree.twice;
+      third = other;
+      fourth = subst (λ (z : Tree). IsValue t.subst z) (sym same) (value_is t.subst (copy_from b t.next) at.agree.other);
+    } in
+    subst (λ (z : Tree). SameOut (replied (EquatesCopy a b) ms s) (Goes (equated (under t.subst (unifier_of a z)) ns (with_copy b t)))) same
+    (both_go (copy_equated_same s t ms ns (unifier_of a c) a b c are (unifier_of_is a c) at list))
 
 -- an alternative before the stack, and then these lists
 pushed_same : (s t : State) (left : Left) (xs ys ms ns : List Member) → IsOwnLeft s.subst left → IsOwnLeft t.subst left → Around s t → SameList s.subst t.subst (flat xs) (flat ys) → SameList s.subst t.subst (flat ms) (flat ns)
     → Same (record (pushed xs left s) { list = ms }) (record (pushed ys left t) { list = ns })
 pushed_same s t left xs ys ms ns own other at kept list =
+    going (record {
+      agree = at.agree;
+      next = at.next;
+      beside = record { stack = same_alternative at.agree at.next kept refl own other at.beside.stack; world = at.beside.world; steps = at.beside.steps };
+    }) list
+
+-- so where the goal that is run is counted behind it
+pushed_goal_same : (s t : State) (left : Left) (b : Body) (xs ys ms ns : List Member) → IsOwnLeft s.subst left → IsOwnLeft t.subst left → Around s t → SameList s.subst t.subst (flat xs) (flat ys) → SameList s.subst t.subst (flat ms) (flat ns)
+    → Same (record (with_goal b (pushed xs left s)) { list = ms }) (record (with_goal b (pushed ys left t)) { list = ns })
+pushed_goal_same s t left b xs ys ms ns own other at kept list =
     going (record {
       agree = at.agree;
       next = at.next;
@@ -297,8 +361,9 @@ own_put r q b mark ms ns own other list = put_alike r q (flat ms) (flat ns) b b 
 replied_same : (s t : State) (ms ns : List Member) (r : Reply) → IsOwnReply s.subst r → IsOwnReply t.subst r → Around s t → SameList s.subst t.subst (flat ms) (flat ns) → SameOut (replied r ms s) (replied r ns t)
 replied_same s t ms ns Fails own other at list = both_go (fails_same at.beside)
 replied_same s t ms ns Succeeds own other at list = both_go (listed_same s t ms ns s.built t.built at list)
-replied_same s t ms ns (Equates a b) own other at list =
-    both_go (equated_same s t ms ns (unifier_of a b) a b (record { first = own.0; second = own.1; third = other.0; fourth = other.1 }) (unifier_of_is a b) at list)
+replied_same s t ms ns (EquatesCopy a b) own other at list = copies_same s t ms ns a b own other at list
+replied_same s t ms ns (Equates made a b) own other at list =
+    both_go (equated_same s t ms ns made (unifier_of a b) a b (record { first = own.0; second = own.1; third = other.0; fourth = other.1 }) (unifier_of_is a b) at list)
 replied_same s t ms ns (Raises error) own other at list = both_go (listed_same s t (Raise error ∷ ms) (Raise error ∷ ns) s.built t.built at (same_ball list))
 replied_same s t ms ns (Calls b) own other at list =
     let h = length s.stack in
@@ -328,6 +393,12 @@ replied_same s t ms ns (Catches inside catcher recovery) own other at list =
     } in
     subst (λ (k : ℕ). SameOut (replied inside (Leave h ∷ ms) u) (replied inside (Leave k ∷ ns) v)) (stack_length at.beside.stack)
     (replied_same u v (Leave h ∷ ms) (Leave h ∷ ns) inside own.0 other.0 around (same_leave list))
+replied_same s t ms ns (Gathers template b result) own other at list =
+    let h = length s.stack in
+    let left = Gathering result [] 0 in
+    subst (λ (k : ℕ). SameOut (replied (Gathers template b result) ms s) (Goes (record (with_goal b (pushed ns left t)) { list = Goal b (suc k) ∷ Gather k template ∷ ns }))) (stack_length at.beside.stack)
+    (both_go (pushed_goal_same s t left b ms ns (Goal b (suc h) ∷ Gather h template ∷ ms) (Goal b (suc h) ∷ Gather h template ∷ ns) own.2 other.2 at list
+    (own_put s.subst t.subst b (suc h) (Gather h template ∷ ms) (Gather h template ∷ ns) own.1 other.1 (same_gathering (own.0 ∙ sym other.0) list))))
 replied_same s t ms ns (Halts status) own other at list =
     subst (λ (w : World). SameOut (Ends (Halted status) s.world) (Ends (Halted status) w)) at.beside.world both_end
 replied_same s t ms ns Repeats own other at list = both_go (pushed_same s t Again ms ns ms ns tt tt at list list)
@@ -368,6 +439,9 @@ retried_same s t ms ns (Clauses call cs) own other first second at list =
     let here : SameList s.subst t.subst (flat s.list) (flat t.list) = rw (first, second) list in
     both_go (tried_same s t s.list t.list call cs own other at here)
 retried_same s t ms ns (Catching catcher recovery) own other first second at list = both_go (fails_same at.beside)
+retried_same s t ms ns (Gathering result copies count) own other first second at list =
+    let here : SameList s.subst t.subst (flat s.list) (flat t.list) = rw (first, second) list in
+    copies_same s t s.list t.list result (list_of copies) own other at here
 
 backtracked_same : {vs ws : List ℕ} {xs ys : List Alternative} (s t : State) → variables s.query ≡ vs → variables t.query ≡ ws → s.world ≡ t.world → s.steps ≡ t.steps → SameStack vs ws xs ys
     → SameOut (backtracked xs s) (backtracked ys t)
@@ -398,6 +472,7 @@ caught_at_same {vs} {ws} s t (Catching catcher recovery) a b xs ys ball o p firs
 caught_at_same s t AsIs a b xs ys ball o p first second h agree next list own other others out = out
 caught_at_same s t Again a b xs ys ball o p first second h agree next list own other others out = out
 caught_at_same s t (Clauses call cs) a b xs ys ball o p first second h agree next list own other others out = out
+caught_at_same s t (Gathering result copies count) a b xs ys ball o p first second h agree next list own other others out = out
 
 caught_same : {vs ws : List ℕ} {xs ys : List Alternative} (s t : State) (height : ℕ) (ball : Tree) (o p : Outcome) → variables s.query ≡ vs → variables t.query ≡ ws → Beside s t → SameStack vs ws xs ys → SameOut o p
     → SameOut (caught height xs ball s o) (caught height ys ball t p)
@@ -431,6 +506,7 @@ thrown_flat ball (Fail ∷ ms) s = thrown_flat ball ms s
 thrown_flat ball (Leave height ∷ ms) s = ap (caught height s.stack ball s) (thrown_flat ball ms s)
 thrown_flat ball (Raise other ∷ ms) s = thrown_flat ball ms s
 thrown_flat ball (Meet other catcher recovery ∷ ms) s = thrown_flat ball ms s
+thrown_flat ball (Gather height template ∷ ms) s = thrown_flat ball ms s
 
 thrown_same : {r q : Subst} {ms ns : List Member} (s t : State) (ball : Tree) → Beside s t → SameList r q ms ns → SameOut (thrown ball ms s) (thrown ball ns t)
 thrown_same s t ball h no_member = subst (λ (w : World). SameOut (Ends (Uncaught ball) s.world) (Ends (Uncaught ball) w)) h.world both_end
@@ -442,15 +518,10 @@ thrown_same s t ball h (same_leave {height = height} {ms = ms} {ns = ns} list) =
     caught_same s t height ball (thrown ball ms s) (thrown ball ns t) refl refl h h.stack (thrown_same s t ball h list)
 thrown_same s t ball h (same_ball list) = thrown_same s t ball h list
 thrown_same s t ball h (same_meeting catcher recovery list) = thrown_same s t ball h list
+thrown_same s t ball h (same_gathering value list) = thrown_same s t ball h list
 
 thrown_lists : (s t : State) (ball : Tree) (ms ns : List Member) → Beside s t → SameList s.subst t.subst (flat ms) (flat ns) → SameOut (thrown ball ms s) (thrown ball ns t)
 thrown_lists s t ball ms ns h list = rw (thrown_flat ball ms s, thrown_flat ball ns t) at (thrown_same s t ball h list)
-
--- a term with other variables, none of which is used yet
-copied_same : (r q : Subst) (n : ℕ) (t : Tree) → ((x : ℕ) → n ≤ x → r x ≡ q x) → apply r (copy_from t n) ≡ apply q (copy_from t n)
-copied_same r q n t beyond =
-    let new : Subst = λ x. Variable (n + place_of x (variables t)) in
-    apply_apply new r t ∙ (apply_same (compose new r) (compose new q) t (λ x o. beyond (n + place_of x (variables t)) (omega arith)) ∙ sym (apply_apply new q t))
 
 -- the catcher met the ball, or not
 met_same : (s t : State) (ms ns : List Member) (o : Option Subst) (a b ball x y : Tree) → AreValues s.subst t.subst a b → IsUnifierOf a b o → apply s.subst x ≡ apply t.subst y → Around s t → SameList s.subst t.subst (flat ms) (flat ns)
@@ -506,6 +577,7 @@ is_goal Fail = false
 is_goal (Leave height) = false
 is_goal (Raise ball) = false
 is_goal (Meet ball catcher recovery) = false
+is_goal (Gather height template) = false
 
 -- the list's first member is no conjunction
 pub data Open : List Member → Type 0 where
@@ -529,6 +601,7 @@ open_list (Fail ∷ ms) = Fail ∷ ms
 open_list (Leave height ∷ ms) = Leave height ∷ ms
 open_list (Raise ball ∷ ms) = Raise ball ∷ ms
 open_list (Meet ball catcher recovery ∷ ms) = Meet ball catcher recovery ∷ ms
+open_list (Gather height template ∷ ms) = Gather height template ∷ ms
 
 -- the state whose first member is no conjunction
 abbrev pub opened : State → State
@@ -550,6 +623,7 @@ list_is_open (Fail ∷ ms) = open_other refl
 list_is_open (Leave height ∷ ms) = open_other refl
 list_is_open (Raise ball ∷ ms) = open_other refl
 list_is_open (Meet ball catcher recovery ∷ ms) = open_other refl
+list_is_open (Gather height template ∷ ms) = open_other refl
 
 body_flat : (b : Body) (mark : ℕ) (ms : List Member) → flat (open_body b mark ms) ≡ put b mark (flat ms)
 body_flat (And a b) mark ms = body_flat a mark (Goal b mark ∷ ms)
@@ -567,6 +641,7 @@ list_flat (Fail ∷ ms) = refl
 list_flat (Leave height ∷ ms) = refl
 list_flat (Raise ball ∷ ms) = refl
 list_flat (Meet ball catcher recovery ∷ ms) = refl
+list_flat (Gather height template ∷ ms) = refl
 
 parts_step : (s : State) (a b : Body) (mark : ℕ) (ms : List Member) → step (record s { list = Goal (And a b) mark ∷ ms }) ≡ Goes (record s { list = Goal a mark ∷ Goal b mark ∷ ms })
 unfolding step
@@ -592,6 +667,7 @@ list_quiet s (Fail ∷ ms) = here
 list_quiet s (Leave height ∷ ms) = here
 list_quiet s (Raise ball ∷ ms) = here
 list_quiet s (Meet ball catcher recovery ∷ ms) = here
+list_quiet s (Gather height template ∷ ms) = here
 
 -- a state comes quietly to the one whose first member is no conjunction
 pub opens : (s : State) → Quiet s (opened s)
@@ -682,6 +758,14 @@ flat_other Fail ms other = refl
 flat_other (Leave height) ms other = refl
 flat_other (Raise ball) ms other = refl
 flat_other (Meet ball catcher recovery) ms other = refl
+flat_other (Gather height template) ms other = refl
+
+-- a solution is gathered in both
+gathers_same : (s t : State) (height : ℕ) (c d : Tree) → apply s.subst c ≡ apply t.subst d → Around s t
+    → Same (fails (record s { stack = gathered_at height (apply s.subst c) s.stack })) (fails (record t { stack = gathered_at height (apply t.subst d) t.stack }))
+gathers_same s t height c d value at =
+    subst (λ (v : Tree). Same (fails (record s { stack = gathered_at height (apply s.subst c) s.stack })) (fails (record t { stack = gathered_at height v t.stack }))) value
+    (fails_same {s = record s { stack = gathered_at height (apply s.subst c) s.stack }} {t = record t { stack = gathered_at height (apply s.subst c) t.stack }} (record { stack = gathered_same height (apply s.subst c) at.beside.stack; world = at.beside.world; steps = at.beside.steps }))
 
 others_alike : (s t : State) {m n : Member} (ms ns : List Member) → is_goal m ≡ false → Around s t → SameList s.subst t.subst (m ∷ flat ms) (n ∷ flat ns) → SameOut (step_list (m ∷ ms) s) (step_list (n ∷ ns) t)
 others_alike s t ms ns other at (same_goal value list) = absurd (cc)
@@ -691,6 +775,7 @@ others_alike s t ms ns other at (same_failure list) = failing_same s t at.beside
 others_alike s t ms ns other at (same_leave list) = both_go (listed_same s t ms ns s.built t.built at list)
 others_alike s t ms ns other at (same_ball {ball = ball} list) = thrown_lists s t ball ms ns at.beside list
 others_alike s t ms ns other at (same_meeting {ball = ball} {c = c} {d = d} {x = x} {y = y} catcher recovery list) = both_go (meets_same s t ball c d x y ms ns catcher recovery at list)
+others_alike s t ms ns other at (same_gathering {height = h} {c = c} {d = d} value list) = both_go (gathers_same s t h c d value at)
 
 -- no list begins with a goal where the other doesn't
 abbrev begins_with_goal : List Member → Bool
@@ -706,6 +791,7 @@ firsts_same (same_failure others) = refl
 firsts_same (same_leave others) = refl
 firsts_same (same_ball others) = refl
 firsts_same (same_meeting catcher recovery others) = refl
+firsts_same (same_gathering value others) = refl
 
 no_first : {r q : Subst} {n : Member} {ns : List Member} → SameList r q [] (n ∷ ns) → ⊥
 no_first h = elim h [ ]

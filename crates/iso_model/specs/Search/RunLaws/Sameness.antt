@@ -6,7 +6,7 @@ use Rattle.iso_model.specs.Terms.Variables.{variables}
 use Rattle.iso_model.specs.Terms.Substitutions.{Subst, apply}
 use Rattle.iso_model.specs.Search.Bodies.{Body, Cut, Run, And, Or, If, Choose, map_body}
 use Rattle.iso_model.specs.Search.RunLaws.Values.{IsTwice, IsOwnLeft}
-use Rattle.iso_model.specs.Search.Walker.{State, Member, Goal, CutTo, Fail, Leave, Raise, Meet, Alternative}
+use Rattle.iso_model.specs.Search.Walker.{State, Member, Goal, CutTo, Fail, Leave, Raise, Meet, Gather, Alternative}
 
 -- a body's goals before what follows, its conjunctions taken apart
 abbrev pub put : Body → ℕ → List Member → List Member
@@ -26,6 +26,7 @@ flat (Fail ∷ ms) = Fail ∷ flat ms
 flat (Leave height ∷ ms) = Leave height ∷ flat ms
 flat (Raise ball ∷ ms) = Raise ball ∷ flat ms
 flat (Meet ball catcher recovery ∷ ms) = Meet ball catcher recovery ∷ flat ms
+flat (Gather height template ∷ ms) = Gather height template ∷ flat ms
 
 -- Two lists without conjunctions have the same goals under these substitutions. No goal but a control construct reads its mark. What follows failure
 -- or a ball is never run, but a ball looks there for the ends of catches.
@@ -38,6 +39,7 @@ pub data SameList (r q : Subst) : List Member → List Member → Type 0 where
   same_leave : {height : ℕ} {ms ns : List Member} → SameList r q ms ns → SameList r q (Leave height ∷ ms) (Leave height ∷ ns)
   same_ball : {ball : Tree} {ms ns : List Member} → SameList r q ms ns → SameList r q (Raise ball ∷ ms) (Raise ball ∷ ns)
   same_meeting : {ball c d x y : Tree} {ms ns : List Member} → apply r c ≡ apply q d → apply r x ≡ apply q y → SameList r q ms ns → SameList r q (Meet ball c x ∷ ms) (Meet ball d y ∷ ns)
+  same_gathering : {height : ℕ} {c d : Tree} {ms ns : List Member} → apply r c ≡ apply q d → SameList r q ms ns → SameList r q (Gather height c ∷ ms) (Gather height d ∷ ns)
 
 -- The substitutions give the queries' variables the same values, agree on the numbers that are not used yet, and leave their own terms as they are.
 pub record Agree (r q : Subst) (vs ws : List ℕ) (n : ℕ) : Type 0 where

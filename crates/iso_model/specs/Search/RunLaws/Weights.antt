@@ -6,9 +6,10 @@ use Rattle.iso_model.specs.Terms.Sizes.{size}
 use Rattle.iso_model.specs.Terms.Substitutions.{Subst, apply}
 use Rattle.iso_model.specs.Terms.Unification.{unifier_of}
 use Rattle.iso_model.specs.Terms.Copies.{copy_from, renamed}
+use Rattle.iso_model.specs.Terms.Lists.{list_of}
 use Rattle.iso_model.specs.Search.Bodies.{Body, Cut, Run, And, Or, If, Choose, map_body, is_true}
 use Rattle.iso_model.specs.Search.Databases.{Clause}
-use Rattle.iso_model.specs.Search.Walker.{State, Member, Goal, CutTo, Fail, Leave, Raise, Meet, Left, AsIs, Again, Clauses, Catching, Alternative, Outcome, Goes, Gives, Ends, charged, paid, before, entered, pushed, with_others, tried, retried, backtracked, caught_at, caught, thrown, met, meets, step_goal, step_list, step, run_value, under, clause_size}
+use Rattle.iso_model.specs.Search.Walker.{State, Member, Goal, CutTo, Fail, Leave, Raise, Meet, Gather, Left, AsIs, Again, Clauses, Catching, Gathering, Alternative, Outcome, Goes, Gives, Ends, charged, paid, before, entered, pushed, with_others, tried, retried, backtracked, caught_at, caught, thrown, met, meets, gathered, gathered_at, replied, step_goal, step_list, step, run_value, under, clause_size, equated, with_copy}
 
 -- a body, before what weighs r
 abbrev pub body_weight : Body → ℕ → ℕ
@@ -19,7 +20,8 @@ body_weight (Or a b) r = 2 + (body_weight a r + body_weight b r)
 body_weight (If c t) r = suc (body_weight c (suc (body_weight t r)))
 body_weight (Choose c t e) r = 2 + (body_weight c (suc (body_weight t r)) + body_weight e r)
 
--- Failure drops what follows it, and so does a thrown ball: the list that it goes on with is that of a catch's alternative.
+-- Failure drops what follows it, and so does a solution that is gathered, and a thrown ball: the list that it goes on with is that of a catch's
+-- alternative.
 abbrev pub list_weight : List Member → ℕ
 list_weight [] = 1
 list_weight (CutTo height ∷ rest) = suc (list_weight rest)
@@ -27,6 +29,7 @@ list_weight (Fail ∷ rest) = 0
 list_weight (Leave height ∷ rest) = suc (list_weight rest)
 list_weight (Raise ball ∷ rest) = 1
 list_weight (Meet ball catcher recovery ∷ rest) = 2 + list_weight rest
+list_weight (Gather height template ∷ rest) = 1
 list_weight (Goal b mark ∷ rest) = body_weight b (list_weight rest)
 
 -- clauses, each before what weighs r
@@ -39,6 +42,7 @@ left_weight AsIs r = suc r
 left_weight Again r = 1
 left_weight (Clauses call cs) r = clauses_weight cs r
 left_weight (Catching catcher recovery) r = 2 + r
+left_weight (Gathering result copies count) r = suc r
 
 abbrev pub stack_weight : List Alternative → ℕ
 stack_weight [] = 0
@@ -124,6 +128,23 @@ tried_lighter call (c ∷ cs) rest s =
     let light = t.lighter in
     record { steps = t.steps ∙ others.0; lighter = omega arith }
 
+-- what is gathered weighs nothing
+left_gathered_weight : (l : Left) (t : Tree) (r : ℕ) → left_weight (gathered l t) r ≡ left_weight l r
+left_gathered_weight (Gathering result copies count) t r = refl
+left_gathered_weight AsIs t r = refl
+left_gathered_weight Again t r = refl
+left_gathered_weight (Clauses call cs) t r = refl
+left_gathered_weight (Catching catcher recovery) t r = refl
+
+gathered_weight : (height : ℕ) (t : Tree) (stack : List Alternative) → stack_weight (gathered_at height t stack) ≡ stack_weight stack
+gathered_weight height t [] = refl
+gathered_weight height t (a ∷ below) =
+    let others = gathered_weight height t below in
+    elim (length below == height) as (λ here. stack_weight ((if here then record a { left = gathered a.left t } else a) ∷ gathered_at height t below) ≡ stack_weight (a ∷ below)) [
+      | true ↦ ap₂ (λ m n. m + n) (left_gathered_weight a.left t (list_weight a.list)) others
+      | false ↦ ap (λ n. left_weight a.left (list_weight a.list) + n) others
+    ]
+
 charged_progress : (n k w : ℕ) (o : Outcome) → k < n → Progress n w (charged k o)
 charged_progress n k w (Goes t) h = inl h
 charged_progress n k w (Gives e t) h = inl h
@@ -134,11 +155,18 @@ paid_progress : (n w : ℕ) (s : State) (o : Outcome) → Progress n w (paid n s
 paid_progress zero w s o = tt
 paid_progress (suc n) w s o = charged_progress (suc n) n w o (omega arith)
 
+equated_lighter : (u : Option Subst) (rest : List Member) (s : State) → Lighter s.steps (suc (list_weight rest) + stack_weight s.stack) (equated u rest s)
+equated_lighter None rest s = record { steps = refl; lighter = omega arith }
+equated_lighter (Some u) rest s = record { steps = refl; lighter = omega arith }
+
 retried_progress : (l : Left) (s : State) → Progress s.steps (left_weight l (list_weight s.list) + stack_weight s.stack) (retried l s)
 retried_progress AsIs s = inr (record { steps = refl; lighter = omega arith })
 retried_progress Again s = paid_progress s.steps (1 + stack_weight s.stack) s (Goes (pushed s.list Again s))
 retried_progress (Clauses call cs) s = inr (tried_lighter call cs s.list s)
 retried_progress (Catching catcher recovery) s = inr (record { steps = refl; lighter = omega arith })
+retried_progress (Gathering result copies count) s =
+    let t = equated_lighter (under s.subst (unifier_of result (apply s.subst (copy_from (list_of copies) s.next)))) s.list (with_copy (list_of copies) s) in
+    inr (record { steps = t.steps; lighter = t.lighter })
 
 backtracked_progress : (stack : List Alternative) (s : State) → Progress s.steps (stack_weight stack) (backtracked stack s)
 backtracked_progress [] s = tt
@@ -150,6 +178,7 @@ caught_at_progress (Catching catcher recovery) a below ball s o w less other = i
 caught_at_progress AsIs a below ball s o w less other = other
 caught_at_progress Again a below ball s o w less other = other
 caught_at_progress (Clauses call cs) a below ball s o w less other = other
+caught_at_progress (Gathering result copies count) a below ball s o w less other = other
 
 caught_progress : (height : ℕ) (stack : List Alternative) (ball : Tree) (s : State) (o : Outcome) (w : ℕ) → stack_weight stack < w → Progress s.steps w o → Progress s.steps w (caught height stack ball s o)
 caught_progress height [] ball s o w less other = other
@@ -168,6 +197,7 @@ thrown_progress ball (CutTo height ∷ rest) w s less = thrown_progress ball res
 thrown_progress ball (Fail ∷ rest) w s less = thrown_progress ball rest w s less
 thrown_progress ball (Raise other ∷ rest) w s less = thrown_progress ball rest w s less
 thrown_progress ball (Meet other catcher recovery ∷ rest) w s less = thrown_progress ball rest w s less
+thrown_progress ball (Gather height template ∷ rest) w s less = thrown_progress ball rest w s less
 
 met_lighter : (u : Option Subst) (ball recovery : Tree) (rest : List Member) (s : State) → Lighter s.steps (2 + list_weight rest + stack_weight s.stack) (met u ball recovery rest s)
 met_lighter None ball recovery rest s = record { steps = refl; lighter = omega arith }
@@ -194,6 +224,9 @@ list_progress (Raise ball ∷ rest) s = thrown_progress ball rest (1 + stack_wei
 list_progress (Meet ball catcher recovery ∷ rest) s =
     let t = met_lighter (under s.subst (unifier_of (apply s.subst catcher) (apply s.subst (copy_from ball s.next)))) ball recovery rest (record s { built = s.built + size ball }) in
     inr (record { steps = t.steps; lighter = t.lighter })
+list_progress (Gather height template ∷ rest) s =
+    let same = gathered_weight height (apply s.subst template) s.stack in
+    inr (record { steps = refl; lighter = omega arith })
 list_progress (Goal b mark ∷ rest) s = goal_progress b mark rest s
 
 pub step_progress : (s : State) → Progress s.steps (weight s) (step s)

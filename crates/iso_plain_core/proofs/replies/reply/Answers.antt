@@ -11,13 +11,13 @@ use Rattle.iso_plain_core.proofs.replies.reply.Goals as goal
 pub place_called-requires-clause-some : goal.place_called-requires-clause-some
 place_called-requires-clause-some g c = (rw c.in-Call.is at (built_in_arguments (meaning (g.S.Store.present c.args.store.now) c.args.goal) c.args.built_in c.requires.built_in)).0
 
-pub place_argument-requires-clause-some : goal.place_argument-requires-clause-some
-place_argument-requires-clause-some g c =
+pub place_argument-requires-clause-index : goal.place_argument-requires-clause-index
+place_argument-requires-clause-index g c =
     let one : arity (meaning (g.S.Store.present c.args.store.now) c.args.goal) ≡ 1 = rw c.in-Once.is at (built_in_arguments _ c.args.built_in c.requires.built_in) in
     omega (arith, one)
 
-pub place_argument-requires-in-Not-clause-some : goal.place_argument-requires-in-Not-clause-some
-place_argument-requires-in-Not-clause-some g c =
+pub place_argument-requires-in-Not-clause-index : goal.place_argument-requires-in-Not-clause-index
+place_argument-requires-in-Not-clause-index g c =
     let one : arity (meaning (g.S.Store.present c.args.store.now) c.args.goal) ≡ 1 = rw c.in-Not.is at (built_in_arguments _ c.args.built_in c.requires.built_in) in
     omega (arith, one)
 
@@ -53,8 +53,8 @@ library-requires-clause-arity g c = rw c.in-Library.is at (built_in_arguments (m
 
 -- ---- catches, balls and the session's end
 
-pub place_argument-requires-in-Catch-clause-some : goal.place_argument-requires-in-Catch-clause-some
-place_argument-requires-in-Catch-clause-some g c =
+pub place_argument-requires-in-Catch-clause-index : goal.place_argument-requires-in-Catch-clause-index
+place_argument-requires-in-Catch-clause-index g c =
     let three : arity (meaning (g.S.Store.present c.args.store.now) c.args.goal) ≡ 3 = rw c.in-Catch.is at (built_in_arguments _ c.args.built_in c.requires.built_in) in
     omega (arith, three)
 
@@ -75,3 +75,6 @@ returns-in_ok-place_argument-in-Catch-clause-replies g c =
 pub returns-in-HaltWith-clause-replies : goal.returns-in-HaltWith-clause-replies
 returns-in-HaltWith-clause-replies g c =
     rw c.in-HaltWith.is (IfOk-weaker c.halted.result _ _ (halt_replied (g.S.Store.present c.args.store.now) c.args.nodes.now.items (reply built_in.HaltWith (meaning (g.S.Store.present c.args.store.now) c.args.goal))) c.halted.ensures.halts)
+
+pub findall-requires-clause-three : goal.findall-requires-clause-three
+findall-requires-clause-three g c = rw c.in-Findall.is at (built_in_arguments (meaning (g.S.Store.present c.args.store.now) c.args.goal) c.args.built_in c.requires.built_in)

@@ -31,4 +31,4 @@ returns-clause-cells g c =
     let vs = c.args.variables.now in
     let t = term_of c.args.term.now in
     let grows = rw c.written.ensures.present at (c.instantiate.ensures.cells _ c.in_ok-pattern.ensures.pattern) in
-    rw (sym (cells-renamed (λ x. place_of x vs) g.C.Cells.width t)) grows
+    rw (sym (cells-renamed (λ x. place_of x vs) g.C.Cells.atomic g.C.Cells.width t)) grows

@@ -28,8 +28,8 @@ returns-in_err-make_part-clause-cells g c t pattern =
     let part = c.part-item.result in
     let whole = subst (λ js. IsPattern names js t) (sym c.deref-part-items.ensures.value) pattern in
     let count = gathers-count s (so_far names ks i) c.loop-part.invariant.gathers in
-    let same = ap (λ n. part_cells g.C.Cells.width n part) count in
-    let within = cells-more names ks t whole g.C.Cells.width i part c.loop-part-test.true c.part-item.is in
+    let same = ap (λ n. part_cells g.C.Cells.atomic g.C.Cells.width n part) count in
+    let within = cells-more names ks t whole g.C.Cells.atomic g.C.Cells.width i part c.loop-part-test.true c.part-item.is in
     grows-on _ c.loop-part.invariant.cells c.make_part.ensures.cells (omega arith)
 
 pub loop-part-preserved : goal.loop-part-preserved
@@ -45,8 +45,8 @@ loop-part-preserved g c =
     let next = next-part names ks i part c.loop-part-test.true c.part-item.is in
     let count = gathers-count s (so_far names ks i) so.gathers in
     let made = rw so.names at c.in_ok-make_part.ensures.gathers in
-    let one = part-grows names g.C.Cells.width part (so_far names ks i) in
-    let same = ap (λ n. part_cells g.C.Cells.width n part) count in
+    let one = part-grows names g.C.Cells.atomic g.C.Cells.width part (so_far names ks i) in
+    let same = ap (λ n. part_cells g.C.Cells.atomic g.C.Cells.width n part) count in
     record {
       gathers = rw (index, next) (gathers-part names c.args.variables.now c.requires.variables (so_far names ks i) part so.gathers made);
       numbers = numbers-then so.numbers c.in_ok-make_part.ensures.numbers;

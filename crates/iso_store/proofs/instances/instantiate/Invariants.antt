@@ -12,7 +12,7 @@ invariant-loop-part g l = record {
   gathers : Gathers (g.C.Cells.present l.fn.store) (g.C.Cells.present l.store) l.words.items
       (map (apply (at_places (map (g.C.Cells.present l.fn.store).term l.variables))) (after_parts (g.C.Cells.names l.fn.store) (take l.part-index l.part-items) []));
   numbers : KeepsNumbers (g.C.Cells.present l.fn.store) (g.C.Cells.present l.store);
-  cells : Grows (g.C.Cells.present l.fn.store) (g.C.Cells.present l.store) (cells_of g.C.Cells.width (row (after_parts (g.C.Cells.names l.fn.store) (take l.part-index l.part-items) [])));
+  cells : Grows (g.C.Cells.present l.fn.store) (g.C.Cells.present l.store) (cells_of g.C.Cells.atomic g.C.Cells.width (row (after_parts (g.C.Cells.names l.fn.store) (take l.part-index l.part-items) [])));
   names : g.C.Cells.names l.store ≡ g.C.Cells.names l.fn.store;
   marks : KeepsMarks (g.C.Cells.stands l.fn.store) (g.C.Cells.stands l.store);
 }

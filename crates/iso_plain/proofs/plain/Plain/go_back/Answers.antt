@@ -1,4 +1,4 @@
-use Rattle.std.proofs.Common.{◌≡◌, ◌<◌, ◌-◌, length, arith, Some}
+use Rattle.std.proofs.Common.{◌≡◌, ◌<◌, ◌-◌, length, arith, refl, Some}
 use Rattle.std.specs.List.{slice_get}
 use Rattle.iso_plain.proofs.BackLemmas.{get_at, goes_back, back_costs}
 use Rattle.iso_plain_core.proofs.StandingLemmas.{newest}
@@ -22,7 +22,7 @@ returns-clause-back g c = λ s is.
     let last : slice_get choices (length choices - 1) ≡ Some c.index-choice.result.now = get_at choices (length choices - 1) c.index-choice.result.now within (rw many at c.index-choice.ensures) in
     let b = goes_back g.S.Store.names g.S.Store.present g.S.Store.stands g.S.Store.older c.args.self.now c.undo.new.self c.truncate.new.self c.truncate-2.new.self c.index-choice.result.now s is last c.undo.ensures.back c.undo.ensures.stands
     c.undo.ensures.marks (same_texts c.undo.ensures.names) c.truncate.ensures.items c.truncate-2.ensures.items in
-    (b.alternative, b.below, b.is, b.went))
+    (c.index-choice.result.now, b.alternative, b.below, b.is, refl, b.went))
 
 pub returns-clause-costs : goal.returns-clause-costs
 returns-clause-costs g c =

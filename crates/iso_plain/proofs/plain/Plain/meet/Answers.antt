@@ -36,7 +36,7 @@ call_recovery-requires g c =
     let after = c.forget.new.self in
     let same : record c.meets.new.self { store = after } ≡ record e { store = after } = ap (λ (x : Plain _ _ _). record x { store = after }) c.meets.ensures.same in
     let met = c.in_ok-meets.ensures.met s ball c.args.next (same_meets g.S.Store.names g.S.Store.present g.S.Store.stands g.S.Store.older e c.args.goal ball s c.args.next h c.mark-mark.new.self c.mark-mark.ensures.marks (same_texts c.mark-mark.ensures.names) c.mark-mark.ensures.present) in
-    let u = unified_same (g.S.Store.present c.mark-mark.new.self) (g.S.Store.present c.meets.new.self.store) (g.S.Store.present e.store) (g.S.Store.present after) c.in_ok-meets.field-0 c.mark-mark.ensures.present c.forget.ensures.present c.if-branch.true met in
+    let u = unified_same _ _ (g.S.Store.present c.mark-mark.new.self) (g.S.Store.present c.meets.new.self.store) (g.S.Store.present e.store) (g.S.Store.present after) c.in_ok-meets.field-0 c.mark-mark.ensures.present c.forget.ensures.present c.if-branch.true met in
     let there = unified_recovers g.S.Store.names g.S.Store.present g.S.Store.stands g.S.Store.older e c.args.goal ball s c.args.next h after
     (λ m p stood. c.forget.ensures.marks m p (c.mark-mark.ensures.older m p stood) (c.meets.ensures.marks m p (c.mark-mark.ensures.marks m p stood)))
     (λ place text stood. same_texts c.forget.ensures.names place text (c.meets.ensures.names place text (same_texts c.mark-mark.ensures.names place text stood))) c.arg-recovery.result c.arg-recovery.ensures.holds u in
@@ -49,7 +49,7 @@ returns-then-branch-clause-met g c = λ s ball h.
     let after = c.forget.new.self in
     let same : record c.meets.new.self { store = after } ≡ record e { store = after } = ap (λ (x : Plain _ _ _). record x { store = after }) c.meets.ensures.same in
     let met = c.in_ok-meets.ensures.met s ball c.args.next (same_meets g.S.Store.names g.S.Store.present g.S.Store.stands g.S.Store.older e c.args.goal ball s c.args.next h c.mark-mark.new.self c.mark-mark.ensures.marks (same_texts c.mark-mark.ensures.names) c.mark-mark.ensures.present) in
-    let u = unified_same (g.S.Store.present c.mark-mark.new.self) (g.S.Store.present c.meets.new.self.store) (g.S.Store.present e.store) (g.S.Store.present after) c.in_ok-meets.field-0 c.mark-mark.ensures.present c.forget.ensures.present c.if-branch.true met in
+    let u = unified_same _ _ (g.S.Store.present c.mark-mark.new.self) (g.S.Store.present c.meets.new.self.store) (g.S.Store.present e.store) (g.S.Store.present after) c.in_ok-meets.field-0 c.mark-mark.ensures.present c.forget.ensures.present c.if-branch.true met in
     let there = unified_recovers g.S.Store.names g.S.Store.present g.S.Store.stands g.S.Store.older e c.args.goal ball s c.args.next h after
     (λ m p stood. c.forget.ensures.marks m p (c.mark-mark.ensures.older m p stood) (c.meets.ensures.marks m p (c.mark-mark.ensures.marks m p stood)))
     (λ place text stood. same_texts c.forget.ensures.names place text (c.meets.ensures.names place text (same_texts c.mark-mark.ensures.names place text stood))) c.arg-recovery.result c.arg-recovery.ensures.holds u in
@@ -65,7 +65,7 @@ returns-then-branch-clause-kept g c = λ s ball h.
     let after = c.forget.new.self in
     let same : record c.meets.new.self { store = after } ≡ record e { store = after } = ap (λ (x : Plain _ _ _). record x { store = after }) c.meets.ensures.same in
     let met = c.in_ok-meets.ensures.met s ball c.args.next (same_meets g.S.Store.names g.S.Store.present g.S.Store.stands g.S.Store.older e c.args.goal ball s c.args.next h c.mark-mark.new.self c.mark-mark.ensures.marks (same_texts c.mark-mark.ensures.names) c.mark-mark.ensures.present) in
-    let u = unified_same (g.S.Store.present c.mark-mark.new.self) (g.S.Store.present c.meets.new.self.store) (g.S.Store.present e.store) (g.S.Store.present after) c.in_ok-meets.field-0 c.mark-mark.ensures.present c.forget.ensures.present c.if-branch.true met in
+    let u = unified_same _ _ (g.S.Store.present c.mark-mark.new.self) (g.S.Store.present c.meets.new.self.store) (g.S.Store.present e.store) (g.S.Store.present after) c.in_ok-meets.field-0 c.mark-mark.ensures.present c.forget.ensures.present c.if-branch.true met in
     let there = unified_recovers g.S.Store.names g.S.Store.present g.S.Store.stands g.S.Store.older e c.args.goal ball s c.args.next h after
     (λ m p stood. c.forget.ensures.marks m p (c.mark-mark.ensures.older m p stood) (c.meets.ensures.marks m p (c.mark-mark.ensures.marks m p stood)))
     (λ place text stood. same_texts c.forget.ensures.names place text (c.meets.ensures.names place text (same_texts c.mark-mark.ensures.names place text stood))) c.arg-recovery.result c.arg-recovery.ensures.holds u in

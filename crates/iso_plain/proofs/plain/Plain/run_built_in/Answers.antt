@@ -1,4 +1,4 @@
-use Rattle.std.proofs.Common.{◌≡◌, ◌-◌, length, ap, refl, subst}
+use Rattle.std.proofs.Common.{◌≡◌, ◌-◌, length, ap, refl, subst, arith}
 use Rattle.std.proofs.lemmas.Result.{on_err_weaker}
 use Rattle.iso_model.specs.Terms.TermOf.{term_of}
 use Rattle.iso_model.specs.Search.BuiltIns.{reply}
@@ -14,11 +14,18 @@ use Rattle.iso_plain.proofs.StoppedLemmas.{keeps_all, keeps_more}
 use Rattle.iso_plain.proofs.SearchMoves.{stops_here}
 use Rattle.iso_plain.proofs.RunMoves.{at, if_ok_map}
 use Rattle.iso_plain.proofs.RunCosts.{behind_less, step_weight, goes_falls, fails_falls, throws_falls, calls_falls}
-use Rattle.iso_plain.proofs.ReplyMoves.{went_on, failed_on, raised_by, calls_by, once_by, refutes_by, repeats_by, catches_by, halts_by, inside_calls, inside_raises, places_unbound, goes_on, fails_now, unbound_ahead, raises_now, halts_now, after, enters_catch, calls_inside_now, call_inside_stops, call_inside_over, throws_inside_now, throw_inside_stops, throw_inside_over, called, called_ahead, calls_now, once_now, once_stops, refutes_now, refute_stops, refute_over, repeating, repeating_ahead, repeats_now, repeat_stops, repeat_over}
+use Rattle.iso_plain.proofs.ReplyMoves.{went_on, failed_on, raised_by, calls_by, once_by, refutes_by, repeats_by, catches_by, halts_by, gathers_by, inside_calls, inside_raises, places_unbound, goes_on, fails_now, unbound_ahead, raises_now, halts_now, after, enters_catch, calls_inside_now, call_inside_stops, call_inside_over, throws_inside_now, throw_inside_stops, throw_inside_over, called, called_ahead, calls_now, once_now, once_stops, refutes_now, refute_stops, refute_over, repeating, repeating_ahead, repeats_now, repeat_stops, repeat_over, behind_findall, enters_findall, finds_now, find_stops, find_over}
 use Rattle.iso_plain.proofs.plain.Plain.run_built_in.Goals as goal
 
 pub reply-requires-clause-goal : goal.reply-requires-clause-goal
 reply-requires-clause-goal g c = (at g.S.Store.names g.S.Store.present g.S.Store.stands g.S.Store.older c.args.self.now c.requires.stands.0 c.args.frame c.args.place c.args.goal c.requires.now c.requires.there c.requires.stands.1).holds
+
+pub reply-requires-clause-next : goal.reply-requires-clause-next
+reply-requires-clause-next g c =
+    let goes = (at g.S.Store.names g.S.Store.present g.S.Store.stands g.S.Store.older c.args.self.now c.requires.stands.0 c.args.frame c.args.place c.args.goal c.requires.now c.requires.there c.requires.stands.1).ahead.goes in
+    let room = goes.room in
+    let next = goes.next in
+    omega (arith, room, next)
 
 pub reply-requires-clause-vocabulary : goal.reply-requires-clause-vocabulary
 reply-requires-clause-vocabulary g c = c.requires.stands.1.engine.world.vocabulary_is
@@ -232,6 +239,35 @@ returns-in-Catches-Raises-clause-frames g c = λ s r.
     let inside = inside_raises (g.S.Store.present c.args.self.now.store) (g.S.Store.present c.reply.new.store) c.args.self.now.nodes.items c.reply.new.nodes.items by.0 c.in-Catches-Raises.ball by.4 in
     let unbound = inside.2 in
     result_full c.throw_inside.result (throw_inside_over g.S.Store.names g.S.Store.present g.S.Store.stands g.S.Store.older c.args.self.now c.reply.new.store c.reply.new.nodes s c.args.frame c.args.place c.args.goal c.requires.now c.requires.there r c.requires.steps c.args.built_in c.requires.built_in c.in_ok-replied.ensures.marks c.in_ok-replied.ensures.names c.in_ok-replied.ensures.nodes by.0 by.1 by.2 by.3 unbound (term_of c.in-Catches-Raises.ball.term) inside.0) c.throw_inside.ensures.frames)
+
+-- ---- for all of its solutions
+
+pub find_all-requires : goal.find_all-requires
+find_all-requires g c =
+    let by = gathers_by (g.S.Store.present c.args.self.now.store) (g.S.Store.present c.reply.new.store) c.args.self.now.nodes.items c.reply.new.nodes.items (reply c.args.built_in (meaning (g.S.Store.present c.args.self.now.store) c.args.goal)) c.in-Gathers.body (rw c.in-Gathers.is at c.in_ok-replied.ensures.replies) in
+    (behind_findall g.S.Store.names g.S.Store.present g.S.Store.stands g.S.Store.older c.args.self.now c.reply.new.store c.reply.new.nodes c.requires.stands.0 c.args.frame c.args.place c.args.goal c.requires.now c.requires.there c.requires.stands.1 c.requires.steps c.args.built_in c.requires.built_in c.in_ok-replied.ensures.marks c.in_ok-replied.ensures.names c.in_ok-replied.ensures.nodes by.0 by.2 by.1 by.3 c.in-Gathers.body by.4, by.4.body, enters_findall g.S.Store.names g.S.Store.present g.S.Store.stands g.S.Store.older c.args.self.now c.reply.new.store c.reply.new.nodes c.requires.stands.0 c.args.frame c.args.place c.args.goal c.requires.now c.requires.there c.requires.stands.1 c.requires.steps c.args.built_in c.requires.built_in c.in_ok-replied.ensures.marks c.in_ok-replied.ensures.names c.in_ok-replied.ensures.nodes by.0 by.2 by.1 by.3 c.in-Gathers.body by.4, by.4.stands)
+
+pub returns-in-Gathers-clause-moves : goal.returns-in-Gathers-clause-moves
+returns-in-Gathers-clause-moves g c = λ s r.
+    (let by = gathers_by (g.S.Store.present c.args.self.now.store) (g.S.Store.present c.reply.new.store) c.args.self.now.nodes.items c.reply.new.nodes.items (reply c.args.built_in (meaning (g.S.Store.present c.args.self.now.store) c.args.goal)) c.in-Gathers.body (rw c.in-Gathers.is at c.in_ok-replied.ensures.replies) in
+    if_ok_map _ _ c.find_all.result (finds_now g.S.Store.names g.S.Store.present g.S.Store.stands g.S.Store.older c.args.self.now c.reply.new.store c.reply.new.nodes s c.args.frame c.args.place c.args.goal c.requires.now c.requires.there r c.requires.steps c.args.built_in c.requires.built_in c.in_ok-replied.ensures.marks c.in_ok-replied.ensures.names c.in_ok-replied.ensures.nodes by.0 by.2 by.1 by.3 c.in-Gathers.body by.4 c.find_all.new.self) (c.find_all.ensures.called (behind_findall g.S.Store.names g.S.Store.present g.S.Store.stands g.S.Store.older c.args.self.now c.reply.new.store c.reply.new.nodes s c.args.frame c.args.place c.args.goal c.requires.now c.requires.there r c.requires.steps c.args.built_in c.requires.built_in c.in_ok-replied.ensures.marks c.in_ok-replied.ensures.names c.in_ok-replied.ensures.nodes by.0 by.2 by.1 by.3 c.in-Gathers.body by.4) by.4.body (enters_findall g.S.Store.names g.S.Store.present g.S.Store.stands g.S.Store.older c.args.self.now c.reply.new.store c.reply.new.nodes s c.args.frame c.args.place c.args.goal c.requires.now c.requires.there r c.requires.steps c.args.built_in c.requires.built_in c.in_ok-replied.ensures.marks c.in_ok-replied.ensures.names c.in_ok-replied.ensures.nodes by.0 by.2 by.1 by.3 c.in-Gathers.body by.4) by.4.stands))
+
+pub returns-in-Gathers-clause-stopped : goal.returns-in-Gathers-clause-stopped
+returns-in-Gathers-clause-stopped g c = λ s r.
+    (let by = gathers_by (g.S.Store.present c.args.self.now.store) (g.S.Store.present c.reply.new.store) c.args.self.now.nodes.items c.reply.new.nodes.items (reply c.args.built_in (meaning (g.S.Store.present c.args.self.now.store) c.args.goal)) c.in-Gathers.body (rw c.in-Gathers.is at c.in_ok-replied.ensures.replies) in
+    on_err_weaker c.find_all.result (find_stops g.S.Store.names g.S.Store.present g.S.Store.stands g.S.Store.older c.args.self.now c.reply.new.store c.reply.new.nodes s c.args.frame c.args.place c.args.goal c.requires.now c.requires.there r c.requires.steps c.args.built_in c.requires.built_in c.in_ok-replied.ensures.marks c.in_ok-replied.ensures.names c.in_ok-replied.ensures.nodes by.0 by.2 by.1 by.3 c.in-Gathers.body by.4 c.find_all.new.self) (c.find_all.ensures.kept (behind_findall g.S.Store.names g.S.Store.present g.S.Store.stands g.S.Store.older c.args.self.now c.reply.new.store c.reply.new.nodes s c.args.frame c.args.place c.args.goal c.requires.now c.requires.there r c.requires.steps c.args.built_in c.requires.built_in c.in_ok-replied.ensures.marks c.in_ok-replied.ensures.names c.in_ok-replied.ensures.nodes by.0 by.2 by.1 by.3 c.in-Gathers.body by.4) (enters_findall g.S.Store.names g.S.Store.present g.S.Store.stands g.S.Store.older c.args.self.now c.reply.new.store c.reply.new.nodes s c.args.frame c.args.place c.args.goal c.requires.now c.requires.there r c.requires.steps c.args.built_in c.requires.built_in c.in_ok-replied.ensures.marks c.in_ok-replied.ensures.names c.in_ok-replied.ensures.nodes by.0 by.2 by.1 by.3 c.in-Gathers.body by.4)))
+
+pub returns-in-Gathers-clause-falls : goal.returns-in-Gathers-clause-falls
+returns-in-Gathers-clause-falls g c =
+    if_ok_map _ _ c.find_all.result (λ m. subst (λ x. Falls m x (weight c.find_all.new.self)) (step_weight g.S.Store.names g.S.Store.present g.S.Store.stands g.S.Store.older c.args.self.now c.requires.stands.0 c.args.frame c.args.place c.requires.now c.requires.there.asks c.requires.stands.1 c.requires.steps)) (c.find_all.ensures.falls (cost c.args.self.now) (behind_less g.S.Store.names g.S.Store.present g.S.Store.stands g.S.Store.older c.args.self.now c.requires.stands.0 c.args.frame c.args.place c.requires.now c.requires.there.asks c.requires.stands.1 c.requires.steps))
+
+pub returns-in-Gathers-clause-frames : goal.returns-in-Gathers-clause-frames
+returns-in-Gathers-clause-frames g c = λ s r.
+    (let by = gathers_by (g.S.Store.present c.args.self.now.store) (g.S.Store.present c.reply.new.store) c.args.self.now.nodes.items c.reply.new.nodes.items (reply c.args.built_in (meaning (g.S.Store.present c.args.self.now.store) c.args.goal)) c.in-Gathers.body (rw c.in-Gathers.is at c.in_ok-replied.ensures.replies) in
+    result_full c.find_all.result (find_over g.S.Store.names g.S.Store.present g.S.Store.stands g.S.Store.older c.args.self.now c.reply.new.store c.reply.new.nodes s c.args.frame c.args.place c.args.goal c.requires.now c.requires.there r c.requires.steps c.args.built_in c.requires.built_in c.in_ok-replied.ensures.marks c.in_ok-replied.ensures.names c.in_ok-replied.ensures.nodes by.0 by.2 by.1 by.3 c.in-Gathers.body by.4) c.find_all.ensures.frames)
+
+pub returns-in-Gathers-clause-stays : goal.returns-in-Gathers-clause-stays
+returns-in-Gathers-clause-stays g c = stays_behind g.S.Store.names c.reply.new.store c.reply.new.nodes (c.args.self.now.steps - 1) c.in_ok-replied.ensures.names c.find_all.ensures.stays
 
 -- ---- the search is ended
 

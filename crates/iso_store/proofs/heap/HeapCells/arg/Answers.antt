@@ -1,6 +1,7 @@
 use Rattle.std.proofs.Common.{take, sym, ap, ◌∙◌, ◌≡◌, ◌-◌, Some, arith}
 use Rattle.iso_store_core.specs.Arguments.{arity, argument}
 use Rattle.iso_store.specs.declared.heap_cells.HeapWord.TheVariants.{Structure}
+use Rattle.iso_store.specs.HeapStores.{cell_word}
 use Rattle.iso_store.specs.HeapNumbers.{word_before}
 use Rattle.iso_store.proofs.HeapReads.{seen, end_arity, compound_arity, argument_back}
 use Rattle.iso_store.proofs.heap.HeapCells.arg.Goals as goal
@@ -15,8 +16,8 @@ unreachable-requires c =
 pub low-requires : goal.low-requires
 low-requires c = word_before (take c.args.self.now.named c.args.self.now.atoms) c.args.self.now.area.low (Structure c.in-Structure.place) c.in-Structure.ensures.holds
 
-pub overflow_sub-count : goal.overflow_sub-count
-overflow_sub-count c =
+pub overflow_sub-place : goal.overflow_sub-place
+overflow_sub-place c =
     let now = c.args.self.now in
     let there = c.low.ensures ∙ ap Some c.in-Functor.is in
     let size = ap arity (sym c.in-Structure.ensures.same) ∙ compound_arity (take now.named now.atoms) now.area.low now.next now.is_heap c.in-Structure.place c.in-Functor.field-0 c.in-Functor.count there in
@@ -28,20 +29,17 @@ low-requires-2 c =
     let within = word_before (take c.args.self.now.named c.args.self.now.atoms) c.args.self.now.area.low (Structure c.in-Structure.place) c.in-Structure.ensures.holds in
     omega arith
 
-pub unreachable-requires-in_default-low-2 : goal.unreachable-requires-in_default-low-2
-unreachable-requires-in_default-low-2 c =
-    let now = c.args.self.now in
-    let there = c.low.ensures ∙ ap Some c.in-Functor.is in
-    let size = ap arity (sym c.in-Structure.ensures.same) ∙ compound_arity (take now.named now.atoms) now.area.low now.next now.is_heap c.in-Structure.place c.in-Functor.field-0 c.in-Functor.count there in
-    let below = c.requires.index in
-    let found = argument_back (take now.named now.atoms) now.area.low now.next now.is_heap c.in-Structure.place c.in-Functor.field-0 c.in-Functor.count c.args.index there (omega arith) in
-    let both = sym c.low-2.ensures ∙ found.1 in
-    c.in_default-low-2.not-Argument found.0 (cc)
-
 pub returns-clause-holds : goal.returns-clause-holds
 returns-clause-holds c =
     let now = c.args.self.now in
-    (now.is_heap.argument (c.in-Structure.place - (c.in-Functor.count - c.args.index)) c.in-Argument.argument (c.low-2.ensures ∙ ap Some c.in-Argument.is)).0
+    let names = take now.named now.atoms in
+    let there = c.low.ensures ∙ ap Some c.in-Functor.is in
+    let size = ap arity (sym c.in-Structure.ensures.same) ∙ compound_arity names now.area.low now.next now.is_heap c.in-Structure.place c.in-Functor.field-0 c.in-Functor.count there in
+    let below = c.requires.index in
+    let found = argument_back names now.area.low now.next now.is_heap c.in-Structure.place c.in-Functor.field-0 c.in-Functor.count c.args.index there (omega arith) in
+    let both = sym c.low-2.ensures ∙ found.1 in
+    let same : c.low-2.result ≡ found.0 = cc in
+    rw (c.word_of.ensures, same) found.2
 
 pub returns-clause-value : goal.returns-clause-value
 returns-clause-value c =
@@ -51,6 +49,7 @@ returns-clause-value c =
     let size = ap arity (sym c.in-Structure.ensures.same) ∙ compound_arity names now.area.low now.next now.is_heap c.in-Structure.place c.in-Functor.field-0 c.in-Functor.count there in
     let below = c.requires.index in
     let found = argument_back names now.area.low now.next now.is_heap c.in-Structure.place c.in-Functor.field-0 c.in-Functor.count c.args.index there (omega arith) in
-    let both = sym (c.low-2.ensures ∙ ap Some c.in-Argument.is) ∙ found.1 in
-    let same : c.in-Argument.argument ≡ found.0 = cc in
-    ap (seen names now.area.low now.next now.is_heap) same ∙ found.3 ∙ ap (argument c.args.index) c.in-Structure.ensures.same
+    let both = sym c.low-2.ensures ∙ found.1 in
+    let same : c.low-2.result ≡ found.0 = cc in
+    let word = c.word_of.ensures ∙ ap (cell_word (c.in-Structure.place - (c.in-Functor.count - c.args.index))) same in
+    ap (seen names now.area.low now.next now.is_heap) word ∙ found.3 ∙ ap (argument c.args.index) c.in-Structure.ensures.same

@@ -1,0 +1,119 @@
+//! The standard order of terms (8.4): how two terms stand in it, and `compare/3`.
+ghost use Rattle.std.specs.Prelude.{◌≡◌, ◌≢◌, ◌≤◌, Err, codes};
+ghost use Rattle.iso_atoms.specs.Texts.{KeepsTexts};
+ghost use Rattle.iso_model.specs.Terms.Arguments.{arity};
+ghost use Rattle.iso_model.specs.Terms.Sorting.{by_order};
+ghost use Rattle.iso_model.specs.Search.Library.{library_answer, equate, stands_so, is_order_name, order_atom, compare_answer};
+ghost use Rattle.iso_model.specs.declared.library.Library.TheVariants as library;
+ghost use Rattle.iso_store_core.specs.Presents.{Holds, meaning, KeepsMarks};
+ghost use Rattle.iso_lib.specs.Replies.{IsReply};
+ghost use Rattle.iso_lib.specs.Checks.{GoesOn};
+
+use super::errors;
+use super::outcomes::{Fault, Reply, tested};
+use iso_model::OrderTest;
+use iso_store_core::{Shape, Store};
+use std::alloc::Global;
+use std::cmp::Ordering;
+
+/// Whether two terms that compare so stand so.
+fn stands_so(test: OrderTest, order: Ordering) -> bool
+    ensures { result ≡ stands_so test order }
+{
+    match test {
+        OrderTest::Identical => order.is_eq(),
+        OrderTest::NotIdentical => order.is_ne(),
+        OrderTest::Before => order.is_lt(),
+        OrderTest::NotAfter => order.is_le(),
+        OrderTest::After => order.is_gt(),
+        OrderTest::NotBefore => order.is_ge(),
+    }
+}
+
+/// A test of how two terms stand (8.4.1). The error is that memory was refused.
+pub(crate) fn order<S: Store>(store: &mut S, test: OrderTest, goal: S::Word) -> Result<Reply, Fault>
+    requires goal { Holds (S.present store.old) goal }
+    requires arity { 2 ≤ arity (meaning (S.present store.old) goal) }
+    ensures replies { IsReply (S.present store.old) (S.present store.new) (library_answer (library.Order test) (meaning (S.present store.old) goal)) result }
+    ensures full { result ≡ Err Fault.Full → S.full store.new }
+    ensures names { S.names store.new ≡ S.names store.old }
+    ensures marks { KeepsMarks (S.stands store.old) (S.stands store.new) }
+{
+    let (left, right) = (store.arg(goal, 0), store.arg(goal, 1));
+    let order = store.compare(left, right)?;
+    Ok(tested(stands_so(test, order)))
+}
+
+/// The name of the atom for an order.
+fn name_of(order: Ordering) -> &'static str
+    ensures { result.now ≡ by_order order (codes "<") (codes "=") (codes ">") }
+{
+    match order {
+        Ordering::Less => "<",
+        Ordering::Equal => "=",
+        Ordering::Greater => ">",
+    }
+}
+
+/// Whether this is the name of such an atom.
+fn is_order_name(name: &str) -> bool
+    ensures { result ≡ is_order_name name.now }
+{
+    name == "<" || name == "=" || name == ">"
+}
+
+/// Sees that the word is unbound or stands for the atom of an order. The errors: `compare/3` raises one, or memory was refused.
+fn see_order<S: Store>(alloc: Global, store: &S, word: S::Word) -> Result<(), Fault>
+    requires word { Holds (S.present store.now) word }
+    ensures goes_on { GoesOn (S.present store.now) (compare_answer (meaning (S.present store.now) word)) (λ o. equate (meaning (S.present store.now) word) (order_atom o)) result }
+    ensures full { result ≢ Err Fault.Full }
+{
+    match store.shape(word) {
+        Shape::Var(_) => Ok(()),
+        Shape::Atom(name) => {
+            if is_order_name(store.text(name)) {
+                return Ok(());
+            }
+            let culprit = store.copy_out(word)?;
+            let ball = errors::out_of_domain(alloc, "order", culprit, "compare", 3)?;
+            Err(Fault::Raise(ball))
+        }
+        Shape::Int(_) | Shape::Compound(_, _) => {
+            let culprit = store.copy_out(word)?;
+            let ball = errors::wrong_type(alloc, "atom", culprit, "compare", 3)?;
+            Err(Fault::Raise(ball))
+        }
+    }
+}
+
+/// Unifies the word with the atom for the order. The errors: the store is full, or memory was refused.
+fn equate_order<S: Store>(store: &mut S, word: S::Word, order: Ordering) -> Result<Reply, Fault>
+    requires word { Holds (S.present store.old) word }
+    ensures replies { IsReply (S.present store.old) (S.present store.new) (equate (meaning (S.present store.old) word) (order_atom order)) result }
+    ensures full { result ≡ Err Fault.Full → S.full store.new }
+    ensures names { KeepsTexts (S.names store.old) (S.names store.new) }
+    ensures marks { KeepsMarks (S.stands store.old) (S.stands store.new) }
+{
+    let name = store.intern(name_of(order))?;
+    let atom = store.atom(name)?;
+    Ok(tested(store.unify(word, atom)?))
+}
+
+/// `compare/3` (8.4.2 of the second corrigendum). The errors: one is raised, the store is full, or memory was refused.
+pub(crate) fn compare_terms<S: Store>(
+    alloc: Global,
+    store: &mut S,
+    goal: S::Word,
+) -> Result<Reply, Fault>
+    requires goal { Holds (S.present store.old) goal }
+    requires arity { 3 ≤ arity (meaning (S.present store.old) goal) }
+    ensures replies { IsReply (S.present store.old) (S.present store.new) (library_answer library.CompareTerms (meaning (S.present store.old) goal)) result }
+    ensures full { result ≡ Err Fault.Full → S.full store.new }
+    ensures names { KeepsTexts (S.names store.old) (S.names store.new) }
+    ensures marks { KeepsMarks (S.stands store.old) (S.stands store.new) }
+{
+    let (order, left, right) = (store.arg(goal, 0), store.arg(goal, 1), store.arg(goal, 2));
+    see_order(alloc, store, order)?;
+    let found = store.compare(left, right)?;
+    equate_order(store, order, found)
+}

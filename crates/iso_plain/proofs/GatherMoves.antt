@@ -1,0 +1,339 @@
+-- findall/3: its goal is run, its solutions are gathered, and its result is unified with their list.
+use Rattle.std.proofs.Common.{◌≡◌, ℕ, suc, ◌+◌, ◌*◌, ◌-◌, ◌<◌, ◌≤◌, ◌++◌, List, [], ◌∷◌, length, take, get_or, Option, Some, None, Bool, true, false, refl, ap, ap₂, sym, ◌∙◌, subst, arith, Vec, Global}
+use Rattle.std.specs.Prelude.{option_map}
+use Rattle.std.specs.List.{slice_get}
+use Rattle.iso_atoms.specs.Texts.{KeepsTexts}
+use Rattle.iso_model.specs.Terms.Trees.{Tree, arities_fit}
+use Rattle.iso_model.specs.Terms.TermOf.{term_of}
+use Rattle.iso_model.specs.Terms.Variables.{variables, variable_count}
+use Rattle.iso_model.specs.Terms.Substitutions.{Subst, apply, compose}
+use Rattle.iso_model.specs.Terms.Unifiers.{Unifier, NeverEqual}
+use Rattle.iso_model.specs.Terms.Unification.{unifier_of}
+use Rattle.iso_model.specs.Terms.Copies.{copy_from}
+use Rattle.iso_model.specs.Terms.Lists.{list_of}
+use Rattle.iso_model.specs.Terms.Sizes.{size}
+use Rattle.iso_model.specs.Search.Bodies.{Body, Run}
+use Rattle.iso_model.specs.Search.Walker.{State, World, Member, Goal, Fail, Gather, Alternative, Gathering, Goes, gathered_at, fails, pushed, equated, under, with_copy, step}
+use Rattle.iso_model.specs.Search.Engines.{IsAwake}
+use Rattle.iso_model.proofs.Search.CallLemmas.{unify_found, unify_none}
+use Rattle.iso_store_core.specs.Presents.{Present, KeepsMarks, KeepsWords, meaning}
+use Rattle.iso_lib.specs.Replies.{UnifiesCopy, MeetsCopy}
+use Rattle.iso_plain_core.specs.Solutions.{copies_of, Gains}
+use Rattle.iso_plain_core.specs.Gathering.{SameCopies, ChangesAt}
+use Rattle.iso_plain_core.specs.declared.solutions.Gathered.{Gathered}
+use Rattle.iso_plain_core.specs.declared.bodies.Node.{Node}
+use Rattle.iso_plain_core.specs.declared.bodies.Node.TheVariants as node
+use Rattle.iso_plain_core.specs.declared.parts.Todo.{Todo}
+use Rattle.iso_plain_core.specs.declared.parts.Todo.TheVariants as todo
+use Rattle.iso_plain_core.specs.declared.parts.Frame.{Frame}
+use Rattle.iso_plain_core.specs.declared.parts.Left.{Left}
+use Rattle.iso_plain_core.specs.declared.parts.Left.TheVariants as left
+use Rattle.iso_plain_core.specs.declared.parts.Choice as kept
+use Rattle.iso_plain_core.specs.declared.parts.Now.{Now}
+use Rattle.iso_plain_core.specs.declared.parts.Now.TheVariants as now
+use Rattle.iso_plain.specs.declared.plain.Move.TheVariants as move
+use Rattle.iso_plain.specs.declared.plain.Plain.{Plain}
+use Rattle.iso_plain_core.specs.Entering.{Adds}
+use Rattle.iso_plain_core.specs.Nodes.{runs}
+use Rattle.iso_plain_core.specs.Next.{now_behind}
+use Rattle.iso_plain_core.specs.Costs.{body_cost, most, whole_cost, todo_cost, rest_cost, frame_costs, place_cost, choice_cost, choices_cost, now_cost}
+use Rattle.iso_plain_core.specs.Standing.{IsBody, IsGoalWord, a_body, a_template, Chain, HasLeft, HasGathered, StandsForChoices, GainsChoice, GoesOn, entered_at, most_numbers, numbers_a_step}
+use Rattle.iso_plain.specs.EngineStates.{IsEngine, IsAhead, Represents, WentBack, Keeps, Stopped, Moves, cost, weight, phase_of, links_of, went_back}
+use Rattle.iso_plain.specs.Gathers.{EntersFindall, finding, found, template_of, result_of}
+use Rattle.iso_plain_core.specs.ClausePlaces.{left_at}
+use Rattle.iso_plain.proofs.AheadLemmas.{AtFrame, at_frame, template_at, engine_frame, engine_place, ahead_frame, ahead_left}
+use Rattle.iso_plain.proofs.ControlCosts.{new_place, old_place, gained_cost}
+use Rattle.iso_plain_core.proofs.CostLemmas.{cost_more, cost_parts, left_step, whole_paid, zero_cost, some_most, below_words, choices_on_more, choices_last, behind_cost}
+use Rattle.iso_plain_core.proofs.EnteringLemmas.{adds_none, words_same}
+use Rattle.iso_plain_core.proofs.GatheringLemmas.{choices_gain, choices_same, room_gathered, changed_costs}
+use Rattle.iso_plain.proofs.FailLemmas.{failing}
+use Rattle.iso_plain.proofs.MeetLemmas.{ahead_bound}
+use Rattle.iso_plain.proofs.ResumeLemmas.{has_members, choices_are}
+use Rattle.iso_plain.proofs.SearchMoves.{goes, stops, stops_here}
+use Rattle.iso_plain.proofs.SearchSteps.{gather_step, found_step}
+use Rattle.iso_plain.proofs.StoppedLemmas.{base_kept, choices_on}
+use Rattle.iso_plain_core.proofs.StandingLemmas.{AddsLinks, at_last, body_more, body_within, item_is, next_behind, chain_more, chain_place, choices_keep, choices_length, choices_more}
+use Rattle.iso_plain.proofs.WeightLemmas.{falls_less}
+use Rattle.iso_plain.proofs.WorldLemmas.{world_on}
+
+-- ---- what is left to be done
+
+-- an alternative, and a body before the end of its solutions
+finds_paid : (k n c r w : ℕ) → k < most → c + r + 1 ≤ w → whole_cost n (c + suc r + body_cost k (suc r)) < whole_cost (suc n) w
+finds_paid k n c r w small less =
+    let a = left_step most w in
+    let b = cost_parts most k 0 0 w small some_most some_most in
+    let z = zero_cost w in
+    let d = cost_more k (suc r) (body_cost 0 w + 2) (omega (arith, z, less)) in
+    whole_paid n w (c + suc r + body_cost k (suc r)) (omega (arith, a, b, d, less))
+
+-- two terms were unified, or not
+pub equated_keeps : (o : Option Subst) (rest : List Member) (s : State) → ((equated o rest s).stack ≡ s.stack) × ((equated o rest s).world ≡ s.world)
+equated_keeps None rest s = (refl, refl)
+equated_keeps (Some u) rest s = (refl, refl)
+
+-- the result and the list were unified, or can't be
+pub met_unified : {W : Type 0} (p q : Present W) (a b : Tree) (answer : Bool) → answer ≡ true → MeetsCopy p q a b answer → UnifiesCopy p q a b
+met_unified p q a b answer is h = rw is at h
+
+pub met_never : {W : Type 0} (p q : Present W) (a b : Tree) (answer : Bool) → answer ≡ false → MeetsCopy p q a b answer → NeverEqual a (apply p.substitution (copy_from b p.next))
+met_never p q a b answer is h = rw is at h
+
+-- the node of a goal
+run_there : {W : Type 0} (p : Present W) {nodes : List (Node W)} {k : ℕ} {t : Tree} → IsBody p nodes k (Run t) → (w : W) × (slice_get nodes k ≡ Some (node.Run w)) × IsGoalWord p w t
+run_there p (runs {g = w} at stands) = (w, at.is, stands)
+
+module _ {S W M : Type 0} (names : S → List (List ℕ)) (present : S → Present W) (stands : S → M → Present W → Type 0) (older : M → M → Type 0) where
+  -- ---- a solution
+
+  module _ (e : Plain S W M) (s : State) (f : Frame) (k : ℕ) (doing : e.now ≡ now.Running f) (asks : f.todo ≡ todo.Gather k) (r : Represents names present stands older e s) where
+    abbrev pub at : AtFrame names present stands older e r.own f
+    at = at_frame names present stands older e r.own f doing r.engine
+
+    abbrev pub template : (t : Tree) × (at.member ≡ Gather f.mark t) × IsBody (present e.store) e.nodes.items k (Run t)
+    template = template_at (present e.store) e.nodes.items f at.member k asks at.stands_for
+
+    pub template_within : k < length e.nodes.items
+    template_within = body_within (present e.store) template.2
+
+    pub template_node : (x : Node W) → x ≡ get_or e.nodes.items k x → (w : W) × (x ≡ node.Run w)
+    template_node x at = let there = run_there (present e.store) template.2 in (there.0, item_is e.nodes.items k (node.Run there.0) x there.1 at)
+
+    -- its word
+    pub template_word : (x : Node W) (w : W) → x ≡ get_or e.nodes.items k x → x ≡ node.Run w → ((present e.store).holds w ≡ true) × (apply (r.own).subst template.0 ≡ meaning (present e.store) w)
+    template_word x w at_node is =
+        let there = run_there (present e.store) template.2 in
+        let both : node.Run there.0 ≡ node.Run w = sym (item_is e.nodes.items k (node.Run there.0) x there.1 at_node) ∙ is in
+        let same : there.0 ≡ w = cc in
+        let word = subst (λ (y : W). IsGoalWord (present e.store) y template.0) same there.2 in
+        (word.0, ap (apply (r.own).subst) word.1 ∙ ap (λ (q : Subst). apply q ((present e.store).term w)) (sym (at.ahead).goes.subst))
+
+    gather_goes : (v : Tree) → apply (r.own).subst template.0 ≡ v → step r.own ≡ Goes (fails (record (r.own) { stack = gathered_at f.mark v (r.own).stack }))
+    gather_goes v value =
+        subst (λ (x : Tree). step r.own ≡ Goes (fails (record (r.own) { stack = gathered_at f.mark x (r.own).stack }))) value
+        (gather_step r.own f.mark template.0 at.behind (at.list ∙ ap (λ (m : Member). m ∷ at.behind) template.1))
+
+    pub gathers_on : (choices : Vec (kept.Choice W M) Global) (v : Tree) → apply (r.own).subst template.0 ≡ v → arities_fit v ≡ true → ChangesAt (Gains v) f.mark e.choices.items choices.items
+        → Moves names present stands older move.Goes s (record e { choices = choices; now = now.Failing })
+    gathers_on choices v value fits change =
+        let is = r.engine in
+        goes names present stands older e (record e { choices = choices; now = now.Failing }) s r (fails (record (r.own) { stack = gathered_at f.mark v (r.own).stack })) (gather_goes v value)
+        (record {
+          world = is.world;
+          steps = is.steps;
+          base = is.base;
+          choices = choices_gain f.mark v fits change is.choices;
+          room = room_gathered e.steps f.mark v (r.own).stack fits is.room;
+          next = ([], refl);
+        }) tt
+
+    pub gather_stops : (choices : Vec (kept.Choice W M) Global) → ChangesAt SameCopies f.mark e.choices.items choices.items → Stopped names present stands older (record e { choices = choices }) s
+    gather_stops choices change =
+        let is = r.engine in
+        stops_here names present stands older (record e { choices = choices }) r.own s r.same (is.world, is.base, (variables (r.own).query, choices_same f.mark change is.choices))
+
+    pub gather_falls : (choices : Vec (kept.Choice W M) Global) (R : Gathered → Gathered → Type 0) → ChangesAt R f.mark e.choices.items choices.items → weight (record e { choices = choices; now = now.Failing }) < weight e
+    gather_falls choices R change =
+        let many = choices_cost e.procedures.items (frame_costs e.frames.items) e.choices.items in
+        let old : cost e ≡ many + suc (place_cost e.frames.items f.next) =
+        ap (λ (n : Now). many + now_cost (frame_costs e.frames.items) n) doing ∙ ap (λ (t : Todo). many + todo_cost t (place_cost e.frames.items f.next)) asks in
+        let new = changed_costs R e.procedures.items (frame_costs e.frames.items) change in
+        falls_less e (record e { choices = choices; now = now.Failing }) refl (omega (arith, old, new))
+
+  -- ---- the goal is run
+
+  module _ (e : Plain S W M) (goal : W) (s : State) (next : Option ℕ) (h : EntersFindall names present stands older e goal s next) where
+    abbrev result : Tree
+    result = result_of (present e.store) goal
+
+    -- the members ahead, as what is behind the goal
+    nothing_gathered : (w : W) (g : Gathered) → (present e.store).holds w ≡ true → meaning (present e.store) w ≡ result → copies_of g ≡ [] → g.variables ≡ 0
+        → HasLeft (left_at s.world.database.procedures) e.query.items (variables s.query) (present e.store) (links_of e) (left.Gathering w next g)
+        (record { list = s.list; subst = s.subst; next = s.next; built = s.built; left = Gathering result [] 0 })
+    nothing_gathered w g holds value none count =
+        let a = h.ahead in
+        record {
+          holds = holds;
+          on = record { subst_is = a.goes.subst; next_is = a.goes.next; chain = a.chain; words = a.goes.words };
+          is = (λ i. Gathering (sym value i) (sym none i) (sym count i));
+          fits = ap (λ (ts : List Tree). arities_fit (list_of ts)) none;
+        }
+
+    module _ (w : W) (g : Gathered) (holds : (present e.store).holds w ≡ true) (value : meaning (present e.store) w ≡ result) (none : copies_of g ≡ []) (count : g.variables ≡ 0)
+        (store : S) (choices : Vec (kept.Choice W M) Global) (same : present store ≡ present e.store) (keeps : KeepsMarks (stands e.store) (stands store)) (texts : KeepsTexts (names e.store) (names store))
+        (gains : GainsChoice (stands e.store) (stands store) older (present e.store) (length e.nodes.items) (length e.frames.items) (left.Gathering w next g) e.choices.items choices.items) where
+      pub gatherer_ahead : IsAhead names present stands older (record e { store = store; choices = choices }) (pushed s.list (Gathering result [] 0) s) next
+      gatherer_ahead = ahead_left names present stands older e s next store choices (left.Gathering w next g) (Gathering result [] 0) h.ahead (nothing_gathered w g holds value none count) h.space same keeps texts gains
+
+      -- a node came
+      pub node_ahead : (nodes : Vec (Node W) Global) → Adds e.nodes.items nodes.items → IsAhead names present stands older (record e { store = store; choices = choices; nodes = nodes }) (pushed s.list (Gathering result [] 0) s) next
+      node_ahead nodes adds =
+          let a = gatherer_ahead in
+          let more : AddsLinks (links_of e) (record { nodes = nodes.items; frames = e.frames.items }) = record { nodes = adds; frames = adds_none e.frames.items } in
+          record {
+            world = a.world;
+            steps = a.steps;
+            base = a.base;
+            choices = choices_more (record { nodes = nodes.items; frames = e.frames.items }) more a.choices;
+            room = a.room;
+            goes = a.goes;
+            chain = chain_more (record { nodes = nodes.items; frames = e.frames.items }) more (words_same (present store)) a.chain;
+          }
+
+      pub finds_engine : (k : ℕ) (b : Body) (t : W) (nodes : Vec (Node W) Global) (frames : Vec Frame Global) → IsBody (present e.store) e.nodes.items k b → (present e.store).holds t ≡ true → nodes.items ≡ e.nodes.items ++ node.Run t ∷ []
+          → frames.items ≡ e.frames.items ++ record { todo = todo.Gather (length e.nodes.items); mark = length e.choices.items; next = next } ∷ []
+          → IsEngine names present stands older (record e { store = store; choices = choices; nodes = nodes; frames = frames; now = now.Running (record { todo = todo.Body k; mark = length e.choices.items + 1; next = Some (length e.frames.items) }) })
+          (finding b ((present e.store).term t) result s)
+      finds_engine k b t nodes frames body there come come_frame =
+          let height = length e.choices.items in
+          let alike : height ≡ length s.stack = choices_length h.ahead.choices in
+          let over : height + 1 ≡ suc (length s.stack) = omega (arith, alike) in
+          let tree = (present e.store).term t in
+          let end : Frame = record { todo = todo.Gather (length e.nodes.items); mark = height; next = next } in
+          let first : Frame = record { todo = todo.Body k; mark = height + 1; next = Some (length e.frames.items) } in
+          let mid : Plain S W M = record e { store = store; choices = choices; nodes = nodes } in
+          let new : Plain S W M = record mid { frames = frames; now = now.Running first } in
+          let u : State = pushed s.list (Gathering result [] 0) s in
+          let word : IsBody (present e.store) nodes.items (length e.nodes.items) (Run tree) = runs (rw come (at_last e.nodes.items (node.Run t))) (there, refl) in
+          let word_there = subst (λ (q : Present W). IsBody q nodes.items (length e.nodes.items) (Run tree)) (sym same) word in
+          let one = ahead_frame names present stands older mid u end (Gather height tree) frames (node_ahead nodes (node.Run t ∷ [], come)) (a_template refl word_there) come_frame in
+          let body_there = subst (λ (q : Present W). IsBody q nodes.items k b) (sym same) (subst (λ (ns : List (Node W)). IsBody (present e.store) ns k b) (sym come) (body_more (node.Run t ∷ []) (words_same (present e.store)) body)) in
+          let engine = engine_frame names present stands older (record mid { frames = frames }) (record u { list = Gather height tree ∷ s.list }) first (Goal b (height + 1)) one (a_body refl body_there) in
+          subst (λ (n : ℕ). IsEngine names present stands older new (record u { list = Goal b n ∷ Gather (length s.stack) tree ∷ s.list })) over
+          (subst (λ (n : ℕ). IsEngine names present stands older new (record u { list = Goal b (height + 1) ∷ Gather n tree ∷ s.list })) alike engine)
+
+    pub finds_falls : {old new : M → Present W → Type 0} {p : Present W} {stood framed : ℕ} (store : S) (choices : Vec (kept.Choice W M) Global) (wd : W) (g : Gathered) (k mark place : ℕ) (b : Body) (nodes : Vec (Node W) Global) (frames : Vec Frame Global) (w : ℕ)
+        → IsBody (present e.store) e.nodes.items k b → GainsChoice old new older p stood framed (left.Gathering wd next g) e.choices.items choices.items
+        → frames.items ≡ e.frames.items ++ record { todo = todo.Gather place; mark = mark; next = next } ∷ []
+        → choices_cost e.procedures.items (frame_costs e.frames.items) e.choices.items + place_cost e.frames.items next + 1 ≤ w
+        → weight (record e { store = store; choices = choices; nodes = nodes; frames = frames; now = now.Running (record { todo = todo.Body k; mark = mark + 1; next = Some (length e.frames.items) }) }) < whole_cost (suc e.steps) w
+    finds_falls store choices wd g k mark place b nodes frames w body gains come less =
+        let end : Frame = record { todo = todo.Gather place; mark = mark; next = next } in
+        let here = body_within (present e.store) body in
+        let many = e.nodes.ok.0 in
+        let within = e.nodes.ok.1 in
+        let small = e.nodes.small in
+        let fits = below_words k (omega (arith, here, many, within, small)) in
+        let gained = gained_cost e.procedures.items (frame_costs frames.items) gains in
+        let all = ap (λ (fs : List Frame). choices_cost e.procedures.items (frame_costs fs) e.choices.items) come ∙ choices_on_more e.procedures.items (end ∷ []) h.ahead.choices in
+        let kept_rest = old_place e.frames.items frames.items (end ∷ []) next come (chain_place next h.ahead.chain) in
+        let there = new_place e.frames.items frames.items end come in
+        let paid = finds_paid k e.steps (choices_cost e.procedures.items (frame_costs e.frames.items) e.choices.items) (place_cost e.frames.items next) w fits less in
+        rw (gained, all, kept_rest, there) paid
+
+  -- ---- no further solution
+
+  module _ (e : Plain S W M) (c : kept.Choice W M) (s : State) (a : Alternative) (below : List Alternative) (w : WentBack names present stands older e c s a below) (wd : W) (g : Gathered) (place : Option ℕ) (is : c.left ≡ left.Gathering wd place g) where
+    pub gathered_there : HasGathered (left_at s.world.database.procedures) e.query.items (variables s.query) (present e.store) (links_of e) wd place g a
+    gathered_there = has_members names present stands older e c s a below w (left.Gathering wd place g) is
+
+    abbrev value : Tree
+    value = meaning (present e.store) wd
+
+    abbrev copies : List Tree
+    copies = copies_of g
+
+    abbrev pub back : State
+    back = went_back a below s
+
+    module _ (store : S) (choices : Vec (kept.Choice W M) Global) (same : present store ≡ present e.store) (marks : (m : M) (p : Present W) → older m c.mark → stands e.store m p → stands store m p) (texts : KeepsTexts (names e.store) (names store))
+        (made : choices.items ≡ take (length e.choices.items - 1) e.choices.items) where
+      -- the choice is gone
+      pub gone_space : a.next + numbers_a_step * (e.steps + 1) ≤ most_numbers
+      gone_space = subst (λ (n : ℕ). a.next + numbers_a_step * (e.steps + n) ≤ most_numbers) (ap entered_at gathered_there.is) w.room.0
+
+      pub gone_ahead : IsAhead names present stands older (record e { store = store; choices = choices }) back place
+      gone_ahead =
+          let h = gathered_there in
+          let b = w.base in
+          let one = gone_space in
+          record {
+            world = world_on texts w.world;
+            steps = w.steps;
+            base = record { present = b.present; stands_for = marks e.base b.present w.newer_base b.stands_for; substitution = b.substitution; next = b.next };
+            choices = subst (λ (ds : List (kept.Choice W M)). StandsForChoices (stands store) older e.base (left_at s.world.database.procedures) e.query.items (variables s.query) (links_of e) ds below) (sym made)
+                (choices_keep (λ d p among stood. marks d.mark p (w.newer d among) stood) w.stands_below);
+            room = w.room.1;
+            goes = subst (λ (p : Present W). GoesOn p e.query.items back) (sym same)
+                (record { subst = h.on.subst_is; next = h.on.next_is; room = (let all = w.steps in omega (arith, one, all)); words = h.on.words });
+            chain = subst (λ (p : Present W). Chain p (links_of e) place a.list) (sym same) h.on.chain;
+          }
+
+      pub gone_keeps : Keeps names present stands older (record e { store = store; choices = choices }) s.world below
+      gone_keeps = (gone_ahead.world, gone_ahead.base, (variables s.query, gone_ahead.choices))
+
+      module _ (last : S) (keeps : KeepsMarks (stands store) (stands last)) (after_texts : KeepsTexts (names store) (names last)) where
+        -- the result was unified with the list
+        pub found_engine : UnifiesCopy (present store) (present last) value (list_of copies)
+            → IsEngine names present stands older (record e { store = last; choices = choices; now = now_behind e.frames.items place }) (found value copies back)
+        found_engine u =
+            let mid : Plain S W M = record e { store = store; choices = choices } in
+            let list = list_of copies in
+            let space = gone_space in
+            let few = u.few in
+            let at = gone_ahead.goes in
+            let copy : apply (present store).substitution (copy_from list (present store).next) ≡ apply a.subst (copy_from list a.next) = ap₂ (λ (v : Subst) (m : ℕ). apply v (copy_from list m)) at.subst at.next in
+            let unifier : Unifier value (apply a.subst (copy_from list a.next)) u.unifier = subst (λ (z : Tree). Unifier value z u.unifier) copy u.is in
+            let is_found = ap (λ (o : Option Subst). equated o a.list (with_copy list back)) (unify_found a.subst value (apply a.subst (copy_from list a.next)) unifier) in
+            let ahead = ahead_bound names present stands older mid last e.nodes back place (variable_count list) (compose a.subst u.unifier) gone_ahead keeps after_texts (adds_none e.nodes.items) u.words
+            (u.substitution ∙ ap (λ (q : Subst). compose q u.unifier) at.subst) u.next (omega (arith, space, few)) in
+            let x : State = record back { subst = compose a.subst u.unifier; next = a.next + variable_count list; built = a.built + (1 + size list) } in
+            subst (λ (y : State). IsEngine names present stands older (record e { store = last; choices = choices; now = now_behind e.frames.items place }) y) (sym is_found)
+            (record {
+              world = ahead.world;
+              steps = ahead.steps;
+              base = ahead.base;
+              choices = ahead.choices;
+              room = ahead.room;
+              next = next_behind (present last) (links_of e) e.query.items (option_map (λ b. term_of b.term) e.raised) x place a.list refl ahead.chain
+                  (record { subst = ahead.goes.subst; next = ahead.goes.next; room = ahead.goes.room; words = ahead.goes.words });
+            })
+
+        -- they can't be
+        pub missed_engine : NeverEqual value (apply (present store).substitution (copy_from (list_of copies) (present store).next))
+            → IsEngine names present stands older (record e { store = last; choices = choices; now = now.Failing }) (found value copies back)
+        missed_engine never =
+            let list = list_of copies in
+            let at = gone_ahead.goes in
+            let copy : apply (present store).substitution (copy_from list (present store).next) ≡ apply a.subst (copy_from list a.next) = ap₂ (λ (v : Subst) (m : ℕ). apply v (copy_from list m)) at.subst at.next in
+            let none = ap (λ (o : Option Subst). equated o a.list (with_copy list back)) (unify_none a.subst value (apply a.subst (copy_from list a.next)) (subst (λ (z : Tree). NeverEqual value z) copy never)) in
+            subst (λ (x : State). IsEngine names present stands older (record e { store = last; choices = choices; now = now.Failing }) x) (sym none)
+            (record {
+              world = world_on after_texts gone_ahead.world;
+              steps = w.steps;
+              base = base_kept (stands store) (stands last) e.base keeps gone_ahead.base;
+              choices = choices_keep (λ d p among stood. keeps d.mark p stood) gone_ahead.choices;
+              room = w.room.1;
+              next = ([], refl);
+            })
+
+    -- ---- what falls
+
+    pub gone_cost : (n : Now) (choices : Vec (kept.Choice W M) Global) → 0 < length e.choices.items → choices.items ≡ take (length e.choices.items - 1) e.choices.items → now_cost (frame_costs e.frames.items) n ≤ place_cost e.frames.items place
+        → choices_cost e.procedures.items (frame_costs e.frames.items) choices.items + now_cost (frame_costs e.frames.items) n < choices_cost e.procedures.items (frame_costs e.frames.items) e.choices.items
+    gone_cost n choices some made less =
+        let costs = frame_costs e.frames.items in
+        let before = take (length e.choices.items - 1) e.choices.items in
+        let old = ap (choices_cost e.procedures.items costs) (choices_are names present stands older e c s a below w some) ∙ choices_last e.procedures.items costs before c in
+        let here = ap (choice_cost e.procedures.items costs) is in
+        let new = ap (choices_cost e.procedures.items costs) made in
+        omega (arith, old, here, new, less)
+
+  -- ---- the engine's move there
+
+  module _ (e new : Plain S W M) (s : State) (r : Represents names present stands older e s) (a : Alternative) (below : List Alternative) (doing : e.now ≡ now.Failing) (stack : r.own.stack ≡ a ∷ below) (value : Tree) (copies : List Tree) (count : ℕ)
+      (left : a.left ≡ Gathering value copies count) where
+    found_to : step r.own ≡ Goes (found value copies (went_back a below r.own))
+    found_to =
+        let first = failing names present stands older e r.own doing r.engine in
+        found_step r.own first.0 a below value copies count first.1 stack left
+
+    pub found_on : IsEngine names present stands older new (found value copies (went_back a below r.own)) → IsAwake (phase_of new.now) → Moves names present stands older move.Goes s new
+    found_on engine awake = goes names present stands older e new s r (found value copies (went_back a below r.own)) found_to engine awake
+
+    pub found_stops : Keeps names present stands older new (r.own).world below → Stopped names present stands older new s
+    found_stops keeps =
+        let v = went_back a below r.own in
+        let list = list_of copies in
+        let same = equated_keeps (under v.subst (unifier_of value (apply v.subst (copy_from list v.next)))) v.list (with_copy list v) in
+        stops names present stands older new r.own (found value copies v) s below r.same found_to same.0 same.1 keeps

@@ -1,0 +1,44 @@
+-- Goals of findall/3, as the engine comes to them (ISO/IEC 13211-1:1995, 8.10.1).
+use Rattle.std.specs.Prelude.{◌≡◌, ℕ, suc, ◌+◌, ◌*◌, ◌≤◌, List, [], ◌∷◌, length, true, Option}
+use Rattle.iso_model.specs.Terms.Trees.{Tree}
+use Rattle.iso_model.specs.Terms.Arguments.{arity, argument}
+use Rattle.iso_model.specs.Terms.Substitutions.{apply}
+use Rattle.iso_model.specs.Terms.Unification.{unifier_of}
+use Rattle.iso_model.specs.Terms.Copies.{copy_from}
+use Rattle.iso_model.specs.Terms.Lists.{list_of}
+use Rattle.iso_model.specs.Search.Bodies.{Body}
+use Rattle.iso_model.specs.Search.Walker.{State, Goal, Gather, Gathering, pushed, equated, under, with_copy}
+use Rattle.iso_store_core.specs.Presents.{Present, meaning}
+use Rattle.iso_plain.specs.declared.plain.Move.{Move}
+use Rattle.iso_plain.specs.declared.plain.Plain.{Plain}
+use Rattle.iso_plain_core.specs.Standing.{most_numbers, numbers_a_step}
+use Rattle.iso_plain.specs.EngineStates.{IsAhead, WasCalled}
+
+-- the template and the result of a goal of findall/3
+abbrev pub template_of : {W : Type 0} → Present W → W → Tree
+template_of p goal = argument 0 (meaning p goal)
+
+abbrev pub result_of : {W : Type 0} → Present W → W → Tree
+result_of p goal = argument 2 (meaning p goal)
+
+-- this body is run for all of its solutions, before the list
+abbrev pub finding : Body → Tree → Tree → State → State
+finding b template result s =
+    record (pushed s.list (Gathering result [] 0) s) { list = Goal b (suc (length s.stack)) ∷ Gather (length s.stack) template ∷ s.list }
+
+-- the result is unified with the list of these copies
+abbrev pub found : Tree → List Tree → State → State
+found result copies s =
+    equated (under s.subst (unifier_of result (apply s.subst (copy_from (list_of copies) s.next)))) s.list (with_copy (list_of copies) s)
+
+module _ {S W M : Type 0} (names : S → List (List ℕ)) (present : S → Present W) (stands : S → M → Present W → Type 0) (older : M → M → Type 0) where
+  -- The engine, in this state, is about to run this goal of findall/3, with its members from this place of the frames on behind it.
+  pub record EntersFindall (e : Plain S W M) (goal : W) (s : State) (place : Option ℕ) : Type 0 where
+    pub ahead : IsAhead names present stands older e s place
+    pub space : s.next + numbers_a_step * (e.steps + 1) ≤ most_numbers
+    pub holds : (present e.store).holds goal ≡ true
+    pub three : arity (meaning (present e.store) goal) ≡ 3
+
+  -- The body is run for all of its solutions; the engine has the template as a term of this value.
+  abbrev pub FindsAll : Move → Plain S W M → Tree → Tree → Body → State → Type 0
+  FindsAll m e template result b s = (t : Tree) × (apply s.subst t ≡ template) × WasCalled names present stands older m e s (finding b t result s)

@@ -1,0 +1,256 @@
+-- A solution comes to a choice that gathers: the choices stand for the alternatives that the search has then.
+use Rattle.std.proofs.Common.{◌≡◌, ℕ, zero, suc, ◌+◌, ◌*◌, ◌-◌, ◌<◌, ◌≤◌, List, [], ◌∷◌, ◌++◌, length, take, get_or, slice_set, Bool, true, false, refl, ap, ap₂, sym, ◌∙◌, subst, arith, ◌⊎◌, inl, inr, ◌==◌, if◌then◌else◌, Option}
+use Rattle.std.proofs.lemmas.Bool.{eqb-true, cases_Bool}
+use Rattle.std.proofs.lemmas.Bool.Decides.{Decides-eqb}
+use Rattle.iso_model.specs.Terms.Copies.{copy_from}
+use Rattle.iso_model.specs.Terms.Trees.{Tree, Name, arities_fit}
+use Rattle.iso_model.specs.Terms.Lists.{nil, list_of}
+use Rattle.iso_model.specs.Search.Databases.{Clause}
+use Rattle.iso_model.specs.Search.Walker.{Alternative, AsIs, Again, Clauses, Catching, Gathering, gathered, gathered_at}
+use Rattle.iso_model.specs.Search.Walker as walker
+use Rattle.iso_store_core.specs.Presents.{Present, meaning}
+use Rattle.iso_plain_core.specs.Solutions.{copies_of, Gains}
+use Rattle.iso_plain_core.specs.Gathering.{SameCopies, LeftChanges, ChoiceChanges, ChangesAt, no_choice, this_choice, later_choice}
+use Rattle.iso_plain_core.specs.declared.solutions.Gathered.{Gathered}
+use Rattle.iso_plain_core.specs.declared.procedures.Procedure.{Procedure}
+use Rattle.iso_plain_core.specs.declared.parts.Left.{Left}
+use Rattle.iso_plain_core.specs.declared.parts.Left.TheVariants as left
+use Rattle.iso_plain_core.specs.declared.parts.Choice as kept
+use Rattle.iso_plain_core.specs.Costs.{choice_cost, choices_cost}
+use Rattle.iso_plain_core.specs.Standing.{Among, Links, links_at, StandsOn, HasLeft, HasMembers, HasCatch, HasClauses, HasGathered, StandsForChoice, StandsForChoices, none_kept, one_kept, HaveRoom, entered_at, numbers_a_step, most_numbers}
+use Rattle.iso_plain_core.proofs.SolutionLemmas.{copy_fits, list_fits}
+use Rattle.iso_plain_core.proofs.StandingLemmas.{length_last, choices_length, among_front, among_last}
+
+-- ---- the choice at a place
+
+-- nothing is gathered there
+pub not_gathering : {W : Type 0} (R : Gathered → Gathered → Type 0) (l : Left W) → ((result : W) (place : Option ℕ) (g : Gathered) → l ≡ left.Gathering result place g → ⊥) → LeftChanges R l l
+not_gathering R (left.Gathering result place g) none = absurd (none result place g refl)
+not_gathering R (left.AsIs place) none = refl
+not_gathering R (left.Again place) none = refl
+not_gathering R (left.Catching goal place) none = refl
+not_gathering R (left.Clauses attempt) none = refl
+
+left_costs : {W : Type 0} (R : Gathered → Gathered → Type 0) (ps : List Procedure) (costs : List ℕ) (l m : Left W) → LeftChanges R l m → choice_cost ps costs m ≡ choice_cost ps costs l
+left_costs R ps costs (left.Gathering result place g) m h = ap (choice_cost ps costs) h.1
+left_costs R ps costs (left.AsIs place) m h = ap (choice_cost ps costs) h
+left_costs R ps costs (left.Again place) m h = ap (choice_cost ps costs) h
+left_costs R ps costs (left.Catching goal place) m h = ap (choice_cost ps costs) h
+left_costs R ps costs (left.Clauses attempt) m h = ap (choice_cost ps costs) h
+
+module _ {W M : Type 0} (R : Gathered → Gathered → Type 0) where
+  pub changes_none : (n : ℕ) (cs : List (kept.Choice W M)) → length cs ≤ n → ChangesAt R n cs cs
+  changes_none n [] less = no_choice
+  changes_none zero (c ∷ cs) less = absurd (omega (arith, less))
+  changes_none (suc n) (c ∷ cs) less = later_choice (changes_none n cs (omega (arith, less)))
+
+  pub changes_one : (n : ℕ) (cs : List (kept.Choice W M)) (c d : kept.Choice W M) → n < length cs → c ≡ get_or cs n c → ChoiceChanges R c d → ChangesAt R n cs (slice_set cs n d)
+  changes_one n [] c d less at h = absurd (omega (arith, less))
+  changes_one zero (x ∷ cs) c d less at h = this_choice (subst (λ (y : kept.Choice W M). ChoiceChanges R y d) at h)
+  changes_one (suc n) (x ∷ cs) c d less at h = later_choice (changes_one n cs c d (omega (arith, less)) at h)
+
+-- ---- what changes at the choice at a place
+
+module _ {W M : Type 0} (R : Gathered → Gathered → Type 0) where
+  -- The last of the choices changes, or one before it.
+  abbrev AtEnd : ℕ → List (kept.Choice W M) → kept.Choice W M → List (kept.Choice W M) → Type 0
+  AtEnd n before c ds =
+      ((n ≡ length before) × ((d : kept.Choice W M) × ChoiceChanges R c d × (ds ≡ before ++ d ∷ [])))
+      ⊎ ((n ≡ length before → ⊥) × ((after : List (kept.Choice W M)) × ChangesAt R n before after × (ds ≡ after ++ c ∷ [])))
+
+  one_later : (n : ℕ) (b c : kept.Choice W M) (before ds : List (kept.Choice W M)) → AtEnd n before c ds → AtEnd (suc n) (b ∷ before) c (b ∷ ds)
+  one_later n b c before ds (inl h) = inl (ap suc h.0, (h.1.0, h.1.1, ap (λ (xs : List _). b ∷ xs) h.1.2))
+  one_later n b c before ds (inr h) = inr (λ e. h.0 (omega (arith, e)), (b ∷ h.1.0, later_choice h.1.1, ap (λ (xs : List _). b ∷ xs) h.1.2))
+
+  pub at_end : (n : ℕ) (before : List (kept.Choice W M)) (c : kept.Choice W M) (ds : List (kept.Choice W M)) → ChangesAt R n (before ++ c ∷ []) ds → AtEnd n before c ds
+  at_end zero [] c _ (this_choice {d = d} h) = inl (refl, (d, h, refl))
+  at_end (suc n) [] c _ (later_choice no_choice) = inr (λ e. omega (arith, e), ([], no_choice, refl))
+  at_end zero (b ∷ before) c _ (this_choice {d = d} h) = inr (λ e. omega (arith, e), (d ∷ before, this_choice h, refl))
+  at_end (suc n) (b ∷ before) c _ (later_choice {ds = ds} h) = one_later n b c before ds (at_end n before c ds h)
+
+  -- each choice has the mark of one that stood before
+  pub same_mark : {n : ℕ} {cs ds : List (kept.Choice W M)} (d : kept.Choice W M) → ChangesAt R n cs ds → Among d ds → (c : kept.Choice W M) × Among c cs × (d.mark ≡ c.mark)
+  same_mark d no_choice among = absurd among
+  same_mark d (this_choice {c = c} h) (inl is) = (c, inl refl, ap (λ (x : kept.Choice W M). x.mark) is ∙ h.mark)
+  same_mark d (this_choice h) (inr among) = (d, inr among, refl)
+  same_mark d (later_choice {c = c} h) (inl is) = (c, inl refl, ap (λ (x : kept.Choice W M). x.mark) is)
+  same_mark d (later_choice h) (inr among) = let found = same_mark d h among in (found.0, inr found.1, found.2)
+
+  -- as many stand
+  pub changed_length : {n : ℕ} {cs ds : List (kept.Choice W M)} → ChangesAt R n cs ds → length ds ≡ length cs
+  changed_length no_choice = refl
+  changed_length (this_choice h) = refl
+  changed_length (later_choice h) = ap suc (changed_length h)
+
+  -- as much is to be done at them
+  pub changed_costs : {n : ℕ} {cs ds : List (kept.Choice W M)} (ps : List Procedure) (costs : List ℕ) → ChangesAt R n cs ds → choices_cost ps costs ds ≡ choices_cost ps costs cs
+  changed_costs ps costs no_choice = refl
+  changed_costs ps costs (this_choice {c = c} {d = d} {cs = cs} h) = ap (λ (k : ℕ). k + choices_cost ps costs cs) (left_costs R ps costs c.left d.left h.left)
+  changed_costs ps costs (later_choice {c = c} h) = ap (λ (k : ℕ). choice_cost ps costs c.left + k) (changed_costs ps costs h)
+
+-- ---- what is left at the alternative at a height changes so
+
+abbrev changed_at : (walker.Left → walker.Left) → ℕ → List Alternative → List Alternative
+changed_at f height [] = []
+changed_at f height (a ∷ below) = (if length below == height then record a { left = f a.left } else a) ∷ changed_at f height below
+
+eqb-refl-at : (m n : ℕ) → m ≡ n → (m == n) ≡ true
+eqb-refl-at m n same = (Decides-eqb m n).1 same
+
+eqb-false-at : (m n : ℕ) → (m ≡ n → ⊥) → (m == n) ≡ false
+eqb-false-at m n other = elim (cases_Bool (m == n)) [
+  | inl same ↦ absurd (other (eqb-true m n same))
+  | inr wrong ↦ wrong
+]
+
+above_all : (f : walker.Left → walker.Left) (n : ℕ) (ks : List Alternative) → length ks ≤ n → changed_at f n ks ≡ ks
+above_all f n [] less = refl
+above_all f n (a ∷ below) less =
+    let here = above_all f n below (omega (arith, less)) in
+    elim (cases_Bool (length below == n)) [
+      | inl same ↦ absurd (let e = eqb-true (length below) n same in omega (arith, e, less))
+      | inr other ↦ rw (other, here) refl
+    ]
+
+gathered_changed : (t : Tree) (n : ℕ) (ks : List Alternative) → gathered_at n t ks ≡ changed_at (λ l. gathered l t) n ks
+gathered_changed t n [] = refl
+gathered_changed t n (a ∷ below) = ap (λ (xs : List Alternative). (if length below == n then record a { left = gathered a.left t } else a) ∷ xs) (gathered_changed t n below)
+
+same_alternative : (b : Bool) (a : Alternative) → (if b then record a { left = a.left } else a) ≡ a
+same_alternative true a = refl
+same_alternative false a = refl
+
+unchanged : (n : ℕ) (ks : List Alternative) → changed_at (λ l. l) n ks ≡ ks
+unchanged n [] = refl
+unchanged n (a ∷ below) = ap₂ (λ (x : Alternative) (xs : List Alternative). x ∷ xs) (same_alternative (length below == n) a) (unchanged n below)
+
+same_links : {W M : Type 0} (R : Gathered → Gathered → Type 0) (links : Links W) (c d : kept.Choice W M) → ChoiceChanges R c d → links_at d links ≡ links_at c links
+same_links {W} R links c d h =
+    let made : ℕ → ℕ → Links W = λ n m. record { nodes = take n links.nodes; frames = take m links.frames } in
+    ap₂ made h.nodes h.frames
+
+on_changed : {W M : Type 0} (R : Gathered → Gathered → Type 0) (links : Links W) (c d : kept.Choice W M) → ChoiceChanges R c d → StandsOn c links → StandsOn d links
+on_changed R links c d h on = record {
+  nodes = (let a = on.nodes in let b = h.nodes in omega (arith, a, b));
+  frames = (let a = on.frames in let b = h.frames in omega (arith, a, b));
+}
+
+-- How what was gathered, and what is left at the alternative, change together.
+pub record Together (f : walker.Left → walker.Left) (R : Gathered → Gathered → Type 0) : Type 0 where
+  pub as_is : f AsIs ≡ AsIs
+  pub again : f Again ≡ Again
+  pub clauses : (call : Tree) (cs : List Clause) → f (Clauses call cs) ≡ Clauses call cs
+  pub catching : (catcher recovery : Tree) → f (Catching catcher recovery) ≡ Catching catcher recovery
+  pub gathering : (result : Tree) (g h : Gathered) → R g h → f (Gathering result (copies_of g) g.variables) ≡ Gathering result (copies_of h) h.variables
+  pub fits : (g h : Gathered) → R g h → arities_fit (list_of (copies_of g)) ≡ true → arities_fit (list_of (copies_of h)) ≡ true
+  pub entered : (l : walker.Left) → entered_at (f l) ≡ entered_at l
+
+module _ (f : walker.Left → walker.Left) (R : Gathered → Gathered → Type 0) (k : Together f R) where
+  module _ {W : Type 0} (left_at : ℕ → ℕ → List Clause) (query : List W) (named : List ℕ) (p : Present W) (links : Links W) (a : Alternative) where
+    left_changed : (l m : Left W) → LeftChanges R l m → HasLeft left_at query named p links l a → HasLeft left_at query named p links m (record a { left = f a.left })
+    left_changed (left.Gathering result place g) m h has =
+        subst (λ (x : Left W). HasLeft left_at query named p links x (record a { left = f a.left })) (sym h.1)
+        (record { holds = has.holds; on = has.on; is = ap f has.is ∙ k.gathering (meaning p result) g h.0 h.2; fits = k.fits g h.0 h.2 has.fits })
+    left_changed (left.AsIs place) m h has =
+        subst (λ (x : Left W). HasLeft left_at query named p links x (record a { left = f a.left })) (sym h) (record { on = has.on; is = ap f has.is ∙ k.as_is })
+    left_changed (left.Again place) m h has =
+        subst (λ (x : Left W). HasLeft left_at query named p links x (record a { left = f a.left })) (sym h) (record { on = has.on; is = ap f has.is ∙ k.again })
+    left_changed (left.Catching goal place) m h has =
+        subst (λ (x : Left W). HasLeft left_at query named p links x (record a { left = f a.left })) (sym h)
+        (record { holds = has.holds; three = has.three; on = has.on; is = ap f has.is ∙ k.catching _ _ })
+    left_changed (left.Clauses attempt) m h has =
+        subst (λ (x : Left W). HasLeft left_at query named p links x (record a { left = f a.left })) (sym h)
+        (record { call = has.call; at = record { holds = has.at.holds; value = has.at.value; on = has.at.on }; left = ap f has.left ∙ k.clauses _ _; some = has.some })
+
+  module _ {W M : Type 0} {stands : M → Present W → Type 0} {older : M → M → Type 0} {base : M} {left_at : ℕ → ℕ → List Clause} {query : List W} {named : List ℕ} where
+    choice_changed : (links : Links W) (c d : kept.Choice W M) (a : Alternative) → ChoiceChanges R c d → StandsForChoice stands older base left_at query named (links_at c links) c a
+        → StandsForChoice stands older base left_at query named (links_at c links) d (record a { left = f a.left })
+    choice_changed links c d a h here = record {
+      present = here.present;
+      mark = subst (λ (m : M). stands m here.present) (sym h.mark) here.mark;
+      newer = subst (λ (m : M). older base m) (sym h.mark) here.newer;
+      has = left_changed left_at query named here.present (links_at c links) a c.left d.left h.left here.has;
+    }
+
+    pub choices_changed : {links : Links W} {cs ds : List (kept.Choice W M)} {ks : List Alternative} (n : ℕ) → ChangesAt R n cs ds
+        → StandsForChoices stands older base left_at query named links cs ks → StandsForChoices stands older base left_at query named links ds (changed_at f n ks)
+    choices_changed n no_choice none_kept = none_kept
+    choices_changed {links = links} {cs = cs} {ds = ds} n change (one_kept {before = before} {c = c} {a = a} {ks = ks} is on here newer below) =
+        let many = choices_length below in
+        elim (at_end R n before c ds (subst (λ (xs : List (kept.Choice W M)). ChangesAt R n xs ds) is change)) [
+          | inl last ↦ (let d = last.1.0 in
+              let h = last.1.1 in
+              let links_same = same_links R links c d h in
+              let height : length ks ≡ n = omega (arith, many, last.0) in
+              let first : (length ks == n) ≡ true = eqb-refl-at (length ks) n height in
+              let others = above_all f n ks (omega (arith, height)) in
+              let one : StandsForChoices stands older base left_at query named links ds (record a { left = f a.left } ∷ ks) =
+              one_kept last.1.2 (on_changed R links c d h on)
+              (subst (λ (ls : Links W). StandsForChoice stands older base left_at query named ls d (record a { left = f a.left })) (sym links_same) (choice_changed links c d a h here))
+              (λ x among. subst (λ (m : M). older x.mark m) (sym h.mark) (newer x among))
+              (subst (λ (ls : Links W). StandsForChoices stands older base left_at query named ls before ks) (sym links_same) below) in
+              rw (first, others) one)
+          | inr lower ↦ (let after = lower.1.0 in
+              let other : (length ks == n) ≡ false = eqb-false-at (length ks) n (λ e. lower.0 (omega (arith, many, e))) in
+              let one : StandsForChoices stands older base left_at query named links ds (a ∷ changed_at f n ks) =
+              one_kept lower.1.2 on here
+              (λ x among. let found = same_mark R x lower.1.1 among in subst (λ (m : M). older m c.mark) (sym found.2) (newer found.0 found.1))
+              (choices_changed n lower.1.1 below) in
+              rw other one)
+        ]
+
+  pub room_changed : (steps n : ℕ) (ks : List Alternative) → HaveRoom steps ks → HaveRoom steps (changed_at f n ks)
+  room_changed steps n [] room = tt
+  room_changed steps n (a ∷ ks) room = (
+    elim (length ks == n) as (λ (b : Bool). (if b then record a { left = f a.left } else a).next + numbers_a_step * (steps + entered_at (if b then record a { left = f a.left } else a).left) ≤ most_numbers) [
+      | true ↦ subst (λ (m : ℕ). a.next + numbers_a_step * (steps + m) ≤ most_numbers) (sym (k.entered a.left)) room.0
+      | false ↦ room.0
+    ],
+    room_changed steps n ks room.1,
+  )
+
+-- ---- a solution comes
+
+entered_gathered : (t : Tree) (l : walker.Left) → entered_at (gathered l t) ≡ entered_at l
+entered_gathered t AsIs = refl
+entered_gathered t Again = refl
+entered_gathered t (Clauses call cs) = refl
+entered_gathered t (Catching catcher recovery) = refl
+entered_gathered t (Gathering result copies count) = refl
+
+with_solution : (t : Tree) → arities_fit t ≡ true → Together (λ l. gathered l t) (Gains t)
+with_solution t fits = record {
+  as_is = refl;
+  again = refl;
+  clauses = λ call cs. refl;
+  catching = λ catcher recovery. refl;
+  gathering = λ result g h r. ap₂ (Gathering result) (sym r.copies) (sym r.variables);
+  fits = λ g h r all. subst (λ (ts : List Tree). arities_fit (list_of ts) ≡ true) (sym r.copies) (list_fits (copies_of g) (copy_from t g.variables) (Name nil) all (copy_fits t g.variables fits));
+  entered = entered_gathered t;
+}
+
+with_none : Together (λ l. l) SameCopies
+with_none = record {
+  as_is = refl;
+  again = refl;
+  clauses = λ call cs. refl;
+  catching = λ catcher recovery. refl;
+  gathering = λ result g h r. ap₂ (Gathering result) (sym r.0) (sym r.1);
+  fits = λ g h r all. subst (λ (ts : List Tree). arities_fit (list_of ts) ≡ true) (sym r.0) all;
+  entered = λ l. refl;
+}
+
+module _ {W M : Type 0} {stands : M → Present W → Type 0} {older : M → M → Type 0} {base : M} {left_at : ℕ → ℕ → List Clause} {query : List W} {named : List ℕ} where
+  pub choices_gain : {links : Links W} {cs ds : List (kept.Choice W M)} {ks : List Alternative} (n : ℕ) (t : Tree) → arities_fit t ≡ true → ChangesAt (Gains t) n cs ds
+      → StandsForChoices stands older base left_at query named links cs ks → StandsForChoices stands older base left_at query named links ds (gathered_at n t ks)
+  choices_gain {links = links} {ds = ds} {ks = ks} n t fits change are =
+      subst (λ (xs : List Alternative). StandsForChoices stands older base left_at query named links ds xs) (sym (gathered_changed t n ks)) (choices_changed (λ l. gathered l t) (Gains t) (with_solution t fits) n change are)
+
+  -- none came
+  pub choices_same : {links : Links W} {cs ds : List (kept.Choice W M)} {ks : List Alternative} (n : ℕ) → ChangesAt SameCopies n cs ds
+      → StandsForChoices stands older base left_at query named links cs ks → StandsForChoices stands older base left_at query named links ds ks
+  choices_same {links = links} {ds = ds} {ks = ks} n change are =
+      subst (λ (xs : List Alternative). StandsForChoices stands older base left_at query named links ds xs) (unchanged n ks) (choices_changed (λ l. l) SameCopies with_none n change are)
+
+pub room_gathered : (steps n : ℕ) (t : Tree) (ks : List Alternative) → arities_fit t ≡ true → HaveRoom steps ks → HaveRoom steps (gathered_at n t ks)
+room_gathered steps n t ks fits room = subst (HaveRoom steps) (sym (gathered_changed t n ks)) (room_changed (λ l. gathered l t) (Gains t) (with_solution t fits) steps n ks room)

@@ -1,0 +1,141 @@
+-- What building a term in a heap comes to.
+use Rattle.std.proofs.Common.{◌≡◌, ◌≢◌, ℕ, zero, suc, ◌+◌, ◌≤◌, ◌&&◌, nat_le, List, [], ◌∷◌, length, take, replicate, true, false, refl, ap, ap₂, sym, ◌∙◌, arith, length-append, Some, None, ◌==◌}
+use Rattle.std.specs.List.{slice_get, list_any}
+use Rattle.std.proofs.lemmas.Bool.{and_parts, eq-eqb, false≢true}
+use Rattle.std.proofs.lemmas.List.Sums.{position_or_len_is}
+use Rattle.iso_model.specs.Terms.Trees.{Tree, Variable, Integer, Name, Apply, End, More, count}
+use Rattle.iso_model.specs.Terms.Sorts.{is_term, is_row}
+use Rattle.iso_model.specs.Terms.Sizes.{size}
+use Rattle.iso_model.specs.Terms.Variables.{is_in, distinct_from, variables, variable_count}
+use Rattle.iso_model.specs.Terms.Substitutions.{Subst, apply}
+use Rattle.iso_model.specs.Terms.Copies.{place_of, copy_from}
+use Rattle.iso_model.specs.Terms.Unification.Applied.{apply_apply}
+use Rattle.iso_store_core.specs.Presents.{Present, KeepsWords, Makes, Grows}
+use Rattle.iso_store_core.specs.Copying.{cells_of}
+use Rattle.iso_store.specs.declared.heap.Heap.{Heap}
+use Rattle.iso_store.specs.declared.heap_cells.HeapWord.{HeapWord}
+use Rattle.iso_store.specs.declared.heap_cells.HeapMark.{HeapMark}
+use Rattle.iso_store.specs.declared.heap_cells.Piece.TheVariants.{Word}
+use Rattle.iso_store.specs.declared.heap_cells.Cell.{Cell}
+use Rattle.iso_store.specs.HeapStores.{has_cell_number, HeapStandsFor, present_of_heap}
+use Rattle.iso_store.specs.HeapBuilds.{GoesOn, HaveCells, built, numbered}
+use Rattle.iso_store.proofs.Gathering.{keeps-then}
+use Rattle.iso_store.proofs.CellCounts.{added}
+use Rattle.iso_store.proofs.HeapMarked.{more-keeps}
+
+-- ---- how many cells a term takes
+mutual
+  term-within : (t : Tree) → is_term t ≡ true → cells_of 0 (λ n. n + 1) t + 1 ≤ size t
+  term-within (Variable n) h = omega arith
+  term-within (Integer z) h = omega arith
+  term-within (Name a) h = omega arith
+  term-within (Apply f ts) h =
+      let some = and_parts (nat_le 1 (count ts)) (nat_le (count ts) 255 && is_row ts) h in
+      let row = and_parts (nat_le (count ts) 255) (is_row ts) some.1 in
+      omega (arith, row-within ts row.1)
+  term-within End h = absurd (false≢true h)
+  term-within (More t ts) h = absurd (false≢true h)
+
+  row-within : (ts : Tree) → is_row ts ≡ true → count ts + cells_of 0 (λ n. n + 1) ts ≤ size ts
+  row-within (Variable n) h = absurd (false≢true h)
+  row-within (Integer z) h = absurd (false≢true h)
+  row-within (Name a) h = absurd (false≢true h)
+  row-within (Apply f ts) h = absurd (false≢true h)
+  row-within End h = omega arith
+  row-within (More t ts) h = let parts = and_parts (is_term t) (is_row ts) h in omega (arith, term-within t parts.0, row-within ts parts.1)
+
+-- no more than its size
+pub cells-within : (t : Tree) → is_term t ≡ true → cells_of 0 (λ n. n + 1) t ≤ size t
+cells-within t h = let less = term-within t h in omega arith
+
+mutual
+  term-counted : (seen : List ℕ) (t : Tree) → is_term t ≡ true → length (distinct_from seen t) ≤ length seen + cells_of 0 (λ n. n + 1) t + 1
+  term-counted seen (Variable n) h = let one = added seen n (is_in n seen) in omega arith
+  term-counted seen (Integer z) h = omega arith
+  term-counted seen (Name a) h = omega arith
+  term-counted seen (Apply f ts) h =
+      let some = and_parts (nat_le 1 (count ts)) (nat_le (count ts) 255 && is_row ts) h in
+      let row = and_parts (nat_le (count ts) 255) (is_row ts) some.1 in
+      omega (arith, row-counted seen ts row.1)
+  term-counted seen End h = absurd (false≢true h)
+  term-counted seen (More t ts) h = absurd (false≢true h)
+
+  row-counted : (seen : List ℕ) (ts : Tree) → is_row ts ≡ true → length (distinct_from seen ts) ≤ length seen + count ts + cells_of 0 (λ n. n + 1) ts
+  row-counted seen (Variable n) h = absurd (false≢true h)
+  row-counted seen (Integer z) h = absurd (false≢true h)
+  row-counted seen (Name a) h = absurd (false≢true h)
+  row-counted seen (Apply f ts) h = absurd (false≢true h)
+  row-counted seen End h = omega arith
+  row-counted seen (More t ts) h =
+      let parts = and_parts (is_term t) (is_row ts) h in
+      omega (arith, term-counted seen t parts.0, row-counted (distinct_from seen t) ts parts.1)
+
+-- no fewer than its variables, unless it is one
+pub each-counted : (t : Tree) → is_term t ≡ true → ((n : ℕ) → t ≢ Variable n) → variable_count t ≤ cells_of 0 (λ n. n + 1) t
+each-counted (Variable n) h other = absurd (other n refl)
+each-counted (Integer z) h other = omega arith
+each-counted (Name a) h other = omega arith
+each-counted (Apply f ts) h other =
+    let some = and_parts (nat_le 1 (count ts)) (nat_le (count ts) 255 && is_row ts) h in
+    let row = and_parts (nat_le (count ts) 255) (is_row ts) some.1 in
+    omega (arith, row-counted [] ts row.1)
+each-counted End h other = absurd (false≢true h)
+each-counted (More t ts) h other = absurd (false≢true h)
+
+-- ---- the term
+pub no-variable : (s : Subst) (t : Tree) (n : ℕ) → ((m : ℕ) → t ≢ Variable m) → apply s t ≢ Variable n
+no-variable s (Variable m) n other = absurd (other m refl)
+no-variable s (Integer z) n other = λ e. cc
+no-variable s (Name a) n other = λ e. cc
+no-variable s (Apply f ts) n other = λ e. cc
+no-variable s End n other = λ e. cc
+no-variable s (More t ts) n other = λ e. cc
+
+pub copied-numbers : (t : Tree) (first n : ℕ) (vs : List ℕ) → first ≡ n → vs ≡ variables t → apply (numbered first) (apply (λ x. Variable (place_of x vs)) t) ≡ copy_from t n
+copied-numbers t first n vs same list = apply_apply (λ x. Variable (place_of x vs)) (numbered first) t ∙ ap₂ (λ m us. apply (λ x. Variable (m + place_of x us)) t) same list
+
+-- ---- no variable has its cell yet
+nowhere : (n k a : ℕ) → slice_get (replicate n None) k ≢ Some (Some a)
+nowhere zero k a = λ e. cc
+nowhere (suc n) zero a = λ e. cc
+nowhere (suc n) (suc k) a = nowhere n k a
+
+pub have-none : (cs : List Cell) (first n : ℕ) → ((m : ℕ) → first ≤ m → list_any (has_cell_number m) cs ≡ false) → HaveCells cs first (replicate n None)
+have-none cs first n free = record {
+  there = λ k a e. absurd (nowhere n k a e);
+  free = λ k e. free (first + k) (omega arith);
+}
+
+-- ---- what goes on, said of the heap
+abbrev pub as_present : Heap → Present HeapWord
+as_present h = present_of_heap (take h.named h.atoms) h.area.low h.next h.area.capacity
+
+module _ {first : ℕ} {old new : Heap} (goes : GoesOn first old new) where
+  pub goes-marks : (m : HeapMark) (p : Present HeapWord) → HeapStandsFor old.atoms old.area.capacity old.newest old.area.low old.area.high m p → HeapStandsFor new.atoms new.area.capacity new.newest new.area.low new.area.high m p
+  goes-marks m p h = rw (goes.atoms, goes.capacity, goes.newest, goes.high, goes.cells.1) (more-keeps old.atoms old.area.capacity old.newest old.area.low goes.cells.0 old.area.high m p h)
+
+  pub goes-keeps : length old.area.low ≤ length new.area.low
+  goes-keeps = let more = ap length goes.cells.1 ∙ length-append old.area.low goes.cells.0 in omega arith
+
+  pub goes-grows : (p q : Present HeapWord) (j k : ℕ) → Grows p q 0 → q.cells ≡ length old.area.low → q.limit ≡ old.area.capacity → length new.area.low ≤ length old.area.low + j → j ≤ k → Grows p (as_present new) k
+  goes-grows p q j k before size room few within = record {
+    cells = let a = before.cells in omega arith;
+    keeps = let a = before.keeps in let b = goes-keeps in omega arith;
+    limit = goes.capacity ∙ sym room ∙ before.limit;
+    within = λ h. goes.within (let a = before.within h in omega arith);
+  }
+
+  pub goes-makes : (p : Present HeapWord) (n : ℕ) (w : HeapWord) (t u : Tree) → KeepsWords p (as_present old) → (as_present old).substitution ≡ p.substitution → t ≡ u → Makes (built old first n) (built new first n) (Word w) t → Makes p (as_present new) w u
+  goes-makes p n w t u words same is made = record {
+    words = keeps-then words (record { stand = λ v h. made.words.stand (Word v) h; terms = λ v h. made.words.terms (Word v) h });
+    substitution = made.substitution ∙ same;
+    holds = made.holds;
+    term = made.term ∙ is;
+  }
+
+-- the copy of a variable
+pub copied-one : (n next : ℕ) → copy_from (Variable n) next ≡ Variable next
+copied-one n next = ap (λ k. Variable (next + k)) (place-first n) ∙ ap Variable (omega arith)
+  where
+    place-first : (n : ℕ) → place_of n (n ∷ []) ≡ 0
+    place-first n = position_or_len_is (λ m. m == n) (n ∷ []) 0 n (omega arith) (λ j below. absurd (omega arith)) (λ _. eq-eqb n n refl)

@@ -1,0 +1,237 @@
+//! The standard order of terms (ISO/IEC 13211-1:1995, 7.2; that older variables come first is own). Terms are gone through by
+//! a list of tasks, and two compounds that were found identical are joined: so no pair of subterms that are shared is gone
+//! through again.
+ghost use Rattle.std.specs.Prelude.{◌≡◌, ℕ, ◌<◌, List, ◌∷◌, [], ◌++◌, IfOk, length, true};
+ghost use Rattle.std.specs.Ordering.{nat_cmp, ordering_then};
+ghost use Rattle.std.specs.Cmp.Lexicographic.{slice_cmp};
+ghost use Rattle.iso_atoms.specs.Texts.{text_at};
+ghost use Rattle.iso_model.specs.Terms.Trees.{Tree, Apply, count};
+ghost use Rattle.iso_model.specs.Terms.Sorts.{is_term};
+ghost use Rattle.iso_model.specs.Terms.Order.{term_cmp, kind};
+ghost use Rattle.iso_store_core.specs.Presents.{Holds, meaning, KeepsMarks};
+ghost use Rattle.iso_store_core.specs.Shapes.{IsShape};
+ghost use Rattle.iso_store.specs.Unifying.{IsPair, Stands, Steps};
+ghost use Rattle.iso_store.specs.Comparing.{IsComparison, order_left};
+
+use super::cells::Cells;
+use super::joins::join;
+use super::notes::Notes;
+use super::scratch::Scratch;
+use super::unify::{Task, leave_arguments};
+use iso_atoms::Atom;
+use iso_model::NoMemory;
+use iso_store_core::Shape;
+use std::cmp::Ordering;
+
+/// What decides how two terms compare.
+#[derive(Clone, Copy)]
+enum Comparison {
+    /// This is their order.
+    Decided(Ordering),
+    /// They are compounds of one name with so many arguments, and these decide.
+    Arguments(usize),
+}
+
+/// The place of a kind of term in the order.
+fn kind_of(shape: Shape) -> u8
+    ensures { (names : List (List ℕ)) (t : Tree) → IsShape names shape t → result ≡ kind t }
+{
+    match shape {
+        Shape::Var(_) => 0,
+        Shape::Int(_) => 1,
+        Shape::Atom(_) => 2,
+        Shape::Compound(_, _) => 3,
+    }
+}
+
+/// How two names compare: by their character codes, which is how their bytes compare.
+fn compare_names<C: Cells>(store: &C, one: Atom, other: Atom) -> Ordering
+    requires one { one < length (C.names store.now) }
+    requires other { other < length (C.names store.now) }
+    ensures { result ≡ slice_cmp nat_cmp (text_at (C.names store.now) one) (text_at (C.names store.now) other) }
+{
+    store.text(one).cmp(store.text(other))
+}
+
+/// What decides how two compounds of these names compare: how many arguments they have, then their names, then the arguments.
+fn compare_compounds<C: Cells>(
+    store: &C,
+    one: Atom,
+    one_count: usize,
+    other: Atom,
+    other_count: usize,
+) -> Comparison
+    requires one { one < length (C.names store.now) }
+    requires other { other < length (C.names store.now) }
+    ensures { (ts us : Tree) → count ts ≡ one_count → count us ≡ other_count
+        → IsComparison result (Apply (text_at (C.names store.now) one) ts) (Apply (text_at (C.names store.now) other) us) }
+{
+    let arities = one_count.cmp(&other_count);
+    if arities != Ordering::Equal {
+        return Comparison::Decided(arities);
+    }
+    let names = compare_names(store, one, other);
+    if names != Ordering::Equal {
+        return Comparison::Decided(names);
+    }
+    Comparison::Arguments(one_count)
+}
+
+/// What decides how the terms of the two words compare.
+fn compare_heads<C: Cells>(store: &C, one: C::Word, other: C::Word) -> Comparison
+    requires one { Holds (C.present store.now) one }
+    requires other { Holds (C.present store.now) other }
+    ensures comparison { IsComparison result (meaning (C.present store.now) one) (meaning (C.present store.now) other) }
+    ensures one_term { is_term (meaning (C.present store.now) one) ≡ true }
+    ensures other_term { is_term (meaning (C.present store.now) other) ≡ true }
+{
+    let first = store.shape(one);
+    let second = store.shape(other);
+    match first {
+        Shape::Var(x) => {
+            if let Shape::Var(y) = second {
+                return Comparison::Decided(x.cmp(&y));
+            }
+        }
+        Shape::Int(x) => {
+            if let Shape::Int(y) = second {
+                return Comparison::Decided(x.cmp(&y));
+            }
+        }
+        Shape::Atom(x) => {
+            if let Shape::Atom(y) = second {
+                return Comparison::Decided(compare_names(store, x, y));
+            }
+        }
+        Shape::Compound(f, m) => {
+            if let Shape::Compound(g, n) = second {
+                return compare_compounds(store, f, m, g, n);
+            }
+        }
+    }
+    Comparison::Decided(kind_of(first).cmp(&kind_of(second)))
+}
+
+/// Compares what the words stand for, where no arguments have to be for it. Compounds of one name are left to be compared: as
+/// far as it was looked, they are alike.
+fn compare_next<C: Cells>(
+    store: &C,
+    one: C::Word,
+    other: C::Word,
+    joined: &mut Notes<C::Word>,
+    tasks: &mut Vec<Task<C::Word>>,
+) -> Result<Ordering, NoMemory>
+    requires one { Holds (C.present store.now) one }
+    requires other { Holds (C.present store.now) other }
+    requires stands { Stands (C.present store.now) (C.at_place store.now) joined.old (meaning (C.present store.now) one ∷ []) (meaning (C.present store.now) other ∷ []) tasks.old.items }
+    ensures stands { IfOk result (λ o. o ≡ Ordering.Equal → Stands (C.present store.now) (C.at_place store.now) joined.new [] [] tasks.new.items) }
+    ensures steps { IfOk result (λ o. o ≡ Ordering.Equal → Steps (C.present store.now) (C.present store.now)
+        (meaning (C.present store.now) one ∷ []) (meaning (C.present store.now) other ∷ []) tasks.old.items tasks.new.items) }
+    ensures order { IfOk result (λ o. ordering_then o (order_left (C.present store.now) [] [] tasks.new.items)
+        ≡ order_left (C.present store.now) (meaning (C.present store.now) one ∷ []) (meaning (C.present store.now) other ∷ []) tasks.old.items) }
+{
+    match compare_heads(store, one, other) {
+        Comparison::Decided(order) => Ok(order),
+        Comparison::Arguments(count) => {
+            leave_arguments(store, one, other, count, joined, tasks)?;
+            Ok(Ordering::Equal)
+        }
+    }
+}
+
+/// Compares the arguments at this place, and leaves those behind them; each compound has so many.
+fn compare_arguments<C: Cells>(
+    store: &C,
+    one: C::Word,
+    other: C::Word,
+    index: usize,
+    count: usize,
+    joined: &mut Notes<C::Word>,
+    tasks: &mut Vec<Task<C::Word>>,
+) -> Result<Ordering, NoMemory>
+    requires pair { IsPair (C.present store.now) (Task.Unify one other index count) }
+    requires stands { Stands (C.present store.now) (C.at_place store.now) joined.old [] [] (tasks.old.items ++ Task.Unify one other index count ∷ []) }
+    ensures stands { IfOk result (λ o. o ≡ Ordering.Equal → Stands (C.present store.now) (C.at_place store.now) joined.new [] [] tasks.new.items) }
+    ensures steps { IfOk result (λ o. o ≡ Ordering.Equal → Steps (C.present store.now) (C.present store.now) [] [] (tasks.old.items ++ Task.Unify one other index count ∷ []) tasks.new.items) }
+    ensures order { IfOk result (λ o. ordering_then o (order_left (C.present store.now) [] [] tasks.new.items)
+        ≡ order_left (C.present store.now) [] [] (tasks.old.items ++ Task.Unify one other index count ∷ [])) }
+{
+    let first = store.arg(one, index);
+    let second = store.arg(other, index);
+    if index + 1 == count {
+        return compare_next(store, first, second, joined, tasks);
+    }
+    tasks.push(Task::Unify(one, other, index + 1, count))?;
+    compare_next(store, first, second, joined, tasks)
+}
+
+/// Does what a task says. As far as it goes, the terms are alike where it answers that they are equal.
+fn do_task<C: Cells>(
+    store: &C,
+    task: Task<C::Word>,
+    joined: &mut Notes<C::Word>,
+    tasks: &mut Vec<Task<C::Word>>,
+) -> Result<Ordering, NoMemory>
+    requires pair { IsPair (C.present store.now) task }
+    requires stands { Stands (C.present store.now) (C.at_place store.now) joined.old [] [] (tasks.old.items ++ task ∷ []) }
+    ensures stands { IfOk result (λ o. o ≡ Ordering.Equal → Stands (C.present store.now) (C.at_place store.now) joined.new [] [] tasks.new.items) }
+    ensures steps { IfOk result (λ o. o ≡ Ordering.Equal → Steps (C.present store.now) (C.present store.now) [] [] (tasks.old.items ++ task ∷ []) tasks.new.items) }
+    ensures order { IfOk result (λ o. ordering_then o (order_left (C.present store.now) [] [] tasks.new.items)
+        ≡ order_left (C.present store.now) [] [] (tasks.old.items ++ task ∷ [])) }
+{
+    match task {
+        Task::Unify(one, other, index, count) => {
+            compare_arguments(store, one, other, index, count, joined, tasks)
+        }
+        Task::Join(one, other) => {
+            join(store, one, other, joined)?;
+            Ok(Ordering::Equal)
+        }
+    }
+}
+
+/// How what the words stand for compares, with these notes.
+fn compare_with<C: Cells>(
+    store: &C,
+    one: C::Word,
+    other: C::Word,
+    joined: &mut Notes<C::Word>,
+) -> Result<Ordering, NoMemory>
+    requires one { Holds (C.present store.now) one }
+    requires other { Holds (C.present store.now) other }
+    ensures { IfOk result (λ o. o ≡ term_cmp (meaning (C.present store.now) one) (meaning (C.present store.now) other)) }
+{
+    joined.begin();
+    let mut tasks = Vec::new(store.alloc());
+    let order = compare_next(store, one, other, joined, &mut tasks)?;
+    if order != Ordering::Equal {
+        return Ok(order);
+    }
+    while let Some(task) = tasks.pop() {
+        let order = do_task(store, task, joined, &mut tasks)?;
+        if order != Ordering::Equal {
+            return Ok(order);
+        }
+    }
+    Ok(Ordering::Equal)
+}
+
+/// How what the words stand for compares. The error is that memory was refused; where neither is a compound, none is asked for.
+pub(crate) fn compare<C: Cells>(
+    store: &mut C,
+    one: C::Word,
+    other: C::Word,
+) -> Result<Ordering, NoMemory>
+    requires one { Holds (C.present store.old) one }
+    requires other { Holds (C.present store.old) other }
+    ensures order { IfOk result (λ o. o ≡ term_cmp (meaning (C.present store.old) one) (meaning (C.present store.old) other)) }
+    ensures present { C.present store.new ≡ C.present store.old }
+    ensures names { C.names store.new ≡ C.names store.old }
+    ensures marks { KeepsMarks (C.stands store.old) (C.stands store.new) }
+{
+    let mut scratch = Scratch::new(store.alloc());
+    store.swap_scratch(&mut scratch);
+    let answer = compare_with(store, one, other, &mut scratch.joined);
+    store.swap_scratch(&mut scratch);
+    answer
+}
