@@ -341,7 +341,8 @@ fn lists_variables(rt: HostRuntime) -> Result<(), Fail> {
     expect_variables_listed(&rt, alloc, &mut heap)
 }
 
-/// That a list of so many variables has them, and is identical to a copy of its own.
+/// That a list of so many variables has them, comes before the list of the same ones from the last to the first, and is
+/// identical to it when both are unified.
 fn expect_long_list<S: Store>(
     rt: &impl Abort,
     alloc: Global,
@@ -357,9 +358,10 @@ fn expect_long_list<S: Store>(
     for (place, variable) in variables.iter().enumerate() {
         assert_eq!(rt; store.shape(*variable), Shape::Var(place as u64));
     }
-    let again = instance(store, &term, variables.as_slice())?;
-    assert_eq!(rt; store.compare(whole, again)?, Ordering::Equal);
-    assert!(rt; store.unify(whole, again)?);
+    let turned = instance(store, &term, variables.as_slice())?;
+    assert_eq!(rt; store.compare(whole, turned)?, Ordering::Less);
+    assert!(rt; store.unify(whole, turned)?);
+    assert_eq!(rt; store.compare(whole, turned)?, Ordering::Equal);
     Ok(())
 }
 
