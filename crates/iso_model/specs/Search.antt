@@ -9,6 +9,8 @@ pub mod Library
 pub mod BuiltIns
 pub mod Rows
 pub mod Additions
+pub mod Worlds
+pub mod Settings
 pub mod Walker
 pub mod Runs
 pub mod RunLaws

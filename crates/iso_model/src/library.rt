@@ -36,6 +36,19 @@ pub enum Library {
     Keysort,
 }
 
+/// A built-in that reads or changes the operators or the flags.
+#[derive(Clone, Copy, Debug, PartialEq, Eq)]
+pub enum Setting {
+    /// `op/3`: names become operators, or are none any more (8.14.3).
+    Op,
+    /// `current_op/3`: each operator (8.14.4).
+    CurrentOp,
+    /// `set_prolog_flag/2` (8.17.1)
+    SetFlag,
+    /// `current_prolog_flag/2`: each flag with its value (8.17.2).
+    CurrentFlag,
+}
+
 /// How two integers are compared (8.7).
 #[derive(Clone, Copy, Debug, PartialEq, Eq)]
 pub enum Comparison {

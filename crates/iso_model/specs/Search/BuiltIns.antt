@@ -1,6 +1,6 @@
 -- The procedures of the language itself (ISO/IEC 13211-1:1995, 7.8 and 8): one table says which there are, and one function what a goal of
 -- each comes to.
-use Rattle.std.specs.Prelude.{ℕ, nat_lt, int_lt, nat_abs, pos, List, [], ◌∷◌, Bool, true, false, ◌||◌, Option, Some, None, codes, if◌then◌else◌}
+use Rattle.std.specs.Prelude.{nat_lt, int_lt, nat_abs, pos, List, [], ◌∷◌, Bool, true, false, ◌||◌, Option, Some, None, codes, if◌then◌else◌}
 use Rattle.iso_model.specs.Terms.Trees.{Tree, Variable, Integer}
 use Rattle.iso_model.specs.Search.Keys.{Key, key, same_key}
 use Rattle.iso_model.specs.Search.Library.{library_answer}

@@ -29,10 +29,13 @@ domain_error domain culprit k = raised (two (codes "domain_error") (Name domain)
 abbrev pub existence_error : Key → Tree
 existence_error k = raised (two (codes "existence_error") (Name (codes "procedure")) (indicator k)) k
 
+-- this operation on the culprit, which is of this type, is not permitted
+abbrev pub not_permitted : List ℕ → List ℕ → Tree → Key → Tree
+not_permitted operation type culprit k = raised (Apply (codes "permission_error") (More (Name operation) (More (Name type) (More culprit End)))) k
+
 -- clauses may not be added to this procedure
 abbrev pub permission_error : Key → Key → Tree
-permission_error culprit k =
-    raised (Apply (codes "permission_error") (More (Name (codes "modify")) (More (Name (codes "static_procedure")) (More (indicator culprit) End)))) k
+permission_error culprit k = not_permitted (codes "modify") (codes "static_procedure") (indicator culprit) k
 
 abbrev pub max_variables_error : Key → Tree
 max_variables_error k = raised (one (codes "representation_error") (Name (codes "max_variables"))) k

@@ -1,5 +1,5 @@
 -- Built-ins that look at their arguments, or unify them: they run no goal (ISO/IEC 13211-1:1995, 8.2 to 8.7).
-use Rattle.std.specs.Prelude.{◌+◌, ◌*◌, List, [], ◌∷◌, length, map, ℕ, zero, suc, ℤ, pos, negsuc, nat_lt, int_lt, Bool, true, false, not, ◌||◌, ◌==◌, Option, Some, None, Ok, Err, codes, if◌then◌else◌}
+use Rattle.std.specs.Prelude.{◌+◌, ◌*◌, List, [], ◌∷◌, length, map, ℕ, zero, suc, ℤ, pos, negsuc, nat_lt, int_lt, Bool, false, not, ◌||◌, ◌==◌, Option, Some, None, Ok, Err, codes, if◌then◌else◌}
 use Rattle.std.specs.Ordering.{int_eq, is_eq, is_lt, is_gt}
 use Rattle.std.specs.Str.{bytes_eq}
 use Rattle.std.specs.declared.cmp.Ordering.{Ordering}

@@ -1,11 +1,7 @@
 -- The standard's search, step by step (ISO/IEC 13211-1:1995, 7.7): depth first, clauses in their order, goals from left to right.
 use Rattle.std.specs.Prelude.{ℕ, zero, suc, ◌+◌, ◌-◌, List, [], ◌∷◌, ◌++◌, length, drop, map, Option, Some, None, option_map, codes, ◌==◌, if◌then◌else◌}
-use Rattle.iso_ops.specs.Operators.{Operator}
-use Rattle.iso_ops.specs.InitialOperators.{initial_entries}
-use Rattle.iso_ops.specs.declared.settings.Flags.{Flags}
 use Rattle.iso_ops.specs.declared.settings.Unknown.{Unknown}
 use Rattle.iso_ops.specs.declared.settings.Unknown.TheVariants as on_unknown
-use Rattle.iso_ops.specs.Settings.{initial_flags}
 use Rattle.iso_model.specs.Terms.Trees.{Tree, Variable, Name, Apply}
 use Rattle.iso_model.specs.Terms.Sizes.{size}
 use Rattle.iso_model.specs.Terms.Variables.{variables, variable_count}
@@ -14,22 +10,11 @@ use Rattle.iso_model.specs.Terms.Unification.{unifier_of}
 use Rattle.iso_model.specs.Terms.Copies.{copy_from, renamed}
 use Rattle.iso_model.specs.Terms.Lists.{list_of}
 use Rattle.iso_model.specs.Search.Bodies.{Body, Cut, Run, And, Or, If, Choose, one, converted, body_term, map_body, is_true}
-use Rattle.iso_model.specs.Search.Databases.{Clause, Key, Database, key, key_of, no_clauses, clauses_at}
+use Rattle.iso_model.specs.Search.Databases.{Clause, Key, key, key_of, clauses_at}
+pub use Rattle.iso_model.specs.Search.Worlds.{World, first_world}
 use Rattle.iso_model.specs.Search.BuiltIns.{Reply, Fails, Succeeds, Equates, EquatesCopy, Raises, Calls, CallsOnce, Refutes, Repeats, Catches, Gathers, Halts, built_in, reply}
 use Rattle.iso_model.specs.Search.Errors.{type_error_callable, existence_error}
 use Rattle.iso_model.specs.declared.built_ins.BuiltIn.{BuiltIn}
-
--- What outlives a run: the database (7.5), the operators (6.3.4.4) and the flags (7.11); and how many runs were started, by which equal
--- runs are told apart.
-pub record World : Type 0 where
-  pub database : Database
-  pub operators : List Operator
-  pub flags : Flags
-  pub runs : ℕ
-
--- the world before a text is consulted
-abbrev pub first_world : World
-first_world = record { database = no_clauses; operators = initial_entries; flags = initial_flags; runs = 0 }
 
 -- A member of the list of goals: a goal with its cut mark (a height of the stack), a cut back to a height, failure, the end of a catch's goal (its
 -- alternative stands at this height), a thrown ball, a ball that is to be caught by this catcher, or the end of the goal of a findall/3 (the alternative

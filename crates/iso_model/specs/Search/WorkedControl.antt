@@ -1,6 +1,6 @@
 -- Worked runs of control constructs (ISO/IEC 13211-1:1995, 7.8 and 8.15): what goals without clauses answer by the definitions.
 use Rattle.std.specs.Prelude.{ℕ, List, [], ◌∷◌, codes}
-use Rattle.iso_model.specs.Terms.Trees.{Tree, Variable, Integer, Name, Apply, End, More}
+use Rattle.iso_model.specs.Terms.Trees.{Tree, Variable, Name, Apply, End, More}
 use Rattle.iso_model.specs.Search.Bodies.{one, two}
 use Rattle.iso_model.specs.Search.Walker.{Ending, NoMore, Budget, Uncaught, Halted, started}
 use Rattle.iso_model.specs.Search.Runs.{Run}

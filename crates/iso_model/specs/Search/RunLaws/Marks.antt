@@ -14,7 +14,7 @@ use Rattle.iso_model.specs.Search.Bodies.{Body, Cut, Run, And, Or, If, Choose, m
 use Rattle.iso_model.specs.Search.Databases.{Clause, Key, key_of, clauses_at}
 use Rattle.iso_model.specs.Search.BuiltIns.{Reply, Fails, Succeeds, Equates, EquatesCopy, Raises, Calls, CallsOnce, Refutes, Repeats, Catches, Gathers, Halts, built_in, reply}
 use Rattle.iso_model.specs.declared.built_ins.BuiltIn.{BuiltIn}
-use Rattle.iso_model.specs.Search.Walker.{State, World, Member, Goal, CutTo, Fail, Leave, Raise, Meet, Gather, Left, AsIs, Again, Clauses, Catching, Gathering, Alternative, Outcome, Goes, Gives, Ends, charged, paid, before, entered, under, with_others, tried, retried, backtracked, unknown_called, called, equated, replied, selected, run_goal, run_value, caught_at, caught, thrown, met, meets, gathered, gathered_at, clause_size, shortened, cut_back, pushed, step_goal, step_list, step, opening, started, with_copy}
+use Rattle.iso_model.specs.Search.Walker.{State, World, Member, Goal, CutTo, Fail, Leave, Raise, Meet, Gather, Left, AsIs, Again, Clauses, Catching, Gathering, Alternative, Outcome, Goes, Gives, Ends, charged, paid, before, entered, under, with_others, tried, retried, backtracked, unknown_called, called, equated, replied, selected, run_goal, run_value, caught_at, caught, thrown, met, gathered, gathered_at, clause_size, shortened, cut_back, pushed, step_goal, step_list, step, opening, started, with_copy}
 
 -- The first stack is what is left of the second when some of its newest alternatives are taken away.
 pub data Under : List Alternative → List Alternative → Type 0 where

@@ -5,7 +5,7 @@ use Rattle.iso_model.specs.Terms.Trees.{Tree, Variable, Integer, Name, Apply, En
 use Rattle.iso_model.specs.Terms.Variables.{is_in, distinct_from, variables}
 use Rattle.std.specs.declared.cmp.Ordering.{Ordering}
 use Rattle.iso_model.specs.Terms.Sorting.{by_order, inserted, in_order}
-use Rattle.iso_model.specs.Terms.Lists.{nil, dot, list_before, list_of, elements}
+use Rattle.iso_model.specs.Terms.Lists.{dot, list_of, elements}
 use Rattle.iso_model.specs.Terms.Substitutions.{Subst, apply, compose}
 use Rattle.iso_model.specs.Terms.Arguments.{arguments, member, argument, others, joined, with_arguments, listed}
 use Rattle.iso_model.specs.Terms.Unifiers.{Unifier}

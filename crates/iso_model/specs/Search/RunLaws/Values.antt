@@ -1,5 +1,5 @@
 -- What a goal's value runs is made of values.
-use Rattle.std.proofs.Common.{◌≡◌, ℕ, ℤ, List, Bool, true, false, Option, Some, None, refl, ap, ap₂, codes, if◌then◌else◌, nat_lt, int_lt, nat_abs, pos, ◌||◌}
+use Rattle.std.proofs.Common.{◌≡◌, ℕ, List, true, false, Option, Some, None, refl, ap, ap₂, codes, if◌then◌else◌, nat_lt, int_lt, nat_abs, pos, ◌||◌}
 use Rattle.std.specs.Str.{bytes_eq}
 use Rattle.iso_model.specs.Terms.Trees.{Tree, Variable, Integer, Name, Apply, End, More}
 use Rattle.iso_model.specs.Terms.Substitutions.{Subst, apply}

@@ -9,7 +9,7 @@ use Rattle.iso_model.specs.Terms.Copies.{copy_from, renamed}
 use Rattle.iso_model.specs.Terms.Lists.{list_of}
 use Rattle.iso_model.specs.Search.Bodies.{Body, Cut, Run, And, Or, If, Choose, map_body, is_true}
 use Rattle.iso_model.specs.Search.Databases.{Clause}
-use Rattle.iso_model.specs.Search.Walker.{State, Member, Goal, CutTo, Fail, Leave, Raise, Meet, Gather, Left, AsIs, Again, Clauses, Catching, Gathering, Alternative, Outcome, Goes, Gives, Ends, charged, paid, before, entered, pushed, with_others, tried, retried, backtracked, caught_at, caught, thrown, met, meets, gathered, gathered_at, replied, step_goal, step_list, step, run_value, under, clause_size, equated, with_copy}
+use Rattle.iso_model.specs.Search.Walker.{State, Member, Goal, CutTo, Fail, Leave, Raise, Meet, Gather, Left, AsIs, Again, Clauses, Catching, Gathering, Alternative, Outcome, Goes, Gives, Ends, charged, paid, before, entered, pushed, with_others, tried, retried, backtracked, caught_at, caught, thrown, met, gathered, gathered_at, step_goal, step_list, step, run_value, under, clause_size, equated, with_copy}
 
 -- a body, before what weighs r
 abbrev pub body_weight : Body → ℕ → ℕ

@@ -1,4 +1,4 @@
-use Rattle.std.proofs.Common.{sym, ◌∙◌, ◌<◌, length, Some, IfSome, subst, arith}
+use Rattle.std.proofs.Common.{sym, ◌∙◌, ◌<◌, length, IfSome, subst, arith}
 use Rattle.iso_model.proofs.OnTerms.PlaceLemmas.{found_place, not_found}
 use Rattle.iso_model.proofs.numbering.Numbering.place_or_len.Goals as goal
 
