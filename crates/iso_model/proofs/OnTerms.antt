@@ -9,6 +9,7 @@ pub mod SortLemmas
 pub mod CopyLemmas
 pub mod MeaningLemmas
 pub mod OrderLemmas
+pub mod SortingLemmas
 pub mod NumberedLemmas
 pub mod VariableLemmas
 pub mod Hanging

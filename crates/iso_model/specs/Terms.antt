@@ -23,3 +23,4 @@ pub mod UnifierLaws
 pub mod CopyLaws
 pub mod TermLaws
 pub mod OrderLaws
+pub mod SortingLaws
