@@ -116,23 +116,25 @@ fn do_task<C: Cells>(
     }
 }
 
-/// Whether the variable of this number occurs in what the word stands for. The error is that memory was refused.
+/// Whether the variable of this number occurs in what the word stands for, with this list for what is left to do. The error is
+/// that memory was refused.
 pub(crate) fn occurs<C: Cells>(
     store: &C,
     number: u64,
     word: C::Word,
     searched: &mut Notes<()>,
+    tasks: &mut Vec<Task<C::Word>>,
 ) -> Result<bool, NoMemory>
     requires { Holds (C.present store.now) word }
     ensures { IfOk result (λ b. b ≡ occurs number (meaning (C.present store.now) word)) }
 {
     searched.begin();
-    let mut tasks = Vec::new(store.alloc());
-    if enter(store, number, word, searched, &mut tasks)? {
+    tasks.clear();
+    if enter(store, number, word, searched, tasks)? {
         return Ok(true);
     }
     while let Some(task) = tasks.pop() {
-        if do_task(store, number, task, searched, &mut tasks)? {
+        if do_task(store, number, task, searched, tasks)? {
             return Ok(true);
         }
     }
