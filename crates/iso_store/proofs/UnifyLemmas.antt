@@ -177,7 +177,7 @@ pub record Opened (n : ℕ) (a b : Tree) : Type 0 where
   pub right_many : length right ≡ n
   pub some : 0 < n
 
-row-of : (n : ℕ) (f : List ℕ) (t ts : Tree) → t ≡ Apply f ts → count ts ≡ n → is_term t ≡ true → (t ≡ Apply f (row (listed ts))) × (length (listed ts) ≡ n)
+pub row-of : (n : ℕ) (f : List ℕ) (t ts : Tree) → t ≡ Apply f ts → count ts ≡ n → is_term t ≡ true → (t ≡ Apply f (row (listed ts))) × (length (listed ts) ≡ n)
 row-of n f t ts is many sort =
     let row = row-listed ts (row_of_term f ts (ap is_term (sym is) ∙ sort)).2 in
     (is ∙ ap (Apply f) (sym row), length-listed ts ∙ many)
