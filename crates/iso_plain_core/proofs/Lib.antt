@@ -23,3 +23,4 @@ pub mod ControlNames
 pub mod CallableLemmas
 pub mod ConvertedLemmas
 pub mod ConversionLemmas
+pub mod FirstLemmas

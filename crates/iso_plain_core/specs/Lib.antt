@@ -16,3 +16,4 @@ pub mod GoalKinds
 pub mod Controls
 pub mod Vocabularies
 pub mod Conversions
+pub mod Firsts

@@ -12,6 +12,7 @@ ghost use Rattle.iso_plain_core.specs.Entering.{Enters, Extends, GoalFits, Parts
 
 use super::bodies::Node;
 use super::clauses::Clause;
+use super::firsts::misses;
 use iso_store_core::{Pattern, Store, StoreFault};
 use std::alloc::Global;
 
@@ -132,6 +133,9 @@ pub fn enter<S: Store>(
     ensures names { S.names store.new ≡ S.names store.old }
     ensures marks { KeepsMarks (S.stands store.old) (S.stands store.new) }
 {
+    if misses(store, &clause.head, goal) {
+        return Ok(Entered::Missed);
+    }
     let variables = new_variables(alloc, store, clause.variables)?;
     let head = instantiate(store, &clause.head, variables.as_slice())?;
     if !store.unify(goal, head)? {

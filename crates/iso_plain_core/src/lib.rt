@@ -11,6 +11,7 @@ pub mod writing;
 pub mod controls;
 pub mod conversion;
 pub mod entries;
+mod firsts;
 pub mod goals;
 pub mod parts;
 pub mod replies;

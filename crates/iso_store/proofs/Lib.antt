@@ -40,3 +40,4 @@ pub mod HeapMade
 pub mod HeapCompounds
 pub mod HeapBuilding
 pub mod HeapBuilt
+mod FlatLemmas

@@ -64,6 +64,10 @@ module _ {W : Type 0} (p : Present W) where
       ap₂ (λ x y. ordering_then x (ordering_then y (term_cmp (row o.left) (row o.right)))) many names in
       new ∙ rows-append o.left o.right (ones p [] xs) (others p [] xs) same ∙ ap (λ x. ordering_then x (order_left p [] [] xs)) (sym heads) ∙ sym old
 
+  pub order-alone : (zs : List (Task W)) (w v : W) (n : ℕ) (a b : Tree) (one : meaning p w ≡ a) (other : meaning p v ≡ b) (o : Opened n a b)
+      → zs ≡ Unify w v 0 n ∷ [] → order_left p [] [] zs ≡ order_left p (a ∷ []) (b ∷ []) []
+  order-alone zs w v n a b one other o alone = ap (order_left p [] []) alone ∙ order-opened [] (Join w v ∷ []) (Join w v ∷ Unify w v 0 n ∷ []) w v n a b one other o refl refl
+
   -- the arguments of two compounds, one after another
   module _ (xs : List (Task W)) (w v : W) (i n : ℕ) (below : i < n) (left : IsCompound n (meaning p w)) (right : IsCompound n (meaning p v)) (a b : Tree)
       (one : a ≡ argument i (meaning p w)) (other : b ≡ argument i (meaning p v)) where

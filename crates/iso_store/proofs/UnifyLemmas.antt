@@ -1,8 +1,8 @@
 -- What is left to do of making two terms equal, and what is done by a step.
-use Rattle.std.proofs.Common.{◌≡◌, ℕ, zero, suc, ◌+◌, ◌<◌, List, [], ◌∷◌, ◌++◌, length, map, drop, true, refl, ap, ap₂, sym, ◌∙◌, subst, subst₂, arith, append_assoc, append-nil, length-append, Some, Bool, false, MatchBool, IsTrue, IfOk, Result, Ok, Err}
+use Rattle.std.proofs.Common.{◌≡◌, ◌==◌, ℕ, zero, suc, ◌+◌, ◌<◌, List, [], ◌∷◌, ◌++◌, length, map, drop, true, refl, ap, ap₂, sym, ◌∙◌, subst, subst₂, arith, append_assoc, append-nil, length-append, Some, Bool, false, MatchBool, IsTrue, IfOk, Result, Ok, Err}
 use Rattle.std.specs.List.{All}
-use Rattle.std.proofs.lemmas.Bool.{false≢true}
-use Rattle.std.proofs.lemmas.List.{length-map, drop-map, map-append}
+use Rattle.std.proofs.lemmas.Bool.{false≢true, eqb-true}
+use Rattle.std.proofs.lemmas.List.{nil_from_length, length-map, drop-map, map-append}
 use Rattle.std.proofs.lemmas.List.Elements.{All-head, All-tail, All-push, All-pop}
 use Rattle.iso_model.specs.Terms.Trees.{Tree, Variable, Apply, row, count}
 use Rattle.iso_model.specs.Terms.Sorts.{is_term}
@@ -177,7 +177,7 @@ pub record Opened (n : ℕ) (a b : Tree) : Type 0 where
   pub right_many : length right ≡ n
   pub some : 0 < n
 
-row-of : (n : ℕ) (f : List ℕ) (t ts : Tree) → t ≡ Apply f ts → count ts ≡ n → is_term t ≡ true → (t ≡ Apply f (row (listed ts))) × (length (listed ts) ≡ n)
+pub row-of : (n : ℕ) (f : List ℕ) (t ts : Tree) → t ≡ Apply f ts → count ts ≡ n → is_term t ≡ true → (t ≡ Apply f (row (listed ts))) × (length (listed ts) ≡ n)
 row-of n f t ts is many sort =
     let row = row-listed ts (row_of_term f ts (ap is_term (sym is) ∙ sort)).2 in
     (is ∙ ap (Apply f) (sym row), length-listed ts ∙ many)
@@ -259,6 +259,27 @@ module _ {W : Type 0} (p : Present W) (xs ys zs : List (Task W)) (w v : W) (n : 
         (All-push (IsPair p) ys (Unify w v 0 n) (rw first (All-push (IsPair p) xs (Join w v) stands.pairs (holds_w, holds_v)))
         (holds_w, holds_v, o.some, (o.name, o.left, one ∙ o.left_is, o.left_many), (o.name, o.right, other ∙ o.right_is, o.right_many)));
     sound = sound-opened stands.sound;
+    joins = joins;
+  }
+
+pub no_tasks : {X : Type 0} (xs : List X) (n : ℕ) (none : Bool) → n ≡ length xs → none ≡ (n == 0) → none ≡ true → xs ≡ []
+no_tasks xs n none is test e = nil_from_length xs (sym is ∙ eqb-true n 0 (sym test ∙ e))
+
+-- they alone are left, so they need not be joined
+module _ {W : Type 0} (p : Present W) (zs : List (Task W)) (w v : W) (n : ℕ) (a b : Tree) (one : meaning p w ≡ a) (other : meaning p v ≡ b) (o : Opened n a b)
+    (alone : zs ≡ Unify w v 0 n ∷ []) where
+  pub steps-alone : Steps p p (a ∷ []) (b ∷ []) [] zs
+  steps-alone =
+      let joined = steps-opened p [] (Join w v ∷ []) (Join w v ∷ Unify w v 0 n ∷ []) w v n a b one other o refl refl in
+      rw alone (record { bound = joined.bound; falls = λ m measures. let less = joined.falls m measures in omega arith })
+
+  pub stands-alone : (at : ℕ → Tree) (joined : Notes W) → p.holds w ≡ true → p.holds v ≡ true → AreJoined p at joined → Stands p at joined [] [] zs
+  stands-alone at joined holds_w holds_v joins = record {
+    pairs =
+        rw alone
+        (All-push (IsPair p) [] (Unify w v 0 n) (λ k d below. absurd (omega arith))
+        (holds_w, holds_v, o.some, (o.name, o.left, one ∙ o.left_is, o.left_many), (o.name, o.right, other ∙ o.right_is, o.right_many)));
+    sound = rw alone tt;
     joins = joins;
   }
 

@@ -11,7 +11,7 @@ ghost use Rattle.iso_store_core.specs.Arguments.{arity, argument};
 ghost use Rattle.iso_store_core.specs.Shapes.{IsShape};
 ghost use Rattle.iso_store.specs.Meetings.{IsYounger};
 
-use super::scratch::Scratch;
+use super::scratch::Kept;
 use iso_atoms::Atom;
 use iso_model::NoMemory;
 use iso_store_core::{Shape, StoreFault};
@@ -90,8 +90,15 @@ pub(crate) trait Cells {
     /// The allocator of the store's memory.
     fn alloc(&self) -> Global;
 
-    /// Exchanges the notes that the store keeps for these.
-    fn swap_scratch(&mut self, scratch: &mut Scratch<Self::Word>)
+    /// Exchanges the notes and lists that the store keeps for these.
+    fn swap_kept(&mut self, kept: &mut Kept<Self::Word>)
+        ensures present { present self.new ≡ present self.old }
+        ensures full { full self.old → full self.new }
+        ensures names { names self.new ≡ names self.old }
+        ensures marks { KeepsMarks (stands self.old) (stands self.new) };
+
+    /// Exchanges the list that the store keeps for the words of terms that are made for this one.
+    fn swap_words(&mut self, words: &mut Vec<Self::Word>)
         ensures present { present self.new ≡ present self.old }
         ensures full { full self.old → full self.new }
         ensures names { names self.new ≡ names self.old }

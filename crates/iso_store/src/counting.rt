@@ -4,7 +4,7 @@ ghost use Rattle.std.specs.Prelude.{◌≡◌, ℕ};
 use super::cells::Cells;
 use super::marks::NodesMark;
 use super::nodes::Nodes;
-use super::scratch::Scratch;
+use super::scratch::Kept;
 use iso_atoms::Atom;
 use iso_model::NoMemory;
 use iso_store_core::{Shape, StoreFault};
@@ -72,8 +72,12 @@ impl Cells for Counting {
         self.nodes.alloc()
     }
 
-    fn swap_scratch(&mut self, scratch: &mut Scratch<usize>) {
-        self.nodes.swap_scratch(scratch);
+    fn swap_kept(&mut self, kept: &mut Kept<usize>) {
+        self.nodes.swap_kept(kept);
+    }
+
+    fn swap_words(&mut self, words: &mut Vec<usize>) {
+        self.nodes.swap_words(words);
     }
 
     fn reserve(&mut self, count: u64) -> u64 {

@@ -23,7 +23,7 @@ use super::instances::instantiate;
 use super::order::compare;
 use super::patterns::{Places, written};
 use super::reaches::{farther_to, within};
-use super::scratch::Scratch;
+use super::scratch::Kept;
 use super::unify::unify;
 use super::variables::variables;
 use iso_area::Full;
@@ -48,7 +48,9 @@ pub struct Heap {
     newest: usize,
     /// No binding leads from a cell before its target to a target behind this place.
     forward: usize,
-    scratch: Scratch<HeapWord>,
+    kept: Kept<HeapWord>,
+    /// The words of a term that is made, which is empty between calls.
+    words: Vec<HeapWord>,
     ghost is_heap: { IsHeap (take named atoms) area.low next } by { Prim.hlevel (props, IsBefore-prop, Settles-prop) },
     ghost named_within: { named ≤ length atoms },
     ghost newest_within: { newest ≤ length area.low },
@@ -100,7 +102,8 @@ impl Heap {
             area,
             newest: 0,
             forward: 0,
-            scratch: Scratch::new(alloc),
+            kept: Kept::new(alloc),
+            words: Vec::new(alloc),
         })
     }
 
@@ -300,8 +303,12 @@ impl Cells for Heap {
         self.alloc
     }
 
-    fn swap_scratch(&mut self, scratch: &mut Scratch<HeapWord>) {
-        mem::swap(&mut self.scratch, scratch);
+    fn swap_kept(&mut self, kept: &mut Kept<HeapWord>) {
+        mem::swap(&mut self.kept, kept);
+    }
+
+    fn swap_words(&mut self, words: &mut Vec<HeapWord>) {
+        mem::swap(&mut self.words, words);
     }
 
     fn reserve(&mut self, count: u64) -> u64 {

@@ -16,7 +16,7 @@ use super::marks::{NodesMark, unwind};
 use super::order::compare;
 use super::patterns::{Places, written};
 use super::reaches::{farther, within};
-use super::scratch::Scratch;
+use super::scratch::Kept;
 use super::unify::unify;
 use super::variables::variables;
 use iso_atoms::{Atom, Atoms};
@@ -49,7 +49,9 @@ pub struct Nodes {
     trail: Vec<usize>,
     /// No binding leads from a place before its target to a target behind this place.
     forward: usize,
-    scratch: Scratch<usize>,
+    kept: Kept<usize>,
+    /// The words of a term that is made, which is empty between calls.
+    words: Vec<usize>,
     ghost is_store: { IsStore atoms nodes.items trail.items next },
     ghost leads_back: { LeadsBack nodes.items forward },
     ghost each_once: { EachOnce atoms },
@@ -68,7 +70,8 @@ impl Nodes {
             nodes: Vec::new(alloc),
             trail: Vec::new(alloc),
             forward: 0,
-            scratch: Scratch::new(alloc),
+            kept: Kept::new(alloc),
+            words: Vec::new(alloc),
         })
     }
 
@@ -188,8 +191,12 @@ impl Cells for Nodes {
         self.alloc
     }
 
-    fn swap_scratch(&mut self, scratch: &mut Scratch<usize>) {
-        mem::swap(&mut self.scratch, scratch);
+    fn swap_kept(&mut self, kept: &mut Kept<usize>) {
+        mem::swap(&mut self.kept, kept);
+    }
+
+    fn swap_words(&mut self, words: &mut Vec<usize>) {
+        mem::swap(&mut self.words, words);
     }
 
     fn reserve(&mut self, count: u64) -> u64 {

@@ -1,11 +1,12 @@
 //! Whether a variable occurs in a term; each compound is searched once.
-ghost use Rattle.std.specs.Prelude.{◌≡◌, ◌<◌, ◌+◌, ◌*◌, ◌∷◌, [], ◌++◌, IfOk, OnOk, sum_by, true, false};
+ghost use Rattle.std.specs.Prelude.{◌≡◌, ◌<◌, ◌+◌, ◌*◌, ◌∷◌, [], ◌++◌, IfOk, IfSome, OnOk, sum_by, true, false};
 ghost use Rattle.std.specs.List.{All};
 ghost use Rattle.iso_model.specs.Terms.Trees.{row};
 ghost use Rattle.iso_model.specs.Terms.Sizes.{size};
 ghost use Rattle.iso_model.specs.Terms.Variables.{occurs};
 ghost use Rattle.iso_store_core.specs.Presents.{Holds, meaning};
 ghost use Rattle.iso_store_core.specs.Arguments.{arguments_from};
+ghost use Rattle.iso_store.specs.Unifying.{IsCompound};
 ghost use Rattle.iso_store.specs.Searching.{IsThere, IsClear, AreSound, found, load};
 
 use super::cells::Cells;
@@ -116,23 +117,72 @@ fn do_task<C: Cells>(
     }
 }
 
-/// Whether the variable of this number occurs in what the word stands for. The error is that memory was refused.
+/// Whether the variable of this number occurs in what the word stands for; none where that is a compound.
+fn in_leaf<C: Cells>(store: &C, number: u64, word: C::Word) -> Option<bool>
+    requires { Holds (C.present store.now) word }
+    ensures { IfSome result (λ b. b ≡ occurs number (meaning (C.present store.now) word)) }
+{
+    match store.shape(word) {
+        Shape::Var(other) => Some(other == number),
+        Shape::Int(_) | Shape::Atom(_) => Some(false),
+        Shape::Compound(_, _) => None,
+    }
+}
+
+/// Whether the variable of this number occurs in the compound of so many arguments that the word stands for; none where it is to
+/// be searched, as an argument is a compound.
+fn in_flat<C: Cells>(store: &C, number: u64, word: C::Word, count: usize) -> Option<bool>
+    requires word { Holds (C.present store.now) word }
+    requires compound { IsCompound count (meaning (C.present store.now) word) }
+    ensures { IfSome result (λ b. b ≡ occurs number (meaning (C.present store.now) word)) }
+{
+    let mut index = 0;
+    while index < count {
+        let Some(found) = in_leaf(store, number, store.arg(word, index)) else {
+            return None;
+        };
+        if found {
+            return Some(true);
+        }
+        index += 1;
+    }
+    Some(false)
+}
+
+/// Whether the variable of this number occurs in what the word stands for, where that shows without a list of what is left to do.
+fn in_shallow<C: Cells>(store: &C, number: u64, word: C::Word) -> Option<bool>
+    requires { Holds (C.present store.now) word }
+    ensures { IfSome result (λ b. b ≡ occurs number (meaning (C.present store.now) word)) }
+{
+    match store.shape(word) {
+        Shape::Var(other) => Some(other == number),
+        Shape::Int(_) | Shape::Atom(_) => Some(false),
+        Shape::Compound(_, count) => in_flat(store, number, word, count),
+    }
+}
+
+/// Whether the variable of this number occurs in what the word stands for, with this list for what is left to do. The error is
+/// that memory was refused.
 pub(crate) fn occurs<C: Cells>(
     store: &C,
     number: u64,
     word: C::Word,
     searched: &mut Notes<()>,
+    tasks: &mut Vec<Task<C::Word>>,
 ) -> Result<bool, NoMemory>
     requires { Holds (C.present store.now) word }
     ensures { IfOk result (λ b. b ≡ occurs number (meaning (C.present store.now) word)) }
 {
+    if let Some(found) = in_shallow(store, number, word) {
+        return Ok(found);
+    }
     searched.begin();
-    let mut tasks = Vec::new(store.alloc());
-    if enter(store, number, word, searched, &mut tasks)? {
+    tasks.clear();
+    if enter(store, number, word, searched, tasks)? {
         return Ok(true);
     }
     while let Some(task) = tasks.pop() {
-        if do_task(store, number, task, searched, &mut tasks)? {
+        if do_task(store, number, task, searched, tasks)? {
             return Ok(true);
         }
     }

@@ -16,7 +16,7 @@ ghost use Rattle.iso_store.specs.Comparing.{IsComparison, order_left};
 use super::cells::Cells;
 use super::joins::join;
 use super::notes::Notes;
-use super::scratch::Scratch;
+use super::scratch::Kept;
 use super::unify::{Task, leave_arguments};
 use iso_atoms::Atom;
 use iso_model::NoMemory;
@@ -190,25 +190,26 @@ fn do_task<C: Cells>(
     }
 }
 
-/// How what the words stand for compares, with these notes.
+/// How what the words stand for compares, with these notes, and this list for what is left to do.
 fn compare_with<C: Cells>(
     store: &C,
     one: C::Word,
     other: C::Word,
     joined: &mut Notes<C::Word>,
+    tasks: &mut Vec<Task<C::Word>>,
 ) -> Result<Ordering, NoMemory>
     requires one { Holds (C.present store.now) one }
     requires other { Holds (C.present store.now) other }
     ensures { IfOk result (λ o. o ≡ term_cmp (meaning (C.present store.now) one) (meaning (C.present store.now) other)) }
 {
     joined.begin();
-    let mut tasks = Vec::new(store.alloc());
-    let order = compare_next(store, one, other, joined, &mut tasks)?;
+    tasks.clear();
+    let order = compare_next(store, one, other, joined, tasks)?;
     if order != Ordering::Equal {
         return Ok(order);
     }
     while let Some(task) = tasks.pop() {
-        let order = do_task(store, task, joined, &mut tasks)?;
+        let order = do_task(store, task, joined, tasks)?;
         if order != Ordering::Equal {
             return Ok(order);
         }
@@ -229,9 +230,9 @@ pub(crate) fn compare<C: Cells>(
     ensures names { C.names store.new ≡ C.names store.old }
     ensures marks { KeepsMarks (C.stands store.old) (C.stands store.new) }
 {
-    let mut scratch = Scratch::new(store.alloc());
-    store.swap_scratch(&mut scratch);
-    let answer = compare_with(store, one, other, &mut scratch.joined);
-    store.swap_scratch(&mut scratch);
+    let mut kept = Kept::new(store.alloc());
+    store.swap_kept(&mut kept);
+    let answer = compare_with(store, one, other, &mut kept.scratch.joined, &mut kept.tasks);
+    store.swap_kept(&mut kept);
     answer
 }

@@ -17,7 +17,7 @@ use super::joins::{are_at_one_place, end_of_joins, join};
 use super::meetings::{Meeting, meet};
 use super::notes::Notes;
 use super::occurs::occurs;
-use super::scratch::Scratch;
+use super::scratch::{Kept, Scratch};
 use iso_model::NoMemory;
 use iso_store_core::StoreFault;
 
@@ -37,17 +37,24 @@ fn occurs_for<C: Cells>(
     number: u64,
     variable: C::Word,
     word: C::Word,
-    searched: &mut Notes<()>,
+    scratch: &mut Scratch<C::Word>,
 ) -> Result<bool, NoMemory>
     requires variable_holds { Holds (C.present store.now) variable }
     requires word_holds { Holds (C.present store.now) word }
     requires variable { meaning (C.present store.now) variable ≡ Variable number }
-    ensures { IfOk result (λ b. b ≡ occurs number (meaning (C.present store.now) word)) }
+    ensures occurs { IfOk result (λ b. b ≡ occurs number (meaning (C.present store.now) word)) }
+    ensures joined { scratch.new.joined ≡ scratch.old.joined }
 {
     if store.is_apart(variable, word) {
         return Ok(false);
     }
-    occurs(store, number, word, searched)
+    occurs(
+        store,
+        number,
+        word,
+        &mut scratch.searched,
+        &mut scratch.searches,
+    )
 }
 
 /// Binds the variable of this number to what the other word stands for, unless it occurs there.
@@ -70,14 +77,15 @@ fn bind_checked<C: Cells>(
     ensures names { C.names store.new ≡ C.names store.old }
     ensures marks { KeepsMarks (C.stands store.old) (C.stands store.new) }
 {
-    if occurs_for(store, number, variable, word, &mut scratch.searched)? {
+    if occurs_for(store, number, variable, word, scratch)? {
         return Ok(false);
     }
     store.bind(number, variable, word)?;
     Ok(true)
 }
 
-/// Leaves two compounds of so many arguments to be made equal, unless they are joined.
+/// Leaves two compounds of so many arguments to be made equal, unless they are joined; they will be, where anything is left
+/// behind them.
 pub(crate) fn leave_arguments<C: Cells>(
     store: &C,
     one: C::Word,
@@ -100,6 +108,10 @@ pub(crate) fn leave_arguments<C: Cells>(
     let one = end_of_joins(store, one, joined);
     let other = end_of_joins(store, other, joined);
     if are_at_one_place(store, one, other) {
+        return Ok(());
+    }
+    if tasks.is_empty() {
+        tasks.push(Task::Unify(one, other, 0, count))?;
         return Ok(());
     }
     tasks.push(Task::Join(one, other))?;
@@ -200,12 +212,14 @@ fn do_task<C: Cells>(
     }
 }
 
-/// Whether what the words stand for can be made equal, which then is bound, with these notes.
+/// Whether what the words stand for can be made equal, which then is bound, with these notes, and this list for what is left to
+/// do.
 fn unify_with<C: Cells>(
     store: &mut C,
     one: C::Word,
     other: C::Word,
     scratch: &mut Scratch<C::Word>,
+    tasks: &mut Vec<Task<C::Word>>,
 ) -> Result<bool, StoreFault>
     requires one { Holds (C.present store.old) one }
     requires other { Holds (C.present store.old) other }
@@ -216,12 +230,12 @@ fn unify_with<C: Cells>(
     ensures marks { KeepsMarks (C.stands store.old) (C.stands store.new) }
 {
     scratch.joined.begin();
-    let mut tasks = Vec::new(store.alloc());
-    if !unify_next(store, one, other, scratch, &mut tasks)? {
+    tasks.clear();
+    if !unify_next(store, one, other, scratch, tasks)? {
         return Ok(false);
     }
     while let Some(task) = tasks.pop() {
-        if !do_task(store, task, scratch, &mut tasks)? {
+        if !do_task(store, task, scratch, tasks)? {
             return Ok(false);
         }
     }
@@ -242,9 +256,9 @@ pub(crate) fn unify<C: Cells>(
     ensures names { C.names store.new ≡ C.names store.old }
     ensures marks { KeepsMarks (C.stands store.old) (C.stands store.new) }
 {
-    let mut scratch = Scratch::new(store.alloc());
-    store.swap_scratch(&mut scratch);
-    let answer = unify_with(store, first, second, &mut scratch);
-    store.swap_scratch(&mut scratch);
+    let mut kept = Kept::new(store.alloc());
+    store.swap_kept(&mut kept);
+    let answer = unify_with(store, first, second, &mut kept.scratch, &mut kept.tasks);
+    store.swap_kept(&mut kept);
     answer
 }

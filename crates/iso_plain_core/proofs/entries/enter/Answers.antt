@@ -7,7 +7,15 @@ use Rattle.iso_plain_core.specs.Written.{term_in}
 use Rattle.iso_plain_core.proofs.StandingLemmas.{variables_more}
 use Rattle.iso_plain_core.proofs.PatternLemmas.{variables_hold, made_renamed, copies_renamed}
 use Rattle.iso_plain_core.proofs.EnteringLemmas.{variables_length, enters_none, meets, unifier_there, words_on, no_parts, some_parts, copies_some}
+use Rattle.iso_plain_core.proofs.FirstLemmas.{misses_renamed}
 use Rattle.iso_plain_core.proofs.entries.enter.Goals as goal
+
+-- the first arguments show that the head is never equal to the goal
+pub returns-then-misses-clause-enters : goal.returns-then-misses-clause-enters
+returns-then-misses-clause-enters g c =
+    let p = g.S.Store.present c.args.store.now in
+    let head = term_in (g.S.Store.names c.args.store.now) c.args.clause.now.head in
+    misses_renamed p c.args.goal head (λ s. c.misses.ensures head s c.if-misses.true c.requires.head_fits.written)
 
 -- the variables' words as the calls get them
 pub instantiate-requires-clause-fits : goal.instantiate-requires-clause-fits

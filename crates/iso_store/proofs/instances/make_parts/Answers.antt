@@ -4,7 +4,7 @@ use Rattle.iso_store_core.specs.Patterns.{IsPattern, at_places}
 use Rattle.iso_store.specs.Writing.{IsReady, part_cells}
 use Rattle.iso_store.proofs.Gathering.{numbers-then, grows-on}
 use Rattle.iso_store.proofs.InstanceLemmas.{so_far, next-part, part-grows, part-is-ready, cells-more, all-parts, gathers-part, gathers-count, gathers-one}
-use Rattle.iso_store.proofs.instances.instantiate.Goals as goal
+use Rattle.iso_store.proofs.instances.make_parts.Goals as goal
 
 pub make_part-requires-clause-ready : goal.make_part-requires-clause-ready
 make_part-requires-clause-ready g c =

@@ -1,0 +1,90 @@
+//! Heads that can't be unified with a goal, as their first arguments show before anything is made (7.7.10).
+ghost use Rattle.std.specs.Prelude.{◌≡◌, ℕ, List, IfSome, true};
+ghost use Rattle.iso_model.specs.Terms.Trees.{Tree};
+ghost use Rattle.iso_model.specs.Terms.Substitutions.{Subst, apply};
+ghost use Rattle.iso_model.specs.Terms.Unifiers.{NeverEqual};
+ghost use Rattle.iso_store_core.specs.Presents.{Holds, meaning};
+ghost use Rattle.iso_store_core.specs.Patterns.{IsPattern};
+ghost use Rattle.iso_plain_core.specs.Firsts.{HasFirst, Leaves, Differs};
+
+use iso_store_core::{Part, Pattern, Shape, Store};
+
+/// How many of so many terms the part leaves as they are; none where it takes more than there are.
+fn left_by(part: Part, count: usize) -> Option<usize>
+    ensures { IfSome result (λ left. Leaves part count left) }
+{
+    match part {
+        Part::Variable(_) | Part::Integer(_) | Part::Atom(_) => Some(count),
+        Part::Compound(_, taken) => {
+            if count < taken {
+                return None;
+            }
+            Some(count - taken)
+        }
+    }
+}
+
+/// The outermost part of the first argument of the compound that has these parts. None says nothing.
+fn first_part(parts: &[Part]) -> Option<Part>
+    ensures { (names : List (List ℕ)) (t : Tree) → IsPattern names parts.now t → IfSome result (λ k. HasFirst names k t) }
+{
+    let mut first = 0;
+    let mut open = 0;
+    let mut index = 0;
+    while index + 1 < parts.len() {
+        let Some(left) = left_by(parts[index], open) else {
+            return None;
+        };
+        if left == 0 {
+            first = index;
+        }
+        open = left + 1;
+        index += 1;
+    }
+    if open == 0 {
+        return None;
+    }
+    Some(parts[first])
+}
+
+/// Whether nothing makes a term of this shape and one with this outermost part equal. False says nothing.
+fn clash(shape: Shape, part: Part) -> bool
+    ensures { result ≡ true → Differs shape part }
+{
+    match part {
+        Part::Variable(_) => false,
+        Part::Integer(value) => match shape {
+            Shape::Var(_) => false,
+            Shape::Int(other) => other != value,
+            Shape::Atom(_) | Shape::Compound(_, _) => true,
+        },
+        Part::Atom(name) => match shape {
+            Shape::Var(_) => false,
+            Shape::Atom(other) => other != name,
+            Shape::Int(_) | Shape::Compound(_, _) => true,
+        },
+        Part::Compound(name, count) => match shape {
+            Shape::Var(_) => false,
+            Shape::Compound(other, arguments) => other != name || arguments != count,
+            Shape::Int(_) | Shape::Atom(_) => true,
+        },
+    }
+}
+
+/// Whether the first arguments of the head and of the goal show that nothing makes the two equal. False says nothing.
+pub(crate) fn misses<S: Store>(store: &S, head: &Pattern, goal: S::Word) -> bool
+    requires { Holds (S.present store.now) goal }
+    ensures { (t : Tree) (s : Subst) → result ≡ true → IsPattern (S.names store.now) head.now.parts.items t
+        → NeverEqual (meaning (S.present store.now) goal) (apply s t) }
+{
+    let Shape::Compound(_, count) = store.shape(goal) else {
+        return false;
+    };
+    if count == 0 {
+        return false;
+    }
+    let Some(part) = first_part(head.parts.as_slice()) else {
+        return false;
+    };
+    clash(store.shape(store.arg(goal, 0)), part)
+}

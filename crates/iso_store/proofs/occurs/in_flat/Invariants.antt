@@ -1,0 +1,16 @@
+-- The variable is in the arguments that are left where it is in the whole.
+use Rattle.std.proofs.Common.{◌≡◌, ◌≤◌, ◌-◌}
+use Rattle.iso_model.specs.Terms.Trees.{row}
+use Rattle.iso_model.specs.Terms.Variables.{occurs}
+use Rattle.iso_store_core.specs.Presents.{meaning}
+use Rattle.iso_store_core.specs.Arguments.{arguments_from}
+use Rattle.iso_store.proofs.occurs.in_flat.Given as goal
+
+abbrev pub invariant-loop-index : goal.invariant-loop-index
+invariant-loop-index g l = record {
+  within : l.index ≤ l.count;
+  left : occurs l.number (row (arguments_from l.index (meaning (g.C.Cells.present l.store) l.word))) ≡ occurs l.number (meaning (g.C.Cells.present l.store) l.word);
+}
+
+abbrev pub decreases-loop-index : goal.decreases-loop-index
+decreases-loop-index g l = l.count - l.index
