@@ -19,6 +19,9 @@ pub mod LeftLemmas
 pub mod TaskLemmas
 pub mod PatternLemmas
 pub mod InstanceLemmas
+pub mod PlanLemmas
+pub mod PlanningTasks
+pub mod PlanningLemmas
 pub mod Placing
 pub mod Renaming
 pub mod UnifyLemmas
