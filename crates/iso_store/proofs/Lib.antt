@@ -20,6 +20,7 @@ pub mod TaskLemmas
 pub mod PatternLemmas
 pub mod InstanceLemmas
 pub mod PlanLemmas
+pub mod PlanMade
 pub mod PlanningTasks
 pub mod PlanningLemmas
 pub mod Placing

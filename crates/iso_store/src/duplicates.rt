@@ -41,7 +41,7 @@ fn make_planned<C: Cells>(
     ensures marks { KeepsMarks (C.stands store.old) (C.stands store.new) }
 {
     make_part(store, part, known.as_slice(), words)?;
-    if let Part::Compound(_, _) = part {
+    if let Part::Compound(_, _) = &part {
         known.push(words[words.len() - 1])?;
     }
     Ok(())
