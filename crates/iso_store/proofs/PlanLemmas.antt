@@ -83,6 +83,15 @@ module _ (names : List (List ℕ)) where
       let all = ap (cells_so atomic width) (sym (after-append (take i ks) (drop i ks) s) ∙ ap (λ js. after_plan names js s) (take-append-drop i ks)) in
       omega arith
 
+  pub costs-more : (atomic : ℕ) (width : ℕ → ℕ) (ks : List Part) (known : List Tree) (i : ℕ) (k : Part) (t : Tree) → IsPlan names known ks t → i < length ks → k ≡ get_or ks i k
+      → cells_so atomic width (sketch_at ks (start known) i) + part_cells atomic width (length (sketch_at ks (start known) i).terms) k ≤ cells_of atomic width t
+  costs-more atomic width ks known i k t plan below is =
+      let one = part-costs atomic width k (sketch_at ks (start known) i) in
+      let next = ap (cells_so atomic width) (next-sketch ks (start known) i k below is) in
+      let within = costs-at atomic width ks (start known) (suc i) in
+      let all = ap (λ ts. cells_of atomic width (row ts)) plan.term in
+      omega arith
+
   -- ---- with the variables of the terms replaced
   module _ (r : Subst) where
     abbrev pub applied : Sketch → Sketch

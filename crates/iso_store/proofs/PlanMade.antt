@@ -2,11 +2,16 @@
 use Rattle.std.proofs.Common.{◌≡◌, ℕ, suc, ◌+◌, ◌-◌, ◌<◌, List, [], ◌∷◌, ◌++◌, length, map, get_or, true, refl, ap, ap₂, sym, ◌∙◌, subst, arith, length-append}
 use Rattle.std.specs.List.{All}
 use Rattle.std.proofs.lemmas.List.{length-map, append-nil}
-use Rattle.iso_model.specs.Terms.Trees.{Tree}
+use Rattle.iso_model.specs.Terms.Trees.{Tree, Variable}
+use Rattle.iso_model.specs.Terms.Variables.{variables, variable_count}
+use Rattle.iso_model.specs.Terms.Substitutions.{Subst, apply}
+use Rattle.iso_model.specs.Terms.Copies.{place_of, copy_from, numbers_from}
+use Rattle.iso_model.proofs.OnTerms.CopyLemmas.{places, distinct_from_distinct}
 use Rattle.iso_store_core.specs.declared.patterns.Part.{Part}
 use Rattle.iso_store_core.specs.declared.patterns.Part.TheVariants.{Variable as Place, Integer as Number, Atom, Compound}
-use Rattle.iso_store_core.specs.Presents.{Present, Holds, KeepsWords, Makes, Gathers}
-use Rattle.iso_store.specs.Plans.{Sketch, sketch_of, made_known, with_part}
+use Rattle.iso_store_core.specs.Presents.{Present, Holds, meaning, KeepsWords, Makes, Gathers}
+use Rattle.iso_store.specs.Plans.{Sketch, IsPlan, sketch_of, made_known, with_part}
+use Rattle.iso_store.proofs.PlanLemmas.{is-plan-applied}
 use Rattle.iso_store.proofs.Gathering.{keeps-none, keeps-then, terms-kept, gathers-more, gathers-length}
 
 pub gathers-kept : {W : Type 0} {p q : Present W} (ws : List W) → KeepsWords p q → q.substitution ≡ p.substitution → All (Holds p) ws → Gathers p q ws (map p.term ws)
@@ -54,3 +59,32 @@ gathers-none {W} {p} {q} names k known ts none keeps same hold =
 -- the words so far are those of the sketch so far
 pub sketch-is : {W : Type 0} {p q : Present W} (s : Sketch) (ws known : List W) → Gathers p q ws s.terms → Gathers p q known s.known → sketch_of q ws known ≡ s
 sketch-is s ws known so also = ap₂ (λ ts us. record { terms = ts; known = us }) so.terms also.terms
+
+-- one part more
+module _ {W : Type 0} {p q r : Present W} (names : List (List ℕ)) (s : Sketch) (ws known us : List W) (so : Gathers p q ws s.terms) (also : Gathers p q known s.known) (k : Part) where
+  pub words-more : Gathers q r us (with_part names k (sketch_of q ws known)).terms → Gathers p r us (with_part names k s).terms
+  words-more made = gathers-then so (subst (λ x. Gathers q r us (with_part names k x).terms) (sketch-is s ws known so also) made)
+
+  pub known-more : Gathers q r us (with_part names k (sketch_of q ws known)).known → Gathers p r us (with_part names k s).known
+  known-more made = gathers-then also (subst (λ x. Gathers q r us (with_part names k x).known) (sketch-is s ws known so also) made)
+
+-- words for new variables, from this number on, are for what the variables of the term become in its copy
+pub copied-known : (t : Tree) (n k : ℕ) → k ≡ variable_count t → map (apply (λ x. Variable (n + place_of x (variables t)))) (map Variable (variables t)) ≡ map Variable (numbers_from n k)
+copied-known t n k same =
+    let numbers = places n (variables t) (distinct_from_distinct [] t tt) ∙ ap (numbers_from n) (sym same) in
+    renamed-list (variables t) ∙ ap (map Variable) numbers
+  where
+    renamed-list : (vs : List ℕ) → map (apply (λ x. Variable (n + place_of x (variables t)))) (map Variable vs) ≡ map Variable (map (λ x. n + place_of x (variables t)) vs)
+    renamed-list [] = refl
+    renamed-list (v ∷ vs) = ap (λ us. Variable (n + place_of v (variables t)) ∷ us) (renamed-list vs)
+
+-- the plan of a term is one of its copy, where the words for new variables are known
+pub plan-of-copy : {W : Type 0} (p : Present W) {q r : Present W} (names : List (List ℕ)) (t : Tree) (ws known : List W) (ks : List Part) (first next k : ℕ) → IsPlan names (map (meaning p) ws) ks t → map (meaning p) ws ≡ map Variable (variables t)
+    → Gathers q r known (map Variable (numbers_from first k)) → k ≡ variable_count t → first ≡ next → IsPlan names (map r.term known) ks (copy_from t next)
+plan-of-copy {W} p {q} {r} names t ws known ks first next k plan list so size number =
+    let fresh : Subst = λ x. Variable (next + place_of x (variables t)) in
+    let same = ap (map (apply fresh)) list ∙ copied-known t next k size ∙ ap (λ n. map Variable (numbers_from n k)) (sym number) ∙ sym so.terms in
+    subst (λ us. IsPlan names us ks (copy_from t next)) same (is-plan-applied names fresh (map (meaning p) ws) ks t plan)
+
+pub variables-many : {W : Type 0} (p : Present W) (t : Tree) (ws : List W) → map (meaning p) ws ≡ map Variable (variables t) → length ws ≡ variable_count t
+variables-many p t ws list = sym (length-map ws (meaning p)) ∙ ap length list ∙ length-map (variables t) Variable
