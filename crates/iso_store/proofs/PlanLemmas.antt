@@ -1,12 +1,12 @@
 -- Plans of terms.
 use Rattle.std.proofs.Common.{◌≡◌, ℕ, suc, zero, ◌+◌, ◌-◌, ◌<◌, ◌≤◌, List, [], ◌∷◌, ◌++◌, length, map, take, drop, get_or, Some, slice_get, refl, ap, ap₂, sym, ◌∙◌, subst, arith}
-use Rattle.std.proofs.lemmas.List.{map-append, length-map, take-map, drop-map, append-nil, take-append-drop, take_all}
+use Rattle.std.proofs.lemmas.List.{map-append, length-map, drop-map, take-append-drop, take_all}
 use Rattle.std.proofs.Math.Seq.{take-suc}
 use Rattle.std.proofs.lemmas.Option.{slice_get_within}
 use Rattle.iso_atoms.specs.Texts.{text_at}
-use Rattle.iso_model.specs.Terms.Trees.{Tree, Variable, Integer, Name, Apply, End, row}
+use Rattle.iso_model.specs.Terms.Trees.{Tree, Integer, Name, Apply, row}
 use Rattle.iso_model.specs.Terms.Substitutions.{Subst, apply}
-use Rattle.iso_model.specs.Terms.Building.{Gather, with_step}
+use Rattle.iso_model.specs.Terms.Building.{with_step}
 use Rattle.iso_model.proofs.OnTerms.CostOfRows.{apply-row}
 use Rattle.iso_store_core.specs.declared.patterns.Part.{Part}
 use Rattle.iso_store_core.specs.declared.patterns.Part.TheVariants.{Variable as Place, Integer as Number, Atom, Compound}

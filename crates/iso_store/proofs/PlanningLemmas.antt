@@ -1,5 +1,5 @@
 -- How a plan of a copy goes on.
-use Rattle.std.proofs.Common.{◌≡◌, ℕ, zero, suc, ◌+◌, ◌-◌, ◌<◌, ◌≤◌, List, [], ◌∷◌, ◌++◌, length, map, drop, get_or, option_map, true, Some, None, IsSome, slice_get, Vec, Global, refl, ap, ap₂, sym, ◌∙◌, subst, arith, inl, inr, length-append, ◌==◌, if◌then◌else◌, is_some}
+use Rattle.std.proofs.Common.{◌≡◌, ℕ, zero, suc, ◌+◌, ◌-◌, ◌<◌, List, [], ◌∷◌, ◌++◌, length, map, drop, get_or, option_map, true, Some, None, IsSome, slice_get, Vec, Global, refl, ap, sym, ◌∙◌, subst, arith, inl, inr, length-append, ◌==◌, if◌then◌else◌, is_some}
 use Rattle.std.specs.List.{All}
 use Rattle.std.proofs.lemmas.Bool.{cases_eq, eq-eqb, eqb-true, ne_eqb, or_cases, or_left, or_right, false≢true}
 use Rattle.std.proofs.lemmas.List.{append-nil, length-drop}
@@ -17,11 +17,11 @@ use Rattle.iso_store_core.specs.Arguments.{arguments, arity, argument, member}
 use Rattle.iso_store_core.specs.Patterns.{IsNamed, part_step, at_places}
 use Rattle.iso_store.specs.declared.notes.Notes.{Notes}
 use Rattle.iso_store.specs.declared.plans.Task.{Task}
-use Rattle.iso_store.specs.declared.plans.Task.TheVariants.{Plan, Make}
+use Rattle.iso_store.specs.declared.plans.Task.TheVariants.{Plan}
 use Rattle.iso_store.specs.declared.plans.Planning.{Planning}
 use Rattle.iso_store.specs.Listing.{number_of}
 use Rattle.iso_store.specs.Notes.{noted}
-use Rattle.iso_store.specs.Writing.{IsReady, taken}
+use Rattle.iso_store.specs.Writing.{IsReady}
 use Rattle.iso_store.specs.Plans.{Sketch, start, made_known, with_part, after_plan}
 use Rattle.iso_store.specs.Planning.{IsGathered, IsTask, AreDue, IsPlanning, numbers_of, numbers, planned, steps_of}
 use Rattle.iso_store.proofs.ArgumentLemmas.{row_of_term}
@@ -147,12 +147,12 @@ module _ {W : Type 0} (p : Present W) (names : List (List ℕ)) (at : ℕ → Tr
       within = let size = ap length more ∙ length-append l.parts.items (Compound name n ∷ []) in let before = is.within in omega arith;
       sound = λ j i h. elim (cases_eq j k) [
         | inl here ↦ (
-          let found : Some index ≡ Some i = sym (note j ∙ rw (eq-eqb j k here) refl) ∙ h in
-          let same : i ≡ index = sym (some-same index i found) in
-          ap (λ ts. slice_get ts i) made-all ∙ got-last before.known compound i (same ∙ where_ ∙ is.count) ∙ ap Some (sym due.0 ∙ ap at (sym here)))
+            let found : Some index ≡ Some i = sym (note j ∙ rw (eq-eqb j k here) refl) ∙ h in
+            let same : i ≡ index = sym (some-same index i found) in
+            ap (λ ts. slice_get ts i) made-all ∙ got-last before.known compound i (same ∙ where_ ∙ is.count) ∙ ap Some (sym due.0 ∙ ap at (sym here)))
         | inr other ↦ (
-          let old : noted l.known j ≡ Some i = sym (note j ∙ rw (ne_eqb j k other) refl) ∙ h in
-          ap (λ ts. slice_get ts i) made-all ∙ got-before before.known (compound ∷ []) i (at j) (is.sound j i old))
+            let old : noted l.known j ≡ Some i = sym (note j ∙ rw (ne_eqb j k other) refl) ∙ h in
+            ap (λ ts. slice_get ts i) made-all ∙ got-before before.known (compound ∷ []) i (at j) (is.sound j i old))
       ];
       covered = λ x inside. elim (cases_eq (place x) k) [
         | inl here ↦ (let found : noted notes (place x) ≡ Some index = note (place x) ∙ rw (eq-eqb (place x) k here) refl in ap is_some found)
@@ -213,9 +213,9 @@ module _ {W : Type 0} (p : Present W) (at : ℕ → Tree) (place : ℕ → ℕ) 
   places-sound sound j e found =
       elim (cases_eq j k) [
         | inl same ↦ (
-          let new : Some i ≡ Some e = sym (note j ∙ rw (eq-eqb j k same) refl) ∙ found in
-          let index : e ≡ i = cc in
-          ap (slice_get (map (meaning p) ws)) index ∙ word-at p ws i w below is ∙ ap Some (sym here ∙ ap at (sym same)))
+            let new : Some i ≡ Some e = sym (note j ∙ rw (eq-eqb j k same) refl) ∙ found in
+            let index : e ≡ i = cc in
+            ap (slice_get (map (meaning p) ws)) index ∙ word-at p ws i w below is ∙ ap Some (sym here ∙ ap at (sym same)))
         | inr other ↦ (let before : noted old j ≡ Some e = sym (note j ∙ rw (ne_eqb j k other) refl) ∙ found in sound j e before)
       ]
 
@@ -225,16 +225,16 @@ module _ {W : Type 0} (p : Present W) (at : ℕ → Tree) (place : ℕ → ℕ) 
       elim (cases_eq (place n) k) [
         | inl new ↦ (let found : noted notes (place n) ≡ Some i = note (place n) ∙ rw (eq-eqb (place n) k new) refl in ap is_some found)
         | inr other ↦ (
-          let kept : noted notes (place n) ≡ noted old (place n) = note (place n) ∙ rw (ne_eqb (place n) k other) refl in
-          ap is_some kept
-          ∙ elim (cases_eq j i) [
-            | inl last ↦ (
-              let this : Some (meaning p w) ≡ Some (Variable n) = sym (word-at p ws i w below is) ∙ ap (slice_get (map (meaning p) ws)) (sym last) ∙ got in
-              let is_n : meaning p w ≡ Variable n = cc in
-              let there : Some k ≡ Some (place n) = same n is_n in
-              absurd (other (sym (some-is k (place n) there))))
-            | inr before ↦ known j n (omega arith) got
-          ])
+            let kept : noted notes (place n) ≡ noted old (place n) = note (place n) ∙ rw (ne_eqb (place n) k other) refl in
+            ap is_some kept
+            ∙ elim (cases_eq j i) [
+              | inl last ↦ (
+                  let this : Some (meaning p w) ≡ Some (Variable n) = sym (word-at p ws i w below is) ∙ ap (slice_get (map (meaning p) ws)) (sym last) ∙ got in
+                  let is_n : meaning p w ≡ Variable n = cc in
+                  let there : Some k ≡ Some (place n) = same n is_n in
+                  absurd (other (sym (some-is k (place n) there))))
+              | inr before ↦ known j n (omega arith) got
+            ])
       ]
     where
       some-is : (a b : ℕ) → Some a ≡ Some b → a ≡ b

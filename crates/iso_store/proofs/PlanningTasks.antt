@@ -5,7 +5,7 @@ use Rattle.iso_atoms.specs.Texts.{text_at}
 use Rattle.iso_model.specs.Terms.Trees.{Tree, Apply, row, count}
 use Rattle.iso_model.specs.Terms.Sorts.{is_term}
 use Rattle.iso_model.specs.Terms.Sizes.{size}
-use Rattle.iso_model.specs.Terms.Building.{Gather, with_step, with_steps, steps_load}
+use Rattle.iso_model.specs.Terms.Building.{with_step, with_steps, steps_load}
 use Rattle.iso_model.proofs.OnTerms.BuildingLemmas.{with_steps-more, steps_load-more, with_steps-opened, steps_load-opened, with_gathered}
 use Rattle.iso_store.specs.declared.plans.Task.{Task}
 use Rattle.iso_store.specs.declared.plans.Task.TheVariants.{Plan, Make}

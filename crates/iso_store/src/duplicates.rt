@@ -1,5 +1,5 @@
 //! Copies of terms inside a store: what stands at one place is copied once.
-ghost use Rattle.std.specs.Prelude.{◌≡◌, ℕ, ◌+◌, ◌<◌, ◌^◌, IfOk, OnOk, length, map};
+ghost use Rattle.std.specs.Prelude.{◌≡◌, ℕ, ◌+◌, ◌<◌, ◌≤◌, ◌^◌, IfOk, OnOk, length, map};
 ghost use Rattle.std.specs.List.{All};
 ghost use Rattle.iso_model.specs.Terms.Trees.{Tree};
 ghost use Rattle.iso_model.specs.Terms.Variables.{variable_count};
@@ -77,6 +77,7 @@ fn make_plan<C: Cells>(
 }
 
 /// The copy of the term that the word stands for, with its variables numbered from the next number on by first occurrence.
+/// A term of more than 536,870,912 variables is refused as memory is.
 pub(crate) fn duplicate<C: Cells>(
     alloc: Global,
     store: &mut C,
@@ -86,6 +87,7 @@ pub(crate) fn duplicate<C: Cells>(
     requires next { (C.present store.old).next < 2 ^ 63 }
     ensures made { IfOk result (λ w. Makes (C.present store.old) (C.present store.new) w (copy_from (meaning (C.present store.old) word) (C.present store.old).next)) }
     ensures numbers { OnOk result (MovesOn (C.present store.old) (C.present store.new) (variable_count (meaning (C.present store.old) word))) }
+    ensures few { OnOk result (variable_count (meaning (C.present store.old) word) ≤ 536870912) }
     ensures cells { Grows (C.present store.old) (C.present store.new)
         (variable_count (meaning (C.present store.old) word) + cells_of C.atomic C.width (meaning (C.present store.old) word)) }
     ensures counted { OnOk result (NumbersHaveCells (C.present store.old) (C.present store.new)) }

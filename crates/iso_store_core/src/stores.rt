@@ -235,6 +235,7 @@ pub trait Store {
         requires next { (present self.old).next < 2 ^ 63 }
         ensures made { IfOk result (λ w. Makes (present self.old) (present self.new) w (copy_from (meaning (present self.old) word) (present self.old).next)) }
         ensures numbers { OnOk result (MovesOn (present self.old) (present self.new) (variable_count (meaning (present self.old) word))) }
+        ensures few { OnOk result (variable_count (meaning (present self.old) word) ≤ 536870912) }
         ensures cells { Grows (present self.old) (present self.new)
             (variable_count (meaning (present self.old) word) + cells_of atomic_cells (λ n. n + 1) (meaning (present self.old) word)) }
         ensures counted { OnOk result (NumbersHaveCells (present self.old) (present self.new)) }

@@ -1,8 +1,6 @@
-use Rattle.std.proofs.Common.{◌≡◌, ◌+◌, ℕ, map, length, refl, ap, sym, ◌∙◌, subst, arith}
-use Rattle.iso_model.specs.Terms.Trees.{Variable}
-use Rattle.iso_model.specs.Terms.Substitutions.{apply}
-use Rattle.iso_model.specs.Terms.Variables.{variables, variable_count}
-use Rattle.iso_model.specs.Terms.Copies.{place_of, copy_from, numbers_from}
+use Rattle.std.proofs.Common.{◌+◌, map, refl, sym, ◌∙◌, subst, arith}
+use Rattle.iso_model.specs.Terms.Variables.{variables}
+use Rattle.iso_model.specs.Terms.Copies.{place_of, copy_from}
 use Rattle.iso_store_core.specs.Presents.{meaning}
 use Rattle.iso_store.specs.Plans.{IsPlan}
 use Rattle.iso_store.proofs.CellCounts.{built-counted}

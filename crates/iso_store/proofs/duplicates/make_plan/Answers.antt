@@ -1,11 +1,10 @@
 use Rattle.std.proofs.Common.{◌≡◌, ◌+◌, suc, length, map, ap, sym, ◌∙◌, subst, arith, add-one}
 use Rattle.iso_store_core.specs.Patterns.{IsNamed}
 use Rattle.iso_store.specs.Writing.{IsReady, part_cells}
-use Rattle.iso_store.specs.Plans.{start, sketch_of, with_part}
-use Rattle.iso_store_core.specs.Presents.{Gathers}
+use Rattle.iso_store.specs.Plans.{start}
 use Rattle.iso_store.proofs.Gathering.{gathers-length, numbers-then, grows-on}
 use Rattle.iso_store.proofs.InstanceLemmas.{gathers-one}
-use Rattle.iso_store.proofs.PlanLemmas.{sketch_at, ready-at, next-sketch, all-sketched, costs-more, part-costs, cells_so}
+use Rattle.iso_store.proofs.PlanLemmas.{sketch_at, ready-at, next-sketch, all-sketched, costs-more, part-costs}
 use Rattle.iso_store.proofs.PlanMade.{words-more, known-more}
 use Rattle.iso_store.proofs.duplicates.make_plan.Goals as goal
 

@@ -1,4 +1,4 @@
-use Rattle.std.proofs.Common.{◌≡◌, ℕ, ◌++◌, ◌∷◌, [], ◌-◌, length, get_or, map, ap, sym, ◌∙◌, subst}
+use Rattle.std.proofs.Common.{◌≡◌, ◌++◌, ◌∷◌, [], ◌-◌, length, get_or, map, ap, ◌∙◌}
 use Rattle.iso_store_core.specs.Presents.{Gathers}
 use Rattle.iso_store_core.specs.declared.patterns.Part.TheVariants.{Compound}
 use Rattle.iso_store.specs.Plans.{made_known}

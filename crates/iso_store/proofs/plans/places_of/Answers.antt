@@ -1,4 +1,4 @@
-use Rattle.std.proofs.Common.{map, length, sym, ap, ◌∙◌, ◌<◌, is_some, slice_get, arith}
+use Rattle.std.proofs.Common.{sym, ap, ◌∙◌, ◌<◌, is_some, slice_get, arith}
 use Rattle.std.proofs.lemmas.Bool.{false≢true}
 use Rattle.std.proofs.lemmas.List.{length-map}
 use Rattle.iso_store_core.specs.Presents.{meaning}

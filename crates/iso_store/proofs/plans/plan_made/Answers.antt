@@ -1,5 +1,5 @@
 use Rattle.iso_store.proofs.PlanningLemmas.{made-terms, made-planned}
-use Rattle.std.proofs.Common.{refl, ap, ◌∙◌, ◌+◌, arith}
+use Rattle.std.proofs.Common.{refl, ap, ◌∙◌, ◌+◌}
 use Rattle.iso_store.proofs.plans.plan_made.Goals as goal
 
 pub returns-clause-planning : goal.returns-clause-planning

@@ -1,4 +1,4 @@
-use Rattle.std.proofs.Common.{◌≡◌, ◌+◌, ◌++◌, ◌∷◌, [], refl, ap, sym, ◌∙◌, is_some, arith, rules}
+use Rattle.std.proofs.Common.{◌++◌, ◌∷◌, [], refl, ap, sym, ◌∙◌, is_some, rules}
 use Rattle.std.proofs.lemmas.Int.{to_z-of_z}
 use mir.Val.{SFits}
 use mir.Syntax.{w64}
@@ -7,7 +7,6 @@ use Rattle.std.proofs.lemmas.Bool.{false≢true}
 use Rattle.std.proofs.lemmas.List.Elements.{All-push}
 use Rattle.iso_model.specs.Terms.Building.{Give}
 use Rattle.iso_store_core.specs.Presents.{meaning}
-use Rattle.iso_store_core.specs.Arguments.{arity}
 use Rattle.iso_store_core.specs.declared.patterns.Part.TheVariants.{Variable as Place, Integer as Number, Atom}
 use Rattle.iso_store.specs.declared.plans.Task.TheVariants.{Plan, Make}
 use Rattle.iso_store.specs.Planning.{IsTask, numbers, planned}
