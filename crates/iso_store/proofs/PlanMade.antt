@@ -79,12 +79,12 @@ copied-known t n k same =
     renamed-list (v ∷ vs) = ap (λ us. Variable (n + place_of v (variables t)) ∷ us) (renamed-list vs)
 
 -- the plan of a term is one of its copy, where the words for new variables are known
-pub plan-of-copy : {W : Type 0} (p : Present W) {q r : Present W} (names : List (List ℕ)) (t : Tree) (ws known : List W) (ks : List Part) (first next k : ℕ) → IsPlan names (map (meaning p) ws) ks t → map (meaning p) ws ≡ map Variable (variables t)
+pub plan-of-copy : {W : Type 0} {q r : Present W} (names : List (List ℕ)) (t : Tree) (known : List W) (ks : List Part) (first next k : ℕ) → IsPlan names (map Variable (variables t)) ks t
     → Gathers q r known (map Variable (numbers_from first k)) → k ≡ variable_count t → first ≡ next → IsPlan names (map r.term known) ks (copy_from t next)
-plan-of-copy {W} p {q} {r} names t ws known ks first next k plan list so size number =
+plan-of-copy {W} {q} {r} names t known ks first next k plan so size number =
     let fresh : Subst = λ x. Variable (next + place_of x (variables t)) in
-    let same = ap (map (apply fresh)) list ∙ copied-known t next k size ∙ ap (λ n. map Variable (numbers_from n k)) (sym number) ∙ sym so.terms in
-    subst (λ us. IsPlan names us ks (copy_from t next)) same (is-plan-applied names fresh (map (meaning p) ws) ks t plan)
+    let same = copied-known t next k size ∙ ap (λ n. map Variable (numbers_from n k)) (sym number) ∙ sym so.terms in
+    subst (λ us. IsPlan names us ks (copy_from t next)) same (is-plan-applied names fresh (map Variable (variables t)) ks t plan)
 
 pub variables-many : {W : Type 0} (p : Present W) (t : Tree) (ws : List W) → map (meaning p) ws ≡ map Variable (variables t) → length ws ≡ variable_count t
 variables-many p t ws list = sym (length-map ws (meaning p)) ∙ ap length list ∙ length-map (variables t) Variable

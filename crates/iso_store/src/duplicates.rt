@@ -1,8 +1,8 @@
 //! Copies of terms inside a store: what stands at one place is copied once.
-ghost use Rattle.std.specs.Prelude.{◌≡◌, ℕ, ◌+◌, ◌<◌, ◌≤◌, ◌^◌, IfOk, OnOk, length, map};
+ghost use Rattle.std.specs.Prelude.{◌≡◌, ℕ, ◌+◌, ◌<◌, ◌≤◌, ◌^◌, IfOk, OnOk, OnErr, length, map};
 ghost use Rattle.std.specs.List.{All};
-ghost use Rattle.iso_model.specs.Terms.Trees.{Tree};
-ghost use Rattle.iso_model.specs.Terms.Variables.{variable_count};
+ghost use Rattle.iso_model.specs.Terms.Trees.{Tree, Variable};
+ghost use Rattle.iso_model.specs.Terms.Variables.{variables, variable_count};
 ghost use Rattle.iso_model.specs.Terms.Copies.{copy_from};
 ghost use Rattle.iso_store_core.specs.Presents.{Holds, meaning, Gathers, Makes, KeepsNumbers, MovesOn, Grows, NumbersHaveCells, KeepsMarks};
 ghost use Rattle.iso_store_core.specs.Copying.{cells_of};
@@ -14,12 +14,13 @@ use super::cells::Cells;
 use super::copies::variables_from;
 use super::instances::make_part;
 use super::plans::{MOST_VARIABLES, plan};
-use super::variables::variables;
+use super::scratch::Scratch;
+use super::variables::variables_with;
 use iso_store_core::{Part, StoreFault};
 use std::alloc::Global;
 
-/// Does what the part says with the words that came before it, where it is known what these are words for. A compound that it
-/// makes is known from then on.
+/// Does what the part says with the words that came before it and those that are known. A compound that it makes is known from
+/// then on.
 fn make_planned<C: Cells>(
     store: &mut C,
     part: Part,
@@ -47,7 +48,7 @@ fn make_planned<C: Cells>(
     Ok(())
 }
 
-/// The term of the plan, where these are words for the terms that are known to begin with.
+/// The term of the plan, with these words for the terms that are known to begin with.
 fn make_plan<C: Cells>(
     alloc: Global,
     store: &mut C,
@@ -76,6 +77,38 @@ fn make_plan<C: Cells>(
     Ok(word)
 }
 
+/// A plan of a copy.
+#[derive(Drop)]
+struct CopyPlan {
+    /// How many variables the term has, which are known to begin with.
+    variables: usize,
+    /// What is to be done.
+    parts: Vec<Part>,
+}
+
+/// A plan of the copy of the term that the word stands for, with these notes. A term of more than 536,870,912 variables is refused
+/// as memory is.
+fn plan_copy<C: Cells>(
+    alloc: Global,
+    store: &C,
+    word: C::Word,
+    scratch: &mut Scratch<C::Word>,
+) -> Result<CopyPlan, StoreFault>
+    requires { Holds (C.present store.now) word }
+    ensures count { IfOk result (λ r. r.variables ≡ variable_count (meaning (C.present store.now) word)) }
+    ensures few { IfOk result (λ r. r.variables ≤ 536870912) }
+    ensures plan { IfOk result (λ r. IsPlan (C.names store.now) (map Variable (variables (meaning (C.present store.now) word))) r.parts.items (meaning (C.present store.now) word)) }
+    ensures error { OnErr result (result ≡ Err StoreFault.NoMemory) }
+{
+    let words = variables_with(alloc, store, word, &mut scratch.searched)?;
+    let variables = words.len();
+    if variables > MOST_VARIABLES {
+        return Err(StoreFault::NoMemory);
+    }
+    let parts = plan(alloc, store, word, words, &mut scratch.known)?;
+    Ok(CopyPlan { variables, parts })
+}
+
 /// The copy of the term that the word stands for, with its variables numbered from the next number on by first occurrence.
 /// A term of more than 536,870,912 variables is refused as memory is.
 pub(crate) fn duplicate<C: Cells>(
@@ -95,13 +128,12 @@ pub(crate) fn duplicate<C: Cells>(
     ensures names { C.names store.new ≡ C.names store.old }
     ensures marks { KeepsMarks (C.stands store.old) (C.stands store.new) }
 {
-    let variables = variables(alloc, store, word)?;
-    let count = variables.len();
-    if count > MOST_VARIABLES {
-        return Err(StoreFault::NoMemory);
-    }
-    let parts = plan(alloc, store, word, variables)?;
-    let first = store.reserve(count as u64);
-    let known = variables_from(alloc, store, first, count)?;
-    make_plan(alloc, store, parts.as_slice(), known)
+    let mut scratch = Scratch::new(alloc);
+    store.swap_scratch(&mut scratch);
+    let planned = plan_copy(alloc, &*store, word, &mut scratch);
+    store.swap_scratch(&mut scratch);
+    let planned = planned?;
+    let first = store.reserve(planned.variables as u64);
+    let known = variables_from(alloc, store, first, planned.variables)?;
+    make_plan(alloc, store, planned.parts.as_slice(), known)
 }

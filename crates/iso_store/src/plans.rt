@@ -17,6 +17,7 @@ use iso_atoms::Atom;
 use iso_model::NoMemory;
 use iso_store_core::{Part, Shape};
 use std::alloc::Global;
+use std::mem;
 
 /// The most variables of a term that is copied; one with more is refused as memory is.
 pub(crate) const MOST_VARIABLES: usize = 536_870_912;
@@ -179,34 +180,35 @@ fn do_task<C: Cells>(
     }
 }
 
-/// For the place of each of these variables, its place among them. The error is that memory was refused.
-fn places_of<C: Cells>(
-    alloc: Global,
+/// Notes of the place of each of these variables its place among them, and nothing else. The error is that memory was refused.
+fn place_variables<C: Cells>(
     store: &C,
     variables: &[C::Word],
-) -> Result<Notes<usize>, NoMemory>
+    places: &mut Notes<usize>,
+) -> Result<(), NoMemory>
     requires hold { All (λ w. Holds (C.present store.now) w) variables.now }
     requires variables { map (meaning (C.present store.now)) variables.now ≡ map Variable (numbers_of (C.present store.now) variables.now) }
-    ensures sound { IfOk result (λ notes. (k i : ℕ) → noted notes k ≡ Some i → slice_get (map (meaning (C.present store.now)) variables.now) i ≡ Some (C.at_place store.now k)) }
-    ensures known { IfOk result (λ notes. (n : ℕ) → is_in n (numbers_of (C.present store.now) variables.now) ≡ true → IsSome (noted notes (C.variable_place store.now n))) }
+    ensures sound { OnOk result ((k i : ℕ) → noted places.new k ≡ Some i → slice_get (map (meaning (C.present store.now)) variables.now) i ≡ Some (C.at_place store.now k)) }
+    ensures known { OnOk result ((n : ℕ) → is_in n (numbers_of (C.present store.now) variables.now) ≡ true → IsSome (noted places.new (C.variable_place store.now n))) }
 {
-    let mut places = Notes::new(alloc);
+    places.begin();
     for index in 0..variables.len() {
         let Some(place) = store.place(variables[index]) else {
             unreachable!()
         };
         places.note(place, index)?;
     }
-    Ok(places)
+    Ok(())
 }
 
-/// A plan of the copy of the term that the word stands for. `words` are those for its variables. The error is that memory was
-/// refused.
+/// A plan of the copy of the term that the word stands for, with these notes. `words` are those for its variables. The error is
+/// that memory was refused.
 pub(crate) fn plan<C: Cells>(
     alloc: Global,
     store: &C,
     word: C::Word,
     words: Vec<C::Word>,
+    known: &mut Notes<usize>,
 ) -> Result<Vec<Part>, NoMemory>
     requires word { Holds (C.present store.now) word }
     requires hold { All (λ w. Holds (C.present store.now) w) words.items }
@@ -214,17 +216,19 @@ pub(crate) fn plan<C: Cells>(
     requires few { length words.items ≤ 536870912 }
     ensures { IfOk result (λ parts. IsPlan (C.names store.now) (map (meaning (C.present store.now)) words.items) parts.items (meaning (C.present store.now) word)) }
 {
-    let known = places_of(alloc, store, words.as_slice())?;
+    place_variables(store, words.as_slice(), known)?;
     let mut planning = Planning {
         variables: words,
         parts: Vec::new(alloc),
         made: 0,
-        known,
+        known: Notes::new(alloc),
         tasks: Vec::new(alloc),
     };
+    mem::swap(&mut planning.known, known);
     plan_next(store, &mut planning, word)?;
     while let Some(task) = planning.tasks.pop() {
         do_task(store, &mut planning, task)?;
     }
+    mem::swap(&mut planning.known, known);
     Ok(planning.parts)
 }

@@ -1,4 +1,4 @@
-//! What unifying notes of the places of a store.
+//! What unifying and copying note of the places of a store.
 use super::notes::Notes;
 use std::alloc::Global;
 
@@ -9,6 +9,8 @@ pub(crate) struct Scratch<W: Copy> {
     pub(crate) searched: Notes<()>,
     /// For a place, a word of an earlier place that stands for the same term.
     pub(crate) joined: Notes<W>,
+    /// For the place of a term that is known to a plan, its place among these.
+    pub(crate) known: Notes<usize>,
 }
 
 impl<W: Copy> Scratch<W> {
@@ -17,6 +19,7 @@ impl<W: Copy> Scratch<W> {
         Scratch {
             searched: Notes::new(alloc),
             joined: Notes::new(alloc),
+            known: Notes::new(alloc),
         }
     }
 }

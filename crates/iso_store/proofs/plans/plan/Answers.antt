@@ -10,8 +10,8 @@ use Rattle.iso_store.proofs.PlanningTasks.{due-parts}
 use Rattle.iso_store.proofs.PlanningLemmas.{numbers-are, other-tasks}
 use Rattle.iso_store.proofs.plans.plan.Goals as goal
 
-pub places_of-requires-clause-variables : goal.places_of-requires-clause-variables
-places_of-requires-clause-variables g c =
+pub place_variables-requires-clause-variables : goal.place_variables-requires-clause-variables
+place_variables-requires-clause-variables g c =
     let p = g.C.Cells.present c.args.store.now in
     let same = numbers-are p c.args.words.items (variables (meaning p c.args.word)) c.requires.variables in
     subst (λ ws. map (meaning p) ws ≡ map Variable (numbers_of p ws)) (sym c.as_slice.ensures.value) (c.requires.variables ∙ ap (map Variable) (sym same))

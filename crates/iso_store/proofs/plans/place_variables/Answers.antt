@@ -5,7 +5,7 @@ use Rattle.iso_store_core.specs.Presents.{meaning}
 use Rattle.iso_store.specs.Listing.{number_of}
 use Rattle.iso_store.specs.Planning.{numbers_of}
 use Rattle.iso_store.proofs.PlanningLemmas.{variable-at, number-found, places-sound, places-known}
-use Rattle.iso_store.proofs.plans.places_of.Goals as goal
+use Rattle.iso_store.proofs.plans.place_variables.Goals as goal
 
 pub unreachable-requires : goal.unreachable-requires
 unreachable-requires g c =

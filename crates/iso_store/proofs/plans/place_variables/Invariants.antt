@@ -3,7 +3,7 @@ use Rattle.std.proofs.Common.{◌≡◌, ◌<◌, ℕ, map, Some, IsSome, slice_
 use Rattle.iso_model.specs.Terms.Trees.{Variable}
 use Rattle.iso_store_core.specs.Presents.{meaning}
 use Rattle.iso_store.specs.Notes.{noted}
-use Rattle.iso_store.proofs.plans.places_of.Given as goal
+use Rattle.iso_store.proofs.plans.place_variables.Given as goal
 
 abbrev pub invariant-loop-index : goal.invariant-loop-index
 invariant-loop-index g l = record {
