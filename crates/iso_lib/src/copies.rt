@@ -65,6 +65,6 @@ pub(crate) fn copy_term<S: Store>(
     ensures marks { KeepsMarks (S.stands store.old) (S.stands store.new) }
 {
     let (original, other) = (store.arg(goal, 0), store.arg(goal, 1));
-    let term = store.copy_out(original)?;
-    Ok(tested(unify_copy(alloc, store, other, &term)?))
+    let copy = store.copy(original)?;
+    Ok(tested(store.unify(other, copy)?))
 }

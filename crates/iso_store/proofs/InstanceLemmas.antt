@@ -56,11 +56,11 @@ occurs-append x (t ∷ ts) us = ap (λ b. occurs x t || b) (occurs-append x ts u
     or-assoc true b c = refl
     or-assoc false b c = refl
 
-cells-append : (atomic : ℕ) (width : ℕ → ℕ) (ts us : List Tree) → cells_of atomic width (row (ts ++ us)) ≡ cells_of atomic width (row ts) + cells_of atomic width (row us)
+pub cells-append : (atomic : ℕ) (width : ℕ → ℕ) (ts us : List Tree) → cells_of atomic width (row (ts ++ us)) ≡ cells_of atomic width (row ts) + cells_of atomic width (row us)
 cells-append atomic width [] us = omega arith
 cells-append atomic width (t ∷ ts) us = omega (arith, cells-append atomic width ts us)
 
-count-row : (ts : List Tree) → count (row ts) ≡ length ts
+pub count-row : (ts : List Tree) → count (row ts) ≡ length ts
 count-row [] = refl
 count-row (t ∷ ts) = omega (arith, count-row ts)
 
@@ -96,14 +96,14 @@ module _ (f : List ℕ) (n : ℕ) (ts : List Tree) where
         | inr there ↦ or_right (occurs x (row front)) (occurs x (row (Apply f (row end) ∷ []))) (or_left (occurs x (row end)) false there)
       ]
 
-  gathered-cells : (atomic : ℕ) (width : ℕ → ℕ) → cells_of atomic width (row (with_step (Gather f n) ts)) ≡ cells_of atomic width (row ts) + width (taken (length ts) n)
+  pub gathered-cells : (atomic : ℕ) (width : ℕ → ℕ) → cells_of atomic width (row (with_step (Gather f n) ts)) ≡ cells_of atomic width (row ts) + width (taken (length ts) n)
   gathered-cells atomic width =
       let new = cells-append atomic width front (Apply f (row end) ∷ []) in
       let old = sym (cells-append atomic width front end) ∙ ap (λ us. cells_of atomic width (row us)) whole in
       let many = ap width (count-row end ∙ length-drop (length ts - n) ts) in
       omega arith
 
-  gathered-applied : (s : Subst) → map (apply s) (with_step (Gather f n) ts) ≡ with_step (Gather f n) (map (apply s) ts)
+  pub gathered-applied : (s : Subst) → map (apply s) (with_step (Gather f n) ts) ≡ with_step (Gather f n) (map (apply s) ts)
   gathered-applied s =
       let long : length (map (apply s) ts) - n ≡ length ts - n = ap (λ k. k - n) (length-map ts (apply s)) in
       let first : map (apply s) front ≡ take (length (map (apply s) ts) - n) (map (apply s) ts) = sym (take-map (apply s) (length ts - n) ts) ∙ ap (λ k. take k (map (apply s) ts)) (sym long) in
@@ -116,7 +116,7 @@ leaf-fits ts u h = (and_parts (arities_fit (row ts)) (arities_fit (row (u ∷ []
 leaf-occurs : (ts : List Tree) (u : Tree) (x : ℕ) → occurs x (row ts) ≡ true → occurs x (row (ts ++ u ∷ [])) ≡ true
 leaf-occurs ts u x o = occurs-append x ts (u ∷ []) ∙ or_left (occurs x (row ts)) (occurs x (row (u ∷ []))) o
 
-leaf-cells : (atomic : ℕ) (width : ℕ → ℕ) (ts : List Tree) (u : Tree) → cells_of atomic width (row (ts ++ u ∷ [])) ≡ cells_of atomic width (row ts) + cells_of atomic width u
+pub leaf-cells : (atomic : ℕ) (width : ℕ → ℕ) (ts : List Tree) (u : Tree) → cells_of atomic width (row (ts ++ u ∷ [])) ≡ cells_of atomic width (row ts) + cells_of atomic width u
 leaf-cells atomic width ts u = let all = cells-append atomic width ts (u ∷ []) in omega arith
 
 module _ (names : List (List ℕ)) where

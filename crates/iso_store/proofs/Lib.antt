@@ -19,6 +19,10 @@ pub mod LeftLemmas
 pub mod TaskLemmas
 pub mod PatternLemmas
 pub mod InstanceLemmas
+pub mod PlanLemmas
+pub mod PlanMade
+pub mod PlanningTasks
+pub mod PlanningLemmas
 pub mod Placing
 pub mod Renaming
 pub mod UnifyLemmas

@@ -5,6 +5,8 @@ pub mod Tasks
 pub mod Notes
 pub mod Searching
 pub mod Listing
+pub mod Plans
+pub mod Planning
 pub mod Unifying
 pub mod Comparing
 pub mod NodeTerms

@@ -165,7 +165,7 @@ fn make<C: Cells>(
 }
 
 /// Words for variables of these reserved numbers, from `first` on.
-fn variables_from<C: Cells>(
+pub(crate) fn variables_from<C: Cells>(
     alloc: Global,
     store: &mut C,
     first: u64,

@@ -15,6 +15,7 @@ ghost use Rattle.std.proofs.Props.{props};
 
 use super::cells::Cells;
 use super::copies::copy_out;
+use super::duplicates::duplicate;
 use super::flat_cells::CellArea;
 use super::heap_builds::build_in_place;
 use super::heap_cells::{Cell, HeapMark, HeapWord};
@@ -461,6 +462,10 @@ impl Store for Heap {
 
     fn copy_out(&self, word: HeapWord) -> Result<Term, NoMemory> {
         copy_out(self.alloc, self, word)
+    }
+
+    fn copy(&mut self, word: HeapWord) -> Result<HeapWord, StoreFault> {
+        duplicate(self.alloc, self, word)
     }
 
     fn variables(&self, word: HeapWord) -> Result<Vec<HeapWord>, NoMemory> {

@@ -42,7 +42,7 @@ fn gather<C: Cells>(
 }
 
 /// Does what the part says with the words that came before it.
-fn make_part<C: Cells>(
+pub(crate) fn make_part<C: Cells>(
     store: &mut C,
     part: Part,
     variables: &[C::Word],

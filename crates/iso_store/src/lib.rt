@@ -6,6 +6,7 @@ mod cells;
 mod copies;
 #[cfg(test)]
 mod counting;
+mod duplicates;
 mod flat_cells;
 mod heap;
 mod heap_builds;
@@ -20,6 +21,7 @@ mod notes;
 mod occurs;
 mod order;
 mod patterns;
+mod plans;
 mod reaches;
 mod scratch;
 #[cfg(test)]

@@ -11,6 +11,7 @@ ghost use Rattle.iso_store.specs.NodeNumbers.{nodes-untouched};
 
 use super::cells::Cells;
 use super::copies::{build, copy_out};
+use super::duplicates::duplicate;
 use super::instances::instantiate;
 use super::marks::{NodesMark, unwind};
 use super::order::compare;
@@ -337,6 +338,10 @@ impl Store for Nodes {
 
     fn copy_out(&self, word: usize) -> Result<Term, NoMemory> {
         copy_out(self.alloc, self, word)
+    }
+
+    fn copy(&mut self, word: usize) -> Result<usize, StoreFault> {
+        duplicate(self.alloc, self, word)
     }
 
     fn variables(&self, word: usize) -> Result<Vec<usize>, NoMemory> {

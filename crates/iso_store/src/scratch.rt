@@ -22,6 +22,8 @@ pub(crate) struct Kept<W: Copy> {
     pub(crate) scratch: Scratch<W>,
     /// What is left to do of making terms equal, or of comparing them.
     pub(crate) tasks: Vec<Task<W>>,
+    /// For the place of a term that is known to a plan of a copy, its place among these.
+    pub(crate) known: Notes<usize>,
 }
 
 impl<W: Copy> Kept<W> {
@@ -34,6 +36,7 @@ impl<W: Copy> Kept<W> {
                 joined: Notes::new(alloc),
             },
             tasks: Vec::new(alloc),
+            known: Notes::new(alloc),
         }
     }
 }

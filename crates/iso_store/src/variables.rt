@@ -15,6 +15,7 @@ use super::occurs::Task;
 use iso_model::NoMemory;
 use iso_store_core::Shape;
 use std::alloc::Global;
+use std::mem;
 
 /// A search for the variables of a term.
 #[derive(Drop)]
@@ -111,6 +112,33 @@ fn do_task<C: Cells>(
     }
 }
 
+/// Words for the variables of the term that the word stands for, each once, in the order of first occurrence, with these notes.
+/// The error is that memory was refused.
+pub(crate) fn variables_with<C: Cells>(
+    alloc: Global,
+    store: &C,
+    word: C::Word,
+    searched: &mut Notes<()>,
+) -> Result<Vec<C::Word>, NoMemory>
+    requires { Holds (C.present store.now) word }
+    ensures hold { IfOk result (λ ws. All (λ w. Holds (C.present store.now) w) ws.items) }
+    ensures variables { IfOk result (λ ws. map (meaning (C.present store.now)) ws.items ≡ map Variable (variables (meaning (C.present store.now) word))) }
+{
+    searched.begin();
+    let mut listing = Listing {
+        found: Vec::new(alloc),
+        searched: Notes::new(alloc),
+        tasks: Vec::new(alloc),
+    };
+    mem::swap(&mut listing.searched, searched);
+    list_next(store, &mut listing, word)?;
+    while let Some(task) = listing.tasks.pop() {
+        do_task(store, &mut listing, task)?;
+    }
+    mem::swap(&mut listing.searched, searched);
+    Ok(listing.found)
+}
+
 /// Words for the variables of the term that the word stands for, each once, in the order of first occurrence. The error is that
 /// memory was refused.
 pub(crate) fn variables<C: Cells>(
@@ -122,14 +150,6 @@ pub(crate) fn variables<C: Cells>(
     ensures hold { IfOk result (λ ws. All (λ w. Holds (C.present store.now) w) ws.items) }
     ensures variables { IfOk result (λ ws. map (meaning (C.present store.now)) ws.items ≡ map Variable (variables (meaning (C.present store.now) word))) }
 {
-    let mut listing = Listing {
-        found: Vec::new(alloc),
-        searched: Notes::new(alloc),
-        tasks: Vec::new(alloc),
-    };
-    list_next(store, &mut listing, word)?;
-    while let Some(task) = listing.tasks.pop() {
-        do_task(store, &mut listing, task)?;
-    }
-    Ok(listing.found)
+    let mut searched = Notes::new(alloc);
+    variables_with(alloc, store, word, &mut searched)
 }

@@ -227,6 +227,22 @@ pub trait Store {
         ensures value { IfOk result (λ t. term_of t ≡ meaning (present self.now) word) }
         ensures well_formed { IfOk result (λ t. arities_fit (term_of t) ≡ true) };
 
+    /// The copy of the term that the word stands for, with its variables numbered from the next number on by first occurrence;
+    /// what stands at one place is copied once. The caller keeps the next number below 2^63. A term of more than 536,870,912
+    /// variables is refused as memory is.
+    fn copy(&mut self, word: Self::Word) -> Result<Self::Word, StoreFault>
+        requires word { Holds (present self.old) word }
+        requires next { (present self.old).next < 2 ^ 63 }
+        ensures made { IfOk result (λ w. Makes (present self.old) (present self.new) w (copy_from (meaning (present self.old) word) (present self.old).next)) }
+        ensures numbers { OnOk result (MovesOn (present self.old) (present self.new) (variable_count (meaning (present self.old) word))) }
+        ensures few { OnOk result (variable_count (meaning (present self.old) word) ≤ 536870912) }
+        ensures cells { Grows (present self.old) (present self.new)
+            (variable_count (meaning (present self.old) word) + cells_of atomic_cells (λ n. n + 1) (meaning (present self.old) word)) }
+        ensures counted { OnOk result (NumbersHaveCells (present self.old) (present self.new)) }
+        ensures full { result ≡ Err StoreFault.Full → full self.new }
+        ensures names { names self.new ≡ names self.old }
+        ensures marks { KeepsMarks (stands self.old) (stands self.new) };
+
     /// Words for the variables of the term that the word stands for, each once, in the order of first occurrence. The error is
     /// that memory was refused.
     fn variables(&self, word: Self::Word) -> Result<Vec<Self::Word>, NoMemory>

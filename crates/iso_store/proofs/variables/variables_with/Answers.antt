@@ -3,7 +3,7 @@ use Rattle.std.proofs.lemmas.List.Elements.{All-pop}
 use Rattle.iso_store.specs.Searching.{IsThere}
 use Rattle.iso_store.specs.Listing.{seen, seen_after}
 use Rattle.iso_store.proofs.ListingLemmas.{are-parts, after-more, listed-tasks}
-use Rattle.iso_store.proofs.variables.variables.Goals as goal
+use Rattle.iso_store.proofs.variables.variables_with.Goals as goal
 
 pub do_task-requires-clause-done : goal.do_task-requires-clause-done
 do_task-requires-clause-done g c =

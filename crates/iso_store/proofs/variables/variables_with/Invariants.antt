@@ -3,7 +3,7 @@ use Rattle.std.proofs.Common.{◌≡◌}
 use Rattle.iso_model.specs.Terms.Variables.{variables}
 use Rattle.iso_store_core.specs.Presents.{meaning}
 use Rattle.iso_store.specs.Listing.{IsListing, seen, seen_after, listing_load}
-use Rattle.iso_store.proofs.variables.variables.Given as goal
+use Rattle.iso_store.proofs.variables.variables_with.Given as goal
 
 abbrev pub invariant-loop-task : goal.invariant-loop-task
 invariant-loop-task g l = record {

@@ -1,0 +1,92 @@
+use Rattle.std.proofs.Common.{◌≡◌, ◌+◌, map, refl, ap, sym, ◌∙◌, subst, arith}
+use Rattle.iso_model.specs.Terms.Variables.{variables}
+use Rattle.iso_model.specs.Terms.Copies.{place_of, copy_from}
+use Rattle.iso_store_core.specs.Presents.{meaning}
+use Rattle.iso_store.specs.Plans.{IsPlan}
+use Rattle.iso_store.proofs.CellCounts.{built-counted}
+use Rattle.iso_store.proofs.Gathering.{keeps-then, grows-on, made-after}
+use Rattle.iso_store.proofs.Renaming.{cells-renamed}
+use Rattle.iso_store.proofs.PlanMade.{plan-of-copy}
+use Rattle.iso_store.proofs.duplicates.duplicate.Goals as goal
+
+pub make_plan-requires-clause-plan : goal.make_plan-requires-clause-plan
+make_plan-requires-clause-plan g c =
+    let p = g.C.Cells.present c.args.store.now in
+    let names = g.C.Cells.names c.args.store.now in
+    let after = g.C.Cells.names c.variables_from.new.store in
+    let q = g.C.Cells.present c.variables_from.new.store in
+    let t = meaning p c.args.word in
+    let known = c.in_ok-known.known.items in
+    let parts = c.in_ok-planned.planned.parts.items in
+    let swapped = c.swap_scratch-2.ensures.present ∙ c.swap_scratch.ensures.present in
+    let number = c.reserve-first.ensures.number ∙ ap (λ r. r.next) swapped in
+    let size = rw c.swap_scratch.ensures.present at c.in_ok-planned.ensures.count in
+    let here = rw (c.swap_scratch.ensures.present, c.swap_scratch.ensures.names) at c.in_ok-planned.ensures.plan in
+    let copied = plan-of-copy names t known parts c.reserve-first.result p.next c.in_ok-planned.planned.variables here c.in_ok-known.ensures.made size number in
+    let same : names ≡ after = sym (c.in_ok-known.ensures.names ∙ c.reserve-first.ensures.names ∙ c.swap_scratch-2.ensures.names ∙ c.swap_scratch.ensures.names) in
+    let plan = subst (λ ks. IsPlan after (map q.term known) ks (copy_from t p.next)) (sym c.as_slice.ensures.value) (subst (λ ns. IsPlan ns (map q.term known) parts (copy_from t p.next)) same copied) in
+    (copy_from t p.next, plan)
+
+pub returns-clause-made : goal.returns-clause-made
+returns-clause-made g c =
+    let p = g.C.Cells.present c.args.store.now in
+    let names = g.C.Cells.names c.args.store.now in
+    let after = g.C.Cells.names c.variables_from.new.store in
+    let q = g.C.Cells.present c.variables_from.new.store in
+    let t = meaning p c.args.word in
+    let known = c.in_ok-known.known.items in
+    let parts = c.in_ok-planned.planned.parts.items in
+    let swapped = c.swap_scratch-2.ensures.present ∙ c.swap_scratch.ensures.present in
+    let number = c.reserve-first.ensures.number ∙ ap (λ r. r.next) swapped in
+    let size = rw c.swap_scratch.ensures.present at c.in_ok-planned.ensures.count in
+    let here = rw (c.swap_scratch.ensures.present, c.swap_scratch.ensures.names) at c.in_ok-planned.ensures.plan in
+    let copied = plan-of-copy names t known parts c.reserve-first.result p.next c.in_ok-planned.planned.variables here c.in_ok-known.ensures.made size number in
+    let same : names ≡ after = sym (c.in_ok-known.ensures.names ∙ c.reserve-first.ensures.names ∙ c.swap_scratch-2.ensures.names ∙ c.swap_scratch.ensures.names) in
+    let plan = subst (λ ks. IsPlan after (map q.term known) ks (copy_from t p.next)) (sym c.as_slice.ensures.value) (subst (λ ns. IsPlan ns (map q.term known) parts (copy_from t p.next)) same copied) in
+    let reserved = rw swapped at c.reserve-first.ensures.words in
+    let kept = rw swapped at c.reserve-first.ensures.substitution in
+    let words = keeps-then reserved c.in_ok-known.ensures.made.words in
+    let bindings = c.in_ok-known.ensures.made.substitution ∙ kept in
+    made-after (g.C.Cells.present c.make_plan.new.store) (copy_from t p.next) (copy_from t p.next) c.make_plan.result words bindings refl (c.make_plan.ensures.made (copy_from t p.next) plan)
+
+pub returns-clause-cells : goal.returns-clause-cells
+returns-clause-cells g c =
+    let p = g.C.Cells.present c.args.store.now in
+    let names = g.C.Cells.names c.args.store.now in
+    let after = g.C.Cells.names c.variables_from.new.store in
+    let q = g.C.Cells.present c.variables_from.new.store in
+    let t = meaning p c.args.word in
+    let known = c.in_ok-known.known.items in
+    let parts = c.in_ok-planned.planned.parts.items in
+    let swapped = c.swap_scratch-2.ensures.present ∙ c.swap_scratch.ensures.present in
+    let number = c.reserve-first.ensures.number ∙ ap (λ r. r.next) swapped in
+    let size = rw c.swap_scratch.ensures.present at c.in_ok-planned.ensures.count in
+    let here = rw (c.swap_scratch.ensures.present, c.swap_scratch.ensures.names) at c.in_ok-planned.ensures.plan in
+    let copied = plan-of-copy names t known parts c.reserve-first.result p.next c.in_ok-planned.planned.variables here c.in_ok-known.ensures.made size number in
+    let same : names ≡ after = sym (c.in_ok-known.ensures.names ∙ c.reserve-first.ensures.names ∙ c.swap_scratch-2.ensures.names ∙ c.swap_scratch.ensures.names) in
+    let plan = subst (λ ks. IsPlan after (map q.term known) ks (copy_from t p.next)) (sym c.as_slice.ensures.value) (subst (λ ns. IsPlan ns (map q.term known) parts (copy_from t p.next)) same copied) in
+    let cells = cells-renamed (λ x. p.next + place_of x (variables t)) g.C.Cells.atomic g.C.Cells.width t in
+    let reserved = rw swapped at c.reserve-first.ensures.cells in
+    let both = grows-on c.in_ok-planned.planned.variables reserved c.in_ok-known.ensures.cells (omega arith) in
+    grows-on _ both (c.make_plan.ensures.cells (copy_from t p.next) plan) (omega arith)
+
+pub returns-clause-counted : goal.returns-clause-counted
+returns-clause-counted g c =
+    let p = g.C.Cells.present c.args.store.now in
+    let names = g.C.Cells.names c.args.store.now in
+    let after = g.C.Cells.names c.variables_from.new.store in
+    let q = g.C.Cells.present c.variables_from.new.store in
+    let t = meaning p c.args.word in
+    let known = c.in_ok-known.known.items in
+    let parts = c.in_ok-planned.planned.parts.items in
+    let swapped = c.swap_scratch-2.ensures.present ∙ c.swap_scratch.ensures.present in
+    let number = c.reserve-first.ensures.number ∙ ap (λ r. r.next) swapped in
+    let size = rw c.swap_scratch.ensures.present at c.in_ok-planned.ensures.count in
+    let here = rw (c.swap_scratch.ensures.present, c.swap_scratch.ensures.names) at c.in_ok-planned.ensures.plan in
+    let copied = plan-of-copy names t known parts c.reserve-first.result p.next c.in_ok-planned.planned.variables here c.in_ok-known.ensures.made size number in
+    let same : names ≡ after = sym (c.in_ok-known.ensures.names ∙ c.reserve-first.ensures.names ∙ c.swap_scratch-2.ensures.names ∙ c.swap_scratch.ensures.names) in
+    let plan = subst (λ ks. IsPlan after (map q.term known) ks (copy_from t p.next)) (sym c.as_slice.ensures.value) (subst (λ ns. IsPlan ns (map q.term known) parts (copy_from t p.next)) same copied) in
+    let made = c.in_ok-known.ensures.each_cell in
+    let reserved = rw swapped at c.reserve-first.ensures.cells in
+    let numbers = rw swapped at c.reserve-first.ensures.numbers in
+    built-counted (g.C.Cells.present c.make_plan.new.store) c.make_plan.result numbers reserved c.in_ok-known.ensures.numbers (omega arith) (c.make_plan.ensures.cells (copy_from t p.next) plan) c.make_plan.ensures.numbers

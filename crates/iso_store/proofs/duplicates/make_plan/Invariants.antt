@@ -1,0 +1,21 @@
+-- The words so far are for what the first parts make.
+use Rattle.std.proofs.Common.{◌≡◌, map}
+use Rattle.iso_model.specs.Terms.Trees.{row}
+use Rattle.iso_store_core.specs.Presents.{Gathers, KeepsNumbers, Grows, KeepsMarks}
+use Rattle.iso_store_core.specs.Copying.{cells_of}
+use Rattle.iso_store.specs.Plans.{start}
+use Rattle.iso_store.proofs.PlanLemmas.{sketch_at}
+use Rattle.iso_store.proofs.duplicates.make_plan.Given as goal
+
+abbrev pub invariant-loop-part : goal.invariant-loop-part
+invariant-loop-part g l = record {
+  words : Gathers (g.C.Cells.present l.fn.store) (g.C.Cells.present l.store) l.words.items
+      (sketch_at (g.C.Cells.names l.fn.store) l.parts (start (map (g.C.Cells.present l.fn.store).term l.fn.known.items)) l.part-index).terms;
+  known : Gathers (g.C.Cells.present l.fn.store) (g.C.Cells.present l.store) l.known.items
+      (sketch_at (g.C.Cells.names l.fn.store) l.parts (start (map (g.C.Cells.present l.fn.store).term l.fn.known.items)) l.part-index).known;
+  numbers : KeepsNumbers (g.C.Cells.present l.fn.store) (g.C.Cells.present l.store);
+  cells : Grows (g.C.Cells.present l.fn.store) (g.C.Cells.present l.store)
+      (cells_of g.C.Cells.atomic g.C.Cells.width (row (sketch_at (g.C.Cells.names l.fn.store) l.parts (start (map (g.C.Cells.present l.fn.store).term l.fn.known.items)) l.part-index).terms));
+  names : g.C.Cells.names l.store ≡ g.C.Cells.names l.fn.store;
+  marks : KeepsMarks (g.C.Cells.stands l.fn.store) (g.C.Cells.stands l.store);
+}
