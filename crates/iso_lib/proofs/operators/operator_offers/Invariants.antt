@@ -1,0 +1,8 @@
+-- The first operators have their rows.
+use Rattle.std.proofs.Common.{◌≡◌, map, take}
+use Rattle.iso_model.specs.Search.Settings.{operator_row}
+use Rattle.iso_lib.specs.Settlements.{offer_tree}
+use Rattle.iso_lib.proofs.operators.operator_offers.Given as goal
+
+abbrev pub invariant-loop-place : goal.invariant-loop-place
+invariant-loop-place l = map offer_tree l.offers.items ≡ map operator_row (take l.place l.ops)
