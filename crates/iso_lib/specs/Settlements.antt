@@ -1,5 +1,6 @@
 -- What a goal that reads or changes operators and flags came to.
-use Rattle.std.specs.Prelude.{◌≡◌, ℕ, zero, suc, ◌*◌, List, [], ◌∷◌, map, Result, Ok, Err}
+use Rattle.std.specs.Prelude.{◌≡◌, ℕ, zero, suc, ◌*◌, List, [], ◌∷◌, length, map, Result, Ok, Err}
+use Rattle.std.specs.List.{All}
 use Rattle.std.specs.Result.{IsErrAnd}
 use Rattle.std.specs.String.{string_bytes}
 use Rattle.iso_ops.specs.Operators.{Operator}
@@ -58,6 +59,11 @@ IsSettled w ops flags setting t settled (Err fault.NoMemory) = Unit {0}
 abbrev pub OnOffers : Result Came Fault → Type 0 → Type 0
 OnOffers (Ok (came.Offers offers)) holds = holds
 OnOffers result holds = Unit {0}
+
+-- each row that is offered has so many constants
+abbrev pub OffersEach : ℕ → Result Came Fault → Type 0
+OffersEach n (Ok (came.Offers offers)) = All (λ offer. length offer.constants.items ≡ n) offers.items
+OffersEach n result = Unit {0}
 
 -- What is checked goes on with what was found, or its error is thrown.
 abbrev pub PassesTo : {A I : Type 0} → (I → Settled) → (A → I → Settled) → Result A Fault → Type 0

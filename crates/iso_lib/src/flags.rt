@@ -1,12 +1,13 @@
 //! Flags (8.17.1 and 8.17.2).
-ghost use Rattle.std.specs.Prelude.{◌≡◌, ◌≤◌, map, false, true, IfOk, OnErr, MatchOption};
+ghost use Rattle.std.specs.Prelude.{◌≡◌, ◌≤◌, length, map, false, true, IfOk, OnErr, MatchOption};
+ghost use Rattle.std.specs.List.{All};
 ghost use Rattle.iso_ops.specs.Settings.{flag_entries, entry_of_flag};
 ghost use Rattle.iso_model.specs.Terms.Arguments.{arity};
 ghost use Rattle.iso_model.specs.Search.Settings.{setting_settled, named_flag_settled, flags_with, is_settable, may_be_flag, flag_row};
 ghost use Rattle.iso_model.specs.Search.Worlds.{World};
 ghost use Rattle.iso_model.specs.declared.library.Setting.TheVariants as row;
 ghost use Rattle.iso_store_core.specs.Presents.{Holds, meaning};
-ghost use Rattle.iso_lib.specs.Settlements.{IsSettled, OnOffers, offer_tree, with_settings};
+ghost use Rattle.iso_lib.specs.Settlements.{IsSettled, OnOffers, OffersEach, offer_tree, with_settings};
 
 use super::errors;
 use super::operators::may_be_atom;
@@ -50,6 +51,7 @@ fn set_named<S: Store>(
     requires value { Holds (S.present store.now) value }
     ensures settled { (w : World) → IsSettled w w.operators flags.new row.SetFlag (meaning (S.present store.now) goal)
         (named_flag_settled name.now (meaning (S.present store.now) value) (with_settings w w.operators flags.old)) result }
+    ensures offers { OffersEach 2 result }
     ensures flags { OnErr result (flags.new ≡ flags.old) }
     ensures flags_stay { OnOffers result (flags.new ≡ flags.old) }
 {
@@ -83,6 +85,7 @@ pub(crate) fn set_flag<S: Store>(
     requires arity { 2 ≤ arity (meaning (S.present store.now) goal) }
     ensures settled { (w : World) → IsSettled w w.operators flags.new row.SetFlag (meaning (S.present store.now) goal)
         (setting_settled row.SetFlag (meaning (S.present store.now) goal) (with_settings w w.operators flags.old)) result }
+    ensures offers { OffersEach 2 result }
     ensures flags { OnErr result (flags.new ≡ flags.old) }
     ensures flags_stay { OnOffers result (flags.new ≡ flags.old) }
 {
@@ -101,7 +104,8 @@ pub(crate) fn set_flag<S: Store>(
 
 /// A flag and its value as a row. The error is that memory was refused.
 fn flag_offer(alloc: Global, flag: &(&str, FlagValue)) -> Result<Offer, NoMemory>
-    ensures { IfOk result (λ offer. offer_tree offer ≡ flag_row (entry_of_flag flag.now)) }
+    ensures row { IfOk result (λ offer. offer_tree offer ≡ flag_row (entry_of_flag flag.now)) }
+    ensures length { IfOk result (λ offer. length offer.constants.items ≡ 2) }
 {
     let mut constants = Vec::with_capacity(alloc, 2)?;
     constants.push(Constant::Atom(String::from_str(alloc, flag.0)?))?;
@@ -115,7 +119,8 @@ fn flag_offer(alloc: Global, flag: &(&str, FlagValue)) -> Result<Offer, NoMemory
 
 /// Each flag with its value as a row. The error is that memory was refused.
 fn flag_offers(alloc: Global, flags: &Flags) -> Result<Vec<Offer>, NoMemory>
-    ensures { IfOk result (λ offers. map offer_tree offers.items ≡ map flag_row (flag_entries flags.now)) }
+    ensures rows { IfOk result (λ offers. map offer_tree offers.items ≡ map flag_row (flag_entries flags.now)) }
+    ensures lengths { IfOk result (λ offers. All (λ offer. length offer.constants.items ≡ 2) offers.items) }
 {
     let entries = flags.entries();
     let mut offers = Vec::with_capacity(alloc, entries.len())?;
@@ -147,6 +152,7 @@ pub(crate) fn current_flag<S: Store>(
     requires arity { 2 ≤ arity (meaning (S.present store.now) goal) }
     ensures settled { (w : World) → IsSettled w w.operators flags.now row.CurrentFlag (meaning (S.present store.now) goal)
         (setting_settled row.CurrentFlag (meaning (S.present store.now) goal) (with_settings w w.operators flags.now)) result }
+    ensures offers { OffersEach 2 result }
 {
     let flag = store.arg(goal, 0);
     if !may_be_atom(store, flag) {

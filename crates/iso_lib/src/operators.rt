@@ -13,7 +13,7 @@ ghost use Rattle.iso_model.specs.Search.Settings.{setting_settled};
 ghost use Rattle.iso_model.specs.Search.Worlds.{World};
 ghost use Rattle.iso_model.specs.declared.library.Setting.TheVariants as row;
 ghost use Rattle.iso_store_core.specs.Presents.{Holds, meaning};
-ghost use Rattle.iso_lib.specs.Settlements.{IsSettled, OnOffers, PassesTo, AreSet, IsSet, offer_tree, with_settings};
+ghost use Rattle.iso_lib.specs.Settlements.{IsSettled, OnOffers, OffersEach, PassesTo, AreSet, IsSet, offer_tree, with_settings};
 
 use super::errors;
 use super::lists::{ListParts, elements};
@@ -236,6 +236,7 @@ pub(crate) fn op<S: Store>(
     requires arity { 3 ≤ arity (meaning (S.present store.now) goal) }
     ensures settled { (w : World) → IsSettled w ops.new w.flags row.Op (meaning (S.present store.now) goal)
         (setting_settled row.Op (meaning (S.present store.now) goal) (with_settings w ops.old w.flags)) result }
+    ensures offers { OffersEach 3 result }
     ensures operators { OnErr result (ops.new ≡ ops.old) }
     ensures operators_stay { OnOffers result (ops.new ≡ ops.old) }
 {
@@ -292,7 +293,8 @@ pub(crate) fn may_be_atom<S: Store>(store: &S, word: S::Word) -> bool
 
 /// An operator's priority, specifier and name as a row. The error is that memory was refused.
 fn operator_offer(alloc: Global, entry: &Entry) -> Result<Offer, NoMemory>
-    ensures { IfOk result (λ offer. offer_tree offer ≡ table.operator_row (operator_of entry.now)) }
+    ensures row { IfOk result (λ offer. offer_tree offer ≡ table.operator_row (operator_of entry.now)) }
+    ensures length { IfOk result (λ offer. length offer.constants.items ≡ 3) }
 {
     let mut constants = Vec::with_capacity(alloc, 3)?;
     constants.push(Constant::Int(entry.priority as i64))?;
@@ -303,7 +305,8 @@ fn operator_offer(alloc: Global, entry: &Entry) -> Result<Offer, NoMemory>
 
 /// Each operator as a row. The error is that memory was refused.
 fn operator_offers(alloc: Global, ops: &OpTable) -> Result<Vec<Offer>, NoMemory>
-    ensures { IfOk result (λ offers. map offer_tree offers.items ≡ map table.operator_row ops.now) }
+    ensures rows { IfOk result (λ offers. map offer_tree offers.items ≡ map table.operator_row ops.now) }
+    ensures lengths { IfOk result (λ offers. All (λ offer. length offer.constants.items ≡ 3) offers.items) }
 {
     let mut offers = Vec::with_capacity(alloc, ops.len())?;
     for place in 0..ops.len() {
@@ -323,6 +326,7 @@ pub(crate) fn current_op<S: Store>(
     requires arity { 3 ≤ arity (meaning (S.present store.now) goal) }
     ensures settled { (w : World) → IsSettled w ops.now w.flags row.CurrentOp (meaning (S.present store.now) goal)
         (setting_settled row.CurrentOp (meaning (S.present store.now) goal) (with_settings w ops.now w.flags)) result }
+    ensures offers { OffersEach 3 result }
 {
     let (priority, specifier, name) = (store.arg(goal, 0), store.arg(goal, 1), store.arg(goal, 2));
     if !may_be_priority(store, priority) {

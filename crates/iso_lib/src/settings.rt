@@ -4,7 +4,7 @@ ghost use Rattle.iso_model.specs.Terms.Arguments.{arity};
 ghost use Rattle.iso_model.specs.Search.Settings.{setting_settled, setting_arity};
 ghost use Rattle.iso_model.specs.Search.Worlds.{World};
 ghost use Rattle.iso_store_core.specs.Presents.{Holds, meaning};
-ghost use Rattle.iso_lib.specs.Settlements.{IsSettled, OnOffers};
+ghost use Rattle.iso_lib.specs.Settlements.{IsSettled, OnOffers, OffersEach};
 
 use super::flags::{current_flag, set_flag};
 use super::operators::{current_op, op};
@@ -52,6 +52,7 @@ pub fn settle<S: Store>(
     requires arity { arity (meaning (S.present store.now) goal) ≡ setting_arity row }
     ensures settled { (w : World) → w.operators ≡ ops.old → w.flags ≡ flags.old
         → IsSettled w ops.new flags.new row (meaning (S.present store.now) goal) (setting_settled row (meaning (S.present store.now) goal) w) result }
+    ensures offers { OffersEach (setting_arity row) result }
     ensures operators { OnErr result (ops.new ≡ ops.old) }
     ensures flags { OnErr result (flags.new ≡ flags.old) }
     ensures operators_stay { OnOffers result (ops.new ≡ ops.old) }
