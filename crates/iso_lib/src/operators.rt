@@ -212,13 +212,8 @@ fn set_names<S: Store>(
     let mut copy = ops.copied(alloc)?;
     let mut place = 0;
     while place < names.len() {
-        set_name(
-            alloc,
-            priority,
-            specifier,
-            store.text(names[place]),
-            &mut copy,
-        )?;
+        let name = store.text(names[place]);
+        set_name(alloc, priority, specifier, name, &mut copy)?;
         place += 1;
     }
     *ops = copy;
