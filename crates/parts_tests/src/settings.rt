@@ -2,6 +2,7 @@
 //! asks of each goal. After each goal that isn't done the operators and the flags are what they were. A refused allocation is passed
 //! on, so that a test that meets one ends in that error, and none fails in an assertion.
 ghost use Rattle.std.specs.Prelude.{◌≡◌};
+ghost use Rattle.iso_store_core.specs.Presents.{Holds};
 ghost use Rattle.iso_model.specs.Search.Settings.{setting_arity};
 
 use super::texts::{read_term, write_term};
@@ -64,25 +65,10 @@ fn write_offer(out: &mut String, offer: &Offer) -> Result<(), Fail> {
     Ok(())
 }
 
-/// Runs a goal: what it comes to.
-fn outcome(
-    rt: &impl Abort,
-    alloc: Global,
-    row: Setting,
-    text: &str,
-    ops: &mut OpTable,
-    flags: &mut Flags,
-) -> Result<String, Fail> {
-    let term = read_term(alloc, text)?;
-    assert!(rt; well_formed(&term));
-    let mut store = Nodes::new(alloc, 100)?;
-    let goal = store.build(&term)?;
-    let Shape::Compound(_, count) = store.shape(goal) else {
-        panic!(rt; "no compound");
-    };
-    assert_eq!(rt; count, arguments(row));
+/// What a goal comes to.
+fn shown(alloc: Global, answer: Result<Settled, Fault>) -> Result<String, Fail> {
     let mut out = String::new(alloc);
-    match settle(alloc, &store, row, goal, ops, flags) {
+    match answer {
         Ok(Settled::Done) => out.push_str("done")?,
         Ok(Settled::Offers(offers)) => {
             write!(out, "offers {}", offers.len())?;
@@ -96,6 +82,41 @@ fn outcome(
         Err(Fault::NoMemory) => return Err(Fail::from("memory refused")),
     }
     Ok(out)
+}
+
+/// Runs a goal.
+fn settled<S: Store>(
+    rt: &impl Abort,
+    alloc: Global,
+    store: &S,
+    row: Setting,
+    goal: S::Word,
+    ops: &mut OpTable,
+    flags: &mut Flags,
+) -> Result<Settled, Fault>
+    requires goal { Holds (S.present store.now) goal }
+{
+    let Shape::Compound(_, count) = store.shape(goal) else {
+        panic!(rt; "no compound");
+    };
+    assert_eq!(rt; count, arguments(row));
+    settle(alloc, store, row, goal, ops, flags)
+}
+
+/// Runs the goal of this text: what it comes to.
+fn outcome(
+    rt: &impl Abort,
+    alloc: Global,
+    row: Setting,
+    text: &str,
+    ops: &mut OpTable,
+    flags: &mut Flags,
+) -> Result<String, Fail> {
+    let term = read_term(alloc, text)?;
+    assert!(rt; well_formed(&term));
+    let mut store = Nodes::new(alloc, 100)?;
+    let goal = store.build(&term)?;
+    shown(alloc, settled(rt, alloc, &store, row, goal, ops, flags))
 }
 
 /// Checks what each of these goals comes to that isn't done: the operators and the flags stay.
