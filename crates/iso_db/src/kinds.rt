@@ -1,0 +1,21 @@
+//! Kinds of procedures, and why the database refuses a call.
+
+/// What a procedure is (7.5.2).
+#[derive(Clone, Copy, Debug, PartialEq, Eq)]
+pub enum Kind {
+    /// Its clauses stay as its text has them.
+    Static,
+    /// Its clauses can be added and removed.
+    Dynamic,
+}
+
+/// Why a call of the database changed nothing.
+#[derive(Clone, Copy, Debug, PartialEq, Eq)]
+pub enum DbFault {
+    /// The procedure is static.
+    Static,
+    /// Memory was refused.
+    NoMemory,
+    /// There is no such procedure.
+    Unknown,
+}
