@@ -1,1 +1,3 @@
 pub mod IndexLemmas
+pub mod ListLemmas
+pub mod SlotLemmas

@@ -1,3 +1,5 @@
 pub mod Keys
 pub mod Databases
 pub mod Indexes
+pub mod Blocks
+pub mod Slots

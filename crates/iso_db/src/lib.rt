@@ -2,8 +2,12 @@
 //! a search runs. A view is the list of a procedure's clauses at its making (7.5.4), whatever is added or removed later.
 #![tactic(auto)]
 
+mod blocks;
+mod ids;
 mod kinds;
 mod places;
+mod slots;
 
+pub use ids::ClauseId;
 pub use kinds::{DbFault, Kind};
 pub use std::alloc::AllocError as NoMemory;

@@ -1,0 +1,173 @@
+//! What is kept of a procedure: its kind, and blocks of the numbers of its clauses. A block only grows, so that a view knows the
+//! clauses of its making by how long the block was.
+ghost use Rattle.std.specs.Prelude.{◌≡◌, ◌≤◌, ◌<◌, ◌+◌, ◌++◌, ◌∷◌, [], ℕ, None, length, get_or, unwrap_or, OnOk, OnErr};
+ghost use Rattle.iso_db.specs.Blocks.{Ids, Kept, ids_from, block_of, no_ids, nothing_kept, pushed};
+
+use super::ids::ClauseId;
+use super::kinds::Kind;
+use std::alloc::{AllocError, Global};
+use std::marker::Model;
+
+/// Numbers of clauses, in two parts that are pushed onto.
+#[derive(Drop)]
+pub(crate) struct Block {
+    /// Those that were added at the front, the outermost last.
+    front: Vec<ClauseId>,
+    /// Those that were added at the end.
+    back: Vec<ClauseId>,
+}
+
+impl Model for Block {
+    ghost use Rattle.iso_db.specs.Blocks.{Ids};
+
+    ghost Value = { Ids };
+
+    ghost view = { λ b. record { front = b.front.items; back = b.back.items } };
+}
+
+impl Block {
+    /// No clauses. Takes no memory.
+    fn new(alloc: Global) -> Block
+        ensures { result ≡ no_ids }
+    {
+        Block {
+            front: Vec::new(alloc),
+            back: Vec::new(alloc),
+        }
+    }
+
+    /// The number at this position, where `outer` numbers of the front are counted.
+    pub(crate) fn at(&self, outer: usize, position: usize) -> ClauseId
+        requires outer { outer ≤ length self.now.front }
+        requires position { position < outer + length self.now.back }
+        ensures { result ≡ get_or (ids_from self.now outer) position result }
+    {
+        if position < outer {
+            self.front[outer - 1 - position]
+        } else {
+            self.back[position - outer]
+        }
+    }
+
+    /// How many numbers the front has.
+    pub(crate) fn outer(&self) -> usize
+        ensures { result ≡ length self.now.front }
+    {
+        self.front.len()
+    }
+
+    /// How many numbers the end has.
+    pub(crate) fn inner(&self) -> usize
+        ensures { result ≡ length self.now.back }
+    {
+        self.back.len()
+    }
+
+    /// Adds a number before the others. The error is that memory was refused; nothing changed then.
+    fn push_first(&mut self, id: ClauseId) -> Result<(), AllocError>
+        ensures pushed { OnOk result (self.new ≡ record { front = self.old.front ++ id ∷ []; back = self.old.back }) }
+        ensures unchanged { OnErr result (self.new ≡ self.old) }
+    {
+        self.front.push(id)?;
+        Ok(())
+    }
+
+    /// Adds a number behind the others. The error is that memory was refused; nothing changed then.
+    fn push_last(&mut self, id: ClauseId) -> Result<(), AllocError>
+        ensures pushed { OnOk result (self.new ≡ record { front = self.old.front; back = self.old.back ++ id ∷ [] }) }
+        ensures unchanged { OnErr result (self.new ≡ self.old) }
+    {
+        self.back.push(id)?;
+        Ok(())
+    }
+}
+
+/// What is kept of a procedure.
+#[derive(Drop)]
+pub(crate) struct Entry {
+    kind: Option<Kind>,
+    /// Blocks that only views made before need.
+    older: Vec<Block>,
+    /// The block of the clauses as they are now.
+    current: Block,
+}
+
+impl Model for Entry {
+    ghost use Rattle.iso_db.specs.Blocks.{Kept};
+
+    ghost Value = { Kept };
+
+    ghost view = { λ e. record { kind = e.kind; older = e.older.items; current = e.current } };
+}
+
+/// Where a clause is added.
+#[derive(Clone, Copy)]
+pub(crate) enum Side {
+    First,
+    Last,
+}
+
+impl Entry {
+    /// An absent procedure. Takes no memory.
+    pub(crate) fn new(alloc: Global) -> Entry
+        ensures { result ≡ nothing_kept }
+    {
+        Entry {
+            kind: None,
+            older: Vec::new(alloc),
+            current: Block::new(alloc),
+        }
+    }
+
+    /// The procedure's kind, if it is there.
+    pub(crate) fn kind(&self) -> Option<Kind>
+        ensures { result ≡ self.now.kind }
+    {
+        self.kind
+    }
+
+    /// Gives the procedure this kind, or none.
+    pub(crate) fn set_kind(&mut self, kind: Option<Kind>)
+        ensures { self.new ≡ record self.old { kind = kind } }
+    {
+        self.kind = kind;
+    }
+
+    /// The number of the procedure's own block.
+    pub(crate) fn latest(&self) -> usize
+        ensures { result ≡ length self.now.older }
+    {
+        self.older.len()
+    }
+
+    /// The block of this number.
+    pub(crate) fn block(&self, block: usize) -> &Block
+        ensures { result.now ≡ block_of self.now block }
+    {
+        if block < self.older.len() {
+            &self.older[block]
+        } else {
+            &self.current
+        }
+    }
+
+    /// Adds the number of a clause, and gives an absent procedure this kind. The error is that memory was refused; nothing changed then.
+    pub(crate) fn push(
+        &mut self,
+        id: ClauseId,
+        side: Side,
+        kind: Kind,
+    ) -> Result<(), AllocError>
+        ensures pushed { OnOk result (self.new ≡ pushed side id kind self.old) }
+        ensures unchanged { OnErr result (self.new ≡ self.old) }
+    {
+        match side {
+            Side::First => self.current.push_first(id)?,
+            Side::Last => self.current.push_last(id)?,
+        }
+        if self.kind.is_none() {
+            self.kind = Some(kind);
+        }
+        Ok(())
+    }
+}
