@@ -1,3 +1,4 @@
 pub mod IndexLemmas
 pub mod ListLemmas
 pub mod SlotLemmas
+pub mod ViewLemmas

@@ -1,4 +1,7 @@
 //! Kinds of procedures, and why the database refuses a call.
+ghost use Rattle.std.specs.Prelude.{◌≡◌};
+
+use std::alloc::AllocError;
 
 /// What a procedure is (7.5.2).
 #[derive(Clone, Copy, Debug, PartialEq, Eq)]
@@ -18,4 +21,14 @@ pub enum DbFault {
     NoMemory,
     /// There is no such procedure.
     Unknown,
+}
+
+impl From<AllocError> for DbFault {
+    ghost use Rattle.iso_db.specs.declared.kinds.DbFault.TheVariants.{NoMemory};
+
+    ghost from_gives = { λ _ e. e ≡ NoMemory };
+
+    fn from(_refused: AllocError) -> DbFault {
+        DbFault::NoMemory
+    }
 }

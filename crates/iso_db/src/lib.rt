@@ -3,11 +3,15 @@
 #![tactic(auto)]
 
 mod blocks;
+mod db;
 mod ids;
 mod kinds;
 mod places;
 mod slots;
+mod views;
 
+pub use db::Db;
 pub use ids::ClauseId;
 pub use kinds::{DbFault, Kind};
 pub use std::alloc::AllocError as NoMemory;
+pub use views::View;

@@ -1,0 +1,54 @@
+-- Going through the numbers of a view.
+use Rattle.std.proofs.Common.{◌≡◌, ℕ, zero, suc, ◌<◌, ◌≤◌, ◌+◌, ◌-◌, Bool, true, false, List, [], ◌∷◌, ◌++◌, length, get_or, take, drop, reverse, min, Option, Some, None, is_some, option_map, refl, sym, ap, ◌∙◌, subst, true≢false, arith, if◌then◌else◌, rules}
+use Rattle.std.specs.List.{slice_get, filter_map, cons_option}
+use Rattle.std.specs.Option.{option_and_then}
+use Rattle.std.proofs.lemmas.Option.{none-some, same_Some}
+use Rattle.std.proofs.lemmas.List.{drop_more, length-take, length-append, length-reverse, get_or-take, drop_all}
+use Rattle.iso_db.specs.Databases.{Clause}
+use Rattle.iso_db.specs.Blocks.{Ids, ids_from}
+use Rattle.iso_db.specs.declared.slots.Slot.{Slot}
+use Rattle.iso_db.specs.Slots.{lives, given_by, clause_at, given}
+use Rattle.iso_db.specs.Stepping.{first_number, behind, Steps}
+
+pub length-ids_from : (b : Ids) (outer : ℕ) → outer ≤ length b.front → length (ids_from b outer) ≡ outer + length b.back
+length-ids_from b outer h = omega (arith, length-append (reverse (take outer b.front)) b.back, length-reverse (take outer b.front), length-take outer b.front)
+
+module _ {C : Type 0} where
+  -- the clause of a number has that number
+  pub clause_at-number : (slots : List (Slot C)) (made n : ℕ) (c : Clause C) → clause_at slots made n ≡ Some c → c.number ≡ n
+  clause_at-number slots made n c h = of_slot (slice_get slots n) h
+    where
+      of_value : (v : Option C) → option_map (λ value. let d : Clause C = record { number = n; value = value } in d) v ≡ Some c → c.number ≡ n
+      of_value None e = absurd (none-some c e)
+      of_value (Some v) e = ap (λ (d : Clause C). d.number) (sym (same_Some (record { number = n; value = v }) c e))
+      of_lives : (b : Bool) (v : Option C) → (if b then option_map (λ value. let d : Clause C = record { number = n; value = value } in d) v else None) ≡ Some c → c.number ≡ n
+      of_lives true v e = of_value v e
+      of_lives false v e = absurd (none-some c e)
+      of_slot : (o : Option (Slot C)) → option_and_then (given_by made n) o ≡ Some c → c.number ≡ n
+      of_slot None e = absurd (none-some c e)
+      of_slot (Some s) e = of_lives (lives made s.died) s.value e
+
+  given-cons : (slots : List (Slot C)) (made : ℕ) (numbers : List ℕ) (next x : ℕ) → next < length numbers → x ≡ get_or numbers next x → given slots made (drop next numbers) ≡ cons_option (clause_at slots made x) (given slots made (drop (next + 1) numbers))
+  given-cons slots made numbers next x h is =
+      ap (given slots made) (drop_more numbers next x h)
+      ∙ ap (λ y. cons_option (clause_at slots made y) (given slots made (drop (next + 1) numbers))) (sym is)
+
+  -- a number that gives none is passed over
+  pub given-passes : (slots : List (Slot C)) (made : ℕ) (numbers : List ℕ) (next x : ℕ) → next < length numbers → x ≡ get_or numbers next x → is_some (clause_at slots made x) ≡ false
+      → given slots made (drop (next + 1) numbers) ≡ given slots made (drop next numbers)
+  given-passes slots made numbers next x h is none = sym (given-cons slots made numbers next x h is ∙ without (clause_at slots made x) none)
+    where
+      without : (o : Option (Clause C)) → is_some o ≡ false → cons_option o (given slots made (drop (next + 1) numbers)) ≡ given slots made (drop (next + 1) numbers)
+      without None e = refl
+      without (Some c) e = absurd (true≢false e)
+
+  -- one that gives a clause is the next
+  pub given-steps : (slots : List (Slot C)) (made : ℕ) (numbers : List ℕ) (next x : ℕ) → next < length numbers → x ≡ get_or numbers next x → is_some (clause_at slots made x) ≡ true
+      → Steps (given slots made (drop next numbers)) (Some x) (given slots made (drop (next + 1) numbers))
+  given-steps slots made numbers next x h is some = subst (λ cs. Steps cs (Some x) rest) (sym (given-cons slots made numbers next x h is)) (taken (clause_at slots made x) some refl)
+    where
+      rest : List (Clause C)
+      rest = given slots made (drop (next + 1) numbers)
+      taken : (o : Option (Clause C)) → is_some o ≡ true → clause_at slots made x ≡ o → Steps (cons_option o rest) (Some x) rest
+      taken None e at = absurd (true≢false (sym e))
+      taken (Some c) e at = (ap Some (sym (clause_at-number slots made x c at)), refl)
