@@ -1,9 +1,16 @@
 -- The database: procedures with their clauses (ISO/IEC 13211-1:1995, 7.5), whatever is kept of a clause.
-use Rattle.std.specs.Prelude.{ℕ, zero, suc, ◌+◌, Bool, not, ◌==◌, List, [], ◌∷◌, ◌++◌, Option, Some, None, map, filter, is_some, unwrap_or, if◌then◌else◌}
+use Rattle.std.specs.Prelude.{ℕ, zero, suc, ◌+◌, Bool, true, false, not, ◌==◌, List, [], ◌∷◌, ◌++◌, Option, Some, None, map, filter, is_some, unwrap_or, if◌then◌else◌}
 use Rattle.std.specs.List.{slice_get, list_any}
 use Rattle.std.specs.Option.{option_and_then}
 use Rattle.iso_db.specs.Keys.{Key, key, place_of}
 use Rattle.iso_db.specs.declared.kinds.Kind.{Kind}
+use Rattle.iso_db.specs.declared.kinds.Kind.TheVariants.{Static, Dynamic}
+
+-- whether clauses may be added and removed: an absent procedure becomes dynamic by it
+abbrev pub is_not_static : Option Kind → Bool
+is_not_static None = true
+is_not_static (Some Dynamic) = true
+is_not_static (Some Static) = false
 
 -- A clause: a number of its own, and what is kept of it.
 pub record Clause (C : Type 0) : Type 0 where

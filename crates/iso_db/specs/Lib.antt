@@ -6,3 +6,4 @@ pub mod Slots
 pub mod Stepping
 pub mod Kept
 pub mod Presents
+pub mod Sides

@@ -62,7 +62,8 @@ fn add<C: Drop>(
 impl<C: Drop> Db<C> {
     ghost use Rattle.iso_db.specs.declared.kinds.Kind.TheVariants.{Static as static_kind, Dynamic};
     ghost use Rattle.iso_db.specs.declared.kinds.DbFault.TheVariants.{Static, NoMemory, Unknown};
-    ghost use Rattle.iso_db.specs.Databases.{no_procedures, place_in, kind_at, clauses_at, has_clause, at_end, at_front, with_procedure, with_clause, with_kind, without_procedure, without_clause};
+    ghost use Rattle.iso_db.specs.Databases.{no_procedures, place_in, kind_at, clauses_at, has_clause, at_end, at_front, with_procedure, with_clause, with_kind, without_procedure, without_clause, is_not_static};
+    ghost use Rattle.iso_db.specs.Sides.{put_at_side};
     ghost use Rattle.iso_db.specs.Stepping.{first_number, behind};
     ghost use Rattle.iso_db.specs.Presents.{contents, Gives, Stands, EachStands, KeepsViews, KeepsClauses};
 
@@ -165,6 +166,34 @@ impl<C: Drop> Db<C> {
         }
     }
 
+    /// Adds a clause to the procedure at this place, which gets this kind where it is absent. The error is that memory was refused;
+    /// nothing changed then.
+    fn insert(
+        &mut self,
+        place: usize,
+        clause: C,
+        side: Side,
+        kind: Kind,
+    ) -> Result<ClauseId, AllocError>
+        requires { place < length (contents self.old).procedures }
+        ensures number { IfOk result (λ id. id ≡ (contents self.old).added) }
+        ensures contents { OnOk result (contents self.new ≡ with_clause (put_at_side side) kind place clause (contents self.old)) }
+        ensures stands { IfOk result (λ id. Stands self.new id clause) }
+        ensures unchanged { OnErr result (contents self.new ≡ contents self.old) }
+        ensures views { KeepsViews self.old self.new }
+        ensures clauses { KeepsClauses self.old self.new }
+    {
+        let id = add(
+            &mut self.entries,
+            &mut self.slots,
+            place,
+            clause,
+            side,
+            kind,
+        )?;
+        Ok(id)
+    }
+
     /// Adds a clause before those of the procedure at this place (8.9.1), which is dynamic from then on where it was absent. The errors
     /// are that it is static, and that memory was refused; nothing changed then.
     pub fn add_first(&mut self, place: usize, clause: C) -> Result<ClauseId, DbFault>
@@ -172,22 +201,78 @@ impl<C: Drop> Db<C> {
         ensures number { IfOk result (λ id. id ≡ (contents self.old).added) }
         ensures contents { OnOk result (contents self.new ≡ with_clause at_front Dynamic place clause (contents self.old)) }
         ensures stands { IfOk result (λ id. Stands self.new id clause) }
-        ensures refused { result ≡ Err Static ↔ kind_at (contents self.old) place ≡ Some static_kind }
+        ensures fixed { kind_at (contents self.old) place ≡ Some static_kind → result ≡ Err Static }
+        ensures refused { result ≡ Err Static → kind_at (contents self.old) place ≡ Some static_kind }
         ensures unchanged { OnErr result (contents self.new ≡ contents self.old) }
         ensures views { KeepsViews self.old self.new }
         ensures clauses { KeepsClauses self.old self.new }
     {
-        if let Some(Kind::Static) = self.entries[place].kind() {
+        if let Some(Kind::Static) = self.kind(place) {
             return Err(DbFault::Static);
         }
-        let id = add(
-            &mut self.entries,
-            &mut self.slots,
-            place,
-            clause,
-            Side::First,
-            Kind::Dynamic,
-        )?;
+        let id = self.insert(place, clause, Side::First, Kind::Dynamic)?;
         Ok(id)
+    }
+
+    /// Adds a clause behind those of the procedure at this place (8.9.2), which is dynamic from then on where it was absent. The errors
+    /// are that it is static, and that memory was refused; nothing changed then.
+    pub fn add_last(&mut self, place: usize, clause: C) -> Result<ClauseId, DbFault>
+        requires { place < length (contents self.old).procedures }
+        ensures number { IfOk result (λ id. id ≡ (contents self.old).added) }
+        ensures contents { OnOk result (contents self.new ≡ with_clause at_end Dynamic place clause (contents self.old)) }
+        ensures stands { IfOk result (λ id. Stands self.new id clause) }
+        ensures fixed { kind_at (contents self.old) place ≡ Some static_kind → result ≡ Err Static }
+        ensures refused { result ≡ Err Static → kind_at (contents self.old) place ≡ Some static_kind }
+        ensures unchanged { OnErr result (contents self.new ≡ contents self.old) }
+        ensures views { KeepsViews self.old self.new }
+        ensures clauses { KeepsClauses self.old self.new }
+    {
+        if let Some(Kind::Static) = self.kind(place) {
+            return Err(DbFault::Static);
+        }
+        let id = self.insert(place, clause, Side::Last, Kind::Dynamic)?;
+        Ok(id)
+    }
+
+    /// Adds a clause behind those of the procedure at this place, whatever its kind, as consulting a text does; where it was absent it is
+    /// static from then on. The error is that memory was refused; nothing changed then.
+    pub fn add_consulted(&mut self, place: usize, clause: C) -> Result<ClauseId, AllocError>
+        requires { place < length (contents self.old).procedures }
+        ensures number { IfOk result (λ id. id ≡ (contents self.old).added) }
+        ensures contents { OnOk result (contents self.new ≡ with_clause at_end static_kind place clause (contents self.old)) }
+        ensures stands { IfOk result (λ id. Stands self.new id clause) }
+        ensures unchanged { OnErr result (contents self.new ≡ contents self.old) }
+        ensures views { KeepsViews self.old self.new }
+        ensures clauses { KeepsClauses self.old self.new }
+    {
+        self.insert(place, clause, Side::Last, Kind::Static)
+    }
+
+    /// Makes the procedure at this place dynamic where it is absent (7.4.2.1). The error is that it is static. Takes no memory.
+    pub fn declare(&mut self, place: usize) -> Result<(), DbFault>
+        requires { place < length (contents self.old).procedures }
+        ensures contents { OnOk result (contents self.new ≡ with_kind Dynamic place (contents self.old)) }
+        ensures allowed { is_ok result ≡ is_not_static (kind_at (contents self.old) place) }
+        ensures fixed { IfErr result (λ fault. fault ≡ Static) }
+        ensures unchanged { OnErr result (contents self.new ≡ contents self.old) }
+        ensures views { KeepsViews self.old self.new }
+        ensures clauses { KeepsClauses self.old self.new }
+    {
+        match self.kind(place) {
+            Some(Kind::Static) => return Err(DbFault::Static),
+            Some(Kind::Dynamic) => {}
+            None => self.entries[place].set_kind(Some(Kind::Dynamic)),
+        }
+        Ok(())
+    }
+
+    /// Removes a clause from the database; views made before give it still. False where it was removed before. Takes no memory.
+    pub fn remove(&mut self, id: ClauseId) -> bool
+        ensures removed { result ≡ has_clause (contents self.old) id }
+        ensures contents { contents self.new ≡ without_clause id (contents self.old) }
+        ensures views { KeepsViews self.old self.new }
+        ensures clauses { KeepsClauses self.old self.new }
+    {
+        kill(&mut self.slots, &mut self.removals, id)
     }
 }
