@@ -5,3 +5,5 @@ pub mod ViewLemmas
 pub mod KeptLemmas
 pub mod AddLemmas
 pub mod GivingLemmas
+pub mod RemoveLemmas
+pub mod PlaceLemmas

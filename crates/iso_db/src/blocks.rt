@@ -56,11 +56,11 @@ impl Block {
         self.front.len()
     }
 
-    /// How many numbers the end has.
-    pub(crate) fn inner(&self) -> usize
-        ensures { result ≡ length self.now.back }
+    /// How many numbers there are.
+    pub(crate) fn len(&self) -> usize
+        ensures { result ≡ length self.now.front + length self.now.back }
     {
-        self.back.len()
+        self.front.len() + self.back.len()
     }
 
     /// Adds a number before the others. The error is that memory was refused; nothing changed then.

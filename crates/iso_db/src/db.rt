@@ -130,14 +130,13 @@ impl<C: Drop> Db<C> {
             return Err(DbFault::Unknown);
         }
         let block = entry.latest();
-        let outer = entry.block(block).outer();
-        let inner = entry.block(block).inner();
+        let numbers = entry.block(block);
         Ok(View {
             procedure: place,
             block,
-            outer,
+            outer: numbers.outer(),
             next: 0,
-            end: outer + inner,
+            end: numbers.len(),
             made: self.removals,
         })
     }

@@ -1,0 +1,83 @@
+-- Places of procedures, and what changes at one.
+use Rattle.std.proofs.Common.{◌≡◌, ℕ, zero, suc, ◌<◌, ◌≤◌, ◌+◌, Bool, true, false, List, [], ◌∷◌, ◌++◌, length, get_or, set, map, Option, Some, None, is_some, ⊎_elim, refl, sym, ap, ◌∙◌, subst, true≢false, arith, if◌then◌else◌}
+use Rattle.std.specs.List.{slice_get}
+use Rattle.std.specs.Option.{option_and_then}
+use Rattle.std.proofs.lemmas.Option.{none-some, same_Some, slice_get_within, slice_get-get_or}
+use Rattle.std.proofs.lemmas.Bool.Decides.{eqb_tells}
+use Rattle.std.proofs.lemmas.List.{length-append, length-set, map-append}
+use Rattle.iso_db.specs.Keys.{Key, key, place_of}
+use Rattle.iso_db.specs.Databases.{Clause, Procedure, Database, place_in, with_procedure}
+use Rattle.iso_db.specs.Blocks.{Ids, Kept, no_ids, block_of, nothing_kept}
+use Rattle.iso_db.specs.declared.kinds.Kind.{Kind}
+use Rattle.iso_db.specs.declared.slots.Slot.{Slot}
+use Rattle.iso_db.specs.Slots.{clause_at, procedure_at}
+use Rattle.iso_db.specs.Kept.{lists, shown, Owns, IsKept}
+use Rattle.iso_db.proofs.ListLemmas.{slice_get-push_before, slice_get-push_last, slice_get-set_same, slice_get-set_other}
+use Rattle.iso_db.proofs.KeptLemmas.{keys-shown, shown-new, place_of-within, kind_of}
+use Rattle.iso_db.proofs.GivingLemmas.{Grown, Longer-same}
+
+pub Grown-new : (entries : List Kept) → Grown entries (entries ++ nothing_kept ∷ [])
+Grown-new entries p e at = (e, slice_get-push_before entries nothing_kept p (slice_get_within entries p e at) ∙ at, record { blocks = omega arith; longer = λ block h. Longer-same (block_of e block) (block_of e block) refl })
+
+module _ {C : Type 0} where
+  pub IsKept-new : (slots : List (Slot C)) (r : ℕ) (keys : List Key) (entries : List Kept) (k : Key) → IsKept slots r keys entries → IsKept slots r (keys ++ k ∷ []) (entries ++ nothing_kept ∷ [])
+  IsKept-new slots r keys entries k kept = record {
+    same = omega (arith, kept.same, length-append keys (k ∷ []), length-append entries (nothing_kept ∷ []));
+    counted = kept.counted;
+    owned = λ p e at block h.
+        ⊎_elim
+        (λ q. let same : nothing_kept ≡ e = same_Some nothing_kept e (sym (slice_get-push_last entries nothing_kept) ∙ subst (λ x. slice_get (entries ++ nothing_kept ∷ []) x ≡ Some e) q.1 at) in
+            subst (λ (x : Kept). Owns slots p (block_of x block)) same nothing)
+        (λ q. kept.owned p e (sym (slice_get-push_before entries nothing_kept p (inside p e at q.1)) ∙ at) block h)
+        (eqb_tells p (length entries));
+    listed = λ n p there at.
+        let was : lists (slice_get entries p) n ≡ true = kept.listed n p there at in
+        ap (λ o. lists o n) (slice_get-push_before entries nothing_kept p (lists_within entries p n was)) ∙ was;
+  }
+    where
+      inside : (p : ℕ) (e : Kept) → slice_get (entries ++ nothing_kept ∷ []) p ≡ Some e → (p ≡ length entries → ⊥) → p < length entries
+      inside p e at other = omega (arith, slice_get_within (entries ++ nothing_kept ∷ []) p e at, length-append entries (nothing_kept ∷ []), other)
+      nothing : {p : ℕ} → Owns slots p no_ids
+      nothing = record { front = λ k d h. absurd (omega arith); back = λ k d h. absurd (omega arith) }
+      lists_within : (es : List Kept) (p n : ℕ) → lists (slice_get es p) n ≡ true → p < length es
+      lists_within [] p n h = absurd (true≢false (sym h))
+      lists_within (e ∷ es) zero n h = omega arith
+      lists_within (e ∷ es) (suc p) n h = omega (arith, lists_within es p n h)
+
+  -- an entry that got another kind
+  pub IsKept-kind : (slots : List (Slot C)) (r : ℕ) (keys : List Key) (entries : List Kept) (place : ℕ) (kind : Option Kind) (d : Kept) → place < length entries → IsKept slots r keys entries
+      → IsKept slots r keys (set entries place (record (get_or entries place d) { kind = kind }))
+  IsKept-kind slots r keys entries place kind d within kept = record {
+    same = kept.same ∙ sym (length-set entries place new);
+    counted = kept.counted;
+    owned = λ p e at block h.
+        ⊎_elim
+        (λ q. let same : new ≡ e = same_Some new e (sym (slice_get-set_same entries place new within) ∙ subst (λ x. slice_get (set entries place new) x ≡ Some e) q.1 at) in
+            subst (λ x. Owns slots x (block_of e block)) (sym q.1)
+            (subst (λ (x : Kept). block ≤ length x.older → Owns slots place (block_of x block)) same (kept.owned place (get_or entries place d) (slice_get-get_or entries place d within) block) h))
+        (λ q. kept.owned p e (sym (slice_get-set_other entries place p new q.1) ∙ at) block h)
+        (eqb_tells p place);
+    listed = λ n p there at.
+        ⊎_elim
+        (λ q. subst (λ x. lists (slice_get (set entries place new) x) n ≡ true) (sym q.1)
+            (ap (λ o. lists o n) (slice_get-set_same entries place new within)
+            ∙ ap (λ o. lists o n) (sym (slice_get-get_or entries place d within)) ∙ subst (λ x. lists (slice_get entries x) n ≡ true) q.1 (kept.listed n p there at)))
+        (λ q. ap (λ o. lists o n) (slice_get-set_other entries place p new q.1) ∙ kept.listed n p there at)
+        (eqb_tells p place);
+  }
+    where
+      new : Kept
+      new = record (get_or entries place d) { kind = kind }
+
+  -- where the key of a procedure is
+  pub place_in-shown : (slots : List (Slot C)) (r : ℕ) (keys : List Key) (entries : List Kept) (name : List ℕ) (arity : ℕ) → length keys ≡ length entries
+      → place_of (map (λ (p : Procedure C). p.key) (shown slots r keys entries)) name arity ≡ place_of keys name arity
+  place_in-shown slots r keys entries name arity same = ap (λ ks. place_of ks name arity) (keys-shown slots r keys entries same)
+
+  pub with_procedure-known : (db : Database C) (name : List ℕ) (arity place : ℕ) → place_in db name arity ≡ Some place → with_procedure name arity db ≡ db
+  with_procedure-known db name arity place at =
+      ap (λ o. if is_some o then db else record db { procedures = db.procedures ++ record { key = key name arity; kind = None; clauses = [] } ∷ [] }) at
+
+  pub with_procedure-new : (db : Database C) (name : List ℕ) (arity : ℕ) → place_in db name arity ≡ None → with_procedure name arity db ≡ record db { procedures = db.procedures ++ record { key = key name arity; kind = None; clauses = [] } ∷ [] }
+  with_procedure-new db name arity at =
+      ap (λ o. if is_some o then db else record db { procedures = db.procedures ++ record { key = key name arity; kind = None; clauses = [] } ∷ [] }) at
