@@ -172,3 +172,7 @@ module _ {C : Type 0} where
 
   pub value_at-new : (slots : List (Slot C)) (value : C) (place : ℕ) → value_at (slots ++ new_slot value place ∷ []) (length slots) ≡ Some value
   value_at-new slots value place = ap (option_and_then (λ (t : Slot C). t.value)) (slice_get-push_last slots (new_slot value place))
+
+  -- what is kept of a database in which nothing changed
+  pub IsKept-same : (slots more : List (Slot C)) (r : ℕ) (keys : List Key) (entries others : List Kept) → more ≡ slots → others ≡ entries → IsKept slots r keys entries → IsKept more r keys others
+  IsKept-same slots more r keys entries others s e kept = subst (λ ss. IsKept ss r keys others) (sym s) (subst (IsKept slots r keys) (sym e) kept)

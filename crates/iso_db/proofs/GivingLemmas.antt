@@ -1,6 +1,7 @@
 -- What a view gives stays, whatever comes or goes.
 use Rattle.std.proofs.Common.{◌≡◌, ℕ, zero, suc, ◌<◌, ◌≤◌, ◌+◌, ◌-◌, Bool, true, false, List, [], ◌∷◌, ◌++◌, length, get_or, set, take, drop, reverse, Option, Some, None, is_some, refl, sym, ap, ◌∙◌, subst, true≢false, arith, ⊎_elim}
 use Rattle.std.specs.List.{slice_get, All}
+use Rattle.std.specs.Option.{option_and_then}
 use Rattle.std.proofs.lemmas.Option.{none-some, same_Some, slice_get-get_or}
 use Rattle.std.proofs.lemmas.Bool.Decides.{eqb_tells}
 use Rattle.std.proofs.lemmas.List.{append_assoc, append-nil, length-append, take-append-le, take_all}
@@ -15,8 +16,8 @@ use Rattle.iso_db.specs.declared.slots.Slot.{Slot}
 use Rattle.iso_db.specs.declared.views.View.{View}
 use Rattle.iso_db.specs.Slots.{clause_at, procedure_at, given}
 use Rattle.iso_db.specs.Kept.{older_of, block_in, block_at, pending, Owns, IsKept, Giving}
-use Rattle.iso_db.proofs.ListLemmas.{slice_get-set_same, slice_get-set_other}
-use Rattle.iso_db.proofs.KeptLemmas.{filter_map-agree, Owns-ids_from, current_of}
+use Rattle.iso_db.proofs.ListLemmas.{slice_get-push_before, slice_get-set_same, slice_get-set_other}
+use Rattle.iso_db.proofs.KeptLemmas.{procedure_there, filter_map-agree, Owns-ids_from, current_of}
 use Rattle.iso_db.proofs.ViewLemmas.{length-ids_from}
 use Rattle.iso_db.proofs.AddLemmas.{block_of-before, block_of-last}
 
@@ -138,3 +139,13 @@ module _ {C : Type 0} where
       owned : All (λ n. procedure_at slots n ≡ Some v.procedure) numbers
       owned = All-drop (λ n. procedure_at slots n ≡ Some v.procedure) v.next (take v.end (ids_from b v.outer))
           (All-take (λ n. procedure_at slots n ≡ Some v.procedure) v.end (ids_from b v.outer) (Owns-ids_from slots v.procedure b v.outer (kept.owned v.procedure e at v.block block)))
+
+  Remembers-add : (slots more : List (Slot C)) (s : Slot C) (r : ℕ) → more ≡ slots ++ s ∷ [] → Remembers slots r more r
+  Remembers-add slots more s r is = record { later = omega arith; views = λ made n p h at. ap (λ ss. clause_at ss made n) is ∙ ap (option_and_then _) (slice_get-push_before slots s n (procedure_there slots n p at)) }
+
+  -- views after a clause was added
+  pub Giving-add : (slots : List (Slot C)) (r : ℕ) (keys : List Key) (entries : List Kept) (more : List (Slot C)) (others : List Kept) (s : Slot C) (place : ℕ) (side : Side) (n : ℕ) (kind : Kind) → IsKept slots r keys entries
+      → place < length entries → more ≡ slots ++ s ∷ [] → others ≡ set entries place (pushed side n kind (get_or entries place nothing_kept)) → (v : View) (cs : List (Clause C)) → Giving slots r entries v cs → Giving more r others v cs
+  Giving-add slots r keys entries more others s place side n kind kept within is at =
+      Giving-kept slots r keys entries more r others kept (Remembers-add slots more s r is)
+      (subst (Grown entries) (sym at) (Grown-set entries place (pushed side n kind (get_or entries place nothing_kept)) nothing_kept within (Extends-pushed side n kind (get_or entries place nothing_kept))))

@@ -1,5 +1,6 @@
 -- Lists by their places.
-use Rattle.std.proofs.Common.{◌≡◌, ℕ, zero, suc, ◌<◌, ◌≤◌, ◌+◌, Bool, true, false, List, [], ◌∷◌, ◌++◌, length, get_or, set, Option, Some, None, refl, sym, ap, ◌∙◌, subst, arith}
+use Rattle.std.proofs.Common.{◌≡◌, ℕ, zero, suc, ◌<◌, ◌≤◌, ◌+◌, Bool, true, false, List, [], ◌∷◌, ◌++◌, length, get_or, set, Option, Some, None, refl, sym, ap, ◌∙◌, subst, arith, true≢false, Result, Ok, Err}
+use Rattle.std.specs.Result.{is_err, OnOk}
 use Rattle.std.specs.List.{slice_get, filter_map, cons_option, All}
 use Rattle.std.specs.Option.{option_and_then}
 use Rattle.std.proofs.lemmas.Option.{none-some, same_Some}
@@ -26,3 +27,8 @@ slice_get-push_before (x ∷ xs) y (suc i) h = slice_get-push_before xs y i (ome
 pub slice_get-push_last : {X : Type 0} (xs : List X) (y : X) → slice_get (xs ++ y ∷ []) (length xs) ≡ Some y
 slice_get-push_last [] y = refl
 slice_get-push_last (x ∷ xs) y = slice_get-push_last xs y
+
+-- what holds behind a success, where there is one
+pub ok_then : {T E P : Type 0} (r : Result T E) → is_err r ≡ false → OnOk r P → P
+ok_then (Ok x) h p = p
+ok_then (Err e) h p = absurd (true≢false h)

@@ -1,19 +1,19 @@
 -- Places of procedures, and what changes at one.
-use Rattle.std.proofs.Common.{◌≡◌, ℕ, zero, suc, ◌<◌, ◌≤◌, ◌+◌, Bool, true, false, List, [], ◌∷◌, ◌++◌, length, get_or, set, map, Option, Some, None, is_some, ⊎_elim, refl, sym, ap, ◌∙◌, subst, true≢false, arith, if◌then◌else◌}
+use Rattle.std.proofs.Common.{◌≡◌, ℕ, zero, suc, ◌<◌, ◌≤◌, ◌+◌, Bool, true, false, List, [], ◌∷◌, ◌++◌, length, get_or, set, map, Option, Some, None, is_some, unwrap_or, ⊎_elim, refl, sym, ap, ◌∙◌, subst, true≢false, arith, if◌then◌else◌}
 use Rattle.std.specs.List.{slice_get}
 use Rattle.std.specs.Option.{option_and_then}
 use Rattle.std.proofs.lemmas.Option.{none-some, same_Some, slice_get_within, slice_get-get_or}
 use Rattle.std.proofs.lemmas.Bool.Decides.{eqb_tells}
 use Rattle.std.proofs.lemmas.List.{length-append, length-set, map-append}
 use Rattle.iso_db.specs.Keys.{Key, key, place_of}
-use Rattle.iso_db.specs.Databases.{Clause, Procedure, Database, place_in, with_procedure}
-use Rattle.iso_db.specs.Blocks.{Ids, Kept, no_ids, block_of, nothing_kept}
+use Rattle.iso_db.specs.Databases.{Clause, Procedure, Database, at_place, clauses_of, place_in, with_procedure}
+use Rattle.iso_db.specs.Blocks.{Ids, Kept, ids, no_ids, block_of, nothing_kept}
 use Rattle.iso_db.specs.declared.kinds.Kind.{Kind}
 use Rattle.iso_db.specs.declared.slots.Slot.{Slot}
-use Rattle.iso_db.specs.Slots.{clause_at, procedure_at}
+use Rattle.iso_db.specs.Slots.{clause_at, procedure_at, given}
 use Rattle.iso_db.specs.Kept.{lists, shown, Owns, IsKept}
 use Rattle.iso_db.proofs.ListLemmas.{slice_get-push_before, slice_get-push_last, slice_get-set_same, slice_get-set_other}
-use Rattle.iso_db.proofs.KeptLemmas.{keys-shown, shown-new, place_of-within, kind_of}
+use Rattle.iso_db.proofs.KeptLemmas.{length-shown, keys-shown, kind-shown, clauses-shown, shown-new, shown-set, place_of-within, kind_of, current_of}
 use Rattle.iso_db.proofs.GivingLemmas.{Grown, Longer-same}
 
 pub Grown-new : (entries : List Kept) → Grown entries (entries ++ nothing_kept ∷ [])
@@ -81,3 +81,29 @@ module _ {C : Type 0} where
   pub with_procedure-new : (db : Database C) (name : List ℕ) (arity : ℕ) → place_in db name arity ≡ None → with_procedure name arity db ≡ record db { procedures = db.procedures ++ record { key = key name arity; kind = None; clauses = [] } ∷ [] }
   with_procedure-new db name arity at =
       ap (λ o. if is_some o then db else record db { procedures = db.procedures ++ record { key = key name arity; kind = None; clauses = [] } ∷ [] }) at
+
+  -- a place of what is shown is one of an entry
+  pub shown_within : (slots : List (Slot C)) (r : ℕ) (keys : List Key) (entries : List Kept) (place : ℕ) → length keys ≡ length entries → place < length (shown slots r keys entries) → place < length entries
+  shown_within slots r keys entries place same h = omega (arith, length-shown slots r keys entries same, h)
+
+  -- the kind that is shown is that of the entry
+  pub kind-there : (slots : List (Slot C)) (r : ℕ) (keys : List Key) (entries : List Kept) (place : ℕ) (d : Kept) → length keys ≡ length entries → place < length entries
+      → option_and_then (λ (p : Procedure C). p.kind) (slice_get (shown slots r keys entries) place) ≡ (get_or entries place d).kind
+  kind-there slots r keys entries place d same within = kind-shown slots r keys entries place same ∙ ap kind_of (slice_get-get_or entries place d within)
+
+  pub clauses-there : (slots : List (Slot C)) (r : ℕ) (keys : List Key) (entries : List Kept) (place : ℕ) (d : Kept) → length keys ≡ length entries → place < length entries
+      → clauses_of (slice_get (shown slots r keys entries) place) ≡ given slots r (ids (get_or entries place d).current)
+  clauses-there slots r keys entries place d same within = clauses-shown slots r keys entries place same ∙ ap (λ o. given slots r (ids (current_of o))) (slice_get-get_or entries place d within)
+
+  -- a procedure that is there keeps its kind
+  pub kind-known : (ps : List (Procedure C)) (place : ℕ) (kind other : Kind) → option_and_then (λ (p : Procedure C). p.kind) (slice_get ps place) ≡ Some kind → at_place place (λ p. record p { kind = Some (unwrap_or p.kind other) }) ps ≡ ps
+  kind-known [] place kind other h = refl
+  kind-known (p ∷ ps) zero kind other h = ap (λ k. let q : Procedure C = record p { kind = Some (unwrap_or k other) } in q ∷ ps) h ∙ ap (λ k. let q : Procedure C = record p { kind = k } in q ∷ ps) (sym h)
+  kind-known (p ∷ ps) (suc place) kind other h = ap (λ qs. p ∷ qs) (kind-known ps place kind other h)
+
+  -- a procedure that was absent gets a kind
+  pub shown-kind : (slots : List (Slot C)) (r : ℕ) (keys : List Key) (entries : List Kept) (place : ℕ) (kind : Kind) (d : Kept) → length keys ≡ length entries → (get_or entries place d).kind ≡ None
+      → shown slots r keys (set entries place (record (get_or entries place d) { kind = Some kind })) ≡ at_place place (λ p. record p { kind = Some (unwrap_or p.kind kind) }) (shown slots r keys entries)
+  shown-kind slots r keys entries place kind d same absent =
+      shown-set slots r keys entries place (λ p. record p { kind = Some (unwrap_or p.kind kind) }) (record (get_or entries place d) { kind = Some kind }) d same
+      (λ k. ap (λ o. let p : Procedure C = record { key = k; kind = Some (unwrap_or o kind); clauses = given slots r (ids (get_or entries place d).current) } in p) (sym absent))

@@ -2,6 +2,7 @@
 ghost use Rattle.std.specs.Prelude.{◌≡◌, ◌<◌, ◌≤◌, ◌+◌, ◌++◌, ◌∷◌, [], ℕ, List, Some, None, length, slice_set, slice_index_or, IfOk, IfErr, OnOk, OnErr, IsSome, IsOk, is_ok, is_some, ◌↔◌};
 ghost use Rattle.std.proofs.Props.{props};
 ghost use Rattle.iso_db.specs.Blocks.{nothing_kept, pushed};
+ghost use Rattle.iso_db.specs.Keys.{Key};
 ghost use Rattle.iso_db.specs.Databases.{Clause};
 ghost use Rattle.iso_db.specs.Kept.{IsKept};
 
@@ -42,6 +43,7 @@ fn add<C: Drop>(
     ensures number { IfOk result (λ id. id ≡ length slots.old.items) }
     ensures slots { OnOk result (slots.new.items ≡ slots.old.items ++ record { value = Some clause; procedure = place; died = None } ∷ []) }
     ensures entries { OnOk result (entries.new.items ≡ slice_set entries.old.items place (pushed side (length slots.old.items) kind (slice_index_or entries.old.items place nothing_kept))) }
+    ensures kept { (removals : ℕ) (keys : List Key) → IsKept slots.old.items removals keys entries.old.items → IsKept slots.new.items removals keys entries.new.items }
     ensures slots_stay { OnErr result (slots.new.items ≡ slots.old.items) }
     ensures entries_stay { OnErr result (entries.new.items ≡ entries.old.items) }
 {
