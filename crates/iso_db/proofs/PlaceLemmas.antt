@@ -11,10 +11,11 @@ use Rattle.iso_db.specs.Blocks.{Ids, Kept, ids, no_ids, block_of, nothing_kept}
 use Rattle.iso_db.specs.declared.kinds.Kind.{Kind}
 use Rattle.iso_db.specs.declared.slots.Slot.{Slot}
 use Rattle.iso_db.specs.Slots.{clause_at, procedure_at, given}
-use Rattle.iso_db.specs.Kept.{lists, shown, Owns, IsKept}
+use Rattle.iso_db.specs.Kept.{lists, shown, Owns, IsKept, Giving}
+use Rattle.iso_db.specs.declared.views.View.{View}
 use Rattle.iso_db.proofs.ListLemmas.{slice_get-push_before, slice_get-push_last, slice_get-set_same, slice_get-set_other}
 use Rattle.iso_db.proofs.KeptLemmas.{length-shown, keys-shown, kind-shown, clauses-shown, shown-new, shown-set, place_of-within, kind_of, current_of}
-use Rattle.iso_db.proofs.GivingLemmas.{Grown, Longer-same}
+use Rattle.iso_db.proofs.GivingLemmas.{Grown, Grown-set, Longer-same, Extends-kind, Remembers, Giving-kept}
 
 pub Grown-new : (entries : List Kept) → Grown entries (entries ++ nothing_kept ∷ [])
 Grown-new entries p e at = (e, slice_get-push_before entries nothing_kept p (slice_get_within entries p e at) ∙ at, record { blocks = omega arith; longer = λ block h. Longer-same (block_of e block) (block_of e block) refl })
@@ -107,3 +108,17 @@ module _ {C : Type 0} where
   shown-kind slots r keys entries place kind d same absent =
       shown-set slots r keys entries place (λ p. record p { kind = Some (unwrap_or p.kind kind) }) (record (get_or entries place d) { kind = Some kind }) d same
       (λ k. ap (λ o. let p : Procedure C = record { key = k; kind = Some (unwrap_or o kind); clauses = given slots r (ids (get_or entries place d).current) } in p) (sym absent))
+
+  Remembers-itself : (slots : List (Slot C)) (r : ℕ) → Remembers slots r slots r
+  Remembers-itself slots r = record { later = omega arith; views = λ made n p h at. refl }
+
+  -- views where a procedure got a kind, and where one came
+  pub Giving-kind : (slots : List (Slot C)) (r : ℕ) (keys : List Key) (entries : List Kept) (place : ℕ) (kind : Option Kind) (d : Kept) → IsKept slots r keys entries → place < length entries
+      → (v : View) (cs : List (Clause C)) → Giving slots r entries v cs → Giving slots r (set entries place (record (get_or entries place d) { kind = kind })) v cs
+  Giving-kind slots r keys entries place kind d kept within =
+      Giving-kept slots r keys entries slots r (set entries place (record (get_or entries place d) { kind = kind })) kept (Remembers-itself slots r)
+      (Grown-set entries place (record (get_or entries place d) { kind = kind }) d within (Extends-kind kind (get_or entries place d)))
+
+  pub Giving-place : (slots : List (Slot C)) (r : ℕ) (keys : List Key) (entries : List Kept) → IsKept slots r keys entries
+      → (v : View) (cs : List (Clause C)) → Giving slots r entries v cs → Giving slots r (entries ++ nothing_kept ∷ []) v cs
+  Giving-place slots r keys entries kept = Giving-kept slots r keys entries slots r (entries ++ nothing_kept ∷ []) kept (Remembers-itself slots r) (Grown-new entries)

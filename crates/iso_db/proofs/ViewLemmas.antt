@@ -3,11 +3,12 @@ use Rattle.std.proofs.Common.{◌≡◌, ℕ, zero, suc, ◌<◌, ◌≤◌, ◌
 use Rattle.std.specs.List.{slice_get, filter_map, cons_option}
 use Rattle.std.specs.Option.{option_and_then}
 use Rattle.std.proofs.lemmas.Option.{none-some, same_Some}
-use Rattle.std.proofs.lemmas.List.{drop_more, length-take, length-append, length-reverse, get_or-take, drop_all}
+use Rattle.std.proofs.lemmas.List.{drop_more, length-take, length-append, length-reverse, get_or-take, drop_all, take_all, get_or_past}
 use Rattle.iso_db.specs.Databases.{Clause}
-use Rattle.iso_db.specs.Blocks.{Ids, ids_from}
+use Rattle.iso_db.specs.Blocks.{Ids, Kept, ids, ids_from, block_of}
+use Rattle.iso_db.specs.Kept.{older_of, block_in, Giving}
 use Rattle.iso_db.specs.declared.slots.Slot.{Slot}
-use Rattle.iso_db.specs.Slots.{lives, given_by, clause_at, given}
+use Rattle.iso_db.specs.Slots.{lives, given_by, clause_at, value_at, given}
 use Rattle.iso_db.specs.Stepping.{first_number, behind, Steps}
 
 pub length-ids_from : (b : Ids) (outer : ℕ) → outer ≤ length b.front → length (ids_from b outer) ≡ outer + length b.back
@@ -52,3 +53,44 @@ module _ {C : Type 0} where
       taken : (o : Option (Clause C)) → is_some o ≡ true → clause_at slots made x ≡ o → Steps (cons_option o rest) (Some x) rest
       taken None e at = absurd (true≢false (sym e))
       taken (Some c) e at = (ap Some (sym (clause_at-number slots made x c at)), refl)
+
+  -- what is kept of a clause that is given
+  clause_at-value : (slots : List (Slot C)) (made n : ℕ) (c : Clause C) → clause_at slots made n ≡ Some c → value_at slots n ≡ Some c.value
+  clause_at-value slots made n c h = of_slot (slice_get slots n) h
+    where
+      of_value : (v : Option C) → option_map (λ value. let d : Clause C = record { number = n; value = value } in d) v ≡ Some c → v ≡ Some c.value
+      of_value None e = absurd (none-some c e)
+      of_value (Some v) e = ap (λ (d : Clause C). Some d.value) (same_Some (record { number = n; value = v }) c e)
+      of_lives : (b : Bool) (v : Option C) → (if b then option_map (λ value. let d : Clause C = record { number = n; value = value } in d) v else None) ≡ Some c → v ≡ Some c.value
+      of_lives true v e = of_value v e
+      of_lives false v e = absurd (none-some c e)
+      of_slot : (o : Option (Slot C)) → option_and_then (given_by made n) o ≡ Some c → option_and_then (λ (s : Slot C). s.value) o ≡ Some c.value
+      of_slot None e = absurd (none-some c e)
+      of_slot (Some s) e = of_lives (lives made s.died) s.value e
+
+  -- each clause that is given can be read by its number
+  pub given-stand : (slots : List (Slot C)) (made : ℕ) (ns : List ℕ) (k : ℕ) (c : Clause C) → slice_get (given slots made ns) k ≡ Some c → value_at slots c.number ≡ Some c.value
+  given-stand slots made [] k c h = absurd (none-some c h)
+  given-stand slots made (n ∷ ns) k c h = of (clause_at slots made n) refl k h (λ j e. given-stand slots made ns j c e)
+    where
+      of : (o : Option (Clause C)) → clause_at slots made n ≡ o → (j : ℕ) → slice_get (cons_option o (given slots made ns)) j ≡ Some c → ((i : ℕ) → slice_get (given slots made ns) i ≡ Some c → value_at slots c.number ≡ Some c.value) → value_at slots c.number ≡ Some c.value
+      of None at j e rest = rest j e
+      of (Some d) at zero e rest = subst (λ (x : Clause C). value_at slots x.number ≡ Some x.value) (same_Some d c e) (ap (value_at slots) (clause_at-number slots made n d at) ∙ clause_at-value slots made n d at)
+      of (Some d) at (suc j) e rest = rest j e
+
+  -- a view of the block as it is gives what the procedure has
+  pub Giving-new : (slots : List (Slot C)) (r : ℕ) (entries : List Kept) (place : ℕ) (e : Kept) (block outer end : ℕ) → slice_get entries place ≡ Some e → block ≡ length e.older → outer ≡ length e.current.front → end ≡ length e.current.front + length e.current.back
+      → Giving slots r entries (record { procedure = place; block = block; outer = outer; next = 0; end = end; made = r }) (given slots r (ids e.current))
+  Giving-new slots r entries place e block outer end at b o n = record {
+    procedure = ap is_some at;
+    block = subst (λ x. block ≤ length (older_of x)) (sym at) (omega (arith, b));
+    outer = subst (λ x. outer ≤ length (block_in x block).front) (sym at) (subst (λ (x : Ids). outer ≤ length x.front) (sym current) (omega (arith, o)));
+    end = subst (λ x. end ≤ outer + length (block_in x block).back) (sym at) (subst (λ (x : Ids). end ≤ outer + length x.back) (sym current) (omega (arith, o, n)));
+    made = omega arith;
+    clauses = ap (λ x. given slots r (take end (ids_from (block_in x block) outer))) at ∙ ap (λ x. given slots r (take end (ids_from x outer))) current
+        ∙ ap (λ ns. given slots r (take end (reverse ns ++ e.current.back))) (take_all outer e.current.front (omega (arith, o)))
+        ∙ ap (given slots r) (take_all end (ids e.current) (omega (arith, n, length-append (reverse e.current.front) e.current.back, length-reverse e.current.front)));
+  }
+    where
+      current : block_of e block ≡ e.current
+      current = get_or_past e.older block e.current (omega (arith, b))
