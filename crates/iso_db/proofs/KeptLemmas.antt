@@ -1,11 +1,13 @@
 -- What is shown of the database as it is kept.
-use Rattle.std.proofs.Common.{◌≡◌, ℕ, zero, suc, ◌<◌, ◌≤◌, ◌+◌, ◌-◌, Bool, true, false, ◌||◌, ◌==◌, List, [], ◌∷◌, ◌++◌, length, get_or, set, map, take, drop, reverse, Option, Some, None, is_some, option_map, unwrap_or, ◌⊎◌, inl, inr, ⊎_elim, refl, sym, ap, ◌∙◌, subst, true≢false, arith, eq-eqb, if◌then◌else◌}
+use Rattle.std.proofs.Common.{◌≡◌, ℕ, zero, suc, ◌<◌, ◌≤◌, ◌+◌, ◌-◌, Bool, true, false, ◌&&◌, ◌||◌, ◌==◌, List, [], ◌∷◌, ◌++◌, length, get_or, set, map, take, drop, reverse, Option, Some, None, is_some, option_map, unwrap_or, ◌⊎◌, inl, inr, ⊎_elim, refl, sym, ap, ◌∙◌, subst, true≢false, arith, eq-eqb, if◌then◌else◌}
 use Rattle.std.specs.List.{slice_get, filter_map, cons_option, list_any, count_by, All}
-use Rattle.std.specs.Option.{option_and_then, is_none}
+use Rattle.std.specs.Option.{option_and_then, option_or, is_none}
 use Rattle.std.proofs.lemmas.Option.{none-some, same_Some, slice_get_within}
 use Rattle.std.proofs.lemmas.List.{append_assoc, reverse-append, length-append, length-reverse, get_or-reverse}
 use Rattle.std.proofs.lemmas.List.Elements.{filter_map-append, All-append, All-push, All-take, All-drop}
 use Rattle.std.proofs.lemmas.List.Folds.{list_any-append}
+use Rattle.std.proofs.lemmas.Slice.Eq.{bytes_eq-Decides}
+use Rattle.iso_db.proofs.IndexLemmas.{place_of-push}
 use Rattle.iso_db.specs.Keys.{Key, key, is_key, place_of}
 use Rattle.iso_db.specs.Databases.{Clause, Procedure, at_place, at_end, at_front, one_more, one_less, clauses_of}
 use Rattle.iso_db.specs.Blocks.{Ids, Kept, no_ids, ids, ids_from, block_of, grown, pushed, nothing_kept}
@@ -136,3 +138,12 @@ module _ {C : Type 0} where
     front = λ k d h. kept (get_or b.front k d) place (owns.front k d h);
     back = λ k d h. kept (get_or b.back k d) place (owns.back k d h);
   }
+
+-- a key that was new is found last
+pub place_of-new : (ks : List Key) (name : List ℕ) (arity : ℕ) → place_of ks name arity ≡ None → place_of (ks ++ key name arity ∷ []) name arity ≡ Some (length ks)
+place_of-new ks name arity absent =
+    place_of-push ks (key name arity) name arity ∙ ap (λ o. option_or o (if is_key name arity (key name arity) then Some (length ks) else None)) absent
+    ∙ ap (λ b. if b then Some (length ks) else None) here
+  where
+    here : is_key name arity (key name arity) ≡ true
+    here = ap (λ b. b && (arity == arity)) ((bytes_eq-Decides name name).1 refl) ∙ eq-eqb arity arity refl

@@ -7,3 +7,4 @@ pub mod AddLemmas
 pub mod GivingLemmas
 pub mod RemoveLemmas
 pub mod PlaceLemmas
+pub mod ClearLemmas

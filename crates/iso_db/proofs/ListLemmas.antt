@@ -1,6 +1,7 @@
 -- Lists by their places.
 use Rattle.std.proofs.Common.{◌≡◌, ℕ, zero, suc, ◌<◌, ◌≤◌, ◌+◌, Bool, true, false, List, [], ◌∷◌, ◌++◌, length, get_or, set, Option, Some, None, refl, sym, ap, ◌∙◌, subst, arith, true≢false, Result, Ok, Err}
-use Rattle.std.specs.Result.{is_err, OnOk}
+use Rattle.std.specs.Result.{is_err, OnOk, OnErr}
+use Rattle.std.specs.Option.{IsSome}
 use Rattle.std.specs.List.{slice_get, filter_map, cons_option, All}
 use Rattle.std.specs.Option.{option_and_then}
 use Rattle.std.proofs.lemmas.Option.{none-some, same_Some}
@@ -32,3 +33,12 @@ slice_get-push_last (x ∷ xs) y = slice_get-push_last xs y
 pub ok_then : {T E P : Type 0} (r : Result T E) → is_err r ≡ false → OnOk r P → P
 ok_then (Ok x) h p = p
 ok_then (Err e) h p = absurd (true≢false h)
+
+pub err_then : {T E P : Type 0} (r : Result T E) → is_err r ≡ true → OnErr r P → P
+err_then (Ok x) h p = absurd (true≢false (sym h))
+err_then (Err e) h p = p
+
+-- what is there is not missing
+pub not_none : {X : Type 0} {A : Type 0} (o : Option X) → o ≡ None → IsSome o → A
+not_none None h p = absurd (true≢false (sym p))
+not_none (Some x) h p = absurd (none-some x (sym h))

@@ -1,6 +1,6 @@
 -- What is kept of each clause that was ever added, at its number.
 use Rattle.std.specs.Prelude.{◌≡◌, ℕ, ◌≤◌, ◌<◌, ◌+◌, Bool, true, false, nat_le, nat_lt, ◌==◌, List, Option, Some, None, option_map, is_some, length, if◌then◌else◌}
-use Rattle.std.specs.List.{slice_get, filter_map, count_by}
+use Rattle.std.specs.List.{slice_get, filter_map, count_by, list_any, All}
 use Rattle.std.specs.Option.{option_and_then, is_none}
 use Rattle.iso_db.specs.Databases.{Clause}
 use Rattle.iso_db.specs.declared.slots.Slot.{Slot}
@@ -52,3 +52,13 @@ module _ {C : Type 0} where
     pub views : (made n : ℕ) → made ≤ before → clause_at new made n ≡ clause_at old made n
     pub others : (n : ℕ) → (n ≡ number → ⊥) → clause_at new after n ≡ clause_at old before n
     pub gone : clause_at new after number ≡ None
+
+  -- From old to new at most the clauses of these numbers were removed.
+  pub record Clears (numbers : List ℕ) (old : List (Slot C)) (before : ℕ) (new : List (Slot C)) (after : ℕ) : Type 0 where
+    pub size : length new ≡ length old
+    pub later : before ≤ after
+    pub procedures : (n : ℕ) → procedure_at new n ≡ procedure_at old n
+    pub values : (n : ℕ) → value_at new n ≡ value_at old n
+    pub views : (made n : ℕ) → made ≤ before → clause_at new made n ≡ clause_at old made n
+    pub others : (n : ℕ) → list_any (λ m. m == n) numbers ≡ false → clause_at new after n ≡ clause_at old before n
+    pub gone : All (λ n. clause_at new after n ≡ None) numbers

@@ -151,6 +151,13 @@ impl Entry {
         }
     }
 
+    /// The block of the clauses as they are now.
+    pub(crate) fn current(&self) -> &Block
+        ensures { result.now ≡ self.now.current }
+    {
+        &self.current
+    }
+
     /// Adds the number of a clause, and gives an absent procedure this kind. The error is that memory was refused; nothing changed then.
     pub(crate) fn push(
         &mut self,

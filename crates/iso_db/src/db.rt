@@ -10,7 +10,7 @@ use super::blocks::{Entry, Side};
 use super::ids::ClauseId;
 use super::kinds::{DbFault, Kind};
 use super::places::Places;
-use super::slots::{Slot, is_given, kill};
+use super::slots::{Slot, kill, kill_all};
 use super::views::{View, step};
 use std::alloc::{AllocError, Global};
 
@@ -264,6 +264,26 @@ impl<C: Drop> Db<C> {
             Some(Kind::Dynamic) => {}
             None => self.entries[place].set_kind(Some(Kind::Dynamic)),
         }
+        Ok(())
+    }
+
+    /// Removes a procedure with all its clauses (8.9.4); views made before give them still. The error is that it is static. Takes no
+    /// memory.
+    pub fn abolish(&mut self, place: usize) -> Result<(), DbFault>
+        requires { place < length (contents self.old).procedures }
+        ensures contents { OnOk result (contents self.new ≡ without_procedure place (contents self.old)) }
+        ensures allowed { is_ok result ≡ is_not_static (kind_at (contents self.old) place) }
+        ensures fixed { IfErr result (λ fault. fault ≡ Static) }
+        ensures unchanged { OnErr result (contents self.new ≡ contents self.old) }
+        ensures views { KeepsViews self.old self.new }
+        ensures clauses { KeepsClauses self.old self.new }
+    {
+        if let Some(Kind::Static) = self.kind(place) {
+            return Err(DbFault::Static);
+        }
+        let entry = &mut self.entries[place];
+        kill_all(&mut self.slots, &mut self.removals, entry.current());
+        entry.set_kind(None);
         Ok(())
     }
 

@@ -1,7 +1,9 @@
 //! What is kept of each clause that was ever added.
 ghost use Rattle.std.specs.Prelude.{◌≡◌, ◌<◌, length, is_some};
-ghost use Rattle.iso_db.specs.Slots.{lives, clause_at, IsCounted, Removes};
+ghost use Rattle.iso_db.specs.Slots.{lives, clause_at, IsCounted, Removes, Clears};
+ghost use Rattle.iso_db.specs.Blocks.{ids};
 
+use super::blocks::Block;
 use super::ids::ClauseId;
 
 /// What is kept of a clause.
@@ -50,4 +52,17 @@ pub(crate) fn kill<C>(slots: &mut Vec<Slot<C>>, removals: &mut usize, id: Clause
     slots[id.number()].died = Some(*removals);
     *removals += 1;
     true
+}
+
+/// Removes the clauses of a block that were not removed before.
+pub(crate) fn kill_all<C>(slots: &mut Vec<Slot<C>>, removals: &mut usize, block: &Block)
+    requires { IsCounted slots.old.items removals.old }
+    ensures cleared { Clears (ids block.now) slots.old.items removals.old slots.new.items removals.new }
+    ensures counted { IsCounted slots.new.items removals.new }
+{
+    let outer = block.outer();
+    for position in 0..block.len() {
+        let id = block.at(outer, position);
+        let _removed = kill(slots, removals, id);
+    }
 }
