@@ -4,7 +4,7 @@ use Rattle.std.specs.List.{slice_get, filter_map, cons_option, list_any, count_b
 use Rattle.std.specs.Option.{option_and_then, is_none}
 use Rattle.std.proofs.lemmas.Option.{none-some, same_Some, slice_get_within, slice_get-get_or, get_or_from_slice_get}
 use Rattle.std.proofs.lemmas.Bool.Decides.{eqb_tells, leb_tells}
-use Rattle.std.proofs.lemmas.List.{length-append, length-set, get_or_default, get_or_past}
+use Rattle.std.proofs.lemmas.List.{length-append, length-set, length-reverse, get_or_default, get_or_past, take-append-le}
 use Rattle.std.proofs.lemmas.List.Elements.{filter_map-append, All-push}
 use Rattle.std.proofs.lemmas.List.Folds.{list_any-append}
 use Rattle.std.proofs.lemmas.List.Sums.{sum_by-append}
@@ -17,9 +17,9 @@ use Rattle.iso_db.specs.declared.blocks.Side.{Side}
 use Rattle.iso_db.specs.declared.blocks.Side.TheVariants.{First, Last}
 use Rattle.iso_db.specs.declared.slots.Slot.{Slot}
 use Rattle.iso_db.specs.Slots.{before, clause_at, procedure_at, value_at, given, IsCounted}
-use Rattle.iso_db.specs.Kept.{lists, shown_by, shown, Owns, IsKept}
+use Rattle.iso_db.specs.Kept.{lists, shown_by, shown, Owns, Trimmed, IsKept}
 use Rattle.iso_db.proofs.ListLemmas.{slice_get-push_before, slice_get-push_last, slice_get-set_same, slice_get-set_other}
-use Rattle.iso_db.proofs.KeptLemmas.{ids-first, ids-last, shown-set, shown-same, filter_map-agree, procedure_there, Owns-ids, Owns-more}
+use Rattle.iso_db.proofs.KeptLemmas.{ids-first, ids-last, shown-set, shown-same, filter_map-agree, procedure_there, Owns-ids, Owns-more, Trimmed-more}
 
 -- a procedure that has a number has it still, and the new one
 lists-grown : (side : Side) (n m : ℕ) (b : Ids) → list_any (λ k. k == m) (ids b) ≡ true → list_any (λ k. k == m) (ids (grown side n b)) ≡ true
@@ -111,6 +111,11 @@ module _ {C : Type 0} where
         (λ q. here d (same_Some e' d (sym (slice_get-set_same entries place e' within) ∙ subst (λ m. slice_get (set entries place e') m ≡ Some d) q.1 at)) p q.1 block h)
         (λ q. Owns-more slots more p (block_of d block) (procedure_at-before slots (new_slot value place)) (kept.owned p d (sym (slice_get-set_other entries place p e' q.1) ∙ at) block h))
         (eqb_tells p place);
+    trimmed = λ p d at.
+        ⊎_elim
+        (λ q. subst (Trimmed more r) (same_Some e' d (sym (slice_get-set_same entries place e' within) ∙ subst (λ m. slice_get (set entries place e') m ≡ Some d) q.1 at)) (trimmed_grown side))
+        (λ q. was_trimmed p d (sym (slice_get-set_other entries place p e' q.1) ∙ at))
+        (eqb_tells p place);
     listed = λ m p there proc.
         ⊎_elim
         (λ q. newest m q.1 p (subst (λ x. procedure_at more x ≡ Some p) q.1 proc))
@@ -145,6 +150,23 @@ module _ {C : Type 0} where
       here d same p q block h =
           subst (λ x. Owns more x (block_of d block)) (sym q)
           (subst (λ (x : Kept). block ≤ length x.older → Owns more place (block_of x block)) same (of_e block) h)
+      owner : (p : ℕ) (d : Kept) → slice_get entries p ≡ Some d → All (λ m. procedure_at slots m ≡ Some p) (ids d.current)
+      owner p d at = Owns-ids slots p d.current (subst (Owns slots p) (block_of-last d (length d.older) refl) (kept.owned p d at (length d.older) (omega arith)))
+      was_trimmed : (p : ℕ) (d : Kept) → slice_get entries p ≡ Some d → Trimmed more r d
+      was_trimmed p d at =
+          Trimmed-more slots more r r d
+          (λ k x h gone. ap is_some (clause_at-before slots (new_slot value place) r (get_or (ids d.current) k x) (procedure_there slots (get_or (ids d.current) k x) p (owner p d at k x h))) ∙ gone)
+          (kept.trimmed p d at)
+      size : (b : Ids) → length (ids b) ≡ length b.front + length b.back
+      size b = omega (arith, length-append (reverse b.front) b.back, length-reverse b.front)
+      trimmed_grown : (s : Side) → Trimmed more r (pushed s n kind e)
+      trimmed_grown First = record { within = omega arith; dead = λ k d h. absurd (omega arith) }
+      trimmed_grown Last =
+          (let was : Trimmed more r e = was_trimmed place e at_e in
+          record {
+            within = omega (arith, was.within, length-append e.current.back (n ∷ []));
+            dead = subst (All (λ m. is_some (clause_at more r m) ≡ false)) (sym (ap (take e.first) (ids-last n e.current) ∙ take-append-le e.first (ids e.current) (n ∷ []) (omega (arith, size e.current, was.within)))) was.dead;
+          })
       inside : (m p : ℕ) → procedure_at more m ≡ Some p → (m ≡ n → ⊥) → m < length slots
       inside m p h other = omega (arith, procedure_there more m p h, length-append slots (new_slot value place ∷ []), other)
       newest : (m : ℕ) → m ≡ n → (p : ℕ) → procedure_at more n ≡ Some p → lists (slice_get (set entries place e') p) m ≡ true

@@ -15,7 +15,7 @@ use Rattle.iso_db.specs.declared.views.View.{View}
 use Rattle.iso_db.specs.Slots.{clause_at, procedure_at, given, IsCounted, Removes, Clears}
 use Rattle.iso_db.specs.Kept.{lists, shown_by, shown, Owns, IsKept, Giving}
 use Rattle.iso_db.proofs.ListLemmas.{slice_get-set_same}
-use Rattle.iso_db.proofs.KeptLemmas.{filter_map-agree, shown-set, shown-same, Owns-more, Owns-ids}
+use Rattle.iso_db.proofs.KeptLemmas.{filter_map-agree, shown-set, shown-same, Owns-more, Owns-ids, Trimmed-more}
 use Rattle.iso_db.proofs.AddLemmas.{block_of-last}
 use Rattle.iso_db.proofs.GivingLemmas.{Remembers, Giving-kept, Grown, Grown-set, Extends-kind}
 use Rattle.iso_db.proofs.PlaceLemmas.{IsKept-kind}
@@ -65,9 +65,13 @@ module _ {C : Type 0} where
     same = kept.same;
     counted = counted;
     owned = λ p e at block h. Owns-more slots more p (block_of e block) (λ n x was. clears.procedures n ∙ was) (kept.owned p e at block h);
+    trimmed = λ p e at. Trimmed-more slots more r q e (λ k d h gone. stays (get_or (ids e.current) k d) gone (list_any (λ m. m == get_or (ids e.current) k d) ns) refl) (kept.trimmed p e at);
     listed = λ n p there at. tested n p there at (list_any (λ m. m == n) ns) refl;
   }
     where
+      stays : (n : ℕ) → is_some (clause_at slots r n) ≡ false → (t : Bool) → list_any (λ m. m == n) ns ≡ t → is_some (clause_at more q n) ≡ false
+      stays n gone true h = ap is_some (any-all (λ m. clause_at more q m ≡ None) ns n clears.gone h)
+      stays n gone false h = ap is_some (clears.others n h) ∙ gone
       tested : (n p : ℕ) → is_some (clause_at more q n) ≡ true → procedure_at more n ≡ Some p → (t : Bool) → list_any (λ m. m == n) ns ≡ t → lists (slice_get entries p) n ≡ true
       tested n p there at true h = absurd (true≢false (sym there ∙ ap is_some (any-all (λ m. clause_at more q m ≡ None) ns n clears.gone h)))
       tested n p there at false h = kept.listed n p (ap is_some (sym (clears.others n h)) ∙ there) (sym (clears.procedures n) ∙ at)

@@ -3,7 +3,7 @@ use Rattle.std.proofs.Common.{◌≡◌, ℕ, zero, suc, ◌<◌, ◌≤◌, ◌
 use Rattle.std.specs.List.{slice_get, filter_map, cons_option, list_any, count_by, All}
 use Rattle.std.specs.Option.{option_and_then, option_or, is_none}
 use Rattle.std.proofs.lemmas.Option.{none-some, same_Some, slice_get_within}
-use Rattle.std.proofs.lemmas.List.{append_assoc, reverse-append, length-append, length-reverse, get_or-reverse}
+use Rattle.std.proofs.lemmas.List.{append_assoc, reverse-append, length-append, length-reverse, get_or-reverse, length-take, get_or-take}
 use Rattle.std.proofs.lemmas.List.Elements.{filter_map-append, All-append, All-push, All-take, All-drop}
 use Rattle.std.proofs.lemmas.List.Folds.{list_any-append}
 use Rattle.std.proofs.lemmas.Slice.Eq.{bytes_eq-Decides}
@@ -17,7 +17,7 @@ use Rattle.iso_db.specs.declared.blocks.Side.TheVariants.{First, Last}
 use Rattle.iso_db.specs.Sides.{put_at_side}
 use Rattle.iso_db.specs.declared.slots.Slot.{Slot}
 use Rattle.iso_db.specs.Slots.{clause_at, procedure_at, given}
-use Rattle.iso_db.specs.Kept.{shown_by, shown, Owns}
+use Rattle.iso_db.specs.Kept.{shown_by, shown, Owns, Trimmed}
 use Rattle.iso_db.proofs.ListLemmas.{slice_get-push_before}
 
 -- the place of a key is one of the list's
@@ -147,3 +147,16 @@ place_of-new ks name arity absent =
   where
     here : is_key name arity (key name arity) ≡ true
     here = ap (λ b. b && (arity == arity)) ((bytes_eq-Decides name name).1 refl) ∙ eq-eqb arity arity refl
+
+module _ {C : Type 0} where
+  -- what was removed stays so where no clause comes back
+  pub Trimmed-more : (slots more : List (Slot C)) (r q : ℕ) (e : Kept) → (All (λ n. is_some (clause_at slots r n) ≡ false → is_some (clause_at more q n) ≡ false) (ids e.current)) → Trimmed slots r e → Trimmed more q e
+  Trimmed-more slots more r q e stays trimmed = record {
+    within = trimmed.within;
+    dead = λ k d h.
+        (let size : length (take e.first (ids e.current)) ≤ length (ids e.current) = omega (arith, length-take e.first (ids e.current)) in
+        let short : length (take e.first (ids e.current)) ≤ e.first = omega (arith, length-take e.first (ids e.current)) in
+        let same : get_or (take e.first (ids e.current)) k d ≡ get_or (ids e.current) k d = get_or-take e.first (ids e.current) k d (omega arith) in
+        let was : is_some (clause_at slots r (get_or (ids e.current) k d)) ≡ false = ap (λ n. is_some (clause_at slots r n)) (sym same) ∙ trimmed.dead k d h in
+        ap (λ n. is_some (clause_at more q n)) same ∙ stays k d (omega arith) was);
+  }

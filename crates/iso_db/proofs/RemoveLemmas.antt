@@ -1,5 +1,5 @@
 -- One clause less.
-use Rattle.std.proofs.Common.{◌≡◌, ℕ, zero, suc, ◌<◌, ◌≤◌, ◌+◌, Bool, true, false, not, ◌||◌, ◌==◌, List, [], ◌∷◌, ◌++◌, length, map, filter, cond, Option, Some, None, is_some, option_map, ⊎_elim, refl, sym, ap, ◌∙◌, subst, true≢false, arith, eq-eqb, if◌then◌else◌}
+use Rattle.std.proofs.Common.{◌≡◌, ℕ, zero, suc, ◌<◌, ◌≤◌, ◌+◌, Bool, true, false, not, ◌||◌, ◌==◌, List, [], ◌∷◌, ◌++◌, length, map, filter, cond, Option, Some, None, is_some, get_or, option_map, ⊎_elim, refl, sym, ap, ◌∙◌, subst, true≢false, arith, eq-eqb, if◌then◌else◌}
 use Rattle.std.specs.List.{slice_get, filter_map, cons_option, list_any}
 use Rattle.std.specs.Option.{option_and_then}
 use Rattle.std.proofs.lemmas.Option.{none-some}
@@ -10,7 +10,7 @@ use Rattle.iso_db.specs.Blocks.{Ids, Kept, ids, block_of}
 use Rattle.iso_db.specs.declared.slots.Slot.{Slot}
 use Rattle.iso_db.specs.Slots.{given_by, clause_at, procedure_at, given, IsCounted, Removes}
 use Rattle.iso_db.specs.Kept.{lists, shown_by, shown, Owns, IsKept}
-use Rattle.iso_db.proofs.KeptLemmas.{Owns-more}
+use Rattle.iso_db.proofs.KeptLemmas.{Owns-more, Trimmed-more}
 use Rattle.iso_db.proofs.ViewLemmas.{clause_at-number}
 use Rattle.iso_db.proofs.GivingLemmas.{Remembers, some_of}
 
@@ -60,12 +60,16 @@ module _ {C : Type 0} where
     same = kept.same;
     counted = counted;
     owned = λ p e at block h. Owns-more slots more p (block_of e block) (λ n x was. removes.procedures n ∙ was) (kept.owned p e at block h);
+    trimmed = λ p e at. Trimmed-more slots more r q e (λ k d h gone. stays (get_or (ids e.current) k d) gone) (kept.trimmed p e at);
     listed = λ n p there at.
         ⊎_elim
         (λ e. absurd (true≢false (sym there ∙ ap (λ m. is_some (clause_at more q m)) e.1 ∙ ap is_some removes.gone)))
         (λ e. kept.listed n p (ap is_some (sym (removes.others n e.1)) ∙ there) (sym (removes.procedures n) ∙ at))
         (eqb_tells n number);
   }
+    where
+      stays : (n : ℕ) → is_some (clause_at slots r n) ≡ false → is_some (clause_at more q n) ≡ false
+      stays n gone = ⊎_elim (λ e. ap (λ m. is_some (clause_at more q m)) e.1 ∙ ap is_some removes.gone) (λ e. ap is_some (removes.others n e.1) ∙ gone) (eqb_tells n number)
 
   -- whether a clause of this number is among these
   abbrev pub has_number : ℕ → List (Clause C) → Bool

@@ -1,12 +1,13 @@
 -- Going through the numbers of a view.
 use Rattle.std.proofs.Common.{◌≡◌, ℕ, zero, suc, ◌<◌, ◌≤◌, ◌+◌, ◌-◌, Bool, true, false, List, [], ◌∷◌, ◌++◌, length, get_or, take, drop, reverse, min, Option, Some, None, is_some, option_map, refl, sym, ap, ◌∙◌, subst, true≢false, arith, if◌then◌else◌, rules}
-use Rattle.std.specs.List.{slice_get, filter_map, cons_option}
+use Rattle.std.specs.List.{slice_get, filter_map, cons_option, All}
 use Rattle.std.specs.Option.{option_and_then}
 use Rattle.std.proofs.lemmas.Option.{none-some, same_Some}
-use Rattle.std.proofs.lemmas.List.{drop_more, length-take, length-append, length-reverse, get_or-take, drop_all, take_all, get_or_past}
+use Rattle.std.proofs.lemmas.List.{drop_more, length-take, length-append, length-reverse, get_or-take, drop_all, take_all, get_or_past, take-append-drop}
+use Rattle.std.proofs.lemmas.List.Elements.{filter_map-append}
 use Rattle.iso_db.specs.Databases.{Clause}
 use Rattle.iso_db.specs.Blocks.{Ids, Kept, ids, ids_from, block_of}
-use Rattle.iso_db.specs.Kept.{older_of, block_in, Giving}
+use Rattle.iso_db.specs.Kept.{older_of, block_in, Trimmed, Giving}
 use Rattle.iso_db.specs.declared.slots.Slot.{Slot}
 use Rattle.iso_db.specs.Slots.{lives, given_by, clause_at, value_at, given}
 use Rattle.iso_db.specs.Stepping.{first_number, behind, Steps}
@@ -78,19 +79,31 @@ module _ {C : Type 0} where
       of (Some d) at zero e rest = subst (λ (x : Clause C). value_at slots x.number ≡ Some x.value) (same_Some d c e) (ap (value_at slots) (clause_at-number slots made n d at) ∙ clause_at-value slots made n d at)
       of (Some d) at (suc j) e rest = rest j e
 
+  given-dead : (slots : List (Slot C)) (r : ℕ) (ns : List ℕ) → All (λ n. is_some (clause_at slots r n) ≡ false) ns → given slots r ns ≡ []
+  given-dead slots r [] all = refl
+  given-dead slots r (n ∷ ns) all = none (clause_at slots r n) (all 0 n (omega arith)) ∙ given-dead slots r ns (λ k d h. all (suc k) d (omega arith))
+    where
+      none : (o : Option (Clause C)) → is_some o ≡ false → cons_option o (given slots r ns) ≡ given slots r ns
+      none None e = refl
+      none (Some c) e = absurd (true≢false e)
+
   -- a view of the block as it is gives what the procedure has
-  pub Giving-new : (slots : List (Slot C)) (r : ℕ) (entries : List Kept) (place : ℕ) (e : Kept) (block outer end : ℕ) → slice_get entries place ≡ Some e → block ≡ length e.older → outer ≡ length e.current.front → end ≡ length e.current.front + length e.current.back
-      → Giving slots r entries (record { procedure = place; block = block; outer = outer; next = 0; end = end; made = r }) (given slots r (ids e.current))
-  Giving-new slots r entries place e block outer end at b o n = record {
+  pub Giving-new : (slots : List (Slot C)) (r : ℕ) (entries : List Kept) (place : ℕ) (e : Kept) (block outer end : ℕ) → slice_get entries place ≡ Some e → Trimmed slots r e → block ≡ length e.older → outer ≡ length e.current.front → end ≡ length e.current.front + length e.current.back
+      → Giving slots r entries (record { procedure = place; block = block; outer = outer; next = e.first; end = end; made = r }) (given slots r (ids e.current))
+  Giving-new slots r entries place e block outer end at trimmed b o n = record {
     procedure = ap is_some at;
     block = subst (λ x. block ≤ length (older_of x)) (sym at) (omega (arith, b));
     outer = subst (λ x. outer ≤ length (block_in x block).front) (sym at) (subst (λ (x : Ids). outer ≤ length x.front) (sym current) (omega (arith, o)));
     end = subst (λ x. end ≤ outer + length (block_in x block).back) (sym at) (subst (λ (x : Ids). end ≤ outer + length x.back) (sym current) (omega (arith, o, n)));
     made = omega arith;
-    clauses = ap (λ x. given slots r (take end (ids_from (block_in x block) outer))) at ∙ ap (λ x. given slots r (take end (ids_from x outer))) current
-        ∙ ap (λ ns. given slots r (take end (reverse ns ++ e.current.back))) (take_all outer e.current.front (omega (arith, o)))
-        ∙ ap (given slots r) (take_all end (ids e.current) (omega (arith, n, length-append (reverse e.current.front) e.current.back, length-reverse e.current.front)));
+    clauses = ap (λ x. given slots r (drop e.first (take end (ids_from (block_in x block) outer)))) at ∙ ap (λ x. given slots r (drop e.first (take end (ids_from x outer)))) current
+        ∙ ap (λ ns. given slots r (drop e.first (take end (reverse ns ++ e.current.back)))) (take_all outer e.current.front (omega (arith, o)))
+        ∙ ap (λ ns. given slots r (drop e.first ns)) (take_all end (ids e.current) (omega (arith, n, length-append (reverse e.current.front) e.current.back, length-reverse e.current.front)))
+        ∙ sym behind_dead;
   }
     where
       current : block_of e block ≡ e.current
       current = get_or_past e.older block e.current (omega (arith, b))
+      behind_dead : given slots r (ids e.current) ≡ given slots r (drop e.first (ids e.current))
+      behind_dead = ap (given slots r) (sym (take-append-drop e.first (ids e.current))) ∙ filter_map-append (clause_at slots r) (take e.first (ids e.current)) (drop e.first (ids e.current))
+          ∙ ap (λ cs. cs ++ given slots r (drop e.first (ids e.current))) (given-dead slots r (take e.first (ids e.current)) trimmed.dead)

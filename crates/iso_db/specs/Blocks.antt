@@ -9,11 +9,13 @@ pub record Ids : Type 0 where
   pub front : List ℕ
   pub back : List ℕ
 
--- What is kept of a procedure: its kind, the blocks that only views made before need, and its block.
+-- What is kept of a procedure: its kind, the blocks that only views made before need, its block, and how many of the block's first
+-- numbers new views pass over.
 pub record Kept : Type 0 where
   pub kind : Option Kind
   pub older : List Ids
   pub current : Ids
+  pub first : ℕ
 
 -- the numbers in order, of the front only so many that were there first
 abbrev pub ids_from : Ids → ℕ → List ℕ
@@ -33,13 +35,18 @@ no_ids = record { front = []; back = [] }
 
 -- what is kept of an absent procedure without clauses
 abbrev pub nothing_kept : Kept
-nothing_kept = record { kind = None; older = []; current = no_ids }
+nothing_kept = record { kind = None; older = []; current = no_ids; first = 0 }
 
 -- the numbers with one more
 abbrev pub grown : Side → ℕ → Ids → Ids
 grown First id b = record b { front = b.front ++ id ∷ [] }
 grown Last id b = record b { back = b.back ++ id ∷ [] }
 
+-- how many of the first numbers new views pass over then
+abbrev pub passed : Side → ℕ → ℕ
+passed First first = 0
+passed Last first = first
+
 -- a procedure with the number of one clause more, which gets this kind where it was absent
 abbrev pub pushed : Side → ℕ → Kind → Kept → Kept
-pushed side id kind e = record e { kind = Some (unwrap_or e.kind kind); current = grown side id e.current }
+pushed side id kind e = record e { kind = Some (unwrap_or e.kind kind); current = grown side id e.current; first = passed side e.first }

@@ -47,11 +47,17 @@ module _ {C : Type 0} where
     pub front : All (λ n. procedure_at slots n ≡ Some place) b.front
     pub back : All (λ n. procedure_at slots n ≡ Some place) b.back
 
+  -- New views pass over clauses alone that were removed.
+  pub record Trimmed (slots : List (Slot C)) (removals : ℕ) (e : Kept) : Type 0 where
+    pub within : e.first ≤ length e.current.front + length e.current.back
+    pub dead : All (λ n. is_some (clause_at slots removals n) ≡ false) (take e.first (ids e.current))
+
   -- What holds of a database as it is kept.
   pub record IsKept (slots : List (Slot C)) (removals : ℕ) (keys : List Key) (entries : List Kept) : Type 0 where
     pub same : length keys ≡ length entries
     pub counted : IsCounted slots removals
     pub owned : (place : ℕ) (e : Kept) → slice_get entries place ≡ Some e → (block : ℕ) → block ≤ length e.older → Owns slots place (block_of e block)
+    pub trimmed : (place : ℕ) (e : Kept) → slice_get entries place ≡ Some e → Trimmed slots removals e
     -- a clause that is there is in the block of its procedure
     pub listed : (number place : ℕ) → is_some (clause_at slots removals number) ≡ true → procedure_at slots number ≡ Some place → lists (slice_get entries place) number ≡ true
 
@@ -63,3 +69,9 @@ module _ {C : Type 0} where
     pub end : v.end ≤ v.outer + length (block_at entries v).back
     pub made : v.made ≤ removals
     pub clauses : given slots v.made (pending entries v) ≡ cs
+
+  -- What is kept of the procedures becomes handier, and nothing can be told from it.
+  pub record Tidies (slots : List (Slot C)) (removals : ℕ) (entries others : List Kept) : Type 0 where
+    pub kept : (keys : List Key) → IsKept slots removals keys entries → IsKept slots removals keys others
+    pub shows : (keys : List Key) → IsKept slots removals keys entries → shown slots removals keys others ≡ shown slots removals keys entries
+    pub gives : (keys : List Key) → IsKept slots removals keys entries → (v : View) (cs : List (Clause C)) → Giving slots removals entries v cs → Giving slots removals others v cs

@@ -90,6 +90,8 @@ pub(crate) struct Entry {
     older: Vec<Block>,
     /// The block of the clauses as they are now.
     current: Block,
+    /// How many of the block's first numbers are those of clauses that were removed.
+    first: usize,
 }
 
 impl Model for Entry {
@@ -97,7 +99,7 @@ impl Model for Entry {
 
     ghost Value = { Kept };
 
-    ghost view = { λ e. record { kind = e.kind; older = e.older.items; current = e.current } };
+    ghost view = { λ e. record { kind = e.kind; older = e.older.items; current = e.current; first = e.first } };
 }
 
 /// Where a clause is added.
@@ -116,6 +118,7 @@ impl Entry {
             kind: None,
             older: Vec::new(alloc),
             current: Block::new(alloc),
+            first: 0,
         }
     }
 
@@ -151,6 +154,20 @@ impl Entry {
         }
     }
 
+    /// How many of the block's first numbers new views pass over.
+    pub(crate) fn first(&self) -> usize
+        ensures { result ≡ self.now.first }
+    {
+        self.first
+    }
+
+    /// Lets new views pass over so many of the block's first numbers.
+    pub(crate) fn set_first(&mut self, first: usize)
+        ensures { self.new ≡ record self.old { first = first } }
+    {
+        self.first = first;
+    }
+
     /// The block of the clauses as they are now.
     pub(crate) fn current(&self) -> &Block
         ensures { result.now ≡ self.now.current }
@@ -169,7 +186,10 @@ impl Entry {
         ensures unchanged { OnErr result (self.new ≡ self.old) }
     {
         match side {
-            Side::First => self.current.push_first(id)?,
+            Side::First => {
+                self.current.push_first(id)?;
+                self.first = 0;
+            }
             Side::Last => self.current.push_last(id)?,
         }
         if self.kind.is_none() {

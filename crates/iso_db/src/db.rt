@@ -137,7 +137,7 @@ impl<C: Drop> Db<C> {
             procedure: place,
             block,
             outer: numbers.outer(),
-            next: 0,
+            next: entry.first(),
             end: numbers.len(),
             made: self.removals,
         })

@@ -2,7 +2,7 @@
 use Rattle.std.proofs.Common.{◌≡◌, ◌<◌, ◌≤◌, ◌+◌, ◌∙◌, ℕ, List, sym, ap, subst, length, arith, refl, true, false, not, is_some, Some, get_or}
 use Rattle.std.specs.List.{slice_get}
 use Rattle.std.proofs.lemmas.Option.{slice_get-get_or}
-use Rattle.iso_db.specs.Databases.{Clause, kind_at}
+use Rattle.iso_db.specs.Databases.{Clause, kind_at, clauses_at}
 use Rattle.iso_db.specs.Blocks.{Ids, Kept, block_of}
 use Rattle.iso_db.specs.Kept.{Giving}
 use Rattle.iso_db.specs.declared.views.View.{View}
@@ -40,7 +40,7 @@ returns-clause-gives g c =
     let db = c.args.self.now in
     let place = c.args.place in
     let entry = c.index-entry.result.now in
-    let view : View = record { procedure = place; block = c.latest-block.result; outer = c.outer.result; next = 0; end = c.len.result; made = db.removals } in
+    let view : View = record { procedure = place; block = c.latest-block.result; outer = c.outer.result; next = c.first.result; end = c.len.result; made = db.removals } in
     let within = shown_within db.slots.items db.removals db.places db.entries.items place db.kept.same c.requires in
     let e : Kept = get_or db.entries.items place entry in
     let is : entry ≡ e = c.index-entry.ensures in
@@ -48,5 +48,8 @@ returns-clause-gives g c =
     let block : c.block-numbers.result.now ≡ e.current = c.block-numbers.ensures ∙ ap (λ (x : Kept). block_of x c.latest-block.result) is ∙ block_of-last e c.latest-block.result older in
     let outer : c.outer.result ≡ length e.current.front = c.outer.ensures ∙ ap (λ (b : Ids). length b.front) block in
     let end : c.len.result ≡ length e.current.front + length e.current.back = c.len.ensures ∙ ap (λ (b : Ids). length b.front + length b.back) block in
-    subst (λ (cs : List (Clause g.row.C.Denot)). Giving db.slots.items db.removals db.entries.items view cs) (sym (clauses-there db.slots.items db.removals db.places db.entries.items place entry db.kept.same within))
-    (Giving-new db.slots.items db.removals db.entries.items place e c.latest-block.result c.outer.result c.len.result (slice_get-get_or db.entries.items place entry within) older outer end)
+    let at = slice_get-get_or db.entries.items place entry within in
+    let first : c.first.result ≡ e.first = c.first.ensures ∙ ap (λ (x : Kept). x.first) is in
+    subst (λ n. Giving db.slots.items db.removals db.entries.items (record view { next = n }) (clauses_at (contents db) place)) (sym first)
+    (subst (λ (cs : List (Clause g.row.C.Denot)). Giving db.slots.items db.removals db.entries.items (record view { next = e.first }) cs) (sym (clauses-there db.slots.items db.removals db.places db.entries.items place entry db.kept.same within))
+    (Giving-new db.slots.items db.removals db.entries.items place e c.latest-block.result c.outer.result c.len.result at (db.kept.trimmed place e at) older outer end))
