@@ -8,3 +8,4 @@ pub mod GivingLemmas
 pub mod RemoveLemmas
 pub mod PlaceLemmas
 pub mod ClearLemmas
+pub mod TidyLemmas

@@ -122,7 +122,7 @@ module _ {C : Type 0} where
       shown-set slots r keys entries place (λ p. record p { kind = Some (unwrap_or p.kind kind) }) (record (get_or entries place d) { kind = Some kind }) d same
       (λ k. ap (λ o. let p : Procedure C = record { key = k; kind = Some (unwrap_or o kind); clauses = given slots r (ids (get_or entries place d).current) } in p) (sym absent))
 
-  Remembers-itself : (slots : List (Slot C)) (r : ℕ) → Remembers slots r slots r
+  pub Remembers-itself : (slots : List (Slot C)) (r : ℕ) → Remembers slots r slots r
   Remembers-itself slots r = record { later = omega arith; views = λ made n p h at. refl }
 
   -- views where a procedure got a kind, and where one came

@@ -1,5 +1,5 @@
 -- The numbers of a procedure's clauses, as they are kept: in blocks, which only grow.
-use Rattle.std.specs.Prelude.{ℕ, List, [], ◌∷◌, ◌++◌, Option, Some, None, unwrap_or, take, reverse, slice_index_or}
+use Rattle.std.specs.Prelude.{ℕ, Bool, filter, List, [], ◌∷◌, ◌++◌, Option, Some, None, unwrap_or, take, reverse, slice_index_or}
 use Rattle.iso_db.specs.declared.kinds.Kind.{Kind}
 use Rattle.iso_db.specs.declared.blocks.Side.{Side}
 use Rattle.iso_db.specs.declared.blocks.Side.TheVariants.{First, Last}
@@ -50,3 +50,7 @@ passed Last first = first
 -- a procedure with the number of one clause more, which gets this kind where it was absent
 abbrev pub pushed : Side → ℕ → Kind → Kept → Kept
 pushed side id kind e = record e { kind = Some (unwrap_or e.kind kind); current = grown side id e.current; first = passed side e.first }
+
+-- the numbers that pass a test
+abbrev pub passing : (ℕ → Bool) → Ids → Ids
+passing test b = record { front = filter test b.front; back = filter test b.back }

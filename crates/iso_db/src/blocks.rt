@@ -7,6 +7,7 @@ use super::ids::ClauseId;
 use super::kinds::Kind;
 use std::alloc::{AllocError, Global};
 use std::marker::Model;
+use std::mem;
 
 /// Numbers of clauses, in two parts that are pushed onto.
 #[derive(Drop)]
@@ -63,6 +64,27 @@ impl Block {
         self.front.len() + self.back.len()
     }
 
+    /// A block of these numbers.
+    pub(crate) fn of(front: Vec<ClauseId>, back: Vec<ClauseId>) -> Block
+        ensures { result ≡ record { front = front.items; back = back.items } }
+    {
+        Block { front, back }
+    }
+
+    /// The numbers that were added at the front, the outermost last.
+    pub(crate) fn front(&self) -> &[ClauseId]
+        ensures { result.now ≡ self.now.front }
+    {
+        self.front.as_slice()
+    }
+
+    /// The numbers that were added at the end.
+    pub(crate) fn back(&self) -> &[ClauseId]
+        ensures { result.now ≡ self.now.back }
+    {
+        self.back.as_slice()
+    }
+
     /// Adds a number before the others. The error is that memory was refused; nothing changed then.
     fn push_first(&mut self, id: ClauseId) -> Result<(), AllocError>
         ensures pushed { OnOk result (self.new ≡ record { front = self.old.front ++ id ∷ []; back = self.old.back }) }
@@ -92,6 +114,8 @@ pub(crate) struct Entry {
     current: Block,
     /// How many of the block's first numbers are those of clauses that were removed.
     first: usize,
+    /// How many removals were counted since the block was made.
+    removed: usize,
 }
 
 impl Model for Entry {
@@ -110,6 +134,9 @@ pub(crate) enum Side {
 }
 
 impl Entry {
+    /// So few removals do not make a block anew.
+    const FEW: usize = 8;
+
     /// An absent procedure. Takes no memory.
     pub(crate) fn new(alloc: Global) -> Entry
         ensures { result ≡ nothing_kept }
@@ -119,6 +146,7 @@ impl Entry {
             older: Vec::new(alloc),
             current: Block::new(alloc),
             first: 0,
+            removed: 0,
         }
     }
 
@@ -195,6 +223,30 @@ impl Entry {
         if self.kind.is_none() {
             self.kind = Some(kind);
         }
+        Ok(())
+    }
+
+    /// Counts a removal, and tells whether so many of the block's clauses were removed that it is to be made anew.
+    pub(crate) fn count_removal(&mut self) -> bool
+        ensures { self.new ≡ self.old }
+    {
+        self.removed = self.removed.saturating_add(1);
+        self.removed > Entry::FEW && self.removed > self.current.len() / 2
+    }
+
+    /// Puts another block in the place of the procedure's own, which becomes one of the older. The error is that memory was refused;
+    /// nothing changed then.
+    pub(crate) fn renew(&mut self, block: Block) -> Result<(), AllocError>
+        ensures renewed { OnOk result (self.new ≡ record self.old { older = self.old.older ++ self.old.current ∷ []; current = block; first = 0 }) }
+        ensures unchanged { OnErr result (self.new ≡ self.old) }
+    {
+        let current = mem::replace(&mut self.current, block);
+        if let Err(refused) = self.older.push(current) {
+            self.current = refused.value;
+            return Err(AllocError);
+        }
+        self.first = 0;
+        self.removed = 0;
         Ok(())
     }
 }

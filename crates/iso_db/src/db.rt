@@ -11,6 +11,7 @@ use super::ids::ClauseId;
 use super::kinds::{DbFault, Kind};
 use super::places::Places;
 use super::slots::{Slot, kill, kill_all};
+use super::tidy::tidy;
 use super::views::{View, step};
 use std::alloc::{AllocError, Global};
 
@@ -294,6 +295,15 @@ impl<C: Drop> Db<C> {
         ensures views { KeepsViews self.old self.new }
         ensures clauses { KeepsClauses self.old self.new }
     {
-        kill(&mut self.slots, &mut self.removals, id)
+        if !kill(&mut self.slots, &mut self.removals, id) {
+            return false;
+        }
+        tidy(
+            &mut self.entries,
+            self.slots.as_slice(),
+            self.removals,
+            id,
+        );
+        true
     }
 }

@@ -8,6 +8,7 @@ mod ids;
 mod kinds;
 mod places;
 mod slots;
+mod tidy;
 mod views;
 
 pub use db::Db;
