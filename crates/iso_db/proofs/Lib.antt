@@ -9,3 +9,4 @@ pub mod RemoveLemmas
 pub mod PlaceLemmas
 pub mod ClearLemmas
 pub mod TidyLemmas
+pub mod ForgetLemmas

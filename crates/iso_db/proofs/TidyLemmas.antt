@@ -193,3 +193,11 @@ module _ {C : Type 0} where
     where
       new : Ids
       new = passing (λ n. is_some (clause_at slots r n)) e.current
+
+module _ {C : Type 0} where
+  pub Tidies-both : (slots : List (Slot C)) (r : ℕ) (a b c : List Kept) → Tidies slots r a b → Tidies slots r b c → Tidies slots r a c
+  Tidies-both slots r a b c first second = record {
+    kept = λ keys kept. second.kept keys (first.kept keys kept);
+    shows = λ keys kept. second.shows keys (first.kept keys kept) ∙ first.shows keys kept;
+    gives = λ keys kept v cs gives. second.gives keys (first.kept keys kept) v cs (first.gives keys kept v cs gives);
+  }

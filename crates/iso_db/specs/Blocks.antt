@@ -54,3 +54,7 @@ pushed side id kind e = record e { kind = Some (unwrap_or e.kind kind); current 
 -- the numbers that pass a test
 abbrev pub passing : (ℕ → Bool) → Ids → Ids
 passing test b = record { front = filter test b.front; back = filter test b.back }
+
+-- what is kept of a procedure without its older blocks
+abbrev pub forgotten : Kept → Kept
+forgotten e = record e { older = [] }

@@ -62,3 +62,14 @@ module _ {C : Type 0} where
     pub views : (made n : ℕ) → made ≤ before → clause_at new made n ≡ clause_at old made n
     pub others : (n : ℕ) → list_any (λ m. m == n) numbers ≡ false → clause_at new after n ≡ clause_at old before n
     pub gone : All (λ n. clause_at new after n ≡ None) numbers
+
+  -- the slot of a clause, emptied if it was removed
+  abbrev pub cleaned : Slot C → Slot C
+  cleaned s = if is_some s.died then record s { value = None } else s
+
+  -- From old to new nothing is lost but of clauses that were removed.
+  pub record Cleans (old new : List (Slot C)) (removals : ℕ) : Type 0 where
+    pub size : length new ≡ length old
+    pub procedures : (n : ℕ) → procedure_at new n ≡ procedure_at old n
+    pub now : (n : ℕ) → clause_at new removals n ≡ clause_at old removals n
+    pub counted : IsCounted new removals

@@ -1,7 +1,7 @@
 //! What is kept of a procedure: its kind, and blocks of the numbers of its clauses. A block only grows, so that a view knows the
 //! clauses of its making by how long the block was.
 ghost use Rattle.std.specs.Prelude.{◌≡◌, ◌≤◌, ◌<◌, ◌+◌, ◌++◌, ◌∷◌, [], ℕ, None, length, get_or, unwrap_or, OnOk, OnErr};
-ghost use Rattle.iso_db.specs.Blocks.{Ids, Kept, ids_from, block_of, no_ids, nothing_kept, pushed};
+ghost use Rattle.iso_db.specs.Blocks.{Ids, Kept, ids_from, block_of, no_ids, nothing_kept, pushed, forgotten};
 
 use super::ids::ClauseId;
 use super::kinds::Kind;
@@ -248,5 +248,12 @@ impl Entry {
         self.first = 0;
         self.removed = 0;
         Ok(())
+    }
+
+    /// Gives the older blocks back.
+    pub(crate) fn forget_older(&mut self)
+        ensures { self.new ≡ forgotten self.old }
+    {
+        self.older.clear();
     }
 }

@@ -11,7 +11,7 @@ use super::ids::ClauseId;
 use super::kinds::{DbFault, Kind};
 use super::places::Places;
 use super::slots::{Slot, kill, kill_all};
-use super::tidy::tidy;
+use super::tidy::{forget_blocks, forget_values, tidy};
 use super::views::{View, step};
 use std::alloc::{AllocError, Global};
 
@@ -299,11 +299,21 @@ impl<C: Drop> Db<C> {
             return false;
         }
         tidy(
+            self.alloc,
             &mut self.entries,
             self.slots.as_slice(),
             self.removals,
             id,
         );
         true
+    }
+
+    /// From here on no view stands that was made before, and what no new view can give is given back.
+    pub fn forget_views(&mut self)
+        ensures contents { contents self.new ≡ contents self.old }
+        ensures clauses { (place : ℕ) → EachStands self.new (clauses_at (contents self.new) place) }
+    {
+        forget_blocks(&mut self.entries);
+        forget_values(&mut self.slots, self.removals);
     }
 }

@@ -1,9 +1,9 @@
 //! What makes the database handier once clauses were removed. Nothing that a call answers changes by it.
-ghost use Rattle.std.specs.Prelude.{◌≡◌, ◌≤◌, ◌+◌, List, false, is_some, length, take, filter, IfOk};
+ghost use Rattle.std.specs.Prelude.{◌≡◌, ◌≤◌, ◌+◌, List, false, is_some, length, take, filter, map, IfOk};
 ghost use Rattle.std.specs.List.{All};
 ghost use Rattle.iso_db.specs.Keys.{Key};
-ghost use Rattle.iso_db.specs.Blocks.{ids, passing};
-ghost use Rattle.iso_db.specs.Slots.{clause_at};
+ghost use Rattle.iso_db.specs.Blocks.{ids, passing, forgotten};
+ghost use Rattle.iso_db.specs.Slots.{clause_at, IsCounted, Cleans, cleaned};
 ghost use Rattle.iso_db.specs.Kept.{IsKept, Tidies};
 
 use super::blocks::{Block, Entry};
@@ -99,11 +99,46 @@ fn thin_out<C>(
 }
 
 /// Tidies the procedure of a clause that was removed.
-pub(crate) fn tidy<C>(entries: &mut Vec<Entry>, slots: &[Slot<C>], removals: usize, id: ClauseId)
+pub(crate) fn tidy<C>(
+    alloc: Global,
+    entries: &mut Vec<Entry>,
+    slots: &[Slot<C>],
+    removals: usize,
+    id: ClauseId,
+)
     requires { (keys : List Key) × IsKept slots.now removals keys entries.old.items }
     ensures { Tidies slots.now removals entries.old.items entries.new.items }
 {
     if let Some(slot) = slots.get(id.number()) {
         trim(entries, slots, removals, slot.procedure);
+        thin_out(alloc, entries, slots, removals, slot.procedure);
+    }
+}
+
+/// Gives the blocks back that only views made before need.
+pub(crate) fn forget_blocks(entries: &mut Vec<Entry>)
+    ensures { entries.new.items ≡ map forgotten entries.old.items }
+{
+    for entry in entries.iter_mut() {
+        entry.forget_older();
+    }
+}
+
+/// Drops what is kept of a clause that was removed.
+fn forget_value<C: Drop>(slot: &mut Slot<C>)
+    ensures { slot.new ≡ cleaned slot.old }
+{
+    if slot.died.is_some() {
+        slot.value = None;
+    }
+}
+
+/// Drops what is kept of clauses that were removed.
+pub(crate) fn forget_values<C: Drop>(slots: &mut Vec<Slot<C>>, removals: usize)
+    requires { IsCounted slots.old.items removals }
+    ensures { Cleans slots.old.items slots.new.items removals }
+{
+    for place in 0..slots.len() {
+        forget_value(&mut slots[place]);
     }
 }
