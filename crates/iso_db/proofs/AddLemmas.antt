@@ -1,9 +1,9 @@
 -- One clause more.
-use Rattle.std.proofs.Common.{◌≡◌, ℕ, zero, suc, ◌<◌, ◌≤◌, ◌+◌, ◌-◌, Bool, true, false, ◌||◌, ◌==◌, List, [], ◌∷◌, ◌++◌, length, get_or, set, map, take, drop, reverse, Option, Some, None, is_some, option_map, unwrap_or, ◌⊎◌, inl, inr, ⊎_elim, refl, sym, ap, ◌∙◌, subst, true≢false, arith, eq-eqb, cond, if◌then◌else◌}
-use Rattle.std.specs.List.{slice_get, filter_map, cons_option, list_any, count_by, All}
+use Rattle.std.proofs.Common.{◌≡◌, ℕ, ◌<◌, ◌≤◌, ◌+◌, Bool, true, false, ◌||◌, ◌==◌, List, [], ◌∷◌, ◌++◌, length, get_or, set, take, reverse, Option, Some, None, is_some, option_map, unwrap_or, ⊎_elim, refl, sym, ap, ◌∙◌, subst, arith, eq-eqb, cond}
+use Rattle.std.specs.List.{slice_get, cons_option, list_any, All}
 use Rattle.std.specs.Option.{option_and_then, is_none}
-use Rattle.std.proofs.lemmas.Option.{none-some, same_Some, slice_get_within, slice_get-get_or, get_or_from_slice_get}
-use Rattle.std.proofs.lemmas.Bool.Decides.{eqb_tells, leb_tells}
+use Rattle.std.proofs.lemmas.Option.{none-some, same_Some, slice_get_within, slice_get-get_or}
+use Rattle.std.proofs.lemmas.Bool.Decides.{eqb_tells}
 use Rattle.std.proofs.lemmas.List.{length-append, length-set, length-reverse, get_or_default, get_or_past, take-append-le}
 use Rattle.std.proofs.lemmas.List.Elements.{filter_map-append, All-push}
 use Rattle.std.proofs.lemmas.List.Folds.{list_any-append}
@@ -66,21 +66,26 @@ module _ {C : Type 0} where
   -- what is shown once a clause was added
   pub shown-add : (slots : List (Slot C)) (r : ℕ) (keys : List Key) (entries : List Kept) (place : ℕ) (value : C) (side : Side) (kind : Kind) → IsKept slots r keys entries → place < length entries
       → shown (slots ++ new_slot value place ∷ []) r keys (set entries place (pushed side (length slots) kind (get_or entries place nothing_kept)))
-          ≡ at_place place (one_more (put_at_side side) kind (record { number = length slots; value = value })) (shown slots r keys entries)
+      ≡ at_place place (one_more (put_at_side side) kind (record { number = length slots; value = value })) (shown slots r keys entries)
   shown-add slots r keys entries place value side kind kept within =
       shown-set more r keys entries place (one_more (put_at_side side) kind c) (pushed side n kind e) nothing_kept kept.same changed
       ∙ ap (at_place place (one_more (put_at_side side) kind c)) (shown-same slots more r r keys entries same)
     where
       n : ℕ
       n = length slots
+
       e : Kept
       e = get_or entries place nothing_kept
+
       c : Clause C
       c = record { number = n; value = value }
+
       more : List (Slot C)
       more = slots ++ new_slot value place ∷ []
+
       changed : (k : Key) → shown_by more r k (pushed side n kind e) ≡ one_more (put_at_side side) kind c (shown_by more r k e)
       changed k = ap (λ cs. let p : Procedure C = record { key = k; kind = Some (unwrap_or e.kind kind); clauses = cs } in p) (given-grown side more r n c e.current (clause_at-new slots value place r))
+
       same : (p : ℕ) (d : Kept) → slice_get entries p ≡ Some d → given more r (ids d.current) ≡ given slots r (ids d.current)
       same p d at =
           let owns : Owns slots p d.current = subst (Owns slots p) (block_of-last d (length d.older) refl) (kept.owned p d at (length d.older) (omega arith)) in
@@ -91,7 +96,7 @@ module _ {C : Type 0} where
     deaths = λ n s h.
         ⊎_elim
         (λ e. let same : new_slot value place ≡ s = same_Some (new_slot value place) s (sym (slice_get-push_last slots (new_slot value place)) ∙ subst (λ m. slice_get (slots ++ new_slot value place ∷ []) m ≡ Some s) e.1 h) in
-            subst (λ (u : Slot C). before r u.died ≡ true) same refl)
+        subst (λ (u : Slot C). before r u.died ≡ true) same refl)
         (λ e. counted.deaths n s (sym (slice_get-push_before slots (new_slot value place) n (inside n s h e.1)) ∙ h))
         (eqb_tells n (length slots));
     count = omega (arith, counted.count, length-append slots (new_slot value place ∷ []), sum_by-append (λ (s : Slot C). cond (is_none s.died) 1 0) slots (new_slot value place ∷ []));
@@ -125,40 +130,53 @@ module _ {C : Type 0} where
     where
       n : ℕ
       n = length slots
+
       e : Kept
       e = get_or entries place nothing_kept
+
       e' : Kept
       e' = pushed side n kind e
+
       more : List (Slot C)
       more = slots ++ new_slot value place ∷ []
+
       at_e : slice_get entries place ≡ Some e
       at_e = slice_get-get_or entries place nothing_kept within
+
       proc_new : procedure_at more n ≡ Some place
       proc_new = ap (option_map (λ (s : Slot C). s.procedure)) (slice_get-push_last slots (new_slot value place))
+
       owns_grown : (s : Side) → Owns more place e.current → Owns more place (grown s n e.current)
       owns_grown First owns = record { front = All-push (λ x. procedure_at more x ≡ Some place) e.current.front n owns.front proc_new; back = owns.back }
       owns_grown Last owns = record { front = owns.front; back = All-push (λ x. procedure_at more x ≡ Some place) e.current.back n owns.back proc_new }
+
       was : (block : ℕ) → block ≤ length e.older → Owns more place (block_of e block)
       was block h = Owns-more slots more place (block_of e block) (procedure_at-before slots (new_slot value place)) (kept.owned place e at_e block h)
+
       of_e : (block : ℕ) → block ≤ length e.older → Owns more place (block_of e' block)
       of_e block h =
           ⊎_elim
           (λ q. subst (Owns more place) (sym (block_of-last e' block q.1)) (owns_grown side (subst (Owns more place) (block_of-last e block q.1) (was block h))))
           (λ q. subst (Owns more place) (sym (block_of-before side n kind e block (omega (arith, q.1)))) (was block h))
           (eqb_tells block (length e.older))
+
       here : (d : Kept) → e' ≡ d → (p : ℕ) → p ≡ place → (block : ℕ) → block ≤ length d.older → Owns more p (block_of d block)
       here d same p q block h =
           subst (λ x. Owns more x (block_of d block)) (sym q)
           (subst (λ (x : Kept). block ≤ length x.older → Owns more place (block_of x block)) same (of_e block) h)
+
       owner : (p : ℕ) (d : Kept) → slice_get entries p ≡ Some d → All (λ m. procedure_at slots m ≡ Some p) (ids d.current)
       owner p d at = Owns-ids slots p d.current (subst (Owns slots p) (block_of-last d (length d.older) refl) (kept.owned p d at (length d.older) (omega arith)))
+
       was_trimmed : (p : ℕ) (d : Kept) → slice_get entries p ≡ Some d → Trimmed more r d
       was_trimmed p d at =
           Trimmed-more slots more r r d
           (λ k x h gone. ap is_some (clause_at-before slots (new_slot value place) r (get_or (ids d.current) k x) (procedure_there slots (get_or (ids d.current) k x) p (owner p d at k x h))) ∙ gone)
           (kept.trimmed p d at)
+
       size : (b : Ids) → length (ids b) ≡ length b.front + length b.back
       size b = omega (arith, length-append (reverse b.front) b.back, length-reverse b.front)
+
       trimmed_grown : (s : Side) → Trimmed more r (pushed s n kind e)
       trimmed_grown First = record { within = omega arith; dead = λ k d h. absurd (omega arith) }
       trimmed_grown Last =
@@ -167,21 +185,24 @@ module _ {C : Type 0} where
             within = omega (arith, was.within, length-append e.current.back (n ∷ []));
             dead = subst (All (λ m. is_some (clause_at more r m) ≡ false)) (sym (ap (take e.first) (ids-last n e.current) ∙ take-append-le e.first (ids e.current) (n ∷ []) (omega (arith, size e.current, was.within)))) was.dead;
           })
+
       inside : (m p : ℕ) → procedure_at more m ≡ Some p → (m ≡ n → ⊥) → m < length slots
       inside m p h other = omega (arith, procedure_there more m p h, length-append slots (new_slot value place ∷ []), other)
+
       newest : (m : ℕ) → m ≡ n → (p : ℕ) → procedure_at more n ≡ Some p → lists (slice_get (set entries place e') p) m ≡ true
       newest m q p proc =
           let same : place ≡ p = same_Some place p (sym proc_new ∙ proc) in
           subst (λ x. lists (slice_get (set entries place e') x) m ≡ true) same
           (ap (λ o. lists o m) (slice_get-set_same entries place e' within) ∙ subst (λ x. list_any (λ k. k == x) (ids (grown side n e.current)) ≡ true) (sym q) (lists-new side n e.current))
+
       earlier : (m p : ℕ) → m < length slots → is_some (clause_at more r m) ≡ true → procedure_at more m ≡ Some p → lists (slice_get (set entries place e') p) m ≡ true
       earlier m p h there proc =
           let listed : lists (slice_get entries p) m ≡ true =
-              kept.listed m p (ap is_some (sym (clause_at-before slots (new_slot value place) r m h)) ∙ there) (ap (option_map (λ (s : Slot C). s.procedure)) (sym (slice_get-push_before slots (new_slot value place) m h)) ∙ proc) in
+          kept.listed m p (ap is_some (sym (clause_at-before slots (new_slot value place) r m h)) ∙ there) (ap (option_map (λ (s : Slot C). s.procedure)) (sym (slice_get-push_before slots (new_slot value place) m h)) ∙ proc) in
           ⊎_elim
           (λ q. subst (λ x. lists (slice_get (set entries place e') x) m ≡ true) (sym q.1)
-              (ap (λ o. lists o m) (slice_get-set_same entries place e' within)
-              ∙ lists-grown side n m e.current (ap (λ o. lists o m) (sym at_e) ∙ subst (λ x. lists (slice_get entries x) m ≡ true) q.1 listed)))
+          (ap (λ o. lists o m) (slice_get-set_same entries place e' within)
+          ∙ lists-grown side n m e.current (ap (λ o. lists o m) (sym at_e) ∙ subst (λ x. lists (slice_get entries x) m ≡ true) q.1 listed)))
           (λ q. ap (λ o. lists o m) (slice_get-set_other entries place p e' q.1) ∙ listed)
           (eqb_tells p place)
 

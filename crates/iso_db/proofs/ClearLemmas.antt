@@ -1,23 +1,21 @@
 -- The clauses of many numbers removed.
-use Rattle.std.proofs.Common.{◌≡◌, ℕ, zero, suc, ◌<◌, ◌≤◌, ◌+◌, Bool, true, false, not, ◌||◌, ◌==◌, List, [], ◌∷◌, ◌++◌, length, get_or, set, take, Option, Some, None, is_some, option_map, ⊎_elim, refl, sym, ap, ◌∙◌, subst, true≢false, arith, if◌then◌else◌}
-use Rattle.std.specs.List.{slice_get, filter_map, cons_option, list_any, All}
-use Rattle.std.proofs.lemmas.Option.{none-some, same_Some, slice_get-get_or}
+use Rattle.std.proofs.Common.{◌≡◌, ℕ, zero, suc, ◌<◌, ◌+◌, Bool, true, false, ◌||◌, ◌==◌, List, [], ◌∷◌, ◌++◌, length, get_or, set, take, Some, None, is_some, ⊎_elim, refl, sym, ap, ◌∙◌, subst, true≢false, arith}
+use Rattle.std.specs.List.{slice_get, cons_option, list_any, All}
+use Rattle.std.proofs.lemmas.Option.{same_Some, slice_get-get_or}
 use Rattle.std.proofs.lemmas.Bool.Decides.{eqb_tells}
 use Rattle.std.proofs.lemmas.List.{take_more}
 use Rattle.std.proofs.lemmas.List.Elements.{All-push}
 use Rattle.std.proofs.lemmas.List.Folds.{list_any-append}
 use Rattle.iso_db.specs.Keys.{Key}
 use Rattle.iso_db.specs.Databases.{Clause, Procedure, at_place}
-use Rattle.iso_db.specs.Blocks.{Ids, Kept, ids, block_of}
-use Rattle.iso_db.specs.declared.kinds.Kind.{Kind}
+use Rattle.iso_db.specs.Blocks.{Kept, ids, block_of}
 use Rattle.iso_db.specs.declared.slots.Slot.{Slot}
 use Rattle.iso_db.specs.declared.views.View.{View}
 use Rattle.iso_db.specs.Slots.{clause_at, procedure_at, given, IsCounted, Removes, Clears}
 use Rattle.iso_db.specs.Kept.{lists, shown_by, shown, Owns, IsKept, Giving}
-use Rattle.iso_db.proofs.ListLemmas.{slice_get-set_same}
 use Rattle.iso_db.proofs.KeptLemmas.{filter_map-agree, shown-set, shown-same, Owns-more, Owns-ids, Trimmed-more}
 use Rattle.iso_db.proofs.AddLemmas.{block_of-last}
-use Rattle.iso_db.proofs.GivingLemmas.{Remembers, Giving-kept, Grown, Grown-set, Extends-kind}
+use Rattle.iso_db.proofs.GivingLemmas.{Remembers, Giving-kept, Grown-set, Extends-kind}
 use Rattle.iso_db.proofs.PlaceLemmas.{IsKept-kind}
 
 either_false : (a b : Bool) → a || b ≡ false → (a ≡ false) × (b ≡ false)
@@ -54,6 +52,7 @@ module _ {C : Type 0} where
     where
       more : take (k + 1) ns ≡ take k ns ++ x ∷ []
       more = take_more ns k x within ∙ ap (λ y. take k ns ++ y ∷ []) (sym is)
+
       stays : (n : ℕ) → clause_at mid s n ≡ None → clause_at new t n ≡ None
       stays n h = ⊎_elim (λ e. ap (clause_at new t) e.1 ∙ removes.gone) (λ e. removes.others n e.1 ∙ h) (eqb_tells n x)
 
@@ -72,6 +71,7 @@ module _ {C : Type 0} where
       stays : (n : ℕ) → is_some (clause_at slots r n) ≡ false → (t : Bool) → list_any (λ m. m == n) ns ≡ t → is_some (clause_at more q n) ≡ false
       stays n gone true h = ap is_some (any-all (λ m. clause_at more q m ≡ None) ns n clears.gone h)
       stays n gone false h = ap is_some (clears.others n h) ∙ gone
+
       tested : (n p : ℕ) → is_some (clause_at more q n) ≡ true → procedure_at more n ≡ Some p → (t : Bool) → list_any (λ m. m == n) ns ≡ t → lists (slice_get entries p) n ≡ true
       tested n p there at true h = absurd (true≢false (sym there ∙ ap is_some (any-all (λ m. clause_at more q m ≡ None) ns n clears.gone h)))
       tested n p there at false h = kept.listed n p (ap is_some (sym (clears.others n h)) ∙ there) (sym (clears.procedures n) ∙ at)
@@ -103,11 +103,14 @@ module _ {C : Type 0} where
     where
       e : Kept
       e = get_or entries place d
+
       owner : (p : ℕ) (x : Kept) → slice_get entries p ≡ Some x → All (λ n. procedure_at slots n ≡ Some p) (ids x.current)
       owner p x at = Owns-ids slots p x.current (subst (Owns slots p) (block_of-last x (length x.older) refl) (kept.owned p x at (length x.older) (omega arith)))
+
       apart : (p : ℕ) → (p ≡ place → ⊥) → (n : ℕ) → procedure_at slots n ≡ Some p → (b : Bool) → list_any (λ m. m == n) (ids e.current) ≡ b → clause_at more q n ≡ clause_at slots r n
       apart p other n at true h = absurd (other (same_Some p place (sym at ∙ any-all (λ m. procedure_at slots m ≡ Some place) (ids e.current) n (owner place e (slice_get-get_or entries place d within)) h)))
       apart p other n at false h = clears.others n h
+
       same : (p : ℕ) (x : Kept) → slice_get entries p ≡ Some x → (p ≡ place → ⊥) → given more q (ids x.current) ≡ given slots r (ids x.current)
       same p x at other = filter_map-agree (clause_at more q) (clause_at slots r) (ids x.current)
           (λ k y h. apart p other (get_or (ids x.current) k y) (owner p x at k y h) (list_any (λ m. m == get_or (ids x.current) k y) (ids e.current)) refl)

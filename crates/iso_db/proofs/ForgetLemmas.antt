@@ -1,16 +1,16 @@
 -- What is left when views are forgotten.
-use Rattle.std.proofs.Common.{◌≡◌, ℕ, zero, suc, ◌<◌, ◌≤◌, ◌+◌, Bool, true, false, cond, List, [], ◌∷◌, ◌++◌, take, drop, length, get_or, set, map, Option, Some, None, is_some, option_map, ⊎_elim, refl, sym, ap, ◌∙◌, subst, true≢false, arith, lt-ltb, ltb-true, if◌then◌else◌, nat_le}
-use Rattle.std.specs.List.{slice_get, count_by, All}
+use Rattle.std.proofs.Common.{◌≡◌, ℕ, zero, suc, ◌<◌, ◌≤◌, ◌+◌, Bool, true, false, cond, List, [], ◌∷◌, ◌++◌, take, drop, length, get_or, set, map, Option, Some, None, is_some, option_map, ⊎_elim, refl, sym, ap, ◌∙◌, subst, true≢false, arith, ltb-true, if◌then◌else◌}
+use Rattle.std.specs.List.{slice_get, count_by}
 use Rattle.std.specs.Option.{option_and_then, is_none}
-use Rattle.std.proofs.lemmas.Option.{none-some, same_Some, slice_get-map, get_or_from_slice_get}
+use Rattle.std.proofs.lemmas.Option.{none-some, same_Some, get_or_from_slice_get}
 use Rattle.std.proofs.lemmas.Bool.Decides.{eqb_tells, leb_tells}
 use Rattle.std.proofs.lemmas.List.{length-set, length-map, set-get_or, map-set, map-append, take_more_set, take_at, take_all}
 use Rattle.std.proofs.lemmas.List.Sums.{sum_by-set}
 use Rattle.iso_db.specs.Keys.{Key}
-use Rattle.iso_db.specs.Databases.{Clause, Procedure, clauses_of}
-use Rattle.iso_db.specs.Blocks.{Ids, Kept, ids, block_of, forgotten}
+use Rattle.iso_db.specs.Databases.{Clause, clauses_of}
+use Rattle.iso_db.specs.Blocks.{Kept, ids, block_of, forgotten}
 use Rattle.iso_db.specs.declared.slots.Slot.{Slot}
-use Rattle.iso_db.specs.Slots.{lives, before, given_by, clause_at, procedure_at, value_at, given, IsCounted, Cleans, cleaned}
+use Rattle.iso_db.specs.Slots.{lives, before, given_by, clause_at, value_at, IsCounted, Cleans, cleaned}
 use Rattle.iso_db.specs.Kept.{lists, shown_by, shown, Owns, Trimmed, IsKept}
 use Rattle.iso_db.proofs.ListLemmas.{slice_get-set_same, slice_get-set_other}
 use Rattle.iso_db.proofs.KeptLemmas.{filter_map-agree, shown-same, clauses-shown, current_of, Owns-more, Trimmed-more}
@@ -85,7 +85,7 @@ module _ {C : Type 0} where
       deaths = λ n t h.
           ⊎_elim
           (λ e. let same : emptied s ≡ t = same_Some (emptied s) t (sym (slice_get-set_same slots k (emptied s) within) ∙ subst (λ m. slice_get (set slots k (emptied s)) m ≡ Some t) e.1 h) in
-              subst (λ (u : Slot C). before r u.died ≡ true) same (cleans.counted.deaths k s at))
+          subst (λ (u : Slot C). before r u.died ≡ true) same (cleans.counted.deaths k s at))
           (λ e. cleans.counted.deaths n t (sym (slice_get-set_other slots k n (emptied s) e.1) ∙ h))
           (eqb_tells n k);
       count = omega (arith, same_count, length-set slots k (emptied s), cleans.counted.count);
@@ -98,17 +98,23 @@ module _ {C : Type 0} where
           (λ e. subst (λ m. f (slice_get (set slots k (emptied s)) m) ≡ f (slice_get slots m)) (sym e.1) (ap f (slice_get-set_same slots k (emptied s) within) ∙ same ∙ ap f (sym at)))
           (λ e. ap f (slice_get-set_other slots k n (emptied s) e.1))
           (eqb_tells n k)
+
       past : (d : Option ℕ) → is_some d ≡ true → before r d ≡ true → lives r d ≡ false
       past None h b = absurd (true≢false (sym h))
       past (Some d) h b = ⊎_elim (λ p. absurd (omega (arith, p.1, ltb-true d r b))) (λ p. p.0) (leb_tells r d)
+
       gone : lives r s.died ≡ false
       gone = past s.died dead (cleans.counted.deaths k s at)
+
       nothing : (n : ℕ) (t : Slot C) → lives r t.died ≡ false → given_by r n t ≡ None
       nothing n t h = ap (λ b. if b then option_map (λ value. let c : Clause C = record { number = n; value = value } in c) t.value else None) h
+
       alone : Option ℕ → ℕ
       alone d = cond (is_none d) 1 0
+
       was : ◌≡◌ {A = ℕ} (cond (is_none (get_or slots k s).died) 1 0) (cond (is_none s.died) 1 0)
       was = ap (λ (t : Slot C). alone t.died) (get_or_from_slice_get slots k s s at)
+
       same_count : count_by (λ (t : Slot C). is_none t.died) (set slots k (emptied s)) ≡ count_by (λ (t : Slot C). is_none t.died) slots
       same_count = omega (arith, sum_by-set (λ (t : Slot C). cond (is_none t.died) 1 0) slots k (emptied s) s within, was)
 

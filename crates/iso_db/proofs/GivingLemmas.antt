@@ -1,23 +1,23 @@
 -- What a view gives stays, whatever comes or goes.
-use Rattle.std.proofs.Common.{◌≡◌, ℕ, zero, suc, ◌<◌, ◌≤◌, ◌+◌, ◌-◌, Bool, true, false, List, [], ◌∷◌, ◌++◌, length, get_or, set, take, drop, reverse, Option, Some, None, is_some, refl, sym, ap, ◌∙◌, subst, true≢false, arith, ⊎_elim}
+use Rattle.std.proofs.Common.{◌≡◌, ℕ, ◌<◌, ◌≤◌, ◌+◌, true, List, [], ◌∷◌, ◌++◌, length, get_or, set, take, drop, reverse, Option, Some, None, is_some, refl, sym, ap, ◌∙◌, subst, true≢false, arith, ⊎_elim}
 use Rattle.std.specs.List.{slice_get, All}
 use Rattle.std.specs.Option.{option_and_then}
-use Rattle.std.proofs.lemmas.Option.{none-some, same_Some, slice_get-get_or}
+use Rattle.std.proofs.lemmas.Option.{same_Some, slice_get-get_or}
 use Rattle.std.proofs.lemmas.Bool.Decides.{eqb_tells}
-use Rattle.std.proofs.lemmas.List.{append_assoc, append-nil, length-append, take-append-le, take_all}
+use Rattle.std.proofs.lemmas.List.{append_assoc, append-nil, length-append, take-append-le}
 use Rattle.std.proofs.lemmas.List.Elements.{All-take, All-drop}
 use Rattle.iso_db.specs.Keys.{Key}
 use Rattle.iso_db.specs.Databases.{Clause}
-use Rattle.iso_db.specs.Blocks.{Ids, Kept, ids, ids_from, block_of, grown, pushed, nothing_kept}
+use Rattle.iso_db.specs.Blocks.{Ids, Kept, ids_from, block_of, grown, pushed, nothing_kept}
 use Rattle.iso_db.specs.declared.kinds.Kind.{Kind}
 use Rattle.iso_db.specs.declared.blocks.Side.{Side}
 use Rattle.iso_db.specs.declared.blocks.Side.TheVariants.{First, Last}
 use Rattle.iso_db.specs.declared.slots.Slot.{Slot}
 use Rattle.iso_db.specs.declared.views.View.{View}
 use Rattle.iso_db.specs.Slots.{clause_at, procedure_at, given}
-use Rattle.iso_db.specs.Kept.{older_of, block_in, block_at, pending, Owns, IsKept, Giving}
+use Rattle.iso_db.specs.Kept.{older_of, block_in, IsKept, Giving}
 use Rattle.iso_db.proofs.ListLemmas.{slice_get-push_before, slice_get-set_same, slice_get-set_other}
-use Rattle.iso_db.proofs.KeptLemmas.{procedure_there, filter_map-agree, Owns-ids_from, current_of}
+use Rattle.iso_db.proofs.KeptLemmas.{procedure_there, filter_map-agree, Owns-ids_from}
 use Rattle.iso_db.proofs.ViewLemmas.{length-ids_from}
 use Rattle.iso_db.proofs.AddLemmas.{block_of-before, block_of-last}
 
@@ -54,7 +54,7 @@ pub numbers-longer : (b b' : Ids) (outer end next : ℕ) → Longer b b' → out
 numbers-longer b b' outer end next longer h k =
     let first : take outer b'.front ≡ take outer b.front = ap (take outer) longer.front ∙ take-append-le outer b.front longer.more_front h in
     let whole : ids_from b' outer ≡ ids_from b outer ++ longer.more_back =
-        ap (λ ns. reverse ns ++ b'.back) first ∙ ap (λ ns. reverse (take outer b.front) ++ ns) longer.back ∙ sym (append_assoc (reverse (take outer b.front)) b.back longer.more_back) in
+    ap (λ ns. reverse ns ++ b'.back) first ∙ ap (λ ns. reverse (take outer b.front) ++ ns) longer.back ∙ sym (append_assoc (reverse (take outer b.front)) b.back longer.more_back) in
     ap (λ ns. drop next (take end ns)) whole
     ∙ ap (drop next) (take-append-le end (ids_from b outer) longer.more_back (omega (arith, length-ids_from b outer h)))
 
@@ -67,7 +67,7 @@ pub Grown-set : (entries : List Kept) (place : ℕ) (e' d : Kept) → place < le
 Grown-set entries place e' d within ext p e at =
     ⊎_elim
     (λ q. let same : get_or entries place d ≡ e = same_Some (get_or entries place d) e (sym (slice_get-get_or entries place d within) ∙ subst (λ x. slice_get entries x ≡ Some e) q.1 at) in
-        (e', ap (slice_get (set entries place e')) q.1 ∙ slice_get-set_same entries place e' within, subst (λ (x : Kept). Extends x e') same ext))
+    (e', ap (slice_get (set entries place e')) q.1 ∙ slice_get-set_same entries place e' within, subst (λ (x : Kept). Extends x e') same ext))
     (λ q. (e, slice_get-set_other entries place p e' q.1 ∙ at, record { blocks = omega arith; longer = λ block h. Longer-same (block_of e block) (block_of e block) refl }))
     (eqb_tells p place)
 
@@ -112,30 +112,43 @@ module _ {C : Type 0} where
     where
       found : (e : Kept) × (slice_get entries v.procedure ≡ Some e)
       found = some_of (slice_get entries v.procedure) gives.procedure
+
       e : Kept
       e = found.0
+
       at : slice_get entries v.procedure ≡ Some e
       at = found.1
+
       more_found : (x : Kept) × (slice_get others v.procedure ≡ Some x) × Extends e x
       more_found = grown v.procedure e at
+
       at' : slice_get others v.procedure ≡ Some more_found.0
       at' = more_found.1
+
       ext : Extends e more_found.0
       ext = more_found.2
+
       b : Ids
       b = block_of e v.block
+
       b' : Ids
       b' = block_of more_found.0 v.block
+
       block : v.block ≤ length e.older
       block = subst (λ o. v.block ≤ length (older_of o)) at gives.block
+
       outer : v.outer ≤ length b.front
       outer = subst (λ o. v.outer ≤ length (block_in o v.block).front) at gives.outer
+
       end : v.end ≤ v.outer + length b.back
       end = subst (λ o. v.end ≤ v.outer + length (block_in o v.block).back) at gives.end
+
       longer : Longer b b'
       longer = ext.longer v.block block
+
       numbers : List ℕ
       numbers = drop v.next (take v.end (ids_from b v.outer))
+
       owned : All (λ n. procedure_at slots n ≡ Some v.procedure) numbers
       owned = All-drop (λ n. procedure_at slots n ≡ Some v.procedure) v.next (take v.end (ids_from b v.outer))
           (All-take (λ n. procedure_at slots n ≡ Some v.procedure) v.end (ids_from b v.outer) (Owns-ids_from slots v.procedure b v.outer (kept.owned v.procedure e at v.block block)))

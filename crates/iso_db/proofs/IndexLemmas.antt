@@ -1,8 +1,8 @@
 -- Numbering names and finding keys.
-use Rattle.std.proofs.Common.{◌≡◌, ◌≢◌, ℕ, zero, suc, ◌<◌, ◌≤◌, ◌+◌, Bool, true, false, not, ◌&&◌, ◌||◌, ◌==◌, eqb, List, [], ◌∷◌, ◌++◌, length, map, position, get_or, Option, Some, None, ◌⊎◌, inl, inr, ⊎_elim, refl, sym, ap, ◌∙◌, subst, true≢false, arith, set, eq-eqb, String, Vec, if◌then◌else◌, option_map}
+use Rattle.std.proofs.Common.{◌≡◌, ◌≢◌, ℕ, zero, suc, ◌<◌, ◌+◌, Bool, true, false, not, ◌&&◌, ◌||◌, ◌==◌, List, [], ◌∷◌, ◌++◌, length, position, get_or, Option, Some, None, ⊎_elim, refl, sym, ap, ◌∙◌, subst, true≢false, arith, set, eq-eqb, String, Vec, if◌then◌else◌, option_map}
 use Rattle.std.proofs.lemmas.Bool.Decides.{eqb_tells}
 use Rattle.std.specs.Global.{Global}
-use Rattle.std.specs.List.{list_any, slice_get, position_or_len}
+use Rattle.std.specs.List.{list_any, position_or_len}
 use Rattle.std.specs.Option.{option_and_then, option_or}
 use Rattle.std.specs.Str.{bytes_eq}
 use Rattle.std.specs.String.{string_bytes, string_eq}
@@ -40,8 +40,8 @@ pub index_of-absent : (names : List (String Global)) (text : List ℕ) → list_
 index_of-absent [] text h = refl
 index_of-absent (n ∷ ns) text h =
     elim (has text n) as (λ b. b || list_any (has text) ns ≡ false → (if b then Some 0 else option_map suc (index_of ns text)) ≡ None) [
-      true ↦ λ e. absurd (true≢false e)
-    | false ↦ λ e. ap (option_map suc) (index_of-absent ns text e)
+      | true ↦ λ e. absurd (true≢false e)
+      | false ↦ λ e. ap (option_map suc) (index_of-absent ns text e)
     ] h
 
 -- what is found under the number of a name
@@ -56,16 +56,16 @@ found_at-suc r rs arity (Some j) = refl
 pub found-new : (names : List (String Global)) (rows : List (Vec Named Global)) (n : String Global) (r : Vec Named Global) → length rows ≡ length names → r.items ≡ [] → (text : List ℕ) (arity : ℕ) → found (names ++ n ∷ []) (rows ++ r ∷ []) text arity ≡ found names rows text arity
 found-new [] [] n r same empty text arity =
     elim (has text n) as (λ b. found_at (r ∷ []) arity (if b then Some 0 else None) ≡ None) [
-      true ↦ ap (λ row. place_in row arity) empty
-    | false ↦ refl
+      | true ↦ ap (λ row. place_in row arity) empty
+      | false ↦ refl
     ]
 found-new [] (q ∷ qs) n r same empty text arity = absurd (omega arith)
 found-new (m ∷ ms) [] n r same empty text arity = absurd (omega arith)
 found-new (m ∷ ms) (q ∷ qs) n r same empty text arity =
     elim (has text m) as (λ b. found_at (q ∷ (qs ++ r ∷ [])) arity (if b then Some 0 else option_map suc (index_of (ms ++ n ∷ []) text))
-        ≡ found_at (q ∷ qs) arity (if b then Some 0 else option_map suc (index_of ms text))) [
-      true ↦ refl
-    | false ↦ found_at-suc q (qs ++ r ∷ []) arity (index_of (ms ++ n ∷ []) text) ∙ found-new ms qs n r (omega arith) empty text arity ∙ sym (found_at-suc q qs arity (index_of ms text))
+    ≡ found_at (q ∷ qs) arity (if b then Some 0 else option_map suc (index_of ms text))) [
+      | true ↦ refl
+      | false ↦ found_at-suc q (qs ++ r ∷ []) arity (index_of (ms ++ n ∷ []) text) ∙ found-new ms qs n r (omega arith) empty text arity ∙ sym (found_at-suc q qs arity (index_of ms text))
     ]
 
 -- a new name's number is how many there were
@@ -73,8 +73,8 @@ pub index_of-new : (names : List (String Global)) (n : String Global) (text : Li
 index_of-new [] n text same fresh = rw ((bytes_eq-Decides text (string_bytes n)).1 (sym same)) refl
 index_of-new (m ∷ ms) n text same fresh =
     elim (has text m) as (λ b. b || list_any (has text) ms ≡ false → (if b then Some 0 else option_map suc (index_of (ms ++ n ∷ []) text)) ≡ Some (suc (length ms))) [
-      true ↦ λ e. absurd (true≢false e)
-    | false ↦ λ e. ap (option_map suc) (index_of-new ms n text same e)
+      | true ↦ λ e. absurd (true≢false e)
+      | false ↦ λ e. ap (option_map suc) (index_of-new ms n text same e)
     ] fresh
 
 -- names before a new one keep their texts
@@ -98,9 +98,9 @@ pub index_of-text : (names : List (String Global)) (text : List ℕ) (i : ℕ) �
 index_of-text [] text i h = absurd (none-some i h)
 index_of-text (n ∷ ns) text i h =
     elim (has text n) as (λ b. has text n ≡ b → (if b then Some 0 else option_map suc (index_of ns text)) ≡ Some i → IsNumber (n ∷ ns) text i) [
-      true ↦ λ t e. let z : 0 ≡ i = same_Some 0 i e in
+      | true ↦ λ t e. let z : 0 ≡ i = same_Some 0 i e in
           subst (IsNumber (n ∷ ns) text) z (sym ((bytes_eq-Decides text (string_bytes n)).0 t), omega arith)
-    | false ↦ λ t e. index_behind n ns text i (index_of ns text) (index_of-text ns text) e
+      | false ↦ λ t e. index_behind n ns text i (index_of ns text) (index_of-text ns text) e
     ] refl h
 
 -- keys stay the same where names keep their numbers
@@ -142,8 +142,8 @@ pub place_in-push : (row : List Named) (n : Named) (arity : ℕ) → place_in (r
 place_in-push [] n arity = refl
 place_in-push (m ∷ ms) n arity =
     elim (m.arity == arity) as (λ b. (if b then Some m.place else place_in (ms ++ n ∷ []) arity) ≡ option_or (if b then Some m.place else place_in ms arity) (if n.arity == arity then Some n.place else None)) [
-      true ↦ refl
-    | false ↦ place_in-push ms n arity
+      | true ↦ refl
+      | false ↦ place_in-push ms n arity
     ]
 
 -- the place of a key among those behind which one more was put
@@ -151,8 +151,8 @@ pub place_of-push : (ks : List Key) (k : Key) (name : List ℕ) (arity : ℕ) �
 place_of-push [] k name arity = refl
 place_of-push (q ∷ qs) k name arity =
     elim (is_key name arity q) as (λ b. (if b then Some 0 else option_map suc (place_of (qs ++ k ∷ []) name arity)) ≡ option_or (if b then Some 0 else option_map suc (place_of qs name arity)) (if is_key name arity k then Some (suc (length qs)) else None)) [
-      true ↦ refl
-    | false ↦ ap (option_map suc) (place_of-push qs k name arity) ∙ inner (place_of qs name arity) (is_key name arity k)
+      | true ↦ refl
+      | false ↦ ap (option_map suc) (place_of-push qs k name arity) ∙ inner (place_of qs name arity) (is_key name arity k)
     ]
   where
     inner : (o : Option ℕ) (b : Bool) → option_map suc (option_or o (if b then Some (length qs) else None)) ≡ option_or (option_map suc o) (if b then Some (suc (length qs)) else None)
@@ -165,15 +165,17 @@ pub found-put : (names : List (String Global)) (rows more : List (Vec Named Glob
     → (text : List ℕ) (arity : ℕ) → found names more text arity ≡ option_or (found names rows text arity) (if bytes_eq text name && n.arity == arity then Some n.place else None)
 found-put names rows more i n name is put text arity =
     elim (bytes_eq text name) as (λ b. bytes_eq text name ≡ b → found_at more arity (index_of names text) ≡ option_or (found_at rows arity (index_of names text)) (if b && n.arity == arity then Some n.place else None)) [
-      true ↦ λ e. let same : index_of names text ≡ Some i = ap (index_of names) ((bytes_eq-Decides text name).0 e) ∙ is in rw same here
-    | false ↦ λ e. elsewhere (index_of names text) refl e
+      | true ↦ λ e. let same : index_of names text ≡ Some i = ap (index_of names) ((bytes_eq-Decides text name).0 e) ∙ is in rw same here
+      | false ↦ λ e. elsewhere (index_of names text) refl e
     ] refl
   where
     here : place_in (row_at more i) arity ≡ option_or (place_in (row_at rows i) arity) (if n.arity == arity then Some n.place else None)
     here = ap (λ r. place_in r arity) (put i ∙ ap (λ b. if b then row_at rows i ++ n ∷ [] else row_at rows i) (eq-eqb i i refl)) ∙ place_in-push (row_at rows i) n arity
+
     no_more : (o : Option ℕ) → o ≡ option_or o None
     no_more None = refl
     no_more (Some j) = refl
+
     elsewhere : (o : Option ℕ) → index_of names text ≡ o → bytes_eq text name ≡ false → found_at more arity o ≡ option_or (found_at rows arity o) None
     elsewhere None at e = refl
     elsewhere (Some j) at e =
@@ -206,14 +208,17 @@ IsIndex-put names rows more keys name i arity index is same put = record {
   where
     n : Named
     n = record { arity = arity; place = length keys }
+
     f : Functor
     f = record { name = i; arity = arity }
+
     placed : (text : List ℕ) (a : ℕ) → place_of (keys_of names (keys ++ f ∷ [])) text a ≡ option_or (place_of (keys_of names keys) text a) (if bytes_eq text name && arity == a then Some (length keys) else None)
     placed text a =
         ap (λ ks. place_of ks text a) (map-append (λ g. key (text_at names g.name) g.arity) keys (f ∷ []))
         ∙ place_of-push (keys_of names keys) (key (text_at names i) arity) text a
         ∙ ap (λ t. option_or (place_of (keys_of names keys) text a) (if bytes_eq text t && arity == a then Some (length (keys_of names keys)) else None)) (index_of-text names name i is).0
         ∙ ap (λ l. option_or (place_of (keys_of names keys) text a) (if bytes_eq text name && arity == a then Some l else None)) (length-map keys (λ g. key (text_at names g.name) g.arity))
+
     named : (k : ℕ) (d : Functor) → k < length (keys ++ f ∷ []) → (get_or (keys ++ f ∷ []) k d).name < length names
     named k d h = All-push (λ g. g.name < length names) keys f index.named (index_of-text names name i is).1 k d h
 
@@ -240,8 +245,8 @@ pub position_or_len-absent : (names : List (String Global)) (n : String Global) 
 position_or_len-absent [] n h = refl
 position_or_len-absent (m ∷ ms) n h =
     elim (string_eq n m) as (λ b. b || list_any (string_eq n) ms ≡ false → (if not b then 1 + position_or_len (string_eq n) ms else 0) ≡ suc (length ms)) [
-      true ↦ λ e. absurd (true≢false e)
-    | false ↦ λ e. omega (arith, position_or_len-absent ms n e)
+      | true ↦ λ e. absurd (true≢false e)
+      | false ↦ λ e. omega (arith, position_or_len-absent ms n e)
     ] h
 
 pub absent_string : (names : List (String Global)) (n : String Global) (text : List ℕ) → string_bytes n ≡ text → list_any (has text) names ≡ false → list_any (string_eq n) names ≡ false

@@ -1,24 +1,20 @@
 -- What is shown of the database as it is kept.
-use Rattle.std.proofs.Common.{◌≡◌, ℕ, zero, suc, ◌<◌, ◌≤◌, ◌+◌, ◌-◌, Bool, true, false, ◌&&◌, ◌||◌, ◌==◌, List, [], ◌∷◌, ◌++◌, length, get_or, set, map, take, drop, reverse, Option, Some, None, is_some, option_map, unwrap_or, ◌⊎◌, inl, inr, ⊎_elim, refl, sym, ap, ◌∙◌, subst, true≢false, arith, eq-eqb, if◌then◌else◌}
-use Rattle.std.specs.List.{slice_get, filter_map, cons_option, list_any, count_by, All}
-use Rattle.std.specs.Option.{option_and_then, option_or, is_none}
+use Rattle.std.proofs.Common.{◌≡◌, ℕ, zero, suc, ◌<◌, ◌≤◌, ◌-◌, true, false, ◌&&◌, ◌==◌, List, [], ◌∷◌, ◌++◌, length, get_or, set, map, take, reverse, Option, Some, None, is_some, option_map, refl, sym, ap, ◌∙◌, subst, arith, eq-eqb, if◌then◌else◌}
+use Rattle.std.specs.List.{slice_get, filter_map, cons_option, All}
+use Rattle.std.specs.Option.{option_and_then, option_or}
 use Rattle.std.proofs.lemmas.Option.{none-some, same_Some, slice_get_within}
-use Rattle.std.proofs.lemmas.List.{append_assoc, reverse-append, length-append, length-reverse, get_or-reverse, length-take, get_or-take}
-use Rattle.std.proofs.lemmas.List.Elements.{filter_map-append, All-append, All-push, All-take, All-drop}
-use Rattle.std.proofs.lemmas.List.Folds.{list_any-append}
+use Rattle.std.proofs.lemmas.List.{append_assoc, reverse-append, length-reverse, get_or-reverse, length-take, get_or-take}
+use Rattle.std.proofs.lemmas.List.Elements.{All-append, All-take}
 use Rattle.std.proofs.lemmas.Slice.Eq.{bytes_eq-Decides}
 use Rattle.iso_db.proofs.IndexLemmas.{place_of-push}
 use Rattle.iso_db.specs.Keys.{Key, key, is_key, place_of}
-use Rattle.iso_db.specs.Databases.{Clause, Procedure, at_place, at_end, at_front, one_more, one_less, clauses_of}
-use Rattle.iso_db.specs.Blocks.{Ids, Kept, no_ids, ids, ids_from, block_of, grown, pushed, nothing_kept}
+use Rattle.iso_db.specs.Databases.{Clause, Procedure, at_place, clauses_of}
+use Rattle.iso_db.specs.Blocks.{Ids, Kept, no_ids, ids, ids_from, grown, nothing_kept}
 use Rattle.iso_db.specs.declared.kinds.Kind.{Kind}
-use Rattle.iso_db.specs.declared.blocks.Side.{Side}
 use Rattle.iso_db.specs.declared.blocks.Side.TheVariants.{First, Last}
-use Rattle.iso_db.specs.Sides.{put_at_side}
 use Rattle.iso_db.specs.declared.slots.Slot.{Slot}
 use Rattle.iso_db.specs.Slots.{clause_at, procedure_at, given}
 use Rattle.iso_db.specs.Kept.{shown_by, shown, Owns, Trimmed}
-use Rattle.iso_db.proofs.ListLemmas.{slice_get-push_before}
 
 -- the place of a key is one of the list's
 place_deeper : (n place : ℕ) (o : Option ℕ) → ((q : ℕ) → o ≡ Some q → q < n) → option_map suc o ≡ Some place → place < suc n
@@ -29,8 +25,8 @@ pub place_of-within : (ks : List Key) (name : List ℕ) (arity place : ℕ) → 
 place_of-within [] name arity place h = absurd (none-some place h)
 place_of-within (k ∷ ks) name arity place h =
     elim (is_key name arity k) as (λ b. (if b then Some 0 else option_map suc (place_of ks name arity)) ≡ Some place → place < suc (length ks)) [
-      true ↦ λ e. omega (arith, same_Some 0 place e)
-    | false ↦ λ e. place_deeper (length ks) place (place_of ks name arity) (place_of-within ks name arity) e
+      | true ↦ λ e. omega (arith, same_Some 0 place e)
+      | false ↦ λ e. place_deeper (length ks) place (place_of ks name arity) (place_of-within ks name arity) e
     ] h
 
 -- what is kept at a place

@@ -1,20 +1,20 @@
 -- Places of procedures, and what changes at one.
-use Rattle.std.proofs.Common.{◌≡◌, ℕ, zero, suc, ◌<◌, ◌≤◌, ◌+◌, Bool, true, false, List, [], ◌∷◌, ◌++◌, length, get_or, set, map, Option, Some, None, is_some, unwrap_or, ⊎_elim, refl, sym, ap, ◌∙◌, subst, true≢false, arith, if◌then◌else◌}
+use Rattle.std.proofs.Common.{◌≡◌, ℕ, zero, suc, ◌<◌, ◌≤◌, true, List, [], ◌∷◌, ◌++◌, length, get_or, set, map, Option, Some, None, is_some, unwrap_or, ⊎_elim, refl, sym, ap, ◌∙◌, subst, true≢false, arith, if◌then◌else◌}
 use Rattle.std.specs.List.{slice_get}
 use Rattle.std.specs.Option.{option_and_then}
-use Rattle.std.proofs.lemmas.Option.{none-some, same_Some, slice_get_within, slice_get-get_or}
+use Rattle.std.proofs.lemmas.Option.{same_Some, slice_get_within, slice_get-get_or}
 use Rattle.std.proofs.lemmas.Bool.Decides.{eqb_tells}
-use Rattle.std.proofs.lemmas.List.{length-append, length-set, map-append}
+use Rattle.std.proofs.lemmas.List.{length-append, length-set}
 use Rattle.iso_db.specs.Keys.{Key, key, place_of}
 use Rattle.iso_db.specs.Databases.{Clause, Procedure, Database, at_place, clauses_of, place_in, with_procedure}
-use Rattle.iso_db.specs.Blocks.{Ids, Kept, ids, no_ids, block_of, nothing_kept}
+use Rattle.iso_db.specs.Blocks.{Kept, ids, no_ids, block_of, nothing_kept}
 use Rattle.iso_db.specs.declared.kinds.Kind.{Kind}
 use Rattle.iso_db.specs.declared.slots.Slot.{Slot}
-use Rattle.iso_db.specs.Slots.{clause_at, procedure_at, given}
+use Rattle.iso_db.specs.Slots.{given}
 use Rattle.iso_db.specs.Kept.{lists, shown, Owns, Trimmed, IsKept, Giving}
 use Rattle.iso_db.specs.declared.views.View.{View}
 use Rattle.iso_db.proofs.ListLemmas.{slice_get-push_before, slice_get-push_last, slice_get-set_same, slice_get-set_other}
-use Rattle.iso_db.proofs.KeptLemmas.{length-shown, keys-shown, kind-shown, clauses-shown, shown-new, shown-set, place_of-within, kind_of, current_of}
+use Rattle.iso_db.proofs.KeptLemmas.{length-shown, keys-shown, kind-shown, clauses-shown, shown-set, kind_of, current_of}
 use Rattle.iso_db.proofs.GivingLemmas.{Grown, Grown-set, Longer-same, Extends-kind, Remembers, Giving-kept}
 
 pub Grown-new : (entries : List Kept) → Grown entries (entries ++ nothing_kept ∷ [])
@@ -28,13 +28,13 @@ module _ {C : Type 0} where
     owned = λ p e at block h.
         ⊎_elim
         (λ q. let same : nothing_kept ≡ e = same_Some nothing_kept e (sym (slice_get-push_last entries nothing_kept) ∙ subst (λ x. slice_get (entries ++ nothing_kept ∷ []) x ≡ Some e) q.1 at) in
-            subst (λ (x : Kept). Owns slots p (block_of x block)) same nothing)
+        subst (λ (x : Kept). Owns slots p (block_of x block)) same nothing)
         (λ q. kept.owned p e (sym (slice_get-push_before entries nothing_kept p (inside p e at q.1)) ∙ at) block h)
         (eqb_tells p (length entries));
     trimmed = λ p e at.
         ⊎_elim
         (λ q. let same : nothing_kept ≡ e = same_Some nothing_kept e (sym (slice_get-push_last entries nothing_kept) ∙ subst (λ x. slice_get (entries ++ nothing_kept ∷ []) x ≡ Some e) q.1 at) in
-            subst (Trimmed slots r) same (record { within = omega arith; dead = λ k d h. absurd (omega arith) }))
+        subst (Trimmed slots r) same (record { within = omega arith; dead = λ k d h. absurd (omega arith) }))
         (λ q. kept.trimmed p e (sym (slice_get-push_before entries nothing_kept p (inside p e at q.1)) ∙ at))
         (eqb_tells p (length entries));
     listed = λ n p there at.
@@ -44,8 +44,10 @@ module _ {C : Type 0} where
     where
       inside : (p : ℕ) (e : Kept) → slice_get (entries ++ nothing_kept ∷ []) p ≡ Some e → (p ≡ length entries → ⊥) → p < length entries
       inside p e at other = omega (arith, slice_get_within (entries ++ nothing_kept ∷ []) p e at, length-append entries (nothing_kept ∷ []), other)
+
       nothing : {p : ℕ} → Owns slots p no_ids
       nothing = record { front = λ k d h. absurd (omega arith); back = λ k d h. absurd (omega arith) }
+
       lists_within : (es : List Kept) (p n : ℕ) → lists (slice_get es p) n ≡ true → p < length es
       lists_within [] p n h = absurd (true≢false (sym h))
       lists_within (e ∷ es) zero n h = omega arith
@@ -60,22 +62,22 @@ module _ {C : Type 0} where
     owned = λ p e at block h.
         ⊎_elim
         (λ q. let same : new ≡ e = same_Some new e (sym (slice_get-set_same entries place new within) ∙ subst (λ x. slice_get (set entries place new) x ≡ Some e) q.1 at) in
-            subst (λ x. Owns slots x (block_of e block)) (sym q.1)
-            (subst (λ (x : Kept). block ≤ length x.older → Owns slots place (block_of x block)) same (kept.owned place (get_or entries place d) (slice_get-get_or entries place d within) block) h))
+        subst (λ x. Owns slots x (block_of e block)) (sym q.1)
+        (subst (λ (x : Kept). block ≤ length x.older → Owns slots place (block_of x block)) same (kept.owned place (get_or entries place d) (slice_get-get_or entries place d within) block) h))
         (λ q. kept.owned p e (sym (slice_get-set_other entries place p new q.1) ∙ at) block h)
         (eqb_tells p place);
     trimmed = λ p e at.
         ⊎_elim
         (λ q. let same : new ≡ e = same_Some new e (sym (slice_get-set_same entries place new within) ∙ subst (λ x. slice_get (set entries place new) x ≡ Some e) q.1 at) in
-            let was : Trimmed slots r (get_or entries place d) = kept.trimmed place (get_or entries place d) (slice_get-get_or entries place d within) in
-            subst (Trimmed slots r) same (record { within = was.within; dead = was.dead }))
+        let was : Trimmed slots r (get_or entries place d) = kept.trimmed place (get_or entries place d) (slice_get-get_or entries place d within) in
+        subst (Trimmed slots r) same (record { within = was.within; dead = was.dead }))
         (λ q. kept.trimmed p e (sym (slice_get-set_other entries place p new q.1) ∙ at))
         (eqb_tells p place);
     listed = λ n p there at.
         ⊎_elim
         (λ q. subst (λ x. lists (slice_get (set entries place new) x) n ≡ true) (sym q.1)
-            (ap (λ o. lists o n) (slice_get-set_same entries place new within)
-            ∙ ap (λ o. lists o n) (sym (slice_get-get_or entries place d within)) ∙ subst (λ x. lists (slice_get entries x) n ≡ true) q.1 (kept.listed n p there at)))
+        (ap (λ o. lists o n) (slice_get-set_same entries place new within)
+        ∙ ap (λ o. lists o n) (sym (slice_get-get_or entries place d within)) ∙ subst (λ x. lists (slice_get entries x) n ≡ true) q.1 (kept.listed n p there at)))
         (λ q. ap (λ o. lists o n) (slice_get-set_other entries place p new q.1) ∙ kept.listed n p there at)
         (eqb_tells p place);
   }

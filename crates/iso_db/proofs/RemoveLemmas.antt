@@ -1,18 +1,17 @@
 -- One clause less.
-use Rattle.std.proofs.Common.{◌≡◌, ℕ, zero, suc, ◌<◌, ◌≤◌, ◌+◌, Bool, true, false, not, ◌||◌, ◌==◌, List, [], ◌∷◌, ◌++◌, length, map, filter, cond, Option, Some, None, is_some, get_or, option_map, ⊎_elim, refl, sym, ap, ◌∙◌, subst, true≢false, arith, eq-eqb, if◌then◌else◌}
-use Rattle.std.specs.List.{slice_get, filter_map, cons_option, list_any}
+use Rattle.std.proofs.Common.{◌≡◌, ℕ, zero, suc, Bool, true, false, not, ◌||◌, ◌==◌, List, [], ◌∷◌, length, map, filter, cond, Option, Some, None, is_some, get_or, option_map, ⊎_elim, refl, sym, ap, ◌∙◌, true≢false, arith, eq-eqb}
+use Rattle.std.specs.List.{slice_get, cons_option, list_any}
 use Rattle.std.specs.Option.{option_and_then}
-use Rattle.std.proofs.lemmas.Option.{none-some}
 use Rattle.std.proofs.lemmas.Bool.Decides.{eqb_tells}
 use Rattle.iso_db.specs.Keys.{Key}
 use Rattle.iso_db.specs.Databases.{Clause, Procedure, one_less}
-use Rattle.iso_db.specs.Blocks.{Ids, Kept, ids, block_of}
+use Rattle.iso_db.specs.Blocks.{Kept, ids, block_of}
 use Rattle.iso_db.specs.declared.slots.Slot.{Slot}
 use Rattle.iso_db.specs.Slots.{given_by, clause_at, procedure_at, given, IsCounted, Removes}
-use Rattle.iso_db.specs.Kept.{lists, shown_by, shown, Owns, IsKept}
+use Rattle.iso_db.specs.Kept.{lists, shown, IsKept}
 use Rattle.iso_db.proofs.KeptLemmas.{Owns-more, Trimmed-more}
 use Rattle.iso_db.proofs.ViewLemmas.{clause_at-number}
-use Rattle.iso_db.proofs.GivingLemmas.{Remembers, some_of}
+use Rattle.iso_db.proofs.GivingLemmas.{Remembers}
 
 or_true : (t : Bool) → t || true ≡ true
 or_true true = refl
@@ -42,9 +41,11 @@ module _ {C : Type 0} where
     where
       rest : List (Clause C)
       rest = given slots r ns
+
       gone : (o : Option (Clause C)) → clause_at slots r n ≡ o → n ≡ number → filter (other number) rest ≡ filter (other number) (cons_option o rest)
       gone None at e = refl
       gone (Some c) at e = sym (ap (λ b. cond (not b) (c ∷ filter (other number) rest) (filter (other number) rest)) (eq-eqb c.number number (clause_at-number slots r n c at ∙ e)))
+
       kept : (o : Option (Clause C)) → clause_at slots r n ≡ o → (n == number) ≡ false → cons_option o (filter (other number) rest) ≡ filter (other number) (cons_option o rest)
       kept None at e = refl
       kept (Some c) at e = sym (ap (λ b. cond (not b) (c ∷ filter (other number) rest) (filter (other number) rest)) (ap (λ m. m == number) (clause_at-number slots r n c at) ∙ e))
@@ -86,6 +87,7 @@ module _ {C : Type 0} where
       here : (o : Option (Clause C)) → clause_at slots r n ≡ o → is_some o ≡ true → n ≡ number → has_number number (cons_option o (given slots r ns)) ≡ true
       here None at e q = absurd (true≢false (sym e))
       here (Some c) at e q = ap (λ b. b || has_number number (given slots r ns)) (eq-eqb c.number number (clause_at-number slots r n c at ∙ q))
+
       later : (o : Option (Clause C)) → has_number number (given slots r ns) ≡ true → has_number number (cons_option o (given slots r ns)) ≡ true
       later None e = e
       later (Some c) e = ap (λ b. (c.number == number) || b) e ∙ or_true (c.number == number)

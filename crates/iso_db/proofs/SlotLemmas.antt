@@ -1,14 +1,14 @@
 -- What a removal makes of the slots.
-use Rattle.std.proofs.Common.{◌≡◌, ℕ, zero, suc, ◌<◌, ◌≤◌, ◌+◌, Bool, true, false, cond, List, [], ◌∷◌, ◌++◌, length, get_or, set, Option, Some, None, is_some, option_map, ◌⊎◌, inl, inr, ⊎_elim, refl, sym, ap, ◌∙◌, subst, true≢false, arith, lt-ltb, le-leb, ltb-true, leb-true, if◌then◌else◌, nat_lt, nat_le}
-use Rattle.std.specs.List.{slice_get, filter_map, count_by}
+use Rattle.std.proofs.Common.{◌≡◌, ℕ, zero, suc, ◌<◌, ◌+◌, true, false, cond, List, [], ◌∷◌, length, get_or, set, Option, Some, None, is_some, option_map, ⊎_elim, refl, sym, ap, ◌∙◌, subst, true≢false, arith, lt-ltb, le-leb, ltb-true, leb-true, if◌then◌else◌, nat_le}
+use Rattle.std.specs.List.{slice_get, count_by}
 use Rattle.std.specs.Option.{option_and_then, is_none}
-use Rattle.std.proofs.lemmas.Option.{none-some, same_Some, get_or_from_slice_get}
+use Rattle.std.proofs.lemmas.Option.{same_Some, get_or_from_slice_get}
 use Rattle.std.proofs.lemmas.Bool.Decides.{eqb_tells, leb_tells}
 use Rattle.std.proofs.lemmas.List.Sums.{sum_by-set}
 use Rattle.std.proofs.lemmas.List.{length-set}
 use Rattle.iso_db.specs.Databases.{Clause}
 use Rattle.iso_db.specs.declared.slots.Slot.{Slot}
-use Rattle.iso_db.specs.Slots.{lives, before, given_by, clause_at, procedure_at, value_at, IsCounted, Removes}
+use Rattle.iso_db.specs.Slots.{lives, before, given_by, clause_at, IsCounted, Removes}
 use Rattle.iso_db.proofs.ListLemmas.{slice_get-set_same, slice_get-set_other}
 
 -- what did not die before, and gives a clause now, did not die
@@ -62,8 +62,8 @@ module _ {C : Type 0} where
       living : (t : Slot C) → is_some (given_by r n t) ≡ true → lives r t.died ≡ true
       living t here =
           elim (lives r t.died) as (λ b. lives r t.died ≡ b → lives r t.died ≡ true) [
-            true ↦ λ e. e
-          | false ↦ λ e. absurd (true≢false (sym here ∙ ap is_some (given_none r n t e)))
+            | true ↦ λ e. e
+            | false ↦ λ e. absurd (true≢false (sym here ∙ ap is_some (given_none r n t e)))
           ] refl
 
   -- a removal
@@ -84,9 +84,11 @@ module _ {C : Type 0} where
           (λ e. subst (λ m. f (slice_get (set slots k (killed r s)) m) ≡ f (slice_get slots m)) (sym e.1) (ap f (slice_get-set_same slots k (killed r s) within) ∙ same ∙ ap f (sym at)))
           (λ e. ap f (slice_get-set_other slots k n (killed r s) e.1))
           (eqb_tells n k)
+
       later : (n : ℕ) (o : Option (Slot C)) → slice_get slots n ≡ o → option_and_then (given_by (r + 1) n) o ≡ option_and_then (given_by r n) o
       later n None h = refl
       later n (Some t) h = given_same (r + 1) r n t t (lives_more r t.died (counted.deaths n t h)) refl
+
       dead : nat_le (r + 1) r ≡ false
       dead = ⊎_elim (λ p. absurd (omega (arith, p.1))) (λ p. p.0) (leb_tells (r + 1) r)
 
@@ -95,7 +97,7 @@ module _ {C : Type 0} where
     deaths = λ n t h.
         ⊎_elim
         (λ e. let same : killed r s ≡ t = same_Some (killed r s) t (sym (slice_get-set_same slots k (killed r s) within) ∙ subst (λ m. slice_get (set slots k (killed r s)) m ≡ Some t) e.1 h) in
-            subst (λ (u : Slot C). before (r + 1) u.died ≡ true) same (lt-ltb r (r + 1) (omega arith)))
+        subst (λ (u : Slot C). before (r + 1) u.died ≡ true) same (lt-ltb r (r + 1) (omega arith)))
         (λ e. before_more r t.died (counted.deaths n t (sym (slice_get-set_other slots k n (killed r s) e.1) ∙ h)))
         (eqb_tells n k);
     count = omega (arith, fewer, length-set slots k (killed r s), counted.count);
@@ -103,7 +105,9 @@ module _ {C : Type 0} where
     where
       alone : Option ℕ → ℕ
       alone d = cond (is_none d) 1 0
+
       was : ◌≡◌ {A = ℕ} (cond (is_none (get_or slots k s).died) 1 0) 1
       was = ap (λ (t : Slot C). alone t.died) (get_or_from_slice_get slots k s s at) ∙ ap alone alive
+
       fewer : count_by (λ (t : Slot C). is_none t.died) (set slots k (killed r s)) + 1 ≡ count_by (λ (t : Slot C). is_none t.died) slots
       fewer = omega (arith, sum_by-set (λ (t : Slot C). cond (is_none t.died) 1 0) slots k (killed r s) s within, was)

@@ -1,7 +1,7 @@
 -- What is kept of a procedure made handier.
-use Rattle.std.proofs.Common.{◌≡◌, ℕ, zero, suc, ◌<◌, ◌≤◌, ◌+◌, Bool, true, false, ◌==◌, List, [], ◌∷◌, ◌++◌, length, get_or, set, take, drop, reverse, filter, Option, Some, None, is_some, ⊎_elim, refl, sym, ap, ◌∙◌, subst, true≢false, arith, cond, ◌||◌, leb-true}
-use Rattle.std.specs.List.{slice_get, filter_map, cons_option, list_any, All}
-use Rattle.std.proofs.lemmas.Option.{none-some, same_Some, slice_get-get_or}
+use Rattle.std.proofs.Common.{◌≡◌, ℕ, zero, suc, ◌<◌, ◌≤◌, ◌+◌, Bool, true, false, ◌==◌, List, [], ◌∷◌, ◌++◌, length, get_or, set, take, reverse, filter, Option, Some, None, is_some, ⊎_elim, refl, sym, ap, ◌∙◌, subst, arith, cond, ◌||◌, leb-true}
+use Rattle.std.specs.List.{slice_get, cons_option, list_any, All}
+use Rattle.std.proofs.lemmas.Option.{same_Some, slice_get-get_or}
 use Rattle.std.proofs.lemmas.Bool.Decides.{eqb_tells, leb_tells}
 use Rattle.std.proofs.lemmas.List.{length-set, length-append, reverse-append, append-nil, get_or_past, get_or_default, get_or_push, get_or_append_left}
 use Rattle.std.proofs.lemmas.List.Elements.{filter-append, All-filter}
@@ -9,13 +9,11 @@ use Rattle.iso_db.proofs.AddLemmas.{block_of-last}
 use Rattle.iso_db.specs.Keys.{Key}
 use Rattle.iso_db.specs.Databases.{Clause, Procedure}
 use Rattle.iso_db.specs.Blocks.{Ids, Kept, ids, block_of, passing}
-use Rattle.iso_db.specs.declared.kinds.Kind.{Kind}
 use Rattle.iso_db.specs.declared.slots.Slot.{Slot}
-use Rattle.iso_db.specs.declared.views.View.{View}
 use Rattle.iso_db.specs.Slots.{clause_at, procedure_at, given}
-use Rattle.iso_db.specs.Kept.{lists, shown_by, shown, Owns, Trimmed, IsKept, Giving, Tidies}
+use Rattle.iso_db.specs.Kept.{lists, shown_by, shown, Owns, Trimmed, IsKept, Tidies}
 use Rattle.iso_db.proofs.ListLemmas.{slice_get-set_same, slice_get-set_other}
-use Rattle.iso_db.proofs.GivingLemmas.{Extends, Longer-same, Grown-set, Grown-same, Giving-kept}
+use Rattle.iso_db.proofs.GivingLemmas.{Extends, Longer-same, Grown-set, Giving-kept}
 use Rattle.iso_db.proofs.PlaceLemmas.{Remembers-itself}
 
 -- a procedure of which new views pass over more
@@ -57,8 +55,8 @@ module _ {C : Type 0} where
     listed = λ n p there at.
         ⊎_elim
         (λ q. subst (λ x. lists (slice_get (set entries place e') x) n ≡ true) (sym q.1)
-            (ap (λ o. lists o n) (slice_get-set_same entries place e' within)
-            ∙ renews.listed n there (ap (λ o. lists o n) (sym (slice_get-get_or entries place d within)) ∙ subst (λ x. lists (slice_get entries x) n ≡ true) q.1 (kept.listed n p there at))))
+        (ap (λ o. lists o n) (slice_get-set_same entries place e' within)
+        ∙ renews.listed n there (ap (λ o. lists o n) (sym (slice_get-get_or entries place d within)) ∙ subst (λ x. lists (slice_get entries x) n ≡ true) q.1 (kept.listed n p there at))))
         (λ q. ap (λ o. lists o n) (slice_get-set_other entries place p e' q.1) ∙ kept.listed n p there at)
         (eqb_tells p place);
   }
@@ -89,16 +87,15 @@ module _ {C : Type 0} where
     same = refl;
   }
 
-
 -- the older blocks with the procedure's own behind them
 older_block : (e : Kept) (block : ℕ) → get_or (e.older ++ e.current ∷ []) block e.current ≡ block_of e block
 older_block e block =
     ⊎_elim
     (λ h. get_or_append_left e.older (e.current ∷ []) e.current block (omega (arith, leb-true (block + 1) (length e.older) h.0)))
     (λ h. ⊎_elim
-        (λ q. get_or_push e.older e.current e.current block (sym q.1) ∙ sym (get_or_past e.older block e.current (omega (arith, q.1))))
-        (λ q. get_or_past (e.older ++ e.current ∷ []) block e.current (omega (arith, h.1, q.1, length-append e.older (e.current ∷ []))) ∙ sym (get_or_past e.older block e.current (omega (arith, h.1))))
-        (eqb_tells block (length e.older)))
+    (λ q. get_or_push e.older e.current e.current block (sym q.1) ∙ sym (get_or_past e.older block e.current (omega (arith, q.1))))
+    (λ q. get_or_past (e.older ++ e.current ∷ []) block e.current (omega (arith, h.1, q.1, length-append e.older (e.current ∷ []))) ∙ sym (get_or_past e.older block e.current (omega (arith, h.1))))
+    (eqb_tells block (length e.older)))
     (leb_tells (block + 1) (length e.older))
 
 -- the numbers that pass a test, from the other end
@@ -107,9 +104,9 @@ filter-reverse test [] = refl
 filter-reverse test (n ∷ ns) =
     ap (filter test) (reverse-append (n ∷ []) ns) ∙ filter-append test (reverse ns) (n ∷ []) ∙ ap (λ xs. xs ++ filter test (n ∷ [])) (filter-reverse test ns)
     ∙ elim (test n) as (λ b. reverse (filter test ns) ++ cond b (n ∷ []) [] ≡ reverse (cond b (n ∷ filter test ns) (filter test ns))) [
-        true ↦ sym (reverse-append (n ∷ []) (filter test ns))
+      | true ↦ sym (reverse-append (n ∷ []) (filter test ns))
       | false ↦ append-nil (reverse (filter test ns))
-      ]
+    ]
 
 pub ids-passing : (test : ℕ → Bool) (b : Ids) → ids (passing test b) ≡ filter test (ids b)
 ids-passing test b = ap (λ ns. ns ++ filter test b.back) (sym (filter-reverse test b.front)) ∙ sym (filter-append test (reverse b.front) b.back)
@@ -126,6 +123,7 @@ any-passing test (m ∷ ms) n passes h =
     or_true : (t : Bool) → t || true ≡ true
     or_true true = refl
     or_true false = refl
+
     either : (b : Bool) → list_any (λ x. x == n) (filter test ms) ≡ true → list_any (λ x. x == n) (cond b (m ∷ filter test ms) (filter test ms)) ≡ true
     either true e = ap (λ t. (m == n) || t) e ∙ or_true (m == n)
     either false e = e
@@ -162,12 +160,16 @@ module _ {C : Type 0} where
     where
       e : Kept
       e = get_or entries place d
+
       there_now : ℕ → Bool
       there_now n = is_some (clause_at slots r n)
+
       new : Ids
       new = passing there_now e.current
+
       own : Owns slots place e.current
       own = subst (Owns slots place) (block_of-last e (length e.older) refl) (kept.owned place e (slice_get-get_or entries place d within) (length e.older) (omega arith))
+
       those : Owns slots place new
       those = record {
         front = All-filter there_now (λ n. procedure_at slots n ≡ Some place) e.current.front own.front;

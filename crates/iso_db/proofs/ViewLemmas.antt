@@ -1,16 +1,16 @@
 -- Going through the numbers of a view.
-use Rattle.std.proofs.Common.{◌≡◌, ℕ, zero, suc, ◌<◌, ◌≤◌, ◌+◌, ◌-◌, Bool, true, false, List, [], ◌∷◌, ◌++◌, length, get_or, take, drop, reverse, min, Option, Some, None, is_some, option_map, refl, sym, ap, ◌∙◌, subst, true≢false, arith, if◌then◌else◌, rules}
-use Rattle.std.specs.List.{slice_get, filter_map, cons_option, All}
+use Rattle.std.proofs.Common.{◌≡◌, ℕ, zero, suc, ◌<◌, ◌≤◌, ◌+◌, Bool, true, false, List, [], ◌∷◌, ◌++◌, length, get_or, take, drop, reverse, Option, Some, None, is_some, option_map, refl, sym, ap, ◌∙◌, subst, true≢false, arith, if◌then◌else◌}
+use Rattle.std.specs.List.{slice_get, cons_option, All}
 use Rattle.std.specs.Option.{option_and_then}
 use Rattle.std.proofs.lemmas.Option.{none-some, same_Some}
-use Rattle.std.proofs.lemmas.List.{drop_more, length-take, length-append, length-reverse, get_or-take, drop_all, take_all, get_or_past, take-append-drop}
+use Rattle.std.proofs.lemmas.List.{drop_more, length-take, length-append, length-reverse, take_all, get_or_past, take-append-drop}
 use Rattle.std.proofs.lemmas.List.Elements.{filter_map-append}
 use Rattle.iso_db.specs.Databases.{Clause}
 use Rattle.iso_db.specs.Blocks.{Ids, Kept, ids, ids_from, block_of}
 use Rattle.iso_db.specs.Kept.{older_of, block_in, Trimmed, Giving}
 use Rattle.iso_db.specs.declared.slots.Slot.{Slot}
 use Rattle.iso_db.specs.Slots.{lives, given_by, clause_at, value_at, given}
-use Rattle.iso_db.specs.Stepping.{first_number, behind, Steps}
+use Rattle.iso_db.specs.Stepping.{Steps}
 
 pub length-ids_from : (b : Ids) (outer : ℕ) → outer ≤ length b.front → length (ids_from b outer) ≡ outer + length b.back
 length-ids_from b outer h = omega (arith, length-append (reverse (take outer b.front)) b.back, length-reverse (take outer b.front), length-take outer b.front)
@@ -23,9 +23,11 @@ module _ {C : Type 0} where
       of_value : (v : Option C) → option_map (λ value. let d : Clause C = record { number = n; value = value } in d) v ≡ Some c → c.number ≡ n
       of_value None e = absurd (none-some c e)
       of_value (Some v) e = ap (λ (d : Clause C). d.number) (sym (same_Some (record { number = n; value = v }) c e))
+
       of_lives : (b : Bool) (v : Option C) → (if b then option_map (λ value. let d : Clause C = record { number = n; value = value } in d) v else None) ≡ Some c → c.number ≡ n
       of_lives true v e = of_value v e
       of_lives false v e = absurd (none-some c e)
+
       of_slot : (o : Option (Slot C)) → option_and_then (given_by made n) o ≡ Some c → c.number ≡ n
       of_slot None e = absurd (none-some c e)
       of_slot (Some s) e = of_lives (lives made s.died) s.value e
@@ -51,6 +53,7 @@ module _ {C : Type 0} where
     where
       rest : List (Clause C)
       rest = given slots made (drop (next + 1) numbers)
+
       taken : (o : Option (Clause C)) → is_some o ≡ true → clause_at slots made x ≡ o → Steps (cons_option o rest) (Some x) rest
       taken None e at = absurd (true≢false (sym e))
       taken (Some c) e at = (ap Some (sym (clause_at-number slots made x c at)), refl)
@@ -62,9 +65,11 @@ module _ {C : Type 0} where
       of_value : (v : Option C) → option_map (λ value. let d : Clause C = record { number = n; value = value } in d) v ≡ Some c → v ≡ Some c.value
       of_value None e = absurd (none-some c e)
       of_value (Some v) e = ap (λ (d : Clause C). Some d.value) (same_Some (record { number = n; value = v }) c e)
+
       of_lives : (b : Bool) (v : Option C) → (if b then option_map (λ value. let d : Clause C = record { number = n; value = value } in d) v else None) ≡ Some c → v ≡ Some c.value
       of_lives true v e = of_value v e
       of_lives false v e = absurd (none-some c e)
+
       of_slot : (o : Option (Slot C)) → option_and_then (given_by made n) o ≡ Some c → option_and_then (λ (s : Slot C). s.value) o ≡ Some c.value
       of_slot None e = absurd (none-some c e)
       of_slot (Some s) e = of_lives (lives made s.died) s.value e
@@ -104,6 +109,7 @@ module _ {C : Type 0} where
     where
       current : block_of e block ≡ e.current
       current = get_or_past e.older block e.current (omega (arith, b))
+
       behind_dead : given slots r (ids e.current) ≡ given slots r (drop e.first (ids e.current))
       behind_dead = ap (given slots r) (sym (take-append-drop e.first (ids e.current))) ∙ filter_map-append (clause_at slots r) (take e.first (ids e.current)) (drop e.first (ids e.current))
           ∙ ap (λ cs. cs ++ given slots r (drop e.first (ids e.current))) (given-dead slots r (take e.first (ids e.current)) trimmed.dead)

@@ -62,7 +62,7 @@ module _ {C : Type 0} where
   -- with a procedure of this name and number of arguments, absent and behind the others where there was none
   abbrev pub with_procedure : List ℕ → ℕ → Database C → Database C
   with_procedure name arity db = if is_some (place_in db name arity) then db
-    else record db { procedures = db.procedures ++ record { key = key name arity; kind = None; clauses = [] } ∷ [] }
+      else record db { procedures = db.procedures ++ record { key = key name arity; kind = None; clauses = [] } ∷ [] }
 
   -- where a clause that is added comes among those of its procedure
   abbrev pub at_end : Clause C → List (Clause C) → List (Clause C)

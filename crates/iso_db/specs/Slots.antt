@@ -1,5 +1,5 @@
 -- What is kept of each clause that was ever added, at its number.
-use Rattle.std.specs.Prelude.{◌≡◌, ℕ, ◌≤◌, ◌<◌, ◌+◌, Bool, true, false, nat_le, nat_lt, ◌==◌, List, Option, Some, None, option_map, is_some, length, if◌then◌else◌}
+use Rattle.std.specs.Prelude.{◌≡◌, ℕ, ◌≤◌, ◌+◌, Bool, true, false, nat_le, nat_lt, ◌==◌, List, Option, Some, None, option_map, is_some, length, if◌then◌else◌}
 use Rattle.std.specs.List.{slice_get, filter_map, count_by, list_any, All}
 use Rattle.std.specs.Option.{option_and_then, is_none}
 use Rattle.iso_db.specs.Databases.{Clause}

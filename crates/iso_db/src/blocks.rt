@@ -204,12 +204,7 @@ impl Entry {
     }
 
     /// Adds the number of a clause, and gives an absent procedure this kind. The error is that memory was refused; nothing changed then.
-    pub(crate) fn push(
-        &mut self,
-        id: ClauseId,
-        side: Side,
-        kind: Kind,
-    ) -> Result<(), AllocError>
+    pub(crate) fn push(&mut self, id: ClauseId, side: Side, kind: Kind) -> Result<(), AllocError>
         ensures pushed { OnOk result (self.new ≡ pushed side id kind self.old) }
         ensures unchanged { OnErr result (self.new ≡ self.old) }
     {

@@ -1,5 +1,5 @@
 -- A known name is found; a new one comes behind the others, with an empty row.
-use Rattle.std.proofs.Common.{◌≡◌, sym, ap, ◌∙◌, true, false, subst, ◌++◌, ◌∷◌, [], length, Some}
+use Rattle.std.proofs.Common.{◌≡◌, sym, ap, ◌∙◌, ◌++◌, ◌∷◌, [], length, Some}
 use Rattle.iso_db.specs.Indexes.{found, index_of}
 use Rattle.iso_db.proofs.IndexLemmas.{position_or_len-absent, absent_string, index_of-position, index_of-new, found-new, inserted, KeepsNames-new}
 use Rattle.iso_db.proofs.places.numbered.Goals as goal

@@ -1,5 +1,5 @@
 -- The row has one more, or the row and the keys are as they were.
-use Rattle.std.proofs.Common.{◌≡◌, sym, ap, ◌∙◌, true, false, subst, ◌++◌, ◌∷◌, [], length, rules, is_ok, if◌then◌else◌, ℕ}
+use Rattle.std.proofs.Common.{◌≡◌, ap, ◌∙◌, true, false, ◌++◌, ◌∷◌, [], rules, is_ok, if◌then◌else◌, ℕ}
 use Rattle.iso_db.proofs.IndexLemmas.{rows-same, rows-more}
 use Rattle.iso_db.specs.Indexes.{put_at, row_at}
 use Rattle.iso_db.specs.declared.places.Named.{Named}

@@ -1,5 +1,5 @@
 -- One entry after another is forgotten.
-use Rattle.std.proofs.Common.{◌≡◌, ◌<◌, ◌≤◌, ◌∙◌, ap, sym, length, map, refl, arith}
+use Rattle.std.proofs.Common.{◌≡◌, ◌<◌, ◌∙◌, ap, sym, length, map, refl, arith}
 use Rattle.iso_db.specs.Blocks.{forgotten}
 use Rattle.iso_db.proofs.ForgetLemmas.{forgotten-set, forgotten-more, forgotten-all}
 use Rattle.iso_db.proofs.tidy.forget_blocks.Goals as goal

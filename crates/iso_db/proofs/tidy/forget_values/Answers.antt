@@ -1,9 +1,9 @@
 -- One slot after another is emptied, if its clause was removed.
-use Rattle.std.proofs.Common.{◌≡◌, ◌<◌, ◌∙◌, List, ap, sym, subst, length, set, get_or, arith, Some}
+use Rattle.std.proofs.Common.{◌≡◌, ◌<◌, ◌∙◌, ap, sym, subst, length, set, arith, Some}
 use Rattle.std.specs.List.{slice_get}
 use Rattle.std.proofs.lemmas.Option.{slice_get-get_or}
 use Rattle.iso_db.specs.declared.slots.Slot.{Slot}
-use Rattle.iso_db.specs.Slots.{Cleans, cleaned}
+use Rattle.iso_db.specs.Slots.{Cleans}
 use Rattle.iso_db.proofs.ForgetLemmas.{Cleans-cleaned}
 use Rattle.iso_db.proofs.tidy.forget_values.Goals as goal
 

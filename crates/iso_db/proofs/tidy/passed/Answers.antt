@@ -14,7 +14,7 @@ loop-position-preserved g c =
     let x = c.at.result in
     let within : k < length (ids b) = omega (arith, c.loop-position-test.true, c.len-end.ensures, length-append (reverse b.front) b.back, length-reverse b.front) in
     let is : x ≡ get_or (ids b) k x =
-        c.at.ensures ∙ ap (λ o. get_or (ids_from b o) k x) c.outer-outer.ensures ∙ ap (λ ns. get_or (reverse ns ++ b.back) k x) (take_all (length b.front) b.front (omega arith)) in
+    c.at.ensures ∙ ap (λ o. get_or (ids_from b o) k x) c.outer-outer.ensures ∙ ap (λ ns. get_or (reverse ns ++ b.back) k x) (take_all (length b.front) b.front (omega arith)) in
     let more : take (k + 1) (ids b) ≡ take k (ids b) ++ x ∷ [] = take_more (ids b) k x within ∙ ap (λ y. take k (ids b) ++ y ∷ []) (sym is) in
     let gone : is_some (clause_at {C = g.row.C.Denot} c.args.slots.now c.args.removals x) ≡ false = sym c.is_given.ensures ∙ c.if-is_given.false in
     subst (All (λ n. is_some (clause_at {C = g.row.C.Denot} c.args.slots.now c.args.removals n) ≡ false)) (sym more)

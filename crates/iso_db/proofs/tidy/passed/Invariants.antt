@@ -1,5 +1,5 @@
 -- The clauses of the numbers so far were removed.
-use Rattle.std.proofs.Common.{◌≡◌, ◌≤◌, ◌+◌, length, take, is_some, false}
+use Rattle.std.proofs.Common.{◌≡◌, take, is_some, false}
 use Rattle.std.specs.List.{All}
 use Rattle.iso_db.specs.Blocks.{ids}
 use Rattle.iso_db.specs.Slots.{clause_at}

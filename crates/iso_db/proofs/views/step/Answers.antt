@@ -1,7 +1,6 @@
 -- A number that gives no clause is passed over; one that does is the next.
-use Rattle.std.proofs.Common.{◌≡◌, ◌<◌, ◌≤◌, ◌+◌, ℕ, List, ◌∙◌, sym, subst, take, drop, length, get_or, arith, Some, None, ap, refl, true, is_some, []}
+use Rattle.std.proofs.Common.{◌≡◌, ◌<◌, ◌≤◌, ◌+◌, ℕ, ◌∙◌, sym, subst, take, drop, length, get_or, arith, Some, None, ap, refl, true, is_some, []}
 use Rattle.std.proofs.lemmas.List.{length-take, get_or-take, drop_all}
-use Rattle.iso_db.specs.Databases.{Clause}
 use Rattle.iso_db.specs.Blocks.{Ids, ids_from}
 use Rattle.iso_db.specs.Slots.{given, clause_at}
 use Rattle.iso_db.specs.Stepping.{Steps}

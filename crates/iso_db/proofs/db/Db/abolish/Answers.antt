@@ -1,5 +1,5 @@
 -- All clauses of the block are removed, and the kind is taken.
-use Rattle.std.proofs.Common.{◌≡◌, ◌<◌, ◌∙◌, ℕ, List, sym, ap, subst, length, set, get_or, arith, Some, None}
+use Rattle.std.proofs.Common.{◌≡◌, ◌∙◌, ℕ, List, sym, ap, subst, length, set, get_or, arith, None}
 use Rattle.iso_db.specs.Databases.{Procedure, Database, without_procedure}
 use Rattle.iso_db.specs.Blocks.{Kept, ids}
 use Rattle.iso_db.specs.Slots.{Clears}
@@ -26,7 +26,7 @@ invariant_of-self g c =
     let old : Kept = get_or db.entries.items c.args.place d in
     let is = given_kind d old c.set_kind.new.self c.index_mut-entry.ensures.value c.set_kind.ensures in
     let clears : Clears (ids old.current) db.slots.items db.removals c.kill_all.new.slots.items c.kill_all.new.removals =
-        subst (λ ns. Clears ns db.slots.items db.removals c.kill_all.new.slots.items c.kill_all.new.removals) (ap ids (c.current.ensures ∙ ap (λ (e : Kept). e.current) c.index_mut-entry.ensures.value)) c.kill_all.ensures.cleared in
+    subst (λ ns. Clears ns db.slots.items db.removals c.kill_all.new.slots.items c.kill_all.new.removals) (ap ids (c.current.ensures ∙ ap (λ (e : Kept). e.current) c.index_mut-entry.ensures.value)) c.kill_all.ensures.cleared in
     record {
       kept = subst (λ (e : Kept). IsKept c.kill_all.new.slots.items c.kill_all.new.removals db.places (set db.entries.items c.args.place e)) (sym is)
           (IsKept-abolished db.slots.items db.removals c.kill_all.new.slots.items c.kill_all.new.removals db.places db.entries.items c.args.place d db.kept within clears c.kill_all.ensures.counted);
@@ -40,7 +40,7 @@ returns-clause-contents g c =
     let old : Kept = get_or db.entries.items c.args.place d in
     let is = given_kind d old c.set_kind.new.self c.index_mut-entry.ensures.value c.set_kind.ensures in
     let clears : Clears (ids old.current) db.slots.items db.removals c.kill_all.new.slots.items c.kill_all.new.removals =
-        subst (λ ns. Clears ns db.slots.items db.removals c.kill_all.new.slots.items c.kill_all.new.removals) (ap ids (c.current.ensures ∙ ap (λ (e : Kept). e.current) c.index_mut-entry.ensures.value)) c.kill_all.ensures.cleared in
+    subst (λ ns. Clears ns db.slots.items db.removals c.kill_all.new.slots.items c.kill_all.new.removals) (ap ids (c.current.ensures ∙ ap (λ (e : Kept). e.current) c.index_mut-entry.ensures.value)) c.kill_all.ensures.cleared in
     ap (λ (e : Kept). let x : Database g.row.C.Denot = record { procedures = shown c.kill_all.new.slots.items c.kill_all.new.removals db.places (set db.entries.items c.args.place e); added = length c.kill_all.new.slots.items } in x) is
     ∙ ap (λ (qs : List (Procedure g.row.C.Denot)). let x : Database g.row.C.Denot = record { procedures = qs; added = length c.kill_all.new.slots.items } in x)
     (shown-abolished db.slots.items db.removals c.kill_all.new.slots.items c.kill_all.new.removals db.places db.entries.items c.args.place d db.kept within clears)
@@ -54,7 +54,7 @@ returns-clause-views g c =
     let old : Kept = get_or db.entries.items c.args.place d in
     let is = given_kind d old c.set_kind.new.self c.index_mut-entry.ensures.value c.set_kind.ensures in
     let clears : Clears (ids old.current) db.slots.items db.removals c.kill_all.new.slots.items c.kill_all.new.removals =
-        subst (λ ns. Clears ns db.slots.items db.removals c.kill_all.new.slots.items c.kill_all.new.removals) (ap ids (c.current.ensures ∙ ap (λ (e : Kept). e.current) c.index_mut-entry.ensures.value)) c.kill_all.ensures.cleared in
+    subst (λ ns. Clears ns db.slots.items db.removals c.kill_all.new.slots.items c.kill_all.new.removals) (ap ids (c.current.ensures ∙ ap (λ (e : Kept). e.current) c.index_mut-entry.ensures.value)) c.kill_all.ensures.cleared in
     λ v cs gives.
     subst (λ (e : Kept). Giving c.kill_all.new.slots.items c.kill_all.new.removals (set db.entries.items c.args.place e) v cs) (sym is)
     (Giving-abolished db.slots.items db.removals c.kill_all.new.slots.items c.kill_all.new.removals db.places db.entries.items c.args.place d db.kept within clears v cs gives)

@@ -1,10 +1,8 @@
 -- An absent procedure gets its kind.
-use Rattle.std.proofs.Common.{◌≡◌, ◌<◌, ◌∙◌, ℕ, List, sym, ap, subst, length, set, get_or, arith, Some, None}
+use Rattle.std.proofs.Common.{◌≡◌, ◌∙◌, List, sym, ap, subst, length, set, get_or, arith, Some, None}
 use Rattle.iso_db.specs.Databases.{Procedure, Database}
 use Rattle.iso_db.specs.Blocks.{Kept}
 use Rattle.iso_db.specs.Kept.{IsKept, Giving, shown}
-use Rattle.iso_db.specs.Presents.{contents}
-use Rattle.iso_db.specs.declared.kinds.Kind.{Kind}
 use Rattle.iso_db.specs.declared.kinds.Kind.TheVariants.{Dynamic}
 use Rattle.iso_db.proofs.PlaceLemmas.{shown_within, kind-there, kind-known, shown-kind, IsKept-kind, Giving-kind}
 use Rattle.iso_db.proofs.db.Db.declare.Goals as goal

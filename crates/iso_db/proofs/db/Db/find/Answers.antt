@@ -1,5 +1,5 @@
 -- The keys that are shown are those of the places.
-use Rattle.std.proofs.Common.{◌≡◌, ◌∙◌, sym}
+use Rattle.std.proofs.Common.{◌∙◌, sym}
 use Rattle.iso_db.proofs.PlaceLemmas.{place_in-shown}
 use Rattle.iso_db.proofs.db.Db.find.Goals as goal
 

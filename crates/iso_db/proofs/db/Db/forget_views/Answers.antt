@@ -1,8 +1,8 @@
 -- Neither the older blocks nor the values of removed clauses are seen.
-use Rattle.std.proofs.Common.{◌≡◌, ◌∙◌, ℕ, List, sym, ap, subst, length, map}
+use Rattle.std.proofs.Common.{◌≡◌, ◌∙◌, ℕ, List, sym, ap, subst, length}
 use Rattle.std.proofs.lemmas.List.{length-map}
 use Rattle.iso_db.specs.Databases.{Procedure, Database}
-use Rattle.iso_db.specs.Blocks.{Kept, forgotten}
+use Rattle.iso_db.specs.Blocks.{forgotten}
 use Rattle.iso_db.specs.Kept.{IsKept, shown}
 use Rattle.iso_db.proofs.ForgetLemmas.{IsKept-forgotten, IsKept-cleaned, shown-forgotten, shown-cleaned, shown-stand}
 use Rattle.iso_db.proofs.db.Db.forget_views.Goals as goal

@@ -1,17 +1,16 @@
 -- The clause comes into a slot, its number into the block.
-use Rattle.std.proofs.Common.{◌≡◌, ◌<◌, ◌+◌, ◌∷◌, [], ◌++◌, ◌∙◌, ℕ, List, sym, ap, subst, length, set, get_or, arith, Some}
+use Rattle.std.proofs.Common.{◌≡◌, ◌+◌, ◌∷◌, [], ◌++◌, ◌∙◌, ℕ, List, ap, length}
 use Rattle.std.proofs.lemmas.List.{length-append}
 use Rattle.iso_db.specs.Databases.{Procedure, Database, with_clause}
 use Rattle.iso_db.specs.Sides.{put_at_side}
-use Rattle.iso_db.specs.Blocks.{Kept, pushed, nothing_kept}
+use Rattle.iso_db.specs.Blocks.{Kept}
 use Rattle.iso_db.specs.Slots.{value_at}
-use Rattle.iso_db.specs.Kept.{IsKept, Giving, shown}
+use Rattle.iso_db.specs.Kept.{shown}
 use Rattle.iso_db.specs.declared.slots.Slot.{Slot}
 use Rattle.iso_db.proofs.PlaceLemmas.{shown_within}
 use Rattle.iso_db.proofs.GivingLemmas.{Giving-add}
 use Rattle.iso_db.specs.Presents.{contents}
-use Rattle.iso_db.proofs.AddLemmas.{new_slot, IsKept-add, shown-add, value_at-before, value_at-new}
-use Rattle.iso_db.proofs.db.Db.insert.Given.{Over}
+use Rattle.iso_db.proofs.AddLemmas.{new_slot, shown-add, value_at-before, value_at-new}
 use Rattle.iso_db.proofs.db.Db.insert.Goals as goal
 
 pub add-requires : goal.add-requires

@@ -1,5 +1,5 @@
 -- The kind is the entry's.
-use Rattle.std.proofs.Common.{◌≡◌, ◌<◌, ◌∙◌, sym, ap, length, arith}
+use Rattle.std.proofs.Common.{◌∙◌, sym, ap, arith}
 use Rattle.iso_db.specs.Blocks.{Kept}
 use Rattle.iso_db.proofs.PlaceLemmas.{shown_within, kind-there}
 use Rattle.iso_db.proofs.db.Db.kind.Goals as goal

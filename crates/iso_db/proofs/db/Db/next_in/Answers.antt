@@ -1,5 +1,5 @@
 -- What a view gives can be read.
-use Rattle.std.proofs.Common.{◌≡◌, ◌∙◌, ap}
+use Rattle.std.proofs.Common.{◌∙◌, ap}
 use Rattle.std.specs.List.{slice_get}
 use Rattle.iso_db.specs.Kept.{pending}
 use Rattle.iso_db.proofs.ViewLemmas.{given-stand}

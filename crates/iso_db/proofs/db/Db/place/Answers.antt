@@ -1,5 +1,5 @@
 -- A known procedure has its place; a new one comes behind the others.
-use Rattle.std.proofs.Common.{◌≡◌, ◌<◌, ◌+◌, ◌∷◌, [], ◌++◌, ◌∙◌, ℕ, List, sym, ap, subst, length, arith, Some, None, true, false, true≢false, IsSome, is_some, is_ok}
+use Rattle.std.proofs.Common.{◌≡◌, ◌∷◌, [], ◌++◌, ◌∙◌, List, sym, ap, subst, length, arith, Some}
 use Rattle.std.proofs.lemmas.List.{length-append}
 use Rattle.std.proofs.lemmas.Grind.{common_steps}
 use Rattle.iso_db.specs.Keys.{Key, key, place_of}
@@ -10,7 +10,6 @@ use Rattle.iso_db.specs.Presents.{contents}
 use Rattle.iso_db.proofs.ListLemmas.{ok_then, err_then, not_none}
 use Rattle.iso_db.proofs.KeptLemmas.{length-shown, shown-new, place_of-within, place_of-new}
 use Rattle.iso_db.proofs.PlaceLemmas.{place_in-shown, with_procedure-known, with_procedure-new, IsKept-new, Giving-place}
-use Rattle.iso_db.proofs.db.Db.place.Given.{Over}
 use Rattle.iso_db.proofs.db.Db.place.Goals as goal
 
 pub returns-in-Some-clause-place : goal.returns-in-Some-clause-place

@@ -1,6 +1,5 @@
 -- The view begins with the block as it is.
-use Rattle.std.proofs.Common.{◌≡◌, ◌<◌, ◌≤◌, ◌+◌, ◌∙◌, ℕ, List, sym, ap, subst, length, arith, refl, true, false, not, is_some, Some, get_or}
-use Rattle.std.specs.List.{slice_get}
+use Rattle.std.proofs.Common.{◌≡◌, ◌+◌, ◌∙◌, List, sym, ap, subst, length, arith, not, is_some, get_or}
 use Rattle.std.proofs.lemmas.Option.{slice_get-get_or}
 use Rattle.iso_db.specs.Databases.{Clause, kind_at, clauses_at}
 use Rattle.iso_db.specs.Blocks.{Ids, Kept, block_of}
@@ -23,7 +22,7 @@ returns-then-is_none-clause-there g c =
     let entry = c.index-entry.result.now in
     let within = shown_within db.slots.items db.removals db.places db.entries.items c.args.place db.kept.same c.requires in
     let is : kind_at (contents db) c.args.place ≡ c.kind.result =
-        kind-there db.slots.items db.removals db.places db.entries.items c.args.place entry db.kept.same within ∙ ap (λ (e : Kept). e.kind) (sym c.index-entry.ensures) ∙ sym c.kind.ensures in
+    kind-there db.slots.items db.removals db.places db.entries.items c.args.place entry db.kept.same within ∙ ap (λ (e : Kept). e.kind) (sym c.index-entry.ensures) ∙ sym c.kind.ensures in
     sym (ap is_some is ∙ c.is_none.ensures ∙ ap not c.if-is_none.true)
 
 pub returns-clause-there : goal.returns-clause-there
@@ -32,7 +31,7 @@ returns-clause-there g c =
     let entry = c.index-entry.result.now in
     let within = shown_within db.slots.items db.removals db.places db.entries.items c.args.place db.kept.same c.requires in
     let is : kind_at (contents db) c.args.place ≡ c.kind.result =
-        kind-there db.slots.items db.removals db.places db.entries.items c.args.place entry db.kept.same within ∙ ap (λ (e : Kept). e.kind) (sym c.index-entry.ensures) ∙ sym c.kind.ensures in
+    kind-there db.slots.items db.removals db.places db.entries.items c.args.place entry db.kept.same within ∙ ap (λ (e : Kept). e.kind) (sym c.index-entry.ensures) ∙ sym c.kind.ensures in
     sym (ap is_some is ∙ c.is_none.ensures ∙ ap not c.if-is_none.false)
 
 pub returns-clause-gives : goal.returns-clause-gives

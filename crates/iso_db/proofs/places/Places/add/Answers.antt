@@ -1,5 +1,5 @@
 -- The name gets its number, then the key its place.
-use Rattle.std.proofs.Common.{◌≡◌, sym, ap, ◌∙◌, true, false, subst, ◌++◌, ◌∷◌, [], length}
+use Rattle.std.proofs.Common.{sym, ap, ◌∙◌, subst, ◌++◌, ◌∷◌, []}
 use Rattle.std.proofs.lemmas.Result.{err_from_is_err_and}
 use Rattle.iso_db.specs.Keys.{key}
 use Rattle.iso_db.specs.Indexes.{IsIndex, keys_of}
@@ -18,8 +18,8 @@ pub invariant_of-self-in_err-put : goal.invariant_of-self-in_err-put
 invariant_of-self-in_err-put c =
     let names = c.numbered.new.names.keys in
     let kept : IsIndex names c.put.new.rows.items c.self.inside.keys.items =
-        IsIndex-kept _ _ _ _ _ c.self.invariant c.numbered.ensures.kept (c.put.ensures.rows ∙ c.numbered.ensures.rows)
-        (λ text arity. found-same names c.numbered.new.rows.items c.put.new.rows.items c.in_err-put.ensures.unchanged text arity ∙ c.numbered.ensures.found text arity) in
+    IsIndex-kept _ _ _ _ _ c.self.invariant c.numbered.ensures.kept (c.put.ensures.rows ∙ c.numbered.ensures.rows)
+    (λ text arity. found-same names c.numbered.new.rows.items c.put.new.rows.items c.in_err-put.ensures.unchanged text arity ∙ c.numbered.ensures.found text arity) in
     subst (IsIndex names c.put.new.rows.items) (sym c.in_err-put.ensures.same) kept
 
 pub returns-in_err-put-clause-unchanged : goal.returns-in_err-put-clause-unchanged
@@ -31,7 +31,7 @@ pub invariant_of-self-2 : goal.invariant_of-self-2
 invariant_of-self-2 c =
     let names = c.numbered.new.names.keys in
     let kept : IsIndex names c.numbered.new.rows.items c.self.inside.keys.items =
-        IsIndex-kept _ _ _ _ _ c.self.invariant c.numbered.ensures.kept c.numbered.ensures.rows c.numbered.ensures.found in
+    IsIndex-kept _ _ _ _ _ c.self.invariant c.numbered.ensures.kept c.numbered.ensures.rows c.numbered.ensures.found in
     subst (IsIndex names c.put.new.rows.items) (sym c.in_ok-put.ensures.keys)
     (IsIndex-put _ _ _ _ c.args.name.now c.in_ok-index.index c.args.arity kept c.in_ok-index.ensures.index c.put.ensures.rows c.in_ok-put.ensures.row)
 

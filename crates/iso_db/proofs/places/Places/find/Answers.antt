@@ -1,7 +1,7 @@
 -- A key is found by its name's number.
-use Rattle.std.proofs.Common.{◌≡◌, ◌<◌, sym, ap, ◌∙◌, subst, length, arith, Some}
+use Rattle.std.proofs.Common.{◌≡◌, ◌<◌, sym, ap, ◌∙◌, length, arith, Some}
 use Rattle.iso_db.specs.Keys.{place_of}
-use Rattle.iso_db.specs.Indexes.{index_of, place_in, row_at}
+use Rattle.iso_db.specs.Indexes.{index_of, place_in}
 use Rattle.iso_db.proofs.IndexLemmas.{index_of-position, index_of-text, found-absent, found_at, row_at-get_or}
 use Rattle.iso_db.proofs.places.Places.find.Goals as goal
 
