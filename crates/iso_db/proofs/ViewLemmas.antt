@@ -1,7 +1,7 @@
 -- Going through the numbers of a view.
 use Rattle.std.proofs.Common.{◌≡◌, ℕ, zero, suc, ◌<◌, ◌≤◌, ◌+◌, Bool, true, false, List, [], ◌∷◌, ◌++◌, length, get_or, take, drop, reverse, Option, Some, None, is_some, option_map, refl, sym, ap, ◌∙◌, subst, true≢false, arith, if◌then◌else◌}
 use Rattle.std.specs.List.{slice_get, cons_option, All}
-use Rattle.std.specs.Option.{option_and_then}
+use Rattle.std.specs.Option.{option_and_then, IfSome}
 use Rattle.std.proofs.lemmas.Option.{none-some, same_Some}
 use Rattle.std.proofs.lemmas.List.{drop_more, length-take, length-append, length-reverse, take_all, get_or_past, take-append-drop}
 use Rattle.std.proofs.lemmas.List.Elements.{filter_map-append}
@@ -10,7 +10,7 @@ use Rattle.iso_db.specs.Blocks.{Ids, Kept, ids, ids_from, block_of}
 use Rattle.iso_db.specs.Kept.{older_of, block_in, Trimmed, Giving}
 use Rattle.iso_db.specs.declared.slots.Slot.{Slot}
 use Rattle.iso_db.specs.Slots.{lives, given_by, clause_at, value_at, given}
-use Rattle.iso_db.specs.Stepping.{Steps}
+use Rattle.iso_db.specs.Stepping.{Steps, first_number}
 
 pub length-ids_from : (b : Ids) (outer : ℕ) → outer ≤ length b.front → length (ids_from b outer) ≡ outer + length b.back
 length-ids_from b outer h = omega (arith, length-append (reverse (take outer b.front)) b.back, length-reverse (take outer b.front), length-take outer b.front)
@@ -113,3 +113,8 @@ module _ {C : Type 0} where
       behind_dead : given slots r (ids e.current) ≡ given slots r (drop e.first (ids e.current))
       behind_dead = ap (given slots r) (sym (take-append-drop e.first (ids e.current))) ∙ filter_map-append (clause_at slots r) (take e.first (ids e.current)) (drop e.first (ids e.current))
           ∙ ap (λ cs. cs ++ given slots r (drop e.first (ids e.current))) (given-dead slots r (take e.first (ids e.current)) trimmed.dead)
+
+  -- the first of the clauses can be read
+  pub first-stands : (slots : List (Slot C)) (cs : List (Clause C)) (number : Option ℕ) → number ≡ first_number cs → ((k : ℕ) (c : Clause C) → slice_get cs k ≡ Some c → value_at slots c.number ≡ Some c.value) → IfSome number (λ n. (value : C) × (value_at slots n ≡ Some value))
+  first-stands slots [] number is each = subst (λ o. IfSome o (λ n. (value : C) × (value_at slots n ≡ Some value))) (sym is) tt
+  first-stands slots (c ∷ cs) number is each = subst (λ o. IfSome o (λ n. (value : C) × (value_at slots n ≡ Some value))) (sym is) (c.value, each 0 c refl)

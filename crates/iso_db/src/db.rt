@@ -1,5 +1,5 @@
 //! The database: procedures with their clauses, and views of them.
-ghost use Rattle.std.specs.Prelude.{◌≡◌, ◌<◌, ◌≤◌, ◌+◌, ◌++◌, ◌∷◌, [], ℕ, List, Some, None, length, slice_set, slice_index_or, IfOk, IfErr, OnOk, OnErr, IsSome, IsOk, is_ok, is_some, ◌↔◌};
+ghost use Rattle.std.specs.Prelude.{◌≡◌, ◌<◌, ◌≤◌, ◌+◌, ◌++◌, ◌∷◌, [], ℕ, List, Some, None, length, slice_set, slice_index_or, IfOk, IfErr, IfSome, OnOk, OnErr, IsSome, IsOk, is_ok, is_some, ◌↔◌};
 ghost use Rattle.std.proofs.Props.{props};
 ghost use Rattle.iso_db.specs.Blocks.{nothing_kept, pushed};
 ghost use Rattle.iso_db.specs.Keys.{Key};
@@ -150,6 +150,8 @@ impl<C: Drop> Db<C> {
         ensures first { (cs : List (Clause C)) → Gives self.now view.old cs → result ≡ first_number cs }
         ensures rest { (cs : List (Clause C)) → Gives self.now view.old cs → Gives self.now view.new (behind cs) }
         ensures stand { (cs : List (Clause C)) → Gives self.now view.old cs → EachStands self.now cs }
+        ensures there { IfSome result (λ id. (value : C) × Stands self.now id value) }
+        ensures goes_on { (cs : List (Clause C)) × Gives self.now view.new cs }
     {
         let block = self.entries[view.procedure].block(view.block);
         let (clause, next) = step(self.slots.as_slice(), block, *view);
