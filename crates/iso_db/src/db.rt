@@ -11,7 +11,7 @@ use super::ids::ClauseId;
 use super::kinds::{DbFault, Kind};
 use super::places::Places;
 use super::slots::{Slot, kill, kill_all};
-use super::tidy::{forget_blocks, forget_values, tidy};
+use super::tidy::{forget_blocks, forget_values, tidy, trim};
 use super::views::{View, step};
 use std::alloc::{AllocError, Global};
 
@@ -281,12 +281,18 @@ impl<C: Drop> Db<C> {
         ensures views { KeepsViews self.old self.new }
         ensures clauses { KeepsClauses self.old self.new }
     {
-        if let Some(Kind::Static) = self.kind(place) {
+        if matches!(self.kind(place), Some(Kind::Static)) {
             return Err(DbFault::Static);
         }
         let entry = &mut self.entries[place];
         kill_all(&mut self.slots, &mut self.removals, entry.current());
         entry.set_kind(None);
+        trim(
+            &mut self.entries,
+            self.slots.as_slice(),
+            self.removals,
+            place,
+        );
         Ok(())
     }
 
