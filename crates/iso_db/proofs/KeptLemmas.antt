@@ -1,0 +1,158 @@
+-- What is shown of the database as it is kept.
+use Rattle.std.proofs.Common.{◌≡◌, ℕ, zero, suc, ◌<◌, ◌≤◌, ◌-◌, true, false, ◌&&◌, ◌==◌, List, [], ◌∷◌, ◌++◌, length, get_or, set, map, take, reverse, Option, Some, None, is_some, option_map, refl, sym, ap, ◌∙◌, subst, arith, eq-eqb, if◌then◌else◌}
+use Rattle.std.specs.List.{slice_get, filter_map, cons_option, All}
+use Rattle.std.specs.Option.{option_and_then, option_or}
+use Rattle.std.proofs.lemmas.Option.{none-some, same_Some, slice_get_within}
+use Rattle.std.proofs.lemmas.List.{append_assoc, reverse-append, length-reverse, get_or-reverse, length-take, get_or-take}
+use Rattle.std.proofs.lemmas.List.Elements.{All-append, All-take}
+use Rattle.std.proofs.lemmas.Slice.Eq.{bytes_eq-Decides}
+use Rattle.iso_db.proofs.IndexLemmas.{place_of-push}
+use Rattle.iso_db.specs.Keys.{Key, key, is_key, place_of}
+use Rattle.iso_db.specs.Databases.{Clause, Procedure, at_place, clauses_of}
+use Rattle.iso_db.specs.Blocks.{Ids, Kept, no_ids, ids, ids_from, grown, nothing_kept}
+use Rattle.iso_db.specs.declared.kinds.Kind.{Kind}
+use Rattle.iso_db.specs.declared.blocks.Side.TheVariants.{First, Last}
+use Rattle.iso_db.specs.declared.slots.Slot.{Slot}
+use Rattle.iso_db.specs.Slots.{clause_at, procedure_at, given}
+use Rattle.iso_db.specs.Kept.{shown_by, shown, Owns, Trimmed}
+
+-- the place of a key is one of the list's
+place_deeper : (n place : ℕ) (o : Option ℕ) → ((q : ℕ) → o ≡ Some q → q < n) → option_map suc o ≡ Some place → place < suc n
+place_deeper n place None rest e = absurd (none-some place e)
+place_deeper n place (Some q) rest e = omega (arith, rest q refl, same_Some (suc q) place e)
+
+pub place_of-within : (ks : List Key) (name : List ℕ) (arity place : ℕ) → place_of ks name arity ≡ Some place → place < length ks
+place_of-within [] name arity place h = absurd (none-some place h)
+place_of-within (k ∷ ks) name arity place h =
+    elim (is_key name arity k) as (λ b. (if b then Some 0 else option_map suc (place_of ks name arity)) ≡ Some place → place < suc (length ks)) [
+      | true ↦ λ e. omega (arith, same_Some 0 place e)
+      | false ↦ λ e. place_deeper (length ks) place (place_of ks name arity) (place_of-within ks name arity) e
+    ] h
+
+-- what is kept at a place
+abbrev pub kind_of : Option Kept → Option Kind
+kind_of None = None
+kind_of (Some e) = e.kind
+
+abbrev pub current_of : Option Kept → Ids
+current_of None = no_ids
+current_of (Some e) = e.current
+
+-- what holds of each number holds of each in the other order
+pub All-reverse : (P : ℕ → Type 0) (ns : List ℕ) → All P ns → All P (reverse ns)
+All-reverse P ns all k d h =
+    let within : k < length ns = omega (arith, length-reverse ns) in
+    subst P (sym (get_or-reverse ns k d within)) (all (length ns - 1 - k) d (omega arith))
+
+-- the numbers with one more
+pub ids-first : (n : ℕ) (b : Ids) → ids (grown First n b) ≡ n ∷ ids b
+ids-first n b = ap (λ ns. ns ++ b.back) (reverse-append b.front (n ∷ []))
+
+pub ids-last : (n : ℕ) (b : Ids) → ids (grown Last n b) ≡ ids b ++ n ∷ []
+ids-last n b = sym (append_assoc (reverse b.front) b.back (n ∷ []))
+
+module _ {C : Type 0} where
+  pub length-shown : (slots : List (Slot C)) (r : ℕ) (keys : List Key) (entries : List Kept) → length keys ≡ length entries → length (shown slots r keys entries) ≡ length entries
+  length-shown slots r [] [] same = refl
+  length-shown slots r [] (e ∷ es) same = absurd (omega arith)
+  length-shown slots r (k ∷ ks) [] same = absurd (omega arith)
+  length-shown slots r (k ∷ ks) (e ∷ es) same = omega (arith, length-shown slots r ks es (omega arith))
+
+  pub keys-shown : (slots : List (Slot C)) (r : ℕ) (keys : List Key) (entries : List Kept) → length keys ≡ length entries → map (λ (p : Procedure C). p.key) (shown slots r keys entries) ≡ keys
+  keys-shown slots r [] [] same = refl
+  keys-shown slots r [] (e ∷ es) same = absurd (omega arith)
+  keys-shown slots r (k ∷ ks) [] same = absurd (omega arith)
+  keys-shown slots r (k ∷ ks) (e ∷ es) same = ap (λ rest. k ∷ rest) (keys-shown slots r ks es (omega arith))
+
+  pub kind-shown : (slots : List (Slot C)) (r : ℕ) (keys : List Key) (entries : List Kept) (place : ℕ) → length keys ≡ length entries
+      → option_and_then (λ (p : Procedure C). p.kind) (slice_get (shown slots r keys entries) place) ≡ kind_of (slice_get entries place)
+  kind-shown slots r [] [] place same = refl
+  kind-shown slots r [] (e ∷ es) place same = absurd (omega arith)
+  kind-shown slots r (k ∷ ks) [] place same = absurd (omega arith)
+  kind-shown slots r (k ∷ ks) (e ∷ es) zero same = refl
+  kind-shown slots r (k ∷ ks) (e ∷ es) (suc place) same = kind-shown slots r ks es place (omega arith)
+
+  pub clauses-shown : (slots : List (Slot C)) (r : ℕ) (keys : List Key) (entries : List Kept) (place : ℕ) → length keys ≡ length entries
+      → clauses_of (slice_get (shown slots r keys entries) place) ≡ given slots r (ids (current_of (slice_get entries place)))
+  clauses-shown slots r [] [] place same = refl
+  clauses-shown slots r [] (e ∷ es) place same = absurd (omega arith)
+  clauses-shown slots r (k ∷ ks) [] place same = absurd (omega arith)
+  clauses-shown slots r (k ∷ ks) (e ∷ es) zero same = refl
+  clauses-shown slots r (k ∷ ks) (e ∷ es) (suc place) same = clauses-shown slots r ks es place (omega arith)
+
+  -- one entry written over
+  pub shown-set : (slots : List (Slot C)) (r : ℕ) (keys : List Key) (entries : List Kept) (place : ℕ) (change : Procedure C → Procedure C) (e d : Kept) → length keys ≡ length entries
+      → ((k : Key) → shown_by slots r k e ≡ change (shown_by slots r k (get_or entries place d))) → shown slots r keys (set entries place e) ≡ at_place place change (shown slots r keys entries)
+  shown-set slots r [] [] place change e d same is = refl
+  shown-set slots r [] (x ∷ xs) place change e d same is = absurd (omega arith)
+  shown-set slots r (k ∷ ks) [] place change e d same is = absurd (omega arith)
+  shown-set slots r (k ∷ ks) (x ∷ xs) zero change e d same is = ap (λ p. p ∷ shown slots r ks xs) (is k)
+  shown-set slots r (k ∷ ks) (x ∷ xs) (suc place) change e d same is = ap (λ ps. shown_by slots r k x ∷ ps) (shown-set slots r ks xs place change e d (omega arith) is)
+
+  -- slots that give the same clauses
+  pub shown-same : (slots more : List (Slot C)) (r q : ℕ) (keys : List Key) (entries : List Kept) → ((p : ℕ) (e : Kept) → slice_get entries p ≡ Some e → given more q (ids e.current) ≡ given slots r (ids e.current))
+      → shown more q keys entries ≡ shown slots r keys entries
+  shown-same slots more r q [] entries is = refl
+  shown-same slots more r q (k ∷ ks) [] is = refl
+  shown-same slots more r q (k ∷ ks) (e ∷ es) is =
+      ap (λ cs. let p : Procedure C = record { key = k; kind = e.kind; clauses = cs } in p ∷ shown more q ks es) (is 0 e refl)
+      ∙ ap (λ ps. shown_by slots r k e ∷ ps) (shown-same slots more r q ks es (λ p d at. is (suc p) d at))
+
+  -- one absent procedure behind the others
+  pub shown-new : (slots : List (Slot C)) (r : ℕ) (keys : List Key) (entries : List Kept) (k : Key) → length keys ≡ length entries
+      → shown slots r (keys ++ k ∷ []) (entries ++ nothing_kept ∷ []) ≡ shown slots r keys entries ++ record { key = k; kind = None; clauses = [] } ∷ []
+  shown-new slots r [] [] k same = refl
+  shown-new slots r [] (e ∷ es) k same = absurd (omega arith)
+  shown-new slots r (q ∷ qs) [] k same = absurd (omega arith)
+  shown-new slots r (q ∷ qs) (e ∷ es) k same = ap (λ ps. shown_by slots r q e ∷ ps) (shown-new slots r qs es k (omega arith))
+
+  -- two lists of numbers of which the clauses are the same
+  pub filter_map-agree : (f g : ℕ → Option (Clause C)) (ns : List ℕ) → All (λ n. f n ≡ g n) ns → filter_map f ns ≡ filter_map g ns
+  filter_map-agree f g [] all = refl
+  filter_map-agree f g (n ∷ ns) all =
+      ap (λ o. cons_option o (filter_map f ns)) (all 0 n (omega arith))
+      ∙ ap (λ cs. cons_option (g n) cs) (filter_map-agree f g ns (λ k d h. all (suc k) d (omega arith)))
+
+  -- numbers of a procedure's clauses are those of slots
+  pub procedure_there : (slots : List (Slot C)) (n place : ℕ) → procedure_at slots n ≡ Some place → n < length slots
+  procedure_there slots n place h = of (slice_get slots n) refl h
+    where
+      of : (o : Option (Slot C)) → slice_get slots n ≡ o → option_map (λ (s : Slot C). s.procedure) o ≡ Some place → n < length slots
+      of None at e = absurd (none-some place e)
+      of (Some s) at e = slice_get_within slots n s at
+
+  pub Owns-ids : (slots : List (Slot C)) (place : ℕ) (b : Ids) → Owns slots place b → All (λ n. procedure_at slots n ≡ Some place) (ids b)
+  Owns-ids slots place b owns = All-append (λ n. procedure_at slots n ≡ Some place) (reverse b.front) b.back (All-reverse (λ n. procedure_at slots n ≡ Some place) b.front owns.front) owns.back
+
+  pub Owns-ids_from : (slots : List (Slot C)) (place : ℕ) (b : Ids) (outer : ℕ) → Owns slots place b → All (λ n. procedure_at slots n ≡ Some place) (ids_from b outer)
+  Owns-ids_from slots place b outer owns =
+      All-append (λ n. procedure_at slots n ≡ Some place) (reverse (take outer b.front)) b.back
+      (All-reverse (λ n. procedure_at slots n ≡ Some place) (take outer b.front) (All-take (λ n. procedure_at slots n ≡ Some place) outer b.front owns.front)) owns.back
+
+  pub Owns-more : (slots more : List (Slot C)) (place : ℕ) (b : Ids) → ((n p : ℕ) → procedure_at slots n ≡ Some p → procedure_at more n ≡ Some p) → Owns slots place b → Owns more place b
+  Owns-more slots more place b kept owns = record {
+    front = λ k d h. kept (get_or b.front k d) place (owns.front k d h);
+    back = λ k d h. kept (get_or b.back k d) place (owns.back k d h);
+  }
+
+-- a key that was new is found last
+pub place_of-new : (ks : List Key) (name : List ℕ) (arity : ℕ) → place_of ks name arity ≡ None → place_of (ks ++ key name arity ∷ []) name arity ≡ Some (length ks)
+place_of-new ks name arity absent =
+    place_of-push ks (key name arity) name arity ∙ ap (λ o. option_or o (if is_key name arity (key name arity) then Some (length ks) else None)) absent
+    ∙ ap (λ b. if b then Some (length ks) else None) here
+  where
+    here : is_key name arity (key name arity) ≡ true
+    here = ap (λ b. b && (arity == arity)) ((bytes_eq-Decides name name).1 refl) ∙ eq-eqb arity arity refl
+
+module _ {C : Type 0} where
+  -- what was removed stays so where no clause comes back
+  pub Trimmed-more : (slots more : List (Slot C)) (r q : ℕ) (e : Kept) → (All (λ n. is_some (clause_at slots r n) ≡ false → is_some (clause_at more q n) ≡ false) (ids e.current)) → Trimmed slots r e → Trimmed more q e
+  Trimmed-more slots more r q e stays trimmed = record {
+    within = trimmed.within;
+    dead = λ k d h.
+        (let size : length (take e.first (ids e.current)) ≤ length (ids e.current) = omega (arith, length-take e.first (ids e.current)) in
+        let short : length (take e.first (ids e.current)) ≤ e.first = omega (arith, length-take e.first (ids e.current)) in
+        let same : get_or (take e.first (ids e.current)) k d ≡ get_or (ids e.current) k d = get_or-take e.first (ids e.current) k d (omega arith) in
+        let was : is_some (clause_at slots r (get_or (ids e.current) k d)) ≡ false = ap (λ n. is_some (clause_at slots r n)) (sym same) ∙ trimmed.dead k d h in
+        ap (λ n. is_some (clause_at more q n)) same ∙ stays k d (omega arith) was);
+  }

@@ -1,0 +1,12 @@
+pub mod IndexLemmas
+pub mod ListLemmas
+pub mod SlotLemmas
+pub mod ViewLemmas
+pub mod KeptLemmas
+pub mod AddLemmas
+pub mod GivingLemmas
+pub mod RemoveLemmas
+pub mod PlaceLemmas
+pub mod ClearLemmas
+pub mod TidyLemmas
+pub mod ForgetLemmas

@@ -1,0 +1,30 @@
+-- Neither the older blocks nor the values of removed clauses are seen.
+use Rattle.std.proofs.Common.{◌≡◌, ◌∙◌, ℕ, List, sym, ap, subst, length}
+use Rattle.std.proofs.lemmas.List.{length-map}
+use Rattle.iso_db.specs.Databases.{Procedure, Database}
+use Rattle.iso_db.specs.Blocks.{forgotten}
+use Rattle.iso_db.specs.Kept.{IsKept, shown}
+use Rattle.iso_db.proofs.ForgetLemmas.{IsKept-forgotten, IsKept-cleaned, shown-forgotten, shown-cleaned, shown-stand}
+use Rattle.iso_db.proofs.db.Db.forget_views.Goals as goal
+
+pub invariant_of-self : goal.invariant_of-self
+invariant_of-self g c =
+    let db = c.args.self.now in
+    record {
+      kept = IsKept-cleaned db.slots.items c.forget_values.new.slots.items db.removals db.places c.forget_blocks.new.entries.items
+          (subst (IsKept db.slots.items db.removals db.places) (sym c.forget_blocks.ensures) (IsKept-forgotten db.slots.items db.removals db.places db.entries.items db.kept)) c.forget_values.ensures;
+    }
+
+pub returns-clause-contents : goal.returns-clause-contents
+returns-clause-contents g c =
+    let db = c.args.self.now in
+    ap (λ (ps : List (Procedure g.row.C.Denot)). let d : Database g.row.C.Denot = record { procedures = ps; added = length c.forget_values.new.slots.items } in d)
+    (shown-cleaned db.slots.items c.forget_values.new.slots.items db.removals db.places c.forget_blocks.new.entries.items c.forget_values.ensures
+    ∙ ap (shown db.slots.items db.removals db.places) c.forget_blocks.ensures ∙ shown-forgotten db.slots.items db.removals db.places db.entries.items)
+    ∙ ap (λ (n : ℕ). let d : Database g.row.C.Denot = record { procedures = shown db.slots.items db.removals db.places db.entries.items; added = n } in d) c.forget_values.ensures.size
+
+pub returns-clause-clauses : goal.returns-clause-clauses
+returns-clause-clauses g c =
+    let db = c.args.self.now in
+    let same : length db.places ≡ length c.forget_blocks.new.entries.items = db.kept.same ∙ sym (ap length c.forget_blocks.ensures ∙ length-map db.entries.items forgotten) in
+    λ place k d at. shown-stand c.forget_values.new.slots.items db.removals db.places c.forget_blocks.new.entries.items same place k d at

@@ -1,0 +1,93 @@
+-- A known procedure has its place; a new one comes behind the others.
+use Rattle.std.proofs.Common.{◌≡◌, ◌∷◌, [], ◌++◌, ◌∙◌, List, sym, ap, subst, length, arith, Some}
+use Rattle.std.proofs.lemmas.List.{length-append}
+use Rattle.std.proofs.lemmas.Grind.{common_steps}
+use Rattle.iso_db.specs.Keys.{Key, key, place_of}
+use Rattle.iso_db.specs.Databases.{Procedure, Database, place_in}
+use Rattle.iso_db.specs.Blocks.{Kept, nothing_kept}
+use Rattle.iso_db.specs.Kept.{IsKept, Giving, shown}
+use Rattle.iso_db.specs.Presents.{contents}
+use Rattle.iso_db.proofs.ListLemmas.{ok_then, err_then, not_none}
+use Rattle.iso_db.proofs.KeptLemmas.{length-shown, shown-new, place_of-within, place_of-new}
+use Rattle.iso_db.proofs.PlaceLemmas.{place_in-shown, with_procedure-known, with_procedure-new, IsKept-new, Giving-place}
+use Rattle.iso_db.proofs.db.Db.place.Goals as goal
+
+pub returns-in-Some-clause-place : goal.returns-in-Some-clause-place
+returns-in-Some-clause-place g c =
+    let db = c.args.self.now in
+    place_in-shown db.slots.items db.removals db.places db.entries.items c.args.name.now c.args.arity db.kept.same ∙ sym c.find.ensures ∙ c.in-Some.is
+
+pub returns-in-Some-clause-within : goal.returns-in-Some-clause-within
+returns-in-Some-clause-within g c =
+    let db = c.args.self.now in
+    omega (arith, place_of-within db.places c.args.name.now c.args.arity c.in-Some.place (sym c.find.ensures ∙ c.in-Some.is), length-shown db.slots.items db.removals db.places db.entries.items db.kept.same, db.kept.same)
+
+pub returns-in-Some-clause-contents : goal.returns-in-Some-clause-contents
+returns-in-Some-clause-contents g c =
+    sym (with_procedure-known (contents c.args.self.now) c.args.name.now c.args.arity c.in-Some.place (returns-in-Some-clause-place g c))
+
+pub returns-in_err-push-clause-known : goal.returns-in_err-push-clause-known
+returns-in_err-push-clause-known g c =
+    let db = c.args.self.now in
+    not_none (place_in (contents db) c.args.name.now c.args.arity) (place_in-shown db.slots.items db.removals db.places db.entries.items c.args.name.now c.args.arity db.kept.same ∙ sym c.in_default.ensures)
+
+pub returns-then-is_err-clause-known : goal.returns-then-is_err-clause-known
+returns-then-is_err-clause-known g c =
+    let db = c.args.self.now in
+    not_none (place_in (contents db) c.args.name.now c.args.arity) (place_in-shown db.slots.items db.removals db.places db.entries.items c.args.name.now c.args.arity db.kept.same ∙ sym c.in_default.ensures)
+
+pub invariant_of-self-then-is_err : goal.invariant_of-self-then-is_err
+invariant_of-self-then-is_err g c =
+    let db = c.args.self.now in
+    let back : c.pop.new.self.items ≡ db.entries.items = grind (arith, common_steps, c.pop.ensures.rest, c.in_ok-push.ensures.items) in
+    let same : c.add.new.self ≡ db.places = err_then c.add.result (sym c.is_err.ensures.value ∙ c.if-is_err.true) c.add.ensures.unchanged in
+    record { kept = subst (λ (ks : List Key). IsKept db.slots.items db.removals ks c.pop.new.self.items) (sym same) (subst (IsKept db.slots.items db.removals db.places) (sym back) db.kept) }
+
+-- the entries and the keys with one more
+entries : (c' : List Kept) (old : List Kept) (e : Kept) → c' ≡ old ++ e ∷ [] → e ≡ nothing_kept → c' ≡ old ++ nothing_kept ∷ []
+entries c' old e is at = is ∙ ap (λ (x : Kept). old ++ x ∷ []) at
+
+pub invariant_of-self-else-is_err : goal.invariant_of-self-else-is_err
+invariant_of-self-else-is_err g c =
+    let db = c.args.self.now in
+    let k = key c.args.name.now c.args.arity in
+    let keys : c.add.new.self ≡ db.places ++ k ∷ [] = ok_then c.add.result (sym c.is_err.ensures.value ∙ c.if-is_err.false) c.add.ensures.added in
+    let more = entries c.push.new.self.items db.entries.items c.new.result c.in_ok-push.ensures.items c.new.ensures in
+    record { kept = subst (λ (ks : List Key). IsKept db.slots.items db.removals ks c.push.new.self.items) (sym keys) (subst (IsKept db.slots.items db.removals (db.places ++ k ∷ [])) (sym more) (IsKept-new db.slots.items db.removals db.places db.entries.items k db.kept)) }
+
+pub returns-clause-place : goal.returns-clause-place
+returns-clause-place g c =
+    let db = c.args.self.now in
+    let k = key c.args.name.now c.args.arity in
+    let keys : c.add.new.self ≡ db.places ++ k ∷ [] = ok_then c.add.result (sym c.is_err.ensures.value ∙ c.if-is_err.false) c.add.ensures.added in
+    let same : length c.add.new.self ≡ length c.push.new.self.items = omega (arith, db.kept.same, ap length keys, ap length c.in_ok-push.ensures.items, length-append db.places (k ∷ []), length-append db.entries.items (c.new.result ∷ [])) in
+    place_in-shown db.slots.items db.removals c.add.new.self c.push.new.self.items c.args.name.now c.args.arity same
+    ∙ ap (λ (ks : List Key). place_of ks c.args.name.now c.args.arity) keys
+    ∙ place_of-new db.places c.args.name.now c.args.arity (sym c.in_default.ensures)
+    ∙ ap Some (omega (arith, db.kept.same, c.len-place.ensures, db.entries.ok.0))
+
+pub returns-clause-within : goal.returns-clause-within
+returns-clause-within g c =
+    let db = c.args.self.now in
+    let k = key c.args.name.now c.args.arity in
+    let keys : c.add.new.self ≡ db.places ++ k ∷ [] = ok_then c.add.result (sym c.is_err.ensures.value ∙ c.if-is_err.false) c.add.ensures.added in
+    let same : length c.add.new.self ≡ length c.push.new.self.items = omega (arith, db.kept.same, ap length keys, ap length c.in_ok-push.ensures.items, length-append db.places (k ∷ []), length-append db.entries.items (c.new.result ∷ [])) in
+    omega (arith, length-shown db.slots.items db.removals c.add.new.self c.push.new.self.items same, ap length c.in_ok-push.ensures.items, length-append db.entries.items (c.new.result ∷ []), c.len-place.ensures, db.entries.ok.0)
+
+pub returns-clause-contents : goal.returns-clause-contents
+returns-clause-contents g c =
+    let db = c.args.self.now in
+    let k = key c.args.name.now c.args.arity in
+    let keys : c.add.new.self ≡ db.places ++ k ∷ [] = ok_then c.add.result (sym c.is_err.ensures.value ∙ c.if-is_err.false) c.add.ensures.added in
+    let more = entries c.push.new.self.items db.entries.items c.new.result c.in_ok-push.ensures.items c.new.ensures in
+    let absent = place_in-shown db.slots.items db.removals db.places db.entries.items c.args.name.now c.args.arity db.kept.same ∙ sym c.in_default.ensures in
+    ap (λ (ks : List Key). let d : Database g.row.C.Denot = record { procedures = shown db.slots.items db.removals ks c.push.new.self.items; added = length db.slots.items } in d) keys
+    ∙ ap (λ (es : List Kept). let d : Database g.row.C.Denot = record { procedures = shown db.slots.items db.removals (db.places ++ k ∷ []) es; added = length db.slots.items } in d) more
+    ∙ ap (λ (ps : List (Procedure g.row.C.Denot)). let d : Database g.row.C.Denot = record { procedures = ps; added = length db.slots.items } in d) (shown-new db.slots.items db.removals db.places db.entries.items k db.kept.same)
+    ∙ sym (with_procedure-new (contents db) c.args.name.now c.args.arity absent)
+
+pub returns-clause-views : goal.returns-clause-views
+returns-clause-views g c =
+    let db = c.args.self.now in
+    let more = entries c.push.new.self.items db.entries.items c.new.result c.in_ok-push.ensures.items c.new.ensures in
+    λ v cs gives. subst (λ (es : List Kept). Giving db.slots.items db.removals es v cs) (sym more) (Giving-place db.slots.items db.removals db.places db.entries.items db.kept v cs gives)

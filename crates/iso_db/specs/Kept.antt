@@ -1,0 +1,77 @@
+-- The database as it is kept: a slot for each clause that was ever added, and for each procedure the blocks of its clauses' numbers.
+use Rattle.std.specs.Prelude.{◌≡◌, ℕ, ◌≤◌, ◌+◌, Bool, true, false, ◌==◌, List, [], ◌∷◌, Option, Some, None, is_some, length, take, drop}
+use Rattle.std.specs.List.{slice_get, list_any, All}
+use Rattle.iso_db.specs.Keys.{Key}
+use Rattle.iso_db.specs.Databases.{Clause, Procedure}
+use Rattle.iso_db.specs.Blocks.{Ids, Kept, no_ids, ids, ids_from, block_of}
+use Rattle.iso_db.specs.Slots.{clause_at, procedure_at, given, IsCounted}
+use Rattle.iso_db.specs.declared.slots.Slot.{Slot}
+use Rattle.iso_db.specs.declared.views.View.{View}
+
+-- whether the procedure has the clause of this number in its block
+abbrev pub lists : Option Kept → ℕ → Bool
+lists None number = false
+lists (Some e) number = list_any (λ n. n == number) (ids e.current)
+
+-- the blocks that only views made before need
+abbrev pub older_of : Option Kept → List Ids
+older_of None = []
+older_of (Some e) = e.older
+
+-- the block of this number
+abbrev pub block_in : Option Kept → ℕ → Ids
+block_in None block = no_ids
+block_in (Some e) block = block_of e block
+
+-- the block of a view
+abbrev pub block_at : List Kept → View → Ids
+block_at entries v = block_in (slice_get entries v.procedure) v.block
+
+-- the numbers that a view has still to go through
+abbrev pub pending : List Kept → View → List ℕ
+pending entries v = drop v.next (take v.end (ids_from (block_at entries v) v.outer))
+
+module _ {C : Type 0} where
+  -- a procedure as it is kept
+  abbrev pub shown_by : List (Slot C) → ℕ → Key → Kept → Procedure C
+  shown_by slots removals k e = record { key = k; kind = e.kind; clauses = given slots removals (ids e.current) }
+
+  -- the procedures as they are kept
+  abbrev pub shown : List (Slot C) → ℕ → List Key → List Kept → List (Procedure C)
+  shown slots removals [] entries = []
+  shown slots removals (k ∷ ks) [] = []
+  shown slots removals (k ∷ ks) (e ∷ es) = shown_by slots removals k e ∷ shown slots removals ks es
+
+  -- Each number of a block is that of a clause of the procedure at this place.
+  pub record Owns (slots : List (Slot C)) (place : ℕ) (b : Ids) : Type 0 where
+    pub front : All (λ n. procedure_at slots n ≡ Some place) b.front
+    pub back : All (λ n. procedure_at slots n ≡ Some place) b.back
+
+  -- New views pass over clauses alone that were removed.
+  pub record Trimmed (slots : List (Slot C)) (removals : ℕ) (e : Kept) : Type 0 where
+    pub within : e.first ≤ length e.current.front + length e.current.back
+    pub dead : All (λ n. is_some (clause_at slots removals n) ≡ false) (take e.first (ids e.current))
+
+  -- What holds of a database as it is kept.
+  pub record IsKept (slots : List (Slot C)) (removals : ℕ) (keys : List Key) (entries : List Kept) : Type 0 where
+    pub same : length keys ≡ length entries
+    pub counted : IsCounted slots removals
+    pub owned : (place : ℕ) (e : Kept) → slice_get entries place ≡ Some e → (block : ℕ) → block ≤ length e.older → Owns slots place (block_of e block)
+    pub trimmed : (place : ℕ) (e : Kept) → slice_get entries place ≡ Some e → Trimmed slots removals e
+    -- a clause that is there is in the block of its procedure
+    pub listed : (number place : ℕ) → is_some (clause_at slots removals number) ≡ true → procedure_at slots number ≡ Some place → lists (slice_get entries place) number ≡ true
+
+  -- A view gives the clauses, in this order.
+  pub record Giving (slots : List (Slot C)) (removals : ℕ) (entries : List Kept) (v : View) (cs : List (Clause C)) : Type 0 where
+    pub procedure : is_some (slice_get entries v.procedure) ≡ true
+    pub block : v.block ≤ length (older_of (slice_get entries v.procedure))
+    pub outer : v.outer ≤ length (block_at entries v).front
+    pub end : v.end ≤ v.outer + length (block_at entries v).back
+    pub made : v.made ≤ removals
+    pub clauses : given slots v.made (pending entries v) ≡ cs
+
+  -- What is kept of the procedures becomes handier, and nothing can be told from it.
+  pub record Tidies (slots : List (Slot C)) (removals : ℕ) (entries others : List Kept) : Type 0 where
+    pub kept : (keys : List Key) → IsKept slots removals keys entries → IsKept slots removals keys others
+    pub shows : (keys : List Key) → IsKept slots removals keys entries → shown slots removals keys others ≡ shown slots removals keys entries
+    pub gives : (keys : List Key) → IsKept slots removals keys entries → (v : View) (cs : List (Clause C)) → Giving slots removals entries v cs → Giving slots removals others v cs
