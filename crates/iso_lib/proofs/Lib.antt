@@ -3,3 +3,4 @@ pub mod ListLemmas
 pub mod MergeLemmas
 pub mod CheckLemmas
 pub mod PartLemmas
+mod SettlementLemmas

@@ -1,5 +1,5 @@
 -- Lists in a store.
-use Rattle.std.specs.Prelude.{◌≡◌, ℕ, List, [], ◌∷◌, Bool, true, false, map, MatchOption, Option, Some, None}
+use Rattle.std.specs.Prelude.{◌≡◌, List, [], ◌∷◌, true, false, map, Option, Some, None}
 use Rattle.iso_model.specs.Terms.Trees.{Tree, Apply, row}
 use Rattle.iso_model.specs.Terms.Lists.{dot, is_pair, list_of}
 use Rattle.iso_store_core.specs.Presents.{Present, Holds, meaning, KeepsWords}

@@ -130,21 +130,34 @@ pub fn unknown_procedure(alloc: Global, name: &str, arity: usize) -> Result<Ball
     error(alloc, what, place)
 }
 
+/// `permission_error(operation, kind, culprit)`, raised by this procedure (7.12.2 e).
+pub fn not_permitted(
+    alloc: Global,
+    operation: &str,
+    kind: &str,
+    culprit: Term,
+    name: &str,
+    arity: usize,
+) -> Result<Ball, AllocError>
+    requires { arity < 256 }
+    ensures { IfOk result (λ b. term_of b.term ≡ errors.not_permitted operation.now kind.now (term_of culprit) (key name.now arity)) }
+{
+    let mut arguments = Vec::with_capacity(alloc, 3)?;
+    arguments.push(atom(alloc, operation)?)?;
+    arguments.push(atom(alloc, kind)?)?;
+    arguments.push(culprit)?;
+    let what = Term::Compound(String::from_str(alloc, "permission_error")?, arguments);
+    let place = indicator(alloc, name, arity)?;
+    error(alloc, what, place)
+}
+
 /// `permission_error(modify, static_procedure, PI)`, raised by `consult/1` (7.12.2 e).
 pub fn static_procedure(alloc: Global, name: &str, arity: usize) -> Result<Ball, AllocError>
     requires { arity < 256 }
     ensures { IfOk result (λ b. term_of b.term ≡ errors.permission_error (key name.now arity) consult_key) }
 {
-    let mut arguments = Vec::with_capacity(alloc, 3)?;
-    let operation = atom(alloc, "modify")?;
-    arguments.push(operation)?;
-    let kind = atom(alloc, "static_procedure")?;
-    arguments.push(kind)?;
     let culprit = indicator(alloc, name, arity)?;
-    arguments.push(culprit)?;
-    let what = Term::Compound(String::from_str(alloc, "permission_error")?, arguments);
-    let place = indicator(alloc, "consult", 1)?;
-    error(alloc, what, place)
+    not_permitted(alloc, "modify", "static_procedure", culprit, "consult", 1)
 }
 
 /// `kind(what)`, raised by this procedure.

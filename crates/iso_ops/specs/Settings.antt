@@ -1,5 +1,6 @@
 -- Flags (ISO/IEC 13211-1:1995, 7.11), in this project's profile.
 use Rattle.std.specs.Prelude.{ℕ, ℤ, pos, negsuc, List, [], ◌∷◌, Option, None, codes, if◌then◌else◌}
+use Rattle.std.specs.Borrow.{Bor}
 use Rattle.std.specs.List.{find}
 use Rattle.std.specs.Map.{lookup}
 use Rattle.std.specs.Option.{option_map}
@@ -21,6 +22,10 @@ pub data FlagTerm : Type 0 where
 abbrev pub term_of_value : FlagValue → FlagTerm
 term_of_value (Int value) = FlagInteger value
 term_of_value (Word text) = FlagAtom text.now
+
+-- a flag with its value, as Rust has both
+abbrev pub entry_of_flag : Bor (List ℕ) × FlagValue → List ℕ × FlagTerm
+entry_of_flag e = (e.0.now, term_of_value e.1)
 
 -- how the values of `double_quotes` are written
 abbrev pub quotes_text : DoubleQuotes → List ℕ

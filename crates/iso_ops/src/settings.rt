@@ -1,7 +1,7 @@
 //! Flags (7.11).
-ghost use Rattle.std.specs.Prelude.{◌≡◌, true, false, MatchOption};
+ghost use Rattle.std.specs.Prelude.{◌≡◌, true, false, map, MatchOption};
 ghost use Rattle.std.specs.Option.{option_map};
-ghost use Rattle.iso_ops.specs.Settings.{initial_flags, flag_value, term_of_value, with_flag, quotes_named, quotes_text, unknown_named, unknown_text};
+ghost use Rattle.iso_ops.specs.Settings.{initial_flags, flag_entries, entry_of_flag, flag_value, term_of_value, with_flag, quotes_named, quotes_text, unknown_named, unknown_text};
 
 /// What a double quoted item stands for (the flag `double_quotes`, 7.11.2.5).
 #[derive(Clone, Copy, Debug, PartialEq, Eq)]
@@ -114,6 +114,21 @@ impl Flags {
             "unknown" => Some(FlagValue::Word(self.unknown.text())),
             _ => None,
         }
+    }
+
+    /// Each flag with its value, in the order of `current_prolog_flag/2`.
+    pub fn entries(&self) -> [(&'static str, FlagValue); 7]
+        ensures { map entry_of_flag result ≡ flag_entries self.now }
+    {
+        [
+            ("bounded", FlagValue::Word("true")),
+            ("max_integer", FlagValue::Int(i64::MAX)),
+            ("min_integer", FlagValue::Int(i64::MIN)),
+            ("integer_rounding_function", FlagValue::Word("toward_zero")),
+            ("max_arity", FlagValue::Int(255)),
+            ("double_quotes", FlagValue::Word(self.double_quotes.text())),
+            ("unknown", FlagValue::Word(self.unknown.text())),
+        ]
     }
 
     /// Sets the flag `name` to `value`. The answer is false, and nothing changes, where there is no such flag, where it can't

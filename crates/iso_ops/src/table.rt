@@ -82,6 +82,17 @@ fn is_protected(name: &str) -> bool
     matches!(name, "," | "[]" | "{}" | "|")
 }
 
+// The same entries, in a list of their own. The error is that memory was refused.
+fn copied_entries(alloc: Global, entries: &[Entry]) -> Result<Vec<Entry>, AllocError>
+    ensures { IfOk result (λ copy. map operator_of copy.items ≡ map operator_of entries.now) }
+{
+    let mut copy = Vec::with_capacity(alloc, entries.len())?;
+    for entry in entries {
+        push_entry(&mut copy, entry.priority, entry.spec, entry.name.as_str())?;
+    }
+    Ok(copy)
+}
+
 // The place of the operator of this kind and name.
 fn place_of(entries: &[Entry], kind: Kind, name: &str) -> Option<usize>
     ensures { result ≡ position (λ entry. is_for kind name.now (operator_of entry)) entries.now }
@@ -218,6 +229,15 @@ impl OpTable {
             self.put(priority, spec, name)?;
         }
         Ok(())
+    }
+
+    /// The same operators, in a table of their own. The error is that memory was refused.
+    pub fn copied(&self, alloc: Global) -> Result<OpTable, AllocError>
+        ensures same { IfOk result (λ table. table ≡ self.now) }
+        ensures table { IsOpTable self.now }
+    {
+        let entries = copied_entries(alloc, self.entries.as_slice())?;
+        Ok(OpTable { entries })
     }
 
     /// What holds of every table, for those who prove by it. Takes no memory.

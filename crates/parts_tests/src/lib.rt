@@ -26,6 +26,8 @@ mod read;
 #[cfg(test)]
 mod read_texts;
 #[cfg(test)]
+mod settings;
+#[cfg(test)]
 mod sizes;
 #[cfg(test)]
 mod store;

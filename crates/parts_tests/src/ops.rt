@@ -148,3 +148,28 @@ fn specifiers_are_read_as_they_are_written(rt: HostRuntime) {
     }
     assert_eq!(rt; Spec::named("zfx"), None);
 }
+
+#[test]
+fn a_copied_table_is_one_of_its_own(rt: HostRuntime) -> Result<(), Fail> {
+    let table = initial_at_last(rt.alloc())?;
+    let mut copy = match table.copied(rt.alloc()) {
+        Ok(copy) => copy,
+        Err(NoMemory) => table.copied(rt.alloc())?,
+    };
+    assert_eq!(rt; set_at_last(&rt, &mut copy, 0, "xfx", "="), Ok(()));
+    assert_eq!(rt; copy.len(), 43);
+    assert_eq!(rt; copy.infix("="), None);
+    assert_eq!(rt; copy.infix("is"), Some((700, Spec::Xfx)));
+    assert_eq!(rt; table.len(), 44);
+    assert_eq!(rt; table.infix("="), Some((700, Spec::Xfx)));
+    Ok(())
+}
+
+#[test]
+fn flags_are_listed(rt: HostRuntime) {
+    let mut flags = Flags::initial();
+    assert!(rt; flags.set("unknown", "fail"));
+    for (name, value) in flags.entries() {
+        assert_eq!(rt; flags.get(name), Some(value));
+    }
+}

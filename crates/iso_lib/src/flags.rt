@@ -1,0 +1,169 @@
+//! Flags (8.17.1 and 8.17.2).
+ghost use Rattle.std.specs.Prelude.{◌≡◌, ◌≤◌, length, map, false, true, IfOk, OnErr, MatchOption};
+ghost use Rattle.std.specs.List.{All};
+ghost use Rattle.iso_ops.specs.Settings.{flag_entries, entry_of_flag};
+ghost use Rattle.iso_model.specs.Terms.Arguments.{arity};
+ghost use Rattle.iso_model.specs.Search.Settings.{setting_settled, named_flag_settled, flags_with, is_settable, may_be_flag, flag_row};
+ghost use Rattle.iso_model.specs.Search.Worlds.{World};
+ghost use Rattle.iso_model.specs.declared.library.Setting.TheVariants as row;
+ghost use Rattle.iso_store_core.specs.Presents.{Holds, meaning};
+ghost use Rattle.iso_lib.specs.Settlements.{IsSettled, OnOffers, OffersEach, offer_tree, with_settings};
+
+use super::errors;
+use super::operators::may_be_atom;
+use super::outcomes::Fault;
+use super::settings::{Constant, Offer, Settled};
+use super::types::is_unbound;
+use iso_model::NoMemory;
+use iso_ops::{FlagValue, Flags};
+use iso_store_core::{Shape, Store};
+use std::alloc::Global;
+
+/// Whether a flag of this name can be set.
+fn is_settable(name: &str) -> bool
+    ensures { result ≡ is_settable name.now }
+{
+    name == "double_quotes" || name == "unknown"
+}
+
+/// Sets the flag of this name, where it can have the value that the word stands for. The answer is false, and nothing changes, where
+/// it can't.
+fn set_value<S: Store>(store: &S, name: &str, value: S::Word, flags: &mut Flags) -> bool
+    requires value { Holds (S.present store.now) value }
+    ensures set { MatchOption (flags_with name.now (meaning (S.present store.now) value) flags.old) (flags.new ≡ flags.old) (λ set. flags.new ≡ set) }
+    ensures answer { MatchOption (flags_with name.now (meaning (S.present store.now) value) flags.old) (result ≡ false) (λ _. result ≡ true) }
+{
+    let Shape::Atom(text) = store.shape(value) else {
+        return false;
+    };
+    flags.set(name, store.text(text))
+}
+
+/// `set_prolog_flag/2` for a flag of this name. The errors: one is raised, or memory was refused.
+fn set_named<S: Store>(
+    alloc: Global,
+    store: &S,
+    goal: S::Word,
+    name: &str,
+    value: S::Word,
+    flags: &mut Flags,
+) -> Result<Settled, Fault>
+    requires value { Holds (S.present store.now) value }
+    ensures settled { (w : World) → IsSettled w w.operators flags.new row.SetFlag (meaning (S.present store.now) goal)
+        (named_flag_settled name.now (meaning (S.present store.now) value) (with_settings w w.operators flags.old)) result }
+    ensures offers { OffersEach 2 result }
+    ensures flags { OnErr result (flags.new ≡ flags.old) }
+    ensures flags_stay { OnOffers result (flags.new ≡ flags.old) }
+{
+    if flags.get(name).is_none() {
+        let culprit = errors::atom(alloc, name)?;
+        let ball = errors::out_of_domain(alloc, "prolog_flag", culprit, "set_prolog_flag", 2)?;
+        return Err(Fault::Raise(ball));
+    }
+    if !is_settable(name) {
+        let culprit = errors::atom(alloc, name)?;
+        let ball = errors::not_permitted(alloc, "modify", "flag", culprit, "set_prolog_flag", 2)?;
+        return Err(Fault::Raise(ball));
+    }
+    if !set_value(store, name, value, flags) {
+        let (flag, value) = (errors::atom(alloc, name)?, store.copy_out(value)?);
+        let culprit = errors::compound2(alloc, "+", flag, value)?;
+        let ball = errors::out_of_domain(alloc, "flag_value", culprit, "set_prolog_flag", 2)?;
+        return Err(Fault::Raise(ball));
+    }
+    Ok(Settled::Done)
+}
+
+/// `set_prolog_flag/2` (8.17.1). The errors: one is raised, or memory was refused.
+pub(crate) fn set_flag<S: Store>(
+    alloc: Global,
+    store: &S,
+    goal: S::Word,
+    flags: &mut Flags,
+) -> Result<Settled, Fault>
+    requires goal { Holds (S.present store.now) goal }
+    requires arity { 2 ≤ arity (meaning (S.present store.now) goal) }
+    ensures settled { (w : World) → IsSettled w w.operators flags.new row.SetFlag (meaning (S.present store.now) goal)
+        (setting_settled row.SetFlag (meaning (S.present store.now) goal) (with_settings w w.operators flags.old)) result }
+    ensures offers { OffersEach 2 result }
+    ensures flags { OnErr result (flags.new ≡ flags.old) }
+    ensures flags_stay { OnOffers result (flags.new ≡ flags.old) }
+{
+    let (flag, value) = (store.arg(goal, 0), store.arg(goal, 1));
+    if is_unbound(store, flag) || is_unbound(store, value) {
+        let ball = errors::instantiation(alloc, "set_prolog_flag", 2)?;
+        return Err(Fault::Raise(ball));
+    }
+    let Shape::Atom(name) = store.shape(flag) else {
+        let culprit = store.copy_out(flag)?;
+        let ball = errors::wrong_type(alloc, "atom", culprit, "set_prolog_flag", 2)?;
+        return Err(Fault::Raise(ball));
+    };
+    set_named(alloc, store, goal, store.text(name), value, flags)
+}
+
+/// A flag and its value as a row. The error is that memory was refused.
+fn flag_offer(alloc: Global, flag: &(&str, FlagValue)) -> Result<Offer, NoMemory>
+    ensures row { IfOk result (λ offer. offer_tree offer ≡ flag_row (entry_of_flag flag.now)) }
+    ensures length { IfOk result (λ offer. length offer.constants.items ≡ 2) }
+{
+    let mut constants = Vec::with_capacity(alloc, 2)?;
+    constants.push(Constant::Atom(String::from_str(alloc, flag.0)?))?;
+    let value = match flag.1 {
+        FlagValue::Int(value) => Constant::Int(value),
+        FlagValue::Word(text) => Constant::Atom(String::from_str(alloc, text)?),
+    };
+    constants.push(value)?;
+    Ok(Offer { constants })
+}
+
+/// Each flag with its value as a row. The error is that memory was refused.
+fn flag_offers(alloc: Global, flags: &Flags) -> Result<Vec<Offer>, NoMemory>
+    ensures rows { IfOk result (λ offers. map offer_tree offers.items ≡ map flag_row (flag_entries flags.now)) }
+    ensures lengths { IfOk result (λ offers. All (λ offer. length offer.constants.items ≡ 2) offers.items) }
+{
+    let entries = flags.entries();
+    let mut offers = Vec::with_capacity(alloc, entries.len())?;
+    for flag in &entries {
+        offers.push(flag_offer(alloc, flag)?)?;
+    }
+    Ok(offers)
+}
+
+/// Whether the term that the word stands for, a variable or an atom, may name a flag.
+fn may_be_flag<S: Store>(store: &S, word: S::Word, flags: &Flags) -> bool
+    requires { Holds (S.present store.now) word }
+    ensures { result ≡ may_be_flag (meaning (S.present store.now) word) flags.now }
+{
+    match store.shape(word) {
+        Shape::Atom(name) => flags.get(store.text(name)).is_some(),
+        _ => true,
+    }
+}
+
+/// `current_prolog_flag/2` (8.17.2). The errors: one is raised, or memory was refused.
+pub(crate) fn current_flag<S: Store>(
+    alloc: Global,
+    store: &S,
+    goal: S::Word,
+    flags: &Flags,
+) -> Result<Settled, Fault>
+    requires goal { Holds (S.present store.now) goal }
+    requires arity { 2 ≤ arity (meaning (S.present store.now) goal) }
+    ensures settled { (w : World) → IsSettled w w.operators flags.now row.CurrentFlag (meaning (S.present store.now) goal)
+        (setting_settled row.CurrentFlag (meaning (S.present store.now) goal) (with_settings w w.operators flags.now)) result }
+    ensures offers { OffersEach 2 result }
+{
+    let flag = store.arg(goal, 0);
+    if !may_be_atom(store, flag) {
+        let culprit = store.copy_out(flag)?;
+        let ball = errors::wrong_type(alloc, "atom", culprit, "current_prolog_flag", 2)?;
+        return Err(Fault::Raise(ball));
+    }
+    if !may_be_flag(store, flag, flags) {
+        let culprit = store.copy_out(flag)?;
+        let ball = errors::out_of_domain(alloc, "prolog_flag", culprit, "current_prolog_flag", 2)?;
+        return Err(Fault::Raise(ball));
+    }
+    Ok(Settled::Offers(flag_offers(alloc, flags)?))
+}

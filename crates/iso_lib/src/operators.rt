@@ -1,0 +1,343 @@
+//! Operators (8.14.3 and 8.14.4).
+ghost use Rattle.std.specs.Prelude.{◌≡◌, ◌<◌, ◌≤◌, ◌||◌, List, ◌∷◌, pos, map, length, IfOk, OnErr};
+ghost use Rattle.std.specs.List.{All, list_any};
+ghost use Rattle.iso_atoms.specs.Texts.{text_at};
+ghost use Rattle.iso_ops.specs.Operators.{asked_op};
+ghost use Rattle.iso_ops.specs.Entries.{operator_of};
+ghost use Rattle.iso_model.specs.Terms.Trees.{Tree};
+ghost use Rattle.iso_model.specs.Terms.Types.{is_variable};
+ghost use Rattle.iso_model.specs.Terms.Lists.{is_nil, elements, tail};
+ghost use Rattle.iso_model.specs.Terms.Arguments.{arity};
+ghost use Rattle.iso_model.specs.Search.Settings as table;
+ghost use Rattle.iso_model.specs.Search.Settings.{setting_settled};
+ghost use Rattle.iso_model.specs.Search.Worlds.{World};
+ghost use Rattle.iso_model.specs.declared.library.Setting.TheVariants as row;
+ghost use Rattle.iso_store_core.specs.Presents.{Holds, meaning};
+ghost use Rattle.iso_lib.specs.Settlements.{IsSettled, OnOffers, OffersEach, PassesTo, AreSet, IsSet, offer_tree, with_settings};
+
+use super::errors;
+use super::lists::{ListParts, elements};
+use super::outcomes::Fault;
+use super::settings::{Constant, Offer, Settled};
+use super::types::is_unbound;
+use iso_atoms::Atom;
+use iso_model::{NoMemory, Term};
+use iso_ops::{Entry, OpFault, OpTable, Spec};
+use iso_store_core::{Shape, Store};
+use std::alloc::Global;
+
+/// Whether one of the words stands for an unbound variable.
+fn has_unbound<S: Store>(store: &S, words: &[S::Word]) -> bool
+    requires { All (λ w. Holds (S.present store.now) w) words.now }
+    ensures { result ≡ list_any is_variable (map (meaning (S.present store.now)) words.now) }
+{
+    let mut place = 0;
+    while place < words.len() {
+        if is_unbound(store, words[place]) {
+            return true;
+        }
+        place += 1;
+    }
+    false
+}
+
+/// Whether the priority or the specifier is unbound, or one of the names, or what stands behind them.
+fn are_unbound<S: Store>(
+    store: &S,
+    priority: S::Word,
+    specifier: S::Word,
+    names: &[S::Word],
+    tail: S::Word,
+) -> bool
+    requires priority { Holds (S.present store.now) priority }
+    requires specifier { Holds (S.present store.now) specifier }
+    requires names { All (λ w. Holds (S.present store.now) w) names.now }
+    requires tail { Holds (S.present store.now) tail }
+    ensures { result ≡ (is_variable (meaning (S.present store.now) priority) || (is_variable (meaning (S.present store.now) specifier)
+        || (list_any is_variable (map (meaning (S.present store.now)) names.now) || is_variable (meaning (S.present store.now) tail)))) }
+{
+    is_unbound(store, priority)
+        || is_unbound(store, specifier)
+        || has_unbound(store, names)
+        || is_unbound(store, tail)
+}
+
+/// The priority. The errors: one is raised, or memory was refused.
+fn asked_priority<S: Store>(alloc: Global, store: &S, word: S::Word) -> Result<u16, Fault>
+    requires word { Holds (S.present store.now) word }
+    ensures passes { PassesTo (table.with_priority (meaning (S.present store.now) word)) (λ n goes_on. goes_on n) result }
+{
+    let Shape::Int(number) = store.shape(word) else {
+        let culprit = store.copy_out(word)?;
+        let ball = errors::wrong_type(alloc, "integer", culprit, "op", 3)?;
+        return Err(Fault::Raise(ball));
+    };
+    if number < 0 || number > 1200 {
+        let culprit = Term::Int(number);
+        let ball = errors::out_of_domain(alloc, "operator_priority", culprit, "op", 3)?;
+        return Err(Fault::Raise(ball));
+    }
+    Ok(number as u16)
+}
+
+/// The specifier, as an atom. The errors: one is raised, or memory was refused.
+fn asked_specifier<S: Store>(alloc: Global, store: &S, word: S::Word) -> Result<Atom, Fault>
+    requires word { Holds (S.present store.now) word }
+    ensures atom { IfOk result (λ a. a < length (S.names store.now)) }
+    ensures passes { PassesTo (table.with_specifier (meaning (S.present store.now) word)) (λ a goes_on. goes_on (text_at (S.names store.now) a)) result }
+{
+    let Shape::Atom(name) = store.shape(word) else {
+        let culprit = store.copy_out(word)?;
+        let ball = errors::wrong_type(alloc, "atom", culprit, "op", 3)?;
+        return Err(Fault::Raise(ball));
+    };
+    if Spec::named(store.text(name)).is_none() {
+        let culprit = store.copy_out(word)?;
+        let ball = errors::out_of_domain(alloc, "operator_specifier", culprit, "op", 3)?;
+        return Err(Fault::Raise(ball));
+    }
+    Ok(name)
+}
+
+/// Whether the term that the word stands for is the empty list.
+fn is_nil<S: Store>(store: &S, word: S::Word) -> bool
+    requires { Holds (S.present store.now) word }
+    ensures { result ≡ is_nil (meaning (S.present store.now) word) }
+{
+    match store.shape(word) {
+        Shape::Atom(name) => store.text(name) == "[]",
+        _ => false,
+    }
+}
+
+/// Words for the names: an atom alone is one, and a list has some, whose parts these are. The errors: one is raised, or memory was
+/// refused.
+fn listed_names<S: Store>(
+    alloc: Global,
+    store: &S,
+    word: S::Word,
+    parts: ListParts<S::Word>,
+) -> Result<Vec<S::Word>, Fault>
+    requires word { Holds (S.present store.now) word }
+    requires elements_hold { All (λ w. Holds (S.present store.now) w) parts.elements.items }
+    requires elements { map (meaning (S.present store.now)) parts.elements.items ≡ elements (meaning (S.present store.now) word) }
+    requires tail_holds { Holds (S.present store.now) parts.tail }
+    requires tail { meaning (S.present store.now) parts.tail ≡ tail (meaning (S.present store.now) word) }
+    ensures hold { IfOk result (λ ws. All (λ w. Holds (S.present store.now) w) ws.items) }
+    ensures passes { PassesTo (table.with_listed (meaning (S.present store.now) word) (table.name_list (meaning (S.present store.now) word)))
+        (λ ws. table.with_texts (map (meaning (S.present store.now)) ws.items)) result }
+{
+    if is_nil(store, parts.tail) {
+        return Ok(parts.elements);
+    }
+    if !matches!(store.shape(word), Shape::Atom(_)) {
+        let culprit = store.copy_out(word)?;
+        let ball = errors::wrong_type(alloc, "list", culprit, "op", 3)?;
+        return Err(Fault::Raise(ball));
+    }
+    let mut words = Vec::with_capacity(alloc, 1)?;
+    words.push(word)?;
+    Ok(words)
+}
+
+/// The atom that the word stands for. The errors: one is raised, or memory was refused.
+fn asked_name<S: Store>(alloc: Global, store: &S, word: S::Word) -> Result<Atom, Fault>
+    requires word { Holds (S.present store.now) word }
+    ensures atom { IfOk result (λ a. a < length (S.names store.now)) }
+    ensures passes { (ts : List Tree) → PassesTo (table.with_texts (meaning (S.present store.now) word ∷ ts))
+        (λ a goes_on. table.with_texts ts (λ texts. goes_on (text_at (S.names store.now) a ∷ texts))) result }
+{
+    let Shape::Atom(name) = store.shape(word) else {
+        let culprit = store.copy_out(word)?;
+        let ball = errors::wrong_type(alloc, "atom", culprit, "op", 3)?;
+        return Err(Fault::Raise(ball));
+    };
+    Ok(name)
+}
+
+/// The atoms that the words stand for. The errors: one is raised, or memory was refused.
+fn asked_names<S: Store>(alloc: Global, store: &S, words: &[S::Word]) -> Result<Vec<Atom>, Fault>
+    requires words { All (λ w. Holds (S.present store.now) w) words.now }
+    ensures atoms { IfOk result (λ names. All (λ a. a < length (S.names store.now)) names.items) }
+    ensures passes { PassesTo (table.with_texts (map (meaning (S.present store.now)) words.now))
+        (λ names goes_on. goes_on (map (text_at (S.names store.now)) names.items)) result }
+{
+    let mut names = Vec::with_capacity(alloc, words.len())?;
+    let mut place = 0;
+    while place < words.len() {
+        names.push(asked_name(alloc, store, words[place])?)?;
+        place += 1;
+    }
+    Ok(names)
+}
+
+/// Sets an operator. The errors: one is raised, or memory was refused.
+fn set_name(
+    alloc: Global,
+    priority: u16,
+    specifier: &str,
+    name: &str,
+    ops: &mut OpTable,
+) -> Result<(), Fault>
+    ensures { IsSet (λ goes_on. table.set_next goes_on name.now ops.old (asked_op (pos priority) specifier.now name.now ops.old)) ops.new result }
+{
+    match ops.add_op(priority as i64, specifier, name) {
+        Ok(()) => Ok(()),
+        Err(OpFault::NoMemory) => Err(Fault::NoMemory),
+        Err(_) => {
+            let operation = if name == "," { "modify" } else { "create" };
+            let culprit = errors::atom(alloc, name)?;
+            let ball = errors::not_permitted(alloc, operation, "operator", culprit, "op", 3)?;
+            Err(Fault::Raise(ball))
+        }
+    }
+}
+
+/// Sets the names in turn, in a copy that takes the place of the operators at the end. The errors: one is raised, or memory was
+/// refused.
+fn set_names<S: Store>(
+    alloc: Global,
+    store: &S,
+    priority: u16,
+    specifier: Atom,
+    names: &[Atom],
+    ops: &mut OpTable,
+) -> Result<(), Fault>
+    requires specifier { specifier < length (S.names store.now) }
+    requires names { All (λ a. a < length (S.names store.now)) names.now }
+    ensures set { AreSet (table.set_names priority (text_at (S.names store.now) specifier) (map (text_at (S.names store.now)) names.now) ops.old) ops.new result }
+    ensures unchanged { OnErr result (ops.new ≡ ops.old) }
+{
+    let specifier = store.text(specifier);
+    let mut copy = ops.copied(alloc)?;
+    let mut place = 0;
+    while place < names.len() {
+        let name = store.text(names[place]);
+        set_name(alloc, priority, specifier, name, &mut copy)?;
+        place += 1;
+    }
+    *ops = copy;
+    Ok(())
+}
+
+/// `op/3` (8.14.3). The errors: one is raised, or memory was refused.
+pub(crate) fn op<S: Store>(
+    alloc: Global,
+    store: &S,
+    goal: S::Word,
+    ops: &mut OpTable,
+) -> Result<Settled, Fault>
+    requires goal { Holds (S.present store.now) goal }
+    requires arity { 3 ≤ arity (meaning (S.present store.now) goal) }
+    ensures settled { (w : World) → IsSettled w ops.new w.flags row.Op (meaning (S.present store.now) goal)
+        (setting_settled row.Op (meaning (S.present store.now) goal) (with_settings w ops.old w.flags)) result }
+    ensures offers { OffersEach 3 result }
+    ensures operators { OnErr result (ops.new ≡ ops.old) }
+    ensures operators_stay { OnOffers result (ops.new ≡ ops.old) }
+{
+    let (priority, specifier, names) = (store.arg(goal, 0), store.arg(goal, 1), store.arg(goal, 2));
+    let parts = elements(alloc, store, names)?;
+    if are_unbound(
+        store,
+        priority,
+        specifier,
+        parts.elements.as_slice(),
+        parts.tail,
+    ) {
+        return Err(Fault::Raise(errors::instantiation(alloc, "op", 3)?));
+    }
+    let priority = asked_priority(alloc, store, priority)?;
+    let specifier = asked_specifier(alloc, store, specifier)?;
+    let words = listed_names(alloc, store, names, parts)?;
+    let names = asked_names(alloc, store, words.as_slice())?;
+    set_names(alloc, store, priority, specifier, names.as_slice(), ops)?;
+    Ok(Settled::Done)
+}
+
+/// Whether the term that the word stands for may be an operator's priority.
+fn may_be_priority<S: Store>(store: &S, word: S::Word) -> bool
+    requires { Holds (S.present store.now) word }
+    ensures { result ≡ table.may_be_priority (meaning (S.present store.now) word) }
+{
+    match store.shape(word) {
+        Shape::Var(_) => true,
+        Shape::Int(number) => 0 <= number && number <= 1200,
+        _ => false,
+    }
+}
+
+/// Whether it may be an operator's specifier.
+fn may_be_specifier<S: Store>(store: &S, word: S::Word) -> bool
+    requires { Holds (S.present store.now) word }
+    ensures { result ≡ table.may_be_specifier (meaning (S.present store.now) word) }
+{
+    match store.shape(word) {
+        Shape::Var(_) => true,
+        Shape::Atom(name) => Spec::named(store.text(name)).is_some(),
+        _ => false,
+    }
+}
+
+/// Whether it may be an atom.
+pub(crate) fn may_be_atom<S: Store>(store: &S, word: S::Word) -> bool
+    requires { Holds (S.present store.now) word }
+    ensures { result ≡ table.may_be_atom (meaning (S.present store.now) word) }
+{
+    matches!(store.shape(word), Shape::Var(_) | Shape::Atom(_))
+}
+
+/// An operator's priority, specifier and name as a row. The error is that memory was refused.
+fn operator_offer(alloc: Global, entry: &Entry) -> Result<Offer, NoMemory>
+    ensures row { IfOk result (λ offer. offer_tree offer ≡ table.operator_row (operator_of entry.now)) }
+    ensures length { IfOk result (λ offer. length offer.constants.items ≡ 3) }
+{
+    let mut constants = Vec::with_capacity(alloc, 3)?;
+    constants.push(Constant::Int(entry.priority as i64))?;
+    constants.push(Constant::Atom(String::from_str(alloc, entry.spec.text())?))?;
+    constants.push(Constant::Atom(String::from_str(alloc, entry.name.as_str())?))?;
+    Ok(Offer { constants })
+}
+
+/// Each operator as a row. The error is that memory was refused.
+fn operator_offers(alloc: Global, ops: &OpTable) -> Result<Vec<Offer>, NoMemory>
+    ensures rows { IfOk result (λ offers. map offer_tree offers.items ≡ map table.operator_row ops.now) }
+    ensures lengths { IfOk result (λ offers. All (λ offer. length offer.constants.items ≡ 3) offers.items) }
+{
+    let mut offers = Vec::with_capacity(alloc, ops.len())?;
+    for place in 0..ops.len() {
+        offers.push(operator_offer(alloc, ops.entry(place))?)?;
+    }
+    Ok(offers)
+}
+
+/// `current_op/3` (8.14.4). The errors: one is raised, or memory was refused.
+pub(crate) fn current_op<S: Store>(
+    alloc: Global,
+    store: &S,
+    goal: S::Word,
+    ops: &OpTable,
+) -> Result<Settled, Fault>
+    requires goal { Holds (S.present store.now) goal }
+    requires arity { 3 ≤ arity (meaning (S.present store.now) goal) }
+    ensures settled { (w : World) → IsSettled w ops.now w.flags row.CurrentOp (meaning (S.present store.now) goal)
+        (setting_settled row.CurrentOp (meaning (S.present store.now) goal) (with_settings w ops.now w.flags)) result }
+    ensures offers { OffersEach 3 result }
+{
+    let (priority, specifier, name) = (store.arg(goal, 0), store.arg(goal, 1), store.arg(goal, 2));
+    if !may_be_priority(store, priority) {
+        let culprit = store.copy_out(priority)?;
+        let ball = errors::out_of_domain(alloc, "operator_priority", culprit, "current_op", 3)?;
+        return Err(Fault::Raise(ball));
+    }
+    if !may_be_specifier(store, specifier) {
+        let culprit = store.copy_out(specifier)?;
+        let ball = errors::out_of_domain(alloc, "operator_specifier", culprit, "current_op", 3)?;
+        return Err(Fault::Raise(ball));
+    }
+    if !may_be_atom(store, name) {
+        let culprit = store.copy_out(name)?;
+        let ball = errors::wrong_type(alloc, "atom", culprit, "current_op", 3)?;
+        return Err(Fault::Raise(ball));
+    }
+    Ok(Settled::Offers(operator_offers(alloc, ops)?))
+}
