@@ -4,7 +4,7 @@ ghost use Rattle.iso_model.specs.Search.Keys.{key};
 ghost use Rattle.iso_model.specs.Search.BuiltIns as table;
 ghost use Rattle.iso_model.specs.Search.Rows.{entries_of};
 
-use super::library::{Comparison, Library, OrderTest, TypeTest};
+use super::library::{Comparison, Library, OrderTest, Setting, TypeTest};
 
 /// A procedure of the language itself (7.8, 8).
 #[derive(Clone, Copy, Debug, PartialEq, Eq)]
@@ -33,13 +33,15 @@ pub enum BuiltIn {
     Findall,
     /// One that runs no goal (8.2, 8.3, 8.5 to 8.7).
     Library(Library),
+    /// One that reads or changes the operators or the flags (8.14.3, 8.14.4, 8.17.1, 8.17.2).
+    Setting(Setting),
 }
 
 /// The name and the arity of a built-in.
 #[derive(Clone, Copy)]
 pub struct Row(pub &'static str, pub usize, pub BuiltIn);
 
-const ROWS: [Row; 53] = [
+const ROWS: [Row; 57] = [
     Row("true", 0, BuiltIn::True),
     Row("fail", 0, BuiltIn::Fail),
     Row("false", 0, BuiltIn::Fail),
@@ -165,6 +167,14 @@ const ROWS: [Row; 53] = [
     Row("compare", 3, BuiltIn::Library(Library::CompareTerms)),
     Row("sort", 2, BuiltIn::Library(Library::Sort)),
     Row("keysort", 2, BuiltIn::Library(Library::Keysort)),
+    Row("op", 3, BuiltIn::Setting(Setting::Op)),
+    Row("current_op", 3, BuiltIn::Setting(Setting::CurrentOp)),
+    Row("set_prolog_flag", 2, BuiltIn::Setting(Setting::SetFlag)),
+    Row(
+        "current_prolog_flag",
+        2,
+        BuiltIn::Setting(Setting::CurrentFlag),
+    ),
 ];
 
 /// The built-ins, each with its name and arity.

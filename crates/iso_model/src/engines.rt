@@ -5,7 +5,7 @@ ghost use Rattle.iso_model.specs.Terms.TermOf.{term_of};
 ghost use Rattle.iso_model.specs.Terms.Copies.{IsNumbered};
 ghost use Rattle.iso_model.specs.Search.Additions.{consulted};
 ghost use Rattle.iso_model.specs.Search.Walker.{State, started};
-ghost use Rattle.iso_model.specs.Search.Engines.{Phase, Ready, IsAwake, Spent, Starts, Pauses, StaysSpent, Consults, FallsAtEvent, MayMeet, RefusesStart, MeetsLimit, KeepsLimits};
+ghost use Rattle.iso_model.specs.Search.Engines.{Phase, Ready, IsAwake, HoldsWhereItIs, Spent, Starts, Pauses, StaysSpent, Consults, FallsAtEvent, MayMeet, RefusesStart, MeetsLimit, KeepsLimits};
 ghost use Rattle.iso_model.specs.declared.limit.Limit.{Limit};
 
 use super::pauses::{AddFault, Pause, StartFault};
@@ -51,13 +51,13 @@ pub trait Engine {
         ensures limits { KeepsLimits (MayMeet (heap_pieces self.old) (frames_pieces self.old)) (MayMeet (heap_pieces self.new) (frames_pieces self.new)) }
         ensures left { FallsAtEvent result (left self.old) (left self.new) };
 
-    /// The operators as they are now.
+    /// The operators as they are now; of a spent engine, as they were where it stopped.
     fn ops(&self) -> &OpTable
-        ensures { (s : State) → stands_for self.now s → result.now ≡ s.world.operators };
+        ensures { (s : State) → stands_for self.now s → HoldsWhereItIs (phase self.now) s (λ t. result.now ≡ t.world.operators) };
 
-    /// The flags as they are now.
+    /// The flags as they are now; of a spent engine, as they were where it stopped.
     fn flags(&self) -> &Flags
-        ensures { (s : State) → stands_for self.now s → result.now ≡ s.world.flags };
+        ensures { (s : State) → stands_for self.now s → HoldsWhereItIs (phase self.now) s (λ t. result.now ≡ t.world.flags) };
 
     /// Adds a clause at the end of its procedure; the rest of a run is dropped. The errors: the clause is refused with its
     /// error, or memory was refused; the database is as it was then.

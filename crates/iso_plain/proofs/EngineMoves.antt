@@ -1,5 +1,5 @@
 -- A call of `resume` is moves up to an event.
-use Rattle.std.proofs.Common.{◌≡◌, ℕ, List, ap, ◌∙◌, Result, Ok, Err}
+use Rattle.std.proofs.Common.{◌≡◌, ℕ, List, subst, Result, Ok, Err}
 use Rattle.iso_model.specs.Search.Walker.{State, World, idle}
 use Rattle.iso_model.specs.Search.Additions.{Addition, Adds, Refuses}
 use Rattle.iso_model.specs.declared.pauses.AddFault.{AddFault}
@@ -12,13 +12,14 @@ use Rattle.iso_model.specs.declared.limit.Limit.{Limit}
 use Rattle.iso_model.specs.declared.pauses.Pause.{Pause}
 use Rattle.iso_model.specs.declared.pauses.Pause.TheVariants as pause
 use Rattle.iso_store_core.specs.Presents.{Present}
-use Rattle.iso_plain.specs.EngineStates.{IsEngine, Represents, Stopped, StandsBy, StandsFor, phase_of, settings_of, settings_in}
+use Rattle.iso_plain.specs.Worlds.{IsWorld}
+use Rattle.iso_plain.specs.EngineStates.{IsEngine, Represents, Stopped, StandsBy, StandsFor, phase_of}
 use Rattle.iso_plain_core.specs.declared.parts.Now.{Now}
 use Rattle.iso_plain_core.specs.declared.parts.Now.TheVariants as now
 use Rattle.iso_plain.specs.declared.plain.Plain.{Plain}
 use Rattle.iso_model.specs.Search.RunLaws.SameRuns.{same_world}
 use Rattle.iso_plain.proofs.StoppedLemmas.{keeps_all}
-use Rattle.iso_plain.proofs.SearchMoves.{same_idle, world_settings, stops_here, stopped_behind}
+use Rattle.iso_plain.proofs.SearchMoves.{same_idle, stops_here, stopped_behind}
 
 module _ {S W M : Type 0} (names : S → List (List ℕ)) (present : S → Present W) (stands : S → M → Present W → Type 0) (older : M → M → Type 0) where
   -- an engine that is awake stands for what it represents
@@ -38,17 +39,17 @@ module _ {S W M : Type 0} (names : S → List (List ℕ)) (present : S → Prese
   ready_stands (now.Raising place) e s ready r = r
   ready_stands (now.Spent limit) e s ready r = absurd (cc)
 
-  -- an engine keeps the operators and the flags of the states that it stands for
-  represents_settings : (e : Plain S W M) (s : State) → Represents names present stands older e s → settings_of e ≡ settings_in s.world
-  represents_settings e s r = world_settings names present stands older e r.own.world r.engine.world ∙ ap settings_in (same_world r.same)
+  represents_world : (e : Plain S W M) (s : State) → Represents names present stands older e s → IsWorld names e s.world
+  represents_world e s r = subst (λ (w : World). IsWorld names e w) (same_world r.same) r.engine.world
 
-  pub stands_settings : (n : Now) (e : Plain S W M) (s : State) → StandsBy names present stands older n e s → settings_of e ≡ settings_in s.world
-  stands_settings now.Idle e s r = represents_settings e s r
-  stands_settings now.Failing e s r = represents_settings e s r
-  stands_settings now.Answering e s r = represents_settings e s r
-  stands_settings (now.Running frame) e s r = represents_settings e s r
-  stands_settings (now.Raising place) e s r = represents_settings e s r
-  stands_settings (now.Spent limit) e s r = r.settings
+  -- what holds of the worlds that the engine has
+  pub stands_where : (P : World → Type 0) → (n : Now) (e : Plain S W M) (s : State) → ((w : World) → IsWorld names e w → P w) → StandsBy names present stands older n e s → engines.HoldsWhereItIs (phase_of n) s (λ t. P t.world)
+  stands_where P now.Idle e s has r = has s.world (represents_world e s r)
+  stands_where P now.Failing e s has r = has s.world (represents_world e s r)
+  stands_where P now.Answering e s has r = has s.world (represents_world e s r)
+  stands_where P (now.Running frame) e s has r = has s.world (represents_world e s r)
+  stands_where P (now.Raising place) e s has r = has s.world (represents_world e s r)
+  stands_where P (now.Spent limit) e s has r = record { at = r.at; quiet = r.quiet; holds = has r.at.world r.keeps.0 }
 
   pub represents_stands : (n : Now) (e : Plain S W M) (s : State) → Represents names present stands older e s → StandsBy names present stands older n e s
   represents_stands now.Idle e s r = r
@@ -67,27 +68,27 @@ module _ {S W M : Type 0} (names : S → List (List ℕ)) (present : S → Prese
   spent_stands limit (now.Raising place) e s h stopped = absurd (cc h)
   spent_stands limit (now.Spent k) e s h stopped = stopped
 
-  spent_behind : (limit : Limit) (n : Now) (e : Plain S W M) (s t : State) → phase_of n ≡ engines.Spent limit → settings_of e ≡ settings_in s.world → Quiet s t → StandsBy names present stands older n e t → StandsBy names present stands older n e s
-  spent_behind limit now.Idle e s t h same q stopped = absurd (cc h)
-  spent_behind limit now.Failing e s t h same q stopped = absurd (cc h)
-  spent_behind limit now.Answering e s t h same q stopped = absurd (cc h)
-  spent_behind limit (now.Running frame) e s t h same q stopped = absurd (cc h)
-  spent_behind limit (now.Raising place) e s t h same q stopped = absurd (cc h)
-  spent_behind limit (now.Spent k) e s t h same q stopped = stopped_behind names present stands older e s t same q stopped
+  spent_behind : (limit : Limit) (n : Now) (e : Plain S W M) (s t : State) → phase_of n ≡ engines.Spent limit → Quiet s t → StandsBy names present stands older n e t → StandsBy names present stands older n e s
+  spent_behind limit now.Idle e s t h q stopped = absurd (cc h)
+  spent_behind limit now.Failing e s t h q stopped = absurd (cc h)
+  spent_behind limit now.Answering e s t h q stopped = absurd (cc h)
+  spent_behind limit (now.Running frame) e s t h q stopped = absurd (cc h)
+  spent_behind limit (now.Raising place) e s t h q stopped = absurd (cc h)
+  spent_behind limit (now.Spent k) e s t h q stopped = stopped_behind names present stands older e s t q stopped
 
   -- what comes behind steps without an event
-  pub pauses_behind : (e : Plain S W M) (s t : State) (p : Pause) → settings_of e ≡ settings_in s.world → Quiet s t → engines.Pauses t p (StandsFor names present stands older e) (phase_of e.now)
+  pub pauses_behind : (e : Plain S W M) (s t : State) (p : Pause) → Quiet s t → engines.Pauses t p (StandsFor names present stands older e) (phase_of e.now)
       → engines.Pauses s p (StandsFor names present stands older e) (phase_of e.now)
-  pauses_behind e s t (pause.Answer values) same q h = (comes_behind q h.0, h.1)
-  pauses_behind e s t (pause.Output bytes) same q h = (comes_behind q h.0, h.1)
-  pauses_behind e s t pause.NoMore same q h = (finishes_behind q h.0, h.1)
-  pauses_behind e s t pause.Budget same q h = (finishes_behind q h.0, h.1)
-  pauses_behind e s t (pause.Uncaught ball) same q h = (finishes_behind q h.0, h.1)
-  pauses_behind e s t (pause.Halt status) same q h = (finishes_behind q h.0, h.1)
-  pauses_behind e s t pause.HeapFull same q h = (spent_behind _ e.now e s t h.1 same q h.0, h.1)
-  pauses_behind e s t pause.FramesFull same q h = (spent_behind _ e.now e s t h.1 same q h.0, h.1)
-  pauses_behind e s t pause.NoMemory same q h = (spent_behind _ e.now e s t h.1 same q h.0, h.1)
-  pauses_behind e s t pause.Spent same q h = absurd h
+  pauses_behind e s t (pause.Answer values) q h = (comes_behind q h.0, h.1)
+  pauses_behind e s t (pause.Output bytes) q h = (comes_behind q h.0, h.1)
+  pauses_behind e s t pause.NoMore q h = (finishes_behind q h.0, h.1)
+  pauses_behind e s t pause.Budget q h = (finishes_behind q h.0, h.1)
+  pauses_behind e s t (pause.Uncaught ball) q h = (finishes_behind q h.0, h.1)
+  pauses_behind e s t (pause.Halt status) q h = (finishes_behind q h.0, h.1)
+  pauses_behind e s t pause.HeapFull q h = (spent_behind _ e.now e s t h.1 q h.0, h.1)
+  pauses_behind e s t pause.FramesFull q h = (spent_behind _ e.now e s t h.1 q h.0, h.1)
+  pauses_behind e s t pause.NoMemory q h = (spent_behind _ e.now e s t h.1 q h.0, h.1)
+  pauses_behind e s t pause.Spent q h = absurd h
 
   idle_stands : (e : Plain S W M) (w : World) → IsEngine names present stands older e (idle w) → StandsFor names present stands older e (idle w)
   idle_stands e w is = represents_stands e.now e (idle w) (record { own = idle w; engine = is; same = same_idle w })

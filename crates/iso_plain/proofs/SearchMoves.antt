@@ -1,33 +1,26 @@
 -- A move of the engine's own state is some steps of each state that is the same.
-use Rattle.std.proofs.Common.{◌≡◌, ◌≤◌, ℕ, suc, List, [], length, refl, ap, ap₂, sym, ◌∙◌, subst, inl, arith}
+use Rattle.std.proofs.Common.{◌≡◌, ◌≤◌, ℕ, suc, List, [], length, refl, sym, ◌∙◌, subst, inl, arith}
 use Rattle.iso_model.specs.Terms.Variables.{variables}
-use Rattle.iso_ops.specs.Operators.{Operator}
-use Rattle.iso_ops.specs.declared.settings.Flags.{Flags}
 use Rattle.iso_model.specs.Search.Walker.{State, World, Alternative, Event, Ending, Goes, Gives, Ends, idle, step}
 use Rattle.iso_model.specs.Search.Runs.{Quiet, here, Comes, Finishes, ComesOver}
 use Rattle.iso_model.specs.Search.Engines.{IsAwake}
 use Rattle.iso_model.specs.Search.RunLaws.{quiet_trans}
 use Rattle.iso_model.specs.Search.RunLaws.Sameness.{Same, failing, SameStack, no_alternative}
-use Rattle.iso_model.specs.Search.RunLaws.SameRuns.{onward_same, comes_same, finishes_same, same_world}
+use Rattle.iso_model.specs.Search.RunLaws.SameRuns.{onward_same, comes_same, finishes_same}
 use Rattle.iso_model.specs.Search.RunLaws.SameSteps.{stack_length}
 use Rattle.iso_model.specs.Search.RunLaws.SameLaws.{same_beside, same_on}
 use Rattle.iso_store_core.specs.Presents.{Present}
-use Rattle.iso_plain.specs.Worlds.{IsWorld}
 use Rattle.iso_plain_core.specs.declared.parts.Now.{Now}
 use Rattle.iso_plain_core.specs.declared.parts.Now.TheVariants as now
 use Rattle.iso_plain.specs.declared.plain.Move.TheVariants as move
 use Rattle.iso_plain.specs.declared.plain.Plain.{Plain}
-use Rattle.iso_plain.specs.EngineStates.{IsEngine, Represents, Keeps, Stopped, StandsBy, StandsFor, Moves, phase_of, settings_of, settings_in}
+use Rattle.iso_plain.specs.EngineStates.{IsEngine, Represents, Keeps, Stopped, StandsBy, StandsFor, Moves, phase_of}
 
 -- a state in which no goal was started is the same as itself
 pub same_idle : (w : World) → Same (idle w) (idle w)
 same_idle w = failing [] [] refl refl (record { stack = no_alternative; world = refl; steps = refl })
 
 module _ {S W M : Type 0} (names : S → List (List ℕ)) (present : S → Present W) (stands : S → M → Present W → Type 0) (older : M → M → Type 0) where
-  -- an engine keeps the operators and the flags of its world
-  pub world_settings : (e : Plain S W M) (w : World) → IsWorld names e w → settings_of e ≡ settings_in w
-  world_settings e w is = ap₂ (λ (ops : List Operator) (flags : Flags). (ops, flags)) is.operators_are is.flags_are
-
   -- a move goes on
   pub goes : (e new : Plain S W M) (s : State) (r : Represents names present stands older e s) (v : State) → step r.own ≡ Goes v → IsEngine names present stands older new v → IsAwake (phase_of new.now)
       → Moves names present stands older move.Goes s new
@@ -80,7 +73,6 @@ module _ {S W M : Type 0} (names : S → List (List ℕ)) (present : S → Prese
         stack = o.stack;
         keeps = subst (λ (w : World). Keeps names present stands older new w o.stack) beside.world keeps;
         alternatives = inl (variables o.query, beside.stack);
-        settings = world_settings new o.world keeps.0 ∙ ap settings_in beside.world;
       }
 
   -- it stopped within a move, with the alternatives that the move goes to
@@ -94,16 +86,14 @@ module _ {S W M : Type 0} (names : S → List (List ℕ)) (present : S → Prese
         stack = stack;
         keeps = subst (λ (w : World). Keeps names present stands older new w stack) (sym world ∙ beside.world) keeps;
         alternatives = inl (variables v.query, subst (λ (xs : List Alternative). SameStack (variables v.query) (variables (k.0).query) xs (k.0).stack) stacked beside.stack);
-        settings = world_settings new o.world keeps.0 ∙ ap settings_in (same_world same);
       }
 
   -- behind steps without an event
-  pub stopped_behind : (e : Plain S W M) (s t : State) → settings_of e ≡ settings_in s.world → Quiet s t → Stopped names present stands older e t → Stopped names present stands older e s
-  stopped_behind e s t same q h = record {
+  pub stopped_behind : (e : Plain S W M) (s t : State) → Quiet s t → Stopped names present stands older e t → Stopped names present stands older e s
+  stopped_behind e s t q h = record {
     at = h.at;
     quiet = quiet_trans q h.quiet;
     stack = h.stack;
     keeps = h.keeps;
     alternatives = h.alternatives;
-    settings = same;
   }

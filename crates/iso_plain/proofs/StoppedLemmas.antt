@@ -14,7 +14,6 @@ use Rattle.iso_plain_core.specs.Standing.{StandsForChoices, none_kept}
 use Rattle.iso_plain.specs.Starts.{IsFresh}
 use Rattle.iso_plain.specs.EngineStates.{IsBase, IsEngine, Keeps, Stopped, links_of}
 use Rattle.iso_plain_core.specs.ClausePlaces.{left_at}
-use Rattle.iso_plain.proofs.SearchMoves.{world_settings}
 use Rattle.iso_plain_core.proofs.StandingLemmas.{choices_more, choices_keep}
 use Rattle.iso_plain.proofs.WorldLemmas.{world_on}
 
@@ -56,4 +55,4 @@ module _ {S W M : Type 0} (names : S → List (List ℕ)) (present : S → Prese
 
   -- no goal was started
   pub stopped_before : (e : Plain S W M) (s : State) → Keeps names present stands older e s.world [] → Stopped names present stands older e s
-  stopped_before e s keeps = record { at = s; quiet = here; stack = []; keeps = keeps; alternatives = inr refl; settings = world_settings names present stands older e s.world keeps.0 }
+  stopped_before e s keeps = record { at = s; quiet = here; stack = []; keeps = keeps; alternatives = inr refl }

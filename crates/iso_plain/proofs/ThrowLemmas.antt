@@ -6,9 +6,10 @@ use Rattle.std.proofs.lemmas.Bool.{eqb-true, cases_Bool, eq-eqb}
 use Rattle.std.proofs.lemmas.Option.{slice_get_within}
 use Rattle.iso_model.specs.Terms.Trees.{Tree}
 use Rattle.iso_model.specs.Search.Databases.{Clause}
-use Rattle.iso_model.specs.Search.Walker.{State, Member, Leave, Alternative, Left, AsIs, Again, Clauses, Catching, Gathering, Outcome, Goes, caught_at, caught, thrown, shortened}
+use Rattle.iso_model.specs.Search.Walker.{State, Member, Leave, Alternative, Left, AsIs, Again, Clauses, Catching, Gathering, Offered, Outcome, Goes, caught_at, caught, thrown, shortened}
 use Rattle.iso_store_core.specs.Presents.{Present, meaning}
 use Rattle.iso_plain_core.specs.Solutions.{copies_of}
+use Rattle.iso_plain_core.specs.Offers.{goal_arguments, rights_of}
 use Rattle.iso_plain_core.specs.declared.parts.Frame.{Frame}
 use Rattle.iso_plain_core.specs.declared.parts.Left as engine
 use Rattle.iso_plain_core.specs.declared.parts.Left.TheVariants as left
@@ -107,6 +108,7 @@ module _ {W M : Type 0} {left_at : ℕ → ℕ → List Clause} {query : List W}
     by_left (left.AsIs place) e has = absurd e
     by_left (left.Again place) e has = absurd e
     by_left (left.Gathering result place g) e has = absurd e
+    by_left (left.Offered goal place offers) e has = absurd e
     by_left (left.Clauses attempt) e has = absurd e
 
   -- any other
@@ -121,6 +123,7 @@ module _ {W M : Type 0} {left_at : ℕ → ℕ → List Clause} {query : List W}
     by_left (left.AsIs place) e has = passes AsIs has.is refl
     by_left (left.Again place) e has = passes Again has.is refl
     by_left (left.Gathering result place g) e has = passes (Gathering (meaning at.present result) (copies_of g) g.variables) has.is refl
+    by_left (left.Offered goal place offers) e has = passes (Offered has.made (goal_arguments (meaning at.present goal)) (rights_of offers.items)) has.is refl
     by_left (left.Clauses attempt) e has = passes (Clauses has.call (left_at attempt.procedure attempt.clause)) has.left refl
 
 -- a choice that is no entry of a catch
@@ -133,4 +136,5 @@ no_entry {W} {M} choices f c there none h =
       by_left (left.AsIs place) never e = e
       by_left (left.Again place) never e = e
       by_left (left.Gathering result place g) never e = e
+      by_left (left.Offered goal place offers) never e = e
       by_left (left.Clauses attempt) never e = e

@@ -8,8 +8,6 @@ use Rattle.iso_model.specs.Terms.TermOf.{term_of}
 use Rattle.iso_model.specs.Search.Databases.{Clause}
 use Rattle.iso_model.specs.Search.Walker.{State, World, Alternative, Member, Goal, CutTo, Fail, AsIs, Clauses, pushed, with_others}
 use Rattle.iso_model.specs.Search.Bodies.{Body}
-use Rattle.iso_ops.specs.Operators.{Operator}
-use Rattle.iso_ops.specs.declared.settings.Flags.{Flags}
 use Rattle.iso_model.specs.Search.Runs.{Quiet}
 use Rattle.iso_model.specs.Search.Engines as engines
 use Rattle.iso_model.specs.Search.Engines.{Phase, Ready, Midway, IsAwake}
@@ -55,13 +53,6 @@ phase_of (now.Running frame) = Midway
 phase_of (now.Raising place) = Midway
 phase_of (now.Spent limit) = engines.Spent limit
 
--- the operators and the flags that an engine keeps, and those of a world
-abbrev pub settings_of : {S W M : Type 0} → Plain S W M → List Operator × Flags
-settings_of e = (e.ops, e.flags)
-
-abbrev pub settings_in : World → List Operator × Flags
-settings_in w = (w.operators, w.flags)
-
 -- the nodes and frames of an engine
 abbrev pub links_of : {S W M : Type 0} → Plain S W M → Links W
 links_of e = record { nodes = e.nodes.items; frames = e.frames.items }
@@ -91,14 +82,13 @@ module _ {S W M : Type 0} (names : S → List (List ℕ)) (present : S → Prese
   Keeps e w ks = IsWorld names e w × IsBase (stands e.store) e.base × ((named : List ℕ) × HasChoices e w named ks)
 
   -- A spent engine stands for a state from which the search came, without an event, to one that has this world and these alternatives; where a
-  -- goal was not started none is left. It keeps the operators and the flags of the state that it stands for.
+  -- goal was not started none is left.
   pub record Stopped (e : Plain S W M) (s : State) : Type 0 where
     pub at : State
     pub quiet : Quiet s at
     pub stack : List Alternative
     pub keeps : Keeps e at.world stack
     pub alternatives : ((named : List ℕ) × SameStack named (variables at.query) stack at.stack) ⊎ (stack ≡ [])
-    pub settings : settings_of e ≡ settings_in s.world
 
   abbrev pub StandsBy : Now → Plain S W M → State → Type 0
   StandsBy (now.Spent limit) e s = Stopped e s

@@ -3,13 +3,11 @@ use Rattle.std.specs.Prelude.{◌≡◌, ℕ, List}
 use Rattle.iso_atoms.specs.Texts.{KeepsTexts}
 use Rattle.iso_plain.specs.declared.plain.Plain.{Plain}
 use Rattle.iso_plain.specs.Limits.{IsWithin}
-use Rattle.iso_plain.specs.EngineStates.{settings_of}
 
--- The limit of choices, the operators, the flags, the procedures, where they are found and the names of control constructs are as they were, atoms keep their names, and no more choices stand
+-- The limit of choices, the procedures, where they are found and the names of control constructs are as they were, atoms keep their names, and no more choices stand
 -- than there may be.
 pub record Stays {S W M : Type 0} (names : S → List (List ℕ)) (old new : Plain S W M) : Type 0 where
   pub limit : new.limit ≡ old.limit
-  pub settings : settings_of new ≡ settings_of old
   pub procedures : new.procedures ≡ old.procedures
   pub callables : new.callables ≡ old.callables
   pub vocabulary : new.vocabulary ≡ old.vocabulary

@@ -40,7 +40,7 @@ fn clause_count(procedures: &[Procedure], place: usize) -> usize
 }
 
 impl<S: Store + Drop> Plain<S> {
-    ghost use Rattle.iso_plain.specs.EngineStates.{IsBase, IsEngine, Represents, Keeps, Stopped, Calls, WentBack, Moves, Falls, Retries, WasRefused, cost, weight, phase_of, settings_of};
+    ghost use Rattle.iso_plain.specs.EngineStates.{IsBase, IsEngine, Represents, Keeps, Stopped, Calls, WentBack, Moves, Falls, Retries, WasRefused, cost, weight, phase_of};
     ghost use Rattle.iso_plain_core.specs.Costs.{choices_cost, now_cost, body_cost, left_cost, most, rest_cost, frame_costs};
     ghost use Rattle.iso_plain.specs.Stays.{Stays};
     ghost use Rattle.iso_model.specs.Search.Engines.{IsAwake};
@@ -120,7 +120,6 @@ impl<S: Store + Drop> Plain<S> {
         ensures costs { choices_cost self.old.procedures.items (frame_costs self.old.frames.items) self.new.choices.items
             ≤ choices_cost self.old.procedures.items (frame_costs self.old.frames.items) self.old.choices.items + left_cost most (rest_cost (frame_costs self.old.frames.items) attempt.rest) }
         ensures limit { self.new.limit ≡ self.old.limit }
-        ensures settings { settings_of self.new ≡ settings_of self.old }
         ensures procedures { self.new.procedures ≡ self.old.procedures }
         ensures callables { self.new.callables ≡ self.old.callables }
         ensures vocabulary { self.new.vocabulary ≡ self.old.vocabulary }
@@ -249,6 +248,10 @@ impl<S: Store + Drop> Plain<S> {
             }
             Left::Gathering(solutions, place, _) => {
                 self.end_gathering(mark, solutions, place)?;
+                Ok(Move::Goes)
+            }
+            Left::Offered(goal, place, _) => {
+                self.try_next(mark, goal, place)?;
                 Ok(Move::Goes)
             }
             Left::Clauses(attempt) => {

@@ -4,7 +4,7 @@ use Rattle.std.specs.Fmt.{decimal}
 use Rattle.iso_model.specs.Terms.Trees.{Tree}
 use Rattle.iso_model.specs.Terms.TermOf.{term_of}
 use Rattle.iso_model.specs.Search.Additions.{Addition, Adds, Refuses, consulted}
-use Rattle.iso_model.specs.Search.Engines.{Phase, Ready, Consults}
+use Rattle.iso_model.specs.Search.Engines.{Phase, Ready, HoldsWhereItIs, Consults}
 use Rattle.iso_model.specs.Search.Walker.{World, State, idle}
 use Rattle.iso_model.specs.Session.Lines.{counted, text_of, refused_line, skipped_line, syntax_error_line}
 use Rattle.iso_model.specs.Syntax.Token.{Shown}
@@ -21,7 +21,7 @@ use Rattle.iso_session_core.specs.declared.flows.Flow.{Flow}
 use Rattle.iso_session_core.specs.declared.flows.Flow.TheVariants as flow
 use Rattle.iso_session_core.specs.declared.statuses.Fault.{Fault}
 use Rattle.iso_session_core.specs.Progress.{Place, Advances, GoesOn, Does, PutsLine, IsCount}
-use Rattle.iso_session_core.proofs.ProgressLemmas.{advance_none, advance_on, puts_on}
+use Rattle.iso_session_core.proofs.ProgressLemmas.{advance_none, advance_on, puts_on, where_ready}
 
 -- a count that stays at the greatest number is written as that of a mathematician is
 pub counted_same : (count k : ℕ) → IsCount count k → counted count ≡ counted k
@@ -64,12 +64,12 @@ added budget Stands May now at k (Adds db) w next c ready =
 added budget Stands May now at k (Refuses error) w next c ready = absurd c
 
 -- the clause was refused with this ball, where these are the operators of what the engine stands for
-pub refused : (budget : ℕ) (Stands : State → Type 0) (May : Limit → State → Type 0) (table : List Operator) → ((t : State) → Stands t → table ≡ t.world.operators) → (now : Phase) (old new : Place) (count k : ℕ) (a : Addition) (w : World) (ball : Ball) (next : World → Script) (r : Result Flow Fault)
+pub refused : (budget : ℕ) (Stands : State → Type 0) (May : Limit → State → Type 0) (table : List Operator) (now : Phase) → ((t : State) → Stands t → HoldsWhereItIs now t (λ u. table ≡ u.world.operators)) → (old new : Place) (count k : ℕ) (a : Addition) (w : World) (ball : Ball) (next : World → Script) (r : Result Flow Fault)
     → Consults a (idle w) (Err (add.Refused ball)) Stands → now ≡ Ready → IsCount count k → PutsLine (refused_line table count (term_of ball.term)) flow.On old new r
     → Does budget Stands May now old new (added_script k a w next) next r
-refused budget Stands May table ops now old new count k (Adds db) w ball next r c ready counts puts = absurd c
-refused budget Stands May table ops now old new count k (Refuses error) w ball next r c ready counts puts =
-    let same = ap (λ z. refused_by table z (term_of ball.term)) (counted_same count k counts) ∙ ap₂ (λ o z. refused_line o k z) (ops (idle w) c.1) c.0 in
+refused budget Stands May table now ops old new count k (Adds db) w ball next r c ready counts puts = absurd c
+refused budget Stands May table now ops old new count k (Refuses error) w ball next r c ready counts puts =
+    let same = ap (λ z. refused_by table z (term_of ball.term)) (counted_same count k counts) ∙ ap₂ (λ o z. refused_line o k z) (where_ready now (idle w) (λ u. table ≡ u.world.operators) ready (ops (idle w) c.1)) c.0 in
     let line = subst (λ z. PutsLine z flow.On old new r) same puts in
     puts_on budget Stands May now old new (refused_line w.operators k error) w next r line c.1 ready
 

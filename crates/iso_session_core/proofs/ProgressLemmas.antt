@@ -2,7 +2,7 @@
 use Rattle.std.proofs.Common.{◌≡◌, ℕ, Bool, false, List, [], ◌∷◌, ◌++◌, Option, Result, Ok, Err, inl, inr, refl, sym, ap, ◌∙◌, append_assoc, append-nil}
 use Rattle.std.specs.Io.KnownBytes.{Appends}
 use Rattle.std.specs.Result.{IsErr}
-use Rattle.iso_model.specs.Search.Engines.{Phase, Ready, Midway, IsAwake, KeepsLimits}
+use Rattle.iso_model.specs.Search.Engines.{Phase, Ready, Midway, IsAwake, HoldsWhereItIs, KeepsLimits}
 use Rattle.iso_model.specs.Search.Walker.{World, State, idle}
 use Rattle.iso_model.specs.Session.Sessions.{Segment, Line, Script, Shows, Closes, Halts, prepend, segment_bytes, within_behind, segments_bytes, script_bytes}
 use Rattle.iso_model.specs.Session.Beginnings.{Begins, EngineStops, StopsIn, further_on}
@@ -86,6 +86,10 @@ does_after budget Stands May now old mid new s t behind (Err e) h d = begins_on 
 
 pub ready_awake : (now : Phase) → now ≡ Ready → IsAwake now
 ready_awake now ready = rw ready tt
+
+-- an engine that met no limit is where it stands
+pub where_ready : (now : Phase) (s : State) (P : State → Type 0) → now ≡ Ready → HoldsWhereItIs now s P → P s
+where_ready now s P ready h = rw ready at h
 
 pub midway_awake : (now : Phase) → now ≡ Midway → IsAwake now
 midway_awake now midway = rw midway tt

@@ -5,7 +5,7 @@ use Rattle.std.specs.Io.KnownBytes.{Appends}
 use Rattle.iso_ops.specs.Operators.{Operator}
 use Rattle.iso_model.specs.Terms.Trees.{Tree}
 use Rattle.iso_model.specs.Terms.TermOf.{term_of}
-use Rattle.iso_model.specs.Search.Engines.{Phase, Ready, Spent, Pauses, MeetsLimit}
+use Rattle.iso_model.specs.Search.Engines.{Phase, Ready, Spent, HoldsWhereItIs, Pauses, MeetsLimit}
 use Rattle.iso_model.specs.Syntax.Grammar.{ReadTerm}
 use Rattle.iso_model.specs.Syntax.Token.{Shown}
 use Rattle.iso_model.specs.Syntax.Items.{Item, Readable, Taken, next_item}
@@ -29,7 +29,7 @@ use Rattle.iso_session_core.specs.Progress.{Place, Advances, GoesOn, Stops, Does
 use Rattle.iso_session_core.specs.Read.{item_read, found}
 use Rattle.iso_session_core.proofs.WrittenLemmas.{begins_before}
 use Rattle.iso_session_core.proofs.ConsultLemmas.{counted_same, empty_by}
-use Rattle.iso_session_core.proofs.ProgressLemmas.{advance_none, advance_on, advance_segment, puts_on, puts_halt, does_after, breaks_after, ready_awake}
+use Rattle.iso_session_core.proofs.ProgressLemmas.{advance_none, advance_on, advance_segment, puts_on, puts_halt, does_after, breaks_after, ready_awake, where_ready}
 
 -- How far the run of this query over this world has come: behind so many answers it stands at this state.
 abbrev pub Runs : ReadTerm → World → ℕ → ℕ → State → Type 0
@@ -56,12 +56,12 @@ line_ends budget Stands May now old new names k s ending text next r f ready lin
     let whole = ap (λ z. run_script names k z next) (finishes_run f) ∙ line in
     rw whole (puts_on budget Stands May now old new text f.world next r puts f.stands ready)
 
--- a pause that is no answer and no output ends its query, where these are the operators of what the engine stands for
-pub query_ends : (Stands : State → Type 0) (May : Limit → State → Type 0) (table : List Operator) → ((t : State) → Stands t → table ≡ t.world.operators) → (now : Phase) (old mid new : Place) (query : ReadTerm) (w : World) (budget : ℕ) (k : ℕ) (s : State) (p : Pause) (next : World → Script) (r : Result Flow Fault)
+-- a pause that is no answer and no output ends its query, where these are the operators of what the engine stands for, or of where it stopped
+pub query_ends : (Stands : State → Type 0) (May : Limit → State → Type 0) (table : List Operator) (now : Phase) → ((t : State) → Stands t → HoldsWhereItIs now t (λ u. table ≡ u.world.operators)) → (old mid new : Place) (query : ReadTerm) (w : World) (budget : ℕ) (k : ℕ) (s : State) (p : Pause) (next : World → Script) (r : Result Flow Fault)
     → Runs query w budget k s → Advances old mid (query_script budget (Readable query) w next) (script_from query k s next) → Pauses s p Stands now → MeetsLimit May s p → EndsQuery table p mid new r
     → ((values : Vec Term Global) → p ≡ pause.Answer values → ⊥) → ((bytes : Vec ℕ Global) → p ≡ pause.Output bytes → ⊥)
     → Does budget Stands May now old new (query_script budget (Readable query) w next) next r
-query_ends Stands May table ops now old mid new query w budget k s p next r gave h = ends p
+query_ends Stands May table now ops old mid new query w budget k s p next r gave h = ends p
   where
     script : Script
     script = query_script budget (Readable query) w next
@@ -77,7 +77,7 @@ query_ends Stands May table ops now old mid new query w budget k s p next r gave
     ends pause.NoMore p m e answer output = here (codes "end: no more") NoMore p.0 p.1 refl e
     ends pause.Budget p m e answer output = here (codes "end: budget") Budget p.0 p.1 refl e
     ends (pause.Uncaught ball) p m e answer output =
-        let line = subst (λ o. PutsLine (error_line o (term_of ball.term)) flow.On mid new r) (ops (idle p.0.world) p.0.stands) e in
+        let line = subst (λ o. PutsLine (error_line o (term_of ball.term)) flow.On mid new r) (where_ready now (idle p.0.world) (λ u. table ≡ u.world.operators) p.1 (ops (idle p.0.world) p.0.stands)) e in
         here (error_line p.0.world.operators (term_of ball.term)) (Uncaught (term_of ball.term)) p.0 p.1 refl line
     ends (pause.Halt n) p m e answer output =
         let whole = ap (λ z. run_script query.names (k + 1) z next) (finishes_run p.0) in

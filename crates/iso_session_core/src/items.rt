@@ -1,6 +1,7 @@
 //! What is read of a text, item by item.
 ghost use Rattle.std.specs.Prelude.{◌≡◌, ◌<◌, length, true, IfOk, IfSome};
 ghost use Rattle.iso_model.specs.Syntax.Items.{next_item};
+ghost use Rattle.iso_model.specs.Search.Engines.{Ready};
 ghost use Rattle.iso_model.specs.Search.Walker.{State};
 ghost use Rattle.iso_session_core.specs.Read.{found, Fits};
 
@@ -25,6 +26,7 @@ pub fn take_item<E: Engine>(
     engine: &E,
     tokens: &mut Tokens<'_>,
 ) -> Result<Option<Item>, AllocError>
+    requires ready { E.phase engine.now ≡ Ready }
     ensures item { (s : State) → E.stands_for engine.now s
         → IfOk result (λ item. next_item s.world.operators s.world.flags tokens.old ≡ found item tokens.new) }
     ensures fits { IfOk result (λ item. IfSome item Fits) }

@@ -9,12 +9,13 @@ use Rattle.iso_model.specs.Terms.Lists.{is_partial_list}
 use Rattle.iso_model.specs.Search.Bodies.{Body, converted}
 use Rattle.iso_model.specs.Search.Errors.{instantiation_error, type_error_callable, type_error, domain_error, max_arity_error}
 use Rattle.iso_model.specs.declared.built_ins.BuiltIn.{BuiltIn}
-use Rattle.iso_model.specs.declared.built_ins.BuiltIn.TheVariants.{True, Fail, Call, Once, Not, Repeat, Catch, Throw, Halt, HaltWith, Findall, Library}
+use Rattle.iso_model.specs.declared.built_ins.BuiltIn.TheVariants.{True, Fail, Call, Once, Not, Repeat, Catch, Throw, Halt, HaltWith, Findall, Library, Setting}
 use Rattle.iso_model.specs.declared.library.Library.TheVariants as library
+use Rattle.iso_model.specs.declared.library.Setting.TheVariants as setting
 use Rattle.iso_model.specs.declared.library.Comparison.TheVariants as comparison
 use Rattle.iso_model.specs.declared.library.OrderTest.TheVariants as order
 use Rattle.iso_model.specs.declared.library.TypeTest.TheVariants as test
-pub use Rattle.iso_model.specs.Search.Replies.{Reply, Fails, Succeeds, Equates, EquatesCopy, Raises, Calls, CallsOnce, Refutes, Repeats, Catches, Gathers, Halts, answered}
+pub use Rattle.iso_model.specs.Search.Replies.{Reply, Fails, Succeeds, Equates, EquatesCopy, Raises, Calls, CallsOnce, Refutes, Repeats, Catches, Gathers, Halts, AsksWorld, answered}
 
 -- the built-ins by name and arity
 abbrev pub built_ins : List (Key × BuiltIn)
@@ -42,7 +43,9 @@ built_ins =
     ∷ (key (codes "@<") 2, Library (library.Order order.Before)) ∷ (key (codes "@=<") 2, Library (library.Order order.NotAfter))
     ∷ (key (codes "@>") 2, Library (library.Order order.After)) ∷ (key (codes "@>=") 2, Library (library.Order order.NotBefore))
     ∷ (key (codes "compare") 3, Library library.CompareTerms)
-    ∷ (key (codes "sort") 2, Library library.Sort) ∷ (key (codes "keysort") 2, Library library.Keysort) ∷ []
+    ∷ (key (codes "sort") 2, Library library.Sort) ∷ (key (codes "keysort") 2, Library library.Keysort)
+    ∷ (key (codes "op") 3, Setting setting.Op) ∷ (key (codes "current_op") 3, Setting setting.CurrentOp)
+    ∷ (key (codes "set_prolog_flag") 2, Setting setting.SetFlag) ∷ (key (codes "current_prolog_flag") 2, Setting setting.CurrentFlag) ∷ []
 
 abbrev pub built_in_among : List (Key × BuiltIn) → Key → Option BuiltIn
 built_in_among [] k = None
@@ -108,3 +111,4 @@ reply Halt t = Halts 0
 reply HaltWith t = halt_reply (argument 0 t) (key (codes "halt") 1)
 reply Findall t = findall_reply (argument 0 t) (argument 1 t) (argument 2 t) (key (codes "findall") 3)
 reply (Library row) t = answered (library_answer row t)
+reply (Setting row) t = AsksWorld row t

@@ -5,7 +5,7 @@ use Rattle.iso_model.specs.Terms.Trees.{Tree}
 use Rattle.iso_model.specs.Terms.TermOf.{term_of}
 use Rattle.iso_model.specs.Search.Additions.{Addition, Adds, Refuses}
 use Rattle.iso_model.specs.Search.Walker.{State, Answered, Wrote, NoMore, Budget, Uncaught, Halted, idle, started}
-use Rattle.iso_model.specs.Search.Runs.{Comes, Finishes}
+use Rattle.iso_model.specs.Search.Runs.{Comes, Finishes, Reaches}
 use Rattle.iso_model.specs.declared.pauses.Pause.{Pause}
 use Rattle.iso_model.specs.declared.pauses.Pause.TheVariants as pause
 use Rattle.iso_model.specs.declared.pauses.StartFault.{StartFault}
@@ -26,6 +26,13 @@ abbrev pub IsAwake : Phase → Type 0
 IsAwake Ready = Unit {0}
 IsAwake Midway = Unit {0}
 IsAwake (Spent limit) = ⊥
+
+-- What holds where an engine is that stands for this state: there, while no limit was met. A spent engine is where it stopped, to which some steps without an
+-- event lead from there.
+abbrev pub HoldsWhereItIs : Phase → State → (State → Type 0) → Type 0
+HoldsWhereItIs Ready s P = P s
+HoldsWhereItIs Midway s P = P s
+HoldsWhereItIs (Spent limit) s P = Reaches s P
 
 -- the limit for which a goal was not started
 abbrev pub start_limit : StartFault → Limit

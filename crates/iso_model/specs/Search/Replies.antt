@@ -2,6 +2,7 @@
 use Rattle.std.specs.Prelude.{ℕ}
 use Rattle.iso_model.specs.Terms.Trees.{Tree}
 use Rattle.iso_model.specs.Search.Bodies.{Body}
+use Rattle.iso_model.specs.declared.library.Setting.{Setting}
 
 -- what a goal of a built-in comes to
 pub data Reply : Type 0 where
@@ -27,6 +28,8 @@ pub data Reply : Type 0 where
   Gathers : (template : Tree) → (goal : Body) → (result : Tree) → Reply
   -- the search ends with this status
   Halts : (status : ℕ) → Reply
+  -- what this goal comes to rests on the world
+  AsksWorld : (row : Setting) → (goal : Tree) → Reply
 
 -- what a goal of a built-in comes to that runs no goal
 pub data Answer : Type 0 where

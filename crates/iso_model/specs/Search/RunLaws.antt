@@ -8,6 +8,7 @@ pub mod Marks
 pub mod TermValues
 pub mod LibraryValues
 pub mod Values
+pub mod SettingValues
 pub mod Sameness
 pub mod SameSteps
 pub mod SameRuns

@@ -12,8 +12,9 @@ use Rattle.iso_model.specs.Terms.Lists.{list_of}
 use Rattle.iso_model.specs.Search.Bodies.{Body, Cut, Run, And, Or, If, Choose, one, converted, body_term, map_body, is_true}
 use Rattle.iso_model.specs.Search.Databases.{Clause, Key, key, key_of, clauses_at}
 pub use Rattle.iso_model.specs.Search.Worlds.{World, first_world}
-use Rattle.iso_model.specs.Search.BuiltIns.{Reply, Fails, Succeeds, Equates, EquatesCopy, Raises, Calls, CallsOnce, Refutes, Repeats, Catches, Gathers, Halts, built_in, reply}
+use Rattle.iso_model.specs.Search.BuiltIns.{Reply, Fails, Succeeds, Equates, EquatesCopy, Raises, Calls, CallsOnce, Refutes, Repeats, Catches, Gathers, Halts, AsksWorld, built_in, reply}
 use Rattle.iso_model.specs.Search.Errors.{type_error_callable, existence_error}
+use Rattle.iso_model.specs.Search.Settings.{Settled, Refuses, Changes, Offers, setting_settled}
 use Rattle.iso_model.specs.declared.built_ins.BuiltIn.{BuiltIn}
 
 -- A member of the list of goals: a goal with its cut mark (a height of the stack), a cut back to a height, failure, the end of a catch's goal (its
@@ -29,13 +30,15 @@ pub data Member : Type 0 where
   Gather : (height : ℕ) → (template : Tree) → Member
 
 -- what is left to be tried at an alternative: its goals as they are, once or again and again, these clauses for this call, or nothing: it is the entry
--- of a catch; or what a findall/3 has gathered: the result, and the copies of its solutions so far, whose variables are 0, 1, .. up to this count
+-- of a catch; or what a findall/3 has gathered: the result, and the copies of its solutions so far, whose variables are 0, 1, .. up to this count; or
+-- the rows of terms that the left one is still to be unified with, and what is made for each
 pub data Left : Type 0 where
   AsIs : Left
   Again : Left
   Clauses : (call : Tree) → (clauses : List Clause) → Left
   Catching : (catcher : Tree) → (recovery : Tree) → Left
   Gathering : (result : Tree) → (copies : List Tree) → (count : ℕ) → Left
+  Offered : (made : ℕ) → (left : Tree) → (rights : List Tree) → Left
 
 -- An alternative: the goals, the substitution, the next number and what was built, as they were when it was made, and what is left to
 -- be tried (7.7.8).
@@ -166,6 +169,26 @@ abbrev pub equated : Option Subst → List Member → State → State
 equated None rest s = fails s
 equated (Some u) rest s = record s { list = rest; subst = u }
 
+-- the right rows behind the first are one alternative, where there are any
+abbrev pub with_rights : ℕ → Tree → List Tree → List Member → State → State
+with_rights made left [] rest s = s
+with_rights made left (t ∷ ts) rest s = pushed rest (Offered made left (t ∷ ts)) s
+
+-- the left row is unified with this one
+abbrev pub tried_right : ℕ → Tree → Tree → List Member → State → State
+tried_right made left right rest s = equated (under s.subst (unifier_of left right)) rest (record s { built = s.built + made })
+
+-- the right rows are tried in their order
+abbrev pub offered : ℕ → Tree → List Tree → List Member → State → State
+offered made left [] rest s = fails s
+offered made left (t ∷ ts) rest s = tried_right made left t rest (with_rights made left ts rest s)
+
+-- a goal that reads or changes operators and flags comes to this
+abbrev pub settled : Settled → List Member → State → State
+settled (Refuses error) rest s = record s { list = Raise error ∷ rest }
+settled (Changes w) rest s = record s { list = rest; world = w }
+settled (Offers made left rights) rest s = offered made left rights rest s
+
 -- what a built-in makes is the goal that it runs (own)
 abbrev pub with_goal : Body → State → State
 with_goal b s = record s { built = s.built + size (body_term b) }
@@ -191,6 +214,7 @@ replied (Gathers template b result) rest s =
 replied (Halts status) rest s = Ends (Halted status) s.world
 replied (Equates made a b) rest s = Goes (equated (under s.subst (unifier_of a b)) rest (record s { built = s.built + made }))
 replied (EquatesCopy a b) rest s = Goes (equated (under s.subst (unifier_of a (apply s.subst (copy_from b s.next)))) rest (with_copy b s))
+replied (AsksWorld row t) rest s = Goes (settled (setting_settled row t s.world) rest s)
 
 -- What is left at an alternative is tried. A further solution of `repeat` takes a step (8.15.3; that it does is own). Where the goal of a findall/3 has no
 -- further solution, the result is unified with the list of the copies, whose variables are numbered on from the next number (8.10.1).
@@ -200,6 +224,7 @@ retried Again s = paid s.steps s (Goes (pushed s.list Again s))
 retried (Clauses call cs) s = Goes (tried call cs s.list s)
 retried (Catching catcher recovery) s = Goes (fails s)
 retried (Gathering result copies count) s = replied (EquatesCopy result (list_of copies)) s.list s
+retried (Offered made left rights) s = Goes (offered made left rights s.list s)
 
 -- failure goes on with the newest alternative; where there is none the search ends
 abbrev pub backtracked : List Alternative → State → Outcome

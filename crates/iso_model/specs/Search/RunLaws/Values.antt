@@ -7,23 +7,24 @@ use Rattle.iso_model.specs.Terms.Arguments.{arguments, argument, others, with_ar
 use Rattle.iso_model.specs.Search.Bodies.{Body, Cut, Run, And, Or, If, Choose, map_body, either, both, converted, converted_two, one, two}
 use Rattle.iso_model.specs.Search.Keys.{Key, key}
 use Rattle.iso_model.specs.Search.Errors.{domain_error, max_arity_error, type_error}
-use Rattle.iso_model.specs.Search.BuiltIns.{Reply, Fails, Succeeds, Equates, EquatesCopy, Raises, Calls, CallsOnce, Refutes, Repeats, Catches, Gathers, Halts, converted_reply, goal_reply, called_reply, findall_reply, throw_reply, halt_reply, answered, reply}
+use Rattle.iso_model.specs.Search.BuiltIns.{Reply, Fails, Succeeds, Equates, EquatesCopy, Raises, Calls, CallsOnce, Refutes, Repeats, Catches, Gathers, Halts, AsksWorld, converted_reply, goal_reply, called_reply, findall_reply, throw_reply, halt_reply, answered, reply}
 use Rattle.iso_model.specs.Terms.Lists.{is_partial_list}
 use Rattle.iso_model.specs.Search.Library.{library_answer}
 use Rattle.iso_model.specs.Search.Replies.{Answer, Fail, Succeed, Equate, EquateCopy, Raise}
-use Rattle.iso_model.specs.Search.Walker.{Left, AsIs, Again, Clauses, Catching, Gathering}
+use Rattle.iso_model.specs.Search.Walker.{Left, AsIs, Again, Clauses, Catching, Gathering, Offered}
 use Rattle.iso_model.specs.Search.RunLaws.LibraryValues.{IsOwnAnswer, library_own}
 use Rattle.iso_model.specs.declared.built_ins.BuiltIn.{BuiltIn}
 use Rattle.iso_model.specs.declared.built_ins.BuiltIn.TheVariants as built_in
-pub use Rattle.iso_model.specs.Search.RunLaws.TermValues.{IsValue, IsTwice, value_is, twice_on, argument_value, arguments_value, others_value, with_value}
+pub use Rattle.iso_model.specs.Search.RunLaws.TermValues.{IsValue, AreValues, IsTwice, value_is, twice_on, argument_value, arguments_value, others_value, with_value}
 
--- what is left at an alternative is for a call's value, or for those of a goal of catch/3 or findall/3
+-- what is left at an alternative is for a call's value, or for those of a goal of catch/3 or findall/3, or is made of values
 abbrev pub IsOwnLeft : Subst → Left → Type 0
 IsOwnLeft r AsIs = Unit {0}
 IsOwnLeft r Again = Unit {0}
 IsOwnLeft r (Clauses call cs) = IsValue r call
 IsOwnLeft r (Catching catcher recovery) = IsValue r catcher × IsValue r recovery
 IsOwnLeft r (Gathering result copies count) = IsValue r result
+IsOwnLeft r (Offered made left rights) = IsValue r left × AreValues r rights
 
 -- ---- bodies of values
 
@@ -110,6 +111,7 @@ IsOwnReply r Repeats = Unit {0}
 IsOwnReply r (Catches inside catcher recovery) = IsOwnReply r inside × IsValue r catcher × IsValue r recovery
 IsOwnReply r (Gathers template b result) = IsValue r template × IsOwnBody r b × IsValue r result
 IsOwnReply r (Halts status) = Unit {0}
+IsOwnReply r (AsksWorld row t) = IsValue r t
 
 converted_reply_own : (r : Subst) (runs : Body → Reply) (o : Option Body) (goal : Tree) (k : Key) → ((b : Body) → IsOwnBody r b → IsOwnReply r (runs b)) → IsOwnOption r o → IsOwnReply r (converted_reply runs o goal k)
 converted_reply_own r runs (Some b) goal k keeps own = keeps b own
@@ -182,3 +184,4 @@ reply_own r built_in.HaltWith v own = halt_own r (argument 0 v) (key (codes "hal
 reply_own r built_in.Findall v own =
     findall_own r (argument 0 v) (argument 1 v) (argument 2 v) (key (codes "findall") 3) (argument_value r 0 v own) (argument_value r 1 v own) (argument_value r 2 v own)
 reply_own r (built_in.Library row) v own = answered_own r (library_answer row v) (library_own r row v own)
+reply_own r (built_in.Setting row) v own = own

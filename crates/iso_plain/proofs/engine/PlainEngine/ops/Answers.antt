@@ -1,6 +1,8 @@
-use Rattle.std.proofs.Common.{ap}
-use Rattle.iso_plain.proofs.EngineMoves.{stands_settings}
+use Rattle.std.proofs.Common.{◌≡◌}
+use Rattle.iso_plain.proofs.EngineMoves.{stands_where}
 use Rattle.iso_plain.proofs.engine.PlainEngine.ops.Goals as goal
 
 pub returns : goal.returns
-returns g c = λ s r. ap (λ x. x.0) (stands_settings g.S.Store.names g.S.Store.present g.S.Store.stands g.S.Store.older c.args.self.now.now c.args.self.now s r)
+returns g c = λ s r.
+    let e = c.args.self.now in
+    stands_where g.S.Store.names g.S.Store.present g.S.Store.stands g.S.Store.older (λ w. e.ops ≡ w.operators) e.now e s (λ w is. is.operators_are) r

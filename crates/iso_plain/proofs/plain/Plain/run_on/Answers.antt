@@ -1,7 +1,7 @@
 use Rattle.std.proofs.Common.{ℕ, arith, subst, ◌∙◌}
 use Rattle.iso_model.specs.Search.Runs.{here, ComesOver}
 use Rattle.iso_model.specs.Search.RunLaws.{quiet_trans, reaches_behind}
-use Rattle.iso_plain.proofs.EngineMoves.{represents_stands, stands_settings, pauses_behind}
+use Rattle.iso_plain.proofs.EngineMoves.{represents_stands, pauses_behind}
 use Rattle.iso_plain.proofs.LimitLemmas.{where_full, stays_same, stays_on}
 use Rattle.iso_plain.proofs.plain.Plain.run_on.Goals as goal
 
@@ -31,9 +31,7 @@ loop-pause-preserved g c =
 pub returns-in-Pauses-clause-pauses : goal.returns-in-Pauses-clause-pauses
 returns-in-Pauses-clause-pauses g c = λ s r.
     let q = c.loop-pause.invariant.quiet s r in
-    let start = c.args.self.now in
-    let same = c.advance.ensures.stays.settings ∙ (c.loop-pause.invariant.stays.settings ∙ stands_settings g.S.Store.names g.S.Store.present g.S.Store.stands g.S.Store.older start.now start s r) in
-    pauses_behind g.S.Store.names g.S.Store.present g.S.Store.stands g.S.Store.older c.advance.new.self s q.0 c.in-Pauses.pause same q.1 (c.in-Pauses.ensures.moves q.0 q.2)
+    pauses_behind g.S.Store.names g.S.Store.present g.S.Store.stands g.S.Store.older c.advance.new.self s q.0 c.in-Pauses.pause q.1 (c.in-Pauses.ensures.moves q.0 q.2)
 
 pub returns-in-Pauses-clause-stays : goal.returns-in-Pauses-clause-stays
 returns-in-Pauses-clause-stays g c = stays_on g.S.Store.names c.loop-pause.invariant.stays c.advance.ensures.stays
