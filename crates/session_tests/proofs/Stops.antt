@@ -1,0 +1,10 @@
+-- What holds of the state that an engine stands for, where it stops there.
+use Rattle.std.proofs.Common.{Bool, true, false, if◌then◌else◌}
+use Rattle.iso_model.specs.Search.Engines.{Ready, Spent, HoldsWhereItIs}
+use Rattle.iso_model.specs.Search.Runs.{here}
+use Rattle.iso_model.specs.Search.Walker.{State}
+use Rattle.iso_model.specs.declared.limit.Limit.TheVariants.{Heap}
+
+pub holds_there : (spent : Bool) (s : State) (P : State → Type 0) → P s → HoldsWhereItIs (if spent then Spent Heap else Ready) s P
+holds_there true s P holds = record { at = s; quiet = here; holds = holds }
+holds_there false s P holds = holds
