@@ -8,8 +8,6 @@ mod arithmetic;
 #[cfg(test)]
 mod atoms;
 #[cfg(test)]
-mod db;
-#[cfg(test)]
 mod heap;
 #[cfg(test)]
 mod library;
