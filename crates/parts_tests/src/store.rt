@@ -5,8 +5,8 @@
 //!     ulimit -s unlimited; for n in $(seq 124); do rt try --test --fail-alloc $n -- store; done
 //!
 //! Each test then passes, or fails with the text `error: AllocError`, `error: AllocFailed { .. }`, `error: NoMemory` or
-//! `error: "no memory"`, and none fails in an assertion. The last time all pass but the one of long lists, which makes more
-//! allocations, as those of `nodes` and `heap` that build lists do. Long lists need the deep stack under `rt try`.
+//! `error: "no memory"`, and none fails in an assertion. The last time all pass but those of long lists and of shared parts, which make
+//! more allocations, as those of `nodes` and `heap` that build lists do. Long lists need the deep stack under `rt try`.
 ghost use Rattle.std.specs.Prelude.{◌≡◌, ◌<◌, ◌^◌, ◌∷◌, [], ℕ, IfOk, OnOk, length, true, false};
 ghost use Rattle.std.specs.List.{All};
 ghost use Rattle.iso_model.specs.Terms.Trees.{arities_fit};
