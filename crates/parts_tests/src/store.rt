@@ -5,8 +5,8 @@
 //!     ulimit -s unlimited; for n in $(seq 124); do rt try --test --fail-alloc $n -- store; done
 //!
 //! Each test then passes, or fails with the text `error: AllocError`, `error: AllocFailed { .. }`, `error: NoMemory` or
-//! `error: "no memory"`, and none fails in an assertion. The last time all pass but the one of long lists, which makes more
-//! allocations, as those of `nodes` and `heap` that build lists do. Long lists need the deep stack under `rt try`.
+//! `error: "no memory"`, and none fails in an assertion. The last time all pass but those of long lists and of shared parts, which make
+//! more allocations, as those of `nodes` and `heap` that build lists do. Long lists need the deep stack under `rt try`.
 ghost use Rattle.std.specs.Prelude.{◌≡◌, ◌<◌, ◌^◌, ◌∷◌, [], ℕ, IfOk, OnOk, length, true, false};
 ghost use Rattle.std.specs.List.{All};
 ghost use Rattle.iso_model.specs.Terms.Trees.{arities_fit};
@@ -339,6 +339,92 @@ fn lists_variables(rt: HostRuntime) -> Result<(), Fail> {
     expect_variables_listed(&rt, alloc, &mut nodes)?;
     let mut heap = Heap::new(alloc, 100)?;
     expect_variables_listed(&rt, alloc, &mut heap)
+}
+
+/// That copies have new variables, the same where they were the same, and what is bound is copied.
+fn expect_copied<S: Store>(rt: &impl Abort, alloc: Global, store: &mut S) -> Result<(), Fail>
+    requires { (S.present store.old).next < 2 ^ 62 }
+{
+    let both = equation(alloc)?;
+    assert!(rt; well_formed(&both));
+    let whole = store.build(&both)?;
+    let copy = store.copy(whole)?;
+    expect_shown(
+        rt,
+        alloc,
+        &*store,
+        copy,
+        "Compound(\"=\", [Compound(\"f\", [Var(4), Var(5), Var(4)]), Compound(\"f\", [Atom(\"a\"), Var(6), Var(7)])])",
+    )?;
+    let (first, second) = sides(rt, &*store, copy);
+    assert!(rt; store.unify(first, second)?);
+    let again = store.copy(first)?;
+    expect_shown(
+        rt,
+        alloc,
+        &*store,
+        again,
+        "Compound(\"f\", [Atom(\"a\"), Var(8), Atom(\"a\")])",
+    )?;
+    expect_shown(
+        rt,
+        alloc,
+        &*store,
+        whole,
+        "Compound(\"=\", [Compound(\"f\", [Var(0), Var(1), Var(0)]), Compound(\"f\", [Atom(\"a\"), Var(2), Var(3)])])",
+    )
+}
+
+#[test]
+fn copies_terms(rt: HostRuntime) -> Result<(), Fail> {
+    let alloc = rt.alloc();
+    let mut nodes = Nodes::new(alloc, 100)?;
+    expect_copied(&rt, alloc, &mut nodes)?;
+    let mut heap = Heap::new(alloc, 100)?;
+    expect_copied(&rt, alloc, &mut heap)
+}
+
+/// f(T, T) of so many levels, each of which stands twice in the next; the first is a variable.
+fn shared<S: Store>(alloc: Global, store: &mut S, levels: u32) -> Result<S::Word, Fail>
+    requires { (S.present store.old).next < 2 ^ 62 }
+    ensures made { IfOk result (λ w. Holds (S.present store.new) w) }
+    ensures next { OnOk result ((S.present store.new).next < 2 ^ 62 + 1) }
+{
+    let functor = store.intern("f")?;
+    let mut whole = store.fresh()?;
+    for _level in 0..levels {
+        let both = pair(alloc, whole, whole)?;
+        whole = store.compound(functor, both.as_slice())?;
+    }
+    Ok(whole)
+}
+
+/// That the copy of a term of so many levels shares its parts as the term does: there is room for it, and for no second copy.
+fn expect_shared_copied<S: Store>(
+    rt: &impl Abort,
+    alloc: Global,
+    store: &mut S,
+    levels: u32,
+) -> Result<(), Fail>
+    requires { (S.present store.old).next < 2 ^ 62 }
+{
+    let whole = shared(alloc, store, levels)?;
+    let copy = store.copy(whole)?;
+    let variables = store.variables(copy)?;
+    assert_eq!(rt; variables.len(), 1usize);
+    assert_eq!(rt; store.shape(variables[0]), Shape::Var(1));
+    assert!(rt; is_full(store.copy(whole))?);
+    Ok(())
+}
+
+/// A copy takes a node for each part that stands at a place of its own; in cells, three for each level and one for the variable.
+#[test]
+fn copies_shared_parts_once(rt: HostRuntime) -> Result<(), Fail> {
+    let alloc = rt.alloc();
+    let mut nodes = Nodes::new(alloc, 2 * 10_001)?;
+    expect_shared_copied(&rt, alloc, &mut nodes, 10_000)?;
+    let mut heap = Heap::new(alloc, 2 * 30_001)?;
+    expect_shared_copied(&rt, alloc, &mut heap, 10_000)
 }
 
 /// That a list of so many variables has them, comes before the list of the same ones from the last to the first, and is

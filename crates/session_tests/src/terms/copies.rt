@@ -58,4 +58,11 @@ pub const ROWS: &[Row] = &[
         output: "answer 1: X = _1, Y = _2\nanswer 2: X = _1, Y = c\nend: no more\nanswer 1: X = _1, Y = _2\nend: no more\n",
         ..PLAIN
     },
+    Row {
+        name: "a term of 10,000 levels, each of which stands twice in the next",
+        text: "share(0, _).\nshare(N, f(T, T)) :- N > 0, M is N - 1, share(M, T).\ncopied(N) :- share(N, T), copy_term(T, C), C = f(_, _).\n",
+        queries: "copied(10000).",
+        output: "answer 1: true\nend: no more\n",
+        ..PLAIN
+    },
 ];
