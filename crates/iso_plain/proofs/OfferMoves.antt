@@ -1,6 +1,6 @@
 -- Goals that read or change operators and flags, and rows that their arguments are unified with.
-use Rattle.std.proofs.Common.{◌≡◌, ℕ, zero, suc, ◌+◌, ◌*◌, ◌-◌, ◌<◌, ◌≤◌, ◌++◌, ◌==◌, List, [], ◌∷◌, length, map, reverse, take, slice_set, Option, Some, None, Bool, true, false, refl, ap, ap₂, sym, ◌∙◌, subst, arith, Vec, Global, inl, inr}
-use Rattle.std.specs.Prelude.{option_map, Result, Ok, Err, OnErr}
+use Rattle.std.proofs.Common.{◌≡◌, ℕ, zero, suc, ◌+◌, ◌*◌, ◌-◌, ◌<◌, ◌≤◌, ◌++◌, ◌==◌, List, [], ◌∷◌, length, map, reverse, take, slice_set, Option, Some, None, Bool, true, false, refl, ap, ap₂, sym, ◌∙◌, subst, arith, Vec, Global}
+use Rattle.std.specs.Prelude.{Result, Ok, Err, OnErr}
 use Rattle.std.specs.List.{slice_get}
 use Rattle.std.proofs.lemmas.List.{reverse-append, reverse-reverse, length-reverse}
 use Rattle.iso_atoms.specs.Texts.{KeepsTexts}
@@ -10,15 +10,15 @@ use Rattle.iso_model.specs.Terms.Trees.{Tree, row, arities_fit}
 use Rattle.iso_model.specs.Terms.TermOf.{term_of}
 use Rattle.iso_model.specs.Terms.Arguments.{arity}
 use Rattle.iso_model.specs.Terms.Variables.{variables}
-use Rattle.iso_model.specs.Terms.Substitutions.{Subst, apply, compose}
+use Rattle.iso_model.specs.Terms.Substitutions.{Subst, compose}
 use Rattle.iso_model.specs.Terms.Unifiers.{Unifier, NeverEqual}
 use Rattle.iso_model.specs.Terms.Unification.{unifier_of}
 use Rattle.iso_model.specs.Search.Settings.{Settled, Refuses, Changes, Offers, setting_arity}
-use Rattle.iso_model.specs.Search.Walker.{State, World, Member, Alternative, Offered, Goes, under, equated, fails, pushed, with_rights, tried_right, offered, settled, step}
+use Rattle.iso_model.specs.Search.Walker.{State, World, Member, Alternative, Offered, Goes, under, equated, pushed, with_rights, tried_right, offered, settled, step}
 use Rattle.iso_model.specs.declared.library.Setting.{Setting}
 use Rattle.iso_model.specs.declared.pauses.Ball.{Ball}
 use Rattle.iso_model.proofs.Search.CallLemmas.{unify_found, unify_none}
-use Rattle.iso_store_core.specs.Presents.{Present, Binds, IsUnification, KeepsMarks, KeepsWords, meaning}
+use Rattle.iso_store_core.specs.Presents.{Present, Binds, IsUnification, KeepsMarks, meaning}
 use Rattle.iso_lib.specs.declared.settings.Offer.{Offer}
 use Rattle.iso_lib.specs.Settlements.{offer_tree, arguments_from, goal_row, with_settings, IsSettled, IsRefused, OnOffers}
 use Rattle.iso_lib.specs.declared.settings.Settled.{Settled as Came}
@@ -31,10 +31,10 @@ use Rattle.iso_plain_core.specs.declared.parts.Left.TheVariants as left
 use Rattle.iso_plain_core.specs.declared.parts.Choice as kept
 use Rattle.iso_plain_core.specs.declared.parts.Now.TheVariants as now
 use Rattle.iso_plain_core.specs.Next.{now_behind}
-use Rattle.iso_plain_core.specs.Costs.{body_cost, left_cost, most, rest_cost, choice_cost, choices_cost, frame_costs}
-use Rattle.iso_plain_core.specs.Standing.{Chain, HasLeft, HasOffered, StandsForChoices, GainsChoice, GoesOn, most_numbers, numbers_a_step}
+use Rattle.iso_plain_core.specs.Costs.{body_cost, left_cost, most, rest_cost, choice_cost, choices_cost}
+use Rattle.iso_plain_core.specs.Standing.{Chain, HasOffered, StandsForChoices, GainsChoice, GoesOn}
 use Rattle.iso_plain_core.specs.ClausePlaces.{left_at}
-use Rattle.iso_plain_core.proofs.CostLemmas.{left_step, choices_last, left_higher, below_most}
+use Rattle.iso_plain_core.proofs.CostLemmas.{left_step, choices_last}
 use Rattle.iso_plain_core.proofs.EnteringLemmas.{adds_none}
 use Rattle.iso_plain_core.proofs.StandingLemmas.{choices_keep, choices_push, last_split, length_last, front_is, some_same}
 use Rattle.iso_plain.specs.declared.plain.Plain.{Plain}

@@ -13,7 +13,7 @@ use Rattle.iso_model.specs.Search.BuiltIns.{Reply, Fails, Succeeds, Equates, Equ
 use Rattle.iso_model.specs.declared.built_ins.BuiltIn.{BuiltIn}
 use Rattle.iso_model.specs.declared.built_ins.BuiltIn.TheVariants as built_in
 use Rattle.iso_model.specs.declared.library.Setting.{Setting}
-use Rattle.iso_model.specs.Search.Settings.{setting_settled, setting_arity}
+use Rattle.iso_model.specs.Search.Settings.{setting_settled}
 use Rattle.iso_model.specs.declared.pauses.Pause.{Pause}
 use Rattle.iso_model.specs.declared.limit.Limit.TheVariants as limit
 use Rattle.iso_model.specs.Search.Walker.{State, World, Goal, CutTo, Fail, Leave, Raise, Goes, AsIs, Again, Gather, Catching, Gathering, Halted, idle, fails, with_goal, pushed, settled, step}

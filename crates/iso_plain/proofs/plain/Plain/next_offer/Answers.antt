@@ -1,9 +1,9 @@
-use Rattle.std.proofs.Common.{◌≡◌, ◌∙◌, ◌==◌, ◌≤◌, ℕ, length, arith, sym, subst, true, false, refl}
+use Rattle.std.proofs.Common.{◌≡◌, ◌∙◌, ◌≤◌, length, sym, subst, refl}
 use Rattle.std.proofs.lemmas.Bool.{eqb-true, eqb-false}
 use Rattle.iso_plain_core.specs.Costs.{frame_costs}
 use Rattle.iso_plain.proofs.ResumeLemmas.{marks_of}
 use Rattle.iso_plain.proofs.WorldLemmas.{same_texts}
-use Rattle.iso_plain.proofs.OfferMoves.{offered_there, Taken, taken, there_is, taken_gone, taken_many, next_some, next_last, some_cost, last_cost, positive}
+use Rattle.iso_plain.proofs.OfferMoves.{offered_there, taken, there_is, taken_gone, taken_many, next_some, next_last, some_cost, last_cost, positive}
 use Rattle.iso_plain.proofs.plain.Plain.next_offer.Goals as goal
 
 pub unreachable-requires : goal.unreachable-requires

@@ -1,5 +1,5 @@
-use Rattle.std.proofs.Common.{◌≡◌, ◌∙◌, ◌+◌, ◌≤◌, ◌<◌, length, map, arith, refl, sym, ap, subst, Ok, inl, inr}
-use Rattle.iso_model.specs.Search.Walker.{State, World, with_rights, offered}
+use Rattle.std.proofs.Common.{◌≡◌, ◌∙◌, ◌+◌, map, arith, sym, ap, subst, Ok, inr}
+use Rattle.iso_model.specs.Search.Walker.{State, World, with_rights}
 use Rattle.iso_store_core.specs.Presents.{meaning}
 use Rattle.iso_lib.specs.Settlements.{offer_tree}
 use Rattle.iso_plain_core.specs.Offers.{goal_arguments, rights_of}

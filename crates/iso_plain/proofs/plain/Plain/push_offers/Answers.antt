@@ -1,4 +1,4 @@
-use Rattle.std.proofs.Common.{◌≡◌, ◌<◌, ◌+◌, length, arith, sym, ◌∙◌}
+use Rattle.std.proofs.Common.{◌≡◌, length, arith, sym, ◌∙◌}
 use Rattle.std.proofs.lemmas.Bool.{eqb-false}
 use Rattle.iso_plain_core.specs.Costs.{most, rest_cost, frame_costs}
 use Rattle.iso_plain_core.proofs.CostLemmas.{left_higher, below_most}

@@ -1,5 +1,4 @@
-use Rattle.std.proofs.Common.{◌≡◌, ◌∙◌, ◌+◌, ◌*◌, ◌<◌, ◌≤◌, ℕ, suc, map, length, arith, refl, sym, ap, subst, Ok, Err, IfOk, OnErr}
-use Rattle.iso_model.specs.Terms.TermOf.{term_of}
+use Rattle.std.proofs.Common.{◌≡◌, ◌∙◌, ◌*◌, ◌<◌, ◌≤◌, ℕ, suc, length, arith, sym, ap, subst, Ok, Err, IfOk, OnErr}
 use Rattle.iso_model.specs.Search.Settings.{Settled, setting_settled, setting_arity}
 use Rattle.iso_model.specs.Search.Walker.{State, settled}
 use Rattle.iso_store_core.specs.Presents.{meaning}

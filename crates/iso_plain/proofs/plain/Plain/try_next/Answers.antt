@@ -1,6 +1,6 @@
-use Rattle.std.proofs.Common.{◌≡◌, subst, sym, OnOk}
+use Rattle.std.proofs.Common.{subst, sym}
 use Rattle.std.proofs.lemmas.Result.{on_ok_weaker, on_err_weaker}
-use Rattle.iso_model.specs.Search.Walker.{State, World, Alternative, with_rights, offered}
+use Rattle.iso_model.specs.Search.Walker.{State, World, with_rights}
 use Rattle.iso_store_core.specs.Presents.{meaning}
 use Rattle.iso_plain_core.specs.Offers.{goal_arguments}
 use Rattle.iso_plain.specs.EngineStates.{IsEngine, Keeps, went_back}
