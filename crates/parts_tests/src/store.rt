@@ -392,9 +392,11 @@ fn shared<S: Store>(alloc: Global, store: &mut S, levels: u32) -> Result<S::Word
 {
     let functor = store.intern("f")?;
     let mut whole = store.fresh()?;
-    for _level in 0..levels {
+    let mut level = 0;
+    while level < levels {
         let both = pair(alloc, whole, whole)?;
         whole = store.compound(functor, both.as_slice())?;
+        level += 1;
     }
     Ok(whole)
 }
