@@ -1,19 +1,17 @@
 -- A ball that goes to a catch: its catcher meets it, and its recovery is called, or the ball is thrown on.
-use Rattle.std.proofs.Common.{◌≡◌, ℕ, suc, ◌+◌, ◌-◌, ◌<◌, ◌≤◌, List, [], ◌∷◌, length, codes, Option, Some, None, refl, ap, ap₂, sym, ◌∙◌, subst, arith, ◌⊎◌, inl, inr}
+use Rattle.std.proofs.Common.{◌≡◌, ℕ, suc, ◌+◌, List, ◌∷◌, length, codes, Option, refl, ap, sym, ◌∙◌, subst, inl, inr}
 use Rattle.iso_model.specs.Terms.Trees.{Tree}
 use Rattle.iso_model.specs.Terms.Sizes.{size}
-use Rattle.iso_model.specs.Terms.Variables.{variables, variable_count}
+use Rattle.iso_model.specs.Terms.Variables.{variable_count}
 use Rattle.iso_model.specs.Terms.Substitutions.{Subst, apply, compose}
 use Rattle.iso_model.specs.Terms.Unifiers.{Unifier, NeverEqual}
-use Rattle.iso_model.specs.Terms.Unification.{unifier_of}
 use Rattle.iso_model.specs.Terms.Unification.Applied.{apply_apply}
 use Rattle.iso_model.specs.Terms.Copies.{copy_from}
-use Rattle.iso_model.specs.Search.Bodies.{Body, Run, one}
-use Rattle.iso_model.specs.Search.Walker.{State, Member, Goal, Raise, Meet, Alternative, Left, Catching, Outcome, Goes, under, met, meets, shortened, step}
-use Rattle.iso_model.specs.Search.Runs.{Quiet}
+use Rattle.iso_model.specs.Search.Bodies.{Run, one}
+use Rattle.iso_model.specs.Search.Walker.{State, Member, Goal, Raise, Alternative, Left, Goes, met, meets, step}
 use Rattle.iso_model.specs.Search.RunLaws.{quiet_trans}
 use Rattle.iso_model.specs.Search.RunLaws.Values.{IsValue, IsOwnLeft}
-use Rattle.iso_model.specs.Search.RunLaws.Sameness.{SameList, same_goal, Same, going, failing, SameStack, no_alternative, same_alternative, Around, flat}
+use Rattle.iso_model.specs.Search.RunLaws.Sameness.{same_goal, Same, going, failing, SameStack, no_alternative, same_alternative, Around}
 use Rattle.iso_model.specs.Search.RunLaws.SameSteps.{shortened_same, list_same}
 use Rattle.iso_model.specs.Search.RunLaws.SameRuns.{onward_same}
 use Rattle.iso_model.specs.Search.RunLaws.SameLaws.{same_back, same_on, same_beside}

@@ -3,17 +3,17 @@ use Rattle.std.proofs.Common.{◌≡◌, ℕ, zero, suc, ◌<◌, ◌≤◌, Lis
 use Rattle.std.specs.List.{slice_get}
 use Rattle.iso_model.specs.Terms.Trees.{Tree}
 use Rattle.iso_model.specs.Search.Databases.{Clause}
-use Rattle.iso_model.specs.Search.Walker.{State, Member, Goal, CutTo, Fail, Leave, Alternative, Left, Catching, Outcome, Goes, caught_at, caught, thrown}
+use Rattle.iso_model.specs.Search.Walker.{State, Member, Leave, Left, caught_at, caught, thrown}
 use Rattle.iso_store_core.specs.Presents.{Present}
 use Rattle.iso_plain_core.specs.declared.bodies.Node.{Node}
 use Rattle.iso_plain_core.specs.declared.parts.Frame.{Frame}
 use Rattle.iso_plain_core.specs.declared.parts.Todo.TheVariants as todo
 use Rattle.iso_plain_core.specs.declared.parts.Choice as kept
 use Rattle.iso_plain_core.specs.Standing.{Links, IsBefore, IsMember, a_body, a_cut, a_failure, an_end, a_template, Chain, leads, ends, StandsForChoices}
-use Rattle.iso_plain.specs.Catches.{GoesTo, IsEntry, IsEndOfCatch, caught_by}
+use Rattle.iso_plain.specs.Catches.{GoesTo, IsEndOfCatch}
 use Rattle.std.proofs.lemmas.Option.{slice_get_within}
 use Rattle.iso_plain_core.proofs.StandingLemmas.{choices_length, some_same}
-use Rattle.iso_plain.proofs.ThrowLemmas.{AtHeight, at_height, entry_catches, other_passes, caught_above}
+use Rattle.iso_plain.proofs.ThrowLemmas.{at_height, entry_catches, other_passes, caught_above}
 
 nothing_there : {X : Type 0} (xs : List X) (i : ℕ) → slice_get xs i ≡ None → length xs ≤ i
 nothing_there [] i h = omega arith

@@ -13,10 +13,10 @@ use Rattle.iso_model.specs.Terms.Copies.{copy_from}
 use Rattle.iso_model.specs.Terms.Lists.{list_of}
 use Rattle.iso_model.specs.Terms.Sizes.{size}
 use Rattle.iso_model.specs.Search.Bodies.{Body, Run}
-use Rattle.iso_model.specs.Search.Walker.{State, World, Member, Goal, Fail, Gather, Alternative, Gathering, Goes, gathered_at, fails, pushed, equated, under, with_copy, step}
+use Rattle.iso_model.specs.Search.Walker.{State, Member, Goal, Gather, Alternative, Gathering, Goes, gathered_at, fails, pushed, equated, under, with_copy, step}
 use Rattle.iso_model.specs.Search.Engines.{IsAwake}
 use Rattle.iso_model.proofs.Search.CallLemmas.{unify_found, unify_none}
-use Rattle.iso_store_core.specs.Presents.{Present, KeepsMarks, KeepsWords, meaning}
+use Rattle.iso_store_core.specs.Presents.{Present, KeepsMarks, meaning}
 use Rattle.iso_lib.specs.Replies.{UnifiesCopy, MeetsCopy}
 use Rattle.iso_plain_core.specs.Solutions.{copies_of, Gains}
 use Rattle.iso_plain_core.specs.Gathering.{SameCopies, ChangesAt}
@@ -26,7 +26,6 @@ use Rattle.iso_plain_core.specs.declared.bodies.Node.TheVariants as node
 use Rattle.iso_plain_core.specs.declared.parts.Todo.{Todo}
 use Rattle.iso_plain_core.specs.declared.parts.Todo.TheVariants as todo
 use Rattle.iso_plain_core.specs.declared.parts.Frame.{Frame}
-use Rattle.iso_plain_core.specs.declared.parts.Left.{Left}
 use Rattle.iso_plain_core.specs.declared.parts.Left.TheVariants as left
 use Rattle.iso_plain_core.specs.declared.parts.Choice as kept
 use Rattle.iso_plain_core.specs.declared.parts.Now.{Now}
@@ -36,14 +35,14 @@ use Rattle.iso_plain.specs.declared.plain.Plain.{Plain}
 use Rattle.iso_plain_core.specs.Entering.{Adds}
 use Rattle.iso_plain_core.specs.Nodes.{runs}
 use Rattle.iso_plain_core.specs.Next.{now_behind}
-use Rattle.iso_plain_core.specs.Costs.{body_cost, most, whole_cost, todo_cost, rest_cost, frame_costs, place_cost, choice_cost, choices_cost, now_cost}
+use Rattle.iso_plain_core.specs.Costs.{body_cost, most, whole_cost, todo_cost, frame_costs, place_cost, choice_cost, choices_cost, now_cost}
 use Rattle.iso_plain_core.specs.Standing.{IsBody, IsGoalWord, a_body, a_template, Chain, HasLeft, HasGathered, StandsForChoices, GainsChoice, GoesOn, entered_at, most_numbers, numbers_a_step}
 use Rattle.iso_plain.specs.EngineStates.{IsEngine, IsAhead, Represents, WentBack, Keeps, Stopped, Moves, cost, weight, phase_of, links_of, went_back}
-use Rattle.iso_plain.specs.Gathers.{EntersFindall, finding, found, template_of, result_of}
+use Rattle.iso_plain.specs.Gathers.{EntersFindall, finding, found, result_of}
 use Rattle.iso_plain_core.specs.ClausePlaces.{left_at}
-use Rattle.iso_plain.proofs.AheadLemmas.{AtFrame, at_frame, template_at, engine_frame, engine_place, ahead_frame, ahead_left}
+use Rattle.iso_plain.proofs.AheadLemmas.{AtFrame, at_frame, template_at, engine_frame, ahead_frame, ahead_left}
 use Rattle.iso_plain.proofs.ControlCosts.{new_place, old_place, gained_cost}
-use Rattle.iso_plain_core.proofs.CostLemmas.{cost_more, cost_parts, left_step, whole_paid, zero_cost, some_most, below_words, choices_on_more, choices_last, behind_cost}
+use Rattle.iso_plain_core.proofs.CostLemmas.{cost_more, cost_parts, left_step, whole_paid, zero_cost, some_most, below_words, choices_on_more, choices_last}
 use Rattle.iso_plain_core.proofs.EnteringLemmas.{adds_none, words_same}
 use Rattle.iso_plain_core.proofs.GatheringLemmas.{choices_gain, choices_same, room_gathered, changed_costs}
 use Rattle.iso_plain.proofs.FailLemmas.{failing}
@@ -51,7 +50,7 @@ use Rattle.iso_plain.proofs.MeetLemmas.{ahead_bound}
 use Rattle.iso_plain.proofs.ResumeLemmas.{has_members, choices_are}
 use Rattle.iso_plain.proofs.SearchMoves.{goes, stops, stops_here}
 use Rattle.iso_plain.proofs.SearchSteps.{gather_step, found_step}
-use Rattle.iso_plain.proofs.StoppedLemmas.{base_kept, choices_on}
+use Rattle.iso_plain.proofs.StoppedLemmas.{base_kept}
 use Rattle.iso_plain_core.proofs.StandingLemmas.{AddsLinks, at_last, body_more, body_within, item_is, next_behind, chain_more, chain_place, choices_keep, choices_length, choices_more}
 use Rattle.iso_plain.proofs.WeightLemmas.{falls_less}
 use Rattle.iso_plain.proofs.WorldLemmas.{world_on}

@@ -11,6 +11,7 @@ pub mod ControlCosts
 pub mod CutMoves
 pub mod CatchMoves
 pub mod GatherMoves
+pub mod OfferMoves
 pub mod LocalMoves
 pub mod SameBodies
 pub mod ResumeLemmas

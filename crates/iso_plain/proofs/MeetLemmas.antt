@@ -1,5 +1,5 @@
 -- A catcher meets a ball.
-use Rattle.std.proofs.Common.{◌≡◌, ℕ, ◌+◌, ◌*◌, ◌<◌, ◌≤◌, ◌++◌, length, Vec, Global, codes, List, [], ◌∷◌, Option, Some, Bool, true, false, Result, Ok, Err, OnOk, refl, ap, sym, ◌∙◌, subst, arith, inl, inr}
+use Rattle.std.proofs.Common.{◌≡◌, ℕ, ◌+◌, ◌*◌, ◌≤◌, ◌++◌, length, Vec, Global, codes, List, [], ◌∷◌, Option, Bool, true, false, Result, Ok, Err, OnOk, refl, ap, sym, ◌∙◌, subst, arith}
 use Rattle.iso_atoms.specs.Texts.{KeepsTexts}
 use Rattle.iso_model.specs.Terms.Trees.{Tree, arities_fit}
 use Rattle.iso_model.specs.Terms.TermOf.{term_of}
@@ -9,26 +9,24 @@ use Rattle.iso_model.specs.Terms.Variables.{variables, variable_count}
 use Rattle.iso_model.specs.Terms.Substitutions.{Subst, apply, compose}
 use Rattle.iso_model.specs.Terms.Unifiers.{NeverEqual}
 use Rattle.iso_model.specs.Terms.Copies.{copy_from}
-use Rattle.iso_model.specs.Search.Bodies.{Body, Run, one}
-use Rattle.iso_model.specs.Search.Walker.{State, Alternative, Goal}
-use Rattle.iso_store_core.specs.Presents.{Present, KeepsMarks, KeepsWords, Makes, MovesOn, IsUnification, meaning}
+use Rattle.iso_model.specs.Search.Bodies.{Run, one}
+use Rattle.iso_model.specs.Search.Walker.{State, Goal}
+use Rattle.iso_store_core.specs.Presents.{Present, KeepsMarks, KeepsWords, Makes, meaning}
 use Rattle.iso_plain.specs.declared.plain.Plain.{Plain}
-use Rattle.iso_plain.specs.EngineStates.{IsEngine, IsAhead, Keeps, cost, links_of}
-use Rattle.iso_plain_core.specs.Costs.{choices_cost, body_cost, most, rest_cost, frame_costs}
+use Rattle.iso_plain.specs.EngineStates.{IsEngine, IsAhead, Keeps, links_of}
 use Rattle.iso_plain_core.specs.declared.bodies.Node.{Node}
 use Rattle.iso_plain_core.specs.declared.bodies.Node.TheVariants as node
 use Rattle.iso_plain_core.specs.declared.parts.Todo.TheVariants as todo
 use Rattle.iso_plain_core.specs.declared.parts.Frame.{Frame}
 use Rattle.iso_plain_core.specs.declared.parts.Now.TheVariants as now
 use Rattle.iso_plain_core.specs.Entering.{Adds}
-use Rattle.iso_plain_core.specs.Nodes.{IsTree, runs, At}
-use Rattle.iso_plain_core.specs.Standing.{IsBody, IsMember, a_body, Chain, GoesOn, most_numbers, numbers_a_step}
-use Rattle.iso_plain.specs.Catches.{IsCatchGoal, MeetsBall, Recovers, Calling, HasMet, Unified, catcher_of, recovery_of, calling, throwing}
+use Rattle.iso_plain_core.specs.Nodes.{runs}
+use Rattle.iso_plain_core.specs.Standing.{IsBody, a_body, Chain, GoesOn, most_numbers, numbers_a_step}
+use Rattle.iso_plain.specs.Catches.{IsCatchGoal, MeetsBall, Recovers, Calling, HasMet, Unified, catcher_of, recovery_of, throwing}
 use Rattle.iso_plain.proofs.AheadLemmas.{keeps_ahead, engine_frame, engine_throws}
-use Rattle.iso_plain_core.proofs.CostLemmas.{cost_higher, below_words}
 use Rattle.iso_plain_core.proofs.EnteringLemmas.{adds_none}
 use Rattle.iso_plain_core.proofs.StandingLemmas.{AddsLinks, at_last, chain_more, choices_keep, choices_length, variables_more}
-use Rattle.iso_plain.proofs.StoppedLemmas.{base_kept, choices_on, keeps_more, keeps_store}
+use Rattle.iso_plain.proofs.StoppedLemmas.{base_kept, choices_on, keeps_store}
 use Rattle.iso_plain.proofs.WorldLemmas.{world_on}
 
 module _ {S W M : Type 0} (names : S → List (List ℕ)) (present : S → Present W) (stands : S → M → Present W → Type 0) (older : M → M → Type 0) where

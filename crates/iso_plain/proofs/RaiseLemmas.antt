@@ -1,12 +1,12 @@
 -- A thrown ball goes back to the catch that it goes to.
-use Rattle.std.proofs.Common.{◌≡◌, ℕ, suc, ◌+◌, ◌*◌, ◌-◌, ◌<◌, ◌≤◌, ◌++◌, List, [], ◌∷◌, length, take, drop, Option, Some, None, true, refl, ap, sym, ◌∙◌, subst, arith, Vec, Global}
+use Rattle.std.proofs.Common.{◌≡◌, ℕ, suc, ◌+◌, ◌*◌, ◌-◌, ◌≤◌, List, ◌∷◌, length, take, drop, Option, Some, None, true, refl, ap, sym, ◌∙◌, subst, arith, Vec, Global}
 use Rattle.std.specs.Prelude.{option_map}
 use Rattle.std.specs.List.{slice_get}
 use Rattle.iso_atoms.specs.Texts.{KeepsTexts}
 use Rattle.iso_model.specs.Terms.Trees.{Tree, arities_fit}
 use Rattle.iso_model.specs.Terms.TermOf.{term_of}
 use Rattle.iso_model.specs.Terms.Variables.{variables}
-use Rattle.iso_model.specs.Search.Walker.{State, Member, Fail, Raise, Alternative, Catching, fails, shortened}
+use Rattle.iso_model.specs.Search.Walker.{State, Member, Raise, Alternative, Catching, fails, shortened}
 use Rattle.iso_model.specs.declared.pauses.Ball.{Ball}
 use Rattle.iso_store_core.specs.Presents.{Present}
 use Rattle.iso_plain_core.specs.declared.parts.Left.{Left}
@@ -15,13 +15,12 @@ use Rattle.iso_plain_core.specs.declared.parts.Choice as kept
 use Rattle.iso_plain_core.specs.declared.parts.Now.{Now}
 use Rattle.iso_plain_core.specs.declared.parts.Now.TheVariants as now
 use Rattle.iso_plain.specs.declared.plain.Plain.{Plain}
-use Rattle.iso_plain_core.specs.Standing.{Links, Chain, HasCatch, HasLeft, StandsForChoices, GoesOn, DoesNext, entered_at, most_numbers, numbers_a_step}
+use Rattle.iso_plain_core.specs.Standing.{Chain, HasCatch, HasLeft, StandsForChoices, GoesOn, DoesNext, entered_at, most_numbers, numbers_a_step}
 use Rattle.iso_plain.specs.EngineStates.{IsEngine, IsAhead, WentBack, went_back, links_of}
 use Rattle.iso_plain_core.specs.ClausePlaces.{left_at}
-use Rattle.iso_plain.specs.Catches.{GoesTo, IsCatchGoal, MeetsBall, IsCaught, catcher_of, recovery_of}
+use Rattle.iso_plain.specs.Catches.{GoesTo, IsCatchGoal, IsCaught, catcher_of, recovery_of}
 use Rattle.iso_plain.proofs.AheadLemmas.{room_dropped}
 use Rattle.iso_plain_core.proofs.StandingLemmas.{lower, choices_keep, choices_length}
-use Rattle.iso_plain.proofs.StoppedLemmas.{base_kept}
 use Rattle.iso_plain.proofs.WorldLemmas.{world_on}
 
 module _ {S W M : Type 0} (names : S → List (List ℕ)) (present : S → Present W) (stands : S → M → Present W → Type 0) (older : M → M → Type 0) where
@@ -73,6 +72,7 @@ module _ {S W M : Type 0} (names : S → List (List ℕ)) (present : S → Prese
       by_left (left.AsIs place) has = absurd (let other = sym has.is ∙ catches in cc)
       by_left (left.Again place) has = absurd (let other = sym has.is ∙ catches in cc)
       by_left (left.Gathering result place gathered) has = absurd (let other = sym has.is ∙ catches in cc)
+      by_left (left.Offered goal place offers) has = absurd (let other = sym has.is ∙ catches in cc)
       by_left (left.Clauses attempt) has = absurd (let other = sym has.left ∙ catches in cc)
 
     -- the choice is gone, and its catcher is to meet the ball

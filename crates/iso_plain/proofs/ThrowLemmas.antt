@@ -1,20 +1,21 @@
 -- A thrown ball finds the catch that it goes to.
-use Rattle.std.proofs.Common.{◌≡◌, ℕ, suc, ◌+◌, ◌-◌, ◌≤◌, ◌<◌, ◌==◌, List, [], ◌∷◌, ◌++◌, length, drop, Option, Some, None, Bool, true, false, refl, ap, sym, ◌∙◌, subst, arith, ◌⊎◌, inl, inr, if◌then◌else◌}
+use Rattle.std.proofs.Common.{◌≡◌, ℕ, suc, ◌-◌, ◌≤◌, ◌<◌, ◌==◌, List, [], ◌∷◌, ◌++◌, length, drop, Option, Some, Bool, refl, ap, sym, ◌∙◌, subst, arith, ◌⊎◌, inl, inr, if◌then◌else◌}
 use Rattle.std.specs.List.{slice_get}
 use Rattle.std.proofs.Math.Nat.{eq-or-lt_of_le}
 use Rattle.std.proofs.lemmas.Bool.{eqb-true, cases_Bool, eq-eqb}
 use Rattle.std.proofs.lemmas.Option.{slice_get_within}
 use Rattle.iso_model.specs.Terms.Trees.{Tree}
 use Rattle.iso_model.specs.Search.Databases.{Clause}
-use Rattle.iso_model.specs.Search.Walker.{State, Member, Leave, Alternative, Left, AsIs, Again, Clauses, Catching, Gathering, Outcome, Goes, caught_at, caught, thrown, shortened}
+use Rattle.iso_model.specs.Search.Walker.{State, Alternative, Left, AsIs, Again, Clauses, Catching, Gathering, Offered, Outcome, caught_at, caught, shortened}
 use Rattle.iso_store_core.specs.Presents.{Present, meaning}
 use Rattle.iso_plain_core.specs.Solutions.{copies_of}
+use Rattle.iso_plain_core.specs.Offers.{goal_arguments, rights_of}
 use Rattle.iso_plain_core.specs.declared.parts.Frame.{Frame}
 use Rattle.iso_plain_core.specs.declared.parts.Left as engine
 use Rattle.iso_plain_core.specs.declared.parts.Left.TheVariants as left
 use Rattle.iso_plain_core.specs.declared.parts.Choice as kept
 use Rattle.iso_plain_core.specs.Standing.{Links, HasLeft, StandsForChoice, StandsForChoices, one_kept, none_kept, links_at}
-use Rattle.iso_plain.specs.Catches.{GoesTo, IsEntry, IsEndOfCatch, caught_by}
+use Rattle.iso_plain.specs.Catches.{IsEntry, IsEndOfCatch}
 use Rattle.iso_plain_core.proofs.StandingLemmas.{choices_length, length_last, at_front, last_is, some_same}
 
 -- an alternative at this height is looked for
@@ -107,6 +108,7 @@ module _ {W M : Type 0} {left_at : ℕ → ℕ → List Clause} {query : List W}
     by_left (left.AsIs place) e has = absurd e
     by_left (left.Again place) e has = absurd e
     by_left (left.Gathering result place g) e has = absurd e
+    by_left (left.Offered goal place offers) e has = absurd e
     by_left (left.Clauses attempt) e has = absurd e
 
   -- any other
@@ -121,6 +123,7 @@ module _ {W M : Type 0} {left_at : ℕ → ℕ → List Clause} {query : List W}
     by_left (left.AsIs place) e has = passes AsIs has.is refl
     by_left (left.Again place) e has = passes Again has.is refl
     by_left (left.Gathering result place g) e has = passes (Gathering (meaning at.present result) (copies_of g) g.variables) has.is refl
+    by_left (left.Offered goal place offers) e has = passes (Offered has.made (goal_arguments (meaning at.present goal)) (rights_of offers.items)) has.is refl
     by_left (left.Clauses attempt) e has = passes (Clauses has.call (left_at attempt.procedure attempt.clause)) has.left refl
 
 -- a choice that is no entry of a catch
@@ -133,4 +136,5 @@ no_entry {W} {M} choices f c there none h =
       by_left (left.AsIs place) never e = e
       by_left (left.Again place) never e = e
       by_left (left.Gathering result place g) never e = e
+      by_left (left.Offered goal place offers) never e = e
       by_left (left.Clauses attempt) never e = e

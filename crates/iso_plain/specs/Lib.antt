@@ -4,5 +4,6 @@ pub mod Limits
 pub mod Stays
 pub mod Catches
 pub mod Gathers
+pub mod Settles
 pub mod Starts
 pub mod Called

@@ -12,6 +12,7 @@ mod locals;
 pub mod moves;
 pub mod plain;
 pub mod runs;
+mod settles;
 pub mod throws;
 // what the callers call
 pub mod engine;

@@ -250,6 +250,10 @@ impl<S: Store + Drop> Plain<S> {
                 self.end_gathering(mark, solutions, place)?;
                 Ok(Move::Goes)
             }
+            Left::Offered(goal, place, _) => {
+                self.try_next(mark, goal, place)?;
+                Ok(Move::Goes)
+            }
             Left::Clauses(attempt) => {
                 let below = self.leave_choice(mark, attempt);
                 self.enter(attempt, below)?;

@@ -206,6 +206,7 @@ left_place left_at query named p links a ps more (left.AsIs place) h = ap suc (m
 left_place left_at query named p links a ps more (left.Again place) h = ap suc (more_cost links.frames more place (chain_place place h.on.chain))
 left_place left_at query named p links a ps more (left.Catching goal place) h = ap (left_cost 1) (more_cost links.frames more place (chain_place place h.on.chain))
 left_place left_at query named p links a ps more (left.Gathering result place gathered) h = ap suc (more_cost links.frames more place (chain_place place h.on.chain))
+left_place left_at query named p links a ps more (left.Offered goal place offers) h = ap (left_cost (length offers.items)) (more_cost links.frames more place (chain_place place h.on.chain))
 left_place left_at query named p links a ps more (left.Clauses attempt) h =
     ap (left_cost (clauses_at_place ps attempt.procedure - attempt.clause)) (more_cost links.frames more attempt.rest (chain_place attempt.rest h.at.on.chain))
 

@@ -1,12 +1,12 @@
 -- A solution comes to a choice that gathers: the choices stand for the alternatives that the search has then.
-use Rattle.std.proofs.Common.{◌≡◌, ℕ, zero, suc, ◌+◌, ◌*◌, ◌-◌, ◌<◌, ◌≤◌, List, [], ◌∷◌, ◌++◌, length, take, get_or, slice_set, Bool, true, false, refl, ap, ap₂, sym, ◌∙◌, subst, arith, ◌⊎◌, inl, inr, ◌==◌, if◌then◌else◌, Option}
+use Rattle.std.proofs.Common.{◌≡◌, ℕ, zero, suc, ◌+◌, ◌*◌, ◌<◌, ◌≤◌, List, [], ◌∷◌, ◌++◌, length, take, get_or, slice_set, Bool, true, false, refl, ap, ap₂, sym, ◌∙◌, subst, arith, ◌⊎◌, inl, inr, ◌==◌, if◌then◌else◌, Option}
 use Rattle.std.proofs.lemmas.Bool.{eqb-true, cases_Bool}
 use Rattle.std.proofs.lemmas.Bool.Decides.{Decides-eqb}
 use Rattle.iso_model.specs.Terms.Copies.{copy_from}
 use Rattle.iso_model.specs.Terms.Trees.{Tree, Name, arities_fit}
 use Rattle.iso_model.specs.Terms.Lists.{nil, list_of}
 use Rattle.iso_model.specs.Search.Databases.{Clause}
-use Rattle.iso_model.specs.Search.Walker.{Alternative, AsIs, Again, Clauses, Catching, Gathering, gathered, gathered_at}
+use Rattle.iso_model.specs.Search.Walker.{Alternative, AsIs, Again, Clauses, Catching, Gathering, Offered, gathered, gathered_at}
 use Rattle.iso_model.specs.Search.Walker as walker
 use Rattle.iso_store_core.specs.Presents.{Present, meaning}
 use Rattle.iso_plain_core.specs.Solutions.{copies_of, Gains}
@@ -17,9 +17,9 @@ use Rattle.iso_plain_core.specs.declared.parts.Left.{Left}
 use Rattle.iso_plain_core.specs.declared.parts.Left.TheVariants as left
 use Rattle.iso_plain_core.specs.declared.parts.Choice as kept
 use Rattle.iso_plain_core.specs.Costs.{choice_cost, choices_cost}
-use Rattle.iso_plain_core.specs.Standing.{Among, Links, links_at, StandsOn, HasLeft, HasMembers, HasCatch, HasClauses, HasGathered, StandsForChoice, StandsForChoices, none_kept, one_kept, HaveRoom, entered_at, numbers_a_step, most_numbers}
+use Rattle.iso_plain_core.specs.Standing.{Among, Links, links_at, StandsOn, HasLeft, StandsForChoice, StandsForChoices, none_kept, one_kept, HaveRoom, entered_at, numbers_a_step, most_numbers}
 use Rattle.iso_plain_core.proofs.SolutionLemmas.{copy_fits, list_fits}
-use Rattle.iso_plain_core.proofs.StandingLemmas.{length_last, choices_length, among_front, among_last}
+use Rattle.iso_plain_core.proofs.StandingLemmas.{choices_length}
 
 -- ---- the choice at a place
 
@@ -30,6 +30,7 @@ not_gathering R (left.AsIs place) none = refl
 not_gathering R (left.Again place) none = refl
 not_gathering R (left.Catching goal place) none = refl
 not_gathering R (left.Clauses attempt) none = refl
+not_gathering R (left.Offered goal place offers) none = refl
 
 left_costs : {W : Type 0} (R : Gathered → Gathered → Type 0) (ps : List Procedure) (costs : List ℕ) (l m : Left W) → LeftChanges R l m → choice_cost ps costs m ≡ choice_cost ps costs l
 left_costs R ps costs (left.Gathering result place g) m h = ap (choice_cost ps costs) h.1
@@ -37,6 +38,7 @@ left_costs R ps costs (left.AsIs place) m h = ap (choice_cost ps costs) h
 left_costs R ps costs (left.Again place) m h = ap (choice_cost ps costs) h
 left_costs R ps costs (left.Catching goal place) m h = ap (choice_cost ps costs) h
 left_costs R ps costs (left.Clauses attempt) m h = ap (choice_cost ps costs) h
+left_costs R ps costs (left.Offered goal place offers) m h = ap (choice_cost ps costs) h
 
 module _ {W M : Type 0} (R : Gathered → Gathered → Type 0) where
   pub changes_none : (n : ℕ) (cs : List (kept.Choice W M)) → length cs ≤ n → ChangesAt R n cs cs
@@ -97,7 +99,7 @@ changed_at f height (a ∷ below) = (if length below == height then record a { l
 eqb-refl-at : (m n : ℕ) → m ≡ n → (m == n) ≡ true
 eqb-refl-at m n same = (Decides-eqb m n).1 same
 
-eqb-false-at : (m n : ℕ) → (m ≡ n → ⊥) → (m == n) ≡ false
+pub eqb-false-at : (m n : ℕ) → (m ≡ n → ⊥) → (m == n) ≡ false
 eqb-false-at m n other = elim (cases_Bool (m == n)) [
   | inl same ↦ absurd (other (eqb-true m n same))
   | inr wrong ↦ wrong
@@ -141,6 +143,7 @@ pub record Together (f : walker.Left → walker.Left) (R : Gathered → Gathered
   pub again : f Again ≡ Again
   pub clauses : (call : Tree) (cs : List Clause) → f (Clauses call cs) ≡ Clauses call cs
   pub catching : (catcher recovery : Tree) → f (Catching catcher recovery) ≡ Catching catcher recovery
+  pub offered : (made : ℕ) (left : Tree) (rights : List Tree) → f (Offered made left rights) ≡ Offered made left rights
   pub gathering : (result : Tree) (g h : Gathered) → R g h → f (Gathering result (copies_of g) g.variables) ≡ Gathering result (copies_of h) h.variables
   pub fits : (g h : Gathered) → R g h → arities_fit (list_of (copies_of g)) ≡ true → arities_fit (list_of (copies_of h)) ≡ true
   pub entered : (l : walker.Left) → entered_at (f l) ≡ entered_at l
@@ -158,6 +161,9 @@ module _ (f : walker.Left → walker.Left) (R : Gathered → Gathered → Type 0
     left_changed (left.Catching goal place) m h has =
         subst (λ (x : Left W). HasLeft left_at query named p links x (record a { left = f a.left })) (sym h)
         (record { holds = has.holds; three = has.three; on = has.on; is = ap f has.is ∙ k.catching _ _ })
+    left_changed (left.Offered goal place offers) m h has =
+        subst (λ (x : Left W). HasLeft left_at query named p links x (record a { left = f a.left })) (sym h)
+        (record { holds = has.holds; on = has.on; made = has.made; is = ap f has.is ∙ k.offered _ _ _; some = has.some })
     left_changed (left.Clauses attempt) m h has =
         subst (λ (x : Left W). HasLeft left_at query named p links x (record a { left = f a.left })) (sym h)
         (record { call = has.call; at = record { holds = has.at.holds; value = has.at.value; on = has.at.on }; left = ap f has.left ∙ k.clauses _ _; some = has.some })
@@ -217,6 +223,7 @@ entered_gathered t Again = refl
 entered_gathered t (Clauses call cs) = refl
 entered_gathered t (Catching catcher recovery) = refl
 entered_gathered t (Gathering result copies count) = refl
+entered_gathered t (Offered made left rights) = refl
 
 with_solution : (t : Tree) → arities_fit t ≡ true → Together (λ l. gathered l t) (Gains t)
 with_solution t fits = record {
@@ -224,6 +231,7 @@ with_solution t fits = record {
   again = refl;
   clauses = λ call cs. refl;
   catching = λ catcher recovery. refl;
+  offered = λ made left rights. refl;
   gathering = λ result g h r. ap₂ (Gathering result) (sym r.copies) (sym r.variables);
   fits = λ g h r all. subst (λ (ts : List Tree). arities_fit (list_of ts) ≡ true) (sym r.copies) (list_fits (copies_of g) (copy_from t g.variables) (Name nil) all (copy_fits t g.variables fits));
   entered = entered_gathered t;
@@ -235,6 +243,7 @@ with_none = record {
   again = refl;
   clauses = λ call cs. refl;
   catching = λ catcher recovery. refl;
+  offered = λ made left rights. refl;
   gathering = λ result g h r. ap₂ (Gathering result) (sym r.0) (sym r.1);
   fits = λ g h r all. subst (λ (ts : List Tree). arities_fit (list_of ts) ≡ true) (sym r.0) all;
   entered = λ l. refl;

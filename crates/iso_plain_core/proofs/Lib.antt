@@ -18,6 +18,7 @@ pub mod GoalLemmas
 pub mod ReplyLemmas
 pub mod SolutionLemmas
 pub mod GatheringLemmas
+pub mod OfferLemmas
 pub mod ResultLemmas
 pub mod ControlNames
 pub mod CallableLemmas

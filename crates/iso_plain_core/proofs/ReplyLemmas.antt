@@ -1,12 +1,10 @@
 -- What goals of built-ins come to is the table's reply.
-use Rattle.std.proofs.Common.{◌≡◌, ℕ, ℤ, Ok, Err, List, Bool, true, false, ◌||◌, nat_lt, nat_abs, int_lt, pos, Option, Some, None, refl, ap, sym, ◌∙◌, subst, codes, if◌then◌else◌}
+use Rattle.std.proofs.Common.{◌≡◌, ℕ, List, Bool, true, false, ◌||◌, nat_lt, nat_abs, int_lt, pos, Option, Some, None, refl, ap, sym, ◌∙◌, subst, codes, if◌then◌else◌}
 use Rattle.iso_model.specs.Terms.Trees.{Tree, Variable, Integer, Name, Apply, End, More, arities_fit}
 use Rattle.iso_model.specs.Terms.TermOf.{term_of}
 use Rattle.iso_model.specs.Terms.Arguments.{argument, arity}
-use Rattle.iso_model.specs.Terms.Substitutions.{Subst}
 use Rattle.iso_model.specs.Terms.Lists.{is_partial_list}
-use Rattle.iso_model.specs.Terms.Unification.{unifier_of}
-use Rattle.iso_model.specs.Search.BuiltIns.{Reply, Fails, Succeeds, Equates, EquatesCopy, Repeats, Raises, Calls, CallsOnce, Refutes, Catches, Gathers, Halts, converted_reply, goal_reply, called_reply, findall_reply, throw_reply, halt_reply, answered, reply}
+use Rattle.iso_model.specs.Search.BuiltIns.{Reply, Fails, Succeeds, Equates, EquatesCopy, Repeats, Raises, Calls, CallsOnce, Refutes, Catches, Gathers, Halts, AsksWorld, converted_reply, goal_reply, called_reply, findall_reply, throw_reply, halt_reply, answered, reply}
 use Rattle.iso_model.specs.Search.Library.{library_answer}
 use Rattle.iso_model.specs.Search.Replies.{Answer, Fail, Succeed, Equate, EquateCopy, Raise}
 use Rattle.iso_model.specs.Search.Bodies.{Body, converted}
@@ -15,6 +13,7 @@ use Rattle.iso_lib.specs.Replies.{IsDone, IsFailed, IsUnbound}
 use Rattle.iso_model.specs.Search.Errors.{Key, key, domain_error, max_arity_error, type_error}
 use Rattle.iso_model.specs.declared.built_ins.BuiltIn.{BuiltIn}
 use Rattle.iso_model.specs.declared.built_ins.BuiltIn.TheVariants as built_in
+use Rattle.iso_model.specs.declared.library.Setting.{Setting}
 use Rattle.iso_model.specs.declared.pauses.Ball.{Ball}
 use Rattle.iso_store_core.specs.Presents.{Present}
 use Rattle.iso_plain_core.specs.declared.bodies.Node.{Node}
@@ -101,6 +100,7 @@ module _ {W : Type 0} (p : Present W) (old : List (Node W)) where
   halt_replied (Raises error) (replied.Catches placed) h = absurd h
   halt_replied (Raises error) (replied.Gathers place) h = absurd h
   halt_replied (Raises error) (replied.Halts status) h = absurd h
+  halt_replied (Raises error) (replied.AsksWorld row) h = absurd h
   halt_replied (Halts n) (replied.Halts status) h = h
   halt_replied (Halts n) replied.GoesOn h = absurd h
   halt_replied (Halts n) replied.Fails h = absurd h
@@ -111,6 +111,7 @@ module _ {W : Type 0} (p : Present W) (old : List (Node W)) where
   halt_replied (Halts n) replied.Repeats h = absurd h
   halt_replied (Halts n) (replied.Catches placed) h = absurd h
   halt_replied (Halts n) (replied.Gathers place) h = absurd h
+  halt_replied (Halts n) (replied.AsksWorld row) h = absurd h
   halt_replied Fails answer h = absurd h
   halt_replied Succeeds answer h = absurd h
   halt_replied (Equates made a b) answer h = absurd h
@@ -121,6 +122,7 @@ module _ {W : Type 0} (p : Present W) (old : List (Node W)) where
   halt_replied Repeats answer h = absurd h
   halt_replied (Catches inside catcher recovery) answer h = absurd h
   halt_replied (Gathers template b result) answer h = absurd h
+  halt_replied (AsksWorld row t) answer h = absurd h
 
 -- what the library answers
 pub library_replied : {W : Type 0} (p q : Present W) (nodes : List (Node W)) (x : Answer) → IsDone p q x → IsReply p q nodes nodes (answered x) replied.GoesOn
@@ -201,6 +203,17 @@ abbrev IsGathers : Reply → Type 0
 IsGathers (Gathers template b result) = Unit {0}
 IsGathers x = ⊥
 
+abbrev IsAsking : Reply → Type 0
+IsAsking (AsksWorld row t) = Unit {0}
+IsAsking x = ⊥
+
+no_asking_answered : (x : Answer) → IsAsking (answered x) → ⊥
+no_asking_answered Fail h = h
+no_asking_answered Succeed h = h
+no_asking_answered (Equate made a b) h = h
+no_asking_answered (EquateCopy a b) h = h
+no_asking_answered (Raise error) h = h
+
 no_catch_answered : (x : Answer) → IsCatches (answered x) → ⊥
 no_catch_answered Fail h = h
 no_catch_answered Succeed h = h
@@ -228,6 +241,7 @@ only_catch built_in.Halt t h = absurd h
 only_catch built_in.HaltWith t h = absurd (none_ended IsCatches (λ e i. i) (λ n i. i) (argument 0 t) (key (codes "halt") 1) h)
 only_catch built_in.Findall t h = absurd (none_found IsCatches (λ e i. i) (λ n i. i) (argument 0 t) (argument 1 t) (argument 2 t) (key (codes "findall") 3) (λ b i. i) h)
 only_catch (built_in.Library row) t h = absurd (no_catch_answered (library_answer row t) h)
+only_catch (built_in.Setting row) t h = absurd h
 
 only_findall : (b : BuiltIn) (t : Tree) → IsGathers (reply b t) → b ≡ built_in.Findall
 only_findall built_in.True t h = absurd h
@@ -242,6 +256,7 @@ only_findall built_in.Halt t h = absurd h
 only_findall built_in.HaltWith t h = absurd (none_ended IsGathers (λ e i. i) (λ n i. i) (argument 0 t) (key (codes "halt") 1) h)
 only_findall built_in.Findall t h = refl
 only_findall (built_in.Library row) t h = absurd (no_gatherer_answered (library_answer row t) h)
+only_findall (built_in.Setting row) t h = absurd h
 
 -- a catch's parts are the goal's arguments
 pub catch_parts : (b : BuiltIn) (t : Tree) (inside : Reply) (catcher recovery : Tree) → reply b t ≡ Catches inside catcher recovery → (b ≡ built_in.Catch) × (catcher ≡ argument 1 t) × (recovery ≡ argument 2 t)
@@ -279,3 +294,26 @@ gather_parts b t template result c is =
     let there : reply built_in.Findall t ≡ Gathers template c result = subst (λ (x : BuiltIn). reply x t ≡ Gathers template c result) own is in
     let parts = subst (λ (x : Reply). HasParts t x) there (found_parts t (argument 1 t) (key (codes "findall") 3)) in
     (own, parts.0, parts.1)
+
+-- what a goal asks of the world is asked of the goal itself
+only_setting : (b : BuiltIn) (t : Tree) → IsAsking (reply b t) → (row : Setting) × (b ≡ built_in.Setting row)
+only_setting built_in.True t h = absurd h
+only_setting built_in.Fail t h = absurd h
+only_setting built_in.Call t h = absurd (none_called IsAsking (λ e i. i) (λ n i. i) (called_of t) (key (codes "call") (arity t)) (λ b i. i) h)
+only_setting built_in.Once t h = absurd (none_goal IsAsking (λ e i. i) (λ n i. i) CallsOnce (argument 0 t) (key (codes "once") 1) (λ b i. i) h)
+only_setting built_in.Not t h = absurd (none_goal IsAsking (λ e i. i) (λ n i. i) Refutes (argument 0 t) (key (codes "\\+") 1) (λ b i. i) h)
+only_setting built_in.Repeat t h = absurd h
+only_setting built_in.Catch t h = absurd h
+only_setting built_in.Throw t h = absurd (none_thrown IsAsking (λ e i. i) (λ n i. i) (argument 0 t) (key (codes "throw") 1) h)
+only_setting built_in.Halt t h = absurd h
+only_setting built_in.HaltWith t h = absurd (none_ended IsAsking (λ e i. i) (λ n i. i) (argument 0 t) (key (codes "halt") 1) h)
+only_setting built_in.Findall t h = absurd (none_found IsAsking (λ e i. i) (λ n i. i) (argument 0 t) (argument 1 t) (argument 2 t) (key (codes "findall") 3) (λ b i. i) h)
+only_setting (built_in.Library row) t h = absurd (no_asking_answered (library_answer row t) h)
+only_setting (built_in.Setting row) t h = (row, refl)
+
+pub setting_parts : (b : BuiltIn) (t u : Tree) (row : Setting) → reply b t ≡ AsksWorld row u → (b ≡ built_in.Setting row) × (u ≡ t)
+setting_parts b t u row is =
+    let own = only_setting b t (subst (λ (x : Reply). IsAsking x) (sym is) tt) in
+    let there : AsksWorld own.0 t ≡ AsksWorld row u = subst (λ (x : BuiltIn). reply x t ≡ AsksWorld row u) own.1 is in
+    let same : own.0 ≡ row = cc in
+    (own.1 ∙ ap built_in.Setting same, cc)

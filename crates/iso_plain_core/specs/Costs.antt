@@ -1,5 +1,5 @@
 -- What is to be done at most before a goal takes a step, and in all: a number that falls at each move of the engine.
-use Rattle.std.specs.Prelude.{ℕ, zero, suc, ◌+◌, List, [], ◌∷◌, ◌++◌, Option, Some, None, ◌-◌}
+use Rattle.std.specs.Prelude.{ℕ, zero, suc, ◌+◌, List, [], ◌∷◌, ◌++◌, length, Option, Some, None, ◌-◌}
 use Rattle.std.specs.List.{slice_index_or}
 use Rattle.iso_plain_core.specs.declared.parts.Todo.{Todo}
 use Rattle.iso_plain_core.specs.declared.parts.Todo.TheVariants as todo
@@ -69,6 +69,7 @@ choice_cost ps costs (left.AsIs place) = suc (rest_cost costs place)
 choice_cost ps costs (left.Again place) = suc (rest_cost costs place)
 choice_cost ps costs (left.Catching goal place) = left_cost 1 (rest_cost costs place)
 choice_cost ps costs (left.Gathering result place gathered) = suc (rest_cost costs place)
+choice_cost ps costs (left.Offered goal place offers) = left_cost (length offers.items) (rest_cost costs place)
 choice_cost ps costs (left.Clauses attempt) = left_cost (clauses_at_place ps attempt.procedure - attempt.clause) (rest_cost costs attempt.rest)
 
 abbrev pub choices_cost : {W M : Type 0} → List Procedure → List ℕ → List (kept.Choice W M) → ℕ

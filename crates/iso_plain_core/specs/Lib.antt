@@ -1,6 +1,7 @@
 pub mod Nodes
 pub mod Solutions
 pub mod Gathering
+pub mod Offers
 pub mod Standing
 pub mod Written
 pub mod Callables

@@ -1,5 +1,5 @@
 -- What running a goal of a built-in makes of a store and of the nodes, and what comes next.
-use Rattle.std.specs.Prelude.{◌≡◌, ◌+◌, ℕ, List, length, Some, true, nat_lt, if◌then◌else◌}
+use Rattle.std.specs.Prelude.{◌≡◌, ◌+◌, ℕ, List, length, true, nat_lt, if◌then◌else◌}
 use Rattle.iso_model.specs.Terms.Trees.{Tree, Variable, Name, Apply, arities_fit}
 use Rattle.iso_model.specs.declared.pauses.Ball.{Ball}
 use Rattle.iso_model.specs.Terms.TermOf.{term_of}
@@ -7,8 +7,8 @@ use Rattle.iso_model.specs.Terms.Arguments.{argument, arguments, arity, others, 
 use Rattle.iso_model.specs.Terms.Substitutions.{Subst, apply}
 use Rattle.iso_model.specs.Terms.Copies.{copy_from}
 use Rattle.iso_model.specs.Terms.Unifiers.{Unifier, NeverEqual}
-use Rattle.iso_model.specs.Search.Bodies.{Body, converted, map_body}
-use Rattle.iso_model.specs.Search.BuiltIns.{Reply, Fails, Succeeds, Equates, EquatesCopy, Raises, Calls, CallsOnce, Refutes, Repeats, Catches, Gathers, Halts, goal_reply}
+use Rattle.iso_model.specs.Search.Bodies.{Body, map_body}
+use Rattle.iso_model.specs.Search.BuiltIns.{Reply, Fails, Succeeds, Equates, EquatesCopy, Raises, Calls, CallsOnce, Refutes, Repeats, Catches, Gathers, Halts, AsksWorld, goal_reply}
 use Rattle.iso_model.specs.Search.Errors.{Key, max_arity_error}
 use Rattle.iso_store_core.specs.Presents.{Present, Binds, KeepsWords}
 use Rattle.iso_lib.specs.Replies.{IsUnbound, UnifiesCopy}
@@ -105,4 +105,5 @@ IsReply p q old new (CallsOnce b) (replied.CallsOnce place) = Places p q old new
 IsReply p q old new (Refutes b) (replied.Refutes place) = Places p q old new b place
 IsReply p q old new (Gathers template b result) (replied.Gathers place) = Places p q old new b place
 IsReply p q old new Repeats replied.Repeats = (q ≡ p) × (new ≡ old)
+IsReply p q old new (AsksWorld row t) (replied.AsksWorld r) = (r ≡ row) × (q ≡ p) × (new ≡ old)
 IsReply p q old new reply answer = ⊥

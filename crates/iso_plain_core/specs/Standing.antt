@@ -8,11 +8,13 @@ use Rattle.iso_model.specs.Terms.Lists.{list_of}
 use Rattle.iso_model.specs.Terms.Substitutions.{Subst}
 use Rattle.iso_model.specs.Search.Bodies.{Body, Run}
 use Rattle.iso_model.specs.Search.Databases.{Clause}
-use Rattle.iso_model.specs.Search.Walker.{State, Member, Goal, CutTo, Fail, Leave, Raise, Gather, Alternative, AsIs, Again, Clauses, Catching, Gathering, idle}
+use Rattle.iso_model.specs.Search.Walker.{State, Member, Goal, CutTo, Fail, Leave, Raise, Gather, Alternative, AsIs, Again, Clauses, Catching, Gathering, Offered, idle}
 use Rattle.iso_model.specs.Search.Walker as walker
 use Rattle.iso_store_core.specs.Presents.{Present, meaning}
 use Rattle.iso_plain_core.specs.Nodes.{At, IsTree}
 use Rattle.iso_plain_core.specs.Solutions.{copies_of}
+use Rattle.iso_plain_core.specs.Offers.{goal_arguments, rights_of}
+use Rattle.iso_lib.specs.declared.settings.Offer.{Offer}
 use Rattle.iso_plain_core.specs.declared.solutions.Gathered.{Gathered}
 use Rattle.iso_plain_core.specs.declared.bodies.Node.{Node}
 use Rattle.iso_plain_core.specs.declared.bodies.Node.TheVariants as node
@@ -134,6 +136,14 @@ module _ {W : Type 0} (left_at : ℕ → ℕ → List Clause) (query : List W) (
     pub is : a.left ≡ Gathering (meaning p result) (copies_of gathered) gathered.variables
     pub fits : arities_fit (list_of (copies_of gathered)) ≡ true
 
+  -- At the alternative the arguments of this goal are to be unified with these rows, the last of them first, before the members from this place on.
+  pub record HasOffered (p : Present W) (links : Links W) (goal : W) (place : Option ℕ) (offers : List Offer) (a : Alternative) : Type 0 where
+    pub holds : p.holds goal ≡ true
+    pub on : OnList p links query named place a.list a.subst a.next
+    pub made : ℕ
+    pub is : a.left ≡ Offered made (goal_arguments (meaning p goal)) (rights_of offers)
+    pub some : 0 < length offers
+
   -- over this store, this is left to be tried at the alternative
   abbrev pub HasLeft : Present W → Links W → Left W → Alternative → Type 0
   HasLeft p links (left.Clauses attempt) a = HasClauses p links attempt a
@@ -141,6 +151,7 @@ module _ {W : Type 0} (left_at : ℕ → ℕ → List Clause) (query : List W) (
   HasLeft p links (left.Again place) a = HasMembers p links place Again a
   HasLeft p links (left.Catching goal place) a = HasCatch p links goal place a
   HasLeft p links (left.Gathering result place gathered) a = HasGathered p links result place gathered a
+  HasLeft p links (left.Offered goal place offers) a = HasOffered p links goal place offers.items a
 
 -- Choices are made of an engine's marks (whether a mark stands for a store, and which is older), its mark for the empty store, the clauses left at a
 -- procedure from a place on, and the words of the query's variables with their numbers.
@@ -191,6 +202,7 @@ entered_at Again = 0
 entered_at (Clauses call cs) = 1
 entered_at (Catching catcher recovery) = 1
 entered_at (Gathering result copies count) = 1
+entered_at (Offered made left rights) = 0
 
 -- Room is left for the numbers of a clause entered, a ball caught or a list made at each alternative, and in each step that is left.
 abbrev pub HaveRoom : ℕ → List Alternative → Type 0

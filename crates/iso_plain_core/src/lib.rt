@@ -12,6 +12,7 @@ pub mod controls;
 pub mod conversion;
 pub mod entries;
 pub mod goals;
+pub mod offers;
 pub mod parts;
 pub mod replies;
 pub mod solutions;

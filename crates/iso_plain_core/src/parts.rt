@@ -1,15 +1,21 @@
 //! The engine's parts: the members of the list of goals, and choices.
-ghost use Rattle.std.specs.Prelude.{◌≡◌, ◌+◌, ◌≤◌, ◌++◌, ◌∷◌, [], IfOk, OnOk, OnErr, length};
+ghost use Rattle.std.specs.Prelude.{◌≡◌, ℕ, ◌+◌, ◌<◌, ◌≤◌, ◌++◌, ◌∷◌, [], IfOk, OnOk, OnErr, length, slice_get, Option, Some, Vec};
+ghost use Rattle.std.specs.Global.{Global};
+ghost use Rattle.iso_lib.specs.declared.settings.Offer.{Offer};
 ghost use Rattle.iso_atoms.specs.Texts.{KeepsTexts};
 ghost use Rattle.iso_store_core.specs.Presents.{KeepsMarks};
 ghost use Rattle.iso_plain_core.specs.Next.{IsPlace, now_behind, now_entered};
 ghost use Rattle.iso_plain_core.specs.Standing.{GainsChoice};
 ghost use Rattle.iso_plain_core.specs.Solutions.{Gains};
 ghost use Rattle.iso_plain_core.specs.Gathering.{ChangesAt, SameCopies};
+ghost use Rattle.iso_plain_core.specs.Offers.{TakesOffer};
+ghost use Rattle.iso_plain_core.specs.declared.parts.Left.TheVariants as left;
+ghost use Rattle.iso_plain_core.specs.declared.parts.Choice as kept;
 ghost use Rattle.iso_model.specs.Terms.TermOf.{term_of};
 
 use super::entries::Entered;
 use super::solutions::Gathered;
+use iso_lib::Offer;
 use iso_model::{Limit, NoMemory, Term};
 use iso_store_core::Store;
 use std::alloc::{AllocError, Global};
@@ -61,6 +67,8 @@ pub enum Left<W> {
     Catching(W, Option<usize>),
     /// To unify this word, the result of a findall/3, with the list of what was gathered, before the members from this place on (8.10.1).
     Gathering(W, Option<usize>, Gathered),
+    /// To unify the arguments of this goal with rows of constants, the last of them first, before the members from this place on.
+    Offered(W, Option<usize>, Vec<Offer>),
 }
 
 /// What is left to be tried, and what to go back to first.
@@ -173,5 +181,20 @@ pub fn gather<W, M>(
     match &mut choices[place].left {
         Left::Gathering(_, _, gathered) => gathered.add(alloc, solution),
         _ => Ok(()),
+    }
+}
+
+/// Takes the row that comes first at the choice at this place, where it has rows; and whether it was the last one.
+pub fn take_offer<W, M>(choices: &mut Vec<Choice<W, M>>, place: usize) -> Option<(Offer, bool)>
+    requires { place < length choices.old.items }
+    ensures { (c : kept.Choice W M) (goal : W) (rest : Option ℕ) (offers : Vec Offer Global) → slice_get choices.old.items place ≡ Some c → c.left ≡ left.Offered goal rest offers
+        → 0 < length offers.items → TakesOffer c goal rest offers place choices.old.items choices.new.items result }
+{
+    match &mut choices[place].left {
+        Left::Offered(_, _, offers) => {
+            let offer = offers.pop()?;
+            Some((offer, offers.is_empty()))
+        }
+        _ => None,
     }
 }

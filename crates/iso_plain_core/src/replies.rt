@@ -21,7 +21,7 @@ use super::controls::Controls;
 use super::goals::{Placed, place_argument, place_called};
 use super::vocabulary::Vocabulary;
 use iso_lib::{Fault, Reply, builtin, errors, lists};
-use iso_model::{Ball, BuiltIn, Library, NoMemory, Term};
+use iso_model::{Ball, BuiltIn, Library, NoMemory, Setting, Term};
 use iso_store_core::{Shape, Store, StoreFault};
 use std::alloc::Global;
 
@@ -48,6 +48,8 @@ pub enum Replied {
     Gathers(usize),
     /// The session ends with this status (8.17.3, 8.17.4).
     Halts(u8),
+    /// What it comes to rests on the operators and the flags (8.14.3, 8.14.4, 8.17.1, 8.17.2).
+    AsksWorld(Setting),
 }
 
 /// Runs the goal of this built-in: what it comes to. The errors: the store is full, or memory was refused.
@@ -95,6 +97,7 @@ pub fn reply<S: Store>(
         BuiltIn::HaltWith => halted(alloc, store, goal),
         BuiltIn::Findall => findall(alloc, store, controls, nodes, goal),
         BuiltIn::Library(row) => library(alloc, store, vocabulary, row, goal),
+        BuiltIn::Setting(row) => Ok(Replied::AsksWorld(row)),
     }
 }
 

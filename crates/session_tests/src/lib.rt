@@ -23,6 +23,8 @@ mod rows;
 #[cfg(test)]
 mod sessions;
 #[cfg(test)]
+mod settings;
+#[cfg(test)]
 mod small_cells;
 #[cfg(test)]
 mod solutions;

@@ -1,11 +1,6 @@
-use Rattle.std.proofs.Common.{◌≡◌, suc, ◌+◌, ◌-◌, ◌<◌, ◌≤◌, ◌∷◌, List, length, take, Option, Some, refl, ap, sym, ◌∙◌, subst, arith}
-use Rattle.iso_model.specs.Terms.Trees.{Tree}
-use Rattle.iso_model.specs.Terms.TermOf.{term_of}
-use Rattle.iso_model.specs.Search.Walker.{State, Member, fails, shortened}
+use Rattle.std.proofs.Common.{◌≡◌, suc, ◌+◌, ◌-◌, length, take, refl, ap, sym, ◌∙◌, subst, arith}
+use Rattle.iso_model.specs.Search.Walker.{fails, shortened}
 use Rattle.iso_plain_core.specs.Costs.{frame_costs, rest_cost, left_cost, choices_cost, choice_cost}
-use Rattle.iso_plain.specs.EngineStates.{went_back}
-use Rattle.iso_plain.specs.Catches.{IsCaught}
-use Rattle.iso_plain_core.specs.declared.parts.Left.{Left}
 use Rattle.iso_plain_core.proofs.CostLemmas.{choices_last}
 use Rattle.iso_plain.proofs.EndLemmas.{failing_engine}
 use Rattle.iso_plain.proofs.RaiseLemmas.{back_at, entry_is, caught_there, kept_ball}

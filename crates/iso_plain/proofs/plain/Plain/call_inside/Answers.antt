@@ -1,4 +1,4 @@
-use Rattle.std.proofs.Common.{◌≡◌, length, subst, sym}
+use Rattle.std.proofs.Common.{◌≡◌, length}
 use Rattle.iso_plain_core.specs.Standing.{IsBody}
 use Rattle.iso_plain.proofs.CatchMoves.{inside_engine, inside_falls}
 use Rattle.iso_plain.proofs.plain.Plain.call_inside.Goals as goal

@@ -1,4 +1,4 @@
-use Rattle.std.proofs.Common.{◌≡◌, ◌<◌, ◌≤◌, ◌∷◌, [], length, refl, ap, sym, ◌∙◌, arith}
+use Rattle.std.proofs.Common.{◌≡◌, length, arith}
 use Rattle.iso_plain_core.specs.Costs.{most, frame_costs, rest_cost}
 use Rattle.iso_plain.proofs.AheadLemmas.{keeps_ahead}
 use Rattle.iso_plain_core.proofs.CostLemmas.{cost_higher, below_words}

@@ -1,8 +1,5 @@
-use Rattle.std.proofs.Common.{◌≡◌, ◌<◌, length, Some, true, false, ap, sym, ◌∙◌, subst, arith}
+use Rattle.std.proofs.Common.{◌≡◌, ◌<◌, length, Some, arith}
 use Rattle.std.specs.List.{slice_get}
-use Rattle.iso_plain_core.specs.declared.parts.Left.TheVariants as left
-use Rattle.iso_plain_core.specs.declared.parts.Todo.TheVariants as todo
-use Rattle.iso_plain.specs.Catches.{IsEntry, IsEndOfCatch}
 use Rattle.iso_plain.proofs.BackLemmas.{get_at}
 use Rattle.iso_plain.proofs.ThrowLemmas.{no_entry}
 use Rattle.iso_plain.proofs.plain.Plain.ends_catch.Goals.{in-Leave, in_default}

@@ -8,6 +8,7 @@ use Rattle.iso_plain.proofs.WeightLemmas.{falls_less, back_cost, entered_cost, f
 use Rattle.iso_plain.proofs.FailLemmas.{ends_run, resumes_on, passes_on, repeats_on, spends_on, tries_on, stops_on}
 use Rattle.iso_plain.proofs.ResumeLemmas.{has_members, newest_is}
 use Rattle.iso_plain.proofs.GatherMoves.{found_on, found_stops}
+use Rattle.iso_plain.proofs.OfferMoves.{offers_on, offers_stop}
 use Rattle.iso_plain.proofs.plain.Plain.fail.Goals as goal
 
 pub returns-then-is_empty-clause-moves : goal.returns-then-is_empty-clause-moves
@@ -206,3 +207,45 @@ returns-in_ok-end_gathering-in-Gathering-clause-falls g c =
     let all = back_cost c.args.self.now c.go_back-mark.new.self back.choices back.stays.procedures back.costs in
     let less = on.costs in
     falls_less c.args.self.now c.end_gathering.new.self (on.steps ∙ back.steps) (omega (arith, all, less))
+
+-- ---- rows that were left
+
+pub try_next-requires-clause-back : goal.try_next-requires-clause-back
+try_next-requires-clause-back g c =
+    let r = c.requires.represents.1 in
+    let b = c.go_back-mark.ensures.back r.own r.engine in
+    let mid = c.go_back-mark.new.self in
+    let many : c.len.result ≡ length mid.choices.items = cc (c.len.ensures, mid.choices.ok.0) in
+    let same = newest_is g.S.Store.names g.S.Store.present g.S.Store.stands g.S.Store.older mid b.0 r.own b.1 b.2 b.5 c.len.result c.index.result.now many c.index.ensures in
+    let tries = ap (λ (x : _). x.left) (sym same) ∙ c.in-Offered.is in
+    (b.0, _, r.own, b.1, b.2, b.4, tries, b.5)
+
+pub returns-in_ok-try_next-in-Offered-clause-moves : goal.returns-in_ok-try_next-in-Offered-clause-moves
+returns-in_ok-try_next-in-Offered-clause-moves g c = λ s r.
+    (let b = c.go_back-mark.ensures.back r.own r.engine in
+    let mid = c.go_back-mark.new.self in
+    let many : c.len.result ≡ length mid.choices.items = cc (c.len.ensures, mid.choices.ok.0) in
+    let same = newest_is g.S.Store.names g.S.Store.present g.S.Store.stands g.S.Store.older mid b.0 r.own b.1 b.2 b.5 c.len.result c.index.result.now many c.index.ensures in
+    let tries = ap (λ (x : _). x.left) (sym same) ∙ c.in-Offered.is in
+    let has = has_members g.S.Store.names g.S.Store.present g.S.Store.stands g.S.Store.older mid b.0 r.own b.1 b.2 b.5 _ tries in
+    let e = c.in_ok-try_next-in-Offered.ensures in
+    offers_on g.S.Store.names g.S.Store.present g.S.Store.stands g.S.Store.older c.args.self.now c.try_next.new.self s r b.1 b.2 c.requires.failing b.3 _ _ _ has.is (e.tried b.0 _ r.own b.1 b.2 _ _ _ b.4 tries b.5 has.is) e.awake)
+
+pub returns-in_err-try_next-in-Offered-clause-stopped : goal.returns-in_err-try_next-in-Offered-clause-stopped
+returns-in_err-try_next-in-Offered-clause-stopped g c = λ s r.
+    (let b = c.go_back-mark.ensures.back r.own r.engine in
+    let mid = c.go_back-mark.new.self in
+    let many : c.len.result ≡ length mid.choices.items = cc (c.len.ensures, mid.choices.ok.0) in
+    let same = newest_is g.S.Store.names g.S.Store.present g.S.Store.stands g.S.Store.older mid b.0 r.own b.1 b.2 b.5 c.len.result c.index.result.now many c.index.ensures in
+    let tries = ap (λ (x : _). x.left) (sym same) ∙ c.in-Offered.is in
+    let has = has_members g.S.Store.names g.S.Store.present g.S.Store.stands g.S.Store.older mid b.0 r.own b.1 b.2 b.5 _ tries in
+    let e = c.in_err-try_next-in-Offered.ensures in
+    behind_error c.from_residual-in_err-try_next-in-Offered.result (offers_stop g.S.Store.names g.S.Store.present g.S.Store.stands g.S.Store.older c.args.self.now c.try_next.new.self s r b.1 b.2 c.requires.failing b.3 _ _ _ has.is (e.kept b.0 _ r.own b.1 b.2 _ _ _ b.4 tries b.5 has.is)))
+
+pub returns-in_ok-try_next-in-Offered-clause-falls : goal.returns-in_ok-try_next-in-Offered-clause-falls
+returns-in_ok-try_next-in-Offered-clause-falls g c =
+    let back = c.go_back-mark.ensures in
+    let on = c.in_ok-try_next-in-Offered.ensures in
+    let all = back_cost c.args.self.now c.go_back-mark.new.self back.choices back.stays.procedures back.costs in
+    let less = on.costs in
+    falls_less c.args.self.now c.try_next.new.self (on.steps ∙ back.steps) (omega (arith, all, less))

@@ -1,13 +1,10 @@
-use Rattle.std.proofs.Common.{◌≡◌, ◌<◌, ℕ, List, length, Option, Some, None, refl, ap, sym, ◌∙◌, subst, arith}
-use Rattle.std.specs.List.{slice_get}
-use Rattle.iso_model.specs.Terms.Trees.{Tree}
-use Rattle.iso_model.specs.Search.Walker.{State, Member, thrown}
-use Rattle.iso_plain_core.specs.declared.parts.Frame.{Frame}
+use Rattle.std.proofs.Common.{ℕ, List, Option, ap, sym, ◌∙◌, subst, arith}
+use Rattle.iso_model.specs.Search.Walker.{Member, thrown}
 use Rattle.iso_plain_core.specs.Standing.{Chain}
 use Rattle.iso_plain.specs.Catches.{GoesTo}
 use Rattle.iso_plain.specs.EngineStates.{links_of}
 use Rattle.iso_plain.proofs.BackLemmas.{get_at}
-use Rattle.iso_plain.proofs.FindLemmas.{steps_on, chain_within, chain_ends, member_passes, member_catches, goes_past, places_left}
+use Rattle.iso_plain.proofs.FindLemmas.{steps_on, chain_within, chain_ends, member_passes, member_catches, goes_past}
 use Rattle.iso_plain.proofs.plain.Plain.find_catch.Goals as goal
 
 pub index-frame-requires : goal.index-frame-requires

@@ -1,5 +1,5 @@
 -- The members before the next one are passed over.
-use Rattle.std.proofs.Common.{◌≡◌, ℕ, List}
+use Rattle.std.proofs.Common.{◌≡◌, List}
 use Rattle.iso_model.specs.Terms.Trees.{Tree}
 use Rattle.iso_model.specs.Search.Walker.{State, Member, thrown}
 use Rattle.iso_plain_core.specs.Standing.{Chain}

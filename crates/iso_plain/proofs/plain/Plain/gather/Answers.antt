@@ -1,4 +1,4 @@
-use Rattle.std.proofs.Common.{◌≡◌, ◌≤◌, length, refl, ap, sym, ◌∙◌, subst, arith}
+use Rattle.std.proofs.Common.{◌≤◌, refl, sym, ◌∙◌, subst, arith}
 use Rattle.iso_model.specs.Terms.TermOf.{term_of}
 use Rattle.iso_plain_core.specs.Solutions.{Gains}
 use Rattle.iso_plain_core.specs.Gathering.{SameCopies}

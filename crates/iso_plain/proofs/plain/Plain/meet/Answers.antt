@@ -1,10 +1,9 @@
-use Rattle.std.proofs.Common.{◌≡◌, ◌+◌, ◌<◌, ◌≤◌, ℕ, true, false, Some, refl, ap, sym, ◌∙◌, subst, arith, inl, inr, OnOk, OnErr, IfOk}
-use Rattle.iso_model.specs.Terms.Trees.{Tree}
+use Rattle.std.proofs.Common.{◌≡◌, ◌+◌, ap, sym, ◌∙◌, subst, arith, inl, inr}
 use Rattle.iso_model.specs.Terms.Variables.{variable_count}
 use Rattle.iso_model.specs.Terms.Substitutions.{compose}
-use Rattle.iso_plain.specs.EngineStates.{IsEngine, Keeps}
+use Rattle.iso_plain.specs.EngineStates.{IsEngine}
 use Rattle.iso_plain_core.specs.Costs.{choices_cost, most, frame_costs, rest_cost}
-use Rattle.iso_plain.specs.Catches.{HasMet, Recovers, recovery_of, throwing}
+use Rattle.iso_plain.specs.Catches.{Recovers, throwing}
 use Rattle.iso_plain.specs.declared.plain.Plain.{Plain}
 use Rattle.iso_plain_core.specs.declared.parts.Now.TheVariants as now
 use Rattle.iso_plain_core.proofs.CostLemmas.{cost_above}

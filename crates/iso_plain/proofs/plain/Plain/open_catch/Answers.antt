@@ -1,4 +1,4 @@
-use Rattle.std.proofs.Common.{◌≡◌, ◌∙◌, ◌++◌, ◌∷◌, [], length, sym, append-nil, inl, inr}
+use Rattle.std.proofs.Common.{◌≡◌, ◌∙◌, ◌++◌, [], length, sym, append-nil, inl, inr}
 use Rattle.iso_model.specs.Search.Walker.{Catching, pushed}
 use Rattle.iso_plain.specs.Catches.{catcher_of, recovery_of}
 use Rattle.iso_plain_core.proofs.EnteringLemmas.{adds_none}

@@ -1,11 +1,10 @@
-use Rattle.std.proofs.Common.{◌≡◌, ◌+◌, ◌<◌, ◌≤◌, ◌∷◌, List, Some, None, refl, ap, sym, ◌∙◌, subst, arith, OnErr}
-use Rattle.iso_model.specs.Terms.Trees.{Tree}
+use Rattle.std.proofs.Common.{◌≡◌, ◌+◌, ◌≤◌, ◌∷◌, List, sym, ◌∙◌, subst, arith}
 use Rattle.iso_model.specs.Terms.Variables.{variables}
 use Rattle.iso_model.specs.Search.Walker.{Member, Raise}
 use Rattle.iso_plain_core.specs.Costs.{frame_costs, rest_cost, left_cost, body_cost, most, choices_cost}
 use Rattle.iso_plain.specs.EngineStates.{went_back, cost, links_of}
 use Rattle.iso_plain_core.specs.Standing.{Chain}
-use Rattle.iso_plain.specs.Catches.{GoesTo, IsUncaught}
+use Rattle.iso_plain.specs.Catches.{GoesTo}
 use Rattle.iso_plain_core.specs.declared.parts.Now.TheVariants as now
 use Rattle.iso_plain.proofs.CaughtMoves.{meets_on, stops_there}
 use Rattle.iso_plain_core.proofs.CostLemmas.{left_step}

@@ -10,11 +10,11 @@ use Rattle.iso_plain.proofs.LimitLemmas.{result_full, stays_behind}
 use Rattle.iso_plain.proofs.WorldLemmas.{world_on}
 use Rattle.iso_plain_core.proofs.StandingLemmas.{chain_place}
 use Rattle.iso_plain_core.proofs.ResultLemmas.{behind_error}
-use Rattle.iso_plain.proofs.StoppedLemmas.{keeps_all, keeps_more}
+use Rattle.iso_plain.proofs.StoppedLemmas.{base_kept, keeps_all, keeps_more}
 use Rattle.iso_plain.proofs.SearchMoves.{stops_here}
 use Rattle.iso_plain.proofs.RunMoves.{at, if_ok_map}
 use Rattle.iso_plain.proofs.RunCosts.{behind_less, step_weight, goes_falls, fails_falls, throws_falls, calls_falls}
-use Rattle.iso_plain.proofs.ReplyMoves.{went_on, failed_on, raised_by, calls_by, once_by, refutes_by, repeats_by, catches_by, halts_by, gathers_by, inside_calls, inside_raises, places_unbound, goes_on, fails_now, unbound_ahead, raises_now, halts_now, after, enters_catch, calls_inside_now, call_inside_stops, call_inside_over, throws_inside_now, throw_inside_stops, throw_inside_over, called, called_ahead, calls_now, once_now, once_stops, refutes_now, refute_stops, refute_over, repeating, repeating_ahead, repeats_now, repeat_stops, repeat_over, behind_findall, enters_findall, finds_now, find_stops, find_over}
+use Rattle.iso_plain.proofs.ReplyMoves.{went_on, failed_on, raised_by, calls_by, once_by, refutes_by, repeats_by, catches_by, halts_by, gathers_by, asks_by, asking, asks_at, settles_now, settle_stops, settle_over, inside_calls, inside_raises, places_unbound, goes_on, fails_now, unbound_ahead, raises_now, halts_now, after, enters_catch, calls_inside_now, call_inside_stops, call_inside_over, throws_inside_now, throw_inside_stops, throw_inside_over, called, called_ahead, calls_now, once_now, once_stops, refutes_now, refute_stops, refute_over, repeating, repeating_ahead, repeats_now, repeat_stops, repeat_over, behind_findall, enters_findall, finds_now, find_stops, find_over}
 use Rattle.iso_plain.proofs.plain.Plain.run_built_in.Goals as goal
 
 pub reply-requires-clause-goal : goal.reply-requires-clause-goal
@@ -269,7 +269,39 @@ returns-in-Gathers-clause-frames g c = λ s r.
 pub returns-in-Gathers-clause-stays : goal.returns-in-Gathers-clause-stays
 returns-in-Gathers-clause-stays g c = stays_behind g.S.Store.names c.reply.new.store c.reply.new.nodes (c.args.self.now.steps - 1) c.in_ok-replied.ensures.names c.find_all.ensures.stays
 
+-- ---- what it comes to rests on the operators and the flags
+
+pub settle-requires : goal.settle-requires
+settle-requires g c =
+    let by = asks_by (g.S.Store.present c.args.self.now.store) (g.S.Store.present c.reply.new.store) c.args.self.now.nodes.items c.reply.new.nodes.items (reply c.args.built_in (meaning (g.S.Store.present c.args.self.now.store) c.args.goal)) c.in-AsksWorld.row (rw c.in-AsksWorld.is at c.in_ok-replied.ensures.replies) in
+    (asking g.S.Store.names g.S.Store.present g.S.Store.stands g.S.Store.older c.args.self.now c.reply.new.store c.reply.new.nodes c.requires.stands.0 c.args.frame c.args.place c.args.goal c.requires.now c.requires.there c.requires.stands.1 c.requires.steps c.args.built_in c.requires.built_in c.in_ok-replied.ensures.marks c.in_ok-replied.ensures.names c.in_ok-replied.ensures.nodes c.in-AsksWorld.row by.0 by.1 by.2, asks_at g.S.Store.names g.S.Store.present g.S.Store.stands g.S.Store.older c.args.self.now c.reply.new.store c.reply.new.nodes c.requires.stands.0 c.args.frame c.args.place c.args.goal c.requires.now c.requires.there c.requires.stands.1 c.requires.steps c.args.built_in c.requires.built_in c.in_ok-replied.ensures.marks c.in_ok-replied.ensures.names c.in_ok-replied.ensures.nodes c.in-AsksWorld.row by.0 by.1 by.2)
+
+pub returns-in-AsksWorld-clause-moves : goal.returns-in-AsksWorld-clause-moves
+returns-in-AsksWorld-clause-moves g c = λ s r.
+    (let by = asks_by (g.S.Store.present c.args.self.now.store) (g.S.Store.present c.reply.new.store) c.args.self.now.nodes.items c.reply.new.nodes.items (reply c.args.built_in (meaning (g.S.Store.present c.args.self.now.store) c.args.goal)) c.in-AsksWorld.row (rw c.in-AsksWorld.is at c.in_ok-replied.ensures.replies) in
+    if_ok_map _ _ c.settle.result (settles_now g.S.Store.names g.S.Store.present g.S.Store.stands g.S.Store.older c.args.self.now c.reply.new.store c.reply.new.nodes s c.args.frame c.args.place c.args.goal c.requires.now c.requires.there r c.requires.steps c.args.built_in c.requires.built_in c.in_ok-replied.ensures.marks c.in_ok-replied.ensures.names c.in_ok-replied.ensures.nodes c.in-AsksWorld.row by.0 by.1 by.2 c.settle.new.self) (c.settle.ensures.called (asking g.S.Store.names g.S.Store.present g.S.Store.stands g.S.Store.older c.args.self.now c.reply.new.store c.reply.new.nodes s c.args.frame c.args.place c.args.goal c.requires.now c.requires.there r c.requires.steps c.args.built_in c.requires.built_in c.in_ok-replied.ensures.marks c.in_ok-replied.ensures.names c.in_ok-replied.ensures.nodes c.in-AsksWorld.row by.0 by.1 by.2) (asks_at g.S.Store.names g.S.Store.present g.S.Store.stands g.S.Store.older c.args.self.now c.reply.new.store c.reply.new.nodes s c.args.frame c.args.place c.args.goal c.requires.now c.requires.there r c.requires.steps c.args.built_in c.requires.built_in c.in_ok-replied.ensures.marks c.in_ok-replied.ensures.names c.in_ok-replied.ensures.nodes c.in-AsksWorld.row by.0 by.1 by.2)))
+
+pub returns-in-AsksWorld-clause-stopped : goal.returns-in-AsksWorld-clause-stopped
+returns-in-AsksWorld-clause-stopped g c = λ s r.
+    (let by = asks_by (g.S.Store.present c.args.self.now.store) (g.S.Store.present c.reply.new.store) c.args.self.now.nodes.items c.reply.new.nodes.items (reply c.args.built_in (meaning (g.S.Store.present c.args.self.now.store) c.args.goal)) c.in-AsksWorld.row (rw c.in-AsksWorld.is at c.in_ok-replied.ensures.replies) in
+    on_err_weaker c.settle.result (settle_stops g.S.Store.names g.S.Store.present g.S.Store.stands g.S.Store.older c.args.self.now c.reply.new.store c.reply.new.nodes s c.args.frame c.args.place c.args.goal c.requires.now c.requires.there r c.requires.steps c.args.built_in c.requires.built_in c.in_ok-replied.ensures.marks c.in_ok-replied.ensures.names c.in_ok-replied.ensures.nodes c.in-AsksWorld.row by.0 by.1 by.2 c.settle.new.self) (c.settle.ensures.kept (asking g.S.Store.names g.S.Store.present g.S.Store.stands g.S.Store.older c.args.self.now c.reply.new.store c.reply.new.nodes s c.args.frame c.args.place c.args.goal c.requires.now c.requires.there r c.requires.steps c.args.built_in c.requires.built_in c.in_ok-replied.ensures.marks c.in_ok-replied.ensures.names c.in_ok-replied.ensures.nodes c.in-AsksWorld.row by.0 by.1 by.2) (asks_at g.S.Store.names g.S.Store.present g.S.Store.stands g.S.Store.older c.args.self.now c.reply.new.store c.reply.new.nodes s c.args.frame c.args.place c.args.goal c.requires.now c.requires.there r c.requires.steps c.args.built_in c.requires.built_in c.in_ok-replied.ensures.marks c.in_ok-replied.ensures.names c.in_ok-replied.ensures.nodes c.in-AsksWorld.row by.0 by.1 by.2)))
+
+pub returns-in-AsksWorld-clause-falls : goal.returns-in-AsksWorld-clause-falls
+returns-in-AsksWorld-clause-falls g c =
+    if_ok_map _ _ c.settle.result (λ m. subst (λ x. Falls m x (weight c.settle.new.self)) (step_weight g.S.Store.names g.S.Store.present g.S.Store.stands g.S.Store.older c.args.self.now c.requires.stands.0 c.args.frame c.args.place c.requires.now c.requires.there.asks c.requires.stands.1 c.requires.steps)) (c.settle.ensures.falls (cost c.args.self.now) (behind_less g.S.Store.names g.S.Store.present g.S.Store.stands g.S.Store.older c.args.self.now c.requires.stands.0 c.args.frame c.args.place c.requires.now c.requires.there.asks c.requires.stands.1 c.requires.steps))
+
+pub returns-in-AsksWorld-clause-frames : goal.returns-in-AsksWorld-clause-frames
+returns-in-AsksWorld-clause-frames g c = λ s r.
+    (let by = asks_by (g.S.Store.present c.args.self.now.store) (g.S.Store.present c.reply.new.store) c.args.self.now.nodes.items c.reply.new.nodes.items (reply c.args.built_in (meaning (g.S.Store.present c.args.self.now.store) c.args.goal)) c.in-AsksWorld.row (rw c.in-AsksWorld.is at c.in_ok-replied.ensures.replies) in
+    result_full c.settle.result (settle_over g.S.Store.names g.S.Store.present g.S.Store.stands g.S.Store.older c.args.self.now c.reply.new.store c.reply.new.nodes s c.args.frame c.args.place c.args.goal c.requires.now c.requires.there r c.requires.steps c.args.built_in c.requires.built_in c.in_ok-replied.ensures.marks c.in_ok-replied.ensures.names c.in_ok-replied.ensures.nodes c.in-AsksWorld.row by.0 by.1 by.2) (c.settle.ensures.frames (asking g.S.Store.names g.S.Store.present g.S.Store.stands g.S.Store.older c.args.self.now c.reply.new.store c.reply.new.nodes s c.args.frame c.args.place c.args.goal c.requires.now c.requires.there r c.requires.steps c.args.built_in c.requires.built_in c.in_ok-replied.ensures.marks c.in_ok-replied.ensures.names c.in_ok-replied.ensures.nodes c.in-AsksWorld.row by.0 by.1 by.2) (asks_at g.S.Store.names g.S.Store.present g.S.Store.stands g.S.Store.older c.args.self.now c.reply.new.store c.reply.new.nodes s c.args.frame c.args.place c.args.goal c.requires.now c.requires.there r c.requires.steps c.args.built_in c.requires.built_in c.in_ok-replied.ensures.marks c.in_ok-replied.ensures.names c.in_ok-replied.ensures.nodes c.in-AsksWorld.row by.0 by.1 by.2)))
+
+pub returns-in-AsksWorld-clause-stays : goal.returns-in-AsksWorld-clause-stays
+returns-in-AsksWorld-clause-stays g c = stays_behind g.S.Store.names c.reply.new.store c.reply.new.nodes (c.args.self.now.steps - 1) c.in_ok-replied.ensures.names c.settle.ensures.stays
+
 -- ---- the search is ended
+
+pub clear-requires : goal.clear-requires
+clear-requires g c = base_kept (g.S.Store.stands c.args.self.now.store) (g.S.Store.stands c.reply.new.store) c.args.self.now.base c.in_ok-replied.ensures.marks c.requires.stands.1.engine.base
 
 pub returns-in-Halts-clause-moves : goal.returns-in-Halts-clause-moves
 returns-in-Halts-clause-moves g c = λ s r. (

@@ -1,4 +1,4 @@
-use Rattle.std.proofs.Common.{ℕ, arith, subst, ◌∙◌}
+use Rattle.std.proofs.Common.{ℕ, arith, subst}
 use Rattle.iso_model.specs.Search.Runs.{here, ComesOver}
 use Rattle.iso_model.specs.Search.RunLaws.{quiet_trans, reaches_behind}
 use Rattle.iso_plain.proofs.EngineMoves.{represents_stands, pauses_behind}
