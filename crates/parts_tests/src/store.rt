@@ -7,7 +7,7 @@
 //! Each test then passes, or fails with the text `error: AllocError`, `error: AllocFailed { .. }`, `error: NoMemory` or
 //! `error: "no memory"`, and none fails in an assertion. The last time all pass but those of long lists and of shared parts, which make
 //! more allocations, as those of `nodes` and `heap` that build lists do. Long lists need the deep stack under `rt try`.
-ghost use Rattle.std.specs.Prelude.{◌≡◌, ◌<◌, ◌^◌, ◌∷◌, [], ℕ, IfOk, OnOk, length, true, false};
+ghost use Rattle.std.specs.Prelude.{◌≡◌, ◌<◌, ◌+◌, ◌^◌, ◌∷◌, [], ℕ, IfOk, OnOk, length, true, false};
 ghost use Rattle.std.specs.List.{All};
 ghost use Rattle.iso_model.specs.Terms.Trees.{arities_fit};
 ghost use Rattle.iso_model.specs.Terms.TermOf.{term_of};
