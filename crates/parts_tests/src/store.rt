@@ -341,49 +341,6 @@ fn lists_variables(rt: HostRuntime) -> Result<(), Fail> {
     expect_variables_listed(&rt, alloc, &mut heap)
 }
 
-/// That copies have new variables, the same where they were the same, and what is bound is copied.
-fn expect_copied<S: Store>(rt: &impl Abort, alloc: Global, store: &mut S) -> Result<(), Fail>
-    requires { (S.present store.old).next < 2 ^ 62 }
-{
-    let both = equation(alloc)?;
-    assert!(rt; well_formed(&both));
-    let whole = store.build(&both)?;
-    let copy = store.copy(whole)?;
-    expect_shown(
-        rt,
-        alloc,
-        &*store,
-        copy,
-        "Compound(\"=\", [Compound(\"f\", [Var(4), Var(5), Var(4)]), Compound(\"f\", [Atom(\"a\"), Var(6), Var(7)])])",
-    )?;
-    let (first, second) = sides(rt, &*store, copy);
-    assert!(rt; store.unify(first, second)?);
-    let again = store.copy(first)?;
-    expect_shown(
-        rt,
-        alloc,
-        &*store,
-        again,
-        "Compound(\"f\", [Atom(\"a\"), Var(8), Atom(\"a\")])",
-    )?;
-    expect_shown(
-        rt,
-        alloc,
-        &*store,
-        whole,
-        "Compound(\"=\", [Compound(\"f\", [Var(0), Var(1), Var(0)]), Compound(\"f\", [Atom(\"a\"), Var(2), Var(3)])])",
-    )
-}
-
-#[test]
-fn copies_terms(rt: HostRuntime) -> Result<(), Fail> {
-    let alloc = rt.alloc();
-    let mut nodes = Nodes::new(alloc, 100)?;
-    expect_copied(&rt, alloc, &mut nodes)?;
-    let mut heap = Heap::new(alloc, 100)?;
-    expect_copied(&rt, alloc, &mut heap)
-}
-
 /// f(T, T) of so many levels, each of which stands twice in the next; the first is a variable.
 fn shared<S: Store>(alloc: Global, store: &mut S, levels: u32) -> Result<S::Word, Fail>
     requires { (S.present store.old).next < 2 ^ 62 }
