@@ -4,6 +4,7 @@ use std::test::Fail;
 
 mod current;
 mod flags;
+mod language;
 mod operators;
 mod steps;
 
@@ -25,4 +26,9 @@ fn flags_give_their_output(rt: HostRuntime) -> Result<(), Fail> {
 #[test]
 fn sessions_of_counted_steps_give_their_output(rt: HostRuntime) -> Result<(), Fail> {
     give_their_output(&rt, rt.alloc(), steps::ROWS)
+}
+
+#[test]
+fn examples_of_the_language_give_their_output(rt: HostRuntime) -> Result<(), Fail> {
+    give_their_output(&rt, rt.alloc(), language::ROWS)
 }
