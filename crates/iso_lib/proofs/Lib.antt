@@ -1,6 +1,1 @@
-pub mod ErrorLemmas
-pub mod ListLemmas
-pub mod MergeLemmas
-pub mod CheckLemmas
-pub mod PartLemmas
 mod SettlementLemmas

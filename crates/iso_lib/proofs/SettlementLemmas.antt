@@ -10,10 +10,10 @@ use Rattle.iso_model.specs.Search.Errors.{instantiation_error}
 use Rattle.iso_model.specs.Search.Settings.{Settled, Refuses, op_key, op_settled, op_set, with_priority, with_specifier, with_listed, with_texts, name_list, has_unbound, set_names, setting_settled, set_flag_key, set_flag_settled, named_flag_settled}
 use Rattle.iso_model.specs.Search.Worlds.{World}
 use Rattle.iso_model.specs.declared.library.Setting.{Setting}
-use Rattle.iso_lib.specs.declared.outcomes.Fault.{Fault}
-use Rattle.iso_lib.specs.declared.outcomes.Fault.TheVariants as fault
+use Rattle.iso_lib_core.specs.declared.outcomes.Fault.{Fault}
+use Rattle.iso_lib_core.specs.declared.outcomes.Fault.TheVariants as fault
 use Rattle.iso_lib.specs.declared.settings.Settled.{Settled as Came}
-use Rattle.iso_lib.specs.Replies.{IsError}
+use Rattle.iso_lib_core.specs.Replies.{IsError}
 use Rattle.iso_lib.specs.Settlements.{IsRefused, IsSettled, PassesTo, AreSet, IsSet, with_settings}
 
 -- a flag that has a name

@@ -1,5 +1,1 @@
-pub mod Replies
-pub mod Lists
-pub mod Checks
-pub mod Merging
 pub mod Settlements

@@ -11,14 +11,14 @@ use Rattle.iso_model.specs.Search.Settings.{Settled, Refuses, Changes, Offers, s
 use Rattle.iso_model.specs.Search.Worlds.{World}
 use Rattle.iso_model.specs.declared.library.Setting.{Setting}
 use Rattle.iso_model.specs.declared.pauses.Ball.{Ball}
-use Rattle.iso_lib.specs.declared.outcomes.Fault.{Fault}
-use Rattle.iso_lib.specs.declared.outcomes.Fault.TheVariants as fault
+use Rattle.iso_lib_core.specs.declared.outcomes.Fault.{Fault}
+use Rattle.iso_lib_core.specs.declared.outcomes.Fault.TheVariants as fault
 use Rattle.iso_lib.specs.declared.settings.Constant.{Constant}
 use Rattle.iso_lib.specs.declared.settings.Constant.TheVariants as constant
 use Rattle.iso_lib.specs.declared.settings.Offer.{Offer}
 use Rattle.iso_lib.specs.declared.settings.Settled.{Settled as Came}
 use Rattle.iso_lib.specs.declared.settings.Settled.TheVariants as came
-use Rattle.iso_lib.specs.Replies.{IsError}
+use Rattle.iso_lib_core.specs.Replies.{IsError}
 
 -- the term that a constant is
 abbrev pub constant_tree : Constant → Tree

@@ -8,11 +8,10 @@ ghost use Rattle.iso_model.specs.declared.library.Library.TheVariants as row;
 ghost use Rattle.iso_store_core.specs.Presents.{Holds, meaning, KeepsMarks};
 ghost use Rattle.iso_arith.specs.Evaluables.{AreEvaluables};
 ghost use Rattle.iso_arith.specs.Faults.{IsFault, error_of};
-ghost use Rattle.iso_lib.specs.Replies.{IsReply, IsNumber, IsError};
+ghost use Rattle.iso_lib_core.specs.Replies.{IsReply, IsNumber, IsError};
 
-use super::errors;
-use super::outcomes::{Fault, Reply, tested};
 use iso_arith::{EvalFault, Evaluables, Refusal, eval};
+use iso_lib_core::{Fault, Reply, errors, tested};
 use iso_model::{Ball, Comparison, NoMemory, Term};
 use iso_store_core::Store;
 use std::alloc::Global;

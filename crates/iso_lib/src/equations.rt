@@ -4,9 +4,9 @@ ghost use Rattle.iso_model.specs.Terms.Arguments.{arity};
 ghost use Rattle.iso_model.specs.Search.Library.{library_answer};
 ghost use Rattle.iso_model.specs.declared.library.Library.TheVariants as row;
 ghost use Rattle.iso_store_core.specs.Presents.{Holds, meaning, KeepsMarks};
-ghost use Rattle.iso_lib.specs.Replies.{IsReply};
+ghost use Rattle.iso_lib_core.specs.Replies.{IsReply};
 
-use super::outcomes::{Fault, Reply, tested};
+use iso_lib_core::{Fault, Reply, tested};
 use iso_store_core::Store;
 
 /// `=/2` (8.2.1). The errors: the store is full, or memory was refused.

@@ -9,11 +9,10 @@ ghost use Rattle.iso_model.specs.declared.library.Setting.TheVariants as row;
 ghost use Rattle.iso_store_core.specs.Presents.{Holds, meaning};
 ghost use Rattle.iso_lib.specs.Settlements.{IsSettled, OnOffers, OffersEach, offer_tree, with_settings};
 
-use super::errors;
 use super::operators::may_be_atom;
-use super::outcomes::Fault;
 use super::settings::{Constant, Offer, Settled};
 use super::types::is_unbound;
+use iso_lib_core::{Fault, errors};
 use iso_model::NoMemory;
 use iso_ops::{FlagValue, Flags};
 use iso_store_core::{Shape, Store};

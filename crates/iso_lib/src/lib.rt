@@ -3,25 +3,15 @@
 #![tactic(auto)]
 
 mod arithmetic;
-mod copies;
 mod equations;
-pub mod errors;
 mod flags;
-mod functors;
 mod library;
-pub mod lists;
 mod operators;
 mod order;
-mod outcomes;
-mod parts;
-mod runs;
 mod settings;
-mod sorting;
 mod types;
-mod univ;
-mod variables;
 
-pub use copies::unify_copy;
+pub use iso_lib_core::copies::unify_copy;
+pub use iso_lib_core::{Fault, Reply, errors, lists};
 pub use library::builtin;
-pub use outcomes::{Fault, Reply};
 pub use settings::{Constant, Offer, Settled, settle};

@@ -15,12 +15,11 @@ ghost use Rattle.iso_model.specs.declared.library.Setting.TheVariants as row;
 ghost use Rattle.iso_store_core.specs.Presents.{Holds, meaning};
 ghost use Rattle.iso_lib.specs.Settlements.{IsSettled, OnOffers, OffersEach, PassesTo, AreSet, IsSet, offer_tree, with_settings};
 
-use super::errors;
-use super::lists::{ListParts, elements};
-use super::outcomes::Fault;
 use super::settings::{Constant, Offer, Settled};
 use super::types::is_unbound;
 use iso_atoms::Atom;
+use iso_lib_core::lists::{ListParts, elements};
+use iso_lib_core::{Fault, errors};
 use iso_model::{NoMemory, Term};
 use iso_ops::{Entry, OpFault, OpTable, Spec};
 use iso_store_core::{Shape, Store};

@@ -6,11 +6,10 @@ ghost use Rattle.iso_model.specs.Terms.Sorting.{by_order};
 ghost use Rattle.iso_model.specs.Search.Library.{library_answer, equate, stands_so, is_order_name, order_atom, compare_answer};
 ghost use Rattle.iso_model.specs.declared.library.Library.TheVariants as library;
 ghost use Rattle.iso_store_core.specs.Presents.{Holds, meaning, KeepsMarks};
-ghost use Rattle.iso_lib.specs.Replies.{IsReply};
-ghost use Rattle.iso_lib.specs.Checks.{GoesOn};
+ghost use Rattle.iso_lib_core.specs.Replies.{IsReply};
+ghost use Rattle.iso_lib_core.specs.Checks.{GoesOn};
 
-use super::errors;
-use super::outcomes::{Fault, Reply, tested};
+use iso_lib_core::{Fault, Reply, errors, tested};
 use iso_model::OrderTest;
 use iso_store_core::{Shape, Store};
 use std::alloc::Global;

@@ -8,7 +8,7 @@ ghost use Rattle.iso_lib.specs.Settlements.{IsSettled, OnOffers, OffersEach};
 
 use super::flags::{current_flag, set_flag};
 use super::operators::{current_op, op};
-use super::outcomes::Fault;
+use iso_lib_core::Fault;
 use iso_model::Setting;
 use iso_ops::{Flags, OpTable};
 use iso_store_core::Store;

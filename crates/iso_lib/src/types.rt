@@ -5,9 +5,9 @@ ghost use Rattle.iso_model.specs.Terms.Types.{is_variable};
 ghost use Rattle.iso_model.specs.Search.Library.{library_answer, has_type};
 ghost use Rattle.iso_model.specs.declared.library.Library.TheVariants as row;
 ghost use Rattle.iso_store_core.specs.Presents.{Holds, meaning};
-ghost use Rattle.iso_lib.specs.Replies.{IsReply};
+ghost use Rattle.iso_lib_core.specs.Replies.{IsReply};
 
-use super::outcomes::{Fault, Reply, tested};
+use iso_lib_core::{Fault, Reply, tested};
 use iso_model::{NoMemory, TypeTest};
 use iso_store_core::{Shape, Store};
 

@@ -17,7 +17,7 @@ use Rattle.iso_model.specs.Search.Walker.{State, Member, Goal, Gather, Alternati
 use Rattle.iso_model.specs.Search.Engines.{IsAwake}
 use Rattle.iso_model.proofs.Search.CallLemmas.{unify_found, unify_none}
 use Rattle.iso_store_core.specs.Presents.{Present, KeepsMarks, meaning}
-use Rattle.iso_lib.specs.Replies.{UnifiesCopy, MeetsCopy}
+use Rattle.iso_lib_core.specs.Replies.{UnifiesCopy, MeetsCopy}
 use Rattle.iso_plain_core.specs.Solutions.{copies_of, Gains}
 use Rattle.iso_plain_core.specs.Gathering.{SameCopies, ChangesAt}
 use Rattle.iso_plain_core.specs.declared.solutions.Gathered.{Gathered}

@@ -23,8 +23,8 @@ use Rattle.iso_lib.specs.declared.settings.Offer.{Offer}
 use Rattle.iso_lib.specs.Settlements.{offer_tree, arguments_from, goal_row, with_settings, IsSettled, IsRefused, OnOffers}
 use Rattle.iso_lib.specs.declared.settings.Settled.{Settled as Came}
 use Rattle.iso_lib.specs.declared.settings.Settled.TheVariants as came
-use Rattle.iso_lib.specs.declared.outcomes.Fault.{Fault}
-use Rattle.iso_lib.specs.declared.outcomes.Fault.TheVariants as fault
+use Rattle.iso_lib_core.specs.declared.outcomes.Fault.{Fault}
+use Rattle.iso_lib_core.specs.declared.outcomes.Fault.TheVariants as fault
 use Rattle.iso_plain_core.specs.Offers.{goal_arguments, rights_of, TakesOffer}
 use Rattle.iso_plain_core.specs.declared.parts.Left.{Left}
 use Rattle.iso_plain_core.specs.declared.parts.Left.TheVariants as left

@@ -43,7 +43,7 @@ use Rattle.iso_plain.specs.Catches.{EntersCatch, throwing, catching, calling_ins
 use Rattle.iso_plain.specs.Gathers.{EntersFindall, FindsAll, finding, template_of, result_of}
 use Rattle.iso_plain.specs.Settles.{AsksAt, WasStopped}
 use Rattle.iso_plain.specs.Worlds.{IsWorld}
-use Rattle.iso_lib.specs.Replies.{IsUnbound, UnifiesCopy}
+use Rattle.iso_lib_core.specs.Replies.{IsUnbound, UnifiesCopy}
 use Rattle.iso_plain_core.specs.Replies.{IsReply, IsInside, Places}
 use Rattle.iso_plain_core.specs.Standing.{IsAt, a_body}
 use Rattle.iso_plain.specs.EngineStates.{IsEngine, IsAhead, Represents, StandsFor, Stopped, Keeps, WasCalled, WasRefused, Moves, calling_once, refuting, phase_of}

@@ -11,7 +11,7 @@ use Rattle.iso_model.specs.Terms.Copies.{copy_from}
 use Rattle.iso_model.specs.Search.Bodies.{Body, Run, one}
 use Rattle.iso_model.specs.Search.Walker.{State, Member, Alternative, Goes, Ends, Goal, Leave, Raise, Meet, Catching, Uncaught, pushed, thrown, shortened}
 use Rattle.iso_model.specs.declared.pauses.Ball.{Ball}
-use Rattle.iso_lib.specs.Replies.{UnifiesCopy, MeetsCopy}
+use Rattle.iso_lib_core.specs.Replies.{UnifiesCopy, MeetsCopy}
 use Rattle.iso_store_core.specs.Presents.{Present, meaning}
 use Rattle.iso_plain_core.specs.declared.parts.Frame.{Frame}
 use Rattle.iso_plain_core.specs.declared.parts.Todo.TheVariants as todo

@@ -8,8 +8,8 @@ use Rattle.iso_model.specs.Search.BuiltIns.{Reply, Fails, Succeeds, Equates, Equ
 use Rattle.iso_model.specs.Search.Library.{library_answer}
 use Rattle.iso_model.specs.Search.Replies.{Answer, Fail, Succeed, Equate, EquateCopy, Raise}
 use Rattle.iso_model.specs.Search.Bodies.{Body, converted}
-use Rattle.iso_lib.specs.Replies as library
-use Rattle.iso_lib.specs.Replies.{IsDone, IsFailed, IsUnbound}
+use Rattle.iso_lib_core.specs.Replies as library
+use Rattle.iso_lib_core.specs.Replies.{IsDone, IsFailed, IsUnbound}
 use Rattle.iso_model.specs.Search.Errors.{Key, key, domain_error, max_arity_error, type_error}
 use Rattle.iso_model.specs.declared.built_ins.BuiltIn.{BuiltIn}
 use Rattle.iso_model.specs.declared.built_ins.BuiltIn.TheVariants as built_in

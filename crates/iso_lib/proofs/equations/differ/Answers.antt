@@ -4,8 +4,8 @@ use Rattle.iso_model.specs.Terms.Unification.{unifier_of}
 use Rattle.iso_model.specs.Search.Library.{differ}
 use Rattle.iso_model.proofs.OnTerms.UnifierLemmas.{unifier_of_some, unifier_of_none}
 use Rattle.iso_store_core.specs.Presents.{Present, IsUnification, meaning}
-use Rattle.iso_lib.specs.declared.outcomes.Reply.TheVariants.{Fail, Done}
-use Rattle.iso_lib.specs.Replies.{IsReply}
+use Rattle.iso_lib_core.specs.declared.outcomes.Reply.TheVariants.{Fail, Done}
+use Rattle.iso_lib_core.specs.Replies.{IsReply}
 use Rattle.iso_lib.proofs.equations.differ.Goals as goal
 
 -- nothing is bound, whether there was a unifier or none

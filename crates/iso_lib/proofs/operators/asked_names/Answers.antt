@@ -6,7 +6,7 @@ use Rattle.iso_atoms.specs.declared.Atom.{Atom}
 use Rattle.iso_model.specs.Search.Settings.{Settled, with_texts}
 use Rattle.iso_store_core.specs.Presents.{meaning}
 use Rattle.iso_lib.specs.Settlements.{PassesTo}
-use Rattle.iso_lib.proofs.CheckLemmas.{handed_on, keys_left}
+use Rattle.iso_lib_core.proofs.CheckLemmas.{handed_on, keys_left}
 use Rattle.iso_lib.proofs.SettlementLemmas.{passes_raised, texts_more}
 use Rattle.iso_lib.proofs.operators.asked_names.Goals as goal
 

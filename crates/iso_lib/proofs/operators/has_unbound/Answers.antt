@@ -2,7 +2,7 @@ use Rattle.std.proofs.Common.{◌+◌, ◌||◌, map, drop, sym, ap, ◌∙◌, 
 use Rattle.std.specs.List.{list_any}
 use Rattle.iso_model.specs.Terms.Types.{is_variable}
 use Rattle.iso_store_core.specs.Presents.{meaning}
-use Rattle.iso_lib.proofs.CheckLemmas.{keys_left}
+use Rattle.iso_lib_core.proofs.CheckLemmas.{keys_left}
 use Rattle.iso_lib.proofs.operators.has_unbound.Goals as goal
 
 pub returns-then-is_unbound : goal.returns-then-is_unbound

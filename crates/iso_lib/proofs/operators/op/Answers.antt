@@ -8,7 +8,7 @@ use Rattle.iso_model.specs.Search.Settings.{op_settled, op_set, set_names, with_
 use Rattle.iso_model.specs.declared.library.Setting.TheVariants.{Op}
 use Rattle.iso_store_core.specs.Presents.{meaning}
 use Rattle.iso_lib.specs.Settlements.{IsSettled, with_settings}
-use Rattle.iso_lib.proofs.CheckLemmas.{handed_on}
+use Rattle.iso_lib_core.proofs.CheckLemmas.{handed_on}
 use Rattle.iso_lib.proofs.SettlementLemmas.{refused_settled, unset_settled, op_after}
 use Rattle.iso_lib.proofs.operators.op.Goals as goal
 

@@ -4,7 +4,7 @@ use Rattle.iso_ops.specs.Operators.{asked_op}
 use Rattle.iso_model.specs.Search.Settings.{set_names, set_next}
 use Rattle.iso_store_core.proofs.AtomLemmas.{text-is}
 use Rattle.iso_lib.specs.Settlements.{AreSet}
-use Rattle.iso_lib.proofs.CheckLemmas.{handed_on, map_left}
+use Rattle.iso_lib_core.proofs.CheckLemmas.{handed_on, map_left}
 use Rattle.iso_lib.proofs.SettlementLemmas.{set_raised}
 use Rattle.iso_lib.proofs.operators.set_names.Goals as goal
 

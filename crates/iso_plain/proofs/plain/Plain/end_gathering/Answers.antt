@@ -3,7 +3,7 @@ use Rattle.iso_model.specs.Terms.Trees.{arities_fit}
 use Rattle.iso_model.specs.Terms.TermOf.{term_of}
 use Rattle.iso_model.specs.Terms.Lists.{list_of}
 use Rattle.iso_store_core.specs.Presents.{meaning}
-use Rattle.iso_lib.specs.Replies.{MeetsCopy}
+use Rattle.iso_lib_core.specs.Replies.{MeetsCopy}
 use Rattle.iso_plain_core.specs.Next.{now_behind}
 use Rattle.iso_plain_core.specs.declared.parts.Now.TheVariants as now
 use Rattle.iso_plain_core.specs.Solutions.{copies_of}

@@ -4,7 +4,7 @@ use Rattle.std.proofs.lemmas.Result.{on_err_weaker}
 use Rattle.iso_store_core.specs.Presents.{meaning}
 use Rattle.iso_plain.specs.EngineStates.{Falls, cost, weight, phase_of}
 use Rattle.iso_plain_core.proofs.EnteringLemmas.{adds_none, words_same}
-use Rattle.iso_lib.proofs.ErrorLemmas.{existence_fits}
+use Rattle.iso_lib_core.proofs.ErrorLemmas.{existence_fits}
 use Rattle.iso_plain_core.proofs.ResultLemmas.{behind_error}
 use Rattle.iso_plain.proofs.StoppedLemmas.{keeps_all}
 use Rattle.iso_plain.proofs.SearchMoves.{stops_here}

@@ -1,0 +1,5 @@
+pub mod ErrorLemmas
+pub mod ListLemmas
+pub mod MergeLemmas
+pub mod CheckLemmas
+pub mod PartLemmas

@@ -1,0 +1,46 @@
+use Rattle.std.proofs.Common.{◌≡◌, ◌∷◌, [], ◌-◌, ◌+◌, sym, refl, ap, ap₂, subst, ◌∙◌, arith, length}
+use Rattle.iso_model.specs.Terms.Trees.{Name}
+use Rattle.iso_model.specs.Terms.Lists.{nil}
+use Rattle.iso_store_core.specs.Presents.{KeepsNumbers}
+use Rattle.iso_store_core.proofs.AtomLemmas.{keeps-then}
+use Rattle.iso_lib_core.specs.Lists.{Comes}
+use Rattle.iso_lib_core.proofs.ListLemmas.{list_begins, list_grows, numbers_then}
+use Rattle.iso_lib_core.proofs.lists.make_list.Goals as goal
+
+pub loop-index-init : goal.loop-index-init
+loop-index-init g c =
+    let p = g.S.Store.present c.args.store.now in
+    let same : g.S.Store.present c.intern.new.self ≡ g.S.Store.present c.empty_list.new.store = c.intern.ensures.present in
+    let came : Comes p (g.S.Store.present c.intern.new.self) c.in_ok-list.list (Name nil) = subst (λ q. Comes p q c.in_ok-list.list (Name nil)) (sym same) c.in_ok-list.ensures.made in
+    record {
+      within = omega arith;
+      words = came.words;
+      substitution = came.substitution;
+      holds = came.holds;
+      value = came.value ∙ sym (list_begins p c.args.words.now);
+      numbers = subst (λ q. KeepsNumbers p q) (sym same) c.in_ok-list.ensures.numbers;
+      names = keeps-then _ _ _ c.empty_list.ensures.names c.intern.ensures.names;
+      dot = c.in_ok-dot.ensures.place;
+      marks = λ m p h. c.intern.ensures.marks m p (c.empty_list.ensures.marks m p h);
+    }
+
+pub loop-index-preserved : goal.loop-index-preserved
+loop-index-preserved g c =
+    let p = g.S.Store.present c.args.store.now in
+    let i = c.loop-index.invariant in
+    let within = i.within in
+    let test = c.loop-index-test.true in
+    let before : c.loop-index.index - 1 + 1 ≡ c.loop-index.index = omega (arith, test) in
+    let grown = list_grows p c.args.words.now (g.S.Store.present c.loop-index.store) (g.S.Store.present c.put_before.new.store) (c.loop-index.index - 1) c.loop-index.index c.index-words-index.result c.loop-index.list c.in_ok-list-2.list
+    before within c.requires.words c.index-words-index.is (record { words = i.words; substitution = i.substitution; holds = i.holds; value = i.value }) c.in_ok-list-2.ensures.made in
+    record {
+      within = omega (arith, within);
+      words = grown.words;
+      substitution = grown.substitution;
+      holds = grown.holds;
+      value = grown.value;
+      numbers = numbers_then _ _ _ i.numbers c.in_ok-list-2.ensures.numbers;
+      names = keeps-then _ _ _ i.names (λ place text h. rw c.put_before.ensures.names h);
+      dot = rw c.put_before.ensures.names i.dot;
+      marks = λ m p h. c.put_before.ensures.marks m p (i.marks m p h);
+    }

@@ -1,0 +1,4 @@
+pub mod Replies
+pub mod Lists
+pub mod Checks
+pub mod Merging

@@ -1,0 +1,66 @@
+//! Copies of terms, with new variables.
+ghost use Rattle.std.specs.Prelude.{◌≡◌, ◌<◌, ◌≤◌, ◌^◌, IfOk, Err, true};
+ghost use Rattle.iso_atoms.specs.Texts.{KeepsTexts};
+ghost use Rattle.iso_model.specs.Terms.Arguments.{arity};
+ghost use Rattle.iso_model.specs.Terms.TermOf.{term_of};
+ghost use Rattle.iso_model.specs.Terms.Trees.{arities_fit};
+ghost use Rattle.iso_model.specs.Terms.Variables.{variable_count};
+ghost use Rattle.iso_model.specs.Search.Library.{library_answer};
+ghost use Rattle.iso_model.specs.declared.library.Library.TheVariants as row;
+ghost use Rattle.iso_store_core.specs.Presents.{Holds, meaning, KeepsMarks};
+ghost use Rattle.iso_lib_core.specs.Replies.{IsReply, MeetsCopy};
+
+use super::outcomes::{Fault, Reply, tested};
+use iso_model::{NoMemory, Numbering, Term};
+use iso_store_core::{Store, StoreFault};
+use std::alloc::Global;
+
+/// The most variables of a term that is copied for a goal; one with more is refused as memory is.
+const MOST_VARIABLES: usize = 536_870_912;
+
+/// How many distinct variables the term has. The error is that memory was refused.
+fn count_variables(alloc: Global, term: &Term) -> Result<usize, NoMemory>
+    ensures { IfOk result (λ count. count ≡ variable_count (term_of term.now)) }
+{
+    let mut variables = Numbering::new(alloc);
+    variables.note_all(alloc, term)?;
+    Ok(variables.len())
+}
+
+/// Whether the term that the word stands for unifies with a copy of the other one, which has new variables; then their unifier is
+/// bound. The errors: the store is full, or memory was refused, as it is for a term of more than 536,870,912 variables.
+pub fn unify_copy<S: Store>(
+    alloc: Global,
+    store: &mut S,
+    word: S::Word,
+    term: &Term,
+) -> Result<bool, StoreFault>
+    requires word { Holds (S.present store.old) word }
+    requires next { (S.present store.old).next < 2 ^ 63 }
+    requires fits { arities_fit (term_of term.now) ≡ true }
+    ensures unified { IfOk result (MeetsCopy (S.present store.old) (S.present store.new) (meaning (S.present store.old) word) (term_of term.now)) }
+    ensures full { result ≡ Err StoreFault.Full → S.full store.new }
+    ensures names { KeepsTexts (S.names store.old) (S.names store.new) }
+    ensures marks { KeepsMarks (S.stands store.old) (S.stands store.new) }
+{
+    if count_variables(alloc, term)? > MOST_VARIABLES {
+        return Err(StoreFault::NoMemory);
+    }
+    let copy = store.build(term)?;
+    store.unify(word, copy)
+}
+
+/// `copy_term/2` (8.5.4). The errors: the store is full, or memory was refused.
+pub fn copy_term<S: Store>(alloc: Global, store: &mut S, goal: S::Word) -> Result<Reply, Fault>
+    requires goal { Holds (S.present store.old) goal }
+    requires arity { 2 ≤ arity (meaning (S.present store.old) goal) }
+    requires next { (S.present store.old).next < 2 ^ 63 }
+    ensures replies { IsReply (S.present store.old) (S.present store.new) (library_answer row.CopyTerm (meaning (S.present store.old) goal)) result }
+    ensures full { result ≡ Err Fault.Full → S.full store.new }
+    ensures names { KeepsTexts (S.names store.old) (S.names store.new) }
+    ensures marks { KeepsMarks (S.stands store.old) (S.stands store.new) }
+{
+    let (original, other) = (store.arg(goal, 0), store.arg(goal, 1));
+    let copy = store.copy(original)?;
+    Ok(tested(store.unify(other, copy)?))
+}

@@ -1,0 +1,187 @@
+//! The name and the arity of a term, and the term of a name and an arity (8.5.1).
+ghost use Rattle.std.specs.Prelude.{◌≡◌, ◌<◌, ◌≤◌, ◌^◌, IfOk, Err, length, [], ◌∷◌};
+ghost use Rattle.iso_atoms.specs.Texts.{KeepsTexts, text_at};
+ghost use Rattle.iso_model.specs.Terms.Trees.{Apply, row};
+ghost use Rattle.iso_model.specs.Terms.TermOf.{term_of};
+ghost use Rattle.iso_model.specs.Terms.Arguments.{arity, variables_from};
+ghost use Rattle.iso_model.specs.Search.Library.{library_answer, new_term, new_term_of, new_compound};
+ghost use Rattle.iso_model.specs.declared.library.Library.TheVariants as library;
+ghost use Rattle.iso_store_core.specs.Presents.{Holds, meaning, KeepsMarks, IsUnification};
+ghost use Rattle.iso_lib_core.specs.Replies.{IsReply, MeetsCopy};
+
+use super::copies::unify_copy;
+use super::errors;
+use super::outcomes::{Fault, Reply, tested};
+use iso_atoms::Atom;
+use iso_model::Term;
+use iso_store_core::{Shape, Store, StoreFault};
+use std::alloc::{AllocError, Global};
+
+/// A compound of this name, whose arguments are so many variables, from 0 on.
+fn with_variables(alloc: Global, name: &str, count: usize) -> Result<Term, AllocError>
+    requires { count < 256 }
+    ensures { IfOk result (λ t. term_of t ≡ Apply name.now (variables_from 0 count)) }
+{
+    let mut arguments = Vec::with_capacity(alloc, count)?;
+    for number in 0..count {
+        arguments.push(Term::Var(number as u64))?;
+    }
+    Ok(Term::Compound(String::from_str(alloc, name)?, arguments))
+}
+
+/// Unifies the word with a compound of this name and so many new variables. The errors: the store is full, or memory was refused.
+fn unify_new<S: Store>(
+    alloc: Global,
+    store: &mut S,
+    word: S::Word,
+    name: Atom,
+    count: usize,
+) -> Result<bool, StoreFault>
+    requires word { Holds (S.present store.old) word }
+    requires name { name < length (S.names store.old) }
+    requires some { 0 < count }
+    requires few { count < 256 }
+    requires next { (S.present store.old).next < 2 ^ 63 }
+    ensures unified { IfOk result (MeetsCopy (S.present store.old) (S.present store.new) (meaning (S.present store.old) word) (Apply (text_at (S.names store.old) name) (variables_from 0 count))) }
+    ensures full { result ≡ Err StoreFault.Full → S.full store.new }
+    ensures names { KeepsTexts (S.names store.old) (S.names store.new) }
+    ensures marks { KeepsMarks (S.stands store.old) (S.stands store.new) }
+{
+    let made = with_variables(alloc, store.text(name), count)?;
+    unify_copy(alloc, store, word, &made)
+}
+
+/// The same by a name that is to be an atom. The errors are those of `functor`.
+fn new_compound<S: Store>(
+    alloc: Global,
+    store: &mut S,
+    word: S::Word,
+    name: S::Word,
+    count: usize,
+) -> Result<Reply, Fault>
+    requires word { Holds (S.present store.old) word }
+    requires name { Holds (S.present store.old) name }
+    requires some { 0 < count }
+    requires few { count < 256 }
+    requires next { (S.present store.old).next < 2 ^ 63 }
+    ensures replies { IsReply (S.present store.old) (S.present store.new) (new_compound (meaning (S.present store.old) word) (meaning (S.present store.old) name) count) result }
+    ensures full { result ≡ Err Fault.Full → S.full store.new }
+    ensures names { KeepsTexts (S.names store.old) (S.names store.new) }
+    ensures marks { KeepsMarks (S.stands store.old) (S.stands store.new) }
+{
+    let Shape::Atom(atom) = store.shape(name) else {
+        let culprit = store.copy_out(name)?;
+        let ball = errors::wrong_type(alloc, "atom", culprit, "functor", 3)?;
+        return Err(Fault::Raise(ball));
+    };
+    Ok(tested(unify_new(alloc, store, word, atom, count)?))
+}
+
+/// Unifies the word with the term of this name and so many new variables. The errors are those of `functor`.
+fn new_term_of<S: Store>(
+    alloc: Global,
+    store: &mut S,
+    word: S::Word,
+    name: S::Word,
+    number: i64,
+) -> Result<Reply, Fault>
+    requires word { Holds (S.present store.old) word }
+    requires name { Holds (S.present store.old) name }
+    requires next { (S.present store.old).next < 2 ^ 63 }
+    ensures replies { IsReply (S.present store.old) (S.present store.new) (new_term_of (meaning (S.present store.old) word) (meaning (S.present store.old) name) number) result }
+    ensures full { result ≡ Err Fault.Full → S.full store.new }
+    ensures names { KeepsTexts (S.names store.old) (S.names store.new) }
+    ensures marks { KeepsMarks (S.stands store.old) (S.stands store.new) }
+{
+    if number < 0 {
+        let culprit = Term::Int(number);
+        let ball = errors::out_of_domain(alloc, "not_less_than_zero", culprit, "functor", 3)?;
+        return Err(Fault::Raise(ball));
+    }
+    if number == 0 {
+        return Ok(tested(store.unify(word, name)?));
+    }
+    if number > 255 {
+        let ball = errors::too_many_arguments(alloc, "functor", 3)?;
+        return Err(Fault::Raise(ball));
+    }
+    new_compound(alloc, store, word, name, number as usize)
+}
+
+/// Unifies the word with the term of this name and arity. The errors are those of `functor`.
+fn new_term<S: Store>(
+    alloc: Global,
+    store: &mut S,
+    word: S::Word,
+    name: S::Word,
+    count: S::Word,
+) -> Result<Reply, Fault>
+    requires word { Holds (S.present store.old) word }
+    requires name { Holds (S.present store.old) name }
+    requires count { Holds (S.present store.old) count }
+    requires next { (S.present store.old).next < 2 ^ 63 }
+    ensures replies { IsReply (S.present store.old) (S.present store.new)
+        (new_term (meaning (S.present store.old) word) (meaning (S.present store.old) name) (meaning (S.present store.old) count)) result }
+    ensures full { result ≡ Err Fault.Full → S.full store.new }
+    ensures names { KeepsTexts (S.names store.old) (S.names store.new) }
+    ensures marks { KeepsMarks (S.stands store.old) (S.stands store.new) }
+{
+    let (name_shape, count_shape) = (store.shape(name), store.shape(count));
+    if matches!(name_shape, Shape::Var(_)) || matches!(count_shape, Shape::Var(_)) {
+        return Err(Fault::Raise(errors::instantiation(alloc, "functor", 3)?));
+    }
+    if matches!(name_shape, Shape::Compound(_, _)) {
+        let culprit = store.copy_out(name)?;
+        let ball = errors::wrong_type(alloc, "atomic", culprit, "functor", 3)?;
+        return Err(Fault::Raise(ball));
+    }
+    let Shape::Int(number) = count_shape else {
+        let culprit = store.copy_out(count)?;
+        let ball = errors::wrong_type(alloc, "integer", culprit, "functor", 3)?;
+        return Err(Fault::Raise(ball));
+    };
+    new_term_of(alloc, store, word, name, number)
+}
+
+/// Unifies the first word with the second, and then the third with the fourth. The errors: the store is full, or memory was refused.
+fn unify_both<S: Store>(
+    store: &mut S,
+    first: (S::Word, S::Word),
+    second: (S::Word, S::Word),
+) -> Result<bool, StoreFault>
+    requires one { Holds (S.present store.old) first.0 }
+    requires other { Holds (S.present store.old) first.1 }
+    requires second_one { Holds (S.present store.old) second.0 }
+    requires second_other { Holds (S.present store.old) second.1 }
+    ensures unified { IfOk result (IsUnification (S.present store.old) (S.present store.new)
+        (row (meaning (S.present store.old) first.0 ∷ meaning (S.present store.old) second.0 ∷ []))
+        (row (meaning (S.present store.old) first.1 ∷ meaning (S.present store.old) second.1 ∷ []))) }
+    ensures full { result ≡ Err StoreFault.Full → S.full store.new }
+    ensures names { S.names store.new ≡ S.names store.old }
+    ensures marks { KeepsMarks (S.stands store.old) (S.stands store.new) }
+{
+    if !store.unify(first.0, first.1)? {
+        return Ok(false);
+    }
+    store.unify(second.0, second.1)
+}
+
+/// `functor/3` (8.5.1). The errors: one is raised, the store is full, or memory was refused.
+pub fn functor<S: Store>(alloc: Global, store: &mut S, goal: S::Word) -> Result<Reply, Fault>
+    requires goal { Holds (S.present store.old) goal }
+    requires arity { 3 ≤ arity (meaning (S.present store.old) goal) }
+    requires next { (S.present store.old).next < 2 ^ 63 }
+    ensures replies { IsReply (S.present store.old) (S.present store.new) (library_answer library.Functor (meaning (S.present store.old) goal)) result }
+    ensures full { result ≡ Err Fault.Full → S.full store.new }
+    ensures names { KeepsTexts (S.names store.old) (S.names store.new) }
+    ensures marks { KeepsMarks (S.stands store.old) (S.stands store.new) }
+{
+    let (term, name, count) = (store.arg(goal, 0), store.arg(goal, 1), store.arg(goal, 2));
+    let (own_name, arity) = match store.shape(term) {
+        Shape::Var(_) => return new_term(alloc, store, term, name, count),
+        Shape::Compound(atom, arity) => (store.atom(atom)?, arity),
+        Shape::Int(_) | Shape::Atom(_) => (term, 0),
+    };
+    let own_count = store.int(arity as i64)?;
+    Ok(tested(unify_both(store, (name, own_name), (count, own_count))?))
+}

@@ -1,0 +1,19 @@
+//! What the built-ins stand on, and those that take terms apart, put them together and sort them (ISO/IEC 13211-1:1995, 8.4.3, 8.4.4
+//! and 8.5), over any store of terms; the error terms (7.12.2).
+#![tactic(auto)]
+
+// what goals come to, and the error terms
+pub mod errors;
+mod outcomes;
+// lists, and words in order
+pub mod lists;
+mod runs;
+// the built-ins
+pub mod copies;
+pub mod functors;
+pub mod parts;
+pub mod sorting;
+pub mod univ;
+pub mod variables;
+
+pub use outcomes::{Fault, Reply, tested};

@@ -1,0 +1,144 @@
+//! Lists as terms (6.3.5): their elements, their ends, and lists that are made of words.
+ghost use Rattle.std.specs.Prelude.{◌≡◌, ◌∷◌, [], slice_get, IfOk, OnOk, Err, Some, map};
+ghost use Rattle.std.specs.List.{All};
+ghost use Rattle.iso_atoms.specs.Texts.{KeepsTexts};
+ghost use Rattle.iso_model.specs.Terms.Trees.{Name, Apply, row};
+ghost use Rattle.iso_model.specs.Terms.Lists.{nil, dot, elements, tail, is_partial_list};
+ghost use Rattle.iso_store_core.specs.Presents.{Holds, meaning, KeepsMarks, KeepsNumbers};
+ghost use Rattle.iso_lib_core.specs.Lists.{IsPairOf, Comes, MakesList};
+
+use iso_atoms::Atom;
+use iso_model::NoMemory;
+use iso_store_core::{Shape, Store, StoreFault};
+use std::alloc::Global;
+
+/// The elements that a term begins with as a list, and what stands behind them.
+#[derive(Drop)]
+pub struct ListParts<W: Copy> {
+    pub elements: Vec<W>,
+    pub tail: W,
+}
+
+/// The element, and what stands behind it, where the term that the word stands for is an element before another term.
+fn pair<S: Store>(store: &S, word: S::Word) -> Option<(S::Word, S::Word)>
+    requires word { Holds (S.present store.now) word }
+    ensures { IsPairOf (S.present store.now) (meaning (S.present store.now) word) result }
+{
+    let Shape::Compound(name, count) = store.shape(word) else {
+        return None;
+    };
+    if count != 2 || store.text(name) != "." {
+        return None;
+    }
+    Some((store.arg(word, 0), store.arg(word, 1)))
+}
+
+/// What stands behind the elements that the term begins with as a list.
+pub fn tail<S: Store>(store: &S, word: S::Word) -> S::Word
+    requires word { Holds (S.present store.now) word }
+    ensures holds { Holds (S.present store.now) result }
+    ensures value { meaning (S.present store.now) result ≡ tail (meaning (S.present store.now) word) }
+{
+    let mut rest = word;
+    while let Some((_, next)) = pair(store, rest) {
+        rest = next;
+    }
+    rest
+}
+
+/// Whether the term is a list, or ends in a variable as a list.
+pub fn is_partial_list<S: Store>(store: &S, word: S::Word) -> bool
+    requires word { Holds (S.present store.now) word }
+    ensures { result ≡ is_partial_list (meaning (S.present store.now) word) }
+{
+    match store.shape(tail(store, word)) {
+        Shape::Var(_) => true,
+        Shape::Atom(name) => store.text(name) == "[]",
+        _ => false,
+    }
+}
+
+/// The elements that the term begins with as a list, and what stands behind them. The error is that memory was refused.
+pub fn elements<S: Store>(
+    alloc: Global,
+    store: &S,
+    word: S::Word,
+) -> Result<ListParts<S::Word>, NoMemory>
+    requires word { Holds (S.present store.now) word }
+    ensures hold { IfOk result (λ r. All (λ w. Holds (S.present store.now) w) r.elements.items) }
+    ensures elements { IfOk result (λ r. map (meaning (S.present store.now)) r.elements.items ≡ elements (meaning (S.present store.now) word)) }
+    ensures holds { IfOk result (λ r. Holds (S.present store.now) r.tail) }
+    ensures tail { IfOk result (λ r. meaning (S.present store.now) r.tail ≡ tail (meaning (S.present store.now) word)) }
+{
+    let mut elements = Vec::new(alloc);
+    let mut rest = word;
+    while let Some((first, next)) = pair(store, rest) {
+        elements.push(first)?;
+        rest = next;
+    }
+    Ok(ListParts {
+        elements,
+        tail: rest,
+    })
+}
+
+/// The compound of an element before what stands behind it, by way of this vector. The errors: the store is full, or memory was
+/// refused.
+fn put_before<S: Store>(
+    store: &mut S,
+    name: Atom,
+    first: S::Word,
+    rest: S::Word,
+    pair: &mut Vec<S::Word>,
+) -> Result<S::Word, StoreFault>
+    requires name { slice_get (S.names store.old) name ≡ Some dot }
+    requires first { Holds (S.present store.old) first }
+    requires rest { Holds (S.present store.old) rest }
+    ensures made { IfOk result (λ w. Comes (S.present store.old) (S.present store.new) w
+        (Apply dot (row (meaning (S.present store.old) first ∷ meaning (S.present store.old) rest ∷ [])))) }
+    ensures numbers { OnOk result (KeepsNumbers (S.present store.old) (S.present store.new)) }
+    ensures full { result ≡ Err StoreFault.Full → S.full store.new }
+    ensures names { S.names store.new ≡ S.names store.old }
+    ensures marks { KeepsMarks (S.stands store.old) (S.stands store.new) }
+{
+    pair.clear();
+    pair.push(first)?;
+    pair.push(rest)?;
+    store.compound(name, pair.as_slice())
+}
+
+/// The empty list. The errors: the store is full, or memory was refused.
+fn empty_list<S: Store>(store: &mut S) -> Result<S::Word, StoreFault>
+    ensures made { IfOk result (λ w. Comes (S.present store.old) (S.present store.new) w (Name nil)) }
+    ensures numbers { OnOk result (KeepsNumbers (S.present store.old) (S.present store.new)) }
+    ensures full { result ≡ Err StoreFault.Full → S.full store.new }
+    ensures names { KeepsTexts (S.names store.old) (S.names store.new) }
+    ensures marks { KeepsMarks (S.stands store.old) (S.stands store.new) }
+{
+    let name = store.intern("[]")?;
+    store.atom(name)
+}
+
+/// The list of what these words stand for. The errors: the store is full, or memory was refused.
+pub fn make_list<S: Store>(
+    alloc: Global,
+    store: &mut S,
+    words: &[S::Word],
+) -> Result<S::Word, StoreFault>
+    requires words { All (λ w. Holds (S.present store.old) w) words.now }
+    ensures made { IfOk result (λ w. MakesList (S.present store.old) (S.present store.new) words.now w) }
+    ensures numbers { OnOk result (KeepsNumbers (S.present store.old) (S.present store.new)) }
+    ensures full { result ≡ Err StoreFault.Full → S.full store.new }
+    ensures names { KeepsTexts (S.names store.old) (S.names store.new) }
+    ensures marks { KeepsMarks (S.stands store.old) (S.stands store.new) }
+{
+    let mut list = empty_list(store)?;
+    let dot = store.intern(".")?;
+    let mut pair = Vec::with_capacity(alloc, 2)?;
+    let mut index = words.len();
+    while index > 0 {
+        index -= 1;
+        list = put_before(store, dot, words[index], list, &mut pair)?;
+    }
+    Ok(list)
+}

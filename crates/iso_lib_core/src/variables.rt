@@ -1,0 +1,34 @@
+//! The variables of a term as a list (8.5.5 of the second corrigendum).
+ghost use Rattle.std.specs.Prelude.{◌≡◌, ◌≤◌, Err};
+ghost use Rattle.iso_atoms.specs.Texts.{KeepsTexts};
+ghost use Rattle.iso_model.specs.Terms.Arguments.{arity};
+ghost use Rattle.iso_model.specs.Search.Library.{library_answer};
+ghost use Rattle.iso_model.specs.declared.library.Library.TheVariants as library;
+ghost use Rattle.iso_store_core.specs.Presents.{Holds, meaning, KeepsMarks};
+ghost use Rattle.iso_lib_core.specs.Replies.{IsReply};
+
+use super::errors;
+use super::lists::{is_partial_list, make_list};
+use super::outcomes::{Fault, Reply, tested};
+use iso_store_core::Store;
+use std::alloc::Global;
+
+/// `term_variables/2`. The errors: one is raised, the store is full, or memory was refused.
+pub fn term_variables<S: Store>(alloc: Global, store: &mut S, goal: S::Word) -> Result<Reply, Fault>
+    requires goal { Holds (S.present store.old) goal }
+    requires arity { 2 ≤ arity (meaning (S.present store.old) goal) }
+    ensures replies { IsReply (S.present store.old) (S.present store.new) (library_answer library.TermVariables (meaning (S.present store.old) goal)) result }
+    ensures full { result ≡ Err Fault.Full → S.full store.new }
+    ensures names { KeepsTexts (S.names store.old) (S.names store.new) }
+    ensures marks { KeepsMarks (S.stands store.old) (S.stands store.new) }
+{
+    let (term, list) = (store.arg(goal, 0), store.arg(goal, 1));
+    if !is_partial_list(store, list) {
+        let culprit = store.copy_out(list)?;
+        let ball = errors::wrong_type(alloc, "list", culprit, "term_variables", 2)?;
+        return Err(Fault::Raise(ball));
+    }
+    let variables = store.variables(term)?;
+    let made = make_list(alloc, store, variables.as_slice())?;
+    Ok(tested(store.unify(list, made)?))
+}
