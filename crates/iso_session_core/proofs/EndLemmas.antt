@@ -6,7 +6,7 @@ use Rattle.iso_model.specs.Search.Engines.{Phase, Ready, MayMeet, KeepsLimits}
 use Rattle.iso_model.specs.Search.Walker.{State, started}
 use Rattle.iso_model.specs.Search.Runs.{ComesOver}
 use Rattle.iso_model.specs.Session.Sessions.{Segment, Line, Script, Closes, Done, Halts, SessionEnd, prepend, segment_bytes, segments_bytes, script_bytes, script_end, query_goal}
-use Rattle.iso_model.specs.Session.Beginnings.{Begins, IsWritten, whole, cut, cut_text, limit_line, IsBroken, Writes, StopsAt, before_run, within_run, further_on, EngineStops, WalkStops, SessionOutcome, Closed, Limited, Broken}
+use Rattle.iso_model.specs.Session.Beginnings.{Begins, IsWritten, whole, cut, cut_text, limit_line, IsBroken, Writes, StopsAt, before_run, within_run, before_directive, within_directive, further_on, EngineStops, WalkStops, SessionOutcome, Closed, Limited, Broken}
 use Rattle.iso_model.specs.declared.limit.Limit.{Limit}
 use Rattle.iso_model.specs.declared.limit.Limit.TheVariants as limit
 use Rattle.iso_session_core.specs.declared.flows.Flow.{Flow}
@@ -103,6 +103,8 @@ stops_by : (budget : ℕ) (May Other : Limit → State → Type 0) (l : Limit) (
     → StopsAt budget May l s script rest → StopsAt budget Other l s script rest
 stops_by budget May Other l s f (before_run query w next is refuses may) = before_run query w next is refuses (f (started (query_goal query.term) budget w) may)
 stops_by budget May Other l s f (within_run query w next k gave may) = within_run query w next k gave (f s may)
+stops_by budget May Other l s f (before_directive k goal w next is refuses may) = before_directive k goal w next is refuses (f (started goal budget w) may)
+stops_by budget May Other l s f (within_directive k goal w next gave may) = within_directive k goal w next gave (f s may)
 stops_by budget May Other l s f (further_on p stops) = further_on p (stops_by budget May Other l s f stops)
 
 -- a limit that ended a session may come in these pieces, where it came in some of them

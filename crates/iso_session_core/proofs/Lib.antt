@@ -3,6 +3,7 @@ pub mod SolutionLemmas
 pub mod ProgressLemmas
 pub mod ConsultLemmas
 pub mod QueryLemmas
-pub mod SkipLemmas
+pub mod DirectiveLemmas
+pub mod TextTermLemmas
 pub mod EndLemmas
 pub mod WordsLemmas

@@ -3,7 +3,7 @@ use Rattle.std.proofs.Common.{◌≡◌, ℕ, Bool, false, List, [], ◌∷◌, 
 use Rattle.std.specs.Io.KnownBytes.{Appends}
 use Rattle.std.specs.Result.{IsErr}
 use Rattle.iso_model.specs.Search.Engines.{Phase, Ready, Midway, IsAwake, HoldsWhereItIs, KeepsLimits}
-use Rattle.iso_model.specs.Search.Walker.{World, State, idle}
+use Rattle.iso_model.specs.Search.Walker.{World, State}
 use Rattle.iso_model.specs.Session.Sessions.{Segment, Line, Script, Shows, Closes, Halts, prepend, segment_bytes, within_behind, segments_bytes, script_bytes}
 use Rattle.iso_model.specs.Session.Beginnings.{Begins, EngineStops, StopsIn, further_on}
 use Rattle.iso_model.specs.declared.limit.Limit.{Limit}
@@ -101,19 +101,19 @@ stops_here budget Stands May now old script ready = record { rest = script; adva
 stops_same : (budget : ℕ) (Stands : State → Type 0) (May : Limit → State → Type 0) (now : Phase) (old new : Place) (script : Script) → now ≡ Ready → new ≡ old → Stops budget Stands May now limit.Memory old new script
 stops_same budget Stands May now old new script ready same = rw same (stops_here budget Stands May now old script ready)
 
--- a line was written, or memory for it was refused, and the session goes on where an engine stands for this world
-pub puts_on : (budget : ℕ) (Stands : State → Type 0) (May : Limit → State → Type 0) (now : Phase) (old new : Place) (text : List ℕ) (at : World) (behind : World → Script) (r : Result Flow Fault)
-    → PutsLine text flow.On old new r → Stands (idle at) → now ≡ Ready → Does budget Stands May now old new (Shows (Line text) (behind at)) behind r
+-- a line was written, or memory for it was refused, and the session goes on where an engine stands for a state over this world
+pub puts_on : (budget : ℕ) (Stands : State → Type 0) (May : Limit → State → Type 0) (now : Phase) (old new : Place) (text : List ℕ) (at : State) (behind : World → Script) (r : Result Flow Fault)
+    → PutsLine text flow.On old new r → Stands at → now ≡ Ready → Does budget Stands May now old new (Shows (Line text) (behind at.world)) behind r
 puts_on budget Stands May now old new text at behind (Ok flow.On) (inl p) stands ready =
-    record { at = at; stands = stands; ready = ready; advances = advance_segment old new (Line text) (behind at) p.1 p.2 }
+    record { at = at; stands = stands; ready = ready; advances = advance_segment old new (Line text) (behind at.world) p.1 p.2 }
 puts_on budget Stands May now old new text at behind (Ok flow.On) (inr p) stands ready = cc
 puts_on budget Stands May now old new text at behind (Ok (flow.Halts n)) (inl p) stands ready = cc
 puts_on budget Stands May now old new text at behind (Ok (flow.Halts n)) (inr p) stands ready = cc
 puts_on budget Stands May now old new text at behind (Ok (flow.Stops l)) (inl p) stands ready = cc
 puts_on budget Stands May now old new text at behind (Ok (flow.Stops limit.Heap)) (inr p) stands ready = cc
 puts_on budget Stands May now old new text at behind (Ok (flow.Stops limit.Frames)) (inr p) stands ready = cc
-puts_on budget Stands May now old new text at behind (Ok (flow.Stops limit.Memory)) (inr p) stands ready = stops_same budget Stands May now old new (Shows (Line text) (behind at)) ready p.1
-puts_on budget Stands May now old new text at behind (Err e) p stands ready = begins_before old.0 new.0 (segment_bytes old.1 (Line text)) (script_bytes false (behind at)) p
+puts_on budget Stands May now old new text at behind (Ok (flow.Stops limit.Memory)) (inr p) stands ready = stops_same budget Stands May now old new (Shows (Line text) (behind at.world)) ready p.1
+puts_on budget Stands May now old new text at behind (Err e) p stands ready = begins_before old.0 new.0 (segment_bytes old.1 (Line text)) (script_bytes false (behind at.world)) p
 
 -- a line was written, or memory for it was refused, that ends the script
 pub puts_halt : (budget : ℕ) (Stands : State → Type 0) (May : Limit → State → Type 0) (now : Phase) (old new : Place) (text : List ℕ) (status : ℕ) (behind : World → Script) (r : Result Flow Fault)

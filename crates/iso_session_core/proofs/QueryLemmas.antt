@@ -44,7 +44,7 @@ within : (Stands : State → Type 0) (May : Limit → State → Type 0) (now : P
     → Runs query w budget k s → Stands s × (now ≡ Spent l) → May l s → StopsIn budget Stands May now l (query_script budget (Readable query) w next) (script_from query k s next)
 within Stands May now l query w budget k s next gave stands may = record { at = s; stands = stands.0; spent = stands.1; stops = within_run query w next k gave may }
 
-limit_ends : (budget : ℕ) (Stands : State → Type 0) (May : Limit → State → Type 0) (now : Phase) (l : Limit) (old mid new : Place) (script rest : Script) (behind : World → Script) (r : Result Flow Fault)
+pub limit_ends : (budget : ℕ) (Stands : State → Type 0) (May : Limit → State → Type 0) (now : Phase) (l : Limit) (old mid new : Place) (script rest : Script) (behind : World → Script) (r : Result Flow Fault)
     → Advances old mid script rest → r ≡ Ok (flow.Stops l) → new ≡ mid → EngineStops budget Stands May now script l rest → Does budget Stands May now old new script behind r
 limit_ends budget Stands May now l old mid new script rest behind r h is same stops = rw (is, same) (record { rest = rest; advances = h; stops = stops })
 
@@ -54,7 +54,7 @@ line_ends : (budget : ℕ) (Stands : State → Type 0) (May : Limit → State �
     → Does budget Stands May now old new (run_script names k (run_of s) next) next r
 line_ends budget Stands May now old new names k s ending text next r f ready line puts =
     let whole = ap (λ z. run_script names k z next) (finishes_run f) ∙ line in
-    rw whole (puts_on budget Stands May now old new text f.world next r puts f.stands ready)
+    rw whole (puts_on budget Stands May now old new text (idle f.world) next r puts f.stands ready)
 
 -- a pause that is no answer and no output ends its query, where these are the operators of what the engine stands for, or of where it stopped
 pub query_ends : (Stands : State → Type 0) (May : Limit → State → Type 0) (table : List Operator) (now : Phase) → ((t : State) → Stands t → HoldsWhereItIs now t (λ u. table ≡ u.world.operators)) → (old mid new : Place) (query : ReadTerm) (w : World) (budget : ℕ) (k : ℕ) (s : State) (p : Pause) (next : World → Script) (r : Result Flow Fault)
@@ -213,10 +213,10 @@ module _ {Later : State → Type 0} {count : ℕ} {values : List Tree} {query : 
   answer_goes new t table same (inr puts) = cc
 
 -- a query was not started
-pub start_refused : (Stands : State → Type 0) (May : Limit → State → Type 0) (now : Phase) (l : Limit) (query : ReadTerm) (budget : ℕ) (w : World) (next : World → Script)
-    → Stands (idle w) × (now ≡ Spent l) → MayRefuse l → May l (started (query_goal query.term) budget w)
-    → StopsIn budget Stands May now l (query_script budget (Readable query) w next) (query_script budget (Readable query) w next)
-start_refused Stands May now l query budget w next stands refuses may = record { at = idle w; stands = stands.0; spent = stands.1; stops = before_run query w next refl refuses may }
+pub start_refused : (Stands : State → Type 0) (May : Limit → State → Type 0) (now : Phase) (l : Limit) (query : ReadTerm) (budget : ℕ) (s : State) (next : World → Script)
+    → Stands s × (now ≡ Spent l) → MayRefuse l → May l (started (query_goal query.term) budget s.world)
+    → StopsIn budget Stands May now l (query_script budget (Readable query) s.world next) (query_script budget (Readable query) s.world next)
+start_refused Stands May now l query budget s next stands refuses may = record { at = s; stands = stands.0; spent = stands.1; stops = before_run query s.world next refl refuses may }
 
 pub stops_before : (budget : ℕ) (Stands : State → Type 0) (May : Limit → State → Type 0) (now : Phase) (l : Limit) (old : Place) (script : Script) → EngineStops budget Stands May now script l script
     → Stops budget Stands May now l old old script
@@ -224,20 +224,20 @@ stops_before budget Stands May now l old script stops = record { rest = script; 
 
 -- How far the queries were run: what is left of them, and where their script is.
 pub record QueriesPlace (Stands : State → Type 0) (budget : ℕ) (ts : List Shown) (old new : Place) (script : Script) : Type 0 where
-  pub at : World
-  pub stands : Stands (idle at)
+  pub at : State
+  pub stands : Stands at
   pub turns : ℕ
   pub enough : length ts ≤ turns
-  pub advances : Advances old new script (queries_script turns budget ts at)
+  pub advances : Advances old new script (queries_script turns budget ts at.world)
 
-pub queries_begin : (Stands : State → Type 0) (w : World) (budget : ℕ) (ts : List Shown) (old : Place) → Stands (idle w)
-    → QueriesPlace Stands budget ts old old (queries_script (length ts) budget ts w)
-queries_begin Stands w budget ts old stands = record {
-  at = w;
+pub queries_begin : (Stands : State → Type 0) (s : State) (budget : ℕ) (ts : List Shown) (old : Place) → Stands s
+    → QueriesPlace Stands budget ts old old (queries_script (length ts) budget ts s.world)
+queries_begin Stands s budget ts old stands = record {
+  at = s;
   stands = stands;
   turns = length ts;
   enough = omega arith;
-  advances = advance_none old (queries_script (length ts) budget ts w);
+  advances = advance_none old (queries_script (length ts) budget ts s.world);
 }
 
 queries_over : (turns budget : ℕ) (w : World) → queries_script turns budget [] w ≡ Closes Done
@@ -247,9 +247,9 @@ queries_over (suc turns) budget w = refl
 
 -- no query is left
 pub queries_end : (Stands : State → Type 0) (now : Phase) (budget : ℕ) (ts : List Shown) (old new : Place) (script : Script)
-    → (p : QueriesPlace Stands budget ts old new script) → now ≡ Ready → next_item p.at.operators p.at.flags ts ≡ None → GoesOn Stands now old new script (λ _. Closes Done)
+    → (p : QueriesPlace Stands budget ts old new script) → now ≡ Ready → next_item p.at.world.operators p.at.world.flags ts ≡ None → GoesOn Stands now old new script (λ _. Closes Done)
 queries_end Stands now budget ts old new script p ready none =
-    let over = ap (λ z. queries_script p.turns budget z p.at) (empty_by p.at.operators p.at.flags ts none) ∙ queries_over p.turns budget p.at in
+    let over = ap (λ z. queries_script p.turns budget z p.at.world) (empty_by p.at.world.operators p.at.world.flags ts none) ∙ queries_over p.turns budget p.at.world in
     record { at = p.at; stands = p.stands; ready = ready; advances = subst (λ z. Advances old new script z) over p.advances }
 
 query_turn : (turns budget : ℕ) (ts : List Shown) (x : Taken) (w : World) → next_item w.operators w.flags ts ≡ Some x
@@ -259,23 +259,23 @@ query_turn turns budget ts x w h = ap (λ o. queries_by budget w o (queries_scri
 
 -- the next query, and the script behind it
 pub record QueryTurn (Stands : State → Type 0) (budget : ℕ) (i : Item) (behind : List Shown) (old mid : Place) (script : Script) : Type 0 where
-  pub at : World
-  pub stands : Stands (idle at)
+  pub at : State
+  pub stands : Stands at
   pub turns : ℕ
   pub enough : length behind ≤ turns
-  pub advances : Advances old mid script (query_script budget i at (queries_script turns budget behind))
+  pub advances : Advances old mid script (query_script budget i at.world (queries_script turns budget behind))
 
 queries_turn : (Stands : State → Type 0) (budget : ℕ) (ts : List Shown) (x : Taken) (old mid : Place) (script : Script)
-    → (p : QueriesPlace Stands budget ts old mid script) → next_item p.at.operators p.at.flags ts ≡ Some x → length x.behind < length ts → QueryTurn Stands budget x.item x.behind old mid script
+    → (p : QueriesPlace Stands budget ts old mid script) → next_item p.at.world.operators p.at.world.flags ts ≡ Some x → length x.behind < length ts → QueryTurn Stands budget x.item x.behind old mid script
 queries_turn Stands budget ts x old mid script p item shorter =
     let some = p.turns - 1 in
     let turn : p.turns ≡ suc some = omega (arith, p.enough, shorter) in
-    let whole = ap (λ n. queries_script n budget ts p.at) turn ∙ query_turn some budget ts x p.at item in
+    let whole = ap (λ n. queries_script n budget ts p.at.world) turn ∙ query_turn some budget ts x p.at.world item in
     record { at = p.at; stands = p.stands; turns = some; enough = omega (arith, p.enough, shorter); advances = subst (λ z. Advances old mid script z) whole p.advances }
 
 -- the turn of the query that was found
 pub query_found : (Stands : State → Type 0) (budget : ℕ) (ts behind : List Shown) (o : Option RustItem) (i : RustItem) (old mid : Place) (script : Script)
-    → (p : QueriesPlace Stands budget ts old mid script) → next_item p.at.operators p.at.flags ts ≡ found o behind → o ≡ Some i → IfSome o (λ _. length behind < length ts)
+    → (p : QueriesPlace Stands budget ts old mid script) → next_item p.at.world.operators p.at.world.flags ts ≡ found o behind → o ≡ Some i → IfSome o (λ _. length behind < length ts)
     → QueryTurn Stands budget (item_read i) behind old mid script
 query_found Stands budget ts behind o i old mid script p item some shorter =
     let here = rw some at item in
@@ -285,7 +285,7 @@ query_found Stands budget ts behind o i old mid script p item some shorter =
 -- the query was run, and the session goes on
 pub query_goes : (Stands Later : State → Type 0) (now : Phase) (budget : ℕ) (i : Item) (behind : List Shown) (old mid new : Place) (script : Script)
     → (t : QueryTurn Stands budget i behind old mid script)
-    → GoesOn Later now mid new (query_script budget i t.at (queries_script t.turns budget behind)) (queries_script t.turns budget behind)
+    → GoesOn Later now mid new (query_script budget i t.at.world (queries_script t.turns budget behind)) (queries_script t.turns budget behind)
     → (now ≡ Ready) × QueriesPlace Later budget behind old new script
 query_goes Stands Later now budget i behind old mid new script t g =
     (g.ready, record { at = g.at; stands = g.stands; turns = t.turns; enough = t.enough; advances = advance_on t.advances g.advances })

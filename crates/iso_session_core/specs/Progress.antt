@@ -3,11 +3,11 @@ use Rattle.std.specs.Prelude.{◌≡◌, ℕ, min, Bool, List, [], ◌∷◌, Op
 use Rattle.std.specs.Io.KnownBytes.{Appends}
 use Rattle.iso_ops.specs.Operators.{Operator}
 use Rattle.iso_model.specs.Search.Engines.{Phase, Ready}
-use Rattle.iso_model.specs.Search.Walker.{World, State, idle}
+use Rattle.iso_model.specs.Search.Walker.{World, State}
 use Rattle.iso_model.specs.Session.Sessions.{Segment, Line, Script, Closes, Done, Halts, prepend, segment_bytes, within_behind, segments_bytes, script_bytes}
 use Rattle.iso_model.specs.Session.Beginnings.{Begins, EngineStops, limit_line, SessionOutcome, Closed, Limited, Broken}
 use Rattle.iso_model.specs.Terms.TermOf.{term_of}
-use Rattle.iso_model.specs.Session.Lines.{error_line, halt_line}
+use Rattle.iso_model.specs.Session.Lines.{error_line, halt_line, directive_failed_line, directive_refused_line, directive_stopped_line}
 use Rattle.iso_model.specs.declared.pauses.Pause.{Pause}
 use Rattle.iso_model.specs.declared.pauses.Pause.TheVariants as pause
 use Rattle.iso_model.specs.declared.limit.Limit.{Limit}
@@ -43,12 +43,12 @@ pub record Advances (old new : Place) (before after : Script) : Type 0 where
   pub within : new.1 ≡ within_after old.1 gave
   pub is : before ≡ prepend gave after
 
--- The part was done: no goal runs, and the session goes on behind it over this world, for which its engine stands.
+-- The part was done: no goal runs on, and the session goes on behind it over the world of this state, for which its engine stands: behind a directive's answer it is not idle.
 pub record GoesOn (Stands : State → Type 0) (now : Phase) (old new : Place) (script : Script) (behind : World → Script) : Type 0 where
-  pub at : World
-  pub stands : Stands (idle at)
+  pub at : State
+  pub stands : Stands at
   pub ready : now ≡ Ready
-  pub advances : Advances old new script (behind at)
+  pub advances : Advances old new script (behind at.world)
 
 -- A limit stopped the session within the part.
 pub record Stops (budget : ℕ) (Stands : State → Type 0) (May : Limit → State → Type 0) (now : Phase) (limit : Limit) (old new : Place) (script : Script) : Type 0 where
@@ -98,3 +98,16 @@ EndsQuery table pause.HeapFull old new r = (r ≡ Ok (flow.Stops limit.Heap)) ×
 EndsQuery table pause.FramesFull old new r = (r ≡ Ok (flow.Stops limit.Frames)) × (new ≡ old)
 EndsQuery table pause.NoMemory old new r = (r ≡ Ok (flow.Stops limit.Memory)) × (new ≡ old)
 EndsQuery table other old new r = Unit {0}
+
+-- What a pause that ends the K-th term's directive, where these are the operators then, comes to: nothing for an answer, else a line, or a limit. Outputs end no directive, and
+-- one that runs is not spent.
+abbrev pub EndsDirective : ℕ → List Operator → Pause → Place → Place → Result Flow Fault → Type 0
+EndsDirective k table (pause.Answer values) old new r = (r ≡ Ok flow.On) × (new ≡ old)
+EndsDirective k table pause.NoMore old new r = PutsLine (directive_failed_line k) flow.On old new r
+EndsDirective k table pause.Budget old new r = PutsLine (directive_stopped_line k) flow.On old new r
+EndsDirective k table (pause.Uncaught ball) old new r = PutsLine (directive_refused_line table k (term_of ball.term)) flow.On old new r
+EndsDirective k table (pause.Halt status) old new r = PutsLine (halt_line status) (flow.Halts status) old new r
+EndsDirective k table pause.HeapFull old new r = (r ≡ Ok (flow.Stops limit.Heap)) × (new ≡ old)
+EndsDirective k table pause.FramesFull old new r = (r ≡ Ok (flow.Stops limit.Frames)) × (new ≡ old)
+EndsDirective k table pause.NoMemory old new r = (r ≡ Ok (flow.Stops limit.Memory)) × (new ≡ old)
+EndsDirective k table other old new r = Unit {0}

@@ -39,6 +39,34 @@ pub fn refused_line(
     Ok(line)
 }
 
+/// `directive K failed`
+pub fn directive_failed_line(alloc: Global, term: u64) -> Result<Vec<u8>, AllocError>
+    ensures { IfOk result (λ line. line.items ≡ lines.directive_failed_line term ++ 10 ∷ []) }
+{
+    Ok(format!(in alloc; "directive {term} failed\n")?.into_bytes())
+}
+
+/// `directive K stopped: budget`
+pub fn directive_stopped_line(alloc: Global, term: u64) -> Result<Vec<u8>, AllocError>
+    ensures { IfOk result (λ line. line.items ≡ lines.directive_stopped_line term ++ 10 ∷ []) }
+{
+    Ok(format!(in alloc; "directive {term} stopped: budget\n")?.into_bytes())
+}
+
+/// `directive K refused: BALL`
+pub fn directive_refused_line(
+    alloc: Global,
+    ops: &OpTable,
+    term: u64,
+    ball: &Term,
+) -> Result<Vec<u8>, AllocError>
+    ensures { IfOk result (λ line. line.items ≡ lines.directive_refused_line ops.now term (term_of ball.now) ++ 10 ∷ []) }
+{
+    let mut line = format!(in alloc; "directive {term} refused: ")?.into_bytes();
+    finish_with_term(alloc, ops, &mut line, ball)?;
+    Ok(line)
+}
+
 /// `end: error BALL`
 pub fn error_line(alloc: Global, ops: &OpTable, ball: &Term) -> Result<Vec<u8>, AllocError>
     ensures { IfOk result (λ line. line.items ≡ lines.error_line ops.now (term_of ball.now) ++ 10 ∷ []) }

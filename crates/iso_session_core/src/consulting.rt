@@ -1,25 +1,29 @@
-//! Consulting the program text: its clauses are added, and what is no clause is passed over with a line that says so.
-ghost use Rattle.std.specs.Prelude.{◌≡◌, ℕ, true, length};
+//! Consulting the program text: its clauses are added, its directives are run, now or behind it, and what is passed over or no term has a line that says so.
+ghost use Rattle.std.specs.Prelude.{◌≡◌, ℕ, true, List, [], ◌∷◌, ◌++◌, length, OnOk, OnErr};
 ghost use Rattle.iso_model.specs.Search.Additions.{consulted};
 ghost use Rattle.iso_model.specs.Search.Engines.{Ready, MayMeet, KeepsLimits};
-ghost use Rattle.iso_model.specs.Session.Sessions.{Script, added_script, read_script, term_script, text_script};
+ghost use Rattle.iso_model.specs.Session.Sessions.{Script, added_script, read_script, term_script, text_script, kept_script};
+ghost use Rattle.iso_model.specs.Session.Directives.{Kept as KeptGoal, text_term as text_term_is};
+ghost use Rattle.iso_model.specs.Terms.Copies.{IsNumbered};
 ghost use Rattle.iso_model.specs.Terms.TermOf.{term_of};
 ghost use Rattle.iso_model.specs.Syntax.Tokens.{tokens};
 ghost use Rattle.iso_model.specs.Terms.Trees.{arities_fit};
-ghost use Rattle.iso_model.specs.Search.Walker.{World, idle};
+ghost use Rattle.iso_model.specs.Search.Walker.{World, State};
 ghost use Rattle.iso_session_core.specs.Consoles.{place};
 ghost use Rattle.iso_session_core.specs.Progress.{Does, IsCount};
+ghost use Rattle.iso_session_core.specs.Directed.{AreKept, Keeps};
 ghost use Rattle.iso_session_core.specs.Read.{item_read, Fits};
 
 use super::composed;
 use super::console::Console;
+use super::directives::{Kept, run_directive, run_kept};
 use super::flows::Flow;
 use super::items::{Item, take_item};
 use super::statuses::Fault;
-use super::terms::is_skipped;
-use iso_model::{AddFault, Engine, Limit, Term};
+use super::terms::{TextTerm, text_term};
+use iso_model::{AddFault, Engine, Limit, Term, copied};
 use iso_token::Tokens;
-use std::alloc::Global;
+use std::alloc::{AllocError, Global};
 use std::io::Write;
 
 /// Adds the K-th term of the text as a clause, or says that it is refused.
@@ -31,12 +35,12 @@ fn consult_term<E: Engine, W: Write>(
     term: &Term,
 ) -> Result<Flow, Fault>
     requires ready { E.phase engine.old ≡ Ready }
-    requires stands { (w : World) × E.stands_for engine.old (idle w) }
+    requires stands { (s : State) × E.stands_for engine.old s }
     requires fits { arities_fit (term_of term.now) ≡ true }
-    ensures does { (w : World) → E.stands_for engine.old (idle w) → (k : ℕ) → IsCount count k → (budget : ℕ) (next : World → Script)
+    ensures does { (s : State) → E.stands_for engine.old s → (k : ℕ) → IsCount count k → (budget : ℕ) (next : World → Script)
         → Does budget (E.stands_for engine.new) (MayMeet (E.heap_pieces engine.new) (E.frames_pieces engine.new)) (E.phase engine.new)
         (place W.contents console.old) (place W.contents console.new)
-        (added_script k (consulted (term_of term.now) w.database) w next) next result }
+        (added_script k (consulted (term_of term.now) s.world.database) s.world next) next result }
     ensures limits { KeepsLimits (MayMeet (E.heap_pieces engine.old) (E.frames_pieces engine.old)) (MayMeet (E.heap_pieces engine.new) (E.frames_pieces engine.new)) }
     ensures writer { console.new.out.ghost_name ≡ console.old.out.ghost_name }
 {
@@ -50,29 +54,53 @@ fn consult_term<E: Engine, W: Write>(
     }
 }
 
-/// Consults the K-th term of the text, or says that it is skipped.
+/// Keeps the goal of the K-th term. The error is that memory was refused; the kept goals are as they were then.
+fn keep_goal(alloc: Global, count: u64, goal: &Term, kept: &mut Vec<Kept>) -> Result<(), AllocError>
+    requires fits { arities_fit (term_of goal.now) ≡ true }
+    requires numbered { IsNumbered (term_of goal.now) }
+    ensures ok { OnOk result ((goals : List KeptGoal) → AreKept kept.old.items goals → (k : ℕ) → IsCount count k
+        → AreKept kept.new.items (goals ++ record { place = k; goal = term_of goal.now } ∷ [])) }
+    ensures err { OnErr result (kept.new.items ≡ kept.old.items) }
+{
+    let goal = copied(alloc, goal)?;
+    kept.push(Kept { place: count, goal })?;
+    Ok(())
+}
+
+/// Consults the K-th term of the text: a clause is added, a directive is run or its goal kept, and of a term that is passed
+/// over the session says so.
 fn consult_read<E: Engine, W: Write>(
     alloc: Global,
     engine: &mut E,
     console: &mut Console<'_, W>,
     count: u64,
     term: &Term,
+    budget: u32,
+    kept: &mut Vec<Kept>,
 ) -> Result<Flow, Fault>
     requires ready { E.phase engine.old ≡ Ready }
-    requires stands { (w : World) × E.stands_for engine.old (idle w) }
+    requires stands { (s : State) × E.stands_for engine.old s }
     requires fits { arities_fit (term_of term.now) ≡ true }
-    ensures does { (w : World) → E.stands_for engine.old (idle w) → (k : ℕ) → IsCount count k → (budget : ℕ) (next : World → Script)
-        → Does budget (E.stands_for engine.new) (MayMeet (E.heap_pieces engine.new) (E.frames_pieces engine.new)) (E.phase engine.new)
+    requires numbered { IsNumbered (term_of term.now) }
+    ensures does { (s : State) → E.stands_for engine.old s → (k : ℕ) → IsCount count k → (goals : List KeptGoal) → AreKept kept.old.items goals
+        → (next : List KeptGoal → World → Script) → Keeps kept.new.items (λ later. Does budget (E.stands_for engine.new) (MayMeet (E.heap_pieces engine.new) (E.frames_pieces engine.new)) (E.phase engine.new)
         (place W.contents console.old) (place W.contents console.new)
-        (read_script k (term_of term.now) w next) next result }
+        (read_script budget k (text_term_is (term_of term.now)) (term_of term.now) s.world goals next) (next later) result) }
     ensures limits { KeepsLimits (MayMeet (E.heap_pieces engine.old) (E.frames_pieces engine.old)) (MayMeet (E.heap_pieces engine.new) (E.frames_pieces engine.new)) }
     ensures writer { console.new.out.ghost_name ≡ console.old.out.ghost_name }
 {
-    if is_skipped(term) {
-        let line = composed::skipped_line(alloc, count);
-        return console.put_line(line, Flow::On);
+    match text_term(term) {
+        TextTerm::Clause => consult_term(alloc, engine, console, count, term),
+        TextTerm::Directive(goal) => run_directive(alloc, engine, console, count, goal, budget),
+        TextTerm::Initialization(goal) => match keep_goal(alloc, count, goal, kept) {
+            Ok(()) => Ok(Flow::On),
+            Err(AllocError) => Ok(Flow::Stops(Limit::Memory)),
+        },
+        TextTerm::PassedOver => {
+            let line = composed::skipped_line(alloc, count);
+            console.put_line(line, Flow::On)
+        }
     }
-    consult_term(alloc, engine, console, count, term)
 }
 
 /// Consults the K-th item of the text.
@@ -82,19 +110,23 @@ fn consult_item<E: Engine, W: Write>(
     console: &mut Console<'_, W>,
     count: u64,
     item: Item,
+    budget: u32,
+    kept: &mut Vec<Kept>,
 ) -> Result<Flow, Fault>
     requires ready { E.phase engine.old ≡ Ready }
-    requires stands { (w : World) × E.stands_for engine.old (idle w) }
+    requires stands { (s : State) × E.stands_for engine.old s }
     requires fits { Fits item }
-    ensures does { (w : World) → E.stands_for engine.old (idle w) → (k : ℕ) → IsCount count k → (budget : ℕ) (next : World → Script)
-        → Does budget (E.stands_for engine.new) (MayMeet (E.heap_pieces engine.new) (E.frames_pieces engine.new)) (E.phase engine.new)
+    ensures does { (s : State) → E.stands_for engine.old s → (k : ℕ) → IsCount count k → (goals : List KeptGoal) → AreKept kept.old.items goals
+        → (next : List KeptGoal → World → Script) → Keeps kept.new.items (λ later. Does budget (E.stands_for engine.new) (MayMeet (E.heap_pieces engine.new) (E.frames_pieces engine.new)) (E.phase engine.new)
         (place W.contents console.old) (place W.contents console.new)
-        (term_script k (item_read item) w next) next result }
+        (term_script budget k (item_read item) s.world goals next) (next later) result) }
     ensures limits { KeepsLimits (MayMeet (E.heap_pieces engine.old) (E.frames_pieces engine.old)) (MayMeet (E.heap_pieces engine.new) (E.frames_pieces engine.new)) }
     ensures writer { console.new.out.ghost_name ≡ console.old.out.ghost_name }
 {
     match item {
-        Item::Readable(read) => consult_read(alloc, engine, console, count, &read.term),
+        Item::Readable(read) => {
+            consult_read(alloc, engine, console, count, &read.term, budget, kept)
+        }
         Item::Unreadable => {
             let line = composed::syntax_error_line(alloc, count);
             console.put_line(line, Flow::On)
@@ -102,19 +134,22 @@ fn consult_item<E: Engine, W: Write>(
     }
 }
 
-/// Consults the text, item by item.
-pub fn consult_text<E: Engine, W: Write>(
+/// Consults the items of the text, one after the other, and keeps the goals that are run behind it.
+fn consult_items<E: Engine, W: Write>(
     alloc: Global,
     engine: &mut E,
     console: &mut Console<'_, W>,
     text: &str,
+    budget: u32,
+    kept: &mut Vec<Kept>,
 ) -> Result<Flow, Fault>
     requires ready { E.phase engine.old ≡ Ready }
-    requires stands { (w : World) × E.stands_for engine.old (idle w) }
-    ensures does { (w : World) → E.stands_for engine.old (idle w) → (budget : ℕ) (next : World → Script)
-        → Does budget (E.stands_for engine.new) (MayMeet (E.heap_pieces engine.new) (E.frames_pieces engine.new)) (E.phase engine.new)
+    requires stands { (s : State) × E.stands_for engine.old s }
+    requires none { kept.old.items ≡ [] }
+    ensures does { (s : State) → E.stands_for engine.old s
+        → (next : List KeptGoal → World → Script) → Keeps kept.new.items (λ later. Does budget (E.stands_for engine.new) (MayMeet (E.heap_pieces engine.new) (E.frames_pieces engine.new)) (E.phase engine.new)
         (place W.contents console.old) (place W.contents console.new)
-        (text_script (length (tokens text.now)) 1 (tokens text.now) w next) next result }
+        (text_script budget (length (tokens text.now)) 1 (tokens text.now) s.world [] next) (next later) result) }
     ensures limits { KeepsLimits (MayMeet (E.heap_pieces engine.old) (E.frames_pieces engine.old)) (MayMeet (E.heap_pieces engine.new) (E.frames_pieces engine.new)) }
     ensures writer { console.new.out.ghost_name ≡ console.old.out.ghost_name }
 {
@@ -128,9 +163,33 @@ pub fn consult_text<E: Engine, W: Write>(
             return Ok(Flow::On);
         };
         count = count.saturating_add(1);
-        match consult_item(alloc, engine, console, count, item)? {
+        match consult_item(alloc, engine, console, count, item, budget, kept)? {
             Flow::On => {}
             flow => return Ok(flow),
         }
+    }
+}
+
+/// Consults the text, item by item, and then runs the goals that it kept.
+pub fn consult_text<E: Engine, W: Write>(
+    alloc: Global,
+    engine: &mut E,
+    console: &mut Console<'_, W>,
+    text: &str,
+    budget: u32,
+) -> Result<Flow, Fault>
+    requires ready { E.phase engine.old ≡ Ready }
+    requires stands { (s : State) × E.stands_for engine.old s }
+    ensures does { (s : State) → E.stands_for engine.old s → (next : World → Script)
+        → Does budget (E.stands_for engine.new) (MayMeet (E.heap_pieces engine.new) (E.frames_pieces engine.new)) (E.phase engine.new)
+        (place W.contents console.old) (place W.contents console.new)
+        (text_script budget (length (tokens text.now)) 1 (tokens text.now) s.world [] (λ goals w. kept_script budget goals w next)) next result }
+    ensures limits { KeepsLimits (MayMeet (E.heap_pieces engine.old) (E.frames_pieces engine.old)) (MayMeet (E.heap_pieces engine.new) (E.frames_pieces engine.new)) }
+    ensures writer { console.new.out.ghost_name ≡ console.old.out.ghost_name }
+{
+    let mut kept = Vec::new(alloc);
+    match consult_items(alloc, engine, console, text, budget, &mut kept)? {
+        Flow::On => run_kept(alloc, engine, console, kept.as_slice(), budget),
+        flow => Ok(flow),
     }
 }

@@ -5,6 +5,7 @@
 mod composed;
 mod console;
 mod consulting;
+mod directives;
 mod files;
 mod flows;
 mod items;

@@ -8,7 +8,7 @@ ghost use Rattle.iso_model.specs.Terms.TermOf.{term_of};
 ghost use Rattle.iso_model.specs.Terms.Copies.{IsNumbered};
 ghost use Rattle.iso_model.specs.Syntax.Tokens.{tokens};
 ghost use Rattle.iso_model.specs.Terms.Trees.{arities_fit};
-ghost use Rattle.iso_model.specs.Search.Walker.{State, World, idle, started};
+ghost use Rattle.iso_model.specs.Search.Walker.{State, World, started};
 ghost use Rattle.iso_read.specs.Answers.{clause_read};
 ghost use Rattle.iso_session_core.specs.Named.{names_of};
 ghost use Rattle.iso_session_core.specs.Consoles.{place};
@@ -101,13 +101,13 @@ fn run_query<E: Engine, W: Write>(
     budget: u32,
 ) -> Result<Flow, Fault>
     requires ready { E.phase engine.old ≡ Ready }
-    requires stands { (w : World) × E.stands_for engine.old (idle w) }
+    requires stands { (s : State) × E.stands_for engine.old s }
     requires fits { arities_fit (term_of read.now.term) ≡ true }
     requires numbered { IsNumbered (term_of read.now.term) }
-    ensures does { (w : World) → E.stands_for engine.old (idle w) → (next : World → Script)
+    ensures does { (s : State) → E.stands_for engine.old s → (next : World → Script)
         → Does budget (E.stands_for engine.new) (MayMeet (E.heap_pieces engine.new) (E.frames_pieces engine.new)) (E.phase engine.new)
         (place W.contents console.old) (place W.contents console.new)
-        (query_script budget (Readable (clause_read read.now)) w next) next result }
+        (query_script budget (Readable (clause_read read.now)) s.world next) next result }
     ensures limits { KeepsLimits (MayMeet (E.heap_pieces engine.old) (E.frames_pieces engine.old)) (MayMeet (E.heap_pieces engine.new) (E.frames_pieces engine.new)) }
     ensures writer { console.new.out.ghost_name ≡ console.old.out.ghost_name }
 {
@@ -127,12 +127,12 @@ fn run_item<E: Engine, W: Write>(
     budget: u32,
 ) -> Result<Flow, Fault>
     requires ready { E.phase engine.old ≡ Ready }
-    requires stands { (w : World) × E.stands_for engine.old (idle w) }
+    requires stands { (s : State) × E.stands_for engine.old s }
     requires fits { Fits item }
-    ensures does { (w : World) → E.stands_for engine.old (idle w) → (next : World → Script)
+    ensures does { (s : State) → E.stands_for engine.old s → (next : World → Script)
         → Does budget (E.stands_for engine.new) (MayMeet (E.heap_pieces engine.new) (E.frames_pieces engine.new)) (E.phase engine.new)
         (place W.contents console.old) (place W.contents console.new)
-        (query_script budget (item_read item) w next) next result }
+        (query_script budget (item_read item) s.world next) next result }
     ensures limits { KeepsLimits (MayMeet (E.heap_pieces engine.old) (E.frames_pieces engine.old)) (MayMeet (E.heap_pieces engine.new) (E.frames_pieces engine.new)) }
     ensures writer { console.new.out.ghost_name ≡ console.old.out.ghost_name }
 {
@@ -151,11 +151,11 @@ pub fn run_queries<E: Engine, W: Write>(
     budget: u32,
 ) -> Result<Flow, Fault>
     requires ready { E.phase engine.old ≡ Ready }
-    requires stands { (w : World) × E.stands_for engine.old (idle w) }
-    ensures does { (w : World) → E.stands_for engine.old (idle w)
+    requires stands { (s : State) × E.stands_for engine.old s }
+    ensures does { (s : State) → E.stands_for engine.old s
         → Does budget (E.stands_for engine.new) (MayMeet (E.heap_pieces engine.new) (E.frames_pieces engine.new)) (E.phase engine.new)
         (place W.contents console.old) (place W.contents console.new)
-        (queries_script (length (tokens queries.now)) budget (tokens queries.now) w) (λ _. Closes Done) result }
+        (queries_script (length (tokens queries.now)) budget (tokens queries.now) s.world) (λ _. Closes Done) result }
     ensures limits { KeepsLimits (MayMeet (E.heap_pieces engine.old) (E.frames_pieces engine.old)) (MayMeet (E.heap_pieces engine.new) (E.frames_pieces engine.new)) }
     ensures writer { console.new.out.ghost_name ≡ console.old.out.ghost_name }
 {

@@ -34,7 +34,7 @@ fn run_parts<E: Engine, W: Write>(
     ensures limits { KeepsLimits (MayMeet (E.heap_pieces engine.old) (E.frames_pieces engine.old)) (MayMeet (E.heap_pieces engine.new) (E.frames_pieces engine.new)) }
     ensures writer { console.new.out.ghost_name ≡ console.old.out.ghost_name }
 {
-    match consult_text(alloc, engine, console, body_of_text(text))? {
+    match consult_text(alloc, engine, console, body_of_text(text), budget)? {
         Flow::On => run_queries(alloc, engine, console, queries, budget),
         flow => Ok(flow),
     }

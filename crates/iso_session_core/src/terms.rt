@@ -1,31 +1,90 @@
-//! Terms of a text that are no clauses, and the goals of queries.
+//! What the terms of a text are, and the goals of queries.
 ghost use Rattle.std.specs.Prelude.{◌≡◌, true};
 ghost use Rattle.iso_model.specs.Terms.Copies.{IsNumbered};
 ghost use Rattle.iso_model.specs.Search.Errors.{key};
+ghost use Rattle.iso_model.specs.Session.Directives as directives;
 ghost use Rattle.iso_model.specs.Session.Sessions as sessions;
 ghost use Rattle.iso_model.specs.Terms.TermOf.{term_of};
 ghost use Rattle.iso_model.specs.Terms.Trees.{arities_fit};
+ghost use Rattle.iso_session_core.specs.Directed.{text_term_of, GoalFits};
 
 use iso_model::Term;
 
-/// Whether terms of this name and arity are passed over in a text: grammar rules, and directives.
-fn skips(name: &str, arity: usize) -> bool
-    ensures { result ≡ sessions.skips (key name.now arity) }
+/// What a term of a text is (7.4.2, 7.4.3).
+#[derive(Clone, Copy, Debug)]
+pub enum TextTerm<'t> {
+    /// A clause.
+    Clause,
+    /// A directive, with its goal.
+    Directive(&'t Term),
+    /// A directive that keeps this goal until behind the text.
+    Initialization(&'t Term),
+    /// A grammar rule, or a directive that is passed over.
+    PassedOver,
+}
+
+/// Whether directives with a goal of this name and arity are passed over.
+fn passes_over(name: &str, arity: usize) -> bool
+    ensures { result ≡ directives.passes_over (key name.now arity) }
 {
     match arity {
-        1 => name == ":-" || name == "?-",
-        2 => name == "-->",
+        1 => name == "use_module" || name == "include" || name == "ensure_loaded",
+        2 => name == "module" || name == "use_module" || name == "char_conversion",
         _ => false,
     }
 }
 
-/// Whether a term of the text is passed over.
-pub fn is_skipped(term: &Term) -> bool
-    ensures { result ≡ sessions.is_skipped (term_of term.now) }
+/// A directive with this goal.
+fn directive(goal: &Term) -> TextTerm<'_>
+    ensures is { text_term_of result ≡ directives.directive_term (term_of goal.now) }
+    ensures fits { arities_fit (term_of goal.now) ≡ true → IsNumbered (term_of goal.now) → GoalFits result }
+{
+    match goal {
+        Term::Compound(name, arguments) => {
+            if passes_over(name.as_str(), arguments.len()) {
+                return TextTerm::PassedOver;
+            }
+            match arguments.as_slice() {
+                [kept] => {
+                    if name.as_str() == "initialization" {
+                        TextTerm::Initialization(kept)
+                    } else {
+                        TextTerm::Directive(goal)
+                    }
+                }
+                [] => TextTerm::Directive(goal),
+                [_, _, ..] => TextTerm::Directive(goal),
+            }
+        }
+        _ => TextTerm::Directive(goal),
+    }
+}
+
+/// What a term of a text is.
+pub fn text_term(term: &Term) -> TextTerm<'_>
+    ensures is { text_term_of result ≡ directives.text_term (term_of term.now) }
+    ensures fits { arities_fit (term_of term.now) ≡ true → IsNumbered (term_of term.now) → GoalFits result }
 {
     match term {
-        Term::Compound(name, arguments) => skips(name.as_str(), arguments.len()),
-        _ => false,
+        Term::Compound(name, arguments) => match arguments.as_slice() {
+            [goal] => {
+                if name.as_str() == ":-" || name.as_str() == "?-" {
+                    directive(goal)
+                } else {
+                    TextTerm::Clause
+                }
+            }
+            [_, _] => {
+                if name.as_str() == "-->" {
+                    TextTerm::PassedOver
+                } else {
+                    TextTerm::Clause
+                }
+            }
+            [] => TextTerm::Clause,
+            [_, _, _, ..] => TextTerm::Clause,
+        },
+        _ => TextTerm::Clause,
     }
 }
 

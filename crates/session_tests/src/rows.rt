@@ -430,13 +430,13 @@ pub const ROWS: &[Row] = &[
         status: 0,
     },
     Row {
-        name: "grammar rules and directives are skipped",
+        name: "grammar rules are skipped, and directives fail",
         text: "s --> [a]. :- fail. ?- fail. q.",
         queries: "q. ?- q.",
         budget: None,
         cells: None,
         frames: None,
-        output: "clause 1 skipped\nclause 2 skipped\nclause 3 skipped\nanswer 1: true\nend: no more\nanswer 1: true\nend: no more\n",
+        output: "clause 1 skipped\ndirective 2 failed\ndirective 3 failed\nanswer 1: true\nend: no more\nanswer 1: true\nend: no more\n",
         status: 0,
     },
     Row {

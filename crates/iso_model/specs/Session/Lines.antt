@@ -32,6 +32,18 @@ skipped_line k = codes "clause " ++ (counted k ++ codes " skipped")
 abbrev pub refused_line : List Operator → ℕ → Tree → List ℕ
 refused_line table k error = codes "clause " ++ (counted k ++ (codes " refused: " ++ text_of table error))
 
+-- `directive K failed`
+abbrev pub directive_failed_line : ℕ → List ℕ
+directive_failed_line k = codes "directive " ++ (counted k ++ codes " failed")
+
+-- `directive K refused: BALL`
+abbrev pub directive_refused_line : List Operator → ℕ → Tree → List ℕ
+directive_refused_line table k ball = codes "directive " ++ (counted k ++ (codes " refused: " ++ text_of table ball))
+
+-- `directive K stopped: budget`
+abbrev pub directive_stopped_line : ℕ → List ℕ
+directive_stopped_line k = codes "directive " ++ (counted k ++ codes " stopped: budget")
+
 -- the value of the variable of this number
 abbrev pub value_at : List Tree → ℕ → Tree
 value_at values n = unwrap_or (slice_get values n) (Name [])

@@ -1,5 +1,5 @@
--- What a session writes and how it ends (own): the text is consulted term by term, then each query is run to its end.
-use Rattle.std.specs.Prelude.{ℕ, zero, suc, ◌+◌, List, [], ◌∷◌, ◌++◌, length, Bool, false, not, ◌&&◌, ◌||◌, ◌==◌, Option, Some, None, codes, if◌then◌else◌, drop}
+-- What a session writes and how it ends (own): the text is consulted term by term, then its kept goals are run, then each query is run to its end.
+use Rattle.std.specs.Prelude.{ℕ, zero, suc, ◌+◌, List, [], ◌∷◌, ◌++◌, length, Bool, false, not, ◌==◌, Option, Some, None, codes, if◌then◌else◌, drop}
 use Rattle.std.specs.List.{prefix_len}
 use Rattle.std.specs.Str.{bytes_eq}
 use Rattle.iso_model.specs.Syntax.Characters.{is_in_line}
@@ -8,12 +8,12 @@ use Rattle.iso_model.specs.Syntax.Tokens.{tokens}
 use Rattle.iso_model.specs.Terms.Trees.{Tree, Apply, End, More}
 use Rattle.iso_model.specs.Syntax.Items.{Item, Readable, Unreadable, Taken, next_item}
 use Rattle.iso_model.specs.Syntax.Characters.{newline}
-use Rattle.iso_model.specs.Search.Databases.{Key, key_of}
 use Rattle.iso_model.specs.Search.Additions.{Addition, Adds, Refuses, consulted}
 use Rattle.iso_model.specs.Search.Walker.{World, first_world, Answered, Wrote, NoMore, Budget, Uncaught, Halted, started}
 use Rattle.iso_model.specs.Search.Runs.{Trace, Then, Stops}
 use Rattle.iso_model.specs.Search.RunLaws.{run_of}
-use Rattle.iso_model.specs.Session.Lines.{syntax_error_line, skipped_line, refused_line, answer_line, error_line, halt_line}
+use Rattle.iso_model.specs.Session.Lines.{syntax_error_line, skipped_line, refused_line, directive_failed_line, directive_refused_line, directive_stopped_line, answer_line, error_line, halt_line}
+use Rattle.iso_model.specs.Session.Directives.{TextTerm, AClause, Directive, Initialization, PassedOver, Kept, text_term}
 
 -- what a session writes at a time: bytes that a goal wrote, or a line, which stands here without its newline
 pub data Segment : Type 0 where
@@ -91,33 +91,40 @@ abbrev pub added_script : ℕ → Addition → World → (World → Script) → 
 added_script k (Adds db) w next = next (record w { database = db })
 added_script k (Refuses error) w next = Shows (Line (refused_line w.operators k error)) (next w)
 
--- whether terms of this name and arity are passed over in a text: grammar rules, and, in this stage, directives
-abbrev pub skips : Key → Bool
-skips k = (k.arity == 1 && (bytes_eq k.name (codes ":-") || bytes_eq k.name (codes "?-"))) || (k.arity == 2 && bytes_eq k.name (codes "-->"))
+-- What is left of the run of the k-th term's directive: it is run for one solution, and its alternatives are dropped (ISO/IEC 13211-1:1995, 7.4.2). Then what follows.
+abbrev pub directive_script : ℕ → Trace → (World → Script) → Script
+directive_script k (Then (Answered values) w others) next = next w
+directive_script k (Then (Wrote bytes) w others) next = Shows (Output bytes) (directive_script k others next)
+directive_script k (Stops NoMore w) next = Shows (Line (directive_failed_line k)) (next w)
+directive_script k (Stops Budget w) next = Shows (Line (directive_stopped_line k)) (next w)
+directive_script k (Stops (Uncaught ball) w) next = Shows (Line (directive_refused_line w.operators k ball)) (next w)
+directive_script k (Stops (Halted n) w) next = Shows (Line (halt_line n)) (Closes (Halts n))
 
-abbrev pub skips_by : Option Key → Bool
-skips_by None = false
-skips_by (Some k) = skips k
+-- the goals that the text kept, in order, each run as a directive with the whole budget; then what follows them
+abbrev pub kept_script : ℕ → List Kept → World → (World → Script) → Script
+kept_script budget [] w next = next w
+kept_script budget (x ∷ xs) w next = directive_script x.place (run_of (started x.goal budget w)) (λ v. kept_script budget xs v next)
 
-abbrev pub is_skipped : Tree → Bool
-is_skipped t = skips_by (key_of t)
+-- the k-th term of the text, which could be read and is this, behind these kept goals; a directive has the whole budget
+abbrev pub read_script : ℕ → ℕ → TextTerm → Tree → World → List Kept → (List Kept → World → Script) → Script
+read_script budget k AClause t w kept next = added_script k (consulted t w.database) w (next kept)
+read_script budget k (Directive goal) t w kept next = directive_script k (run_of (started goal budget w)) (next kept)
+read_script budget k (Initialization goal) t w kept next = next (kept ++ record { place = k; goal = goal } ∷ []) w
+read_script budget k PassedOver t w kept next = Shows (Line (skipped_line k)) (next kept w)
 
--- the k-th term of the text, which could be read
-abbrev pub read_script : ℕ → Tree → World → (World → Script) → Script
-read_script k t w next = if is_skipped t then Shows (Line (skipped_line k)) (next w) else added_script k (consulted t w.database) w next
+abbrev pub term_script : ℕ → ℕ → Item → World → List Kept → (List Kept → World → Script) → Script
+term_script budget k Unreadable w kept next = Shows (Line (syntax_error_line k)) (next kept w)
+term_script budget k (Readable c) w kept next = read_script budget k (text_term c.term) c.term w kept next
 
-abbrev pub term_script : ℕ → Item → World → (World → Script) → Script
-term_script k Unreadable w next = Shows (Line (syntax_error_line k)) (next w)
-term_script k (Readable c) w next = read_script k c.term w next
+abbrev pub text_by : ℕ → ℕ → World → List Kept → Option Taken → (List Kept → World → Script) → (List Shown → List Kept → World → Script) → Script
+text_by budget k w kept None next others = next kept w
+text_by budget k w kept (Some x) next others = term_script budget k x.item w kept (others x.behind)
 
-abbrev pub text_by : ℕ → World → Option Taken → (World → Script) → (List Shown → World → Script) → Script
-text_by k w None next others = next w
-text_by k w (Some x) next others = term_script k x.item w (others x.behind)
-
--- the terms of the text from the k-th on, of which these tokens are left; then what follows the text
-unfoldable pub text_script : ℕ → ℕ → List Shown → World → (World → Script) → Script
-text_script zero k ts w next = next w
-text_script (suc turns) k ts w next = text_by k w (next_item w.operators w.flags ts) next (λ behind v. text_script turns (k + 1) behind v next)
+-- The terms of the text from the k-th on, of which these tokens are left, behind these kept goals; then what follows, with all goals that were kept.
+unfoldable pub text_script : ℕ → ℕ → ℕ → List Shown → World → List Kept → (List Kept → World → Script) → Script
+text_script budget zero k ts w kept next = next kept w
+text_script budget (suc turns) k ts w kept next =
+    text_by budget k w kept (next_item w.operators w.flags ts) next (λ behind later v. text_script budget turns (k + 1) behind v later next)
 
 -- a byte order mark in UTF-8
 abbrev pub byte_order_mark : List ℕ
@@ -135,16 +142,16 @@ without_first_line z = z
 abbrev pub body_of_text : List ℕ → List ℕ
 body_of_text z = without_first_line (without_mark z)
 
--- all of a list's items, for which as many turns are enough as there are tokens
-abbrev pub whole_text : List Shown → (World → Script) → Script
-whole_text ts next = text_script (length ts) 1 ts first_world next
+-- All of a list's items, for which as many turns are enough as there are tokens; behind the last one the kept goals are run.
+abbrev pub whole_text : ℕ → List Shown → (World → Script) → Script
+whole_text budget ts next = text_script budget (length ts) 1 ts first_world [] (λ kept w. kept_script budget kept w next)
 
 abbrev pub whole_queries : ℕ → List Shown → World → Script
 whole_queries budget ts w = queries_script (length ts) budget ts w
 
 -- the session with this program text, these queries and this budget
 abbrev pub session_script : List ℕ → List ℕ → ℕ → Script
-session_script text queries budget = whole_text (tokens (body_of_text text)) (whole_queries budget (tokens queries))
+session_script text queries budget = whole_text budget (tokens (body_of_text text)) (whole_queries budget (tokens queries))
 
 -- the session text and the session end
 abbrev pub session_text : List ℕ → List ℕ → ℕ → List ℕ

@@ -160,9 +160,9 @@ pub const ROWS: &[Row] = &[
     },
     Row {
         name: "lines of the text before a halt",
-        text: "p :- . 1. :- halt(2). q.\n",
+        text: "p :- . 1. :- fail. q.\n",
         queries: "q. halt(15). q.",
-        output: "syntax error in clause 1\nclause 2 refused: error(type_error(callable,1),consult/1)\nclause 3 skipped\nanswer 1: true\nend: no more\nend: halt 15\n",
+        output: "syntax error in clause 1\nclause 2 refused: error(type_error(callable,1),consult/1)\ndirective 3 failed\nanswer 1: true\nend: no more\nend: halt 15\n",
         status: 15,
         ..PLAIN
     },

@@ -3,10 +3,14 @@ use Rattle.iso_session_core.proofs.ConsultLemmas.{unreadable}
 use Rattle.iso_session_core.proofs.consulting.consult_item.Goals as goal
 
 pub returns-in-Readable-clause-does : goal.returns-in-Readable-clause-does
-returns-in-Readable-clause-does g c = λ w stands k counts budget next.
-    rw c.in-Readable.is (c.consult_read.ensures.does w stands k counts budget next)
+returns-in-Readable-clause-does g c = λ s stands k counts goals are next.
+    rw c.in-Readable.is (c.consult_read.ensures.does s stands k counts goals are next)
 
 pub returns-in-Unreadable-clause-does : goal.returns-in-Unreadable-clause-does
-returns-in-Unreadable-clause-does g c = λ w stands k counts budget next.
-    rw c.in-Unreadable.is (unreadable _ _ _ _ _ _ c.args.count k w next c.put_line.result stands c.requires.ready counts
-    (c.put_line.ensures.puts (syntax_error_line c.args.count) c.syntax_error_line-line.ensures))
+returns-in-Unreadable-clause-does g c = λ s stands k counts goals are next.
+    record {
+      goals = goals;
+      are = are;
+      does = rw c.in-Unreadable.is (unreadable _ _ _ _ _ _ c.args.count k s (next goals) c.put_line.result stands c.requires.ready counts
+          (c.put_line.ensures.puts (syntax_error_line c.args.count) c.syntax_error_line-line.ensures));
+    }

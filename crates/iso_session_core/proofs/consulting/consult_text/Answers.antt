@@ -1,56 +1,45 @@
-use Rattle.std.proofs.Common.{ℕ, ◌+◌, ◌∙◌, refl}
-use Rattle.iso_model.specs.Syntax.Tokens.{tokens}
-use Rattle.iso_session_core.specs.Consoles.{place}
-use Rattle.iso_model.specs.Session.Sessions.{Script, Closes, Done, text_script}
-use Rattle.iso_model.specs.Search.Walker.{World, idle}
-use Rattle.iso_session_core.proofs.ProgressLemmas.{stops_after, breaks_after, keeps_limits-both}
-use Rattle.iso_session_core.proofs.ConsultLemmas.{text_begins, text_ends, text_found, text_goes, nothing_found}
+use Rattle.iso_model.specs.Session.Sessions.{Closes, Done, kept_script}
+use Rattle.iso_session_core.proofs.ProgressLemmas.{advance_none, does_after, stops_after, breaks_after}
+use Rattle.iso_session_core.proofs.ConsultLemmas.{Behind}
 use Rattle.iso_session_core.proofs.consulting.consult_text.Goals as goal
 
-pub loop-next-init : goal.loop-next-init
-loop-next-init g c = record {
-  ready = c.requires.ready;
-  stands = c.requires.stands;
-  limits = λ l s m. m;
-  place = λ w stands budget next. rw c.new-tokens.ensures.all (text_begins (g.E.Engine.stands_for c.args.engine.now) w (tokens c.args.text.now) (place g.W.Write.contents c.args.console.now) next stands);
-  writer = refl;
-}
-
-pub returns-in_default-next-clause-does : goal.returns-in_default-next-clause-does
-returns-in_default-next-clause-does g c = λ w stands budget next.
-    let place = c.loop-next.invariant.place w stands budget next in
-    let none = nothing_found _ _ c.loop-next.tokens c.take_item.new.tokens c.in-Ok.next (c.in-Ok.ensures.item (idle place.at) place.stands) c.in_default-next.not-Some in
-    text_ends _ _ c.loop-next.count c.loop-next.tokens _ _ _ next place c.loop-next.invariant.ready none
-
 pub returns-in_err-flow-clause-does : goal.returns-in_err-flow-clause-does
-returns-in_err-flow-clause-does g c = λ w stands budget next.
-    let place = c.loop-next.invariant.place w stands budget next in
-    let turn = text_found _ c.loop-next.count c.saturating_add-count.result c.loop-next.tokens c.take_item.new.tokens c.in-Ok.next c.in-Some.item _ _ _ next
-    place (c.in-Ok.ensures.item (idle place.at) place.stands) c.in-Some.is c.in-Ok.ensures.shorter c.saturating_add-count.ensures in
-    breaks_after _ _ _ _ _ _ _ _ _ next c.from_residual.result turn.advances c.from_residual.ensures.0
-    (c.in_err-flow.ensures.does turn.at turn.stands turn.k turn.counts budget (λ v. text_script turn.turns (turn.k + 1) c.take_item.new.tokens v next))
+returns-in_err-flow-clause-does g c = λ s stands next.
+    let behind : Behind = λ goals w. kept_script c.args.budget goals w next in
+    let begins = c.in_err-flow.ensures.does s stands behind in
+    breaks_after _ _ _ _ _ _ _ _ _ next c.from_residual.result (advance_none _ _) c.from_residual.ensures.0 begins.does
 
-pub returns-in_default-2-clause-does : goal.returns-in_default-2-clause-does
-returns-in_default-2-clause-does g c = λ w stands budget next.
-    let place = c.loop-next.invariant.place w stands budget next in
-    let turn = text_found _ c.loop-next.count c.saturating_add-count.result c.loop-next.tokens c.take_item.new.tokens c.in-Ok.next c.in-Some.item _ _ _ next
-    place (c.in-Ok.ensures.item (idle place.at) place.stands) c.in-Some.is c.in-Ok.ensures.shorter c.saturating_add-count.ensures in
-    let does = rw c.in_ok-flow.was at (c.consult_item.ensures.does turn.at turn.stands turn.k turn.counts budget (λ v. text_script turn.turns (turn.k + 1) c.take_item.new.tokens v next)) in
-    stops_after _ _ _ _ _ _ _ _ _ _ next c.in_ok-flow.flow turn.advances c.in_default-2.not-On does
+pub run_kept-requires-clause-ready : goal.run_kept-requires-clause-ready
+run_kept-requires-clause-ready g c =
+    let first = c.requires.stands in
+    let goes = rw (c.in_ok-flow.was, c.in-On.is) at (c.consult_items.ensures.does first.0 first.1 (λ goals w. Closes Done)) in
+    goes.does.ready
 
-pub loop-next-preserved : goal.loop-next-preserved
-loop-next-preserved g c =
-    let goes = λ (w : World) (stands : g.E.Engine.stands_for c.args.engine.now (idle w)) (budget : ℕ) (next : World → Script).
-    let place = c.loop-next.invariant.place w stands budget next in
-    let turn = text_found _ c.loop-next.count c.saturating_add-count.result c.loop-next.tokens c.take_item.new.tokens c.in-Ok.next c.in-Some.item _ _ _ next
-    place (c.in-Ok.ensures.item (idle place.at) place.stands) c.in-Some.is c.in-Ok.ensures.shorter c.saturating_add-count.ensures in
-    let does = rw (c.in_ok-flow.was, c.in-On.is) at (c.consult_item.ensures.does turn.at turn.stands turn.k turn.counts budget (λ v. text_script turn.turns (turn.k + 1) c.take_item.new.tokens v next)) in
-    text_goes _ _ _ c.saturating_add-count.result _ c.take_item.new.tokens _ _ _ _ next turn does in
-    let first = goes c.requires.stands.0 c.requires.stands.1 0 (λ w. Closes Done) in
-    record {
-      ready = first.0;
-      stands = (first.1.at, first.1.stands);
-      limits = keeps_limits-both _ _ _ c.loop-next.invariant.limits c.consult_item.ensures.limits;
-      place = λ w stands budget next. (goes w stands budget next).1;
-      writer = c.consult_item.ensures.writer ∙ c.loop-next.invariant.writer;
-    }
+pub run_kept-requires-clause-stands : goal.run_kept-requires-clause-stands
+run_kept-requires-clause-stands g c =
+    let first = c.requires.stands in
+    let goes = rw (c.in_ok-flow.was, c.in-On.is) at (c.consult_items.ensures.does first.0 first.1 (λ goals w. Closes Done)) in
+    (goes.does.at, goes.does.stands)
+
+pub run_kept-requires-clause-kept : goal.run_kept-requires-clause-kept
+run_kept-requires-clause-kept g c =
+    let first = c.requires.stands in
+    let goes = c.consult_items.ensures.does first.0 first.1 (λ goals w. Closes Done) in
+    (goes.goals, rw c.as_slice.ensures.value goes.are)
+
+pub returns-in-On-clause-does : goal.returns-in-On-clause-does
+returns-in-On-clause-does g c = λ s stands next.
+    let behind : Behind = λ goals w. kept_script c.args.budget goals w next in
+    let goes = rw (c.in_ok-flow.was, c.in-On.is) at (c.consult_items.ensures.does s stands behind) in
+    does_after _ _ _ _ _ _ _ _ _ next c.run_kept.result goes.does.advances
+    (c.run_kept.ensures.does goes.does.at goes.does.stands goes.goals (rw c.as_slice.ensures.value goes.are) next)
+
+pub returns : goal.returns
+returns g c = record {
+  does = λ s stands next.
+      let behind : Behind = λ goals w. kept_script c.args.budget goals w next in
+      let part = rw c.in_ok-flow.was at (c.consult_items.ensures.does s stands behind) in
+      stops_after _ _ _ _ _ _ _ _ _ (behind part.goals) next c.in_ok-flow.flow (advance_none _ _) c.in_default.not-On part.does;
+  limits = c.consult_items.ensures.limits;
+  writer = c.consult_items.ensures.writer;
+}

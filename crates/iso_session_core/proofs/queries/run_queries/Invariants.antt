@@ -3,7 +3,7 @@ use Rattle.std.proofs.Common.{◌≡◌, length}
 use Rattle.iso_model.specs.Search.Engines.{Ready, MayMeet, KeepsLimits}
 use Rattle.iso_model.specs.Session.Sessions.{queries_script}
 use Rattle.iso_model.specs.Syntax.Tokens.{tokens}
-use Rattle.iso_model.specs.Search.Walker.{World, idle}
+use Rattle.iso_model.specs.Search.Walker.{State}
 use Rattle.iso_session_core.specs.Consoles.{place}
 use Rattle.iso_session_core.proofs.QueryLemmas.{QueriesPlace}
 use Rattle.iso_session_core.proofs.queries.run_queries.Given as goal
@@ -11,11 +11,11 @@ use Rattle.iso_session_core.proofs.queries.run_queries.Given as goal
 abbrev pub invariant-loop-next : goal.invariant-loop-next
 invariant-loop-next g l = record {
   ready : g.E.Engine.phase l.engine ≡ Ready;
-  stands : (v : World) × g.E.Engine.stands_for l.engine (idle v);
+  stands : (t : State) × g.E.Engine.stands_for l.engine t;
   limits : KeepsLimits (MayMeet (g.E.Engine.heap_pieces l.fn.engine) (g.E.Engine.frames_pieces l.fn.engine)) (MayMeet (g.E.Engine.heap_pieces l.engine) (g.E.Engine.frames_pieces l.engine));
-  place : (w : World) → g.E.Engine.stands_for l.fn.engine (idle w)
+  place : (s : State) → g.E.Engine.stands_for l.fn.engine s
       → QueriesPlace (g.E.Engine.stands_for l.engine) l.budget l.tokens (place g.W.Write.contents l.fn.console) (place g.W.Write.contents l.console)
-      (queries_script (length (tokens l.queries)) l.budget (tokens l.queries) w);
+      (queries_script (length (tokens l.queries)) l.budget (tokens l.queries) s.world);
   writer : l.console.out.ghost_name ≡ l.fn.console.out.ghost_name;
 }
 

@@ -1,5 +1,4 @@
 use Rattle.std.proofs.Common.{ap, inl}
-use Rattle.iso_model.specs.Search.Walker.{idle}
 use Rattle.iso_model.specs.declared.limit.Limit.TheVariants.{Heap, Memory}
 use Rattle.iso_read.specs.Answers.{clause_read}
 use Rattle.iso_session_core.specs.Named.{names_of}
@@ -7,18 +6,18 @@ use Rattle.iso_session_core.proofs.QueryLemmas.{start_refused, stops_before}
 use Rattle.iso_session_core.proofs.queries.run_query.Goals as goal
 
 pub returns-in-Ok-clause-does : goal.returns-in-Ok-clause-does
-returns-in-Ok-clause-does g c = λ w stands next.
-    let runs = rw c.goal_of.ensures.value at (c.in-Ok.ensures.starts (idle w) stands).0 in
-    c.run_pauses.ensures.does (clause_read c.args.read.now) w c.args.budget (ap names_of c.as_slice.ensures.value) runs next
+returns-in-Ok-clause-does g c = λ s stands next.
+    let runs = rw c.goal_of.ensures.value at (c.in-Ok.ensures.starts s stands).0 in
+    c.run_pauses.ensures.does (clause_read c.args.read.now) s.world c.args.budget (ap names_of c.as_slice.ensures.value) runs next
 
 pub returns-in-Err-HeapFull-clause-does : goal.returns-in-Err-HeapFull-clause-does
-returns-in-Err-HeapFull-clause-does g c = λ w stands next.
-    let starts = rw c.in-Err-HeapFull.field-0-is at (c.in-Err-HeapFull.ensures.starts (idle w) stands) in
-    let may = rw (c.goal_of.ensures.value, c.in-Err-HeapFull.field-0-is) at (c.in-Err-HeapFull.ensures.limit (idle w) stands) in
-    stops_before _ _ _ _ Heap _ _ (start_refused _ _ _ Heap (clause_read c.args.read.now) c.args.budget w next starts tt may)
+returns-in-Err-HeapFull-clause-does g c = λ s stands next.
+    let starts = rw c.in-Err-HeapFull.field-0-is at (c.in-Err-HeapFull.ensures.starts s stands) in
+    let may = rw (c.goal_of.ensures.value, c.in-Err-HeapFull.field-0-is) at (c.in-Err-HeapFull.ensures.limit s stands) in
+    stops_before _ _ _ _ Heap _ _ (start_refused _ _ _ Heap (clause_read c.args.read.now) c.args.budget s next starts tt may)
 
 pub returns-in-Err-NoMemory-clause-does : goal.returns-in-Err-NoMemory-clause-does
-returns-in-Err-NoMemory-clause-does g c = λ w stands next.
-    let starts = rw c.in-Err-NoMemory.field-0-is at (c.in-Err-NoMemory.ensures.starts (idle w) stands) in
-    let may = rw (c.goal_of.ensures.value, c.in-Err-NoMemory.field-0-is) at (c.in-Err-NoMemory.ensures.limit (idle w) stands) in
-    stops_before _ _ _ _ Memory _ _ (inl (start_refused _ _ _ Memory (clause_read c.args.read.now) c.args.budget w next starts tt may))
+returns-in-Err-NoMemory-clause-does g c = λ s stands next.
+    let starts = rw c.in-Err-NoMemory.field-0-is at (c.in-Err-NoMemory.ensures.starts s stands) in
+    let may = rw (c.goal_of.ensures.value, c.in-Err-NoMemory.field-0-is) at (c.in-Err-NoMemory.ensures.limit s stands) in
+    stops_before _ _ _ _ Memory _ _ (inl (start_refused _ _ _ Memory (clause_read c.args.read.now) c.args.budget s next starts tt may))

@@ -1,5 +1,5 @@
 use Rattle.std.proofs.Common.{arith}
-use Rattle.iso_session_core.proofs.SkipLemmas.{goal_kept}
+use Rattle.iso_session_core.proofs.TextTermLemmas.{goal_kept}
 use Rattle.iso_session_core.proofs.terms.goal_of.Goals as goal
 
 pub returns-in_default-as_slice-2-clause-value : goal.returns-in_default-as_slice-2-clause-value
