@@ -77,26 +77,26 @@ pub const ROWS: &[Row] = &[
     Row {
         name: "of two arguments it is run",
         text: ":- initialization(a, b).",
-        output: "directive 1 refused: error(existence_error(procedure,initialization/2),initialization/2)\n",
+        output: "directive 1 refused: error(existence_error(procedure,(initialization)/2),(initialization)/2)\n",
         ..PLAIN
     },
     Row {
         name: "as a query it is an unknown procedure",
         text: ":- initialization(true).",
         queries: "initialization(true). ?- initialization(true).",
-        output: "end: error error(existence_error(procedure,initialization/1),initialization/1)\nend: error error(existence_error(procedure,initialization/1),initialization/1)\n",
+        output: "end: error error(existence_error(procedure,(initialization)/1),(initialization)/1)\nend: error error(existence_error(procedure,(initialization)/1),(initialization)/1)\n",
         ..PLAIN
     },
     Row {
         name: "within a conjunction it is an unknown procedure",
         text: ":- true, initialization(true).",
-        output: "directive 1 refused: error(existence_error(procedure,initialization/1),initialization/1)\n",
+        output: "directive 1 refused: error(existence_error(procedure,(initialization)/1),(initialization)/1)\n",
         ..PLAIN
     },
     Row {
         name: "one in another",
         text: ":- initialization(initialization(true)).",
-        output: "directive 1 refused: error(existence_error(procedure,initialization/1),initialization/1)\n",
+        output: "directive 1 refused: error(existence_error(procedure,(initialization)/1),(initialization)/1)\n",
         ..PLAIN
     },
     Row {
@@ -108,7 +108,7 @@ pub const ROWS: &[Row] = &[
     Row {
         name: "the atom is run",
         text: ":- initialization.",
-        output: "directive 1 refused: error(existence_error(procedure,initialization/0),initialization/0)\n",
+        output: "directive 1 refused: error(existence_error(procedure,(initialization)/0),(initialization)/0)\n",
         ..PLAIN
     },
     Row {

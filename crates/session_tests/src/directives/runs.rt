@@ -147,7 +147,7 @@ pub const ROWS: &[Row] = &[
     },
     Row {
         name: "a ball is written by the operators of then",
-        text: ":- op(700, xfx, ===>), throw(a ===> b). :- op(200, xfy, ===>), throw(a ===> b).",
+        text: ":- op(700, xfx, ===>), throw(===>(a, b)). :- op(200, xfy, ===>), throw(a ===> b).",
         output: "directive 1 refused: (a===>b)\ndirective 2 refused: a===>b\n",
         ..PLAIN
     },
