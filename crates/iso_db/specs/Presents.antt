@@ -1,11 +1,15 @@
 -- What a contract says of a database: its contents, what its views give, and the clauses that can be read by their numbers.
-use Rattle.std.specs.Prelude.{◌≡◌, ℕ, List, Some, length}
+use Rattle.std.specs.Prelude.{◌≡◌, ℕ, ◌-◌, List, Some, length}
 use Rattle.std.specs.List.{slice_get}
 use Rattle.iso_db.specs.Databases.{Clause, Database}
 use Rattle.iso_db.specs.Slots.{value_at}
 use Rattle.iso_db.specs.Kept.{shown, Giving}
 use Rattle.iso_db.specs.declared.views.View.{View}
 use Rattle.iso_db.specs.declared.db.Db.{Db}
+
+-- at most so many clauses has the view still to give
+abbrev pub remaining : View → ℕ
+remaining v = v.end - v.next
 
 module _ {C : Type 0} where
   -- the database as it is

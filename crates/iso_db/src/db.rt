@@ -1,5 +1,5 @@
 //! The database: procedures with their clauses, and views of them.
-ghost use Rattle.std.specs.Prelude.{◌≡◌, ◌<◌, ◌≤◌, ◌+◌, ◌++◌, ◌∷◌, [], ℕ, List, Some, None, length, slice_set, slice_index_or, IfOk, IfErr, IfSome, OnOk, OnErr, IsSome, IsOk, is_ok, is_some, ◌↔◌};
+ghost use Rattle.std.specs.Prelude.{◌≡◌, ◌<◌, ◌≤◌, ◌+◌, ◌^◌, ◌++◌, ◌∷◌, [], ℕ, List, Some, None, length, slice_set, slice_index_or, IfOk, IfErr, IfSome, OnOk, OnErr, IsSome, IsOk, is_ok, is_some, ◌↔◌};
 ghost use Rattle.std.proofs.Props.{props};
 ghost use Rattle.iso_db.specs.Blocks.{nothing_kept, pushed};
 ghost use Rattle.iso_db.specs.Keys.{Key};
@@ -27,6 +27,8 @@ pub struct Db<C> {
     slots: Vec<Slot<C>>,
     /// How many clauses were removed.
     removals: usize,
+    /// How many were removed before views were last forgotten.
+    forgotten: usize,
     ghost kept: { IsKept slots.items removals places entries.items } by { Prim.hlevel props },
 }
 
@@ -68,7 +70,7 @@ impl<C: Drop> Db<C> {
     ghost use Rattle.iso_db.specs.Databases.{no_procedures, place_in, kind_at, clauses_at, has_clause, at_end, at_front, with_procedure, with_clause, with_kind, without_procedure, without_clause, is_not_static};
     ghost use Rattle.iso_db.specs.Sides.{put_at_side};
     ghost use Rattle.iso_db.specs.Stepping.{first_number, behind};
-    ghost use Rattle.iso_db.specs.Presents.{contents, Gives, Stands, EachStands, KeepsViews, KeepsClauses};
+    ghost use Rattle.iso_db.specs.Presents.{contents, Gives, Stands, EachStands, KeepsViews, KeepsClauses, remaining};
 
     /// No procedures. Takes no memory.
     pub fn new(alloc: Global) -> Db<C>
@@ -80,6 +82,7 @@ impl<C: Drop> Db<C> {
             entries: Vec::new(alloc),
             slots: Vec::new(alloc),
             removals: 0,
+            forgotten: 0,
         }
     }
 
@@ -152,6 +155,8 @@ impl<C: Drop> Db<C> {
         ensures stand { (cs : List (Clause C)) → Gives self.now view.old cs → EachStands self.now cs }
         ensures there { IfSome result (λ id. (value : C) × Stands self.now id value) }
         ensures goes_on { (cs : List (Clause C)) × Gives self.now view.new cs }
+        ensures falls { IfSome result (λ id. remaining view.new < remaining view.old) }
+        ensures few { remaining view.new < 2 ^ 64 }
     {
         let block = self.entries[view.procedure].block(view.block);
         let (clause, next) = step(self.slots.as_slice(), block, *view);
@@ -316,12 +321,17 @@ impl<C: Drop> Db<C> {
         true
     }
 
-    /// From here on no view stands that was made before, and what no new view can give is given back.
+    /// From here on no view stands that was made before, and what no new view can give is given back. Takes one step where no clause was
+    /// removed since the last time.
     pub fn forget_views(&mut self)
         ensures contents { contents self.new ≡ contents self.old }
         ensures clauses { (place : ℕ) → EachStands self.new (clauses_at (contents self.new) place) }
     {
+        if self.removals == self.forgotten {
+            return;
+        }
         forget_blocks(&mut self.entries);
         forget_values(&mut self.slots, self.removals);
+        self.forgotten = self.removals;
     }
 }

@@ -1,5 +1,5 @@
 //! Views: the clauses of a procedure as they were at some time (7.5.4).
-ghost use Rattle.std.specs.Prelude.{◌≡◌, ◌≤◌, ◌+◌, ◌∷◌, [], ℕ, List, length, drop, take, MatchOption};
+ghost use Rattle.std.specs.Prelude.{◌≡◌, ◌≤◌, ◌<◌, ◌+◌, ◌-◌, ◌^◌, ◌∷◌, [], ℕ, List, length, drop, take, IfSome, MatchOption};
 ghost use Rattle.iso_db.specs.Blocks.{ids_from};
 ghost use Rattle.iso_db.specs.Databases.{Clause};
 ghost use Rattle.iso_db.specs.Slots.{given};
@@ -30,8 +30,10 @@ pub struct View {
 pub(crate) fn step<C>(slots: &[Slot<C>], block: &Block, view: View) -> (Option<ClauseId>, usize)
     requires outer { view.outer ≤ length block.now.front }
     requires end { view.end ≤ view.outer + length block.now.back }
-    ensures { Steps (given slots.now view.made (drop view.next (take view.end (ids_from block.now view.outer)))) result.0
+    ensures steps { Steps (given slots.now view.made (drop view.next (take view.end (ids_from block.now view.outer)))) result.0
         (given slots.now view.made (drop result.1 (take view.end (ids_from block.now view.outer)))) }
+    ensures few { view.end - result.1 < 2 ^ 64 }
+    ensures falls { IfSome result.0 (λ id. view.end - result.1 < view.end - view.next) }
 {
     let mut next = view.next;
     while next < view.end {

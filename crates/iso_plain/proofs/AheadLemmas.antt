@@ -1,4 +1,5 @@
 -- The engine, as it goes on with the members from a place on, and as frames and choices come and go.
+use Rattle.iso_plain_core.specs.Leaving.{AreLeft}
 use Rattle.std.proofs.Common.{◌≡◌, ℕ, zero, suc, ◌+◌, ◌*◌, ◌-◌, ◌≤◌, ◌++◌, List, [], ◌∷◌, length, take, drop, Option, Some, None, true, refl, ap, sym, ◌∙◌, subst, arith, Vec, Global}
 use Rattle.std.specs.Prelude.{option_map}
 use Rattle.std.specs.List.{slice_get}
@@ -23,11 +24,10 @@ use Rattle.iso_plain_core.specs.Next.{IsPlace, now_behind}
 use Rattle.iso_plain_core.specs.Standing.{Among, Links, IsBefore, IsBody, IsMember, a_body, a_cut, a_failure, an_end, a_template, Chain, leads, HasMembers, HasLeft, StandsForChoice, StandsForChoices, GainsChoice, HaveRoom, GoesOn, DoesNext, entered_at, most_numbers, numbers_a_step}
 use Rattle.iso_plain.specs.Catches.{throwing}
 use Rattle.iso_plain.specs.EngineStates.{IsEngine, IsAhead, Keeps, links_of}
-use Rattle.iso_plain_core.specs.ClausePlaces.{left_at}
 use Rattle.iso_plain_core.proofs.EnteringLemmas.{words_same, adds_none}
-use Rattle.iso_plain_core.proofs.StandingLemmas.{AddsLinks, at_last, chain_more, chain_place, choices_more, choices_keep, choices_length, choices_push, lower, marks_stand, next_behind}
+use Rattle.iso_plain_core.proofs.StandingLemmas.{AddsLinks, at_last, chain_more, chain_place, choices_more, choices_length, choices_push, lower, marks_stand, next_behind, left_stays}
 use Rattle.iso_plain.proofs.StoppedLemmas.{base_kept}
-use Rattle.iso_plain.proofs.WorldLemmas.{world_on}
+use Rattle.iso_plain.proofs.WorldLemmas.{world_on, choices_kept, left_on}
 
 -- ---- what a frame asks for
 
@@ -207,12 +207,12 @@ module _ {S W M : Type 0} (names : S → List (List ℕ)) (present : S → Prese
 
   -- the members ahead, as what is left at a choice
   pub members_left : (e : Plain S W M) (s : State) (place : Option ℕ) (l : walker.Left) → IsAhead names present stands older e s place
-      → HasMembers (left_at s.world.database.procedures) e.query.items (variables s.query) (present e.store) (links_of e) place l (record { list = s.list; subst = s.subst; next = s.next; built = s.built; left = l })
+      → HasMembers (AreLeft (names e.store) e.db) e.query.items (variables s.query) (present e.store) (links_of e) place l (record { list = s.list; subst = s.subst; next = s.next; built = s.built; left = l })
   members_left e s place l h = record { on = record { subst_is = h.goes.subst; next_is = h.goes.next; chain = h.chain; words = h.goes.words }; is = refl }
 
   -- a choice with this left to be tried of the members ahead
   pub ahead_left : (e : Plain S W M) (s : State) (place : Option ℕ) (store : S) (choices : Vec (kept.Choice W M) Global) (left : Left W) (l : walker.Left) → IsAhead names present stands older e s place
-      → HasLeft (left_at s.world.database.procedures) e.query.items (variables s.query) (present e.store) (links_of e) left (record { list = s.list; subst = s.subst; next = s.next; built = s.built; left = l }) → s.next + numbers_a_step * (e.steps + entered_at l) ≤ most_numbers
+      → HasLeft (AreLeft (names e.store) e.db) e.query.items (variables s.query) (present e.store) (links_of e) left (record { list = s.list; subst = s.subst; next = s.next; built = s.built; left = l }) → s.next + numbers_a_step * (e.steps + entered_at l) ≤ most_numbers
       → present store ≡ present e.store → KeepsMarks (stands e.store) (stands store) → KeepsTexts (names e.store) (names store)
       → GainsChoice (stands e.store) (stands store) older (present e.store) (length e.nodes.items) (length e.frames.items) left e.choices.items choices.items
       → IsAhead names present stands older (record e { store = store; choices = choices }) (pushed s.list l s) place
@@ -220,13 +220,13 @@ module _ {S W M : Type 0} (names : S → List (List ℕ)) (present : S → Prese
       let b = h.base in
       let c : kept.Choice W M = record { mark = gains.mark; nodes = length e.nodes.items; frames = length e.frames.items; left = left } in
       let a : Alternative = record { list = s.list; subst = s.subst; next = s.next; built = s.built; left = l } in
-      let old : StandsForChoices (stands store) older e.base (left_at s.world.database.procedures) e.query.items (variables s.query) (links_of e) e.choices.items s.stack =
-      choices_keep (λ x p among there. keeps x.mark p there) h.choices in
-      let here : StandsForChoice (stands store) older e.base (left_at s.world.database.procedures) e.query.items (variables s.query) (links_of e) c a = record {
+      let old : StandsForChoices (stands store) older e.base (AreLeft (names store) e.db) e.query.items (variables s.query) (links_of e) e.choices.items s.stack =
+      choices_kept texts (λ x p among there. keeps x.mark p there) h.choices in
+      let here : StandsForChoice (stands store) older e.base (AreLeft (names store) e.db) e.query.items (variables s.query) (links_of e) c a = record {
         present = present e.store;
         mark = gains.stands;
         newer = gains.newer e.base b.present b.stands_for;
-        has = has;
+        has = left_stays e.query.items (variables s.query) (present e.store) (links_of e) a (left_on texts {d = e.db}) left has;
       } in
       let newer : (x : kept.Choice W M) → Among x e.choices.items → older x.mark gains.mark = λ x among.
       (let there = marks_stand x h.choices among in gains.newer x.mark there.0 there.1) in
@@ -243,7 +243,7 @@ module _ {S W M : Type 0} (names : S → List (List ℕ)) (present : S → Prese
 
   -- one at which no clause is entered and no ball is caught
   pub ahead_choice : (e : Plain S W M) (s : State) (place : Option ℕ) (store : S) (choices : Vec (kept.Choice W M) Global) (left : Left W) (l : walker.Left) → IsAhead names present stands older e s place
-      → HasLeft (left_at s.world.database.procedures) e.query.items (variables s.query) (present e.store) (links_of e) left (record { list = s.list; subst = s.subst; next = s.next; built = s.built; left = l }) → entered_at l ≡ 0
+      → HasLeft (AreLeft (names e.store) e.db) e.query.items (variables s.query) (present e.store) (links_of e) left (record { list = s.list; subst = s.subst; next = s.next; built = s.built; left = l }) → entered_at l ≡ 0
       → present store ≡ present e.store → KeepsMarks (stands e.store) (stands store) → KeepsTexts (names e.store) (names store)
       → GainsChoice (stands e.store) (stands store) older (present e.store) (length e.nodes.items) (length e.frames.items) left e.choices.items choices.items
       → IsAhead names present stands older (record e { store = store; choices = choices }) (pushed s.list l s) place
@@ -260,8 +260,8 @@ module _ {S W M : Type 0} (names : S → List (List ℕ)) (present : S → Prese
   ahead_cut e s place height store choices c h there taken same marks texts =
       let b = h.base in
       let l = lower height c there h.choices in
-      let stood : StandsForChoices (stands store) older e.base (left_at s.world.database.procedures) e.query.items (variables s.query) (links_of e) (take height e.choices.items) (shortened height s.stack) =
-      choices_keep (λ d p among standing. marks d.mark p (l.newer d among) standing) l.stand in
+      let stood : StandsForChoices (stands store) older e.base (AreLeft (names store) e.db) e.query.items (variables s.query) (links_of e) (take height e.choices.items) (shortened height s.stack) =
+      choices_kept texts (λ d p among standing. marks d.mark p (l.newer d among) standing) l.stand in
       let goes = goes_with {p = present e.store} {query = e.query.items} {s = s} s.list (shortened height s.stack) h.goes in
       record {
         world = world_on texts h.world;

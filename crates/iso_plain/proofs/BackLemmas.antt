@@ -1,4 +1,5 @@
 -- The engine goes back to its newest choice.
+use Rattle.iso_plain_core.specs.Leaving.{Leaving, AreLeft}
 use Rattle.std.proofs.Common.{◌≡◌, ℕ, zero, suc, ◌-◌, ◌<◌, ◌≤◌, List, [], ◌∷◌, length, take, drop, get_or, Some, refl, ap, sym, ◌∙◌, subst, arith, Vec, Global}
 use Rattle.std.specs.List.{slice_get}
 use Rattle.iso_atoms.specs.Texts.{KeepsTexts}
@@ -12,14 +13,12 @@ use Rattle.iso_plain.specs.declared.plain.Plain.{Plain}
 use Rattle.iso_plain_core.specs.Standing.{Links, HasLeft, StandsForChoices, HaveRoom, links_at}
 use Rattle.iso_plain.specs.EngineStates.{IsEngine, WentBack, links_of}
 use Rattle.iso_plain_core.specs.Costs.{choice_cost, choices_cost, frame_costs}
-use Rattle.iso_plain_core.specs.ClausePlaces.{left_at}
-use Rattle.iso_plain_core.proofs.StandingLemmas.{newest, choices_keep, last_split}
-use Rattle.iso_plain.proofs.WorldLemmas.{world_on}
+use Rattle.iso_plain_core.proofs.StandingLemmas.{newest, left_stays, last_split}
+use Rattle.iso_plain.proofs.WorldLemmas.{world_on, left_on, choices_kept}
 use Rattle.iso_plain_core.proofs.CostLemmas.{choices_last, choices_on_more, left_place}
 use Rattle.std.proofs.lemmas.List.{take-append-drop}
 use Rattle.std.proofs.lemmas.Option.{slice_get_within}
 use Rattle.iso_model.specs.Search.Databases.{Clause}
-use Rattle.iso_plain_core.specs.declared.procedures.Procedure.{Procedure}
 
 pub get_at : {X : Type 0} (xs : List X) (i : ℕ) (x : X) → i < length xs → x ≡ get_or xs i x → slice_get xs i ≡ Some x
 get_at [] i x within is = absurd (omega arith)
@@ -32,20 +31,20 @@ take_same (suc n) [] h = absurd (omega arith)
 take_same (suc n) (x ∷ xs) h = ap suc (take_same n xs (omega arith))
 
 -- over the frames that stood the choices cost what they did
-pub back_costs : {W M : Type 0} {stands : M → Present W → Type 0} {older : M → M → Type 0} {base : M} {left_at : ℕ → ℕ → List Clause} {query : List W} {named : List ℕ} {links : Links W} {cs : List (kept.Choice W M)} {ks : List Alternative}
-    (ps : List Procedure) (c : kept.Choice W M) → slice_get cs (length cs - 1) ≡ Some c → StandsForChoices stands older base left_at query named links cs ks
-    → choices_cost ps (frame_costs (take c.frames links.frames)) cs ≡ choices_cost ps (frame_costs links.frames) cs
-back_costs {left_at = left_at} {query = query} {named = named} {links = links} {cs = cs} ps c last are =
+pub back_costs : {W M : Type 0} {stands : M → Present W → Type 0} {older : M → M → Type 0} {base : M} {leaves : Leaving} {query : List W} {named : List ℕ} {links : Links W} {cs : List (kept.Choice W M)} {ks : List Alternative}
+    (c : kept.Choice W M) → slice_get cs (length cs - 1) ≡ Some c → StandsForChoices stands older base leaves query named links cs ks
+    → choices_cost (frame_costs (take c.frames links.frames)) cs ≡ choices_cost (frame_costs links.frames) cs
+back_costs {leaves = leaves} {query = query} {named = named} {links = links} {cs = cs} c last are =
     let n = newest c last are in
     let front = take c.frames links.frames in
     let whole = take-append-drop c.frames links.frames in
     let some : 0 < length cs = (let h = slice_get_within cs (length cs - 1) c last in omega (arith, h)) in
     let split = last_split cs (length cs - 1) c last (omega (arith, some)) in
     let before = take (length cs - 1) cs in
-    let one = ap (λ fs. choices_cost ps (frame_costs fs) before) (sym whole) ∙ choices_on_more ps (drop c.frames links.frames) n.stands_below in
-    let other = ap (λ fs. choice_cost ps (frame_costs fs) c.left) (sym whole) ∙ left_place left_at query named n.here.present (links_at c links) n.alternative ps (drop c.frames links.frames) c.left n.here.has in
-    let old = ap (choices_cost ps (frame_costs links.frames)) split ∙ choices_last ps (frame_costs links.frames) before c in
-    let new = ap (choices_cost ps (frame_costs front)) split ∙ choices_last ps (frame_costs front) before c in
+    let one = ap (λ fs. choices_cost (frame_costs fs) before) (sym whole) ∙ choices_on_more (drop c.frames links.frames) n.stands_below in
+    let other = ap (λ fs. choice_cost (frame_costs fs) c.left) (sym whole) ∙ left_place leaves query named n.here.present (links_at c links) n.alternative (drop c.frames links.frames) c.left n.here.has in
+    let old = ap (choices_cost (frame_costs links.frames)) split ∙ choices_last (frame_costs links.frames) before c in
+    let new = ap (choices_cost (frame_costs front)) split ∙ choices_last (frame_costs front) before c in
     omega (arith, one, other, old, new)
 
 module _ {S W M : Type 0} (names : S → List (List ℕ)) (present : S → Present W) (stands : S → M → Present W → Type 0) (older : M → M → Type 0) where
@@ -68,8 +67,8 @@ module _ {S W M : Type 0} (names : S → List (List ℕ)) (present : S → Prese
       let links : Links W = record { nodes = nodes.items; frames = frames.items } in
       let stood : links_at c (links_of e) ≡ links =
       ap (λ (ns : List (Node W)). record { nodes = ns; frames = take c.frames e.frames.items }) (sym kept_nodes) ∙ ap (λ (fs : List Frame). record { nodes = nodes.items; frames = fs }) (sym kept_frames) in
-      let below : StandsForChoices (stands store) older e.base (left_at s.world.database.procedures) e.query.items (variables s.query) (links_at c (links_of e)) (take (length e.choices.items - 1) e.choices.items) n.below =
-      choices_keep (λ d p among standing. marks d.mark p (n.newer d among) standing) n.stands_below in
+      let below : StandsForChoices (stands store) older e.base (AreLeft (names store) e.db) e.query.items (variables s.query) (links_at c (links_of e)) (take (length e.choices.items - 1) e.choices.items) n.below =
+      choices_kept texts (λ d p among standing. marks d.mark p (n.newer d among) standing) n.stands_below in
       let b = is.base in
       record {
         alternative = a;
@@ -83,11 +82,12 @@ module _ {S W M : Type 0} (names : S → List (List ℕ)) (present : S → Prese
           newest = last;
           nodes = take_same c.nodes e.nodes.items n.within.nodes ∙ ap length (sym kept_nodes);
           frames = take_same c.frames e.frames.items n.within.frames ∙ ap length (sym kept_frames);
-          has = subst (λ (ls : Links W). HasLeft (left_at s.world.database.procedures) e.query.items (variables s.query) (present store) ls c.left a) stood
-              (subst (λ (p : Present W). HasLeft (left_at s.world.database.procedures) e.query.items (variables s.query) p (links_at c (links_of e)) c.left a) at h.has);
+          has = left_stays e.query.items (variables s.query) (present store) links a (left_on texts {d = e.db}) c.left
+              (subst (λ (ls : Links W). HasLeft (AreLeft (names e.store) e.db) e.query.items (variables s.query) (present store) ls c.left a) stood
+              (subst (λ (p : Present W). HasLeft (AreLeft (names e.store) e.db) e.query.items (variables s.query) p (links_at c (links_of e)) c.left a) at h.has));
           newer_base = h.newer;
           newer = n.newer;
-          stands_below = subst (λ (ls : Links W). StandsForChoices (stands store) older e.base (left_at s.world.database.procedures) e.query.items (variables s.query) ls (take (length e.choices.items - 1) e.choices.items) n.below) stood below;
+          stands_below = subst (λ (ls : Links W). StandsForChoices (stands store) older e.base (AreLeft (names store) e.db) e.query.items (variables s.query) ls (take (length e.choices.items - 1) e.choices.items) n.below) stood below;
           room = subst (λ (ks : List Alternative). HaveRoom e.steps ks) n.is is.room;
         };
       }

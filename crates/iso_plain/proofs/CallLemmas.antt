@@ -1,10 +1,9 @@
 -- The engine calls a procedure: the clauses behind the first are kept as a choice.
-use Rattle.std.proofs.Common.{◌≡◌, ℕ, ◌+◌, ◌<◌, ◌≤◌, List, [], ◌∷◌, ◌-◌, ◌^◌, length, Option, refl, ap, sym, subst, arith, Vec, Global}
+use Rattle.std.proofs.Common.{◌≡◌, ℕ, suc, ◌+◌, ◌<◌, ◌≤◌, List, [], ◌∷◌, ◌-◌, ◌^◌, length, Option, refl, ap, sym, subst, arith, Vec, Global}
 use Rattle.iso_atoms.specs.Texts.{KeepsTexts}
 use Rattle.iso_model.specs.Terms.Variables.{variables}
 use Rattle.iso_model.specs.Terms.Trees.{Tree}
 use Rattle.iso_model.specs.Search.Databases as databases
-use Rattle.iso_model.specs.Search.Databases.{Procedures}
 use Rattle.iso_model.specs.Search.Walker.{State, Member, Alternative, Clauses, with_others}
 use Rattle.iso_store_core.specs.Presents.{Present, KeepsMarks}
 use Rattle.iso_plain_core.specs.declared.parts.Attempt.{Attempt}
@@ -20,18 +19,22 @@ use Rattle.iso_plain_core.specs.Entering.{Enters}
 use Rattle.iso_plain_core.specs.Next.{now_behind, now_entered}
 use Rattle.iso_plain_core.specs.declared.parts.Left.TheVariants as left
 use Rattle.iso_plain_core.specs.Standing.{Among, AtGoal, GainsChoice, StandsForChoice, StandsForChoices}
+use Rattle.iso_db.specs.declared.views.View.{View}
+use Rattle.iso_plain_core.specs.Leaving.{AreLeft}
 use Rattle.iso_plain.specs.EngineStates.{Calls, links_of}
-use Rattle.iso_plain_core.specs.ClausePlaces.{left_at}
-use Rattle.iso_plain_core.proofs.CountLemmas.{left_next}
 use Rattle.iso_plain_core.proofs.CostLemmas.{cost_above, cost_higher, left_higher, below_most}
-use Rattle.iso_plain.proofs.WorldLemmas.{world_on}
-use Rattle.iso_plain_core.proofs.StandingLemmas.{choices_keep, choices_push, marks_stand}
+use Rattle.iso_plain.proofs.WorldLemmas.{world_on, left_on, choices_kept}
+use Rattle.iso_plain_core.proofs.StandingLemmas.{choices_push, marks_stand}
 
 -- ---- what is left to be done
 
--- The choice of a call has no more clauses than a procedure may have.
-pub later_cost : (n j r : ℕ) → n < 2 ^ 63 → left_cost (n - j) r ≤ left_cost most r
-later_cost n j r few = left_higher most (n - j) r (below_most (n - j) (omega (arith, few)))
+-- The choice of a call has no more clauses than a view may have.
+one_below : (n : ℕ) → n < 2 ^ 64 → suc n ≤ most
+unfolding most
+one_below n few = omega (arith, few)
+
+pub later_cost : (n r : ℕ) → n < 2 ^ 64 → left_cost (suc n) r ≤ left_cost most r
+later_cost n r few = left_higher most (suc n) r (one_below n few)
 
 -- what comes next behind a clause that was tried
 pub entered_least : {W : Type 0} (names : List (List ℕ)) (p q : Present W) (old : List (Node W)) (nodes : Vec (Node W) Global) (call : Tree) (clause : Clause) (frames : List Frame) (mark : ℕ) (rest : Option ℕ)
@@ -51,27 +54,26 @@ entered_least names p q old nodes call clause frames mark rest behind (entered.B
 module _ {S W M : Type 0} (names : S → List (List ℕ)) (present : S → Present W) (stands : S → M → Present W → Type 0) (older : M → M → Type 0) where
   -- no clause behind the attempt's
   pub calls_last : (e : Plain S W M) (attempt : Attempt W) (s : State) (call : Tree) (c : databases.Clause) (cs : List databases.Clause) (behind : List Member)
-      → Calls names present stands older e attempt s call c cs behind → length cs ≡ 0 → Calls names present stands older e attempt (with_others call cs behind s) call c cs behind
+      → Calls names present stands older e attempt s call c cs behind → cs ≡ [] → Calls names present stands older e attempt (with_others call cs behind s) call c cs behind
   calls_last e attempt s call c [] behind t many = t
-  calls_last e attempt s call c (d ∷ cs) behind t many = absurd (omega (arith, many))
+  calls_last e attempt s call c (d ∷ cs) behind t many = absurd (cc many)
 
-  pub calls_later : (e : Plain S W M) (attempt : Attempt W) (s : State) (call : Tree) (c : databases.Clause) (cs : List databases.Clause) (behind : List Member) (store : S) (choices : Vec (kept.Choice W M) Global)
-      → Calls names present stands older e attempt s call c cs behind → 0 < length cs → present store ≡ present e.store → KeepsMarks (stands e.store) (stands store) → KeepsTexts (names e.store) (names store)
-      → GainsChoice (stands e.store) (stands store) older (present e.store) (length e.nodes.items) (length e.frames.items) (left.Clauses (record attempt { clause = attempt.clause + 1 })) e.choices.items choices.items
+  pub calls_later : (e : Plain S W M) (attempt : Attempt W) (s : State) (call : Tree) (c : databases.Clause) (cs : List databases.Clause) (behind : List Member) (store : S) (choices : Vec (kept.Choice W M) Global) (clause : ℕ) (later : View)
+      → Calls names present stands older e attempt s call c cs behind → AreLeft (names e.store) e.db clause later cs → present store ≡ present e.store → KeepsMarks (stands e.store) (stands store) → KeepsTexts (names e.store) (names store)
+      → GainsChoice (stands e.store) (stands store) older (present e.store) (length e.nodes.items) (length e.frames.items) (left.Clauses (record attempt { clause = clause; later = later })) e.choices.items choices.items
       → Calls names present stands older (record e { store = store; choices = choices }) attempt (with_others call cs behind s) call c cs behind
-  calls_later e attempt s call c [] behind store choices t many same keeps texts gains = absurd (omega (arith, many))
-  calls_later e attempt s call c (d ∷ cs) behind store choices t many same keeps texts gains =
+  calls_later e attempt s call c [] behind store choices clause later t next same keeps texts gains = absurd (cc next.is)
+  calls_later e attempt s call c (d ∷ cs) behind store choices clause later t next same keeps texts gains =
       let b = t.base in
-      let later : kept.Choice W M = record { mark = gains.mark; nodes = length e.nodes.items; frames = length e.frames.items; left = left.Clauses (record attempt { clause = attempt.clause + 1 }) } in
-      let next = left_next s.world.database.procedures attempt.procedure attempt.clause c (d ∷ cs) t.clauses in
+      let made : kept.Choice W M = record { mark = gains.mark; nodes = length e.nodes.items; frames = length e.frames.items; left = left.Clauses (record attempt { clause = clause; later = later }) } in
       let a : Alternative = record { list = behind; subst = s.subst; next = s.next; built = s.built; left = Clauses call (d ∷ cs) } in
-      let old : StandsForChoices (stands store) older e.base (left_at s.world.database.procedures) e.query.items (variables s.query) (links_of e) e.choices.items s.stack =
-      choices_keep (λ x p among there. keeps x.mark p there) t.choices in
-      let here : StandsForChoice (stands store) older e.base (left_at s.world.database.procedures) e.query.items (variables s.query) (links_of e) later a = record {
+      let old : StandsForChoices (stands store) older e.base (AreLeft (names store) e.db) e.query.items (variables s.query) (links_of e) e.choices.items s.stack =
+      choices_kept texts (λ x p among there. keeps x.mark p there) t.choices in
+      let here : StandsForChoice (stands store) older e.base (AreLeft (names store) e.db) e.query.items (variables s.query) (links_of e) made a = record {
         present = present e.store;
         mark = gains.stands;
         newer = gains.newer e.base b.present b.stands_for;
-        has = record { call = call; at = t.at; left = ap (Clauses call) (sym next); some = subst (λ (xs : List databases.Clause). 0 < length xs) (sym next) many };
+        has = record { call = call; clauses = d ∷ cs; at = t.at; left = refl; are = left_on texts {d = e.db} clause later (d ∷ cs) next };
       } in
       let newer : (x : kept.Choice W M) → Among x e.choices.items → older x.mark gains.mark = λ x among.
       (let there = marks_stand x t.choices among in gains.newer x.mark there.0 there.1) in
@@ -79,9 +81,9 @@ module _ {S W M : Type 0} (names : S → List (List ℕ)) (present : S → Prese
         world = world_on texts t.world;
         steps = t.steps;
         base = record { present = b.present; stands_for = keeps e.base b.present b.stands_for; substitution = b.substitution; next = b.next };
-        choices = rw gains.are (choices_push later a refl refl here newer old);
+        choices = rw gains.are (choices_push made a refl refl here newer old);
         room = (t.space, t.room);
         space = t.space;
         at = subst (λ (p : Present W). AtGoal p (links_of e) e.query.items (variables s.query) attempt.goal attempt.rest call behind s.subst s.next) (sym same) t.at;
-        clauses = t.clauses;
+        clauses = left_on texts {d = e.db} attempt.clause attempt.later (c ∷ d ∷ cs) t.clauses;
       }

@@ -1,75 +1,106 @@
 -- What a goal calls, by its name and arity.
-use Rattle.std.proofs.Common.{◌≡◌, ℕ, ◌<◌, List, [], ◌∷◌, length, true, false, Some, ap, sym, ◌∙◌, arith, inl, inr, IfOk, Result, Ok, Err, Vec, Global}
-use Rattle.iso_ops.specs.Operators.{Operator}
-use Rattle.iso_ops.specs.declared.settings.Flags.{Flags}
+use Rattle.std.proofs.Common.{◌≡◌, ℕ, List, [], ◌∷◌, Some, None, Option, option_map, is_some, true, false, refl, ap, sym, ◌∙◌, subst, inl, inr, ◌⊎◌, IfOk, Result, Ok, Err, Vec, Global}
+use Rattle.std.specs.List.{slice_get}
+use Rattle.std.specs.Option.{option_and_then}
+use Rattle.iso_atoms.specs.Texts.{EachOnce, text_at}
+use Rattle.iso_plain_core.specs.declared.callables.Callee.{Callee}
+use Rattle.iso_plain_core.specs.Callables.{Finds, Agrees, callee_at, callee_of}
+use Rattle.iso_plain_core.proofs.AddingLemmas.{called_none}
+use Rattle.iso_plain_core.proofs.CallableLemmas.{index_none}
 use Rattle.iso_model.specs.Terms.Trees.{Tree}
 use Rattle.iso_model.specs.Search.Databases as databases
-use Rattle.iso_model.specs.Search.Databases.{Key, Procedures, key, key_of, same_key, clauses_at}
+use Rattle.iso_model.specs.Search.Databases.{Key, key, key_of, clauses_at}
 use Rattle.iso_model.specs.Search.Walker.{World}
+use Rattle.iso_model.specs.Search.BuiltIns.{built_in}
+use Rattle.iso_db.specs.Databases as db
+use Rattle.iso_db.specs.Databases.{Database}
+use Rattle.iso_db.specs.declared.kinds.Kind.{Kind}
+use Rattle.iso_db.specs.declared.db.Db.{Db}
 use Rattle.iso_plain_core.specs.declared.clauses.Clause.{Clause}
-use Rattle.iso_plain_core.specs.declared.procedures.Procedure.{Procedure}
 use Rattle.iso_plain_core.specs.declared.callables.Callable.{Callable}
-use Rattle.iso_plain_core.specs.declared.vocabulary.Vocabulary.{Vocabulary}
 use Rattle.iso_plain.specs.declared.calls.Called.{Called}
 use Rattle.iso_plain.specs.declared.calls.Called.TheVariants as call
-use Rattle.iso_plain_core.specs.Programs.{IsDatabase, AreClauses, no_clauses, more_clauses, no_procedures, more_procedures}
-use Rattle.iso_plain.specs.Worlds.{KeepsWorld}
-use Rattle.iso_plain_core.specs.Callables.{has_key, place_at}
-use Rattle.iso_plain_core.specs.ClausePlaces.{left_at}
-use Rattle.iso_plain.specs.Called.{IsNamed, IsCalled}
-use Rattle.iso_plain_core.proofs.ProgramLemmas.{found_procedure, no_procedure, found_cases, same_test}
-use Rattle.iso_plain_core.proofs.ArityLemmas.{some_same}
+use Rattle.iso_plain_core.specs.Leaving.{Leaving, AreLeft}
+use Rattle.iso_plain_core.specs.Programs.{AreClauses, IsProcedure, IsDatabase, procedure_with, kept_at, kind_of}
+use Rattle.iso_plain.specs.Called.{IsNamed, IsCalled, Begins}
+use Rattle.iso_plain_core.proofs.ProgramLemmas.{clauses_with}
 
--- ---- the clauses at a place
+-- ---- the procedure of a key
 
--- the clauses of the procedure with this key, which are some
-pub record Clauses (db : Procedures) (k : Key) (n : ℕ) : Type 0 where
-  pub first : databases.Clause
-  pub others : List databases.Clause
-  pub found : clauses_at db k ≡ Some (first ∷ others)
-  pub there : left_at db n 0 ≡ first ∷ others
+-- none, where nothing is kept
+pub none_there : {names : List (List ℕ)} {d : Database Clause} {m : databases.Database} (k : Key) → IsDatabase names d m → kind_of (kept_at d k) ≡ None → clauses_at m.procedures k ≡ None
+none_there {names = names} {d = d} {m = m} k is absent =
+    clauses_with m.procedures k ∙ by_kind (procedure_with m.procedures k) (subst (λ (o : Option Kind). IsProcedure names o (db.clauses_of (kept_at d k)) (procedure_with m.procedures k)) absent (is.procedures k)) where
+      by_kind : (o : Option databases.Procedure) → IsProcedure names None (db.clauses_of (kept_at d k)) o → option_map (λ p. p.clauses) o ≡ None
+      by_kind None is = refl
+      by_kind (Some p) is = absurd is
 
-clauses_some : {names : List (List ℕ)} {ks : List Clause} {cs : List databases.Clause} (db : Procedures) (k : Key) (n : ℕ) → AreClauses names ks cs → 0 < length ks → clauses_at db k ≡ Some cs → left_at db n 0 ≡ cs → Clauses db k n
-clauses_some db k n no_clauses some found there = absurd (omega (arith, some))
-clauses_some db k n (more_clauses {c = c} {cs = cs} is others) some found there = record { first = c; others = cs; found = found; there = there }
+-- one with these clauses, where they are kept
+pub record Clauses (names : List (List ℕ)) (m : databases.Database) (k : Key) (ks : List (db.Clause Clause)) : Type 0 where
+  pub clauses : List databases.Clause
+  pub found : clauses_at m.procedures k ≡ Some clauses
+  pub are : AreClauses names ks clauses
 
--- the place of the key's procedure in the database
-left_here : {names : List (List ℕ)} {ps : List Procedure} {db : Procedures} (k : Key) (n : ℕ) (cs : List databases.Clause) → IsDatabase names ps db → place_at ps k ≡ Some n → clauses_at db k ≡ Some cs → left_at db n 0 ≡ cs
-left_here k n cs no_procedures h found = absurd cc
-left_here {ps = kept ∷ ks} {db = p ∷ qs} k n cs (more_procedures i rest) h found =
-    elim (found_cases (has_key k) kept ks n h) [
-      | inl here ↦ (let same : same_key p.key k ≡ true = sym (same_test kept p k i) ∙ here.0 in
-          let is : Some p.clauses ≡ Some cs = rw same at found in
-          rw here.1 (some_same is))
-      | inr later ↦ (let same : same_key p.key k ≡ false = sym (same_test kept p k i) ∙ later.1 in
-          let is : clauses_at qs k ≡ Some cs = rw same at found in
-          rw later.2 (left_here k later.0 cs rest later.3 is))
-    ]
-
-pub clauses_there : {names : List (List ℕ)} {ps : List Procedure} {db : Procedures} (k : Key) (n : ℕ) (d : Procedure) → IsDatabase names ps db → place_at ps k ≡ Some n → Clauses db k n
-clauses_there {db = db} k n d is h =
-    let f = found_procedure k n is h in
-    let kept = f.is d in
-    clauses_some db k n kept.clauses kept.some f.clauses (left_here k n f.procedure.clauses is h f.clauses)
+pub clauses_there : {names : List (List ℕ)} {d : Database Clause} {m : databases.Database} (k : Key) (kind : Kind) → IsDatabase names d m → kind_of (kept_at d k) ≡ Some kind → Clauses names m k (db.clauses_of (kept_at d k))
+clauses_there {names = names} {d = d} {m = m} k kind is there =
+    by_kind (procedure_with m.procedures k) (clauses_with m.procedures k) (subst (λ (o : Option Kind). IsProcedure names o (db.clauses_of (kept_at d k)) (procedure_with m.procedures k)) there (is.procedures k)) where
+      by_kind : (o : Option databases.Procedure) → clauses_at m.procedures k ≡ option_map (λ p. p.clauses) o → IsProcedure names (Some kind) (db.clauses_of (kept_at d k)) o → Clauses names m k (db.clauses_of (kept_at d k))
+      by_kind None found is = absurd is
+      by_kind (Some p) found is = record { clauses = p.clauses; found = found; are = is.1 }
 
 -- ---- what a goal calls
 
-first_of : {n : ℕ} (ps : List Procedure) → n < length ps → Procedure
-first_of [] h = absurd (omega (arith, h))
-first_of (p ∷ ps) h = p
+-- a procedure is called, and begins so
+pub named_begins : (leaves : Leaving) (w : World) (k : Key) (cs : List databases.Clause) (c : Called) → built_in k ≡ None → clauses_at w.database.procedures k ≡ Some cs → Begins leaves cs c → IsNamed leaves w k c
+named_begins leaves w k cs (call.BuiltIn b) none found is = absurd is
+named_begins leaves w k cs (call.User clause later) none found is = (none, (cs, found, is))
+named_begins leaves w k cs call.Fails none found is = (none, inl (found ∙ ap Some is))
+named_begins leaves w k cs (call.Unknown ball) none found is = absurd is
 
-pub named_calls : {names : List (List ℕ)} {rows : List (Vec Callable Global)} {vocabulary : Vocabulary} (ps : List Procedure) (ops : List Operator) (flags : Flags) (w : World) (t : Tree) (k : Key) (c : Called) → KeepsWorld names ps rows vocabulary ops flags w → key_of t ≡ Some k → IsNamed ps flags k c → IsCalled ps w t c
-named_calls ps ops flags w t k (call.BuiltIn b) is named h = record { key = k; named = named; found = h }
-named_calls ps ops flags w t k (call.User place) is named h =
-    let at = clauses_there k place (first_of ps (found_procedure k place is.procedures_are h.1).within) is.procedures_are h.1 in
-    record { key = k; first = at.first; others = at.others; user = record { named = named; none = h.0 }; within = (found_procedure k place is.procedures_are h.1).within; found = at.found; left = at.there }
-named_calls ps ops flags w t k call.Fails is named h =
-    inr (k, record { named = named; none = h.0 }, no_procedure k is.procedures_are h.1, ap (λ (f : Flags). f.unknown) (sym is.flags_are) ∙ h.2)
-named_calls ps ops flags w t k (call.Unknown ball) is named h =
-    (k, record { named = named; none = h.0 }, no_procedure k is.procedures_are h.1, ap (λ (f : Flags). f.unknown) (sym is.flags_are) ∙ h.2, h.3)
+pub named_calls : (names : List (List ℕ)) (d : Db Clause) (w : World) (t : Tree) (k : Key) (c : Called) → key_of t ≡ Some k → IsNamed (AreLeft names d) w k c → IsCalled (AreLeft names d) w t c
+named_calls names d w t k (call.BuiltIn b) named h = record { key = k; named = named; found = h }
+named_calls names d w t k (call.User clause later) named h =
+    let left = h.1.2 in
+    record {
+      key = k;
+      first = left.first;
+      others = left.others;
+      user = record { named = named; none = h.0 };
+      found = h.1.1 ∙ ap Some left.is;
+      left = subst (λ (cs : List databases.Clause). AreLeft names d clause later cs) left.is left;
+    }
+named_calls names d w t k call.Fails named h = inr (k, record { named = named; none = h.0 }, h.1)
+named_calls names d w t k (call.Unknown ball) named h = (k, record { named = named; none = h.0 }, h.1.0, h.1.1, h.2)
 
 -- The goal that bindings have given this name and arity calls what these call.
-pub calls_shown : {E : Type 0} {names : List (List ℕ)} {rows : List (Vec Callable Global)} {vocabulary : Vocabulary} (ps : List Procedure) (ops : List Operator) (flags : Flags) (w : World) (v : Tree) (k : Key) (r : Result Called E) → KeepsWorld names ps rows vocabulary ops flags w → key_of v ≡ Some k
-    → IfOk r (IsNamed ps flags k) → IfOk r (IsCalled ps w v)
-calls_shown ps ops flags w v k (Ok c) is shown named = named_calls ps ops flags w v k c is shown named
-calls_shown ps ops flags w v k (Err e) is shown named = tt
+pub calls_shown : {E : Type 0} (names : List (List ℕ)) (d : Db Clause) (w : World) (v : Tree) (k : Key) (r : Result Called E) → key_of v ≡ Some k → IfOk r (IsNamed (AreLeft names d) w k) → IfOk r (IsCalled (AreLeft names d) w v)
+calls_shown names d w v k (Ok c) shown named = named_calls names d w v k c shown named
+calls_shown names d w v k (Err e) shown named = tt
+
+-- ---- what is found by an atom
+
+-- what was found is called
+pub found_by : (names : List (List ℕ)) (rows : List (Vec Callable Global)) (d : Database Clause) (a n : ℕ) (c : Callee) → Finds names rows d → callee_at rows a n ≡ Some c → callee_of d (key (text_at names a) n) ≡ Some c
+found_by names rows d a n c f h = by_case (f.agrees (key (text_at names a) n)) where
+  by_case : Agrees d (key (text_at names a) n) (f.calls (key (text_at names a) n)) → callee_of d (key (text_at names a) n) ≡ Some c
+  by_case (inl same) = sym same ∙ (f.indexes.sound a n c h).1
+  by_case (inr none) = absurd (let e : None ≡ Some c = sym none.0 ∙ (f.indexes.sound a n c h).1 in cc e)
+
+-- under a name that isn't found no built-in is called, and no procedure is there
+pub found_none : (names : List (List ℕ)) (rows : List (Vec Callable Global)) (d : Database Clause) (a n : ℕ) (text : List ℕ) → EachOnce names → slice_get names a ≡ Some text → Finds names rows d → callee_at rows a n ≡ None
+    → (built_in (key text n) ≡ None) × (kind_of (kept_at d (key text n)) ≡ None)
+found_none names rows d a n text once there f none = by_case (f.agrees (key text n)) where
+  by_case : Agrees d (key text n) (f.calls (key text n)) → (built_in (key text n) ≡ None) × (kind_of (kept_at d (key text n)) ≡ None)
+  by_case (inl same) =
+      let parts = called_none d (key text n) (sym same ∙ index_none names rows f.calls a n text once there f.indexes none) in
+      (parts.0, ap (λ o. kind_of (option_and_then (slice_get d.procedures) o)) parts.1)
+  by_case (inr b) = (b.1, b.2)
+
+-- what has no value is none, and what has one is some
+pub none_of : {X : Type 0} (o : Option X) → false ≡ is_some o → o ≡ None
+none_of None h = refl
+none_of (Some x) h = absurd (cc h)
+
+pub some_of : {X : Type 0} (o : Option X) → true ≡ is_some o → (x : X) × (o ≡ Some x)
+some_of None h = absurd (cc h)
+some_of (Some x) h = (x, refl)

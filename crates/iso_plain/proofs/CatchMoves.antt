@@ -1,4 +1,5 @@
 -- Catches: their entries, what is run or thrown inside them, and their ends.
+use Rattle.iso_plain_core.specs.Leaving.{AreLeft}
 use Rattle.std.proofs.Common.{◌≡◌, ℕ, suc, ◌+◌, ◌<◌, ◌≤◌, ◌++◌, List, [], ◌∷◌, length, Option, Some, refl, ap, ap₂, sym, ◌∙◌, subst, arith, Vec, Global}
 use Rattle.iso_atoms.specs.Texts.{KeepsTexts}
 use Rattle.iso_model.specs.Terms.Trees.{Tree}
@@ -20,7 +21,6 @@ use Rattle.iso_plain_core.specs.Costs.{body_cost, left_cost, most, whole_cost, t
 use Rattle.iso_plain_core.specs.Next.{now_behind}
 use Rattle.iso_plain_core.specs.Standing.{IsBody, a_body, an_end, HasLeft, GainsChoice}
 use Rattle.iso_plain.specs.EngineStates.{IsEngine, IsAhead, Represents, Moves, cost, weight, links_of}
-use Rattle.iso_plain_core.specs.ClausePlaces.{left_at}
 use Rattle.iso_plain.proofs.AheadLemmas.{AtFrame, at_frame, end_of, engine_frame, engine_place, ahead_frame, ahead_left}
 use Rattle.iso_plain.proofs.ControlCosts.{new_place, old_place, gained_cost}
 use Rattle.iso_plain_core.proofs.CostLemmas.{cost_more, cost_higher, left_step, left_higher, whole_paid, some_most, below_words, choices_on_more, behind_cost}
@@ -71,7 +71,7 @@ module _ {S W M : Type 0} (names : S → List (List ℕ)) (present : S → Prese
     recovery = recovery_of (present e.store) goal
 
     -- the members ahead, as what is behind the catch
-    catch_left : HasLeft (left_at s.world.database.procedures) e.query.items (variables s.query) (present e.store) (links_of e) (left.Catching goal next)
+    catch_left : HasLeft (AreLeft (names e.store) e.db) e.query.items (variables s.query) (present e.store) (links_of e) (left.Catching goal next)
         (record { list = s.list; subst = s.subst; next = s.next; built = s.built; left = Catching catcher recovery })
     catch_left =
         let a = h.ahead in
@@ -97,12 +97,12 @@ module _ {S W M : Type 0} (names : S → List (List ℕ)) (present : S → Prese
     -- what is to be done at its choice, and at its end
     pub opened_costs : {old new : M → Present W → Type 0} {p : Present W} {nodes stood : ℕ} (choices : Vec (kept.Choice W M) Global) (frames : Vec Frame Global) (mark : ℕ) → GainsChoice old new older p nodes stood (left.Catching goal next) e.choices.items choices.items
         → frames.items ≡ e.frames.items ++ record { todo = todo.Leave; mark = mark; next = next } ∷ []
-        → (choices_cost e.procedures.items (frame_costs frames.items) choices.items ≡ choices_cost e.procedures.items (frame_costs e.frames.items) e.choices.items + left_cost 1 (place_cost e.frames.items next))
+        → (choices_cost (frame_costs frames.items) choices.items ≡ choices_cost (frame_costs e.frames.items) e.choices.items + left_cost 1 (place_cost e.frames.items next))
         × (place_cost frames.items (Some (length e.frames.items)) ≡ suc (place_cost e.frames.items next))
     opened_costs choices frames mark gains come =
         let end : Frame = record { todo = todo.Leave; mark = mark; next = next } in
-        let gained = gained_cost e.procedures.items (frame_costs frames.items) gains in
-        let all = ap (λ (fs : List Frame). choices_cost e.procedures.items (frame_costs fs) e.choices.items) come ∙ choices_on_more e.procedures.items (end ∷ []) h.ahead.choices in
+        let gained = gained_cost (frame_costs frames.items) gains in
+        let all = ap (λ (fs : List Frame). choices_cost (frame_costs fs) e.choices.items) come ∙ choices_on_more (end ∷ []) h.ahead.choices in
         let kept_rest = old_place e.frames.items frames.items (end ∷ []) next come (chain_place next h.ahead.chain) in
         (gained ∙ ap₂ (λ (a b : ℕ). a + b) all (ap (left_cost 1) kept_rest), new_place e.frames.items frames.items end come)
 
@@ -123,12 +123,12 @@ module _ {S W M : Type 0} (names : S → List (List ℕ)) (present : S → Prese
 
   -- ---- what falls
 
-  module _ (e mid : Plain S W M) (next : Option ℕ) (end : ℕ) (steps : mid.steps ≡ e.steps) (procedures : mid.procedures ≡ e.procedures)
-      (choices : choices_cost e.procedures.items (frame_costs mid.frames.items) mid.choices.items ≡ choices_cost e.procedures.items (frame_costs e.frames.items) e.choices.items + left_cost 1 (place_cost e.frames.items next))
+  module _ (e mid : Plain S W M) (next : Option ℕ) (end : ℕ) (steps : mid.steps ≡ e.steps)
+      (choices : choices_cost (frame_costs mid.frames.items) mid.choices.items ≡ choices_cost (frame_costs e.frames.items) e.choices.items + left_cost 1 (place_cost e.frames.items next))
       (there : place_cost mid.frames.items (Some end) ≡ suc (place_cost e.frames.items next)) (w : ℕ)
-      (less : choices_cost e.procedures.items (frame_costs e.frames.items) e.choices.items + place_cost e.frames.items next + 1 ≤ w) where
-    all_choices : choices_cost mid.procedures.items (frame_costs mid.frames.items) mid.choices.items ≡ choices_cost e.procedures.items (frame_costs e.frames.items) e.choices.items + left_cost 1 (place_cost e.frames.items next)
-    all_choices = ap (λ ps. choices_cost ps.items (frame_costs mid.frames.items) mid.choices.items) procedures ∙ choices
+      (less : choices_cost (frame_costs e.frames.items) e.choices.items + place_cost e.frames.items next + 1 ≤ w) where
+    all_choices : choices_cost (frame_costs mid.frames.items) mid.choices.items ≡ choices_cost (frame_costs e.frames.items) e.choices.items + left_cost 1 (place_cost e.frames.items next)
+    all_choices = choices
 
     pub inside_falls : (body mark : ℕ) (b : Body) → IsBody (present mid.store) mid.nodes.items body b
         → weight (record mid { now = now.Running (record { todo = todo.Body body; mark = mark; next = Some end }) }) < whole_cost (suc e.steps) w
@@ -138,15 +138,15 @@ module _ {S W M : Type 0} (names : S → List (List ℕ)) (present : S → Prese
         let within = mid.nodes.ok.1 in
         let small = mid.nodes.small in
         let fits = below_words body (omega (arith, here, many, within, small)) in
-        let paid = inside_paid body e.steps (choices_cost e.procedures.items (frame_costs e.frames.items) e.choices.items) (place_cost e.frames.items next) w (omega (arith, fits)) less in
+        let paid = inside_paid body e.steps (choices_cost (frame_costs e.frames.items) e.choices.items) (place_cost e.frames.items next) w (omega (arith, fits)) less in
         rw (steps, all_choices, there) paid
 
-    pub thrown_falls : (new : Plain S W M) (place : Option ℕ) → new.now ≡ now.Raising place → new.steps ≡ mid.steps → new.choices ≡ mid.choices → new.frames ≡ mid.frames → new.procedures ≡ mid.procedures
+    pub thrown_falls : (new : Plain S W M) (place : Option ℕ) → new.now ≡ now.Raising place → new.steps ≡ mid.steps → new.choices ≡ mid.choices → new.frames ≡ mid.frames
         → weight new < whole_cost (suc e.steps) w
-    thrown_falls new place doing same_steps same_choices same_frames same_procedures =
-        let many = choices_cost e.procedures.items (frame_costs e.frames.items) e.choices.items in
+    thrown_falls new place doing same_steps same_choices same_frames =
+        let many = choices_cost (frame_costs e.frames.items) e.choices.items in
         let paid = thrown_paid e.steps many (place_cost e.frames.items next) w less in
-        let here : cost new ≡ many + left_cost 1 (place_cost e.frames.items next) + 1 = cost_as mid new (now.Raising place) doing same_choices same_frames same_procedures ∙ ap (λ (n : ℕ). n + 1) all_choices in
+        let here : cost new ≡ many + left_cost 1 (place_cost e.frames.items next) + 1 = cost_as mid new (now.Raising place) doing same_choices same_frames ∙ ap (λ (n : ℕ). n + 1) all_choices in
         subst (λ (k : ℕ). whole_cost k (cost new) < whole_cost (suc e.steps) w) (sym (same_steps ∙ steps)) (subst (λ (v : ℕ). whole_cost e.steps v < whole_cost (suc e.steps) w) (sym here) paid)
 
   -- ---- out of a catch
@@ -167,7 +167,7 @@ module _ {S W M : Type 0} (names : S → List (List ℕ)) (present : S → Prese
 
     pub leave_falls : weight (record e { now = now_behind e.frames.items f.next }) < weight e
     leave_falls =
-        let many = choices_cost e.procedures.items (frame_costs e.frames.items) e.choices.items in
+        let many = choices_cost (frame_costs e.frames.items) e.choices.items in
         let old : cost e ≡ many + suc (place_cost e.frames.items f.next) =
         ap (λ (n : Now). many + now_cost (frame_costs e.frames.items) n) doing ∙ ap (λ (t : Todo). many + todo_cost t (place_cost e.frames.items f.next)) asks in
         let here = behind_cost f.next (at.ahead).chain in

@@ -11,7 +11,6 @@ use Rattle.iso_plain_core.specs.declared.parts.Left.TheVariants as left
 use Rattle.iso_plain_core.specs.declared.parts.Choice as kept
 use Rattle.iso_plain_core.specs.declared.parts.Now.{Now}
 use Rattle.iso_plain_core.specs.declared.parts.Now.TheVariants as now
-use Rattle.iso_plain_core.specs.declared.procedures.Procedure.{Procedure}
 use Rattle.iso_plain.specs.declared.plain.Plain.{Plain}
 use Rattle.iso_plain_core.specs.Costs.{body_cost, most, todo_cost, frame_cost, frame_costs, place_cost, choice_cost, choices_cost, now_cost}
 use Rattle.iso_plain_core.specs.Next.{IsPlace}
@@ -33,10 +32,10 @@ new_place fs gs f come = ap (λ (hs : List Frame). place_cost hs (Some (length f
 pub old_place : (fs gs more : List Frame) (place : Option ℕ) → gs ≡ fs ++ more → IsPlace fs place → place_cost gs place ≡ place_cost fs place
 old_place fs gs more place come within = ap (λ (hs : List Frame). place_cost hs place) come ∙ more_cost fs more place within
 
-pub gained_cost : {W M : Type 0} {old new : M → Present W → Type 0} {older : M → M → Type 0} {present : Present W} {nodes frames : ℕ} {l : Left W} {before after : List (kept.Choice W M)} (ps : List Procedure) (costs : List ℕ)
-    → GainsChoice old new older present nodes frames l before after → choices_cost ps costs after ≡ choices_cost ps costs before + choice_cost ps costs l
-gained_cost {nodes = nodes} {frames = frames} {l = l} {before = before} ps costs g =
-    ap (choices_cost ps costs) g.are ∙ choices_last ps costs before (record { mark = g.mark; nodes = nodes; frames = frames; left = l })
+pub gained_cost : {W M : Type 0} {old new : M → Present W → Type 0} {older : M → M → Type 0} {present : Present W} {nodes frames : ℕ} {l : Left W} {before after : List (kept.Choice W M)} (costs : List ℕ)
+    → GainsChoice old new older present nodes frames l before after → choices_cost costs after ≡ choices_cost costs before + choice_cost costs l
+gained_cost {nodes = nodes} {frames = frames} {l = l} {before = before} costs g =
+    ap (choices_cost costs) g.are ∙ choices_last costs before (record { mark = g.mark; nodes = nodes; frames = frames; left = l })
 
 -- ---- a body before what is behind it
 
@@ -71,17 +70,17 @@ module _ {S W M : Type 0} (names : S → List (List ℕ)) (present : S → Prese
     rest = place_cost e.frames.items f.next
 
     many : ℕ
-    many = choices_cost e.procedures.items (frame_costs e.frames.items) e.choices.items
+    many = choices_cost (frame_costs e.frames.items) e.choices.items
 
     -- the cost of the body that is run, and of the choices
-    pub cost_at : f.todo ≡ todo.Body k → cost e ≡ choices_cost e.procedures.items (frame_costs e.frames.items) e.choices.items + body_cost k (place_cost e.frames.items f.next)
+    pub cost_at : f.todo ≡ todo.Body k → cost e ≡ choices_cost (frame_costs e.frames.items) e.choices.items + body_cost k (place_cost e.frames.items f.next)
     cost_at asks =
-        ap (λ (n : Now). choices_cost e.procedures.items (frame_costs e.frames.items) e.choices.items + now_cost (frame_costs e.frames.items) n) doing
-        ∙ ap (λ (t : Todo). choices_cost e.procedures.items (frame_costs e.frames.items) e.choices.items + todo_cost t (place_cost e.frames.items f.next)) asks
+        ap (λ (n : Now). choices_cost (frame_costs e.frames.items) e.choices.items + now_cost (frame_costs e.frames.items) n) doing
+        ∙ ap (λ (t : Todo). choices_cost (frame_costs e.frames.items) e.choices.items + todo_cost t (place_cost e.frames.items f.next)) asks
 
     pub choices_same : (frames more : List Frame) → frames ≡ e.frames.items ++ more
-        → choices_cost e.procedures.items (frame_costs frames) e.choices.items ≡ choices_cost e.procedures.items (frame_costs e.frames.items) e.choices.items
-    choices_same frames more come = ap (λ (fs : List Frame). choices_cost e.procedures.items (frame_costs fs) e.choices.items) come ∙ choices_on_more e.procedures.items more r.engine.choices
+        → choices_cost (frame_costs frames) e.choices.items ≡ choices_cost (frame_costs e.frames.items) e.choices.items
+    choices_same frames more come = ap (λ (fs : List Frame). choices_cost (frame_costs fs) e.choices.items) come ∙ choices_on_more more r.engine.choices
 
     pub apart_falls : (d : ℕ) (frames : Vec Frame Global) → IsAt e.nodes.items f k (node.And d) → frames.items ≡ e.frames.items ++ body_frame f (k - 1) ∷ []
         → weight (record e { frames = frames; now = now.Running (record { todo = todo.Body (k - d); mark = f.mark; next = Some (length e.frames.items) }) }) < weight e
@@ -119,7 +118,7 @@ module _ {S W M : Type 0} (names : S → List (List ℕ)) (present : S → Prese
         let old = cost_at h.asks in
         let all = choices_same frames.items (body_frame f (k - 1) ∷ []) come in
         let next = new_place e.frames.items frames.items (body_frame f (k - 1)) come in
-        let gained = gained_cost e.procedures.items (frame_costs frames.items) gains in
+        let gained = gained_cost (frame_costs frames.items) gains in
         let same = old_place e.frames.items frames.items (body_frame f (k - 1) ∷ []) f.next come (chain_place f.next ((at names present stands older e s f k doing r h.asks).ahead).chain) in
         let here = ap (body_cost (k - d)) same in
         let less = two_left k (k - d) (k - 1) rest (let some = p.2 in let more = p.1 in omega (arith, some, more)) (let some = p.2 in omega (arith, some)) in
@@ -141,7 +140,7 @@ module _ {S W M : Type 0} (names : S → List (List ℕ)) (present : S → Prese
         let long : length frames.items ≡ length e.frames.items + 1 = ap length come ∙ length_last e.frames.items (body_frame f (k - 1)) in
         let other = old_place frames.items most.items (body_frame f (k - d) ∷ once ∷ []) (Some (length e.frames.items)) behind (omega (arith, long)) ∙ new_place e.frames.items frames.items (body_frame f (k - 1)) come in
         let same = old_place e.frames.items frames.items (body_frame f (k - 1) ∷ []) f.next come (chain_place f.next ((at names present stands older e s f k doing r h.asks).ahead).chain) in
-        let gained = gained_cost e.procedures.items (frame_costs most.items) gains in
+        let gained = gained_cost (frame_costs most.items) gains in
         let next = new_place more.items most.items once come_most ∙ ap suc (new_place frames.items more.items (body_frame f (k - d)) come_more ∙ ap (body_cost (k - d)) same) in
         let here = ap (body_cost (k - c)) next in
         let less = three_left k (k - c) (k - d) (k - 1) rest (let some = p.4 in let more = p.2 in omega (arith, some, more)) (let some = p.4 in let more = p.3 in omega (arith, some, more)) (let some = p.4 in omega (arith, some)) in

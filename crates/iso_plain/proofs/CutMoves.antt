@@ -50,16 +50,16 @@ module _ {S W M : Type 0} (names : S → List (List ℕ)) (present : S → Prese
         goes names present stands older e (record mid { now = now_behind mid.frames.items f.next }) s r (cut_back f.mark at.behind own) (cut_goes h)
         (engine_place names present stands older mid (cut_back f.mark at.behind own) f.next ahead) (awake_behind mid.frames.items f.next)
 
-    pub cut_falls : (mid : Plain S W M) → IsCut e.nodes.items f → mid.steps ≡ e.steps → mid.frames ≡ e.frames → mid.procedures ≡ e.procedures
-        → choices_cost e.procedures.items (frame_costs e.frames.items) mid.choices.items ≤ choices_cost e.procedures.items (frame_costs e.frames.items) e.choices.items
+    pub cut_falls : (mid : Plain S W M) → IsCut e.nodes.items f → mid.steps ≡ e.steps → mid.frames ≡ e.frames
+        → choices_cost (frame_costs e.frames.items) mid.choices.items ≤ choices_cost (frame_costs e.frames.items) e.choices.items
         → weight (record mid { now = now_behind mid.frames.items f.next }) < weight e
-    cut_falls mid h steps frames procedures fewer =
-        let old : cost e ≡ choices_cost e.procedures.items (frame_costs e.frames.items) e.choices.items + todo_cost f.todo (place_cost e.frames.items f.next) =
-        ap (λ (n : Now). choices_cost e.procedures.items (frame_costs e.frames.items) e.choices.items + now_cost (frame_costs e.frames.items) n) doing in
+    cut_falls mid h steps frames fewer =
+        let old : cost e ≡ choices_cost (frame_costs e.frames.items) e.choices.items + todo_cost f.todo (place_cost e.frames.items f.next) =
+        ap (λ (n : Now). choices_cost (frame_costs e.frames.items) e.choices.items + now_cost (frame_costs e.frames.items) n) doing in
         let here = behind_cost f.next (at.ahead).chain in
         let less = cut_cost e.nodes.items f (place_cost e.frames.items f.next) h in
-        let choices : choices_cost mid.procedures.items (frame_costs mid.frames.items) mid.choices.items ≡ choices_cost e.procedures.items (frame_costs e.frames.items) mid.choices.items =
-        ap (λ ps. choices_cost ps.items (frame_costs mid.frames.items) mid.choices.items) procedures ∙ ap (λ fs. choices_cost e.procedures.items (frame_costs fs.items) mid.choices.items) frames in
+        let choices : choices_cost (frame_costs mid.frames.items) mid.choices.items ≡ choices_cost (frame_costs e.frames.items) mid.choices.items =
+        ap (λ fs. choices_cost (frame_costs fs.items) mid.choices.items) frames in
         let next : now_cost (frame_costs mid.frames.items) (now_behind mid.frames.items f.next) ≡ now_cost (frame_costs e.frames.items) (now_behind e.frames.items f.next) =
         ap (λ fs. now_cost (frame_costs fs.items) (now_behind fs.items f.next)) frames in
         falls_less e (record mid { now = now_behind mid.frames.items f.next }) steps (omega (arith, old, here, less, fewer, choices, next))

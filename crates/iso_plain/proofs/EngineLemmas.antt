@@ -112,7 +112,7 @@ module _ {S W M : Type 0} (names : S → List (List ℕ)) (present : S → Prese
           world = rw world (world_on t.texts w);
           steps = steps ∙ h.steps;
           base = base_kept (stands e.store) (stands store) e.base t.keeps h.base;
-          choices = rw (world, stack, query) (choices_on names present stands older e store nodes e.frames s.world (variables s.query) s.stack t.keeps t.adds (adds_none e.frames.items) h.choices);
+          choices = rw (stack, query) (choices_on names present stands older e store nodes e.frames (variables s.query) s.stack t.keeps t.texts t.adds (adds_none e.frames.items) h.choices);
           room = rw stack h.room;
           next = next;
         }

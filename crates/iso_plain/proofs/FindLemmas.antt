@@ -1,4 +1,5 @@
 -- Going along the members for the end of a catch that catches a thrown ball.
+use Rattle.iso_plain_core.specs.Leaving.{Leaving}
 use Rattle.std.proofs.Common.{◌≡◌, ℕ, zero, suc, ◌<◌, ◌≤◌, List, [], ◌∷◌, length, Option, Some, None, refl, ap, sym, ◌∙◌, subst, arith}
 use Rattle.std.specs.List.{slice_get}
 use Rattle.iso_model.specs.Terms.Trees.{Tree}
@@ -20,9 +21,9 @@ nothing_there [] i h = omega arith
 nothing_there (x ∷ xs) zero h = absurd (cc)
 nothing_there (x ∷ xs) (suc i) h = let less = nothing_there xs i h in omega (arith, less)
 
-module _ {W M : Type 0} {stands : M → Present W → Type 0} {older : M → M → Type 0} {base : M} {left_at : ℕ → ℕ → List Clause} {query : List W} {named : List ℕ} where
+module _ {W M : Type 0} {stands : M → Present W → Type 0} {older : M → M → Type 0} {base : M} {leaves : Leaving} {query : List W} {named : List ℕ} where
   -- an end whose choice catches nothing, or is none
-  end_passes : {links : Links W} {cs : List (kept.Choice W M)} (f : Frame) (ball : Tree) (ms : List Member) (s : State) → StandsForChoices stands older base left_at query named links cs s.stack → f.todo ≡ todo.Leave
+  end_passes : {links : Links W} {cs : List (kept.Choice W M)} (f : Frame) (ball : Tree) (ms : List Member) (s : State) → StandsForChoices stands older base leaves query named links cs s.stack → f.todo ≡ todo.Leave
       → (IsEndOfCatch cs f → ⊥) → thrown ball (Leave f.mark ∷ ms) s ≡ thrown ball ms s
   end_passes {cs = cs} f ball ms s are asks none = by_choice (slice_get cs f.mark) refl where
     by_choice : (o : Option (kept.Choice W M)) → slice_get cs f.mark ≡ o → caught f.mark s.stack ball s (thrown ball ms s) ≡ thrown ball ms s
@@ -36,7 +37,7 @@ module _ {W M : Type 0} {stands : M → Present W → Type 0} {older : M → M �
 
   -- a member that is no such end
   pub member_passes : {p : Present W} {nodes : List (Node W)} {links : Links W} {cs : List (kept.Choice W M)} {m : Member} (f : Frame) (ball : Tree) (ms : List Member) (s : State)
-      → StandsForChoices stands older base left_at query named links cs s.stack → IsMember p nodes f m → (IsEndOfCatch cs f → ⊥) → thrown ball (m ∷ ms) s ≡ thrown ball ms s
+      → StandsForChoices stands older base leaves query named links cs s.stack → IsMember p nodes f m → (IsEndOfCatch cs f → ⊥) → thrown ball (m ∷ ms) s ≡ thrown ball ms s
   member_passes f ball ms s are (a_body is body) none = refl
   member_passes f ball ms s are (a_cut is) none = refl
   member_passes f ball ms s are (a_failure is) none = refl
@@ -45,7 +46,7 @@ module _ {W M : Type 0} {stands : M → Present W → Type 0} {older : M → M �
 
   -- one that is
   pub member_catches : {p : Present W} {nodes : List (Node W)} {links : Links W} {cs : List (kept.Choice W M)} {m : Member} (f : Frame) (ball : Tree) (ms : List Member) (s : State)
-      → StandsForChoices stands older base left_at query named links cs s.stack → IsMember p nodes f m → IsEndOfCatch cs f → GoesTo ball (m ∷ ms) s f.mark
+      → StandsForChoices stands older base leaves query named links cs s.stack → IsMember p nodes f m → IsEndOfCatch cs f → GoesTo ball (m ∷ ms) s f.mark
   member_catches f ball ms s are (a_body {i = i} is body) end = absurd (let other : todo.Body i ≡ todo.Leave = sym is ∙ end.asks in cc)
   member_catches f ball ms s are (a_cut is) end = absurd (let other : todo.CutBack ≡ todo.Leave = sym is ∙ end.asks in cc)
   member_catches f ball ms s are (a_failure is) end = absurd (let other : todo.Fail ≡ todo.Leave = sym is ∙ end.asks in cc)

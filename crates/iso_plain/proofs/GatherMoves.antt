@@ -1,4 +1,5 @@
 -- findall/3: its goal is run, its solutions are gathered, and its result is unified with their list.
+use Rattle.iso_plain_core.specs.Leaving.{AreLeft}
 use Rattle.std.proofs.Common.{◌≡◌, ℕ, suc, ◌+◌, ◌*◌, ◌-◌, ◌<◌, ◌≤◌, ◌++◌, List, [], ◌∷◌, length, take, get_or, Option, Some, None, Bool, true, false, refl, ap, ap₂, sym, ◌∙◌, subst, arith, Vec, Global}
 use Rattle.std.specs.Prelude.{option_map}
 use Rattle.std.specs.List.{slice_get}
@@ -39,7 +40,6 @@ use Rattle.iso_plain_core.specs.Costs.{body_cost, most, whole_cost, todo_cost, f
 use Rattle.iso_plain_core.specs.Standing.{IsBody, IsGoalWord, a_body, a_template, Chain, HasLeft, HasGathered, StandsForChoices, GainsChoice, GoesOn, entered_at, most_numbers, numbers_a_step}
 use Rattle.iso_plain.specs.EngineStates.{IsEngine, IsAhead, Represents, WentBack, Keeps, Stopped, Moves, cost, weight, phase_of, links_of, went_back}
 use Rattle.iso_plain.specs.Gathers.{EntersFindall, finding, found, result_of}
-use Rattle.iso_plain_core.specs.ClausePlaces.{left_at}
 use Rattle.iso_plain.proofs.AheadLemmas.{AtFrame, at_frame, template_at, engine_frame, ahead_frame, ahead_left}
 use Rattle.iso_plain.proofs.ControlCosts.{new_place, old_place, gained_cost}
 use Rattle.iso_plain_core.proofs.CostLemmas.{cost_more, cost_parts, left_step, whole_paid, zero_cost, some_most, below_words, choices_on_more, choices_last}
@@ -51,9 +51,9 @@ use Rattle.iso_plain.proofs.ResumeLemmas.{has_members, choices_are}
 use Rattle.iso_plain.proofs.SearchMoves.{goes, stops, stops_here}
 use Rattle.iso_plain.proofs.SearchSteps.{gather_step, found_step}
 use Rattle.iso_plain.proofs.StoppedLemmas.{base_kept}
-use Rattle.iso_plain_core.proofs.StandingLemmas.{AddsLinks, at_last, body_more, body_within, item_is, next_behind, chain_more, chain_place, choices_keep, choices_length, choices_more}
+use Rattle.iso_plain_core.proofs.StandingLemmas.{AddsLinks, at_last, body_more, body_within, item_is, next_behind, chain_more, chain_place, choices_length, choices_more}
 use Rattle.iso_plain.proofs.WeightLemmas.{falls_less}
-use Rattle.iso_plain.proofs.WorldLemmas.{world_on}
+use Rattle.iso_plain.proofs.WorldLemmas.{world_on, choices_kept}
 
 -- ---- what is left to be done
 
@@ -133,10 +133,10 @@ module _ {S W M : Type 0} (names : S → List (List ℕ)) (present : S → Prese
 
     pub gather_falls : (choices : Vec (kept.Choice W M) Global) (R : Gathered → Gathered → Type 0) → ChangesAt R f.mark e.choices.items choices.items → weight (record e { choices = choices; now = now.Failing }) < weight e
     gather_falls choices R change =
-        let many = choices_cost e.procedures.items (frame_costs e.frames.items) e.choices.items in
+        let many = choices_cost (frame_costs e.frames.items) e.choices.items in
         let old : cost e ≡ many + suc (place_cost e.frames.items f.next) =
         ap (λ (n : Now). many + now_cost (frame_costs e.frames.items) n) doing ∙ ap (λ (t : Todo). many + todo_cost t (place_cost e.frames.items f.next)) asks in
-        let new = changed_costs R e.procedures.items (frame_costs e.frames.items) change in
+        let new = changed_costs R (frame_costs e.frames.items) change in
         falls_less e (record e { choices = choices; now = now.Failing }) refl (omega (arith, old, new))
 
   -- ---- the goal is run
@@ -147,7 +147,7 @@ module _ {S W M : Type 0} (names : S → List (List ℕ)) (present : S → Prese
 
     -- the members ahead, as what is behind the goal
     nothing_gathered : (w : W) (g : Gathered) → (present e.store).holds w ≡ true → meaning (present e.store) w ≡ result → copies_of g ≡ [] → g.variables ≡ 0
-        → HasLeft (left_at s.world.database.procedures) e.query.items (variables s.query) (present e.store) (links_of e) (left.Gathering w next g)
+        → HasLeft (AreLeft (names e.store) e.db) e.query.items (variables s.query) (present e.store) (links_of e) (left.Gathering w next g)
         (record { list = s.list; subst = s.subst; next = s.next; built = s.built; left = Gathering result [] 0 })
     nothing_gathered w g holds value none count =
         let a = h.ahead in
@@ -204,7 +204,7 @@ module _ {S W M : Type 0} (names : S → List (List ℕ)) (present : S → Prese
     pub finds_falls : {old new : M → Present W → Type 0} {p : Present W} {stood framed : ℕ} (store : S) (choices : Vec (kept.Choice W M) Global) (wd : W) (g : Gathered) (k mark place : ℕ) (b : Body) (nodes : Vec (Node W) Global) (frames : Vec Frame Global) (w : ℕ)
         → IsBody (present e.store) e.nodes.items k b → GainsChoice old new older p stood framed (left.Gathering wd next g) e.choices.items choices.items
         → frames.items ≡ e.frames.items ++ record { todo = todo.Gather place; mark = mark; next = next } ∷ []
-        → choices_cost e.procedures.items (frame_costs e.frames.items) e.choices.items + place_cost e.frames.items next + 1 ≤ w
+        → choices_cost (frame_costs e.frames.items) e.choices.items + place_cost e.frames.items next + 1 ≤ w
         → weight (record e { store = store; choices = choices; nodes = nodes; frames = frames; now = now.Running (record { todo = todo.Body k; mark = mark + 1; next = Some (length e.frames.items) }) }) < whole_cost (suc e.steps) w
     finds_falls store choices wd g k mark place b nodes frames w body gains come less =
         let end : Frame = record { todo = todo.Gather place; mark = mark; next = next } in
@@ -213,17 +213,17 @@ module _ {S W M : Type 0} (names : S → List (List ℕ)) (present : S → Prese
         let within = e.nodes.ok.1 in
         let small = e.nodes.small in
         let fits = below_words k (omega (arith, here, many, within, small)) in
-        let gained = gained_cost e.procedures.items (frame_costs frames.items) gains in
-        let all = ap (λ (fs : List Frame). choices_cost e.procedures.items (frame_costs fs) e.choices.items) come ∙ choices_on_more e.procedures.items (end ∷ []) h.ahead.choices in
+        let gained = gained_cost (frame_costs frames.items) gains in
+        let all = ap (λ (fs : List Frame). choices_cost (frame_costs fs) e.choices.items) come ∙ choices_on_more (end ∷ []) h.ahead.choices in
         let kept_rest = old_place e.frames.items frames.items (end ∷ []) next come (chain_place next h.ahead.chain) in
         let there = new_place e.frames.items frames.items end come in
-        let paid = finds_paid k e.steps (choices_cost e.procedures.items (frame_costs e.frames.items) e.choices.items) (place_cost e.frames.items next) w fits less in
+        let paid = finds_paid k e.steps (choices_cost (frame_costs e.frames.items) e.choices.items) (place_cost e.frames.items next) w fits less in
         rw (gained, all, kept_rest, there) paid
 
   -- ---- no further solution
 
   module _ (e : Plain S W M) (c : kept.Choice W M) (s : State) (a : Alternative) (below : List Alternative) (w : WentBack names present stands older e c s a below) (wd : W) (g : Gathered) (place : Option ℕ) (is : c.left ≡ left.Gathering wd place g) where
-    pub gathered_there : HasGathered (left_at s.world.database.procedures) e.query.items (variables s.query) (present e.store) (links_of e) wd place g a
+    pub gathered_there : HasGathered (AreLeft (names e.store) e.db) e.query.items (variables s.query) (present e.store) (links_of e) wd place g a
     gathered_there = has_members names present stands older e c s a below w (left.Gathering wd place g) is
 
     abbrev value : Tree
@@ -250,8 +250,8 @@ module _ {S W M : Type 0} (names : S → List (List ℕ)) (present : S → Prese
             world = world_on texts w.world;
             steps = w.steps;
             base = record { present = b.present; stands_for = marks e.base b.present w.newer_base b.stands_for; substitution = b.substitution; next = b.next };
-            choices = subst (λ (ds : List (kept.Choice W M)). StandsForChoices (stands store) older e.base (left_at s.world.database.procedures) e.query.items (variables s.query) (links_of e) ds below) (sym made)
-                (choices_keep (λ d p among stood. marks d.mark p (w.newer d among) stood) w.stands_below);
+            choices = subst (λ (ds : List (kept.Choice W M)). StandsForChoices (stands store) older e.base (AreLeft (names store) e.db) e.query.items (variables s.query) (links_of e) ds below) (sym made)
+                (choices_kept texts (λ d p among stood. marks d.mark p (w.newer d among) stood) w.stands_below);
             room = w.room.1;
             goes = subst (λ (p : Present W). GoesOn p e.query.items back) (sym same)
                 (record { subst = h.on.subst_is; next = h.on.next_is; room = (let all = w.steps in omega (arith, one, all)); words = h.on.words });
@@ -301,7 +301,7 @@ module _ {S W M : Type 0} (names : S → List (List ℕ)) (present : S → Prese
               world = world_on after_texts gone_ahead.world;
               steps = w.steps;
               base = base_kept (stands store) (stands last) e.base keeps gone_ahead.base;
-              choices = choices_keep (λ d p among stood. keeps d.mark p stood) gone_ahead.choices;
+              choices = choices_kept after_texts (λ d p among stood. keeps d.mark p stood) gone_ahead.choices;
               room = w.room.1;
               next = ([], refl);
             })
@@ -309,13 +309,13 @@ module _ {S W M : Type 0} (names : S → List (List ℕ)) (present : S → Prese
     -- ---- what falls
 
     pub gone_cost : (n : Now) (choices : Vec (kept.Choice W M) Global) → 0 < length e.choices.items → choices.items ≡ take (length e.choices.items - 1) e.choices.items → now_cost (frame_costs e.frames.items) n ≤ place_cost e.frames.items place
-        → choices_cost e.procedures.items (frame_costs e.frames.items) choices.items + now_cost (frame_costs e.frames.items) n < choices_cost e.procedures.items (frame_costs e.frames.items) e.choices.items
+        → choices_cost (frame_costs e.frames.items) choices.items + now_cost (frame_costs e.frames.items) n < choices_cost (frame_costs e.frames.items) e.choices.items
     gone_cost n choices some made less =
         let costs = frame_costs e.frames.items in
         let before = take (length e.choices.items - 1) e.choices.items in
-        let old = ap (choices_cost e.procedures.items costs) (choices_are names present stands older e c s a below w some) ∙ choices_last e.procedures.items costs before c in
-        let here = ap (choice_cost e.procedures.items costs) is in
-        let new = ap (choices_cost e.procedures.items costs) made in
+        let old = ap (choices_cost costs) (choices_are names present stands older e c s a below w some) ∙ choices_last costs before c in
+        let here = ap (choice_cost costs) is in
+        let new = ap (choices_cost costs) made in
         omega (arith, old, here, new, less)
 
   -- ---- the engine's move there

@@ -38,13 +38,11 @@ result_full (Err e) f h = tt
 -- ---- what stays
 
 pub stays_same : {S W M : Type 0} (names : S → List (List ℕ)) (e : Plain S W M) → Stays names e e
-stays_same names e = record { limit = refl; procedures = refl; callables = refl; vocabulary = refl; names_kept = all_texts (names e.store); within = λ h. h }
+stays_same names e = record { limit = refl; vocabulary = refl; names_kept = all_texts (names e.store); within = λ h. h }
 
 pub stays_on : {S W M : Type 0} (names : S → List (List ℕ)) {old between new : Plain S W M} → Stays names old between → Stays names between new → Stays names old new
 stays_on names {old = old} {between = between} {new = new} a b = record {
   limit = b.limit ∙ a.limit;
-  procedures = b.procedures ∙ a.procedures;
-  callables = b.callables ∙ a.callables;
   vocabulary = b.vocabulary ∙ a.vocabulary;
   names_kept = keeps-then (names old.store) (names between.store) (names new.store) a.names_kept b.names_kept;
   within = λ h. b.within (a.within h);
@@ -55,8 +53,6 @@ pub stays_behind : {S W M : Type 0} (names : S → List (List ℕ)) {old new : P
     → Stays names (record old { store = store; nodes = nodes; steps = steps }) new → Stays names old new
 stays_behind names {old = old} {new = new} store nodes steps texts b = record {
   limit = b.limit;
-  procedures = b.procedures;
-  callables = b.callables;
   vocabulary = b.vocabulary;
   names_kept = keeps-then (names old.store) (names store) (names new.store) texts b.names_kept;
   within = b.within;

@@ -58,8 +58,8 @@ module _ {S W M : Type 0} (names : S → List (List ℕ)) (present : S → Prese
     rest = place_cost e.frames.items next
 
     choices_same : (frames more : List Frame) → frames ≡ e.frames.items ++ more
-        → choices_cost e.procedures.items (frame_costs frames) e.choices.items ≡ choices_cost e.procedures.items (frame_costs e.frames.items) e.choices.items
-    choices_same frames more come = ap (λ (fs : List Frame). choices_cost e.procedures.items (frame_costs fs) e.choices.items) come ∙ choices_on_more e.procedures.items more h.choices
+        → choices_cost (frame_costs frames) e.choices.items ≡ choices_cost (frame_costs e.frames.items) e.choices.items
+    choices_same frames more come = ap (λ (fs : List Frame). choices_cost (frame_costs fs) e.choices.items) come ∙ choices_on_more more h.choices
 
     body_small : (k : ℕ) (b : Body) → IsBody (present e.store) e.nodes.items k b → k < most
     body_small k b body =
@@ -84,13 +84,13 @@ module _ {S W M : Type 0} (names : S → List (List ℕ)) (present : S → Prese
         subst (λ (n : ℕ). IsEngine names present stands older new (record s { list = Goal b n ∷ CutTo n ∷ s.list })) same engine
 
     pub once_falls : (k mark : ℕ) (b : Body) (frames : Vec Frame Global) (w : ℕ) → IsBody (present e.store) e.nodes.items k b → frames.items ≡ e.frames.items ++ record { todo = todo.CutBack; mark = mark; next = next } ∷ []
-        → choices_cost e.procedures.items (frame_costs e.frames.items) e.choices.items + place_cost e.frames.items next + 1 ≤ w
+        → choices_cost (frame_costs e.frames.items) e.choices.items + place_cost e.frames.items next + 1 ≤ w
         → weight (record e { frames = frames; now = now.Running (record { todo = todo.Body k; mark = mark; next = Some (length e.frames.items) }) }) < whole_cost (suc e.steps) w
     once_falls k mark b frames w body come less =
         let once : Frame = record { todo = todo.CutBack; mark = mark; next = next } in
         let all = choices_same frames.items (once ∷ []) come in
         let there = new_place e.frames.items frames.items once come in
-        let paid = once_paid k e.steps (choices_cost e.procedures.items (frame_costs e.frames.items) e.choices.items) (place_cost e.frames.items next) w (body_small k b body) less in
+        let paid = once_paid k e.steps (choices_cost (frame_costs e.frames.items) e.choices.items) (place_cost e.frames.items next) w (body_small k b body) less in
         rw (all, there) paid
 
     -- ---- again and again
@@ -104,12 +104,12 @@ module _ {S W M : Type 0} (names : S → List (List ℕ)) (present : S → Prese
         engine_place names present stands older (record e { store = store; choices = choices }) (pushed s.list Again s) next ahead
 
     pub repeat_falls : {old new : M → Present W → Type 0} {p : Present W} {nodes stood : ℕ} (store : S) (choices : Vec (kept.Choice W M) Global) (w : ℕ)
-        → GainsChoice old new older p nodes stood (left.Again next) e.choices.items choices.items → choices_cost e.procedures.items (frame_costs e.frames.items) e.choices.items + place_cost e.frames.items next + 1 ≤ w
+        → GainsChoice old new older p nodes stood (left.Again next) e.choices.items choices.items → choices_cost (frame_costs e.frames.items) e.choices.items + place_cost e.frames.items next + 1 ≤ w
         → weight (record e { store = store; choices = choices; now = now_behind e.frames.items next }) < whole_cost (suc e.steps) w
     repeat_falls store choices w gains less =
-        let gained = gained_cost e.procedures.items (frame_costs e.frames.items) gains in
+        let gained = gained_cost (frame_costs e.frames.items) gains in
         let there = behind_cost next h.chain in
-        let paid = repeated_paid e.steps (choices_cost e.procedures.items (frame_costs e.frames.items) e.choices.items) (place_cost e.frames.items next) w less in
+        let paid = repeated_paid e.steps (choices_cost (frame_costs e.frames.items) e.choices.items) (place_cost e.frames.items next) w less in
         rw (gained, there) paid
 
     -- ---- where a body has no solution
@@ -142,15 +142,15 @@ module _ {S W M : Type 0} (names : S → List (List ℕ)) (present : S → Prese
     pub refute_falls : {old new : M → Present W → Type 0} {p : Present W} {nodes stood : ℕ} (store : S) (choices : Vec (kept.Choice W M) Global) (k mark cut : ℕ) (b : Body) (frames more : Vec Frame Global) (w : ℕ) → IsBody (present e.store) e.nodes.items k b
         → GainsChoice old new older p nodes stood (left.AsIs next) e.choices.items choices.items → frames.items ≡ e.frames.items ++ record { todo = todo.Fail; mark = mark; next = next } ∷ []
         → more.items ≡ frames.items ++ record { todo = todo.CutBack; mark = cut; next = Some (length e.frames.items) } ∷ []
-        → choices_cost e.procedures.items (frame_costs e.frames.items) e.choices.items + place_cost e.frames.items next + 1 ≤ w
+        → choices_cost (frame_costs e.frames.items) e.choices.items + place_cost e.frames.items next + 1 ≤ w
         → weight (record e { store = store; choices = choices; frames = more; now = now.Running (record { todo = todo.Body k; mark = cut + 1; next = Some (length frames.items) }) }) < whole_cost (suc e.steps) w
     refute_falls store choices k mark cut b frames more w body gains come come_more less =
         let fail : Frame = record { todo = todo.Fail; mark = mark; next = next } in
         let once : Frame = record { todo = todo.CutBack; mark = cut; next = Some (length e.frames.items) } in
         let both = grown e.frames.items frames.items more.items (fail ∷ []) (once ∷ []) come come_more in
         let all = choices_same more.items (fail ∷ once ∷ []) both in
-        let gained = gained_cost e.procedures.items (frame_costs more.items) gains in
+        let gained = gained_cost (frame_costs more.items) gains in
         let kept_rest = old_place e.frames.items more.items (fail ∷ once ∷ []) next both (chain_place next h.chain) in
         let there = new_place frames.items more.items once come_more ∙ ap suc (new_place e.frames.items frames.items fail come) in
-        let paid = refuted_paid k e.steps (choices_cost e.procedures.items (frame_costs e.frames.items) e.choices.items) (place_cost e.frames.items next) w (body_small k b body) less in
+        let paid = refuted_paid k e.steps (choices_cost (frame_costs e.frames.items) e.choices.items) (place_cost e.frames.items next) w (body_small k b body) less in
         rw (gained, all, kept_rest, there) paid

@@ -25,9 +25,9 @@ use Rattle.iso_plain_core.specs.Standing.{IsBody, a_body, Chain, GoesOn, most_nu
 use Rattle.iso_plain.specs.Catches.{IsCatchGoal, MeetsBall, Recovers, Calling, HasMet, Unified, catcher_of, recovery_of, throwing}
 use Rattle.iso_plain.proofs.AheadLemmas.{keeps_ahead, engine_frame, engine_throws}
 use Rattle.iso_plain_core.proofs.EnteringLemmas.{adds_none}
-use Rattle.iso_plain_core.proofs.StandingLemmas.{AddsLinks, at_last, chain_more, choices_keep, choices_length, variables_more}
+use Rattle.iso_plain_core.proofs.StandingLemmas.{AddsLinks, at_last, chain_more, choices_length, variables_more}
 use Rattle.iso_plain.proofs.StoppedLemmas.{base_kept, choices_on, keeps_store}
-use Rattle.iso_plain.proofs.WorldLemmas.{world_on}
+use Rattle.iso_plain.proofs.WorldLemmas.{world_on, choices_kept}
 
 module _ {S W M : Type 0} (names : S → List (List ℕ)) (present : S → Present W) (stands : S → M → Present W → Type 0) (older : M → M → Type 0) where
   -- the engine, however far its store came
@@ -47,7 +47,7 @@ module _ {S W M : Type 0} (names : S → List (List ℕ)) (present : S → Prese
         world = world_on texts h.world;
         steps = h.steps;
         base = base_kept (stands e.store) (stands store) e.base keeps h.base;
-        choices = choices_on names present stands older e store nodes e.frames s.world (variables s.query) s.stack keeps adds (adds_none e.frames.items) h.choices;
+        choices = choices_on names present stands older e store nodes e.frames (variables s.query) s.stack keeps texts adds (adds_none e.frames.items) h.choices;
         room = h.room;
         goes = record {
           subst = substitution;
@@ -97,7 +97,7 @@ module _ {S W M : Type 0} (names : S → List (List ℕ)) (present : S → Prese
           world = world_on texts a.world;
           steps = a.steps;
           base = base_kept (stands e.store) (stands store) e.base keeps a.base;
-          choices = choices_keep (λ d p among stood. keeps d.mark p stood) a.choices;
+          choices = choices_kept texts (λ d p among stood. keeps d.mark p stood) a.choices;
           room = a.room;
           goes = subst (λ (p : Present W). GoesOn p e.query.items s) (sym same) a.goes;
           chain = subst (λ (p : Present W). Chain p (links_of e) place s.list) (sym same) a.chain;

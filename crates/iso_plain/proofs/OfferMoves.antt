@@ -1,4 +1,5 @@
 -- Goals that read or change operators and flags, and rows that their arguments are unified with.
+use Rattle.iso_plain_core.specs.Leaving.{AreLeft}
 use Rattle.std.proofs.Common.{◌≡◌, ℕ, zero, suc, ◌+◌, ◌*◌, ◌-◌, ◌<◌, ◌≤◌, ◌++◌, ◌==◌, List, [], ◌∷◌, length, map, reverse, take, slice_set, Option, Some, None, Bool, true, false, refl, ap, ap₂, sym, ◌∙◌, subst, arith, Vec, Global}
 use Rattle.std.specs.Prelude.{Result, Ok, Err, OnErr}
 use Rattle.std.specs.List.{slice_get}
@@ -33,10 +34,9 @@ use Rattle.iso_plain_core.specs.declared.parts.Now.TheVariants as now
 use Rattle.iso_plain_core.specs.Next.{now_behind}
 use Rattle.iso_plain_core.specs.Costs.{body_cost, left_cost, most, rest_cost, choice_cost, choices_cost}
 use Rattle.iso_plain_core.specs.Standing.{Chain, HasOffered, StandsForChoices, GainsChoice, GoesOn}
-use Rattle.iso_plain_core.specs.ClausePlaces.{left_at}
 use Rattle.iso_plain_core.proofs.CostLemmas.{left_step, choices_last}
 use Rattle.iso_plain_core.proofs.EnteringLemmas.{adds_none}
-use Rattle.iso_plain_core.proofs.StandingLemmas.{choices_keep, choices_push, last_split, length_last, front_is, some_same}
+use Rattle.iso_plain_core.proofs.StandingLemmas.{choices_push, last_split, length_last, front_is, some_same}
 use Rattle.iso_plain.specs.declared.plain.Plain.{Plain}
 use Rattle.iso_model.specs.Search.Engines.{IsAwake}
 use Rattle.iso_plain.specs.declared.plain.Move.TheVariants as move
@@ -50,7 +50,7 @@ use Rattle.iso_plain.proofs.ResumeLemmas.{has_members}
 use Rattle.iso_plain.proofs.SearchMoves.{goes, stops}
 use Rattle.iso_plain.proofs.SearchSteps.{offer_step}
 use Rattle.iso_plain.proofs.StoppedLemmas.{base_kept}
-use Rattle.iso_plain.proofs.WorldLemmas.{world_on}
+use Rattle.iso_plain.proofs.WorldLemmas.{world_on, choices_kept}
 
 -- ---- steps, as the search takes them
 
@@ -215,7 +215,7 @@ module _ {S W M : Type 0} (names : S → List (List ℕ)) (present : S → Prese
           world = world_on texts a.world;
           steps = a.steps;
           base = base_kept (stands e.store) (stands store) e.base keeps a.base;
-          choices = choices_keep (λ d p among stood. keeps d.mark p stood) a.choices;
+          choices = choices_kept texts (λ d p among stood. keeps d.mark p stood) a.choices;
           room = a.room;
           next = ([], refl);
         })
@@ -239,7 +239,7 @@ module _ {S W M : Type 0} (names : S → List (List ℕ)) (present : S → Prese
         let a = h.ahead in
         let many = rights_count offers.items in
         let l = Offered made arguments (rights_of offers.items) in
-        let has : HasOffered (left_at s.world.database.procedures) e.query.items (variables s.query) (present e.store) (links_of e) goal place offers.items (record { list = s.list; subst = s.subst; next = s.next; built = s.built; left = l }) =
+        let has : HasOffered (AreLeft (names e.store) e.db) e.query.items (variables s.query) (present e.store) (links_of e) goal place offers.items (record { list = s.list; subst = s.subst; next = s.next; built = s.built; left = l }) =
         record { holds = h.holds; on = record { subst_is = a.goes.subst; next_is = a.goes.next; chain = a.chain; words = a.goes.words }; made = made; is = refl; some = some } in
         subst (λ (x : State). MeetsRow names present stands older (record e { store = store; choices = choices }) goal x place) (sym (rights_some made arguments (rights_of offers.items) s.list s (omega (arith, many, some)))) (record {
           ahead = ahead_choice names present stands older e s place store choices (left.Offered goal place offers) l a has refl same keeps texts gains;
@@ -249,7 +249,7 @@ module _ {S W M : Type 0} (names : S → List (List ℕ)) (present : S → Prese
   -- ---- the first row is taken from those of the newest choice
 
   module _ (e : Plain S W M) (c : kept.Choice W M) (s : State) (a : Alternative) (below : List Alternative) (w : WentBack names present stands older e c s a below) (goal : W) (place : Option ℕ) (offers : Vec Offer Global) (is : c.left ≡ left.Offered goal place offers) where
-    pub offered_there : HasOffered (left_at s.world.database.procedures) e.query.items (variables s.query) (present e.store) (links_of e) goal place offers.items a
+    pub offered_there : HasOffered (AreLeft (names e.store) e.db) e.query.items (variables s.query) (present e.store) (links_of e) goal place offers.items a
     offered_there = has_members names present stands older e c s a below w (left.Offered goal place offers) is
 
     abbrev rows_of : Tree
@@ -320,7 +320,7 @@ module _ {S W M : Type 0} (names : S → List (List ℕ)) (present : S → Prese
           let back = went_back a below s in
           let l = Offered h.made rows_of (rights_of others.items) in
           let b : Alternative = record { list = a.list; subst = a.subst; next = a.next; built = a.built; left = l } in
-          let has : HasOffered (left_at s.world.database.procedures) e.query.items (variables s.query) (present e.store) (links_of e) goal place others.items b =
+          let has : HasOffered (AreLeft (names e.store) e.db) e.query.items (variables s.query) (present e.store) (links_of e) goal place others.items b =
           record { holds = h.holds; on = record { subst_is = h.on.subst_is; next_is = h.on.next_is; chain = h.on.chain; words = h.on.words }; made = h.made; is = refl; some = some } in
           let room = w.room.0 in
           let goes = going in
@@ -329,7 +329,7 @@ module _ {S W M : Type 0} (names : S → List (List ℕ)) (present : S → Prese
               world = w.world;
               steps = w.steps;
               base = w.base;
-              choices = subst (λ (ds : List (kept.Choice W M)). StandsForChoices (stands e.store) older e.base (left_at s.world.database.procedures) e.query.items (variables s.query) (links_of e) ds (b ∷ below)) (sym made)
+              choices = subst (λ (ds : List (kept.Choice W M)). StandsForChoices (stands e.store) older e.base (AreLeft (names e.store) e.db) e.query.items (variables s.query) (links_of e) ds (b ∷ below)) (sym made)
                   (choices_push (with_left c (left.Offered goal place others)) b w.nodes w.frames (record { present = present e.store; mark = w.mark; newer = w.newer_base; has = has }) w.newer w.stands_below);
               room = (omega (arith, room), w.room.1);
               goes = record { subst = goes.subst; next = goes.next; room = goes.room; words = goes.words };
@@ -358,8 +358,8 @@ module _ {S W M : Type 0} (names : S → List (List ℕ)) (present : S → Prese
               world = world_on texts w.world;
               steps = w.steps;
               base = record { present = b.present; stands_for = marks e.base b.present w.newer_base b.stands_for; substitution = b.substitution; next = b.next };
-              choices = subst (λ (ds : List (kept.Choice W M)). StandsForChoices (stands store) older e.base (left_at s.world.database.procedures) e.query.items (variables s.query) (links_of e) ds below) (sym made)
-                  (choices_keep (λ d p among stood. marks d.mark p (w.newer d among) stood) w.stands_below);
+              choices = subst (λ (ds : List (kept.Choice W M)). StandsForChoices (stands store) older e.base (AreLeft (names store) e.db) e.query.items (variables s.query) (links_of e) ds below) (sym made)
+                  (choices_kept texts (λ d p among stood. marks d.mark p (w.newer d among) stood) w.stands_below);
               room = w.room.1;
               goes = subst (λ (p : Present W). GoesOn p e.query.items back) (sym same) going;
               chain = subst (λ (p : Present W). Chain p (links_of e) place a.list) (sym same) h.on.chain;
@@ -380,27 +380,27 @@ module _ {S W M : Type 0} (names : S → List (List ℕ)) (present : S → Prese
       next_choices some = last_split e.choices.items (length e.choices.items - 1) c w.newest (omega (arith, some))
 
       old_cost : (costs : List ℕ) → 0 < length e.choices.items
-          → choices_cost e.procedures.items costs e.choices.items ≡ choices_cost e.procedures.items costs (take (length e.choices.items - 1) e.choices.items) + left_cost (suc (length others.items)) (rest_cost costs place)
+          → choices_cost costs e.choices.items ≡ choices_cost costs (take (length e.choices.items - 1) e.choices.items) + left_cost (suc (length others.items)) (rest_cost costs place)
       old_cost costs some =
           let many : length offers.items ≡ suc (length others.items) = (let all = ap length are in let long = length_last others.items offer in omega (arith, all, long)) in
-          ap (choices_cost e.procedures.items costs) (next_choices some)
-          ∙ (choices_last e.procedures.items costs (take (length e.choices.items - 1) e.choices.items) c
-          ∙ (ap (λ (l : Left W). choices_cost e.procedures.items costs (take (length e.choices.items - 1) e.choices.items) + choice_cost e.procedures.items costs l) is
-          ∙ ap (λ (n : ℕ). choices_cost e.procedures.items costs (take (length e.choices.items - 1) e.choices.items) + left_cost n (rest_cost costs place)) many))
+          ap (choices_cost costs) (next_choices some)
+          ∙ (choices_last costs (take (length e.choices.items - 1) e.choices.items) c
+          ∙ (ap (λ (l : Left W). choices_cost costs (take (length e.choices.items - 1) e.choices.items) + choice_cost costs l) is
+          ∙ ap (λ (n : ℕ). choices_cost costs (take (length e.choices.items - 1) e.choices.items) + left_cost n (rest_cost costs place)) many))
 
       pub some_cost : (costs : List ℕ) (choices : List (kept.Choice W M)) → 0 < length e.choices.items → choices ≡ take (length e.choices.items - 1) e.choices.items ++ with_left c (left.Offered goal place others) ∷ []
-          → choices_cost e.procedures.items costs choices + (body_cost most (rest_cost costs place) + 1) ≤ choices_cost e.procedures.items costs e.choices.items
+          → choices_cost costs choices + (body_cost most (rest_cost costs place) + 1) ≤ choices_cost costs e.choices.items
       some_cost costs choices some made =
           let old = old_cost costs some in
-          let new = ap (choices_cost e.procedures.items costs) made ∙ choices_last e.procedures.items costs (take (length e.choices.items - 1) e.choices.items) (with_left c (left.Offered goal place others)) in
+          let new = ap (choices_cost costs) made ∙ choices_last costs (take (length e.choices.items - 1) e.choices.items) (with_left c (left.Offered goal place others)) in
           let one = left_step (length others.items) (rest_cost costs place) in
           omega (arith, old, new, one)
 
       pub last_cost : (costs : List ℕ) (choices : List (kept.Choice W M)) → 0 < length e.choices.items → choices ≡ take (length e.choices.items - 1) e.choices.items
-          → choices_cost e.procedures.items costs choices + (body_cost most (rest_cost costs place) + 1) ≤ choices_cost e.procedures.items costs e.choices.items
+          → choices_cost costs choices + (body_cost most (rest_cost costs place) + 1) ≤ choices_cost costs e.choices.items
       last_cost costs choices some made =
           let old = old_cost costs some in
-          let new = ap (choices_cost e.procedures.items costs) made in
+          let new = ap (choices_cost costs) made in
           let one = left_step (length others.items) (rest_cost costs place) in
           omega (arith, old, new, one)
 
@@ -436,7 +436,7 @@ module _ {S W M : Type 0} (names : S → List (List ℕ)) (present : S → Prese
         let a = h.ahead in
         let y : State = record s { world = with_settings s.world ops flags } in
         let ahead : IsAhead names present stands older (record e { ops = ops; flags = flags }) y place = record {
-          world = record { procedures_are = a.world.procedures_are; found = a.world.found; vocabulary_is = a.world.vocabulary_is; operators_are = refl; flags_are = refl };
+          world = record { database_is = a.world.database_is; found = a.world.found; vocabulary_is = a.world.vocabulary_is; operators_are = refl; flags_are = refl };
           steps = a.steps;
           base = a.base;
           choices = a.choices;

@@ -1,4 +1,5 @@
 -- A thrown ball goes back to the catch that it goes to.
+use Rattle.iso_plain_core.specs.Leaving.{AreLeft}
 use Rattle.std.proofs.Common.{◌≡◌, ℕ, suc, ◌+◌, ◌*◌, ◌-◌, ◌≤◌, List, ◌∷◌, length, take, drop, Option, Some, None, true, refl, ap, sym, ◌∙◌, subst, arith, Vec, Global}
 use Rattle.std.specs.Prelude.{option_map}
 use Rattle.std.specs.List.{slice_get}
@@ -17,11 +18,10 @@ use Rattle.iso_plain_core.specs.declared.parts.Now.TheVariants as now
 use Rattle.iso_plain.specs.declared.plain.Plain.{Plain}
 use Rattle.iso_plain_core.specs.Standing.{Chain, HasCatch, HasLeft, StandsForChoices, GoesOn, DoesNext, entered_at, most_numbers, numbers_a_step}
 use Rattle.iso_plain.specs.EngineStates.{IsEngine, IsAhead, WentBack, went_back, links_of}
-use Rattle.iso_plain_core.specs.ClausePlaces.{left_at}
 use Rattle.iso_plain.specs.Catches.{GoesTo, IsCatchGoal, IsCaught, catcher_of, recovery_of}
 use Rattle.iso_plain.proofs.AheadLemmas.{room_dropped}
-use Rattle.iso_plain_core.proofs.StandingLemmas.{lower, choices_keep, choices_length}
-use Rattle.iso_plain.proofs.WorldLemmas.{world_on}
+use Rattle.iso_plain_core.proofs.StandingLemmas.{lower, choices_length}
+use Rattle.iso_plain.proofs.WorldLemmas.{world_on, choices_kept}
 
 module _ {S W M : Type 0} (names : S → List (List ℕ)) (present : S → Present W) (stands : S → M → Present W → Type 0) (older : M → M → Type 0) where
   -- what an engine that fails does next has nothing to do with its store and its choices
@@ -38,8 +38,8 @@ module _ {S W M : Type 0} (names : S → List (List ℕ)) (present : S → Prese
   cut_failing e s height store choices c is doing there taken marks texts =
       let b = is.base in
       let l = lower height c there is.choices in
-      let stood : StandsForChoices (stands store) older e.base (left_at s.world.database.procedures) e.query.items (variables s.query) (links_of e) (take height e.choices.items) (shortened height s.stack) =
-      choices_keep (λ d p among standing. marks d.mark p (l.newer d among) standing) l.stand in
+      let stood : StandsForChoices (stands store) older e.base (AreLeft (names store) e.db) e.query.items (variables s.query) (links_of e) (take height e.choices.items) (shortened height s.stack) =
+      choices_kept texts (λ d p among standing. marks d.mark p (l.newer d among) standing) l.stand in
       record {
         world = world_on texts is.world;
         steps = is.steps;
@@ -66,8 +66,8 @@ module _ {S W M : Type 0} (names : S → List (List ℕ)) (present : S → Prese
   module _ (e : Plain S W M) (c : kept.Choice W M) (s : State) (a : Alternative) (below : List Alternative) (w : WentBack names present stands older e c s a below) (catcher recovery : Tree) (catches : a.left ≡ Catching catcher recovery) where
     -- the choice is the entry of a catch
     pub entry_is : (l : Left W) → c.left ≡ l → (goal : W) × (place : Option ℕ) × (l ≡ left.Catching goal place)
-    entry_is l is = by_left l (subst (λ (x : Left W). HasLeft (left_at s.world.database.procedures) e.query.items (variables s.query) (present e.store) (links_of e) x a) is w.has) where
-      by_left : (l : Left W) → HasLeft (left_at s.world.database.procedures) e.query.items (variables s.query) (present e.store) (links_of e) l a → (goal : W) × (place : Option ℕ) × (l ≡ left.Catching goal place)
+    entry_is l is = by_left l (subst (λ (x : Left W). HasLeft (AreLeft (names e.store) e.db) e.query.items (variables s.query) (present e.store) (links_of e) x a) is w.has) where
+      by_left : (l : Left W) → HasLeft (AreLeft (names e.store) e.db) e.query.items (variables s.query) (present e.store) (links_of e) l a → (goal : W) × (place : Option ℕ) × (l ≡ left.Catching goal place)
       by_left (left.Catching goal place) has = (goal, place, refl)
       by_left (left.AsIs place) has = absurd (let other = sym has.is ∙ catches in cc)
       by_left (left.Again place) has = absurd (let other = sym has.is ∙ catches in cc)
@@ -80,8 +80,8 @@ module _ {S W M : Type 0} (names : S → List (List ℕ)) (present : S → Prese
         → ((m : M) (p : Present W) → older m c.mark → stands e.store m p → stands store m p) → KeepsTexts (names e.store) (names store) → choices.items ≡ take (length e.choices.items - 1) e.choices.items
         → IsCaught names present stands older (record e { store = store; choices = choices }) goal (term_of ball.term) catcher recovery (went_back a below s) place
     caught_there goal place store choices ball is raised fits same marks texts made =
-        let h : HasCatch (left_at s.world.database.procedures) e.query.items (variables s.query) (present e.store) (links_of e) goal place a =
-        subst (λ (x : Left W). HasLeft (left_at s.world.database.procedures) e.query.items (variables s.query) (present e.store) (links_of e) x a) is w.has in
+        let h : HasCatch (AreLeft (names e.store) e.db) e.query.items (variables s.query) (present e.store) (links_of e) goal place a =
+        subst (λ (x : Left W). HasLeft (AreLeft (names e.store) e.db) e.query.items (variables s.query) (present e.store) (links_of e) x a) is w.has in
         let b = w.base in
         let room = w.room.0 in
         let both = sym catches ∙ h.is in
@@ -90,8 +90,8 @@ module _ {S W M : Type 0} (names : S → List (List ℕ)) (present : S → Prese
           world = world_on texts w.world;
           steps = w.steps;
           base = record { present = b.present; stands_for = marks e.base b.present w.newer_base b.stands_for; substitution = b.substitution; next = b.next };
-          choices = subst (λ (ds : List (kept.Choice W M)). StandsForChoices (stands store) older e.base (left_at s.world.database.procedures) e.query.items (variables s.query) (links_of e) ds below) (sym made)
-              (choices_keep (λ d p among stood. marks d.mark p (w.newer d among) stood) w.stands_below);
+          choices = subst (λ (ds : List (kept.Choice W M)). StandsForChoices (stands store) older e.base (AreLeft (names store) e.db) e.query.items (variables s.query) (links_of e) ds below) (sym made)
+              (choices_kept texts (λ d p among stood. marks d.mark p (w.newer d among) stood) w.stands_below);
           room = w.room.1;
           goes = subst (λ (p : Present W). GoesOn p e.query.items (went_back a below s)) (sym same)
               (record { subst = h.on.subst_is; next = h.on.next_is; room = (let all = w.steps in omega (arith, one, all)); words = h.on.words });

@@ -1,4 +1,5 @@
 -- Members that the newest choice kept are gone on with: the choice goes, or stays.
+use Rattle.iso_plain_core.specs.Leaving.{AreLeft}
 use Rattle.std.proofs.Common.{◌≡◌, ℕ, suc, ◌+◌, ◌-◌, ◌<◌, ◌≤◌, ◌++◌, List, [], ◌∷◌, length, take, get_or, Option, Some, refl, ap, sym, ◌∙◌, subst, arith, Vec, Global}
 use Rattle.std.specs.List.{slice_get}
 use Rattle.iso_atoms.specs.Texts.{KeepsTexts}
@@ -15,12 +16,11 @@ use Rattle.iso_plain_core.specs.Costs.{frame_costs, rest_cost, choice_cost, choi
 use Rattle.iso_plain_core.specs.Next.{now_behind}
 use Rattle.iso_plain_core.specs.Standing.{Chain, HasMembers, HasLeft, StandsForChoices, HaveRoom, GoesOn}
 use Rattle.iso_plain.specs.EngineStates.{IsEngine, IsAhead, WentBack, went_back, links_of, cost}
-use Rattle.iso_plain_core.specs.ClausePlaces.{left_at}
 use Rattle.iso_plain.proofs.AheadLemmas.{engine_place}
 use Rattle.iso_plain_core.proofs.CostLemmas.{choices_last, behind_cost, left_step}
 use Rattle.iso_plain.proofs.RunLemmas.{room_less}
-use Rattle.iso_plain_core.proofs.StandingLemmas.{choices_push, choices_keep, item_is, last_split, last_is, length_last, front_is, some_same}
-use Rattle.iso_plain.proofs.WorldLemmas.{world_on}
+use Rattle.iso_plain_core.proofs.StandingLemmas.{choices_push, item_is, last_split, last_is, length_last, front_is, some_same}
+use Rattle.iso_plain.proofs.WorldLemmas.{world_on, choices_kept}
 
 -- marks that are older than this one stand on
 pub marks_of : {W M : Type 0} (older : M → M → Type 0) {old new : M → Present W → Type 0} (mark other : M) → other ≡ mark → ((m : M) (p : Present W) → older m mark → old m p → new m p) → (m : M) (p : Present W) → older m other → old m p → new m p
@@ -47,13 +47,13 @@ module _ {S W M : Type 0} (names : S → List (List ℕ)) (present : S → Prese
         (some_same (sym here ∙ there), sym front)
 
     -- the members that are left
-    pub has_members : (l : Left W) → c.left ≡ l → HasLeft (left_at s.world.database.procedures) e.query.items (variables s.query) (present e.store) (links_of e) l a
-    has_members l is = subst (λ (x : Left W). HasLeft (left_at s.world.database.procedures) e.query.items (variables s.query) (present e.store) (links_of e) x a) is w.has
+    pub has_members : (l : Left W) → c.left ≡ l → HasLeft (AreLeft (names e.store) e.db) e.query.items (variables s.query) (present e.store) (links_of e) l a
+    has_members l is = subst (λ (x : Left W). HasLeft (AreLeft (names e.store) e.db) e.query.items (variables s.query) (present e.store) (links_of e) x a) is w.has
 
     pub choices_are : 0 < length e.choices.items → e.choices.items ≡ take (length e.choices.items - 1) e.choices.items ++ c ∷ []
     choices_are some = last_split e.choices.items (length e.choices.items - 1) c w.newest (omega (arith, some))
 
-    goes : (l : walker.Left) (place : Option ℕ) (steps : ℕ) → steps ≤ e.steps → HasMembers (left_at s.world.database.procedures) e.query.items (variables s.query) (present e.store) (links_of e) place l a
+    goes : (l : walker.Left) (place : Option ℕ) (steps : ℕ) → steps ≤ e.steps → HasMembers (AreLeft (names e.store) e.db) e.query.items (variables s.query) (present e.store) (links_of e) place l a
         → GoesOn (present e.store) e.query.items (record (went_back a below s) { steps = steps })
     goes l place steps fewer h = record {
       subst = h.on.subst_is;
@@ -67,15 +67,15 @@ module _ {S W M : Type 0} (names : S → List (List ℕ)) (present : S → Prese
         → choices.items ≡ take (length e.choices.items - 1) e.choices.items
         → (a.left ≡ AsIs) × IsEngine names present stands older (record e { store = store; choices = choices; now = now_behind e.frames.items place }) (went_back a below s)
     resumed place store choices tries same marks texts made =
-        let h : HasMembers (left_at s.world.database.procedures) e.query.items (variables s.query) (present e.store) (links_of e) place AsIs a = has_members (left.AsIs place) tries in
+        let h : HasMembers (AreLeft (names e.store) e.db) e.query.items (variables s.query) (present e.store) (links_of e) place AsIs a = has_members (left.AsIs place) tries in
         let b = w.base in
         let on = goes AsIs place s.steps (let all = w.steps in omega (arith, all)) h in
         let ahead : IsAhead names present stands older (record e { store = store; choices = choices }) (went_back a below s) place = record {
           world = world_on texts w.world;
           steps = w.steps;
           base = record { present = b.present; stands_for = marks e.base b.present w.newer_base b.stands_for; substitution = b.substitution; next = b.next };
-          choices = subst (λ (ds : List (kept.Choice W M)). StandsForChoices (stands store) older e.base (left_at s.world.database.procedures) e.query.items (variables s.query) (links_of e) ds below) (sym made)
-              (choices_keep (λ d p among stood. marks d.mark p (w.newer d among) stood) w.stands_below);
+          choices = subst (λ (ds : List (kept.Choice W M)). StandsForChoices (stands store) older e.base (AreLeft (names store) e.db) e.query.items (variables s.query) (links_of e) ds below) (sym made)
+              (choices_kept texts (λ d p among stood. marks d.mark p (w.newer d among) stood) w.stands_below);
           room = w.room.1;
           goes = subst (λ (p : Present W). GoesOn p e.query.items (went_back a below s)) (sym same) on;
           chain = subst (λ (p : Present W). Chain p (links_of e) place a.list) (sym same) h.on.chain;
@@ -83,14 +83,14 @@ module _ {S W M : Type 0} (names : S → List (List ℕ)) (present : S → Prese
         (h.is, engine_place names present stands older (record e { store = store; choices = choices }) (went_back a below s) place ahead)
 
     pub resumed_cost : (place : Option ℕ) (store : S) (choices : Vec (kept.Choice W M) Global) → 0 < length e.choices.items → c.left ≡ left.AsIs place → choices.items ≡ take (length e.choices.items - 1) e.choices.items
-        → cost (record e { store = store; choices = choices; now = now_behind e.frames.items place }) < choices_cost e.procedures.items (frame_costs e.frames.items) e.choices.items
+        → cost (record e { store = store; choices = choices; now = now_behind e.frames.items place }) < choices_cost (frame_costs e.frames.items) e.choices.items
     resumed_cost place store choices some tries made =
-        let h : HasMembers (left_at s.world.database.procedures) e.query.items (variables s.query) (present e.store) (links_of e) place AsIs a = has_members (left.AsIs place) tries in
+        let h : HasMembers (AreLeft (names e.store) e.db) e.query.items (variables s.query) (present e.store) (links_of e) place AsIs a = has_members (left.AsIs place) tries in
         let costs = frame_costs e.frames.items in
         let before = take (length e.choices.items - 1) e.choices.items in
-        let old = ap (choices_cost e.procedures.items costs) (choices_are some) ∙ choices_last e.procedures.items costs before c in
-        let here = ap (choice_cost e.procedures.items costs) tries in
-        let new = ap (choices_cost e.procedures.items costs) made in
+        let old = ap (choices_cost costs) (choices_are some) ∙ choices_last costs before c in
+        let here = ap (choice_cost costs) tries in
+        let new = ap (choices_cost costs) made in
         let next = behind_cost place h.on.chain in
         omega (arith, old, here, new, next)
 
@@ -103,43 +103,43 @@ module _ {S W M : Type 0} (names : S → List (List ℕ)) (present : S → Prese
           world = world_on texts w.world;
           steps = w.steps;
           base = record { present = b.present; stands_for = marks e.base b.present w.newer_base b.stands_for; substitution = b.substitution; next = b.next };
-          choices = subst (λ (ds : List (kept.Choice W M)). StandsForChoices (stands store) older e.base (left_at s.world.database.procedures) e.query.items (variables s.query) (links_of e) ds below) (sym made)
-              (choices_keep (λ d p among stood. marks d.mark p (w.newer d among) stood) w.stands_below);
+          choices = subst (λ (ds : List (kept.Choice W M)). StandsForChoices (stands store) older e.base (AreLeft (names store) e.db) e.query.items (variables s.query) (links_of e) ds below) (sym made)
+              (choices_kept texts (λ d p among stood. marks d.mark p (w.newer d among) stood) w.stands_below);
           room = w.room.1;
           next = ([], refl);
         }
 
     pub passed_cost : (goal : W) (place : Option ℕ) (store : S) (choices : Vec (kept.Choice W M) Global) → 0 < length e.choices.items → c.left ≡ left.Catching goal place → choices.items ≡ take (length e.choices.items - 1) e.choices.items
-        → cost (record e { store = store; choices = choices; now = now.Failing }) < choices_cost e.procedures.items (frame_costs e.frames.items) e.choices.items
+        → cost (record e { store = store; choices = choices; now = now.Failing }) < choices_cost (frame_costs e.frames.items) e.choices.items
     passed_cost goal place store choices some catches made =
         let costs = frame_costs e.frames.items in
         let before = take (length e.choices.items - 1) e.choices.items in
-        let old = ap (choices_cost e.procedures.items costs) (choices_are some) ∙ choices_last e.procedures.items costs before c in
-        let here = ap (choice_cost e.procedures.items costs) catches in
+        let old = ap (choices_cost costs) (choices_are some) ∙ choices_last costs before c in
+        let here = ap (choice_cost costs) catches in
         let step = left_step 0 (rest_cost costs place) in
-        let new = ap (choices_cost e.procedures.items costs) made in
+        let new = ap (choices_cost costs) made in
         omega (arith, old, here, step, new)
 
     -- the choice stays, and a step was taken
     pub repeated : (place : Option ℕ) (n : ℕ) → 0 < length e.choices.items → c.left ≡ left.Again place → n + 1 ≡ e.steps
         → (a.left ≡ Again) × IsEngine names present stands older (record e { steps = n; now = now_behind e.frames.items place }) (record (pushed a.list Again (went_back a below s)) { steps = n })
     repeated place n some tries more =
-        let h : HasMembers (left_at s.world.database.procedures) e.query.items (variables s.query) (present e.store) (links_of e) place Again a = has_members (left.Again place) tries in
+        let h : HasMembers (AreLeft (names e.store) e.db) e.query.items (variables s.query) (present e.store) (links_of e) place Again a = has_members (left.Again place) tries in
         let again : Alternative = record { list = a.list; subst = a.subst; next = a.next; built = a.built; left = Again } in
         let all : e.steps ≡ suc n = omega (arith, more) in
         let on = goes Again place n (omega (arith, more)) h in
-        let members : HasMembers (left_at s.world.database.procedures) e.query.items (variables s.query) (present e.store) (links_of e) place Again again =
+        let members : HasMembers (AreLeft (names e.store) e.db) e.query.items (variables s.query) (present e.store) (links_of e) place Again again =
         record { on = record { subst_is = h.on.subst_is; next_is = h.on.next_is; chain = h.on.chain; words = h.on.words }; is = refl } in
-        let has : HasLeft (left_at s.world.database.procedures) e.query.items (variables s.query) (present e.store) (links_of e) c.left again =
-        subst (λ (l : Left W). HasLeft (left_at s.world.database.procedures) e.query.items (variables s.query) (present e.store) (links_of e) l again) (sym tries) members in
-        let stood : StandsForChoices (stands e.store) older e.base (left_at s.world.database.procedures) e.query.items (variables s.query) (links_of e) (take (length e.choices.items - 1) e.choices.items ++ c ∷ []) (again ∷ below) =
+        let has : HasLeft (AreLeft (names e.store) e.db) e.query.items (variables s.query) (present e.store) (links_of e) c.left again =
+        subst (λ (l : Left W). HasLeft (AreLeft (names e.store) e.db) e.query.items (variables s.query) (present e.store) (links_of e) l again) (sym tries) members in
+        let stood : StandsForChoices (stands e.store) older e.base (AreLeft (names e.store) e.db) e.query.items (variables s.query) (links_of e) (take (length e.choices.items - 1) e.choices.items ++ c ∷ []) (again ∷ below) =
         choices_push c again w.nodes w.frames (record { present = present e.store; mark = w.mark; newer = w.newer_base; has = has }) w.newer w.stands_below in
         let room = w.room.0 in
         let ahead : IsAhead names present stands older (record e { steps = n }) (record (pushed a.list Again (went_back a below s)) { steps = n }) place = record {
           world = w.world;
           steps = refl;
           base = w.base;
-          choices = subst (λ (ds : List (kept.Choice W M)). StandsForChoices (stands e.store) older e.base (left_at s.world.database.procedures) e.query.items (variables s.query) (links_of e) ds (again ∷ below)) (sym (choices_are some)) stood;
+          choices = subst (λ (ds : List (kept.Choice W M)). StandsForChoices (stands e.store) older e.base (AreLeft (names e.store) e.db) e.query.items (variables s.query) (links_of e) ds (again ∷ below)) (sym (choices_are some)) stood;
           room = (omega (arith, room, all), room_less n below (subst (λ (k : ℕ). HaveRoom k below) all w.room.1));
           goes = record { subst = on.subst; next = on.next; room = on.room; words = on.words };
           chain = h.on.chain;
@@ -147,12 +147,12 @@ module _ {S W M : Type 0} (names : S → List (List ℕ)) (present : S → Prese
         (h.is, engine_place names present stands older (record e { steps = n }) (record (pushed a.list Again (went_back a below s)) { steps = n }) place ahead)
 
     pub repeated_cost : (place : Option ℕ) (n : ℕ) → 0 < length e.choices.items → c.left ≡ left.Again place
-        → cost (record e { steps = n; now = now_behind e.frames.items place }) ≤ choices_cost e.procedures.items (frame_costs e.frames.items) e.choices.items + choices_cost e.procedures.items (frame_costs e.frames.items) e.choices.items
+        → cost (record e { steps = n; now = now_behind e.frames.items place }) ≤ choices_cost (frame_costs e.frames.items) e.choices.items + choices_cost (frame_costs e.frames.items) e.choices.items
     repeated_cost place n some tries =
-        let h : HasMembers (left_at s.world.database.procedures) e.query.items (variables s.query) (present e.store) (links_of e) place Again a = has_members (left.Again place) tries in
+        let h : HasMembers (AreLeft (names e.store) e.db) e.query.items (variables s.query) (present e.store) (links_of e) place Again a = has_members (left.Again place) tries in
         let costs = frame_costs e.frames.items in
         let before = take (length e.choices.items - 1) e.choices.items in
-        let old = ap (choices_cost e.procedures.items costs) (choices_are some) ∙ choices_last e.procedures.items costs before c in
-        let here = ap (choice_cost e.procedures.items costs) tries in
+        let old = ap (choices_cost costs) (choices_are some) ∙ choices_last costs before c in
+        let here = ap (choice_cost costs) tries in
         let next = behind_cost place h.on.chain in
         omega (arith, old, here, next)

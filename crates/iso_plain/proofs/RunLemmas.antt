@@ -1,4 +1,6 @@
 -- The engine is at a goal.
+use Rattle.iso_db.specs.declared.views.View.{View}
+use Rattle.iso_plain_core.specs.Leaving.{AreLeft}
 use Rattle.std.proofs.Common.{◌≡◌, ◌≢◌, ◌-◌, ◌+◌, ◌≤◌, ℕ, zero, suc, List, [], ◌∷◌, Option, true, refl, ap, sym, ◌∙◌, subst, arith, Vec, Global}
 use Rattle.iso_atoms.specs.Texts.{KeepsTexts}
 use Rattle.iso_model.specs.Terms.Trees.{Tree}
@@ -16,7 +18,6 @@ use Rattle.iso_plain.specs.declared.plain.Plain.{Plain}
 use Rattle.iso_plain_core.specs.Entering.{Adds}
 use Rattle.iso_plain_core.specs.Standing.{IsAt, HaveRoom, numbers_a_step}
 use Rattle.iso_plain.specs.EngineStates.{IsEngine, IsAhead, Calls, links_of}
-use Rattle.iso_plain_core.specs.ClausePlaces.{left_at}
 use Rattle.iso_plain.proofs.AheadLemmas.{at_body}
 use Rattle.iso_plain_core.proofs.EnteringLemmas.{adds_none}
 use Rattle.iso_plain_core.proofs.PlaceLemmas.{goal_at}
@@ -57,10 +58,10 @@ module _ {S W M : Type 0} (names : S → List (List ℕ)) (present : S → Prese
       }
 
   -- the goal is called, which takes a step; its procedure has these clauses
-  pub calls_engine : (e : Plain S W M) (s : State) (f : Frame) (w : W) (procedure n : ℕ) (c : databases.Clause) (cs : List databases.Clause) (a : AtRun e s f w)
-      → e.steps ≡ suc n → left_at s.world.database.procedures procedure 0 ≡ c ∷ cs
-      → Calls names present stands older (record e { steps = n }) (record { procedure = procedure; clause = 0; goal = w; rest = f.next }) (record s { steps = n }) (meaning (present e.store) w) c cs a.behind
-  calls_engine e s f w procedure n c cs a many clauses =
+  pub calls_engine : (e : Plain S W M) (s : State) (f : Frame) (w : W) (clause : ℕ) (later : View) (n : ℕ) (c : databases.Clause) (cs : List databases.Clause) (a : AtRun e s f w)
+      → e.steps ≡ suc n → AreLeft (names e.store) e.db clause later (c ∷ cs)
+      → Calls names present stands older (record e { steps = n }) (record { clause = clause; later = later; goal = w; rest = f.next }) (record s { steps = n }) (meaning (present e.store) w) c cs a.behind
+  calls_engine e s f w clause later n c cs a many clauses =
       let h = a.ahead in
       record {
         world = h.world;
@@ -84,7 +85,7 @@ module _ {S W M : Type 0} (names : S → List (List ℕ)) (present : S → Prese
         world = world_on texts h.world;
         steps = refl;
         base = base_kept (stands e.store) (stands store) e.base keeps h.base;
-        choices = choices_on names present stands older e store nodes e.frames s.world (variables s.query) s.stack keeps adds (adds_none e.frames.items) h.choices;
+        choices = choices_on names present stands older e store nodes e.frames (variables s.query) s.stack keeps texts adds (adds_none e.frames.items) h.choices;
         room = room_less n s.stack (subst (λ (k : ℕ). HaveRoom k s.stack) many h.room);
         goes = record {
           subst = substitution;

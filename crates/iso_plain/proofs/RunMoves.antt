@@ -1,5 +1,5 @@
 -- What running a goal comes to.
-use Rattle.std.proofs.Common.{◌≡◌, ◌≢◌, ◌<◌, ◌≤◌, ◌-◌, ℕ, suc, List, [], ◌∷◌, Option, None, Some, length, refl, ap, sym, ◌∙◌, subst, arith, inl, inr, Result, Ok, Err, IfOk, Vec, Global}
+use Rattle.std.proofs.Common.{◌≡◌, ◌≢◌, ◌<◌, ◌≤◌, ◌-◌, ℕ, suc, List, [], ◌∷◌, Option, None, Some, length, refl, ap, sym, ◌∙◌, subst, arith, inl, inr, ◌⊎◌, Result, Ok, Err, IfOk, Vec, Global}
 use Rattle.iso_ops.specs.declared.settings.Unknown.TheVariants as on_unknown
 use Rattle.iso_atoms.specs.Texts.{KeepsTexts}
 use Rattle.iso_model.specs.Terms.Trees.{Tree}
@@ -21,7 +21,7 @@ use Rattle.iso_plain.specs.declared.plain.Move.{Move}
 use Rattle.iso_plain.specs.declared.plain.Move.TheVariants as move
 use Rattle.iso_plain.specs.declared.plain.Plain.{Plain}
 use Rattle.iso_plain_core.specs.GoalKinds.{IsUser}
-use Rattle.iso_plain.specs.Called.{FailsAt}
+use Rattle.iso_plain.specs.Called.{FailsAt, IsUnknown}
 use Rattle.iso_plain.specs.Catches.{throwing}
 use Rattle.iso_plain_core.specs.Entering.{Adds}
 use Rattle.iso_plain.specs.Worlds.{IsWorld}
@@ -78,7 +78,7 @@ module _ {S W M : Type 0} (names : S → List (List ℕ)) (present : S → Prese
     world = world_on texts is.world;
     steps = refl;
     base = base_kept (stands e.store) (stands store) e.base keeps is.base;
-    choices = choices_on names present stands older e store nodes e.frames s.world (variables s.query) s.stack keeps adds (adds_none e.frames.items) is.choices;
+    choices = choices_on names present stands older e store nodes e.frames (variables s.query) s.stack keeps texts adds (adds_none e.frames.items) is.choices;
     room = room_less n s.stack (subst (λ (k : ℕ). HaveRoom k s.stack) many is.room);
     next = ([], refl);
   }
@@ -128,7 +128,10 @@ module _ {S W M : Type 0} (names : S → List (List ℕ)) (present : S → Prese
     -- one that fails
     goes_nowhere : FailsAt own.world call → run_value call at.behind own ≡ Goes (fails own)
     goes_nowhere (inl unnamed) = ap (λ (x : Option Key). run_goal x call at.behind own) unnamed
-    goes_nowhere (inr is) = unknown_goal call at.behind own is.0 on_unknown.Fail is.1 is.2 is.3
+    goes_nowhere (inr is) = by_case is.2 where
+      by_case : (clauses_at own.world.database.procedures is.0 ≡ Some []) ⊎ IsUnknown own.world is.0 on_unknown.Fail → run_value call at.behind own ≡ Goes (fails own)
+      by_case (inl none) = procedure_goal call at.behind own is.0 [] is.1 none
+      by_case (inr unknown) = unknown_goal call at.behind own is.0 on_unknown.Fail is.1 unknown.0 unknown.1
 
     pub fails_unknown : e.steps ≢ 0 → FailsAt own.world call → Moves names present stands older move.Goes s (record e { steps = e.steps - 1; now = now.Failing })
     fails_unknown more is =

@@ -1,4 +1,5 @@
 -- How a goal is started, and how a clause comes to an engine that was cleared.
+use Rattle.iso_plain_core.specs.Leaving.{Leaving}
 use Rattle.std.proofs.Common.{◌≡◌, ◌<◌, ◌≤◌, ◌+◌, ◌==◌, ℕ, zero, suc, List, [], ◌∷◌, true, Option, Some, None, codes, refl, ap, ap₂, sym, ◌∙◌, subst, arith, zero-add, inl, inr}
 use Rattle.std.proofs.lemmas.Bool.{cases_Bool, eqb-true, eqb-false}
 use Rattle.iso_model.specs.Terms.Trees.{Tree, Variable, Integer, Name, Apply, End, More}
@@ -43,8 +44,8 @@ use Rattle.iso_plain_core.proofs.ClauseLemmas.{body_templates}
 use Rattle.iso_plain.proofs.StoppedLemmas.{base_kept}
 
 -- where no choice is stood for, there is none
-pub no_choice_left : {W M : Type 0} {stands : M → Present W → Type 0} {older : M → M → Type 0} {base : M} {left_at : ℕ → ℕ → List Clause} {query : List W} {named : List ℕ}
-    {links : Links W} {cs : List (kept.Choice W M)} {ks : List Alternative} → ks ≡ [] → StandsForChoices stands older base left_at query named links cs ks → cs ≡ []
+pub no_choice_left : {W M : Type 0} {stands : M → Present W → Type 0} {older : M → M → Type 0} {base : M} {leaves : Leaving} {query : List W} {named : List ℕ}
+    {links : Links W} {cs : List (kept.Choice W M)} {ks : List Alternative} → ks ≡ [] → StandsForChoices stands older base leaves query named links cs ks → cs ≡ []
 no_choice_left e none_kept = refl
 no_choice_left e (one_kept is on here newer below) = absurd (cc)
 

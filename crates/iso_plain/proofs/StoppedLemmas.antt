@@ -1,4 +1,5 @@
 -- What is left of an engine that stops.
+use Rattle.iso_plain_core.specs.Leaving.{AreLeft}
 use Rattle.std.proofs.Common.{◌≡◌, ℕ, List, [], refl, inr, Vec, Global}
 use Rattle.iso_atoms.specs.Texts.{KeepsTexts}
 use Rattle.iso_model.specs.Terms.Variables.{variables}
@@ -13,9 +14,8 @@ use Rattle.iso_plain_core.specs.Entering.{Adds}
 use Rattle.iso_plain_core.specs.Standing.{StandsForChoices, none_kept}
 use Rattle.iso_plain.specs.Starts.{IsFresh}
 use Rattle.iso_plain.specs.EngineStates.{IsBase, IsEngine, Keeps, Stopped, links_of}
-use Rattle.iso_plain_core.specs.ClausePlaces.{left_at}
-use Rattle.iso_plain_core.proofs.StandingLemmas.{choices_more, choices_keep}
-use Rattle.iso_plain.proofs.WorldLemmas.{world_on}
+use Rattle.iso_plain_core.proofs.StandingLemmas.{choices_more}
+use Rattle.iso_plain.proofs.WorldLemmas.{world_on, choices_kept}
 
 -- the mark for the empty store behind calls that keep marks
 pub base_kept : {W M : Type 0} (old new : M → Present W → Type 0) (base : M) → KeepsMarks old new → IsBase old base → IsBase new base
@@ -31,23 +31,23 @@ module _ {S W M : Type 0} (names : S → List (List ℕ)) (present : S → Prese
   keeps_none e w fresh = (fresh.world, fresh.base, ([], rw fresh.choices none_kept))
 
   -- the choices, where marks stand on and nodes and frames come
-  pub choices_on : (e : Plain S W M) (store : S) (nodes : Vec (Node W) Global) (frames : Vec Frame Global) (w : World) (named : List ℕ) (ks : List Alternative) → KeepsMarks (stands e.store) (stands store)
-      → Adds e.nodes.items nodes.items → Adds e.frames.items frames.items
-      → StandsForChoices (stands e.store) older e.base (left_at w.database.procedures) e.query.items named (links_of e) e.choices.items ks
-      → StandsForChoices (stands store) older e.base (left_at w.database.procedures) e.query.items named (record { nodes = nodes.items; frames = frames.items }) e.choices.items ks
-  choices_on e store nodes frames w named ks keeps nodes_add frames_add are =
-      choices_more (record { nodes = nodes.items; frames = frames.items }) (record { nodes = nodes_add; frames = frames_add }) (choices_keep (λ d p among stood. keeps d.mark p stood) are)
+  pub choices_on : (e : Plain S W M) (store : S) (nodes : Vec (Node W) Global) (frames : Vec Frame Global) (named : List ℕ) (ks : List Alternative) → KeepsMarks (stands e.store) (stands store)
+      → KeepsTexts (names e.store) (names store) → Adds e.nodes.items nodes.items → Adds e.frames.items frames.items
+      → StandsForChoices (stands e.store) older e.base (AreLeft (names e.store) e.db) e.query.items named (links_of e) e.choices.items ks
+      → StandsForChoices (stands store) older e.base (AreLeft (names store) e.db) e.query.items named (record { nodes = nodes.items; frames = frames.items }) e.choices.items ks
+  choices_on e store nodes frames named ks keeps texts nodes_add frames_add are =
+      choices_more (record { nodes = nodes.items; frames = frames.items }) (record { nodes = nodes_add; frames = frames_add }) (choices_kept texts (λ d p among stood. keeps d.mark p stood) are)
 
   -- a store that keeps its marks, and nodes and frames that come
   pub keeps_more : (e : Plain S W M) (store : S) (nodes : Vec (Node W) Global) (frames : Vec Frame Global) (w : World) (ks : List Alternative) → Keeps names present stands older e w ks → KeepsMarks (stands e.store) (stands store) → KeepsTexts (names e.store) (names store)
       → Adds e.nodes.items nodes.items → Adds e.frames.items frames.items → Keeps names present stands older (record e { store = store; nodes = nodes; frames = frames }) w ks
   keeps_more e store nodes frames w ks k keeps texts nodes_add frames_add =
-      (world_on texts k.0, base_kept (stands e.store) (stands store) e.base keeps k.1, (k.2.0, choices_on e store nodes frames w k.2.0 ks keeps nodes_add frames_add k.2.1))
+      (world_on texts k.0, base_kept (stands e.store) (stands store) e.base keeps k.1, (k.2.0, choices_on e store nodes frames k.2.0 ks keeps texts nodes_add frames_add k.2.1))
 
   pub keeps_store : (e : Plain S W M) (store : S) (w : World) (ks : List Alternative) → Keeps names present stands older e w ks → KeepsMarks (stands e.store) (stands store) → KeepsTexts (names e.store) (names store)
       → Keeps names present stands older (record e { store = store }) w ks
   keeps_store e store w ks k keeps texts =
-      (world_on texts k.0, base_kept (stands e.store) (stands store) e.base keeps k.1, (k.2.0, choices_keep (λ d p among stood. keeps d.mark p stood) k.2.1))
+      (world_on texts k.0, base_kept (stands e.store) (stands store) e.base keeps k.1, (k.2.0, choices_kept texts (λ d p among stood. keeps d.mark p stood) k.2.1))
 
   -- no choice came
   pub keeps_choices : (e : Plain S W M) (choices : Vec (kept.Choice W M) Global) (w : World) (ks : List Alternative) → choices.items ≡ e.choices.items → Keeps names present stands older e w ks → Keeps names present stands older (record e { choices = choices }) w ks

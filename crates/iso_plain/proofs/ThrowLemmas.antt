@@ -1,4 +1,5 @@
 -- A thrown ball finds the catch that it goes to.
+use Rattle.iso_plain_core.specs.Leaving.{Leaving}
 use Rattle.std.proofs.Common.{◌≡◌, ℕ, suc, ◌-◌, ◌≤◌, ◌<◌, ◌==◌, List, [], ◌∷◌, ◌++◌, length, drop, Option, Some, Bool, refl, ap, sym, ◌∙◌, subst, arith, ◌⊎◌, inl, inr, if◌then◌else◌}
 use Rattle.std.specs.List.{slice_get}
 use Rattle.std.proofs.Math.Nat.{eq-or-lt_of_le}
@@ -40,7 +41,7 @@ caught_above height (a ∷ below) ball s o h =
           ap (λ (x : Bool). if x then caught_at a.left a below ball s o else caught height below ball s o) other ∙ inner)
     ]
 
-module _ {W M : Type 0} (left_at : ℕ → ℕ → List Clause) (query : List W) (named : List ℕ) where
+module _ {W M : Type 0} (leaves : Leaving) (query : List W) (named : List ℕ) where
   -- The choice at this height is an alternative of the stack.
   pub record AtHeight (ks : List Alternative) (height : ℕ) (c : kept.Choice W M) : Type 0 where
     pub alternative : Alternative
@@ -50,13 +51,13 @@ module _ {W M : Type 0} (left_at : ℕ → ℕ → List Clause) (query : List W)
     pub within : height < length ks
     pub present : Present W
     pub links : Links W
-    pub has : HasLeft left_at query named present links c.left alternative
+    pub has : HasLeft leaves query named present links c.left alternative
     pub caught_is : (ball : Tree) (s : State) (o : Outcome) → caught height ks ball s o ≡ caught_at alternative.left alternative below ball s o
 
-module _ {W M : Type 0} {stands : M → Present W → Type 0} {older : M → M → Type 0} {base : M} {left_at : ℕ → ℕ → List Clause} {query : List W} {named : List ℕ} where
+module _ {W M : Type 0} {stands : M → Present W → Type 0} {older : M → M → Type 0} {base : M} {leaves : Leaving} {query : List W} {named : List ℕ} where
   at_height_by : (links : Links W) {before : List (kept.Choice W M)} {ks : List Alternative} (height : ℕ) (c d : kept.Choice W M) (a : Alternative)
-      → StandsForChoice stands older base left_at query named (links_at d links) d a → StandsForChoices stands older base left_at query named (links_at d links) before ks → slice_get (before ++ d ∷ []) height ≡ Some c
-      → (height < length before → AtHeight left_at query named ks height c) → (height ≡ length before) ⊎ (height < length before) → AtHeight left_at query named (a ∷ ks) height c
+      → StandsForChoice stands older base leaves query named (links_at d links) d a → StandsForChoices stands older base leaves query named (links_at d links) before ks → slice_get (before ++ d ∷ []) height ≡ Some c
+      → (height < length before → AtHeight leaves query named ks height c) → (height ≡ length before) ⊎ (height < length before) → AtHeight leaves query named (a ∷ ks) height c
   at_height_by links {before = before} {ks = ks} height c d a here below there inner (inr less) =
       let h = inner less in
       let many = choices_length below in
@@ -84,12 +85,12 @@ module _ {W M : Type 0} {stands : M → Present W → Type 0} {older : M → M �
         within = omega (arith, same, many);
         present = here.present;
         links = links_at d links;
-        has = subst (λ (y : kept.Choice W M). HasLeft left_at query named here.present (links_at d links) y.left a) is here.has;
+        has = subst (λ (y : kept.Choice W M). HasLeft leaves query named here.present (links_at d links) y.left a) is here.has;
         caught_is = λ ball s o. caught_here height a ks ball s o (omega (arith, same, many));
       }
 
   pub at_height : {links : Links W} {cs : List (kept.Choice W M)} {ks : List Alternative} (height : ℕ) (c : kept.Choice W M) → slice_get cs height ≡ Some c
-      → StandsForChoices stands older base left_at query named links cs ks → AtHeight left_at query named ks height c
+      → StandsForChoices stands older base leaves query named links cs ks → AtHeight leaves query named ks height c
   at_height height c at none_kept = absurd (cc)
   at_height {links = links} height c at (one_kept {before = before} {c = d} {a = a} {ks = ks} is on here newer below) =
       let there : slice_get (before ++ d ∷ []) height ≡ Some c = subst (λ (ds : List (kept.Choice W M)). slice_get ds height ≡ Some c) is at in
@@ -98,12 +99,12 @@ module _ {W M : Type 0} {stands : M → Present W → Type 0} {older : M → M �
       let shorter : (height < length before) → slice_get before height ≡ Some c = λ less. sym (at_front before d height less) ∙ there in
       at_height_by links height c d a here below there (λ less. at_height height c (shorter less) below) (eq-or-lt_of_le (omega (arith, within, long)))
 
-module _ {W M : Type 0} {left_at : ℕ → ℕ → List Clause} {query : List W} {named : List ℕ} where
+module _ {W M : Type 0} {leaves : Leaving} {query : List W} {named : List ℕ} where
   -- one that is the entry of a catch, at which the ball is caught
-  pub entry_catches : {ks : List Alternative} (height : ℕ) (c : kept.Choice W M) (at : AtHeight left_at query named ks height c) → IsEntry c.left
+  pub entry_catches : {ks : List Alternative} (height : ℕ) (c : kept.Choice W M) (at : AtHeight leaves query named ks height c) → IsEntry c.left
       → (catcher : Tree) × (recovery : Tree) × (at.alternative.left ≡ Catching catcher recovery)
   entry_catches height c at entry = by_left c.left entry at.has where
-    by_left : (l : engine.Left W) → IsEntry l → HasLeft left_at query named at.present at.links l at.alternative → (catcher : Tree) × (recovery : Tree) × (at.alternative.left ≡ Catching catcher recovery)
+    by_left : (l : engine.Left W) → IsEntry l → HasLeft leaves query named at.present at.links l at.alternative → (catcher : Tree) × (recovery : Tree) × (at.alternative.left ≡ Catching catcher recovery)
     by_left (left.Catching goal place) e has = (_, _, has.is)
     by_left (left.AsIs place) e has = absurd e
     by_left (left.Again place) e has = absurd e
@@ -112,19 +113,19 @@ module _ {W M : Type 0} {left_at : ℕ → ℕ → List Clause} {query : List W}
     by_left (left.Clauses attempt) e has = absurd e
 
   -- any other
-  pub other_passes : {ks : List Alternative} (height : ℕ) (c : kept.Choice W M) (at : AtHeight left_at query named ks height c) → (IsEntry c.left → ⊥)
+  pub other_passes : {ks : List Alternative} (height : ℕ) (c : kept.Choice W M) (at : AtHeight leaves query named ks height c) → (IsEntry c.left → ⊥)
       → (ball : Tree) (s : State) (o : Outcome) → caught_at at.alternative.left at.alternative at.below ball s o ≡ o
   other_passes height c at none ball s o = by_left c.left none at.has where
     passes : (l : Left) → at.alternative.left ≡ l → caught_at l at.alternative at.below ball s o ≡ o → caught_at at.alternative.left at.alternative at.below ball s o ≡ o
     passes l e h = subst (λ (x : Left). caught_at x at.alternative at.below ball s o ≡ o) (sym e) h
 
-    by_left : (l : engine.Left W) → (IsEntry l → ⊥) → HasLeft left_at query named at.present at.links l at.alternative → caught_at at.alternative.left at.alternative at.below ball s o ≡ o
+    by_left : (l : engine.Left W) → (IsEntry l → ⊥) → HasLeft leaves query named at.present at.links l at.alternative → caught_at at.alternative.left at.alternative at.below ball s o ≡ o
     by_left (left.Catching goal place) e has = absurd (e tt)
     by_left (left.AsIs place) e has = passes AsIs has.is refl
     by_left (left.Again place) e has = passes Again has.is refl
     by_left (left.Gathering result place g) e has = passes (Gathering (meaning at.present result) (copies_of g) g.variables) has.is refl
     by_left (left.Offered goal place offers) e has = passes (Offered has.made (goal_arguments (meaning at.present goal)) (rights_of offers.items)) has.is refl
-    by_left (left.Clauses attempt) e has = passes (Clauses has.call (left_at attempt.procedure attempt.clause)) has.left refl
+    by_left (left.Clauses attempt) e has = passes (Clauses has.call has.clauses) has.left refl
 
 -- a choice that is no entry of a catch
 pub no_entry : {W M : Type 0} (choices : List (kept.Choice W M)) (f : Frame) (c : kept.Choice W M) → slice_get choices f.mark ≡ Some c → ((goal : W) (place : Option ℕ) → c.left ≡ left.Catching goal place → ⊥) → IsEndOfCatch choices f → ⊥

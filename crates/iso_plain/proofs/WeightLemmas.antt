@@ -8,13 +8,12 @@ use Rattle.iso_plain.specs.EngineStates.{cost, weight}
 use Rattle.iso_plain_core.proofs.CostLemmas.{whole_more, whole_paid, called_cost, left_step, cost_above}
 
 -- the cost of an engine whose choices and frames are those of another
-pub cost_as : {S W M : Type 0} (e new : Plain S W M) (n : Now) → new.now ≡ n → new.choices ≡ e.choices → new.frames ≡ e.frames → new.procedures ≡ e.procedures
-    → cost new ≡ choices_cost e.procedures.items (frame_costs e.frames.items) e.choices.items + now_cost (frame_costs e.frames.items) n
-cost_as e new n doing choices frames procedures =
-    ap (λ ps. choices_cost ps.items (frame_costs new.frames.items) new.choices.items + now_cost (frame_costs new.frames.items) new.now) procedures
-    ∙ (ap (λ fs. choices_cost e.procedures.items (frame_costs fs.items) new.choices.items + now_cost (frame_costs fs.items) new.now) frames
-    ∙ (ap (λ cs. choices_cost e.procedures.items (frame_costs e.frames.items) cs.items + now_cost (frame_costs e.frames.items) new.now) choices
-    ∙ ap (λ (m : Now). choices_cost e.procedures.items (frame_costs e.frames.items) e.choices.items + now_cost (frame_costs e.frames.items) m) doing))
+pub cost_as : {S W M : Type 0} (e new : Plain S W M) (n : Now) → new.now ≡ n → new.choices ≡ e.choices → new.frames ≡ e.frames
+    → cost new ≡ choices_cost (frame_costs e.frames.items) e.choices.items + now_cost (frame_costs e.frames.items) n
+cost_as e new n doing choices frames =
+    (ap (λ fs. choices_cost (frame_costs fs.items) new.choices.items + now_cost (frame_costs fs.items) new.now) frames
+    ∙ (ap (λ cs. choices_cost (frame_costs e.frames.items) cs.items + now_cost (frame_costs e.frames.items) new.now) choices
+    ∙ ap (λ (m : Now). choices_cost (frame_costs e.frames.items) e.choices.items + now_cost (frame_costs e.frames.items) m) doing))
 
 -- as many steps, and less to be done before the next
 pub falls_less : {S W M : Type 0} (e new : Plain S W M) → new.steps ≡ e.steps → cost new < cost e → weight new < weight e
@@ -27,36 +26,34 @@ falls_called steps s r w v less within =
     whole_paid steps w v (omega (arith, h, within))
 
 -- what a call leaves to be done: its other clauses, and what comes next
-pub call_costs : {S W M : Type 0} (e mid new : Plain S W M) (rest : Option ℕ) → mid.frames ≡ e.frames → new.frames ≡ mid.frames → new.choices ≡ mid.choices → new.procedures ≡ e.procedures
-    → choices_cost e.procedures.items (frame_costs e.frames.items) mid.choices.items ≤ choices_cost e.procedures.items (frame_costs e.frames.items) e.choices.items + left_cost most (rest_cost (frame_costs e.frames.items) rest)
+pub call_costs : {S W M : Type 0} (e mid new : Plain S W M) (rest : Option ℕ) → mid.frames ≡ e.frames → new.frames ≡ mid.frames → new.choices ≡ mid.choices
+    → choices_cost (frame_costs e.frames.items) mid.choices.items ≤ choices_cost (frame_costs e.frames.items) e.choices.items + left_cost most (rest_cost (frame_costs e.frames.items) rest)
     → now_cost (frame_costs mid.frames.items) new.now ≤ body_cost most (rest_cost (frame_costs mid.frames.items) rest)
-    → cost new ≤ choices_cost e.procedures.items (frame_costs e.frames.items) e.choices.items + left_cost most (rest_cost (frame_costs e.frames.items) rest) + body_cost most (rest_cost (frame_costs e.frames.items) rest)
-call_costs e mid new rest frames same choices procedures kept next =
-    let all : choices_cost new.procedures.items (frame_costs new.frames.items) new.choices.items ≡ choices_cost e.procedures.items (frame_costs e.frames.items) mid.choices.items =
-    ap (λ ps. choices_cost ps.items (frame_costs new.frames.items) new.choices.items) procedures
-    ∙ (ap (λ fs. choices_cost e.procedures.items (frame_costs fs.items) new.choices.items) (same ∙ frames) ∙ ap (λ cs. choices_cost e.procedures.items (frame_costs e.frames.items) cs.items) choices) in
+    → cost new ≤ choices_cost (frame_costs e.frames.items) e.choices.items + left_cost most (rest_cost (frame_costs e.frames.items) rest) + body_cost most (rest_cost (frame_costs e.frames.items) rest)
+call_costs e mid new rest frames same choices kept next =
+    let all : choices_cost (frame_costs new.frames.items) new.choices.items ≡ choices_cost (frame_costs e.frames.items) mid.choices.items =
+    (ap (λ fs. choices_cost (frame_costs fs.items) new.choices.items) (same ∙ frames) ∙ ap (λ cs. choices_cost (frame_costs e.frames.items) cs.items) choices) in
     let here : now_cost (frame_costs new.frames.items) new.now ≡ now_cost (frame_costs mid.frames.items) new.now = ap (λ fs. now_cost (frame_costs fs.items) new.now) same in
     let there : body_cost most (rest_cost (frame_costs mid.frames.items) rest) ≡ body_cost most (rest_cost (frame_costs e.frames.items) rest) = ap (λ fs. body_cost most (rest_cost (frame_costs fs.items) rest)) frames in
     omega (arith, all, here, there, kept, next)
 
 -- behind failure: the newest choice was taken away, or left at less
-pub back_cost : {S W M : Type 0} (e back : Plain S W M) → back.choices ≡ e.choices → back.procedures ≡ e.procedures
-    → choices_cost e.procedures.items (frame_costs back.frames.items) e.choices.items ≡ choices_cost e.procedures.items (frame_costs e.frames.items) e.choices.items
-    → choices_cost back.procedures.items (frame_costs back.frames.items) back.choices.items ≤ cost e
-back_cost e back choices procedures same =
-    let all : choices_cost back.procedures.items (frame_costs back.frames.items) back.choices.items ≡ choices_cost e.procedures.items (frame_costs back.frames.items) e.choices.items =
-    ap (λ ps. choices_cost ps.items (frame_costs back.frames.items) back.choices.items) procedures ∙ ap (λ cs. choices_cost e.procedures.items (frame_costs back.frames.items) cs.items) choices in
+pub back_cost : {S W M : Type 0} (e back : Plain S W M) → back.choices ≡ e.choices
+    → choices_cost (frame_costs back.frames.items) e.choices.items ≡ choices_cost (frame_costs e.frames.items) e.choices.items
+    → choices_cost (frame_costs back.frames.items) back.choices.items ≤ cost e
+back_cost e back choices same =
+    let all : choices_cost (frame_costs back.frames.items) back.choices.items ≡ choices_cost (frame_costs back.frames.items) e.choices.items =
+    ap (λ cs. choices_cost (frame_costs back.frames.items) cs.items) choices in
     omega (arith, all, same)
 
 -- a clause of a choice was entered
-pub entered_cost : {S W M : Type 0} (back mid new : Plain S W M) (rest : Option ℕ) → mid.frames ≡ back.frames → new.frames ≡ mid.frames → new.choices ≡ mid.choices → new.procedures ≡ back.procedures
-    → choices_cost back.procedures.items (frame_costs back.frames.items) mid.choices.items + (body_cost most (rest_cost (frame_costs back.frames.items) rest) + 1) ≤ choices_cost back.procedures.items (frame_costs back.frames.items) back.choices.items
+pub entered_cost : {S W M : Type 0} (back mid new : Plain S W M) (rest : Option ℕ) → mid.frames ≡ back.frames → new.frames ≡ mid.frames → new.choices ≡ mid.choices
+    → choices_cost (frame_costs back.frames.items) mid.choices.items + (body_cost most (rest_cost (frame_costs back.frames.items) rest) + 1) ≤ choices_cost (frame_costs back.frames.items) back.choices.items
     → now_cost (frame_costs mid.frames.items) new.now ≤ body_cost most (rest_cost (frame_costs mid.frames.items) rest)
-    → cost new < choices_cost back.procedures.items (frame_costs back.frames.items) back.choices.items
-entered_cost back mid new rest frames same choices procedures fewer next =
-    let all : choices_cost new.procedures.items (frame_costs new.frames.items) new.choices.items ≡ choices_cost back.procedures.items (frame_costs back.frames.items) mid.choices.items =
-    ap (λ ps. choices_cost ps.items (frame_costs new.frames.items) new.choices.items) procedures
-    ∙ (ap (λ fs. choices_cost back.procedures.items (frame_costs fs.items) new.choices.items) (same ∙ frames) ∙ ap (λ cs. choices_cost back.procedures.items (frame_costs back.frames.items) cs.items) choices) in
+    → cost new < choices_cost (frame_costs back.frames.items) back.choices.items
+entered_cost back mid new rest frames same choices fewer next =
+    let all : choices_cost (frame_costs new.frames.items) new.choices.items ≡ choices_cost (frame_costs back.frames.items) mid.choices.items =
+    (ap (λ fs. choices_cost (frame_costs fs.items) new.choices.items) (same ∙ frames) ∙ ap (λ cs. choices_cost (frame_costs back.frames.items) cs.items) choices) in
     let here : now_cost (frame_costs new.frames.items) new.now ≡ now_cost (frame_costs mid.frames.items) new.now = ap (λ fs. now_cost (frame_costs fs.items) new.now) same in
     let there : body_cost most (rest_cost (frame_costs mid.frames.items) rest) ≡ body_cost most (rest_cost (frame_costs back.frames.items) rest) = ap (λ fs. body_cost most (rest_cost (frame_costs fs.items) rest)) frames in
     omega (arith, all, here, there, fewer, next)
@@ -73,5 +70,5 @@ falls_again e new w steps within less =
 -- an answer was given
 pub answered_falls : {S W M : Type 0} (e : Plain S W M) → e.now ≡ now.Answering → weight (record e { now = now.Failing }) < weight e
 answered_falls e doing =
-    let old : cost e ≡ choices_cost e.procedures.items (frame_costs e.frames.items) e.choices.items + 1 = ap (λ (n : Now). choices_cost e.procedures.items (frame_costs e.frames.items) e.choices.items + now_cost (frame_costs e.frames.items) n) doing in
+    let old : cost e ≡ choices_cost (frame_costs e.frames.items) e.choices.items + 1 = ap (λ (n : Now). choices_cost (frame_costs e.frames.items) e.choices.items + now_cost (frame_costs e.frames.items) n) doing in
     falls_less e (record e { now = now.Failing }) refl (omega (arith, old))

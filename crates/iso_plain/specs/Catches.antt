@@ -124,7 +124,7 @@ module _ {S W M : Type 0} (names : S → List (List ℕ)) (present : S → Prese
 
   -- The engine's choices are this state's alternatives.
   abbrev pub HasStack : Plain S W M → State → Type 0
-  HasStack e s = (named : List ℕ) × HasChoices names present stands older e s.world named s.stack
+  HasStack e s = (named : List ℕ) × HasChoices names present stands older e named s.stack
 
   -- The ball met the catcher of this goal: its recovery is to be called, or the ball was thrown on.
   abbrev pub HasThrown : Plain S W M → Present W → W → Tree → State → Type 0

@@ -14,6 +14,7 @@ use Rattle.iso_model.specs.Search.Engines.{Phase, Ready, Midway, IsAwake}
 use Rattle.iso_model.specs.declared.pauses.Pause.TheVariants as pause
 use Rattle.iso_model.specs.declared.limit.Limit.TheVariants as limit
 use Rattle.iso_store_core.specs.Presents.{Present}
+use Rattle.iso_plain_core.specs.Leaving.{Leaving, AreLeft}
 use Rattle.iso_plain_core.specs.Standing.{Among, Links, Chain, AtGoal, HasLeft, StandsForChoices, HaveRoom, GoesOn, DoesNext, most_numbers, numbers_a_step}
 use Rattle.iso_plain_core.specs.Costs.{whole_cost, frame_costs, choices_cost, now_cost}
 use Rattle.iso_plain.specs.Worlds.{IsWorld}
@@ -24,7 +25,6 @@ use Rattle.iso_plain_core.specs.declared.parts.Now.TheVariants as now
 use Rattle.iso_plain.specs.declared.plain.Move.{Move}
 use Rattle.iso_plain.specs.declared.plain.Move.TheVariants as move
 use Rattle.iso_plain.specs.declared.plain.Plain.{Plain}
-use Rattle.iso_plain_core.specs.ClausePlaces.{left_at}
 
 -- The mark brings back an empty store.
 pub record IsBase {W M : Type 0} (stands : M → Present W → Type 0) (base : M) : Type 0 where
@@ -58,16 +58,20 @@ abbrev pub links_of : {S W M : Type 0} → Plain S W M → Links W
 links_of e = record { nodes = e.nodes.items; frames = e.frames.items }
 
 module _ {S W M : Type 0} (names : S → List (List ℕ)) (present : S → Present W) (stands : S → M → Present W → Type 0) (older : M → M → Type 0) where
-  -- The engine's choices are these alternatives, over a world and for a query with these variables.
-  abbrev pub HasChoices : Plain S W M → World → List ℕ → List Alternative → Type 0
-  HasChoices e w named ks = StandsForChoices (stands e.store) older e.base (left_at w.database.procedures) e.query.items named (links_of e) e.choices.items ks
+  -- the clauses that are left by a number and a view
+  abbrev pub leaves_of : Plain S W M → Leaving
+  leaves_of e = AreLeft (names e.store) e.db
+
+  -- The engine's choices are these alternatives, for a query with these variables.
+  abbrev pub HasChoices : Plain S W M → List ℕ → List Alternative → Type 0
+  HasChoices e named ks = StandsForChoices (stands e.store) older e.base (leaves_of e) e.query.items named (links_of e) e.choices.items ks
 
   -- The engine's parts are this state of the search; what was built is free.
   pub record IsEngine (e : Plain S W M) (s : State) : Type 0 where
     pub world : IsWorld names e s.world
     pub steps : s.steps ≡ e.steps
     pub base : IsBase (stands e.store) e.base
-    pub choices : HasChoices e s.world (variables s.query) s.stack
+    pub choices : HasChoices e (variables s.query) s.stack
     pub room : HaveRoom e.steps s.stack
     pub next : DoesNext (present e.store) (links_of e) e.query.items e.now (option_map (λ b. term_of b.term) e.raised) s
 
@@ -79,7 +83,7 @@ module _ {S W M : Type 0} (names : S → List (List ℕ)) (present : S → Prese
 
   -- Of an engine that was stopped within a move its world and its choices are left, each with what it brings back.
   abbrev pub Keeps : Plain S W M → World → List Alternative → Type 0
-  Keeps e w ks = IsWorld names e w × IsBase (stands e.store) e.base × ((named : List ℕ) × HasChoices e w named ks)
+  Keeps e w ks = IsWorld names e w × IsBase (stands e.store) e.base × ((named : List ℕ) × HasChoices e named ks)
 
   -- A spent engine stands for a state from which the search came, without an event, to one that has this world and these alternatives; where a
   -- goal was not started none is left.
@@ -107,18 +111,18 @@ module _ {S W M : Type 0} (names : S → List (List ℕ)) (present : S → Prese
     pub world : IsWorld names e s.world
     pub steps : s.steps ≡ e.steps
     pub base : IsBase (stands e.store) e.base
-    pub choices : HasChoices e s.world (variables s.query) s.stack
+    pub choices : HasChoices e (variables s.query) s.stack
     pub room : HaveRoom e.steps s.stack
     pub space : s.next + numbers_a_step * (e.steps + 1) ≤ most_numbers
     pub at : AtGoal (present e.store) (links_of e) e.query.items (variables s.query) attempt.goal attempt.rest call behind s.subst s.next
-    pub clauses : left_at s.world.database.procedures attempt.procedure attempt.clause ≡ c ∷ cs
+    pub clauses : leaves_of e attempt.clause attempt.later (c ∷ cs)
 
   -- The engine, in this state, has its members from this place of the frames on.
   pub record IsAhead (e : Plain S W M) (s : State) (place : Option ℕ) : Type 0 where
     pub world : IsWorld names e s.world
     pub steps : s.steps ≡ e.steps
     pub base : IsBase (stands e.store) e.base
-    pub choices : HasChoices e s.world (variables s.query) s.stack
+    pub choices : HasChoices e (variables s.query) s.stack
     pub room : HaveRoom e.steps s.stack
     pub goes : GoesOn (present e.store) e.query.items s
     pub chain : Chain (present e.store) (links_of e) place s.list
@@ -132,10 +136,10 @@ module _ {S W M : Type 0} (names : S → List (List ℕ)) (present : S → Prese
     pub newest : slice_get e.choices.items (length e.choices.items - 1) ≡ Some c
     pub nodes : c.nodes ≡ length e.nodes.items
     pub frames : c.frames ≡ length e.frames.items
-    pub has : HasLeft (left_at s.world.database.procedures) e.query.items (variables s.query) (present e.store) (links_of e) c.left a
+    pub has : HasLeft (leaves_of e) e.query.items (variables s.query) (present e.store) (links_of e) c.left a
     pub newer_base : older e.base c.mark
     pub newer : (d : kept.Choice W M) → Among d (take (length e.choices.items - 1) e.choices.items) → older d.mark c.mark
-    pub stands_below : StandsForChoices (stands e.store) older e.base (left_at s.world.database.procedures) e.query.items (variables s.query) (links_of e) (take (length e.choices.items - 1) e.choices.items) below
+    pub stands_below : StandsForChoices (stands e.store) older e.base (leaves_of e) e.query.items (variables s.query) (links_of e) (take (length e.choices.items - 1) e.choices.items) below
     pub room : HaveRoom e.steps (a ∷ below)
 
   -- The engine, in this state, is about to try the next clause of its newest alternative.
@@ -164,7 +168,7 @@ module _ {S W M : Type 0} (names : S → List (List ℕ)) (present : S → Prese
 
 -- before the next step
 abbrev pub cost : {S W M : Type 0} → Plain S W M → ℕ
-cost e = choices_cost e.procedures.items (frame_costs e.frames.items) e.choices.items + now_cost (frame_costs e.frames.items) e.now
+cost e = choices_cost (frame_costs e.frames.items) e.choices.items + now_cost (frame_costs e.frames.items) e.now
 
 -- A number that falls at each move.
 abbrev pub weight : {S W M : Type 0} → Plain S W M → ℕ

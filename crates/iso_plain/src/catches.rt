@@ -39,8 +39,8 @@ impl<S: Store + Drop> Plain<S> {
         ensures full { IfOk result (λ end. MatchOption end (self.old.limit ≤ length self.old.choices.items)
             (λ place. length self.new.choices.items ≡ length self.old.choices.items + 1)) }
         ensures costs { IfOk result (λ end. MatchOption end (self.new ≡ self.old) (λ place.
-            (choices_cost self.old.procedures.items (frame_costs self.new.frames.items) self.new.choices.items
-            ≡ choices_cost self.old.procedures.items (frame_costs self.old.frames.items) self.old.choices.items + left_cost 1 (rest_cost (frame_costs self.old.frames.items) next))
+            (choices_cost (frame_costs self.new.frames.items) self.new.choices.items
+            ≡ choices_cost (frame_costs self.old.frames.items) self.old.choices.items + left_cost 1 (rest_cost (frame_costs self.old.frames.items) next))
             × (rest_cost (frame_costs self.new.frames.items) (Option.Some place) ≡ suc (rest_cost (frame_costs self.old.frames.items) next)))) }
         ensures same { (self.new.steps ≡ self.old.steps) × (self.new.nodes ≡ self.old.nodes) × (S.present self.new.store ≡ S.present self.old.store) }
         ensures stays { Stays S.names self.old self.new }
@@ -82,7 +82,7 @@ impl<S: Store + Drop> Plain<S> {
         ensures kept { (s : State) → EntersCatch S.names S.present S.stands S.older self.old goal s next
             → OnErr result (WasRefused S.names S.present S.stands S.older self.new s
             (pushed s.list (Catching (catcher_of (S.present self.old.store) goal) (recovery_of (S.present self.old.store) goal)) s)) }
-        ensures falls { (w : ℕ) → choices_cost self.old.procedures.items (frame_costs self.old.frames.items) self.old.choices.items
+        ensures falls { (w : ℕ) → choices_cost (frame_costs self.old.frames.items) self.old.choices.items
             + rest_cost (frame_costs self.old.frames.items) next + 1 ≤ w → IfOk result (λ m. Falls m (whole_cost (suc self.old.steps) w) (weight self.new)) }
         ensures frames { ResultFull (self.old.limit ≤ length self.old.choices.items) result }
         ensures met { ResultMet S.full result self.new }
@@ -116,7 +116,7 @@ impl<S: Store + Drop> Plain<S> {
         ensures kept { (s : State) → EntersCatch S.names S.present S.stands S.older self.old goal s next
             → OnErr result (WasRefused S.names S.present S.stands S.older self.new s
             (pushed s.list (Catching (catcher_of (S.present self.old.store) goal) (recovery_of (S.present self.old.store) goal)) s)) }
-        ensures falls { (w : ℕ) → choices_cost self.old.procedures.items (frame_costs self.old.frames.items) self.old.choices.items
+        ensures falls { (w : ℕ) → choices_cost (frame_costs self.old.frames.items) self.old.choices.items
             + rest_cost (frame_costs self.old.frames.items) next + 1 ≤ w → IfOk result (λ m. Falls m (whole_cost (suc self.old.steps) w) (weight self.new)) }
         ensures frames { ResultFull (self.old.limit ≤ length self.old.choices.items) result }
         ensures met { ResultMet S.full result self.new }

@@ -28,8 +28,8 @@ impl<S: Store + Drop> Plain<S> {
         ensures raised { self.new.raised ≡ self.old.raised }
         ensures steps { self.new.steps ≡ self.old.steps }
         ensures frames { self.new.frames ≡ self.old.frames }
-        ensures costs { choices_cost self.old.procedures.items (frame_costs self.old.frames.items) self.new.choices.items
-            ≤ choices_cost self.old.procedures.items (frame_costs self.old.frames.items) self.old.choices.items }
+        ensures costs { choices_cost (frame_costs self.old.frames.items) self.new.choices.items
+            ≤ choices_cost (frame_costs self.old.frames.items) self.old.choices.items }
         ensures stays { Stays S.names self.old self.new }
     {
         if height < self.choices.len() {

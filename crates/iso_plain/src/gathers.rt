@@ -41,7 +41,7 @@ impl<S: Store + Drop> Plain<S> {
             → IfOk result (λ m. FindsAll S.names S.present S.stands S.older m self.new (template_of (S.present self.old.store) goal) (result_of (S.present self.old.store) goal) b s) }
         ensures kept { (s : State) → EntersFindall S.names S.present S.stands S.older self.old goal s next
             → OnErr result (WasRefused S.names S.present S.stands S.older self.new s (pushed s.list (Gathering (result_of (S.present self.old.store) goal) [] 0) s)) }
-        ensures falls { (w : ℕ) → choices_cost self.old.procedures.items (frame_costs self.old.frames.items) self.old.choices.items
+        ensures falls { (w : ℕ) → choices_cost (frame_costs self.old.frames.items) self.old.choices.items
             + rest_cost (frame_costs self.old.frames.items) next + 1 ≤ w → IfOk result (λ m. Falls m (whole_cost (suc self.old.steps) w) (weight self.new)) }
         ensures frames { ResultFull (self.old.limit ≤ length self.old.choices.items) result }
         ensures met { ResultMet S.full result self.new }
@@ -122,7 +122,7 @@ impl<S: Store + Drop> Plain<S> {
         ensures awake { OnOk result (IsAwake (phase_of self.new.now)) }
         ensures full { result ≡ Err StoreFault.Full → S.full self.new.store }
         ensures steps { self.new.steps ≡ self.old.steps }
-        ensures costs { OnOk result (cost self.new < choices_cost self.old.procedures.items (frame_costs self.old.frames.items) self.old.choices.items) }
+        ensures costs { OnOk result (cost self.new < choices_cost (frame_costs self.old.frames.items) self.old.choices.items) }
         ensures stays { Stays S.names self.old self.new }
     {
         let Some(choice) = self.choices.pop() else {

@@ -22,7 +22,7 @@ impl<S: Store + Drop> Plain<S> {
         ensures called { (s : State) (b : Body) → IsAhead S.names S.present S.stands S.older self.old s next → IsBody (S.present self.old.store) self.old.nodes.items body b
             → IfOk result (λ m. WasCalled S.names S.present S.stands S.older m self.new s (calling_once b s)) }
         ensures kept { (s : State) → IsAhead S.names S.present S.stands S.older self.old s next → OnErr result (Keeps S.names S.present S.stands S.older self.new s.world s.stack) }
-        ensures falls { (w : ℕ) → choices_cost self.old.procedures.items (frame_costs self.old.frames.items) self.old.choices.items
+        ensures falls { (w : ℕ) → choices_cost (frame_costs self.old.frames.items) self.old.choices.items
             + rest_cost (frame_costs self.old.frames.items) next + 1 ≤ w → IfOk result (λ m. Falls m (whole_cost (suc self.old.steps) w) (weight self.new)) }
         ensures frames { ResultFull ⊥ result }
         ensures met { ResultMet S.full result self.new }
@@ -53,7 +53,7 @@ impl<S: Store + Drop> Plain<S> {
             → IfOk result (λ m. WasCalled S.names S.present S.stands S.older m self.new s (refuting b s)) }
         ensures kept { (s : State) → IsAhead S.names S.present S.stands S.older self.old s next
             → OnErr result (WasRefused S.names S.present S.stands S.older self.new s (pushed s.list AsIs s)) }
-        ensures falls { (w : ℕ) → choices_cost self.old.procedures.items (frame_costs self.old.frames.items) self.old.choices.items
+        ensures falls { (w : ℕ) → choices_cost (frame_costs self.old.frames.items) self.old.choices.items
             + rest_cost (frame_costs self.old.frames.items) next + 1 ≤ w → IfOk result (λ m. Falls m (whole_cost (suc self.old.steps) w) (weight self.new)) }
         ensures frames { ResultFull (self.old.limit ≤ length self.old.choices.items) result }
         ensures met { ResultMet S.full result self.new }
@@ -102,7 +102,7 @@ impl<S: Store + Drop> Plain<S> {
         ensures called { (s : State) → IsAhead S.names S.present S.stands S.older self.old s next
             → IfOk result (λ m. WasCalled S.names S.present S.stands S.older m self.new s (pushed s.list Again s)) }
         ensures kept { (s : State) → IsAhead S.names S.present S.stands S.older self.old s next → OnErr result (Keeps S.names S.present S.stands S.older self.new s.world s.stack) }
-        ensures falls { (w : ℕ) → choices_cost self.old.procedures.items (frame_costs self.old.frames.items) self.old.choices.items
+        ensures falls { (w : ℕ) → choices_cost (frame_costs self.old.frames.items) self.old.choices.items
             + rest_cost (frame_costs self.old.frames.items) next + 1 ≤ w → IfOk result (λ m. Falls m (whole_cost (suc self.old.steps) w) (weight self.new)) }
         ensures frames { ResultFull (self.old.limit ≤ length self.old.choices.items) result }
         ensures met { ResultMet S.full result self.new }

@@ -1,46 +1,24 @@
 //! The engine's moves: each is some steps of the standard's search (7.7).
-ghost use Rattle.std.specs.Prelude.{◌≡◌, ◌≢◌, ℕ, ◌<◌, ◌≤◌, ◌+◌, true, false, IfOk, OnOk, OnErr, Ok, List, ◌∷◌, length, Option, Err};
+ghost use Rattle.std.specs.Prelude.{◌≡◌, ◌≢◌, ℕ, ◌<◌, ◌≤◌, ◌+◌, ◌^◌, true, false, IfOk, OnOk, OnErr, Ok, List, ◌∷◌, length, Option, Err};
 ghost use Rattle.iso_atoms.specs.Texts.{KeepsTexts};
 ghost use Rattle.iso_model.specs.Terms.Trees.{Tree};
 ghost use Rattle.iso_model.specs.Search.Databases as databases;
-ghost use Rattle.iso_model.specs.Search.Databases.{Procedures};
-ghost use Rattle.iso_plain_core.specs.Kept.{IsClause};
-ghost use Rattle.iso_plain_core.specs.Programs.{IsDatabase};
-ghost use Rattle.iso_plain_core.specs.ClausePlaces.{left_at, clauses_at_place};
+ghost use Rattle.iso_db.specs.Presents.{remaining};
 ghost use Rattle.iso_plain.specs.EngineStates.{went_back};
 ghost use Rattle.iso_plain_core.specs.declared.parts.Choice as kept;
 ghost use Rattle.iso_model.specs.Search.Walker.{State, Member, Alternative, AsIs, Again, fails, pushed, tried, tried_clause, with_others};
 
 use super::plain::{Move, Plain};
+use iso_db::{ClauseId, View};
 use iso_model::Pause;
-use iso_plain_core::clauses::Clause;
 use iso_plain_core::entries;
+use iso_plain_core::leaving::next_left;
 use iso_plain_core::parts::{Attempt, Left, Now, at, behind, keep_choice};
-use iso_plain_core::procedures::Procedure;
 use iso_store_core::{Store, StoreFault};
 use std::alloc::AllocError;
 
-/// The clause at this place of the procedure at this place.
-fn clause_at(procedures: &[Procedure], place: usize, index: usize) -> &Clause
-    requires within { place < length procedures.now }
-    requires found { (names : List (List ℕ)) × (db : Procedures) × (c : databases.Clause) × (cs : List databases.Clause) × IsDatabase names procedures.now db × (left_at db place index ≡ c ∷ cs) }
-    ensures { (names : List (List ℕ)) (db : Procedures) (c : databases.Clause) (cs : List databases.Clause) → IsDatabase names procedures.now db
-        → left_at db place index ≡ c ∷ cs → IsClause names result.now c }
-{
-    let procedure = &procedures[place];
-    &procedure.clauses[index]
-}
-
-/// How many clauses the procedure at this place has.
-fn clause_count(procedures: &[Procedure], place: usize) -> usize
-    requires { place < length procedures.now }
-    ensures { result ≡ clauses_at_place procedures.now place }
-{
-    procedures[place].clauses.len()
-}
-
 impl<S: Store + Drop> Plain<S> {
-    ghost use Rattle.iso_plain.specs.EngineStates.{IsBase, IsEngine, Represents, Keeps, Stopped, Calls, WentBack, Moves, Falls, Retries, WasRefused, cost, weight, phase_of};
+    ghost use Rattle.iso_plain.specs.EngineStates.{IsBase, IsEngine, leaves_of, Represents, Keeps, Stopped, Calls, WentBack, Moves, Falls, Retries, WasRefused, cost, weight, phase_of};
     ghost use Rattle.iso_plain_core.specs.Costs.{choices_cost, now_cost, body_cost, left_cost, most, rest_cost, frame_costs};
     ghost use Rattle.iso_plain.specs.Stays.{Stays};
     ghost use Rattle.iso_model.specs.Search.Engines.{IsAwake};
@@ -66,11 +44,7 @@ impl<S: Store + Drop> Plain<S> {
         ensures cost { OnOk result (now_cost (frame_costs self.old.frames.items) self.new.now ≤ body_cost most (rest_cost (frame_costs self.old.frames.items) attempt.rest)) }
         ensures stays { Stays S.names self.old self.new }
     {
-        let clause = clause_at(
-            self.procedures.as_slice(),
-            attempt.procedure,
-            attempt.clause,
-        );
+        let clause = self.db.clause(attempt.clause);
         let entered = entries::enter(
             self.alloc,
             &mut self.store,
@@ -92,8 +66,8 @@ impl<S: Store + Drop> Plain<S> {
         ensures choices { self.new.choices ≡ self.old.choices }
         ensures now { self.new.now ≡ self.old.now }
         ensures raised { self.new.raised ≡ self.old.raised }
-        ensures costs { choices_cost self.old.procedures.items (frame_costs self.new.frames.items) self.old.choices.items
-            ≡ choices_cost self.old.procedures.items (frame_costs self.old.frames.items) self.old.choices.items }
+        ensures costs { choices_cost (frame_costs self.new.frames.items) self.old.choices.items
+            ≡ choices_cost (frame_costs self.old.frames.items) self.old.choices.items }
         ensures stays { Stays S.names self.old self.new }
     {
         let choice = &self.choices[self.choices.len() - 1];
@@ -104,12 +78,18 @@ impl<S: Store + Drop> Plain<S> {
         mark
     }
 
-    /// Keeps the clauses behind the attempt's as a choice (7.7.8). The error is that memory was refused.
-    fn push_later(&mut self, attempt: Attempt<S::Word>) -> Result<(), AllocError>
-        requires { (s : State) × (call : Tree) × (c : databases.Clause) × (cs : List databases.Clause) × (behind : List Member)
-            × (0 < length cs) × Calls S.names S.present S.stands S.older self.old attempt s call c cs behind }
+    /// Keeps the clauses behind the attempt's, this one and those of the view, as a choice (7.7.8). The error is that memory was refused.
+    fn push_later(
+        &mut self,
+        attempt: Attempt<S::Word>,
+        clause: ClauseId,
+        later: View,
+    ) -> Result<(), AllocError>
+        requires few { remaining later < 2 ^ 64 }
+        requires calls { (s : State) × (call : Tree) × (c : databases.Clause) × (cs : List databases.Clause) × (behind : List Member)
+            × leaves_of S.names S.present S.stands S.older self.old clause later cs × Calls S.names S.present S.stands S.older self.old attempt s call c cs behind }
         ensures calls { (s : State) (call : Tree) (c : databases.Clause) (cs : List databases.Clause) (behind : List Member)
-            → Calls S.names S.present S.stands S.older self.old attempt s call c cs behind → 0 < length cs
+            → leaves_of S.names S.present S.stands S.older self.old clause later cs → Calls S.names S.present S.stands S.older self.old attempt s call c cs behind
             → OnOk result (Calls S.names S.present S.stands S.older self.new attempt (with_others call cs behind s) call c cs behind) }
         ensures kept { (s : State) (call : Tree) (c : databases.Clause) (cs : List databases.Clause) (behind : List Member)
             → Calls S.names S.present S.stands S.older self.old attempt s call c cs behind
@@ -117,19 +97,20 @@ impl<S: Store + Drop> Plain<S> {
         ensures steps { self.new.steps ≡ self.old.steps }
         ensures count { length self.new.choices.items ≤ length self.old.choices.items + 1 }
         ensures frames_same { self.new.frames ≡ self.old.frames }
-        ensures costs { choices_cost self.old.procedures.items (frame_costs self.old.frames.items) self.new.choices.items
-            ≤ choices_cost self.old.procedures.items (frame_costs self.old.frames.items) self.old.choices.items + left_cost most (rest_cost (frame_costs self.old.frames.items) attempt.rest) }
+        ensures costs { choices_cost (frame_costs self.old.frames.items) self.new.choices.items
+            ≤ choices_cost (frame_costs self.old.frames.items) self.old.choices.items + left_cost most (rest_cost (frame_costs self.old.frames.items) attempt.rest) }
         ensures limit { self.new.limit ≡ self.old.limit }
-        ensures procedures { self.new.procedures ≡ self.old.procedures }
-        ensures callables { self.new.callables ≡ self.old.callables }
         ensures vocabulary { self.new.vocabulary ≡ self.old.vocabulary }
         ensures names { KeepsTexts (S.names self.old.store) (S.names self.new.store) }
     {
-        let clause = attempt.clause + 1;
         keep_choice(
             &mut self.store,
             &mut self.choices,
-            Left::Clauses(Attempt { clause, ..attempt }),
+            Left::Clauses(Attempt {
+                clause,
+                later,
+                ..attempt
+            }),
             self.nodes.len(),
             self.frames.len(),
         )?;
@@ -147,13 +128,17 @@ impl<S: Store + Drop> Plain<S> {
         ensures steps { self.new.steps ≡ self.old.steps }
         ensures stays { Stays S.names self.old self.new }
         ensures frames { self.new.frames ≡ self.old.frames }
-        ensures costs { choices_cost self.old.procedures.items (frame_costs self.old.frames.items) self.new.choices.items + (body_cost most (rest_cost (frame_costs self.old.frames.items) attempt.rest) + 1)
-            ≤ choices_cost self.old.procedures.items (frame_costs self.old.frames.items) self.old.choices.items }
+        ensures costs { choices_cost (frame_costs self.old.frames.items) self.new.choices.items + (body_cost most (rest_cost (frame_costs self.old.frames.items) attempt.rest) + 1)
+            ≤ choices_cost (frame_costs self.old.frames.items) self.old.choices.items }
     {
         let newest = self.choices.len() - 1;
-        let clause = attempt.clause + 1;
-        if clause < clause_count(self.procedures.as_slice(), attempt.procedure) {
-            self.choices[newest].left = Left::Clauses(Attempt { clause, ..attempt });
+        let mut later = attempt.later;
+        if let Some(clause) = next_left(&self.db, &mut later) {
+            self.choices[newest].left = Left::Clauses(Attempt {
+                clause,
+                later,
+                ..attempt
+            });
         } else {
             self.choices.truncate(newest);
             self.store.forget(mark);
@@ -171,7 +156,7 @@ impl<S: Store + Drop> Plain<S> {
         ensures awake { IsAwake (phase_of self.new.now) }
         ensures steps { self.new.steps ≡ self.old.steps }
         ensures stays { Stays S.names self.old self.new }
-        ensures costs { cost self.new < choices_cost self.old.procedures.items (frame_costs self.old.frames.items) self.old.choices.items }
+        ensures costs { cost self.new < choices_cost (frame_costs self.old.frames.items) self.old.choices.items }
     {
         self.choices.truncate(self.choices.len() - 1);
         self.store.forget(mark);
@@ -188,7 +173,7 @@ impl<S: Store + Drop> Plain<S> {
         ensures awake { IsAwake (phase_of self.new.now) }
         ensures steps { self.new.steps ≡ self.old.steps }
         ensures stays { Stays S.names self.old self.new }
-        ensures costs { cost self.new < choices_cost self.old.procedures.items (frame_costs self.old.frames.items) self.old.choices.items }
+        ensures costs { cost self.new < choices_cost (frame_costs self.old.frames.items) self.old.choices.items }
     {
         self.choices.truncate(self.choices.len() - 1);
         self.store.forget(mark);
@@ -206,8 +191,8 @@ impl<S: Store + Drop> Plain<S> {
         ensures awake { IsAwake (phase_of self.new.now) }
         ensures step { self.new.steps + 1 ≡ self.old.steps }
         ensures stays { Stays S.names self.old self.new }
-        ensures costs { cost self.new ≤ choices_cost self.old.procedures.items (frame_costs self.old.frames.items) self.old.choices.items
-            + choices_cost self.old.procedures.items (frame_costs self.old.frames.items) self.old.choices.items }
+        ensures costs { cost self.new ≤ choices_cost (frame_costs self.old.frames.items) self.old.choices.items
+            + choices_cost (frame_costs self.old.frames.items) self.old.choices.items }
     {
         self.steps -= 1;
         self.now = at(self.frames.as_slice(), place);
@@ -280,21 +265,21 @@ impl<S: Store + Drop> Plain<S> {
         ensures steps { self.new.steps ≡ self.old.steps }
         ensures stays { Stays S.names self.old self.new }
         ensures frames_same { self.new.frames ≡ self.old.frames }
-        ensures costs { choices_cost self.old.procedures.items (frame_costs self.old.frames.items) self.new.choices.items
-            ≤ choices_cost self.old.procedures.items (frame_costs self.old.frames.items) self.old.choices.items + left_cost most (rest_cost (frame_costs self.old.frames.items) attempt.rest) }
+        ensures costs { choices_cost (frame_costs self.old.frames.items) self.new.choices.items
+            ≤ choices_cost (frame_costs self.old.frames.items) self.old.choices.items + left_cost most (rest_cost (frame_costs self.old.frames.items) attempt.rest) }
     {
-        let count = clause_count(self.procedures.as_slice(), attempt.procedure);
-        if attempt.clause + 1 >= count {
+        let mut later = attempt.later;
+        let Some(clause) = next_left(&self.db, &mut later) else {
             return Ok(true);
-        }
+        };
         if self.choices.len() >= self.limit as usize {
             return Ok(false);
         }
-        self.push_later(attempt)?;
+        self.push_later(attempt, clause, later)?;
         Ok(true)
     }
 
-    /// Calls the procedure at the attempt's place: its first clause is entered, those behind it are one choice (7.7.7). False
+    /// Calls a procedure: the attempt's clause is entered, those behind it are one choice (7.7.7). False
     /// where no choice may be made any more; the engine is as it was then.
     pub(crate) fn call(&mut self, attempt: Attempt<S::Word>) -> Result<bool, StoreFault>
         requires { (s : State) × (call : Tree) × (c : databases.Clause) × (cs : List databases.Clause) × (behind : List Member)
@@ -313,7 +298,7 @@ impl<S: Store + Drop> Plain<S> {
         ensures full { result ≡ Err StoreFault.Full → S.full self.new.store }
         ensures steps { self.new.steps ≡ self.old.steps }
         ensures stays { Stays S.names self.old self.new }
-        ensures costs { result ≡ Ok true → cost self.new ≤ choices_cost self.old.procedures.items (frame_costs self.old.frames.items) self.old.choices.items
+        ensures costs { result ≡ Ok true → cost self.new ≤ choices_cost (frame_costs self.old.frames.items) self.old.choices.items
             + left_cost most (rest_cost (frame_costs self.old.frames.items) attempt.rest) + body_cost most (rest_cost (frame_costs self.old.frames.items) attempt.rest) }
     {
         let mark = self.choices.len();

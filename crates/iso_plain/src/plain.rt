@@ -1,12 +1,13 @@
 //! The plain engine: its parts, and how a run begins and ends.
 ghost use Rattle.std.specs.Prelude.{◌≡◌, []};
 
+use iso_db::Db;
 use iso_model::{Ball, Pause};
 use iso_ops::{Flags, OpTable};
 use iso_plain_core::bodies::Node;
 use iso_plain_core::callables::Callable;
+use iso_plain_core::clauses::Clause;
 use iso_plain_core::parts::{Choice, Frame, Now};
-use iso_plain_core::procedures::Procedure;
 use iso_plain_core::vocabulary::Vocabulary;
 use iso_store_core::Store;
 use std::alloc::Global;
@@ -23,7 +24,8 @@ pub enum Move {
 pub struct Plain<S: Store> {
     pub(crate) alloc: Global,
     pub(crate) store: S,
-    pub(crate) procedures: Vec<Procedure>,
+    /// The clauses of the procedures.
+    pub(crate) db: Db<Clause>,
     /// What is callable under each name, by the number of its atom.
     pub(crate) callables: Vec<Vec<Callable>>,
     /// The names that it knows beforehand.
@@ -74,6 +76,7 @@ impl<S: Store + Drop> Plain<S> {
         ensures base { IsBase (S.stands self.new.store) self.new.base }
     {
         self.choices.clear();
+        self.db.forget_views();
         self.nodes.clear();
         self.frames.clear();
         self.query.clear();

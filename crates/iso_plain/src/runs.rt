@@ -103,11 +103,11 @@ impl<S: Store + Drop> Plain<S> {
                 self.throw(ball, frame.next);
                 Ok(Move::Goes)
             }
-            Called::User(procedure) => {
+            Called::User(clause, later) => {
                 self.steps -= 1;
                 self.call_first(Attempt {
-                    procedure,
-                    clause: 0,
+                    clause,
+                    later,
                     goal,
                     rest: frame.next,
                 })
@@ -180,7 +180,7 @@ impl<S: Store + Drop> Plain<S> {
         }
     }
 
-    /// Calls the procedure at the attempt's place; where no choice may be made any more the engine is spent.
+    /// Calls a procedure with the attempt's clauses; where no choice may be made any more the engine is spent.
     fn call_first(&mut self, attempt: Attempt<S::Word>) -> Result<Move, StoreFault>
         requires { (s : State) × (call : Tree) × (c : databases.Clause) × (cs : List databases.Clause) × (behind : List Member)
             × Calls S.names S.present S.stands S.older self.old attempt s call c cs behind }
@@ -190,7 +190,7 @@ impl<S: Store + Drop> Plain<S> {
         ensures kept { (s : State) (call : Tree) (c : databases.Clause) (cs : List databases.Clause) (behind : List Member)
             → Calls S.names S.present S.stands S.older self.old attempt s call c cs behind
             → OnErr result (WasRefused S.names S.present S.stands S.older self.new s (with_others call cs behind s)) }
-        ensures falls { (w : ℕ) → choices_cost self.old.procedures.items (frame_costs self.old.frames.items) self.old.choices.items
+        ensures falls { (w : ℕ) → choices_cost (frame_costs self.old.frames.items) self.old.choices.items
             + rest_cost (frame_costs self.old.frames.items) attempt.rest ≤ w → IfOk result (λ m. Falls m (whole_cost (suc self.old.steps) w) (weight self.new)) }
         ensures frames { (s : State) (call : Tree) (c : databases.Clause) (cs : List databases.Clause) (behind : List Member)
             → Calls S.names S.present S.stands S.older self.old attempt s call c cs behind

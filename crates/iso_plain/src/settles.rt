@@ -73,8 +73,8 @@ impl<S: Store + Drop> Plain<S> {
         ensures over { result ≡ Ok false → (self.old.limit ≤ length self.old.choices.items) × (0 < length offers.items) }
         ensures steps { self.new.steps ≡ self.old.steps }
         ensures frames { self.new.frames ≡ self.old.frames }
-        ensures costs { choices_cost self.old.procedures.items (frame_costs self.old.frames.items) self.new.choices.items
-            ≤ choices_cost self.old.procedures.items (frame_costs self.old.frames.items) self.old.choices.items + left_cost most (rest_cost (frame_costs self.old.frames.items) place) }
+        ensures costs { choices_cost (frame_costs self.old.frames.items) self.new.choices.items
+            ≤ choices_cost (frame_costs self.old.frames.items) self.old.choices.items + left_cost most (rest_cost (frame_costs self.old.frames.items) place) }
         ensures stays { Stays S.names self.old self.new }
     {
         if offers.is_empty() {
@@ -106,7 +106,7 @@ impl<S: Store + Drop> Plain<S> {
             → IfOk result (λ m. WasCalled S.names S.present S.stands S.older m self.new s (offered made (goal_arguments (meaning (S.present self.old.store) goal)) (map offer_tree offers.items) s.list s)) }
         ensures kept { (s : State) (made : ℕ) → MeetsRow S.names S.present S.stands S.older self.old goal s place
             → OnErr result (WasStopped S.names S.present S.stands S.older self.new s (offered made (goal_arguments (meaning (S.present self.old.store) goal)) (map offer_tree offers.items) s.list s)) }
-        ensures falls { (w : ℕ) → choices_cost self.old.procedures.items (frame_costs self.old.frames.items) self.old.choices.items
+        ensures falls { (w : ℕ) → choices_cost (frame_costs self.old.frames.items) self.old.choices.items
             + rest_cost (frame_costs self.old.frames.items) place ≤ w → IfOk result (λ m. Falls m (whole_cost (suc self.old.steps) w) (weight self.new)) }
         ensures frames { (s : State) (made : ℕ) → MeetsRow S.names S.present S.stands S.older self.old goal s place
             → ResultFull ((self.old.limit ≤ length self.old.choices.items)
@@ -140,7 +140,7 @@ impl<S: Store + Drop> Plain<S> {
             → IfOk result (λ m. WasCalled S.names S.present S.stands S.older m self.new s (settled (setting_settled row (meaning (S.present self.old.store) goal) s.world) s.list s)) }
         ensures kept { (s : State) → AsksAt S.names S.present S.stands S.older self.old row goal s place
             → OnErr result (WasStopped S.names S.present S.stands S.older self.new s (settled (setting_settled row (meaning (S.present self.old.store) goal) s.world) s.list s)) }
-        ensures falls { (w : ℕ) → choices_cost self.old.procedures.items (frame_costs self.old.frames.items) self.old.choices.items
+        ensures falls { (w : ℕ) → choices_cost (frame_costs self.old.frames.items) self.old.choices.items
             + rest_cost (frame_costs self.old.frames.items) place + 1 ≤ w → IfOk result (λ m. Falls m (whole_cost (suc self.old.steps) w) (weight self.new)) }
         ensures frames { (s : State) → AsksAt S.names S.present S.stands S.older self.old row goal s place
             → ResultFull ((self.old.limit ≤ length self.old.choices.items)
@@ -179,8 +179,8 @@ impl<S: Store + Drop> Plain<S> {
             → c.left ≡ left.Offered goal place offers → WentBack S.names S.present S.stands S.older self.old c s a below → MeetsNext S.names S.present S.stands S.older self.new goal place s a below result }
         ensures costs { (c : kept.Choice S.Word S.Mark) (goal : S.Word) (place : Option ℕ) (offers : Vec rows.Offer Global) (s : State) (a : Alternative) (below : List Alternative) → c.mark ≡ mark
             → c.left ≡ left.Offered goal place offers → WentBack S.names S.present S.stands S.older self.old c s a below
-            → choices_cost self.old.procedures.items (frame_costs self.old.frames.items) self.new.choices.items + (body_cost most (rest_cost (frame_costs self.old.frames.items) place) + 1)
-            ≤ choices_cost self.old.procedures.items (frame_costs self.old.frames.items) self.old.choices.items }
+            → choices_cost (frame_costs self.old.frames.items) self.new.choices.items + (body_cost most (rest_cost (frame_costs self.old.frames.items) place) + 1)
+            ≤ choices_cost (frame_costs self.old.frames.items) self.old.choices.items }
         ensures steps { self.new.steps ≡ self.old.steps }
         ensures frames { self.new.frames ≡ self.old.frames }
         ensures stays { Stays S.names self.old self.new }
@@ -217,7 +217,7 @@ impl<S: Store + Drop> Plain<S> {
         ensures awake { OnOk result (IsAwake (phase_of self.new.now)) }
         ensures full { result ≡ Err StoreFault.Full → S.full self.new.store }
         ensures steps { self.new.steps ≡ self.old.steps }
-        ensures costs { OnOk result (cost self.new < choices_cost self.old.procedures.items (frame_costs self.old.frames.items) self.old.choices.items) }
+        ensures costs { OnOk result (cost self.new < choices_cost (frame_costs self.old.frames.items) self.old.choices.items) }
         ensures stays { Stays S.names self.old self.new }
     {
         let offer = self.next_offer(mark);

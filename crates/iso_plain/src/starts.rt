@@ -8,6 +8,7 @@ ghost use Rattle.iso_model.specs.Search.Additions.{consulted};
 ghost use Rattle.iso_model.specs.Search.Walker.{World, first_world, idle, started};
 
 use super::plain::Plain;
+use iso_db::Db;
 use iso_lib::errors;
 use iso_model::{AddFault, Term};
 use iso_ops::{Flags, OpTable};
@@ -46,7 +47,7 @@ impl<S: Store + Drop> Plain<S> {
         Ok(Plain {
             alloc,
             store,
-            procedures: Vec::new(alloc),
+            db: Db::new(alloc),
             callables,
             vocabulary,
             ops,
@@ -154,7 +155,7 @@ impl<S: Store + Drop> Plain<S> {
         let name = self.store.intern(text)?;
         procedures::add(
             self.alloc,
-            &mut self.procedures,
+            &mut self.db,
             &mut self.callables,
             Functor { name, arity },
             text,

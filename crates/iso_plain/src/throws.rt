@@ -77,8 +77,8 @@ impl<S: Store + Drop> Plain<S> {
         ensures back { (s : State) (ball : Tree) (behind : List Member) → IsEngine S.names S.present S.stands S.older self.old s
             → s.list ≡ Raise ball ∷ behind → (g : GoesTo ball behind s height)
             → IsCaught S.names S.present S.stands S.older self.new result.0 ball g.catcher g.recovery (went_back g.alternative g.below s) result.1 }
-        ensures costs { choices_cost self.old.procedures.items (frame_costs self.new.frames.items) self.new.choices.items
-            + left_cost 1 (rest_cost (frame_costs self.new.frames.items) result.1) ≤ choices_cost self.old.procedures.items (frame_costs self.old.frames.items) self.old.choices.items }
+        ensures costs { choices_cost (frame_costs self.new.frames.items) self.new.choices.items
+            + left_cost 1 (rest_cost (frame_costs self.new.frames.items) result.1) ≤ choices_cost (frame_costs self.old.frames.items) self.old.choices.items }
         ensures steps { self.new.steps ≡ self.old.steps }
         ensures stays { Stays S.names self.old self.new }
     {
@@ -102,7 +102,7 @@ impl<S: Store + Drop> Plain<S> {
         ensures kept { (s : State) → Recovers S.names S.present S.stands S.older self.old recovery s next
             → OnErr result (Keeps S.names S.present S.stands S.older self.new s.world s.stack) }
         ensures full { result ≡ Err StoreFault.Full → S.full self.new.store }
-        ensures costs { OnOk result (cost self.new ≤ choices_cost self.old.procedures.items (frame_costs self.old.frames.items) self.old.choices.items
+        ensures costs { OnOk result (cost self.new ≤ choices_cost (frame_costs self.old.frames.items) self.old.choices.items
             + body_cost most (rest_cost (frame_costs self.old.frames.items) next)) }
         ensures awake { OnOk result (IsAwake (phase_of self.new.now)) }
         ensures steps { self.new.steps ≡ self.old.steps }
@@ -153,7 +153,7 @@ impl<S: Store + Drop> Plain<S> {
         ensures kept { (s : State) (ball : Tree) → MeetsBall S.names S.present S.stands S.older self.old goal ball s next
             → OnErr result (Keeps S.names S.present S.stands S.older self.new s.world s.stack) }
         ensures full { result ≡ Err StoreFault.Full → S.full self.new.store }
-        ensures costs { OnOk result (cost self.new ≤ choices_cost self.old.procedures.items (frame_costs self.old.frames.items) self.old.choices.items
+        ensures costs { OnOk result (cost self.new ≤ choices_cost (frame_costs self.old.frames.items) self.old.choices.items
             + body_cost most (rest_cost (frame_costs self.old.frames.items) next)) }
         ensures awake { OnOk result (IsAwake (phase_of self.new.now)) }
         ensures steps { self.new.steps ≡ self.old.steps }

@@ -1,27 +1,24 @@
 -- What is called, as procedures come and clauses are added to them.
-use Rattle.std.proofs.Common.{◌≡◌, ◌<◌, ◌==◌, ℕ, suc, List, [], ◌∷◌, ◌++◌, length, get_or, set, refl, sym, ap, ap₂, ◌∙◌, Bool, true, false, ◌&&◌, ◌||◌, Some, None, Option, option_map, if◌then◌else◌, position, Vec, Global}
-use Rattle.std.specs.Option.{option_or}
-use Rattle.std.specs.String.{string_bytes}
-use Rattle.std.specs.Str.{bytes_eq}
-use Rattle.std.proofs.lemmas.List.{length-set}
-use Rattle.std.proofs.lemmas.List.Folds.{position_or_len-set}
+use Rattle.std.proofs.Common.{◌≡◌, ◌<◌, ◌==◌, ◌⊎◌, ℕ, List, [], ◌∷◌, length, refl, sym, ap, ◌∙◌, subst, Bool, true, false, ◌&&◌, ◌||◌, Some, None, Option, option_map, inl, inr, Vec, Global}
+use Rattle.std.specs.Option.{option_or, option_and_then}
+use Rattle.std.specs.List.{slice_get}
+use Rattle.std.proofs.lemmas.Bool.{cases_Bool}
 use Rattle.iso_model.specs.Search.Databases as databases
-use Rattle.iso_model.specs.Search.Databases.{Key, Procedures, key, same_key, at_end, with_clause}
+use Rattle.iso_model.specs.Search.Databases.{Key, key, same_key}
 use Rattle.iso_model.specs.Search.BuiltIns.{built_in, is_built_in, is_control, is_some_built_in}
 use Rattle.iso_model.specs.declared.built_ins.BuiltIn.{BuiltIn}
 use Rattle.iso_store_core.proofs.AtomLemmas.{text-is}
+use Rattle.iso_db.specs.Databases.{Database, Procedure, no_procedures, with_procedure}
 use Rattle.iso_plain_core.specs.declared.callables.Callable.{Callable}
 use Rattle.iso_plain_core.specs.declared.callables.Callee.{Callee}
 use Rattle.iso_plain_core.specs.declared.callables.Callee.TheVariants as callee
 use Rattle.iso_plain_core.specs.declared.clauses.Clause.{Clause}
 use Rattle.iso_plain_core.specs.declared.procedures.Functor.{Functor}
-use Rattle.iso_plain_core.specs.declared.procedures.Procedure.{Procedure}
-use Rattle.iso_plain_core.specs.Adding.{IsFound, AddsProcedure}
-use Rattle.iso_plain_core.specs.Callables.{Indexes, callee_at, callee_of, where_holds, has_key, place_at}
-use Rattle.iso_plain_core.specs.Kept.{IsClause}
-use Rattle.iso_plain_core.specs.Programs.{IsDatabase}
-use Rattle.iso_plain_core.proofs.CallableLemmas.{index_same, index_more, index_none}
-use Rattle.iso_plain_core.proofs.ProgramLemmas.{position_cons, position_within, Grown, clause_comes, procedure_comes, procedure_stays}
+use Rattle.iso_plain_core.specs.Adding.{IsFound}
+use Rattle.iso_plain_core.specs.Callables.{Indexes, Finds, Agrees, callee_at, callee_of, where_holds}
+use Rattle.iso_plain_core.specs.Programs.{place_at, kept_at, kind_of}
+use Rattle.iso_plain_core.proofs.CallableLemmas.{index_same, index_more, index_none, same_key_is}
+use Rattle.iso_plain_core.proofs.ProgramLemmas.{place_within, placed_kept, placed_other, with_new, same_place, kept_other}
 
 -- ---- what a key calls
 
@@ -30,24 +27,24 @@ user_parts (Some b) q i h = absurd (cc h)
 user_parts None (Some j) i h = (refl, cc h)
 user_parts None None i h = absurd (cc h)
 
-pub called_user : (ps : List Procedure) (k : Key) (i : ℕ) → callee_of ps k ≡ Some (callee.User i) → (built_in k ≡ None) × (place_at ps k ≡ Some i)
-called_user ps k i h = user_parts (built_in k) (place_at ps k) i h
+pub called_user : (d : Database Clause) (k : Key) (i : ℕ) → callee_of d k ≡ Some (callee.User i) → (built_in k ≡ None) × (place_at d k ≡ Some i)
+called_user d k i h = user_parts (built_in k) (place_at d k) i h
 
 own_parts : (o : Option BuiltIn) (q : Option ℕ) (b : BuiltIn) → option_or (option_map callee.BuiltIn o) (option_map callee.User q) ≡ Some (callee.BuiltIn b) → o ≡ Some b
 own_parts (Some d) q b h = cc h
 own_parts None (Some j) b h = absurd (cc h)
 own_parts None None b h = absurd (cc h)
 
-pub called_own : (ps : List Procedure) (k : Key) (b : BuiltIn) → callee_of ps k ≡ Some (callee.BuiltIn b) → built_in k ≡ Some b
-called_own ps k b h = own_parts (built_in k) (place_at ps k) b h
+pub called_own : (d : Database Clause) (k : Key) (b : BuiltIn) → callee_of d k ≡ Some (callee.BuiltIn b) → built_in k ≡ Some b
+called_own d k b h = own_parts (built_in k) (place_at d k) b h
 
 no_parts : (o : Option BuiltIn) (q : Option ℕ) → option_or (option_map callee.BuiltIn o) (option_map callee.User q) ≡ None → (o ≡ None) × (q ≡ None)
 no_parts (Some d) q h = absurd (cc h)
 no_parts None (Some j) h = absurd (cc h)
 no_parts None None h = (refl, refl)
 
-pub called_none : (ps : List Procedure) (k : Key) → callee_of ps k ≡ None → (built_in k ≡ None) × (place_at ps k ≡ None)
-called_none ps k h = no_parts (built_in k) (place_at ps k) h
+pub called_none : (d : Database Clause) (k : Key) → callee_of d k ≡ None → (built_in k ≡ None) × (place_at d k ≡ None)
+called_none d k h = no_parts (built_in k) (place_at d k) h
 
 -- what is no built-in and no control construct is no built-in
 pub user_alone : (k : Key) → is_built_in k ≡ false → built_in k ≡ None
@@ -58,93 +55,98 @@ user_alone k h = by_or (is_control k) (built_in k) h where
   by_or false (Some b) h = absurd (cc h)
 
 -- without procedures a key calls a built-in alone
-pub callee_first : (k : Key) → callee_of [] k ≡ option_map callee.BuiltIn (built_in k)
+pub callee_first : (k : Key) → callee_of no_procedures k ≡ option_map callee.BuiltIn (built_in k)
 callee_first k = alone (built_in k) where
   alone : (o : Option BuiltIn) → option_or (option_map callee.BuiltIn o) (option_map callee.User None) ≡ option_map callee.BuiltIn o
   alone (Some b) = refl
   alone None = refl
 
--- ---- procedures come
+-- ---- what is found
 
-later_or : (o : Option ℕ) (holds : Bool) (n : ℕ) → option_map suc (option_or o (where_holds holds n)) ≡ option_or (option_map suc o) (where_holds holds (suc n))
-later_or (Some m) holds n = refl
-later_or None true n = refl
-later_or None false n = refl
-
-position_more : {X : Type 0} (p : X → Bool) (xs : List X) (y : X) → position p (xs ++ y ∷ []) ≡ option_or (position p xs) (where_holds (p y) (length xs))
-position_more p [] y = position_cons p y [] ∙ alone (p y) where
-  alone : (holds : Bool) → (if holds then Some 0 else option_map suc None) ≡ option_or None (where_holds holds 0)
-  alone true = refl
-  alone false = refl
-position_more p (x ∷ xs) y = position_cons p x (xs ++ y ∷ []) ∙ by_first (position_more p xs y) (p x) ∙ sym (ap (λ o. option_or o (where_holds (p y) (suc (length xs)))) (position_cons p x xs)) where
-  by_first : position p (xs ++ y ∷ []) ≡ option_or (position p xs) (where_holds (p y) (length xs)) → (holds : Bool) → (if holds then Some 0 else option_map suc (position p (xs ++ y ∷ []))) ≡ option_or (if holds then Some 0 else option_map suc (position p xs)) (where_holds (p y) (suc (length xs)))
-  by_first rest true = refl
-  by_first rest false = ap (option_map suc) rest ∙ later_or (position p xs) (p y) (length xs)
-
-own_or : (o : Option BuiltIn) (q : Option ℕ) (holds : Bool) (n : ℕ) → option_or (option_map callee.BuiltIn o) (option_map callee.User (option_or q (where_holds holds n)))
-    ≡ option_or (option_or (option_map callee.BuiltIn o) (option_map callee.User q)) (where_holds holds (callee.User n))
-own_or (Some b) q holds n = refl
-own_or None (Some i) holds n = refl
-own_or None None true n = refl
-own_or None None false n = refl
-
-pub callee_more : (ps : List Procedure) (p : Procedure) (k : Key) → callee_of (ps ++ p ∷ []) k ≡ option_or (callee_of ps k) (where_holds (has_key k p) (callee.User (length ps)))
-callee_more ps p k = ap (λ q. option_or (option_map callee.BuiltIn (built_in k)) (option_map callee.User q)) (position_more (has_key k) ps p) ∙ own_or (built_in k) (place_at ps k) (has_key k p) (length ps)
-
--- a procedure that keeps its name and arity
-position_set : {X : Type 0} (p : X → Bool) (xs : List X) (i : ℕ) (y d : X) → p y ≡ p (get_or xs i d) → position p (set xs i y) ≡ position p xs
-position_set p xs i y d same = rw (position_or_len-set p xs i y d same, length-set) refl
-
-pub callee_set : (ps : List Procedure) (n : ℕ) (old new : Procedure) (k : Key) → old ≡ get_or ps n old → new.name ≡ old.name → new.arity ≡ old.arity → callee_of (set ps n new) k ≡ callee_of ps k
-callee_set ps n old new k there name arity =
-    let alike : has_key k new ≡ has_key k old = ap₂ (λ m a. m == k.arity && bytes_eq (string_bytes a) k.name) arity name in
-    let same : has_key k new ≡ has_key k (get_or ps n old) = alike ∙ ap (has_key k) there in
-    ap (λ q. option_or (option_map callee.BuiltIn (built_in k)) (option_map callee.User q)) (position_set (has_key k) ps n new old same)
-
--- ---- a clause is added
-
-module _ (names : List (List ℕ)) (f : Functor) (text : List ℕ) (ps : List Procedure) (rows : List (Vec Callable Global)) (h : IsFound names f text ps rows) where
+module _ (names : List (List ℕ)) (f : Functor) (text : List ℕ) (d : Database Clause) (rows : List (Vec Callable Global)) (h : IsFound names f text d rows) where
   abbrev named : Key
   named = key text f.arity
 
-  pub found_called : (c : Callee) → callee_at rows f.name f.arity ≡ Some c → callee_of ps named ≡ Some c
-  found_called c is = ap (λ t. callee_of ps (key t f.arity)) (sym (text-is names f.name text h.atom)) ∙ (h.found.sound f.name f.arity c is).1
+  found_called : (c : Callee) → callee_at rows f.name f.arity ≡ Some c → h.found.calls named ≡ Some c
+  found_called c is = ap (λ t. h.found.calls (key t f.arity)) (sym (text-is names f.name text h.atom)) ∙ (h.found.indexes.sound f.name f.arity c is).1
 
-  pub found_place : (i : ℕ) → callee_at rows f.name f.arity ≡ Some (callee.User i) → place_at ps named ≡ Some i
-  found_place i is = (called_user ps named i (found_called (callee.User i) is)).1
+  -- what was found is called
+  pub found_callee : (c : Callee) → callee_at rows f.name f.arity ≡ Some c → callee_of d named ≡ Some c
+  found_callee c is = by_case (h.found.agrees named) where
+    by_case : Agrees d named (h.found.calls named) → callee_of d named ≡ Some c
+    by_case (inl same) = sym same ∙ found_called c is
+    by_case (inr none) = absurd (let e : None ≡ Some c = sym none.0 ∙ found_called c is in cc e)
 
-  pub place_within : (i : ℕ) → callee_at rows f.name f.arity ≡ Some (callee.User i) → i < length ps
-  place_within i is = position_within (has_key named) ps i (found_place i is)
+  pub found_place : (i : ℕ) → callee_at rows f.name f.arity ≡ Some (callee.User i) → place_at d named ≡ Some i
+  found_place i is = (called_user d named i (found_callee (callee.User i) is)).1
 
-  pub found_nothing : callee_at rows f.name f.arity ≡ None → callee_of ps named ≡ None
-  found_nothing is = index_none names rows (callee_of ps) f.name f.arity text h.each_once h.atom h.found is
+  pub found_nothing : callee_at rows f.name f.arity ≡ None → h.found.calls named ≡ None
+  found_nothing is = index_none names rows h.found.calls f.name f.arity text h.each_once h.atom h.found.indexes is
 
-  -- at the end of its procedure
-  pub clause_added : (i : ℕ) (old new : Procedure) (kept : Clause) (c : databases.Clause) (db : Procedures) → callee_at rows f.name f.arity ≡ Some (callee.User i) → old ≡ get_or ps i old → Grown old new kept
-      → IsDatabase names ps db → IsClause names kept c → IsDatabase names (set ps i new) (with_clause at_end db named c) × Indexes names rows (callee_of (set ps i new))
-  clause_added i old new kept c db is there grown are clause = (
-    clause_comes named i old new kept c are (found_place i is) there grown clause,
-    index_same names rows rows (callee_of ps) (callee_of (set ps i new)) (λ a n. refl) (λ k. callee_set ps i old new k there grown.name grown.arity) h.found,
-  )
+  pub found_absent : callee_at rows f.name f.arity ≡ None → kind_of (kept_at d named) ≡ None
+  found_absent is = by_case (h.found.agrees named) where
+    by_case : Agrees d named (h.found.calls named) → kind_of (kept_at d named) ≡ None
+    by_case (inl same) = (let none = (called_none d named (sym same ∙ found_nothing is)).1 in ap (λ o. kind_of (option_and_then (slice_get d.procedures) o)) none)
+    by_case (inr none) = none.2
 
-  -- to a procedure that is made
-  pub procedure_added : (kept : Clause) (new : List Procedure) (more : List (Vec Callable Global)) (c : databases.Clause) (db : Procedures) → callee_at rows f.name f.arity ≡ None → AddsProcedure f text kept ps new rows more
-      → IsDatabase names ps db → IsClause names kept c → IsDatabase names new (with_clause at_end db named c) × Indexes names more (callee_of new)
-  procedure_added kept new more c db is adds are clause =
-      let p = adds.procedure in
-      let nothing = called_none ps named (found_nothing is) in
-      let came : IsDatabase names (ps ++ p ∷ []) (with_clause at_end db named c) = procedure_comes named p kept c are nothing.1 adds.name adds.arity adds.clauses clause in
-      let keys : (k : Key) → has_key k p ≡ same_key named k = λ k. ap₂ (λ m t. m == k.arity && bytes_eq t k.name) adds.arity adds.name in
-      let calls : (k : Key) → callee_of (ps ++ p ∷ []) k ≡ option_or (callee_of ps k) (where_holds (same_key named k) (callee.User (length ps))) = λ k.
-      callee_more ps p k ∙ ap (λ b. option_or (callee_of ps k) (where_holds b (callee.User (length ps)))) (keys k) in
-      let found : Indexes names more (callee_of (ps ++ p ∷ [])) =
-      index_more names rows more (callee_of ps) (callee_of (ps ++ p ∷ [])) f.name f.arity text (callee.User (length ps)) h.each_once h.atom adds.found calls h.found in
-      rw adds.are (came, found)
+  -- a place came, under which nothing is found yet
+  pub finds_placed : (more : List (Vec Callable Global)) → callee_at rows f.name f.arity ≡ None → ((a n : ℕ) → callee_at more a n ≡ callee_at rows a n) → built_in named ≡ None → Finds names more (with_procedure text f.arity d)
+  finds_placed more is same none = record {
+    calls = h.found.calls;
+    indexes = index_same names rows more h.found.calls h.found.calls same (λ k. refl) h.found.indexes;
+    agrees = λ k. elim (cases_Bool (same_key named k)) [
+      | inl here ↦ subst (λ (j : Key). Agrees (with_procedure text f.arity d) j (h.found.calls j)) (same_key_is named k here)
+          (inr (found_nothing is, none, (placed_kept d text f.arity named).0 ∙ found_absent is))
+      | inr other ↦ agrees_other k other (h.found.agrees k)
+    ];
+  } where
+    agrees_other : (k : Key) → same_key named k ≡ false → Agrees d k (h.found.calls k) → Agrees (with_procedure text f.arity d) k (h.found.calls k)
+    agrees_other k other (inl a) = inl (a ∙ ap (λ o. option_or (option_map callee.BuiltIn (built_in k)) (option_map callee.User o)) (sym (placed_other d named k other)))
+    agrees_other k other (inr b) = inr (b.0, b.1, (placed_kept d text f.arity k).0 ∙ b.2)
 
--- nothing was added
-pub clause_refused : (names : List (List ℕ)) (ps : List Procedure) (rows : List (Vec Callable Global)) (i : ℕ) (old new : Procedure) (db : Procedures) → old ≡ get_or ps i old → new.name ≡ old.name → new.arity ≡ old.arity
-    → new.clauses.items ≡ old.clauses.items → IsDatabase names ps db → Indexes names rows (callee_of ps) → IsDatabase names (set ps i new) db × Indexes names rows (callee_of (set ps i new))
-clause_refused names ps rows i old new db there name arity clauses are found = (
-  procedure_stays i old new are there name arity clauses,
-  index_same names rows rows (callee_of ps) (callee_of (set ps i new)) (λ a n. refl) (λ k. callee_set ps i old new k there name arity) found,
-)
+  -- and is found then
+  pub finds_new : (more : List (Vec Callable Global)) (place : ℕ) → callee_at rows f.name f.arity ≡ None → built_in named ≡ None → place_at (with_procedure text f.arity d) named ≡ Some place
+      → ((a n : ℕ) → callee_at more a n ≡ option_or (callee_at rows a n) (where_holds (a == f.name && f.arity == n) (callee.User place))) → Finds names more (with_procedure text f.arity d)
+  finds_new more place is none at are = record {
+    calls = λ k. option_or (h.found.calls k) (where_holds (same_key named k) (callee.User place));
+    indexes = index_more names rows more h.found.calls (λ k. option_or (h.found.calls k) (where_holds (same_key named k) (callee.User place))) f.name f.arity text (callee.User place) h.each_once h.atom are (λ k. refl) h.found.indexes;
+    agrees = λ k. elim (cases_Bool (same_key named k)) [
+      | inl here ↦ (let one : Agrees (with_procedure text f.arity d) named (Some (callee.User place)) = inl (sym called) in
+          let now : option_or (h.found.calls named) (Some (callee.User place)) ≡ Some (callee.User place) = ap (λ o. option_or o (Some (callee.User place))) (found_nothing is) in
+          rw here (subst (λ (j : Key). Agrees (with_procedure text f.arity d) j (option_or (h.found.calls j) (Some (callee.User place)))) (same_key_is named k here)
+          (subst (λ (o : Option Callee). Agrees (with_procedure text f.arity d) named o) (sym now) one)))
+      | inr other ↦ rw other (subst (λ (o : Option Callee). Agrees (with_procedure text f.arity d) k o) (sym (or_none (h.found.calls k))) (agrees_other k other (h.found.agrees k)))
+    ];
+  } where
+    or_none : (o : Option Callee) → option_or o None ≡ o
+    or_none None = refl
+    or_none (Some c) = refl
+
+    called : callee_of (with_procedure text f.arity d) named ≡ Some (callee.User place)
+    called = ap (λ o. option_or (option_map callee.BuiltIn o) (option_map callee.User (place_at (with_procedure text f.arity d) named))) none ∙ ap (option_map callee.User) at
+
+    agrees_other : (k : Key) → same_key named k ≡ false → Agrees d k (h.found.calls k) → Agrees (with_procedure text f.arity d) k (h.found.calls k)
+    agrees_other k other (inl a) = inl (a ∙ ap (λ o. option_or (option_map callee.BuiltIn (built_in k)) (option_map callee.User o)) (sym (placed_other d named k other)))
+    agrees_other k other (inr b) = inr (b.0, b.1, (placed_kept d text f.arity k).0 ∙ b.2)
+
+-- a clause came where the procedure is found
+pub finds_more : (names : List (List ℕ)) (f : Functor) (text : List ℕ) (d : Database Clause) (rows : List (Vec Callable Global)) (place : ℕ) (value : Clause) → slice_get names f.name ≡ Some text → place_at d (key text f.arity) ≡ Some place
+    → callee_at rows f.name f.arity ≡ Some (callee.User place) → Finds names rows d → Finds names rows (with_new d place value)
+finds_more names f text d rows place value atom at found is = record {
+  calls = is.calls;
+  indexes = is.indexes;
+  agrees = λ k. by_case k (is.agrees k);
+} where
+  named : Key
+  named = key text f.arity
+
+  called : is.calls named ≡ Some (callee.User place)
+  called = ap (λ t. is.calls (key t f.arity)) (sym (text-is names f.name text atom)) ∙ (is.indexes.sound f.name f.arity (callee.User place) found).1
+
+  by_case : (k : Key) → Agrees d k (is.calls k) → Agrees (with_new d place value) k (is.calls k)
+  by_case k (inl a) = inl (a ∙ ap (λ o. option_or (option_map callee.BuiltIn (built_in k)) (option_map callee.User o)) (sym (same_place d place value k)))
+  by_case k (inr b) =
+      elim (cases_Bool (same_key named k)) [
+        | inl here ↦ absurd (let same : is.calls k ≡ Some (callee.User place) = ap is.calls (sym (same_key_is named k here)) ∙ called in let e : None ≡ Some (callee.User place) = sym b.0 ∙ same in cc e)
+        | inr other ↦ inr (b.0, b.1, ap kind_of (kept_other d place value named k at other) ∙ b.2)
+      ]

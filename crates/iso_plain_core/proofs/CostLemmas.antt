@@ -7,12 +7,11 @@ use Rattle.iso_plain_core.specs.declared.parts.Frame.{Frame}
 use Rattle.iso_plain_core.specs.declared.parts.Choice as kept
 use Rattle.iso_plain_core.specs.declared.parts.Left.{Left}
 use Rattle.iso_plain_core.specs.declared.parts.Left.TheVariants as left
-use Rattle.iso_plain_core.specs.declared.procedures.Procedure.{Procedure}
-use Rattle.iso_model.specs.Search.Databases.{Clause}
 use Rattle.iso_model.specs.Search.Walker.{Member, Alternative}
 use Rattle.iso_store_core.specs.Presents.{Present}
 use Rattle.iso_plain_core.specs.Standing.{Links, IsBefore, Chain, ends, leads, HasLeft, StandsForChoices, links_at, none_kept, one_kept}
-use Rattle.iso_plain_core.specs.ClausePlaces.{clauses_at_place}
+use Rattle.iso_db.specs.Presents.{remaining}
+use Rattle.iso_plain_core.specs.Leaving.{Leaving}
 use Rattle.iso_plain_core.specs.Costs.{choice_cost, choices_cost, now_cost, body_cost, most, left_cost, whole_cost, todo_cost, frame_cost, costs_behind, frame_costs, place_cost}
 use Rattle.iso_plain_core.specs.Next.{IsPlace, now_at, now_behind}
 use Rattle.iso_plain_core.proofs.StandingLemmas.{chain_place}
@@ -191,39 +190,39 @@ behind_cost {links = links} (Some i) (leads {f = f} at below member others) =
 
 -- ---- choices
 
-pub choices_last : {W M : Type 0} (ps : List Procedure) (costs : List ℕ) (cs : List (kept.Choice W M)) (c : kept.Choice W M) → choices_cost ps costs (cs ++ c ∷ []) ≡ choices_cost ps costs cs + choice_cost ps costs c.left
-choices_last ps costs [] c = omega arith
-choices_last ps costs (d ∷ cs) c = let more = choices_last ps costs cs c in omega (arith, more)
+pub choices_last : {W M : Type 0} (costs : List ℕ) (cs : List (kept.Choice W M)) (c : kept.Choice W M) → choices_cost costs (cs ++ c ∷ []) ≡ choices_cost costs cs + choice_cost costs c.left
+choices_last costs [] c = omega arith
+choices_last costs (d ∷ cs) c = let more = choices_last costs cs c in omega (arith, more)
 
-pub choices_fewer : {W M : Type 0} (n : ℕ) (ps : List Procedure) (costs : List ℕ) (cs : List (kept.Choice W M)) → choices_cost ps costs (take n cs) ≤ choices_cost ps costs cs
-choices_fewer zero ps costs cs = omega arith
-choices_fewer (suc n) ps costs [] = omega arith
-choices_fewer (suc n) ps costs (c ∷ cs) = let more = choices_fewer n ps costs cs in omega (arith, more)
+pub choices_fewer : {W M : Type 0} (n : ℕ) (costs : List ℕ) (cs : List (kept.Choice W M)) → choices_cost costs (take n cs) ≤ choices_cost costs cs
+choices_fewer zero costs cs = omega arith
+choices_fewer (suc n) costs [] = omega arith
+choices_fewer (suc n) costs (c ∷ cs) = let more = choices_fewer n costs cs in omega (arith, more)
 
-pub left_place : {W : Type 0} (left_at : ℕ → ℕ → List Clause) (query : List W) (named : List ℕ) (p : Present W) (links : Links W) (a : Alternative) (ps : List Procedure) (more : List Frame) (left : Left W) → HasLeft left_at query named p links left a
-    → choice_cost ps (frame_costs (links.frames ++ more)) left ≡ choice_cost ps (frame_costs links.frames) left
-left_place left_at query named p links a ps more (left.AsIs place) h = ap suc (more_cost links.frames more place (chain_place place h.on.chain))
-left_place left_at query named p links a ps more (left.Again place) h = ap suc (more_cost links.frames more place (chain_place place h.on.chain))
-left_place left_at query named p links a ps more (left.Catching goal place) h = ap (left_cost 1) (more_cost links.frames more place (chain_place place h.on.chain))
-left_place left_at query named p links a ps more (left.Gathering result place gathered) h = ap suc (more_cost links.frames more place (chain_place place h.on.chain))
-left_place left_at query named p links a ps more (left.Offered goal place offers) h = ap (left_cost (length offers.items)) (more_cost links.frames more place (chain_place place h.on.chain))
-left_place left_at query named p links a ps more (left.Clauses attempt) h =
-    ap (left_cost (clauses_at_place ps attempt.procedure - attempt.clause)) (more_cost links.frames more attempt.rest (chain_place attempt.rest h.at.on.chain))
+pub left_place : {W : Type 0} (leaves : Leaving) (query : List W) (named : List ℕ) (p : Present W) (links : Links W) (a : Alternative) (more : List Frame) (left : Left W) → HasLeft leaves query named p links left a
+    → choice_cost (frame_costs (links.frames ++ more)) left ≡ choice_cost (frame_costs links.frames) left
+left_place leaves query named p links a more (left.AsIs place) h = ap suc (more_cost links.frames more place (chain_place place h.on.chain))
+left_place leaves query named p links a more (left.Again place) h = ap suc (more_cost links.frames more place (chain_place place h.on.chain))
+left_place leaves query named p links a more (left.Catching goal place) h = ap (left_cost 1) (more_cost links.frames more place (chain_place place h.on.chain))
+left_place leaves query named p links a more (left.Gathering result place gathered) h = ap suc (more_cost links.frames more place (chain_place place h.on.chain))
+left_place leaves query named p links a more (left.Offered goal place offers) h = ap (left_cost (length offers.items)) (more_cost links.frames more place (chain_place place h.on.chain))
+left_place leaves query named p links a more (left.Clauses attempt) h =
+    ap (left_cost (suc (remaining attempt.later))) (more_cost links.frames more attempt.rest (chain_place attempt.rest h.at.on.chain))
 
 -- over more frames choices cost what they did
-pub choices_on_more : {W M : Type 0} {stands : M → Present W → Type 0} {older : M → M → Type 0} {base : M} {left_at : ℕ → ℕ → List Clause} {query : List W} {named : List ℕ} {links : Links W} {cs : List (kept.Choice W M)} {ks : List Alternative}
-    (ps : List Procedure) (more : List Frame) → StandsForChoices stands older base left_at query named links cs ks
-    → choices_cost ps (frame_costs (links.frames ++ more)) cs ≡ choices_cost ps (frame_costs links.frames) cs
-choices_on_more ps more none_kept = refl
-choices_on_more {left_at = left_at} {query = query} {named = named} {links = links} {cs = cs} ps more (one_kept {before = before} {c = c} {a = a} is on here newer below) =
+pub choices_on_more : {W M : Type 0} {stands : M → Present W → Type 0} {older : M → M → Type 0} {base : M} {leaves : Leaving} {query : List W} {named : List ℕ} {links : Links W} {cs : List (kept.Choice W M)} {ks : List Alternative}
+    (more : List Frame) → StandsForChoices stands older base leaves query named links cs ks
+    → choices_cost (frame_costs (links.frames ++ more)) cs ≡ choices_cost (frame_costs links.frames) cs
+choices_on_more more none_kept = refl
+choices_on_more {leaves = leaves} {query = query} {named = named} {links = links} {cs = cs} more (one_kept {before = before} {c = c} {a = a} is on here newer below) =
     let front = take c.frames links.frames in
     let rest = drop c.frames links.frames in
     let whole : front ++ rest ≡ links.frames = take-append-drop c.frames links.frames in
     let longer : front ++ (rest ++ more) ≡ links.frames ++ more = sym (append_assoc front rest more) ∙ ap (λ fs. fs ++ more) whole in
-    let one = ap (λ fs. choices_cost ps (frame_costs fs) before) (sym longer) ∙ choices_on_more ps (rest ++ more) below in
-    let other = ap (λ fs. choices_cost ps (frame_costs fs) before) (sym whole) ∙ choices_on_more ps rest below in
-    let first = ap (λ fs. choice_cost ps (frame_costs fs) c.left) (sym longer) ∙ left_place left_at query named here.present (links_at c links) a ps (rest ++ more) c.left here.has in
-    let second = ap (λ fs. choice_cost ps (frame_costs fs) c.left) (sym whole) ∙ left_place left_at query named here.present (links_at c links) a ps rest c.left here.has in
-    let old = ap (choices_cost ps (frame_costs links.frames)) is ∙ choices_last ps (frame_costs links.frames) before c in
-    let new = ap (choices_cost ps (frame_costs (links.frames ++ more))) is ∙ choices_last ps (frame_costs (links.frames ++ more)) before c in
+    let one = ap (λ fs. choices_cost (frame_costs fs) before) (sym longer) ∙ choices_on_more (rest ++ more) below in
+    let other = ap (λ fs. choices_cost (frame_costs fs) before) (sym whole) ∙ choices_on_more rest below in
+    let first = ap (λ fs. choice_cost (frame_costs fs) c.left) (sym longer) ∙ left_place leaves query named here.present (links_at c links) a (rest ++ more) c.left here.has in
+    let second = ap (λ fs. choice_cost (frame_costs fs) c.left) (sym whole) ∙ left_place leaves query named here.present (links_at c links) a rest c.left here.has in
+    let old = ap (choices_cost (frame_costs links.frames)) is ∙ choices_last (frame_costs links.frames) before c in
+    let new = ap (choices_cost (frame_costs (links.frames ++ more))) is ∙ choices_last (frame_costs (links.frames ++ more)) before c in
     omega (arith, one, other, first, second, old, new)

@@ -9,10 +9,10 @@ use Rattle.iso_model.specs.Search.Databases.{Clause}
 use Rattle.iso_model.specs.Search.Walker.{Alternative, AsIs, Again, Clauses, Catching, Gathering, Offered, gathered, gathered_at}
 use Rattle.iso_model.specs.Search.Walker as walker
 use Rattle.iso_store_core.specs.Presents.{Present, meaning}
+use Rattle.iso_plain_core.specs.Leaving.{Leaving}
 use Rattle.iso_plain_core.specs.Solutions.{copies_of, Gains}
 use Rattle.iso_plain_core.specs.Gathering.{SameCopies, LeftChanges, ChoiceChanges, ChangesAt, no_choice, this_choice, later_choice}
 use Rattle.iso_plain_core.specs.declared.solutions.Gathered.{Gathered}
-use Rattle.iso_plain_core.specs.declared.procedures.Procedure.{Procedure}
 use Rattle.iso_plain_core.specs.declared.parts.Left.{Left}
 use Rattle.iso_plain_core.specs.declared.parts.Left.TheVariants as left
 use Rattle.iso_plain_core.specs.declared.parts.Choice as kept
@@ -32,13 +32,13 @@ not_gathering R (left.Catching goal place) none = refl
 not_gathering R (left.Clauses attempt) none = refl
 not_gathering R (left.Offered goal place offers) none = refl
 
-left_costs : {W : Type 0} (R : Gathered → Gathered → Type 0) (ps : List Procedure) (costs : List ℕ) (l m : Left W) → LeftChanges R l m → choice_cost ps costs m ≡ choice_cost ps costs l
-left_costs R ps costs (left.Gathering result place g) m h = ap (choice_cost ps costs) h.1
-left_costs R ps costs (left.AsIs place) m h = ap (choice_cost ps costs) h
-left_costs R ps costs (left.Again place) m h = ap (choice_cost ps costs) h
-left_costs R ps costs (left.Catching goal place) m h = ap (choice_cost ps costs) h
-left_costs R ps costs (left.Clauses attempt) m h = ap (choice_cost ps costs) h
-left_costs R ps costs (left.Offered goal place offers) m h = ap (choice_cost ps costs) h
+left_costs : {W : Type 0} (R : Gathered → Gathered → Type 0) (costs : List ℕ) (l m : Left W) → LeftChanges R l m → choice_cost costs m ≡ choice_cost costs l
+left_costs R costs (left.Gathering result place g) m h = ap (choice_cost costs) h.1
+left_costs R costs (left.AsIs place) m h = ap (choice_cost costs) h
+left_costs R costs (left.Again place) m h = ap (choice_cost costs) h
+left_costs R costs (left.Catching goal place) m h = ap (choice_cost costs) h
+left_costs R costs (left.Clauses attempt) m h = ap (choice_cost costs) h
+left_costs R costs (left.Offered goal place offers) m h = ap (choice_cost costs) h
 
 module _ {W M : Type 0} (R : Gathered → Gathered → Type 0) where
   pub changes_none : (n : ℕ) (cs : List (kept.Choice W M)) → length cs ≤ n → ChangesAt R n cs cs
@@ -85,10 +85,10 @@ module _ {W M : Type 0} (R : Gathered → Gathered → Type 0) where
   changed_length (later_choice h) = ap suc (changed_length h)
 
   -- as much is to be done at them
-  pub changed_costs : {n : ℕ} {cs ds : List (kept.Choice W M)} (ps : List Procedure) (costs : List ℕ) → ChangesAt R n cs ds → choices_cost ps costs ds ≡ choices_cost ps costs cs
-  changed_costs ps costs no_choice = refl
-  changed_costs ps costs (this_choice {c = c} {d = d} {cs = cs} h) = ap (λ (k : ℕ). k + choices_cost ps costs cs) (left_costs R ps costs c.left d.left h.left)
-  changed_costs ps costs (later_choice {c = c} h) = ap (λ (k : ℕ). choice_cost ps costs c.left + k) (changed_costs ps costs h)
+  pub changed_costs : {n : ℕ} {cs ds : List (kept.Choice W M)} (costs : List ℕ) → ChangesAt R n cs ds → choices_cost costs ds ≡ choices_cost costs cs
+  changed_costs costs no_choice = refl
+  changed_costs costs (this_choice {c = c} {d = d} {cs = cs} h) = ap (λ (k : ℕ). k + choices_cost costs cs) (left_costs R costs c.left d.left h.left)
+  changed_costs costs (later_choice {c = c} h) = ap (λ (k : ℕ). choice_cost costs c.left + k) (changed_costs costs h)
 
 -- ---- what is left at the alternative at a height changes so
 
@@ -149,37 +149,37 @@ pub record Together (f : walker.Left → walker.Left) (R : Gathered → Gathered
   pub entered : (l : walker.Left) → entered_at (f l) ≡ entered_at l
 
 module _ (f : walker.Left → walker.Left) (R : Gathered → Gathered → Type 0) (k : Together f R) where
-  module _ {W : Type 0} (left_at : ℕ → ℕ → List Clause) (query : List W) (named : List ℕ) (p : Present W) (links : Links W) (a : Alternative) where
-    left_changed : (l m : Left W) → LeftChanges R l m → HasLeft left_at query named p links l a → HasLeft left_at query named p links m (record a { left = f a.left })
+  module _ {W : Type 0} (leaves : Leaving) (query : List W) (named : List ℕ) (p : Present W) (links : Links W) (a : Alternative) where
+    left_changed : (l m : Left W) → LeftChanges R l m → HasLeft leaves query named p links l a → HasLeft leaves query named p links m (record a { left = f a.left })
     left_changed (left.Gathering result place g) m h has =
-        subst (λ (x : Left W). HasLeft left_at query named p links x (record a { left = f a.left })) (sym h.1)
+        subst (λ (x : Left W). HasLeft leaves query named p links x (record a { left = f a.left })) (sym h.1)
         (record { holds = has.holds; on = has.on; is = ap f has.is ∙ k.gathering (meaning p result) g h.0 h.2; fits = k.fits g h.0 h.2 has.fits })
     left_changed (left.AsIs place) m h has =
-        subst (λ (x : Left W). HasLeft left_at query named p links x (record a { left = f a.left })) (sym h) (record { on = has.on; is = ap f has.is ∙ k.as_is })
+        subst (λ (x : Left W). HasLeft leaves query named p links x (record a { left = f a.left })) (sym h) (record { on = has.on; is = ap f has.is ∙ k.as_is })
     left_changed (left.Again place) m h has =
-        subst (λ (x : Left W). HasLeft left_at query named p links x (record a { left = f a.left })) (sym h) (record { on = has.on; is = ap f has.is ∙ k.again })
+        subst (λ (x : Left W). HasLeft leaves query named p links x (record a { left = f a.left })) (sym h) (record { on = has.on; is = ap f has.is ∙ k.again })
     left_changed (left.Catching goal place) m h has =
-        subst (λ (x : Left W). HasLeft left_at query named p links x (record a { left = f a.left })) (sym h)
+        subst (λ (x : Left W). HasLeft leaves query named p links x (record a { left = f a.left })) (sym h)
         (record { holds = has.holds; three = has.three; on = has.on; is = ap f has.is ∙ k.catching _ _ })
     left_changed (left.Offered goal place offers) m h has =
-        subst (λ (x : Left W). HasLeft left_at query named p links x (record a { left = f a.left })) (sym h)
+        subst (λ (x : Left W). HasLeft leaves query named p links x (record a { left = f a.left })) (sym h)
         (record { holds = has.holds; on = has.on; made = has.made; is = ap f has.is ∙ k.offered _ _ _; some = has.some })
     left_changed (left.Clauses attempt) m h has =
-        subst (λ (x : Left W). HasLeft left_at query named p links x (record a { left = f a.left })) (sym h)
-        (record { call = has.call; at = record { holds = has.at.holds; value = has.at.value; on = has.at.on }; left = ap f has.left ∙ k.clauses _ _; some = has.some })
+        subst (λ (x : Left W). HasLeft leaves query named p links x (record a { left = f a.left })) (sym h)
+        (record { call = has.call; clauses = has.clauses; at = record { holds = has.at.holds; value = has.at.value; on = has.at.on }; left = ap f has.left ∙ k.clauses _ _; are = has.are })
 
-  module _ {W M : Type 0} {stands : M → Present W → Type 0} {older : M → M → Type 0} {base : M} {left_at : ℕ → ℕ → List Clause} {query : List W} {named : List ℕ} where
-    choice_changed : (links : Links W) (c d : kept.Choice W M) (a : Alternative) → ChoiceChanges R c d → StandsForChoice stands older base left_at query named (links_at c links) c a
-        → StandsForChoice stands older base left_at query named (links_at c links) d (record a { left = f a.left })
+  module _ {W M : Type 0} {stands : M → Present W → Type 0} {older : M → M → Type 0} {base : M} {leaves : Leaving} {query : List W} {named : List ℕ} where
+    choice_changed : (links : Links W) (c d : kept.Choice W M) (a : Alternative) → ChoiceChanges R c d → StandsForChoice stands older base leaves query named (links_at c links) c a
+        → StandsForChoice stands older base leaves query named (links_at c links) d (record a { left = f a.left })
     choice_changed links c d a h here = record {
       present = here.present;
       mark = subst (λ (m : M). stands m here.present) (sym h.mark) here.mark;
       newer = subst (λ (m : M). older base m) (sym h.mark) here.newer;
-      has = left_changed left_at query named here.present (links_at c links) a c.left d.left h.left here.has;
+      has = left_changed leaves query named here.present (links_at c links) a c.left d.left h.left here.has;
     }
 
     pub choices_changed : {links : Links W} {cs ds : List (kept.Choice W M)} {ks : List Alternative} (n : ℕ) → ChangesAt R n cs ds
-        → StandsForChoices stands older base left_at query named links cs ks → StandsForChoices stands older base left_at query named links ds (changed_at f n ks)
+        → StandsForChoices stands older base leaves query named links cs ks → StandsForChoices stands older base leaves query named links ds (changed_at f n ks)
     choices_changed n no_choice none_kept = none_kept
     choices_changed {links = links} {cs = cs} {ds = ds} n change (one_kept {before = before} {c = c} {a = a} {ks = ks} is on here newer below) =
         let many = choices_length below in
@@ -190,15 +190,15 @@ module _ (f : walker.Left → walker.Left) (R : Gathered → Gathered → Type 0
               let height : length ks ≡ n = omega (arith, many, last.0) in
               let first : (length ks == n) ≡ true = eqb-refl-at (length ks) n height in
               let others = above_all f n ks (omega (arith, height)) in
-              let one : StandsForChoices stands older base left_at query named links ds (record a { left = f a.left } ∷ ks) =
+              let one : StandsForChoices stands older base leaves query named links ds (record a { left = f a.left } ∷ ks) =
               one_kept last.1.2 (on_changed R links c d h on)
-              (subst (λ (ls : Links W). StandsForChoice stands older base left_at query named ls d (record a { left = f a.left })) (sym links_same) (choice_changed links c d a h here))
+              (subst (λ (ls : Links W). StandsForChoice stands older base leaves query named ls d (record a { left = f a.left })) (sym links_same) (choice_changed links c d a h here))
               (λ x among. subst (λ (m : M). older x.mark m) (sym h.mark) (newer x among))
-              (subst (λ (ls : Links W). StandsForChoices stands older base left_at query named ls before ks) (sym links_same) below) in
+              (subst (λ (ls : Links W). StandsForChoices stands older base leaves query named ls before ks) (sym links_same) below) in
               rw (first, others) one)
           | inr lower ↦ (let after = lower.1.0 in
               let other : (length ks == n) ≡ false = eqb-false-at (length ks) n (λ e. lower.0 (omega (arith, many, e))) in
-              let one : StandsForChoices stands older base left_at query named links ds (a ∷ changed_at f n ks) =
+              let one : StandsForChoices stands older base leaves query named links ds (a ∷ changed_at f n ks) =
               one_kept lower.1.2 on here
               (λ x among. let found = same_mark R x lower.1.1 among in subst (λ (m : M). older m c.mark) (sym found.2) (newer found.0 found.1))
               (choices_changed n lower.1.1 below) in
@@ -249,17 +249,17 @@ with_none = record {
   entered = λ l. refl;
 }
 
-module _ {W M : Type 0} {stands : M → Present W → Type 0} {older : M → M → Type 0} {base : M} {left_at : ℕ → ℕ → List Clause} {query : List W} {named : List ℕ} where
+module _ {W M : Type 0} {stands : M → Present W → Type 0} {older : M → M → Type 0} {base : M} {leaves : Leaving} {query : List W} {named : List ℕ} where
   pub choices_gain : {links : Links W} {cs ds : List (kept.Choice W M)} {ks : List Alternative} (n : ℕ) (t : Tree) → arities_fit t ≡ true → ChangesAt (Gains t) n cs ds
-      → StandsForChoices stands older base left_at query named links cs ks → StandsForChoices stands older base left_at query named links ds (gathered_at n t ks)
+      → StandsForChoices stands older base leaves query named links cs ks → StandsForChoices stands older base leaves query named links ds (gathered_at n t ks)
   choices_gain {links = links} {ds = ds} {ks = ks} n t fits change are =
-      subst (λ (xs : List Alternative). StandsForChoices stands older base left_at query named links ds xs) (sym (gathered_changed t n ks)) (choices_changed (λ l. gathered l t) (Gains t) (with_solution t fits) n change are)
+      subst (λ (xs : List Alternative). StandsForChoices stands older base leaves query named links ds xs) (sym (gathered_changed t n ks)) (choices_changed (λ l. gathered l t) (Gains t) (with_solution t fits) n change are)
 
   -- none came
   pub choices_same : {links : Links W} {cs ds : List (kept.Choice W M)} {ks : List Alternative} (n : ℕ) → ChangesAt SameCopies n cs ds
-      → StandsForChoices stands older base left_at query named links cs ks → StandsForChoices stands older base left_at query named links ds ks
+      → StandsForChoices stands older base leaves query named links cs ks → StandsForChoices stands older base leaves query named links ds ks
   choices_same {links = links} {ds = ds} {ks = ks} n change are =
-      subst (λ (xs : List Alternative). StandsForChoices stands older base left_at query named links ds xs) (unchanged n ks) (choices_changed (λ l. l) SameCopies with_none n change are)
+      subst (λ (xs : List Alternative). StandsForChoices stands older base leaves query named links ds xs) (unchanged n ks) (choices_changed (λ l. l) SameCopies with_none n change are)
 
 pub room_gathered : (steps n : ℕ) (t : Tree) (ks : List Alternative) → arities_fit t ≡ true → HaveRoom steps ks → HaveRoom steps (gathered_at n t ks)
 room_gathered steps n t ks fits room = subst (HaveRoom steps) (sym (gathered_changed t n ks)) (room_changed (λ l. gathered l t) (Gains t) (with_solution t fits) steps n ks room)

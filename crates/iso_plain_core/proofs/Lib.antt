@@ -12,7 +12,7 @@ pub mod PrepareLemmas
 pub mod ProgramLemmas
 pub mod AddingLemmas
 pub mod KeptLemmas
-pub mod CountLemmas
+pub mod LeavingLemmas
 pub mod ArityLemmas
 pub mod GoalLemmas
 pub mod ReplyLemmas

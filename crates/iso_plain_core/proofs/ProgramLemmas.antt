@@ -1,183 +1,267 @@
 -- The database as the engine keeps it: how a procedure is found, and how a clause comes to it.
-use Rattle.std.proofs.Common.{◌≡◌, ◌<◌, ◌≤◌, ◌+◌, ◌==◌, ◌⊎◌, ℕ, zero, suc, List, [], ◌∷◌, ◌++◌, length, get_or, set, refl, sym, ap, ap₂, ◌∙◌, arith, Bool, true, false, ◌&&◌, Option, Some, None, option_map, if◌then◌else◌, inl, inr, position, nat_lt, length-append}
-use Rattle.std.specs.String.{string_bytes}
+use Rattle.std.proofs.Common.{◌≡◌, ◌<◌, ◌+◌, ◌==◌, ◌&&◌, ℕ, zero, suc, List, [], ◌∷◌, ◌++◌, length, map, refl, sym, ap, ap₂, ◌∙◌, subst, arith, Bool, true, false, true≢false, Option, Some, None, option_map, unwrap_or, is_some, if◌then◌else◌, inl, inr, ◌⊎◌}
+use Rattle.std.specs.List.{slice_get}
+use Rattle.std.specs.Option.{option_and_then, option_or}
 use Rattle.std.specs.Str.{bytes_eq}
-use Rattle.std.specs.List.{position_or_len}
-use Rattle.std.proofs.lemmas.Bool.{cases_Bool, ltb-true, ltb-false}
+use Rattle.std.proofs.lemmas.Bool.{cases_Bool, and_parts, eqb-true, eq-eqb}
+use Rattle.std.proofs.lemmas.Option.{slice_get_within}
+use Rattle.std.proofs.lemmas.Slice.Eq.{bytes_eq-Decides}
 use Rattle.iso_model.specs.Search.Databases as databases
-use Rattle.iso_model.specs.Search.Databases.{Key, Procedures, Static, same_key, clauses_at, at_end, with_clause}
+use Rattle.iso_model.specs.Search.Databases.{Key, key, Procedures, Static, same_key, clauses_at, at_end, with_clause}
+use Rattle.iso_db.specs.Keys as keys
+use Rattle.iso_db.specs.Keys.{is_key, place_of}
+use Rattle.iso_db.specs.Databases as db
+use Rattle.iso_db.specs.Databases.{Database, Procedure, at_place, clauses_of, one_more, with_procedure}
+use Rattle.iso_db.specs.declared.kinds.Kind.{Kind}
+use Rattle.iso_db.specs.declared.kinds.Kind.TheVariants as kind
+use Rattle.iso_db.proofs.IndexLemmas.{place_of-push}
+use Rattle.iso_db.proofs.KeptLemmas.{place_of-within}
+use Rattle.iso_db.proofs.PlaceLemmas.{with_procedure-known, with_procedure-new}
+use Rattle.iso_db.proofs.ListLemmas.{slice_get-push_before, slice_get-push_last}
 use Rattle.iso_plain_core.specs.declared.clauses.Clause.{Clause}
-use Rattle.iso_plain_core.specs.declared.procedures.Procedure.{Procedure}
+use Rattle.iso_plain_core.specs.Adding.{with_last}
 use Rattle.iso_plain_core.specs.Kept.{IsClause}
-use Rattle.iso_plain_core.specs.Programs.{AreClauses, no_clauses, more_clauses, IsProcedure, IsDatabase, no_procedures, more_procedures}
-use Rattle.iso_plain_core.specs.Callables.{has_key, place_at}
+use Rattle.iso_plain_core.specs.Programs.{AreClauses, no_clauses, more_clauses, IsKind, IsProcedure, IsDatabase, procedure_with, place_at, kept_at, kind_of}
+use Rattle.iso_plain_core.proofs.CallableLemmas.{same_key_is, same_key_self}
 
--- ---- the first place that passes a test
+-- ---- the procedures of the language
 
-here_first : {X : Type 0} (p : X → Bool) (x : X) (xs : List X) → p x ≡ true → position_or_len p (x ∷ xs) ≡ 0
-here_first p x xs h = rw h refl
-
-later_first : {X : Type 0} (p : X → Bool) (x : X) (xs : List X) → p x ≡ false → position_or_len p (x ∷ xs) ≡ 1 + position_or_len p xs
-later_first p x xs h = rw h refl
-
-position_of : {X : Type 0} (p : X → Bool) (xs : List X) (n : ℕ) → position p xs ≡ Some n → (position_or_len p xs ≡ n) × (n < length xs)
-position_of p xs n h =
-    elim (cases_Bool (nat_lt (position_or_len p xs) (length xs))) [
-      | inl below ↦ (let e : Some (position_or_len p xs) ≡ Some n = rw below at h in
-          let same : position_or_len p xs ≡ n = cc in
-          let less = ltb-true _ _ below in
-          (same, omega arith))
-      | inr above ↦ (let e : None ≡ Some n = rw above at h in cc)
+pub clauses_with : (ps : Procedures) (k : Key) → clauses_at ps k ≡ option_map (λ p. p.clauses) (procedure_with ps k)
+clauses_with [] k = refl
+clauses_with (p ∷ ps) k =
+    elim (cases_Bool (same_key p.key k)) [
+      | inl here ↦ rw here refl
+      | inr other ↦ rw other (clauses_with ps k)
     ]
 
-position_from : {X : Type 0} (p : X → Bool) (xs : List X) (n : ℕ) → position_or_len p xs ≡ n → n < length xs → position p xs ≡ Some n
-position_from p xs n e h =
-    elim (cases_Bool (nat_lt (position_or_len p xs) (length xs))) [
-      | inl below ↦ rw below (ap Some e)
-      | inr above ↦ (let no = ltb-false _ _ above in absurd (omega arith))
+-- the procedure with a clause more at its end
+abbrev grown : Key → databases.Clause → Option databases.Procedure → databases.Procedure
+grown k c None = record { key = k; kind = Static; clauses = c ∷ [] }
+grown k c (Some p) = record p { clauses = p.clauses ++ c ∷ [] }
+
+with_same : (ps : Procedures) (k : Key) (c : databases.Clause) → procedure_with (with_clause at_end ps k c) k ≡ Some (grown k c (procedure_with ps k))
+with_same [] k c = rw (same_key_self k) refl
+with_same (p ∷ ps) k c =
+    elim (cases_Bool (same_key p.key k)) [
+      | inl here ↦ rw (here, here) refl
+      | inr other ↦ rw (other, other) (with_same ps k c)
     ]
 
-position_none : {X : Type 0} (p : X → Bool) (xs : List X) → position p xs ≡ None → length xs ≤ position_or_len p xs
-position_none p xs h =
-    elim (cases_Bool (nat_lt (position_or_len p xs) (length xs))) [
-      | inl below ↦ (let e : Some (position_or_len p xs) ≡ None = rw below at h in cc)
-      | inr above ↦ ltb-false _ _ above
+with_other : (ps : Procedures) (k j : Key) (c : databases.Clause) → same_key k j ≡ false → procedure_with (with_clause at_end ps k c) j ≡ procedure_with ps j
+with_other [] k j c apart = rw apart refl
+with_other (p ∷ ps) k j c apart =
+    elim (cases_Bool (same_key p.key k)) [
+      | inl here ↦ (let no : same_key p.key j ≡ false = ap (λ (x : Key). same_key x j) (same_key_is p.key k here) ∙ apart in rw (here, no) refl)
+      | inr other ↦ elim (cases_Bool (same_key p.key j)) [
+        | inl there ↦ rw (other, there) refl
+        | inr nor ↦ rw (other, nor) (with_other ps k j c apart)
+      ]
     ]
 
-none_from : {X : Type 0} (p : X → Bool) (xs : List X) → length xs ≤ position_or_len p xs → position p xs ≡ None
-none_from p xs h =
-    elim (cases_Bool (nat_lt (position_or_len p xs) (length xs))) [
-      | inl below ↦ (let less = ltb-true _ _ below in absurd (omega arith))
-      | inr above ↦ rw above refl
-    ]
+-- ---- the keys that have places
 
--- a place that was found is one of the list
-pub position_within : {X : Type 0} (p : X → Bool) (xs : List X) (n : ℕ) → position p xs ≡ Some n → n < length xs
-position_within p xs n h = (position_of p xs n h).1
-
--- the first place, by a list's first element
-pub position_cons : {X : Type 0} (p : X → Bool) (x : X) (xs : List X) → position p (x ∷ xs) ≡ (if p x then Some 0 else option_map suc (position p xs))
-position_cons p x xs =
-    elim (cases_Bool (p x)) [
-      | inl here ↦ position_from p (x ∷ xs) 0 (here_first p x xs here) (omega arith) ∙ sym (ap (λ b. if b then Some 0 else option_map suc (position p xs)) here)
-      | inr later ↦ by_rest (position p xs) refl later ∙ sym (ap (λ b. if b then Some 0 else option_map suc (position p xs)) later)
+-- the key at the place of a name and a number of arguments
+found_key : (ks : List keys.Key) (name : List ℕ) (arity i : ℕ) → place_of ks name arity ≡ Some i → (k : keys.Key) × (slice_get ks i ≡ Some k) × (is_key name arity k ≡ true)
+found_key [] name arity i h = absurd (cc h)
+found_key (k ∷ ks) name arity i h =
+    elim (cases_Bool (is_key name arity k)) [
+      | inl here ↦ (let e : Some 0 ≡ Some i = rw here at h in let same : i ≡ 0 = cc e in (k, rw same refl, here))
+      | inr other ↦ (let e : option_map suc (place_of ks name arity) ≡ Some i = rw other at h in by_rest (place_of ks name arity) (λ j at. found_key ks name arity j at) e)
     ] where
-      by_rest : (o : Option ℕ) → position p xs ≡ o → p x ≡ false → position p (x ∷ xs) ≡ option_map suc o
-      by_rest (Some n) h later =
-          let at = position_of p xs n h in
-          let first = later_first p x xs later in
-          position_from p (x ∷ xs) (suc n) (omega (arith, first, at.0)) (omega (arith, at.1))
-      by_rest None h later =
-          let past = position_none p xs h in
-          let first = later_first p x xs later in
-          none_from p (x ∷ xs) (omega (arith, first, past))
+      by_rest : (o : Option ℕ) → ((j : ℕ) → o ≡ Some j → (d : keys.Key) × (slice_get ks j ≡ Some d) × (is_key name arity d ≡ true)) → option_map suc o ≡ Some i → (d : keys.Key) × (slice_get (k ∷ ks) i ≡ Some d) × (is_key name arity d ≡ true)
+      by_rest None found e = absurd (cc e)
+      by_rest (Some j) found e = (let same : i ≡ suc j = cc e in let there = found j refl in (there.0, rw same there.1, there.2))
 
--- where a list's first place that passes is, by its first element
-pub found_cases : {X : Type 0} (p : X → Bool) (x : X) (xs : List X) (n : ℕ) → position p (x ∷ xs) ≡ Some n
-    → ((p x ≡ true) × (n ≡ 0)) ⊎ ((m : ℕ) × (p x ≡ false) × (n ≡ suc m) × (position p xs ≡ Some m))
-found_cases p x xs n h =
-    let at = position_of p (x ∷ xs) n h in
-    elim (cases_Bool (p x)) [
-      | inl here ↦ (let e = here_first p x xs here in inl (here, omega arith))
-      | inr later ↦ (let e = later_first p x xs later in
-          inr (position_or_len p xs, later, omega arith, position_from p xs (position_or_len p xs) refl (omega arith)))
+-- one place, one key
+pub place_once : (ks : List keys.Key) (k j : Key) (i : ℕ) → place_of ks k.name k.arity ≡ Some i → place_of ks j.name j.arity ≡ Some i → k ≡ j
+place_once ks k j i one other =
+    let a = found_key ks k.name k.arity i one in
+    let b = found_key ks j.name j.arity i other in
+    let same : a.0 ≡ b.0 = (let e : Some a.0 ≡ Some b.0 = sym a.1 ∙ b.1 in cc e) in
+    let first = and_parts (bytes_eq k.name a.0.name) (a.0.arity == k.arity) a.2 in
+    let second = and_parts (bytes_eq j.name b.0.name) (b.0.arity == j.arity) b.2 in
+    let name : k.name ≡ j.name = (bytes_eq-Decides k.name a.0.name).0 first.0 ∙ ap (λ (x : keys.Key). x.name) same ∙ sym ((bytes_eq-Decides j.name b.0.name).0 second.0) in
+    let arity : k.arity ≡ j.arity = sym (eqb-true a.0.arity k.arity first.1) ∙ ap (λ (x : keys.Key). x.arity) same ∙ eqb-true b.0.arity j.arity second.1 in
+    ap₂ key name arity
+
+pub place_within : (d : Database Clause) (k : Key) (i : ℕ) → place_at d k ≡ Some i → i < length d.procedures
+place_within d k i h = within_map d.procedures (place_of-within (map (λ p. p.key) d.procedures) k.name k.arity i h) where
+  within_map : {n : ℕ} (ps : List (Procedure Clause)) → n < length (map (λ p. p.key) ps) → n < length ps
+  within_map {n = n} [] h = h
+  within_map {n = zero} (p ∷ ps) h = omega arith
+  within_map {n = suc n} (p ∷ ps) h = (let more = within_map {n = n} ps (omega (arith, h)) in omega (arith, more))
+
+-- what is kept at its place
+pub kept_there : (d : Database Clause) (k : Key) (i : ℕ) → place_at d k ≡ Some i → kept_at d k ≡ slice_get d.procedures i
+kept_there d k i h = ap (λ o. option_and_then (slice_get d.procedures) o) h
+
+-- ---- a procedure comes, absent
+
+abbrev absent_is : List ℕ → ℕ → Procedure Clause
+absent_is name arity = record { key = keys.key name arity; kind = None; clauses = [] }
+
+keys_more : (ps : List (Procedure Clause)) (p : Procedure Clause) → map (λ (x : Procedure Clause). x.key) (ps ++ p ∷ []) ≡ map (λ (x : Procedure Clause). x.key) ps ++ p.key ∷ []
+keys_more [] p = refl
+keys_more (q ∷ ps) p = ap (λ ks. q.key ∷ ks) (keys_more ps p)
+
+keys_long : (ps : List (Procedure Clause)) → length (map (λ (x : Procedure Clause). x.key) ps) ≡ length ps
+keys_long [] = refl
+keys_long (q ∷ ps) = ap suc (keys_long ps)
+
+-- the database with one procedure more, that is absent
+abbrev wider : Database Clause → List ℕ → ℕ → Database Clause
+wider d name arity = record d { procedures = d.procedures ++ absent_is name arity ∷ [] }
+
+wider_place : (d : Database Clause) (name : List ℕ) (arity : ℕ) (k : Key) → place_at (wider d name arity) k ≡ option_or (place_at d k) (if is_key k.name k.arity (keys.key name arity) then Some (length d.procedures) else None)
+wider_place d name arity k =
+    ap (λ ks. place_of ks k.name k.arity) (keys_more d.procedures (absent_is name arity))
+    ∙ place_of-push (map (λ (x : Procedure Clause). x.key) d.procedures) (keys.key name arity) k.name k.arity
+    ∙ ap (λ n. option_or (place_at d k) (if is_key k.name k.arity (keys.key name arity) then Some n else None)) (keys_long d.procedures)
+
+-- a procedure that is there is where it was; one that came is absent
+wider_kept : (d : Database Clause) (name : List ℕ) (arity : ℕ) (k : Key) (o : Option ℕ) (b : Bool) → place_at d k ≡ o → place_at (wider d name arity) k ≡ option_or o (if b then Some (length d.procedures) else None)
+    → (kind_of (kept_at (wider d name arity) k) ≡ kind_of (kept_at d k)) × (clauses_of (kept_at (wider d name arity) k) ≡ clauses_of (kept_at d k))
+wider_kept d name arity k (Some i) b was now =
+    let same : kept_at (wider d name arity) k ≡ kept_at d k =
+    kept_there (wider d name arity) k i now ∙ slice_get-push_before d.procedures (absent_is name arity) i (place_within d k i was) ∙ sym (kept_there d k i was) in
+    (ap kind_of same, ap clauses_of same)
+wider_kept d name arity k None true was now =
+    let new : kept_at (wider d name arity) k ≡ Some (absent_is name arity) = kept_there (wider d name arity) k (length d.procedures) now ∙ slice_get-push_last d.procedures (absent_is name arity) in
+    let old : kept_at d k ≡ None = ap (λ o. option_and_then (slice_get d.procedures) o) was in
+    (ap kind_of new ∙ sym (ap kind_of old), ap clauses_of new ∙ sym (ap clauses_of old))
+wider_kept d name arity k None false was now =
+    let new : kept_at (wider d name arity) k ≡ None = ap (λ o. option_and_then (slice_get (wider d name arity).procedures) o) now in
+    let old : kept_at d k ≡ None = ap (λ o. option_and_then (slice_get d.procedures) o) was in
+    (ap kind_of new ∙ sym (ap kind_of old), ap clauses_of new ∙ sym (ap clauses_of old))
+
+-- what is kept under a key where a place came
+pub placed_kept : (d : Database Clause) (name : List ℕ) (arity : ℕ) (k : Key)
+    → (kind_of (kept_at (with_procedure name arity d) k) ≡ kind_of (kept_at d k)) × (clauses_of (kept_at (with_procedure name arity d) k) ≡ clauses_of (kept_at d k))
+placed_kept d name arity k = by_place (db.place_in d name arity) refl where
+  by_place : (o : Option ℕ) → db.place_in d name arity ≡ o
+      → (kind_of (kept_at (with_procedure name arity d) k) ≡ kind_of (kept_at d k)) × (clauses_of (kept_at (with_procedure name arity d) k) ≡ clauses_of (kept_at d k))
+  by_place (Some i) at = rw (with_procedure-known d name arity i at) (refl, refl)
+  by_place None at = rw (with_procedure-new d name arity at) (wider_kept d name arity k (place_at d k) (is_key k.name k.arity (keys.key name arity)) refl (wider_place d name arity k))
+
+other_key : (a b : Key) → same_key a b ≡ false → is_key b.name b.arity (keys.key a.name a.arity) ≡ false
+other_key a b apart =
+    elim (cases_Bool (is_key b.name b.arity (keys.key a.name a.arity))) [
+      | inl here ↦ (let parts = and_parts (bytes_eq b.name a.name) (a.arity == b.arity) here in
+          let same : a ≡ b = ap₂ key (sym ((bytes_eq-Decides b.name a.name).0 parts.0)) (eqb-true a.arity b.arity parts.1) in
+          absurd (true≢false (sym (same_key_self a) ∙ ap (same_key a) same ∙ apart)))
+      | inr other ↦ other
     ]
 
-pub not_found_cases : {X : Type 0} (p : X → Bool) (x : X) (xs : List X) → position p (x ∷ xs) ≡ None → (p x ≡ false) × (position p xs ≡ None)
-not_found_cases p x xs h =
-    let all = position_none p (x ∷ xs) h in
-    elim (cases_Bool (p x)) [
-      | inl here ↦ (let e = here_first p x xs here in absurd (omega arith))
-      | inr later ↦ (let e = later_first p x xs later in (later, none_from p xs (omega arith)))
-    ]
+-- the place of another key
+pub placed_other : (d : Database Clause) (k j : Key) → same_key k j ≡ false → place_at (with_procedure k.name k.arity d) j ≡ place_at d j
+placed_other d k j apart = by_place (db.place_in d k.name k.arity) refl where
+  or_none : (o : Option ℕ) → option_or o None ≡ o
+  or_none None = refl
+  or_none (Some i) = refl
 
--- ---- a procedure by its key
+  by_place : (o : Option ℕ) → db.place_in d k.name k.arity ≡ o → place_at (with_procedure k.name k.arity d) j ≡ place_at d j
+  by_place (Some i) at = rw (with_procedure-known d k.name k.arity i at) refl
+  by_place None at =
+      rw (with_procedure-new d k.name k.arity at)
+      (wider_place d k.name k.arity j ∙ ap (λ b. option_or (place_at d j) (if b then Some (length d.procedures) else None)) (other_key k j apart) ∙ or_none (place_at d j))
 
-pub same_test : {names : List (List ℕ)} (kept : Procedure) (p : databases.Procedure) (k : Key) → IsProcedure names kept p → has_key k kept ≡ same_key p.key k
-same_test kept p k h = ap₂ (λ n a. n == k.arity && bytes_eq a k.name) h.arity h.name
+placed_added : (d : Database Clause) (name : List ℕ) (arity : ℕ) → (with_procedure name arity d).added ≡ d.added
+placed_added d name arity = by_place (db.place_in d name arity) refl where
+  by_place : (o : Option ℕ) → db.place_in d name arity ≡ o → (with_procedure name arity d).added ≡ d.added
+  by_place (Some i) at = rw (with_procedure-known d name arity i at) refl
+  by_place None at = rw (with_procedure-new d name arity at) refl
 
--- the procedure at the place is kept for one of the database, whose clauses these are
-pub record Found (names : List (List ℕ)) (ps : List Procedure) (db : Procedures) (k : Key) (n : ℕ) : Type 0 where
-  pub procedure : databases.Procedure
-  pub clauses : clauses_at db k ≡ Some procedure.clauses
-  pub is : (d : Procedure) → IsProcedure names (get_or ps n d) procedure
-  pub within : n < length ps
-
-pub found_procedure : {names : List (List ℕ)} {ps : List Procedure} {db : Procedures} (k : Key) (n : ℕ) → IsDatabase names ps db → place_at ps k ≡ Some n → Found names ps db k n
-found_procedure k n no_procedures h = cc
-found_procedure {ps = kept ∷ ks} {db = p ∷ qs} k n (more_procedures i rest) h =
-    elim (found_cases (has_key k) kept ks n h) [
-      | inl here ↦ (let key : same_key p.key k ≡ true = sym (same_test kept p k i) ∙ here.0 in
-          record {
-            procedure = p;
-            clauses = rw key refl;
-            is = λ d. rw here.1 i;
-            within = omega (arith, here.1);
-          })
-      | inr later ↦ (let key : same_key p.key k ≡ false = sym (same_test kept p k i) ∙ later.1 in
-          let there = found_procedure k later.0 rest later.3 in
-          record {
-            procedure = there.procedure;
-            clauses = rw key there.clauses;
-            is = λ d. rw later.2 (there.is d);
-            within = omega (arith, later.2, there.within);
-          })
-    ]
-
-pub no_procedure : {names : List (List ℕ)} {ps : List Procedure} {db : Procedures} (k : Key) → IsDatabase names ps db → place_at ps k ≡ None → clauses_at db k ≡ None
-no_procedure k no_procedures h = refl
-no_procedure {ps = kept ∷ ks} {db = p ∷ qs} k (more_procedures i rest) h =
-    let parts = not_found_cases (has_key k) kept ks h in
-    let key : same_key p.key k ≡ false = sym (same_test kept p k i) ∙ parts.0 in
-    rw key (no_procedure k rest parts.1)
+pub database_placed : {names : List (List ℕ)} (d : Database Clause) (m : databases.Database) (name : List ℕ) (arity : ℕ) → IsDatabase names d m → IsDatabase names (with_procedure name arity d) m
+database_placed {names = names} d m name arity is = record {
+  procedures = λ k. (let kept = placed_kept d name arity k in
+      subst (λ (o : Option Kind). IsProcedure names o (clauses_of (kept_at (with_procedure name arity d) k)) (procedure_with m.procedures k)) (sym kept.0)
+      (subst (λ (ks : List (db.Clause Clause)). IsProcedure names (kind_of (kept_at d k)) ks (procedure_with m.procedures k)) (sym kept.1) (is.procedures k)));
+  added = placed_added d name arity ∙ is.added;
+}
 
 -- ---- a clause comes
 
-pub clauses_push : {names : List (List ℕ)} {ks : List Clause} {cs : List databases.Clause} {kept : Clause} {c : databases.Clause} → AreClauses names ks cs → IsClause names kept c → AreClauses names (ks ++ kept ∷ []) (cs ++ c ∷ [])
-clauses_push no_clauses i = more_clauses i no_clauses
-clauses_push (more_clauses j rest) i = more_clauses j (clauses_push rest i)
+clauses_push : {names : List (List ℕ)} {ks : List (db.Clause Clause)} {cs : List databases.Clause} (k : db.Clause Clause) (c : databases.Clause) → AreClauses names ks cs → c.number ≡ k.number → IsClause names k.value c → AreClauses names (ks ++ k ∷ []) (cs ++ c ∷ [])
+clauses_push k c no_clauses number i = more_clauses number i no_clauses
+clauses_push k c (more_clauses n j rest) number i = more_clauses n j (clauses_push k c rest number i)
 
--- the procedure, with the clause at its end
-pub record Grown (old new : Procedure) (kept : Clause) : Type 0 where
-  pub name : new.name ≡ old.name
-  pub arity : new.arity ≡ old.arity
-  pub clauses : new.clauses.items ≡ old.clauses.items ++ kept ∷ []
+changed_here : (f : Procedure Clause → Procedure Clause) (ps : List (Procedure Clause)) (i : ℕ) → slice_get (at_place i f ps) i ≡ option_map f (slice_get ps i)
+changed_here f [] i = refl
+changed_here f (p ∷ ps) zero = refl
+changed_here f (p ∷ ps) (suc i) = changed_here f ps i
 
-grown_is : {names : List (List ℕ)} (old new : Procedure) (p : databases.Procedure) (kept : Clause) (c : databases.Clause) → Grown old new kept → IsProcedure names old p → IsClause names kept c → IsProcedure names new (record p { clauses = p.clauses ++ c ∷ [] })
-grown_is old new p kept c g i h = record {
-  name = ap string_bytes g.name ∙ i.name;
-  arity = g.arity ∙ i.arity;
-  clauses = rw g.clauses (clauses_push i.clauses h);
-  some = rw g.clauses (simp length-append (omega arith));
-}
+changed_other : (f : Procedure Clause → Procedure Clause) (ps : List (Procedure Clause)) (i j : ℕ) → (j ≡ i → ⊥) → slice_get (at_place i f ps) j ≡ slice_get ps j
+changed_other f [] i j apart = refl
+changed_other f (p ∷ ps) zero zero apart = absurd (apart refl)
+changed_other f (p ∷ ps) zero (suc j) apart = refl
+changed_other f (p ∷ ps) (suc i) zero apart = refl
+changed_other f (p ∷ ps) (suc i) (suc j) apart = changed_other f ps i j (λ e. apart (ap suc e))
 
-pub clause_comes : {names : List (List ℕ)} {ps : List Procedure} {db : Procedures} (k : Key) (n : ℕ) (old new : Procedure) (kept : Clause) (c : databases.Clause) → IsDatabase names ps db → place_at ps k ≡ Some n
-    → old ≡ get_or ps n old → Grown old new kept → IsClause names kept c → IsDatabase names (set ps n new) (with_clause at_end db k c)
-clause_comes k n old new kept c no_procedures h e g i = cc
-clause_comes {ps = first ∷ ks} {db = p ∷ qs} k n old new kept c (more_procedures j rest) h e g i =
-    elim (found_cases (has_key k) first ks n h) [
-      | inl here ↦ (let key : same_key p.key k ≡ true = sym (same_test first p k j) ∙ here.0 in
-          let same : old ≡ first = e ∙ ap (λ m. get_or (first ∷ ks) m old) here.1 in
-          rw (key, here.1) (more_procedures (grown_is old new p kept c g (rw same j) i) rest))
-      | inr later ↦ (let key : same_key p.key k ≡ false = sym (same_test first p k j) ∙ later.1 in
-          let there : old ≡ get_or ks later.0 old = e ∙ ap (λ m. get_or (first ∷ ks) m old) later.2 in
-          rw (key, later.2) (more_procedures j (clause_comes k later.0 old new kept c rest later.3 there g i)))
-    ]
+keys_same : (f : Procedure Clause → Procedure Clause) → ((p : Procedure Clause) → (f p).key ≡ p.key) → (ps : List (Procedure Clause)) (i : ℕ) → map (λ (x : Procedure Clause). x.key) (at_place i f ps) ≡ map (λ (x : Procedure Clause). x.key) ps
+keys_same f same [] i = refl
+keys_same f same (p ∷ ps) zero = ap (λ k. k ∷ map (λ (x : Procedure Clause). x.key) ps) (same p)
+keys_same f same (p ∷ ps) (suc i) = ap (λ ks. p.key ∷ ks) (keys_same f same ps i)
 
--- the procedures with one more, which was made for this clause
-pub procedure_comes : {names : List (List ℕ)} {ps : List Procedure} {db : Procedures} (k : Key) (new : Procedure) (kept : Clause) (c : databases.Clause) → IsDatabase names ps db → place_at ps k ≡ None
-    → string_bytes new.name ≡ k.name → new.arity ≡ k.arity → new.clauses.items ≡ kept ∷ [] → IsClause names kept c → IsDatabase names (ps ++ new ∷ []) (with_clause at_end db k c)
-procedure_comes k new kept c no_procedures h n a l i =
-    more_procedures {kept = new} {p = record { key = k; kind = Static; clauses = c ∷ [] }} (record { name = n; arity = a; clauses = rw l (more_clauses i no_clauses); some = rw l (omega arith) }) no_procedures
-procedure_comes {ps = first ∷ ks} {db = p ∷ qs} k new kept c (more_procedures j rest) h n a l i =
-    let parts = not_found_cases (has_key k) first ks h in
-    let key : same_key p.key k ≡ false = sym (same_test first p k j) ∙ parts.0 in
-    rw key (more_procedures j (procedure_comes k new kept c rest parts.1 n a l i))
+module _ (d : Database Clause) (place : ℕ) (value : Clause) where
+  abbrev pub new : db.Clause Clause
+  new = record { number = d.added; value = value }
 
--- a procedure is written back as it was
-pub procedure_stays : {names : List (List ℕ)} {ps : List Procedure} {db : Procedures} (n : ℕ) (old new : Procedure) → IsDatabase names ps db → old ≡ get_or ps n old → new.name ≡ old.name → new.arity ≡ old.arity
-    → new.clauses.items ≡ old.clauses.items → IsDatabase names (set ps n new) db
-procedure_stays n old new no_procedures e name arity clauses = no_procedures
-procedure_stays zero old new (more_procedures {p = p} j rest) e name arity clauses =
-    more_procedures {kept = new} {p = p} (record { name = ap string_bytes (name ∙ ap (λ p. p.name) e) ∙ j.name; arity = arity ∙ ap (λ p. p.arity) e ∙ j.arity; clauses = rw (clauses, e) j.clauses; some = rw (clauses, e) j.some }) rest
-procedure_stays (suc n) old new (more_procedures j rest) e name arity clauses = more_procedures j (procedure_stays n old new rest e name arity clauses)
+  abbrev pub with_new : Database Clause
+  with_new = db.with_clause db.at_end kind.Static place value d
+
+  pub same_place : (k : Key) → place_at with_new k ≡ place_at d k
+  same_place k = ap (λ ks. place_of ks k.name k.arity) (keys_same (one_more db.at_end kind.Static new) (λ p. refl) d.procedures place)
+
+  pub kept_here : (k : Key) → place_at d k ≡ Some place → kept_at with_new k ≡ option_map (one_more db.at_end kind.Static new) (kept_at d k)
+  kept_here k at =
+      kept_there with_new k place (same_place k ∙ at) ∙ changed_here (one_more db.at_end kind.Static new) d.procedures place
+      ∙ ap (option_map (one_more db.at_end kind.Static new)) (sym (kept_there d k place at))
+
+  -- under another key
+  pub kept_other : (k j : Key) → place_at d k ≡ Some place → same_key k j ≡ false → kept_at with_new j ≡ kept_at d j
+  kept_other k j at apart = by_place (place_at d j) refl where
+    by_place : (o : Option ℕ) → place_at d j ≡ o → kept_at with_new j ≡ kept_at d j
+    by_place None h = ap (λ o. option_and_then (slice_get with_new.procedures) o) (same_place j ∙ h) ∙ sym (ap (λ o. option_and_then (slice_get d.procedures) o) h)
+    by_place (Some i) h =
+        let other : i ≡ place → ⊥ = λ e.
+        (let same : k ≡ j = place_once (map (λ (x : Procedure Clause). x.key) d.procedures) k j place at (h ∙ ap Some e) in
+        true≢false (sym (same_key_self k) ∙ ap (same_key k) same ∙ apart)) in
+        kept_there with_new j i (same_place j ∙ h) ∙ changed_other (one_more db.at_end kind.Static new) d.procedures place i other ∙ sym (kept_there d j i h)
+
+one_comes : {names : List (List ℕ)} (k : Key) (p : Procedure Clause) (o : Option databases.Procedure) (n : db.Clause Clause) (c : databases.Clause) → c.number ≡ n.number → IsClause names n.value c → IsProcedure names p.kind p.clauses o
+    → IsProcedure names (one_more db.at_end kind.Static n p).kind (one_more db.at_end kind.Static n p).clauses (Some (grown k c o))
+one_comes {names = names} k p o n c number clause is = by_kind p.kind p.clauses o is where
+  by_kind : (kd : Option Kind) (ks : List (db.Clause Clause)) (q : Option databases.Procedure) → IsProcedure names kd ks q → IsProcedure names (Some (unwrap_or kd kind.Static)) (ks ++ n ∷ []) (Some (grown k c q))
+  by_kind None ks None is = (tt, subst (λ (xs : List (db.Clause Clause)). AreClauses names (xs ++ n ∷ []) (c ∷ [])) (sym is) (more_clauses number clause no_clauses))
+  by_kind None ks (Some q) is = absurd is
+  by_kind (Some x) ks None is = absurd is
+  by_kind (Some kind.Static) ks (Some q) is = (is.0, clauses_push n c is.1 number clause)
+  by_kind (Some kind.Dynamic) ks (Some q) is = (is.0, clauses_push n c is.1 number clause)
+
+pub clause_comes : {names : List (List ℕ)} (d : Database Clause) (m : databases.Database) (k : Key) (place : ℕ) (value : Clause) (c : databases.Clause) → place_at d k ≡ Some place → IsDatabase names d m
+    → IsClause names value c → c.number ≡ m.added → IsDatabase names (with_new d place value) (with_last m k c)
+clause_comes {names = names} d m k place value c at is clause number = record {
+  procedures = λ j.
+      elim (cases_Bool (same_key k j)) [
+        | inl here ↦ subst (λ (x : Key). IsProcedure names (kind_of (kept_at (with_new d place value) x)) (clauses_of (kept_at (with_new d place value) x)) (procedure_with (with_clause at_end m.procedures k c) x)) (same_key_is k j here) at_key
+        | inr other ↦ (let kept = kept_other d place value k j at other in
+            let model = with_other m.procedures k j c other in
+            subst (λ (o : Option databases.Procedure). IsProcedure names (kind_of (kept_at (with_new d place value) j)) (clauses_of (kept_at (with_new d place value) j)) o) (sym model)
+            (subst (λ (o : Option (Procedure Clause)). IsProcedure names (kind_of o) (clauses_of o) (procedure_with m.procedures j)) (sym kept) (is.procedures j)))
+      ];
+  added = ap (λ n. n + 1) is.added;
+} where
+  of_kept : (o : Option (Procedure Clause)) → kept_at d k ≡ o → IsProcedure names (kind_of (kept_at (with_new d place value) k)) (clauses_of (kept_at (with_new d place value) k)) (Some (grown k c (procedure_with m.procedures k)))
+  of_kept None h = absurd (let there = kept_there d k place at in let within = place_within d k place at in no_item d.procedures place within (sym there ∙ h)) where
+    no_item : (ps : List (Procedure Clause)) (i : ℕ) → i < length ps → slice_get ps i ≡ None → ⊥
+    no_item [] i less none = omega (arith, less)
+    no_item (p ∷ ps) zero less none = cc none
+    no_item (p ∷ ps) (suc i) less none = no_item ps i (omega (arith, less)) none
+  of_kept (Some p) h =
+      let now : kept_at (with_new d place value) k ≡ Some (one_more db.at_end kind.Static (new d place value) p) = kept_here d place value k at ∙ ap (option_map (one_more db.at_end kind.Static (new d place value))) h in
+      let was : IsProcedure names p.kind p.clauses (procedure_with m.procedures k) = subst (λ (o : Option (Procedure Clause)). IsProcedure names (kind_of o) (clauses_of o) (procedure_with m.procedures k)) h (is.procedures k) in
+      subst (λ (o : Option (Procedure Clause)). IsProcedure names (kind_of o) (clauses_of o) (Some (grown k c (procedure_with m.procedures k)))) (sym now)
+      (one_comes k p (procedure_with m.procedures k) (new d place value) c (number ∙ sym is.added) clause was)
+
+  at_key : IsProcedure names (kind_of (kept_at (with_new d place value) k)) (clauses_of (kept_at (with_new d place value) k)) (procedure_with (with_clause at_end m.procedures k c) k)
+  at_key = subst (λ (o : Option databases.Procedure). IsProcedure names (kind_of (kept_at (with_new d place value) k)) (clauses_of (kept_at (with_new d place value) k)) o) (sym (with_same m.procedures k c)) (of_kept (kept_at d k) refl)

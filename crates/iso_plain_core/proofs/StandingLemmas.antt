@@ -6,7 +6,6 @@ use Rattle.std.proofs.lemmas.List.{take-append-le, take-append-drop}
 use Rattle.std.proofs.lemmas.Option.{slice_get_within}
 use Rattle.iso_model.specs.Terms.Trees.{Tree}
 use Rattle.iso_model.specs.Search.Bodies.{Body}
-use Rattle.iso_model.specs.Search.Databases.{Clause}
 use Rattle.iso_model.specs.Search.Walker.{State, Member, Alternative}
 use Rattle.iso_store_core.specs.Presents.{Present, KeepsWords}
 use Rattle.iso_plain_core.specs.Next.{IsPlace, now_at, now_behind}
@@ -14,7 +13,10 @@ use Rattle.iso_plain_core.specs.declared.bodies.Node.{Node}
 use Rattle.iso_plain_core.specs.declared.parts.Frame.{Frame}
 use Rattle.iso_plain_core.specs.declared.parts.Choice as kept
 use Rattle.iso_plain_core.specs.Nodes.{At, IsTree, runs, cuts, joins, branches, commits, chooses}
-use Rattle.iso_plain_core.specs.Standing.{Among, Links, IsBody, IsMember, a_body, a_cut, a_failure, an_end, a_template, Chain, ends, leads, First, StandsOn, StandsForChoice, StandsForChoices, none_kept, one_kept, links_at, Newest, AreVariables, no_word, one_word, GoesOn, DoesNext}
+use Rattle.iso_plain_core.specs.Standing.{Among, Links, IsBody, IsMember, a_body, a_cut, a_failure, an_end, a_template, Chain, ends, leads, First, StandsOn, HasLeft, StandsForChoice, StandsForChoices, none_kept, one_kept, links_at, Newest, AreVariables, no_word, one_word, GoesOn, DoesNext}
+use Rattle.iso_plain_core.specs.declared.parts.Left.{Left}
+use Rattle.iso_plain_core.specs.declared.parts.Left.TheVariants as left
+use Rattle.iso_plain_core.specs.Leaving.{Leaving, KeepsLeft}
 use Rattle.iso_plain_core.specs.Entering.{Adds}
 use Rattle.iso_plain_core.proofs.NodeLemmas.{tree_keep}
 
@@ -160,29 +162,38 @@ stands_more c old new on adds = record {
 }
 
 -- What is left of choices where those above a height are taken away.
-pub record Lower {W M : Type 0} (stands : M → Present W → Type 0) (older : M → M → Type 0) (base : M) (left_at : ℕ → ℕ → List Clause) (query : List W) (named : List ℕ) (links : Links W) (cs : List (kept.Choice W M)) (ks : List Alternative) (height : ℕ)
+pub record Lower {W M : Type 0} (stands : M → Present W → Type 0) (older : M → M → Type 0) (base : M) (leaves : Leaving) (query : List W) (named : List ℕ) (links : Links W) (cs : List (kept.Choice W M)) (ks : List Alternative) (height : ℕ)
     (c : kept.Choice W M) : Type 0 where
-  pub stand : StandsForChoices stands older base left_at query named links (take height cs) (drop (length ks - height) ks)
+  pub stand : StandsForChoices stands older base leaves query named links (take height cs) (drop (length ks - height) ks)
   pub newer : (d : kept.Choice W M) → Among d (take height cs) → older d.mark c.mark
   pub newer_base : older base c.mark
   pub present : Present W
   pub mark : stands c.mark present
 
-module _ {W M : Type 0} {older : M → M → Type 0} {base : M} {left_at : ℕ → ℕ → List Clause} {query : List W} {named : List ℕ} where
+-- clauses that are left still
+pub left_stays : {W : Type 0} {leaves leaves' : Leaving} (query : List W) (named : List ℕ) (p : Present W) (links : Links W) (a : Alternative) → KeepsLeft leaves leaves' → (l : Left W) → HasLeft leaves query named p links l a → HasLeft leaves' query named p links l a
+left_stays query named p links a keeps (left.AsIs place) has = record { on = has.on; is = has.is }
+left_stays query named p links a keeps (left.Again place) has = record { on = has.on; is = has.is }
+left_stays query named p links a keeps (left.Catching goal place) has = record { holds = has.holds; three = has.three; on = has.on; is = has.is }
+left_stays query named p links a keeps (left.Gathering result place gathered) has = record { holds = has.holds; on = has.on; is = has.is; fits = has.fits }
+left_stays query named p links a keeps (left.Offered goal place offers) has = record { holds = has.holds; on = has.on; made = has.made; is = has.is; some = has.some }
+left_stays query named p links a keeps (left.Clauses attempt) has = record { call = has.call; clauses = has.clauses; at = has.at; left = has.left; are = keeps attempt.clause attempt.later has.clauses has.are }
+
+module _ {W M : Type 0} {older : M → M → Type 0} {base : M} {leaves : Leaving} {query : List W} {named : List ℕ} where
   -- more nodes and frames
   pub choices_more : {stands : M → Present W → Type 0} {links : Links W} {cs : List (kept.Choice W M)} {ks : List Alternative} (new : Links W) → AddsLinks links new
-      → StandsForChoices stands older base left_at query named links cs ks → StandsForChoices stands older base left_at query named new cs ks
+      → StandsForChoices stands older base leaves query named links cs ks → StandsForChoices stands older base leaves query named new cs ks
   choices_more new adds none_kept = none_kept
   choices_more {stands = stands} {links = links} new adds (one_kept {before = before} {c = c} {a = a} {ks = ks} is on here newer below) =
       let same : links_at c new ≡ links_at c links = links_same c links new on adds in
       one_kept is (stands_more c links new on adds)
-      (subst (λ (ls : Links W). StandsForChoice stands older base left_at query named ls c a) (sym same) here) newer
-      (subst (λ (ls : Links W). StandsForChoices stands older base left_at query named ls before ks) (sym same) below)
+      (subst (λ (ls : Links W). StandsForChoice stands older base leaves query named ls c a) (sym same) here) newer
+      (subst (λ (ls : Links W). StandsForChoices stands older base leaves query named ls before ks) (sym same) below)
 
   -- marks that stand on
   pub choices_keep : {stands stands' : M → Present W → Type 0} {links : Links W} {cs : List (kept.Choice W M)} {ks : List Alternative}
       → ((d : kept.Choice W M) (p : Present W) → Among d cs → stands d.mark p → stands' d.mark p)
-      → StandsForChoices stands older base left_at query named links cs ks → StandsForChoices stands' older base left_at query named links cs ks
+      → StandsForChoices stands older base leaves query named links cs ks → StandsForChoices stands' older base leaves query named links cs ks
   choices_keep keeps none_kept = none_kept
   choices_keep {stands = stands} {stands' = stands'} {cs = cs} keeps (one_kept {before = before} {c = c} is on here newer below) =
       one_kept is on
@@ -195,15 +206,22 @@ module _ {W M : Type 0} {older : M → M → Type 0} {base : M} {left_at : ℕ �
       newer
       (choices_keep (λ d p among stood. keeps d p (subst (λ (ds : List (kept.Choice W M)). Among d ds) (sym is) (among_front d before c among)) stood) below)
 
+  -- clauses that are left still
+  pub choices_stay : {leaves' : Leaving} {stands : M → Present W → Type 0} {links : Links W} {cs : List (kept.Choice W M)} {ks : List Alternative} → KeepsLeft leaves leaves'
+      → StandsForChoices stands older base leaves query named links cs ks → StandsForChoices stands older base leaves' query named links cs ks
+  choices_stay keeps none_kept = none_kept
+  choices_stay {links = links} keeps (one_kept {c = c} {a = a} is on here newer below) =
+      one_kept is on (record { present = here.present; mark = here.mark; newer = here.newer; has = left_stays query named here.present (links_at c links) a keeps c.left here.has }) newer (choices_stay keeps below)
+
   -- as many choices
   pub choices_length : {stands : M → Present W → Type 0} {links : Links W} {cs : List (kept.Choice W M)} {ks : List Alternative}
-      → StandsForChoices stands older base left_at query named links cs ks → length cs ≡ length ks
+      → StandsForChoices stands older base leaves query named links cs ks → length cs ≡ length ks
   choices_length none_kept = refl
   choices_length (one_kept {before = before} {c = c} is on here newer below) = ap length is ∙ (length_last before c ∙ omega (arith, choices_length below))
 
   newest_of : {stands : M → Present W → Type 0} {links : Links W} {before : List (kept.Choice W M)} {c : kept.Choice W M} {a : Alternative} {ks : List Alternative}
-      → StandsOn c links → StandsForChoice stands older base left_at query named (links_at c links) c a → ((d : kept.Choice W M) → Among d before → older d.mark c.mark)
-      → StandsForChoices stands older base left_at query named (links_at c links) before ks → Newest stands older base left_at query named links (before ++ c ∷ []) c (a ∷ ks)
+      → StandsOn c links → StandsForChoice stands older base leaves query named (links_at c links) c a → ((d : kept.Choice W M) → Among d before → older d.mark c.mark)
+      → StandsForChoices stands older base leaves query named (links_at c links) before ks → Newest stands older base leaves query named links (before ++ c ∷ []) c (a ∷ ks)
   newest_of {stands = stands} {links = links} {before = before} {c = c} {a = a} {ks = ks} on here newer below =
       let place : length (before ++ c ∷ []) - 1 ≡ length before = omega (arith, length_last before c) in
       let front : take (length (before ++ c ∷ []) - 1) (before ++ c ∷ []) ≡ before = rw place (front_is before c) in
@@ -214,49 +232,49 @@ module _ {W M : Type 0} {older : M → M → Type 0} {base : M} {left_at : ℕ �
         within = on;
         here = here;
         newer = λ d among. newer d (subst (λ (ds : List (kept.Choice W M)). Among d ds) front among);
-        stands_below = subst (λ (ds : List (kept.Choice W M)). StandsForChoices stands older base left_at query named (links_at c links) ds ks) (sym front) below;
+        stands_below = subst (λ (ds : List (kept.Choice W M)). StandsForChoices stands older base leaves query named (links_at c links) ds ks) (sym front) below;
       }
 
   pub newest : {stands : M → Present W → Type 0} {links : Links W} {cs : List (kept.Choice W M)} {ks : List Alternative} (c : kept.Choice W M)
-      → slice_get cs (length cs - 1) ≡ Some c → StandsForChoices stands older base left_at query named links cs ks → Newest stands older base left_at query named links cs c ks
+      → slice_get cs (length cs - 1) ≡ Some c → StandsForChoices stands older base leaves query named links cs ks → Newest stands older base leaves query named links cs c ks
   newest c last none_kept = absurd (cc)
   newest {stands = stands} {links = links} {cs = cs} c last (one_kept {before = before} {c = d} {a = a} {ks = ks} is on here newer below) =
       let place : length (before ++ d ∷ []) - 1 ≡ length before = omega (arith, length_last before d) in
       let there : slice_get (before ++ d ∷ []) (length (before ++ d ∷ []) - 1) ≡ Some c = subst (λ (ds : List (kept.Choice W M)). slice_get ds (length ds - 1) ≡ Some c) is last in
       let same : d ≡ c = some_same (sym (last_is before d) ∙ (ap (slice_get (before ++ d ∷ [])) (sym place) ∙ there)) in
-      subst (λ (e : kept.Choice W M). Newest stands older base left_at query named links cs e (a ∷ ks)) same
-      (subst (λ (ds : List (kept.Choice W M)). Newest stands older base left_at query named links ds d (a ∷ ks)) (sym is) (newest_of on here newer below))
+      subst (λ (e : kept.Choice W M). Newest stands older base leaves query named links cs e (a ∷ ks)) same
+      (subst (λ (ds : List (kept.Choice W M)). Newest stands older base leaves query named links ds d (a ∷ ks)) (sym is) (newest_of on here newer below))
 
   -- A choice that keeps all nodes and frames, newer than all others.
   pub choices_push : {stands : M → Present W → Type 0} {links : Links W} {cs : List (kept.Choice W M)} {ks : List Alternative} (c : kept.Choice W M) (a : Alternative) → c.nodes ≡ length links.nodes → c.frames ≡ length links.frames
-      → StandsForChoice stands older base left_at query named links c a → ((d : kept.Choice W M) → Among d cs → older d.mark c.mark)
-      → StandsForChoices stands older base left_at query named links cs ks → StandsForChoices stands older base left_at query named links (cs ++ c ∷ []) (a ∷ ks)
+      → StandsForChoice stands older base leaves query named links c a → ((d : kept.Choice W M) → Among d cs → older d.mark c.mark)
+      → StandsForChoices stands older base leaves query named links cs ks → StandsForChoices stands older base leaves query named links (cs ++ c ∷ []) (a ∷ ks)
   choices_push {stands = stands} {links = links} {cs = cs} {ks = ks} c a nodes frames here newer below =
       let make : List (Node W) → List Frame → Links W = λ ns fs. record { nodes = ns; frames = fs } in
       let whole : links_at c links ≡ links = ap₂ make (ap (λ (n : ℕ). take n links.nodes) nodes ∙ take_whole links.nodes) (ap (λ (n : ℕ). take n links.frames) frames ∙ take_whole links.frames) in
       one_kept refl (record { nodes = omega (arith, nodes); frames = omega (arith, frames) })
-      (subst (λ (ls : Links W). StandsForChoice stands older base left_at query named ls c a) (sym whole) here) newer
-      (subst (λ (ls : Links W). StandsForChoices stands older base left_at query named ls cs ks) (sym whole) below)
+      (subst (λ (ls : Links W). StandsForChoice stands older base leaves query named ls c a) (sym whole) here) newer
+      (subst (λ (ls : Links W). StandsForChoices stands older base leaves query named ls cs ks) (sym whole) below)
 
   -- ---- choices up to a height
 
   -- the older choices stand over all nodes and frames
   wider : {stands : M → Present W → Type 0} {links : Links W} {cs : List (kept.Choice W M)} {ks : List Alternative} (c : kept.Choice W M)
-      → StandsForChoices stands older base left_at query named (links_at c links) cs ks → StandsForChoices stands older base left_at query named links cs ks
+      → StandsForChoices stands older base leaves query named (links_at c links) cs ks → StandsForChoices stands older base leaves query named links cs ks
   wider {links = links} c h = choices_more links (record { nodes = (drop c.nodes links.nodes, sym (take-append-drop c.nodes links.nodes)); frames = (drop c.frames links.frames, sym (take-append-drop c.frames links.frames)) }) h
 
   lower_by : {stands : M → Present W → Type 0} {links : Links W} {before : List (kept.Choice W M)} {ks : List Alternative} (height : ℕ) (c d : kept.Choice W M) (a : Alternative)
-      → StandsOn d links → StandsForChoice stands older base left_at query named (links_at d links) d a → ((x : kept.Choice W M) → Among x before → older x.mark d.mark)
-      → StandsForChoices stands older base left_at query named (links_at d links) before ks → slice_get (before ++ d ∷ []) height ≡ Some c
-      → (height < length before → Lower stands older base left_at query named (links_at d links) before ks height c) → (height ≡ length before) ⊎ (height < length before) → Lower stands older base left_at query named links (before ++ d ∷ []) (a ∷ ks) height c
+      → StandsOn d links → StandsForChoice stands older base leaves query named (links_at d links) d a → ((x : kept.Choice W M) → Among x before → older x.mark d.mark)
+      → StandsForChoices stands older base leaves query named (links_at d links) before ks → slice_get (before ++ d ∷ []) height ≡ Some c
+      → (height < length before → Lower stands older base leaves query named (links_at d links) before ks height c) → (height ≡ length before) ⊎ (height < length before) → Lower stands older base leaves query named links (before ++ d ∷ []) (a ∷ ks) height c
   lower_by {stands = stands} {links = links} {before = before} {ks = ks} height c d a on here newer below there inner (inr less) =
       let l = inner less in
       let many = choices_length below in
       let front : take height before ≡ take height (before ++ d ∷ []) = sym (take-append-le height before (d ∷ []) (omega (arith, less))) in
       let back : suc (length ks - height) ≡ suc (length ks) - height = omega (arith, less, many) in
       record {
-        stand = subst (λ (xs : List (kept.Choice W M)). StandsForChoices stands older base left_at query named links xs (drop (suc (length ks) - height) (a ∷ ks))) front
-            (subst (λ (n : ℕ). StandsForChoices stands older base left_at query named links (take height before) (drop n (a ∷ ks))) back (wider d l.stand));
+        stand = subst (λ (xs : List (kept.Choice W M)). StandsForChoices stands older base leaves query named links xs (drop (suc (length ks) - height) (a ∷ ks))) front
+            (subst (λ (n : ℕ). StandsForChoices stands older base leaves query named links (take height before) (drop n (a ∷ ks))) back (wider d l.stand));
         newer = λ x among. l.newer x (subst (λ (xs : List (kept.Choice W M)). Among x xs) (sym front) among);
         newer_base = l.newer_base;
         present = l.present;
@@ -268,8 +286,8 @@ module _ {W M : Type 0} {older : M → M → Type 0} {base : M} {left_at : ℕ �
       let back : suc 0 ≡ suc (length ks) - height = omega (arith, same, many) in
       let is : d ≡ c = some_same (sym (last_is before d) ∙ (ap (slice_get (before ++ d ∷ [])) (sym same) ∙ there)) in
       record {
-        stand = subst (λ (xs : List (kept.Choice W M)). StandsForChoices stands older base left_at query named links xs (drop (suc (length ks) - height) (a ∷ ks))) front
-            (subst (λ (n : ℕ). StandsForChoices stands older base left_at query named links before (drop n (a ∷ ks))) back (wider d below));
+        stand = subst (λ (xs : List (kept.Choice W M)). StandsForChoices stands older base leaves query named links xs (drop (suc (length ks) - height) (a ∷ ks))) front
+            (subst (λ (n : ℕ). StandsForChoices stands older base leaves query named links before (drop n (a ∷ ks))) back (wider d below));
         newer = λ x among. subst (λ (y : kept.Choice W M). older x.mark y.mark) is (newer x (subst (λ (xs : List (kept.Choice W M)). Among x xs) (sym front) among));
         newer_base = subst (λ (y : kept.Choice W M). older base y.mark) is here.newer;
         present = here.present;
@@ -277,19 +295,19 @@ module _ {W M : Type 0} {older : M → M → Type 0} {base : M} {left_at : ℕ �
       }
 
   pub lower : {stands : M → Present W → Type 0} {links : Links W} {cs : List (kept.Choice W M)} {ks : List Alternative} (height : ℕ) (c : kept.Choice W M) → slice_get cs height ≡ Some c
-      → StandsForChoices stands older base left_at query named links cs ks → Lower stands older base left_at query named links cs ks height c
+      → StandsForChoices stands older base leaves query named links cs ks → Lower stands older base leaves query named links cs ks height c
   lower height c at none_kept = absurd (cc)
   lower {stands = stands} {links = links} {cs = cs} height c at (one_kept {before = before} {c = d} {a = a} {ks = ks} is on here newer below) =
       let there : slice_get (before ++ d ∷ []) height ≡ Some c = subst (λ (ds : List (kept.Choice W M)). slice_get ds height ≡ Some c) is at in
       let within = slice_get_within (before ++ d ∷ []) height c there in
       let long = length_last before d in
       let shorter : (height < length before) → slice_get before height ≡ Some c = λ less. sym (at_front before d height less) ∙ there in
-      subst (λ (ds : List (kept.Choice W M)). Lower stands older base left_at query named links ds (a ∷ ks) height c) (sym is)
+      subst (λ (ds : List (kept.Choice W M)). Lower stands older base leaves query named links ds (a ∷ ks) height c) (sym is)
       (lower_by height c d a on here newer below there (λ less. lower height c (shorter less) below) (eq-or-lt_of_le (omega (arith, within, long))))
 
   -- no choice
   pub no_choices : {stands : M → Present W → Type 0} {links : Links W} {cs : List (kept.Choice W M)} {ks : List Alternative} → cs ≡ []
-      → StandsForChoices stands older base left_at query named links cs ks → ks ≡ []
+      → StandsForChoices stands older base leaves query named links cs ks → ks ≡ []
   no_choices e none_kept = refl
   no_choices {cs = cs} e (one_kept {before = before} {c = c} is on here newer below) =
       absurd (let l : length cs ≡ length before + 1 = ap length is ∙ length_last before c in let z : length cs ≡ 0 = ap length e in omega arith)
@@ -305,9 +323,9 @@ among_end x (z ∷ xs) y (inr h) = on_end (among_end x xs y h) where
   on_end (inl a) = inl (inr a)
   on_end (inr e) = inr e
 
-module _ {W M : Type 0} {stands : M → Present W → Type 0} {older : M → M → Type 0} {base : M} {left_at : ℕ → ℕ → List Clause} {query : List W} {named : List ℕ} where
+module _ {W M : Type 0} {stands : M → Present W → Type 0} {older : M → M → Type 0} {base : M} {leaves : Leaving} {query : List W} {named : List ℕ} where
   -- The mark of each choice stands for something.
-  pub marks_stand : {links : Links W} {cs : List (kept.Choice W M)} {ks : List Alternative} (d : kept.Choice W M) → StandsForChoices stands older base left_at query named links cs ks
+  pub marks_stand : {links : Links W} {cs : List (kept.Choice W M)} {ks : List Alternative} (d : kept.Choice W M) → StandsForChoices stands older base leaves query named links cs ks
       → Among d cs → (p : Present W) × stands d.mark p
   marks_stand d none_kept among = absurd among
   marks_stand d (one_kept {before = before} {c = c} is on here newer below) among =

@@ -1,9 +1,7 @@
 -- What is callable under each name, by the numbers of atoms.
-use Rattle.std.specs.Prelude.{◌≡◌, ◌<◌, ℕ, List, [], ◌∷◌, Bool, ◌&&◌, ◌==◌, length, slice_get, position, Option, Some, None, option_map, if◌then◌else◌, Vec}
+use Rattle.std.specs.Prelude.{◌≡◌, ◌<◌, ℕ, List, [], ◌∷◌, Bool, ◌==◌, length, slice_get, Option, Some, None, option_map, if◌then◌else◌, Vec, ◌⊎◌}
 use Rattle.std.specs.Global.{Global}
 use Rattle.std.specs.Option.{option_or}
-use Rattle.std.specs.String.{string_bytes}
-use Rattle.std.specs.Str.{bytes_eq}
 use Rattle.iso_atoms.specs.Texts.{text_at}
 use Rattle.iso_model.specs.Search.Databases.{Key, key}
 use Rattle.iso_model.specs.Search.BuiltIns.{built_in, built_in_among}
@@ -12,7 +10,9 @@ use Rattle.iso_model.specs.declared.built_ins.Row.{Row}
 use Rattle.iso_plain_core.specs.declared.callables.Callable.{Callable}
 use Rattle.iso_plain_core.specs.declared.callables.Callee.{Callee}
 use Rattle.iso_plain_core.specs.declared.callables.Callee.TheVariants as callee
-use Rattle.iso_plain_core.specs.declared.procedures.Procedure.{Procedure}
+use Rattle.iso_plain_core.specs.declared.clauses.Clause.{Clause}
+use Rattle.iso_db.specs.Databases.{Database}
+use Rattle.iso_plain_core.specs.Programs.{place_at, kept_at, kind_of}
 
 -- this, where the test holds
 abbrev pub where_holds : {X : Type 0} → Bool → X → Option X
@@ -39,24 +39,26 @@ callee_at rows a n = callee_in (callables_at rows a) n
 
 -- ---- by texts
 
--- whether this is the procedure with the key
-abbrev pub has_key : Key → Procedure → Bool
-has_key k p = p.arity == k.arity && bytes_eq (string_bytes p.name) k.name
-
--- the place of the procedure with this key
-abbrev pub place_at : List Procedure → Key → Option ℕ
-place_at ps k = position (has_key k) ps
-
 -- what a goal with this key calls among these built-ins
 abbrev pub callee_among : List Row → Key → Option Callee
 callee_among rows k = option_map callee.BuiltIn (built_in_among (entries_of rows) k)
 
--- what a goal with this key calls: a built-in before a procedure
-abbrev pub callee_of : List Procedure → Key → Option Callee
-callee_of ps k = option_or (option_map callee.BuiltIn (built_in k)) (option_map callee.User (place_at ps k))
+-- what a goal with this key calls, where each procedure that has a place is there: a built-in before a procedure
+abbrev pub callee_of : Database Clause → Key → Option Callee
+callee_of d k = option_or (option_map callee.BuiltIn (built_in k)) (option_map callee.User (place_at d k))
 
 -- Where these are the names of the atoms, what is called by atoms is what is called by texts. An atom that comes later has nothing: each name that
 -- calls something has an atom.
 pub record Indexes (names : List (List ℕ)) (rows : List (Vec Callable Global)) (calls : Key → Option Callee) : Type 0 where
   pub sound : (a n : ℕ) (c : Callee) → callee_at rows a n ≡ Some c → (a < length names) × (calls (key (text_at names a) n) ≡ Some c)
   pub complete : (k : Key) (c : Callee) → calls k ≡ Some c → (a : ℕ) × (slice_get names a ≡ Some k.name) × (callee_at rows a k.arity ≡ Some c)
+
+-- What is called under a key is found, or nothing is where no procedure is there.
+abbrev pub Agrees : Database Clause → Key → Option Callee → Type 0
+Agrees d k found = (found ≡ callee_of d k) ⊎ ((found ≡ None) × (built_in k ≡ None) × (kind_of (kept_at d k) ≡ None))
+
+-- Where these are the names of the atoms, what is called is found by atoms: built-ins, and the procedures of the database that are there.
+pub record Finds (names : List (List ℕ)) (rows : List (Vec Callable Global)) (d : Database Clause) : Type 0 where
+  pub calls : Key → Option Callee
+  pub indexes : Indexes names rows calls
+  pub agrees : (k : Key) → Agrees d k (calls k)

@@ -1,16 +1,15 @@
 -- What is to be done at most before a goal takes a step, and in all: a number that falls at each move of the engine.
-use Rattle.std.specs.Prelude.{ℕ, zero, suc, ◌+◌, List, [], ◌∷◌, ◌++◌, length, Option, Some, None, ◌-◌}
+use Rattle.std.specs.Prelude.{ℕ, zero, suc, ◌+◌, List, [], ◌∷◌, ◌++◌, length, Option, Some, None}
 use Rattle.std.specs.List.{slice_index_or}
 use Rattle.iso_plain_core.specs.declared.parts.Todo.{Todo}
 use Rattle.iso_plain_core.specs.declared.parts.Todo.TheVariants as todo
 use Rattle.iso_plain_core.specs.declared.parts.Frame.{Frame}
-use Rattle.iso_plain_core.specs.declared.procedures.Procedure.{Procedure}
+use Rattle.iso_db.specs.Presents.{remaining}
 use Rattle.iso_plain_core.specs.declared.parts.Left.{Left}
 use Rattle.iso_plain_core.specs.declared.parts.Left.TheVariants as left
 use Rattle.iso_plain_core.specs.declared.parts.Choice as kept
 use Rattle.iso_plain_core.specs.declared.parts.Now.{Now}
 use Rattle.iso_plain_core.specs.declared.parts.Now.TheVariants as now
-use Rattle.iso_plain_core.specs.ClausePlaces.{clauses_at_place}
 
 -- The most that is to be done of a body at a place of the nodes before a goal takes a step, whatever the body is, where this is to be done behind
 -- it. Its parts are at lower places: two of them one behind the other, and a third, take less.
@@ -64,17 +63,17 @@ place_cost fs place = rest_cost (frame_costs fs) place
 -- ---- choices, and what comes next
 
 -- what is to be done at most at what is left to be tried, over frames with these costs
-abbrev pub choice_cost : {W : Type 0} → List Procedure → List ℕ → Left W → ℕ
-choice_cost ps costs (left.AsIs place) = suc (rest_cost costs place)
-choice_cost ps costs (left.Again place) = suc (rest_cost costs place)
-choice_cost ps costs (left.Catching goal place) = left_cost 1 (rest_cost costs place)
-choice_cost ps costs (left.Gathering result place gathered) = suc (rest_cost costs place)
-choice_cost ps costs (left.Offered goal place offers) = left_cost (length offers.items) (rest_cost costs place)
-choice_cost ps costs (left.Clauses attempt) = left_cost (clauses_at_place ps attempt.procedure - attempt.clause) (rest_cost costs attempt.rest)
+abbrev pub choice_cost : {W : Type 0} → List ℕ → Left W → ℕ
+choice_cost costs (left.AsIs place) = suc (rest_cost costs place)
+choice_cost costs (left.Again place) = suc (rest_cost costs place)
+choice_cost costs (left.Catching goal place) = left_cost 1 (rest_cost costs place)
+choice_cost costs (left.Gathering result place gathered) = suc (rest_cost costs place)
+choice_cost costs (left.Offered goal place offers) = left_cost (length offers.items) (rest_cost costs place)
+choice_cost costs (left.Clauses attempt) = left_cost (suc (remaining attempt.later)) (rest_cost costs attempt.rest)
 
-abbrev pub choices_cost : {W M : Type 0} → List Procedure → List ℕ → List (kept.Choice W M) → ℕ
-choices_cost ps costs [] = 0
-choices_cost ps costs (c ∷ cs) = choice_cost ps costs c.left + choices_cost ps costs cs
+abbrev pub choices_cost : {W M : Type 0} → List ℕ → List (kept.Choice W M) → ℕ
+choices_cost costs [] = 0
+choices_cost costs (c ∷ cs) = choice_cost costs c.left + choices_cost costs cs
 
 -- what is to be done at most at what comes next
 abbrev pub now_cost : List ℕ → Now → ℕ

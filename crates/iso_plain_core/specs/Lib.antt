@@ -10,7 +10,7 @@ pub mod Kept
 pub mod Programs
 pub mod Adding
 pub mod Next
-pub mod ClausePlaces
+pub mod Leaving
 pub mod Costs
 pub mod Replies
 pub mod GoalKinds

@@ -1,25 +1,50 @@
--- The database as the engine keeps it.
-use Rattle.std.specs.Prelude.{◌≡◌, ℕ, ◌<◌, List, [], ◌∷◌, length}
-use Rattle.std.specs.String.{string_bytes}
+-- The database as the engine keeps it: by the keys of procedures, whatever order they are kept in.
+use Rattle.std.specs.Prelude.{◌≡◌, ℕ, List, [], ◌∷◌, Option, Some, None, if◌then◌else◌}
+use Rattle.std.specs.List.{slice_get}
+use Rattle.std.specs.Option.{option_and_then}
 use Rattle.iso_model.specs.Search.Databases as databases
-use Rattle.iso_model.specs.Search.Databases.{Procedures}
+use Rattle.iso_model.specs.Search.Databases.{Key, Procedures, same_key}
+use Rattle.iso_db.specs.Databases.{Database, Procedure, place_in}
+use Rattle.iso_db.specs.Databases as db
+use Rattle.iso_db.specs.declared.kinds.Kind.{Kind}
+use Rattle.iso_db.specs.declared.kinds.Kind.TheVariants as kind
 use Rattle.iso_plain_core.specs.declared.clauses.Clause.{Clause}
-use Rattle.iso_plain_core.specs.declared.procedures.Procedure.{Procedure}
 use Rattle.iso_plain_core.specs.Kept.{IsClause}
 
--- the clauses are kept in their order
-pub data AreClauses (names : List (List ℕ)) : List Clause → List databases.Clause → Type 0 where
+-- the clauses are kept in their order, under their numbers
+pub data AreClauses (names : List (List ℕ)) : List (db.Clause Clause) → List databases.Clause → Type 0 where
   no_clauses : AreClauses names [] []
-  more_clauses : {kept : Clause} {c : databases.Clause} {ks : List Clause} {cs : List databases.Clause} → IsClause names kept c → AreClauses names ks cs → AreClauses names (kept ∷ ks) (c ∷ cs)
+  more_clauses : {k : db.Clause Clause} {c : databases.Clause} {ks : List (db.Clause Clause)} {cs : List databases.Clause} → c.number ≡ k.number → IsClause names k.value c → AreClauses names ks cs → AreClauses names (k ∷ ks) (c ∷ cs)
 
--- the procedure is kept so, and has a clause
-pub record IsProcedure (names : List (List ℕ)) (kept : Procedure) (p : databases.Procedure) : Type 0 where
-  pub name : string_bytes kept.name ≡ p.key.name
-  pub arity : kept.arity ≡ p.key.arity
-  pub clauses : AreClauses names kept.clauses.items p.clauses
-  pub some : 0 < length kept.clauses.items
+-- the same kind of procedure
+abbrev pub IsKind : Kind → databases.Kind → Type 0
+IsKind kind.Static databases.Static = Unit {0}
+IsKind kind.Dynamic databases.Static = ⊥
 
--- the procedures are kept in their order
-pub data IsDatabase (names : List (List ℕ)) : List Procedure → Procedures → Type 0 where
-  no_procedures : IsDatabase names [] []
-  more_procedures : {kept : Procedure} {p : databases.Procedure} {ks : List Procedure} {ps : Procedures} → IsProcedure names kept p → IsDatabase names ks ps → IsDatabase names (kept ∷ ks) (p ∷ ps)
+-- a procedure that is there is one of the language with these clauses; one that is absent is none, and has no clauses
+abbrev pub IsProcedure : List (List ℕ) → Option Kind → List (db.Clause Clause) → Option databases.Procedure → Type 0
+IsProcedure names None ks None = ks ≡ []
+IsProcedure names None ks (Some p) = ⊥
+IsProcedure names (Some k) ks None = ⊥
+IsProcedure names (Some k) ks (Some p) = IsKind k p.kind × AreClauses names ks p.clauses
+
+-- the procedure with this key
+abbrev pub procedure_with : Procedures → Key → Option databases.Procedure
+procedure_with [] k = None
+procedure_with (p ∷ ps) k = if same_key p.key k then Some p else procedure_with ps k
+
+-- the place of the procedure with this key
+abbrev pub place_at : Database Clause → Key → Option ℕ
+place_at d k = place_in d k.name k.arity
+
+-- what is kept under this key
+abbrev pub kept_at : Database Clause → Key → Option (Procedure Clause)
+kept_at d k = option_and_then (slice_get d.procedures) (place_at d k)
+
+abbrev pub kind_of : Option (Procedure Clause) → Option Kind
+kind_of o = option_and_then (λ p. p.kind) o
+
+-- each procedure is kept, and as many clauses were added
+pub record IsDatabase (names : List (List ℕ)) (d : Database Clause) (m : databases.Database) : Type 0 where
+  pub procedures : (k : Key) → IsProcedure names (kind_of (kept_at d k)) (db.clauses_of (kept_at d k)) (procedure_with m.procedures k)
+  pub added : d.added ≡ m.added

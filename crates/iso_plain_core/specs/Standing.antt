@@ -12,6 +12,7 @@ use Rattle.iso_model.specs.Search.Walker.{State, Member, Goal, CutTo, Fail, Leav
 use Rattle.iso_model.specs.Search.Walker as walker
 use Rattle.iso_store_core.specs.Presents.{Present, meaning}
 use Rattle.iso_plain_core.specs.Nodes.{At, IsTree}
+use Rattle.iso_plain_core.specs.Leaving.{Leaving}
 use Rattle.iso_plain_core.specs.Solutions.{copies_of}
 use Rattle.iso_plain_core.specs.Offers.{goal_arguments, rights_of}
 use Rattle.iso_lib.specs.declared.settings.Offer.{Offer}
@@ -107,14 +108,15 @@ pub record StandsOn {W M : Type 0} (c : kept.Choice W M) (links : Links W) : Typ
   pub nodes : c.nodes ≤ length links.nodes
   pub frames : c.frames ≤ length links.frames
 
--- What is left to be tried is said by the clauses left at a procedure from a place on, and the words of the query's variables with their numbers.
-module _ {W : Type 0} (left_at : ℕ → ℕ → List Clause) (query : List W) (named : List ℕ) where
+-- What is left to be tried is said by which clauses are left by a number and a view, and the words of the query's variables with their numbers.
+module _ {W : Type 0} (leaves : Leaving) (query : List W) (named : List ℕ) where
   -- The alternative is the goal of a call, with what is behind it, for which these clauses are left to be tried.
   pub record HasClauses (p : Present W) (links : Links W) (attempt : Attempt W) (a : Alternative) : Type 0 where
     pub call : Tree
+    pub clauses : List Clause
     pub at : AtGoal p links query named attempt.goal attempt.rest call a.list a.subst a.next
-    pub left : a.left ≡ Clauses call (left_at attempt.procedure attempt.clause)
-    pub some : 0 < length (left_at attempt.procedure attempt.clause)
+    pub left : a.left ≡ Clauses call clauses
+    pub are : leaves attempt.clause attempt.later clauses
 
   -- The alternative is the members from this place on, with this left to be tried.
   pub record HasMembers (p : Present W) (links : Links W) (place : Option ℕ) (left : walker.Left) (a : Alternative) : Type 0 where
@@ -153,15 +155,15 @@ module _ {W : Type 0} (left_at : ℕ → ℕ → List Clause) (query : List W) (
   HasLeft p links (left.Gathering result place gathered) a = HasGathered p links result place gathered a
   HasLeft p links (left.Offered goal place offers) a = HasOffered p links goal place offers.items a
 
--- Choices are made of an engine's marks (whether a mark stands for a store, and which is older), its mark for the empty store, the clauses left at a
--- procedure from a place on, and the words of the query's variables with their numbers.
-module _ {W M : Type 0} (stands : M → Present W → Type 0) (older : M → M → Type 0) (base : M) (left_at : ℕ → ℕ → List Clause) (query : List W) (named : List ℕ) where
+-- Choices are made of an engine's marks (whether a mark stands for a store, and which is older), its mark for the empty store, which clauses are left by
+-- a number and a view, and the words of the query's variables with their numbers.
+module _ {W M : Type 0} (stands : M → Present W → Type 0) (older : M → M → Type 0) (base : M) (leaves : Leaving) (query : List W) (named : List ℕ) where
   -- What one choice stands for: its mark brings back a store over which what is left is to be tried.
   pub record StandsForChoice (links : Links W) (c : kept.Choice W M) (a : Alternative) : Type 0 where
     pub present : Present W
     pub mark : stands c.mark present
     pub newer : older base c.mark
-    pub has : HasLeft left_at query named present links c.left a
+    pub has : HasLeft leaves query named present links c.left a
 
   -- The choices, the newest last, are these alternatives, the newest first. What is below a choice stands over what stood when it was made.
   pub data StandsForChoices : Links W → List (kept.Choice W M) → List Alternative → Type 0 where

@@ -13,6 +13,7 @@ pub mod conversion;
 pub mod entries;
 mod firsts;
 pub mod goals;
+pub mod leaving;
 pub mod offers;
 pub mod parts;
 pub mod replies;

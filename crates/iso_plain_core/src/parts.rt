@@ -15,6 +15,7 @@ ghost use Rattle.iso_model.specs.Terms.TermOf.{term_of};
 
 use super::entries::Entered;
 use super::solutions::Gathered;
+use iso_db::{ClauseId, View};
 use iso_lib::Offer;
 use iso_model::{Limit, NoMemory, Term};
 use iso_store_core::Store;
@@ -45,11 +46,11 @@ pub struct Frame {
     pub next: Option<usize>,
 }
 
-/// A clause to be entered for a goal, and the place of the member behind the goal.
+/// A clause to be entered for a goal, a view of those behind it, and the place of the member behind the goal.
 #[derive(Clone, Copy)]
 pub struct Attempt<W> {
-    pub procedure: usize,
-    pub clause: usize,
+    pub clause: ClauseId,
+    pub later: View,
     pub goal: W,
     pub rest: Option<usize>,
 }

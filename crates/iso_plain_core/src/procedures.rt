@@ -1,27 +1,20 @@
-//! The database: procedures with their clauses in the order of their text (7.5).
-ghost use Rattle.std.specs.Prelude.{◌≡◌, ◌∷◌, [], ◌++◌, ℕ, List, OnOk, OnErr, IfOk, None};
-ghost use Rattle.std.specs.String.{string_bytes};
+//! How a clause comes to its procedure (7.5).
+ghost use Rattle.std.specs.Prelude.{◌≡◌, ◌<◌, ℕ, List, OnOk, OnErr, IfOk, None, Some, length};
 ghost use Rattle.iso_model.specs.Search.Databases as databases;
-ghost use Rattle.iso_model.specs.Search.Databases.{Procedures, at_end, with_clause};
 ghost use Rattle.iso_model.specs.Search.BuiltIns.{built_in};
 ghost use Rattle.iso_model.specs.Search.Errors.{key};
+ghost use Rattle.iso_db.specs.Presents.{contents, KeepsViews, KeepsClauses};
 ghost use Rattle.iso_plain_core.specs.Kept.{IsClause};
-ghost use Rattle.iso_plain_core.specs.Callables.{Indexes, callee_at, callee_of};
-ghost use Rattle.iso_plain_core.specs.Programs.{IsDatabase};
-ghost use Rattle.iso_plain_core.specs.Adding.{IsFound, AddsProcedure};
+ghost use Rattle.iso_plain_core.specs.Callables.{Finds, callee_at};
+ghost use Rattle.iso_plain_core.specs.Programs.{IsDatabase, place_at};
+ghost use Rattle.iso_plain_core.specs.Adding.{IsFound, with_last};
+ghost use Rattle.iso_plain_core.specs.declared.callables.Callee.TheVariants as callee;
 
 use super::callables::{self, Callable, Callee};
 use super::clauses::Clause;
 use iso_atoms::Atom;
+use iso_db::Db;
 use std::alloc::{AllocError, Global};
-
-/// A user procedure: at least one clause was added for it.
-#[derive(Drop)]
-pub struct Procedure {
-    pub name: String,
-    pub arity: usize,
-    pub clauses: Vec<Clause>,
-}
 
 /// The name of a procedure, by its atom, and how many arguments goals of it have.
 #[derive(Clone, Copy)]
@@ -30,83 +23,58 @@ pub struct Functor {
     pub arity: usize,
 }
 
-/// The procedure of this name and arity that has this one clause.
-fn made(alloc: Global, name: String, arity: usize, clause: Clause) -> Result<Procedure, AllocError>
-    ensures name { IfOk result (λ p. string_bytes p.name ≡ string_bytes name) }
-    ensures arity { IfOk result (λ p. p.arity ≡ arity) }
-    ensures clauses { IfOk result (λ p. p.clauses.items ≡ clause ∷ []) }
-{
-    let mut clauses = Vec::with_capacity(alloc, 1)?;
-    clauses.push(clause)?;
-    Ok(Procedure {
-        name,
-        arity,
-        clauses,
-    })
-}
-
-/// Adds the clause at the end of the procedure's.
-fn push_clause(procedure: &mut Procedure, clause: Clause) -> Result<(), AllocError>
-    ensures name { procedure.new.name ≡ procedure.old.name }
-    ensures arity { procedure.new.arity ≡ procedure.old.arity }
-    ensures ok { OnOk result (procedure.new.clauses.items ≡ procedure.old.clauses.items ++ clause ∷ []) }
-    ensures err { OnErr result (procedure.new.clauses.items ≡ procedure.old.clauses.items) }
-{
-    procedure.clauses.push(clause)?;
-    Ok(())
-}
-
-/// Adds a procedure of this name, whose text this is, and arity that has this one clause. The error is that memory was refused; the procedures and the
-/// callables are as they were then.
-fn add_procedure(
+/// The place of the procedure of this name, whose text this is: the one that it has, or a new one. The error is that memory was refused.
+/// No procedure comes or goes by it.
+fn place(
     alloc: Global,
-    database: &mut Vec<Procedure>,
+    db: &mut Db<Clause>,
     callables: &mut Vec<Vec<Callable>>,
     functor: Functor,
     text: &str,
-    clause: Clause,
-) -> Result<(), AllocError>
-    ensures ok { OnOk result (AddsProcedure functor text.now clause database.old.items database.new.items callables.old.items callables.new.items) }
-    ensures err { OnErr result ((database.new.items ≡ database.old.items)
-        × ((a n : ℕ) → callee_at callables.new.items a n ≡ callee_at callables.old.items a n)) }
+) -> Result<usize, AllocError>
+    requires named { (names : List (List ℕ)) × IsFound names functor text.now (contents db.old) callables.old.items }
+    requires user { built_in (key text.now functor.arity) ≡ None }
+    ensures place { IfOk result (λ place. place_at (contents db.new) (key text.now functor.arity) ≡ Some place) }
+    ensures within { IfOk result (λ place. place < length (contents db.new).procedures) }
+    ensures called { IfOk result (λ place. callee_at callables.new.items functor.name functor.arity ≡ Some (callee.User place)) }
+    ensures found { (names : List (List ℕ)) → IsFound names functor text.now (contents db.old) callables.old.items → Finds names callables.new.items (contents db.new) }
+    ensures database { (names : List (List ℕ)) (m : databases.Database) → IsDatabase names (contents db.old) m → IsDatabase names (contents db.new) m }
+    ensures views { KeepsViews db.old db.new }
+    ensures clauses { KeepsClauses db.old db.new }
 {
-    let place = database.len();
-    let name = String::from_str(alloc, text)?;
-    let procedure = made(alloc, name, functor.arity, clause)?;
-    database.push(procedure)?;
-    let calls = Callee::User(place);
-    if let Err(fault) = callables::insert(alloc, callables, functor.name, functor.arity, calls) {
-        database.truncate(place);
-        return Err(fault);
+    match callables::find(callables.as_slice(), functor.name, functor.arity) {
+        Some(Callee::User(place)) => Ok(place),
+        Some(Callee::BuiltIn(_)) => unreachable!(),
+        None => {
+            let place = db.place(text, functor.arity)?;
+            let calls = Callee::User(place);
+            callables::insert(alloc, callables, functor.name, functor.arity, calls)?;
+            Ok(place)
+        }
     }
-    Ok(())
 }
 
 /// Adds the clause at the end of its procedure, whose name has this text, and which is made where there is none.
 /// The error is that memory was refused; the procedures are as they were then.
 pub fn add(
     alloc: Global,
-    database: &mut Vec<Procedure>,
+    db: &mut Db<Clause>,
     callables: &mut Vec<Vec<Callable>>,
     functor: Functor,
     text: &str,
     clause: Clause,
 ) -> Result<(), AllocError>
-    requires named { (names : List (List ℕ)) × IsFound names functor text.now database.old.items callables.old.items }
+    requires named { (names : List (List ℕ)) × IsFound names functor text.now (contents db.old) callables.old.items }
     requires user { built_in (key text.now functor.arity) ≡ None }
-    ensures ok { OnOk result ((names : List (List ℕ)) (db : Procedures) (c : databases.Clause) → IsFound names functor text.now database.old.items callables.old.items
-        → IsDatabase names database.old.items db → IsClause names clause c
-        → IsDatabase names database.new.items (with_clause at_end db (key text.now functor.arity) c)
-        × Indexes names callables.new.items (callee_of database.new.items)) }
-    ensures err { OnErr result ((names : List (List ℕ)) (db : Procedures) → IsDatabase names database.old.items db
-        → Indexes names callables.old.items (callee_of database.old.items)
-        → IsDatabase names database.new.items db × Indexes names callables.new.items (callee_of database.new.items)) }
+    ensures ok { OnOk result ((names : List (List ℕ)) (m : databases.Database) (c : databases.Clause) → IsFound names functor text.now (contents db.old) callables.old.items
+        → IsDatabase names (contents db.old) m → IsClause names clause c → c.number ≡ m.added
+        → IsDatabase names (contents db.new) (with_last m (key text.now functor.arity) c) × Finds names callables.new.items (contents db.new)) }
+    ensures err { OnErr result ((names : List (List ℕ)) (m : databases.Database) → IsFound names functor text.now (contents db.old) callables.old.items
+        → IsDatabase names (contents db.old) m → IsDatabase names (contents db.new) m × Finds names callables.new.items (contents db.new)) }
+    ensures views { KeepsViews db.old db.new }
+    ensures clauses { KeepsClauses db.old db.new }
 {
-    let Some(callee) = callables::find(callables.as_slice(), functor.name, functor.arity) else {
-        return add_procedure(alloc, database, callables, functor, text, clause);
-    };
-    match callee {
-        Callee::User(place) => push_clause(&mut database[place], clause),
-        Callee::BuiltIn(_) => unreachable!(),
-    }
+    let place = place(alloc, db, callables, functor, text)?;
+    db.add_consulted(place, clause)?;
+    Ok(())
 }

@@ -11,8 +11,8 @@ use Rattle.iso_db.proofs.views.step.Goals as goal
 long : (b : Ids) (outer end : ℕ) → outer ≤ length b.front → end ≤ outer + length b.back → length (take end (ids_from b outer)) ≡ end
 long b outer end h k = omega (arith, length-take end (ids_from b outer), length-ids_from b outer h)
 
-pub returns-then-is_given : goal.returns-then-is_given
-returns-then-is_given g c =
+pub returns-then-is_given-clause-steps : goal.returns-then-is_given-clause-steps
+returns-then-is_given-clause-steps g c =
     let view = c.args.view in
     let slots = c.args.slots.now in
     let whole = ids_from c.args.block.now view.outer in
@@ -21,7 +21,7 @@ returns-then-is_given g c =
     let inside : next < length numbers = omega (arith, long c.args.block.now view.outer view.end c.requires.outer c.requires.end, c.loop-next-test.true) in
     let is : c.at-id.result ≡ get_or numbers next c.at-id.result = c.at-id.ensures ∙ sym (get_or-take view.end whole next c.at-id.result c.loop-next-test.true) in
     let here : is_some (clause_at slots view.made c.at-id.result) ≡ true = sym c.is_given.ensures ∙ c.if-is_given.true in
-    subst (λ cs. Steps cs (Some c.at-id.result) (given slots view.made (drop (next + 1) numbers))) c.loop-next.invariant (given-steps slots view.made numbers next c.at-id.result inside is here)
+    subst (λ cs. Steps cs (Some c.at-id.result) (given slots view.made (drop (next + 1) numbers))) c.loop-next.invariant.1 (given-steps slots view.made numbers next c.at-id.result inside is here)
 
 pub loop-next-preserved : goal.loop-next-preserved
 loop-next-preserved g c =
@@ -32,14 +32,17 @@ loop-next-preserved g c =
     let next = c.loop-next.next in
     let inside : next < length numbers = omega (arith, long c.args.block.now view.outer view.end c.requires.outer c.requires.end, c.loop-next-test.true) in
     let is : c.at-id.result ≡ get_or numbers next c.at-id.result = c.at-id.ensures ∙ sym (get_or-take view.end whole next c.at-id.result c.loop-next-test.true) in
-    given-passes slots view.made numbers next c.at-id.result inside is (sym c.is_given.ensures ∙ c.if-is_given.false) ∙ c.loop-next.invariant
+    (omega (arith, c.loop-next.invariant.0), given-passes slots view.made numbers next c.at-id.result inside is (sym c.is_given.ensures ∙ c.if-is_given.false) ∙ c.loop-next.invariant.1)
 
-pub returns : goal.returns
-returns g c =
+pub returns-clause-steps : goal.returns-clause-steps
+returns-clause-steps g c =
     let view = c.args.view in
     let slots = c.args.slots.now in
     let numbers = take view.end (ids_from c.args.block.now view.outer) in
     let next = c.loop-next.next in
     let past : length numbers ≤ next = omega (arith, long c.args.block.now view.outer view.end c.requires.outer c.requires.end, c.loop-next-test.false) in
     let rest : given slots view.made (drop next numbers) ≡ [] = ap (given slots view.made) (drop_all next numbers past) in
-    subst (λ cs. Steps cs None (given slots view.made (drop next numbers))) c.loop-next.invariant (subst (λ cs. Steps cs None cs) (sym rest) (refl, refl))
+    subst (λ cs. Steps cs None (given slots view.made (drop next numbers))) c.loop-next.invariant.1 (subst (λ cs. Steps cs None cs) (sym rest) (refl, refl))
+
+pub returns-then-is_given-clause-falls : goal.returns-then-is_given-clause-falls
+returns-then-is_given-clause-falls g c = (let later = c.loop-next.invariant.0 in let inside = c.loop-next-test.true in omega (arith, later, inside))

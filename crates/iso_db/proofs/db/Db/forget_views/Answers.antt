@@ -28,3 +28,9 @@ returns-clause-clauses g c =
     let db = c.args.self.now in
     let same : length db.places ≡ length c.forget_blocks.new.entries.items = db.kept.same ∙ sym (ap length c.forget_blocks.ensures ∙ length-map db.entries.items forgotten) in
     λ place k d at. shown-stand c.forget_values.new.slots.items db.removals db.places c.forget_blocks.new.entries.items same place k d at
+
+-- nothing was removed
+pub returns-then-self-clause-clauses : goal.returns-then-self-clause-clauses
+returns-then-self-clause-clauses g c =
+    let db = c.args.self.now in
+    λ place k d at. shown-stand db.slots.items db.removals db.places db.entries.items db.kept.same place k d at

@@ -21,4 +21,4 @@ returns-clause-there g c =
     let slots = c.as_slice.result.now in
     let numbers = drop v.next (take v.end (ids_from c.block-block.result.now v.outer)) in
     subst (λ (ss : List (Slot g.row.C.Denot)). IfSome c.step-clause.result.0 (λ n. (value : g.row.C.Denot) × (value_at ss n ≡ Some value))) c.as_slice.ensures.value
-    (first-stands slots (given slots v.made numbers) c.step-clause.result.0 c.step-clause.ensures.0 (given-stand slots v.made numbers))
+    (first-stands slots (given slots v.made numbers) c.step-clause.result.0 c.step-clause.ensures.steps.0 (given-stand slots v.made numbers))

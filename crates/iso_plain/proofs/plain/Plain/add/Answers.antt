@@ -5,18 +5,17 @@ use Rattle.iso_store_core.specs.Presents.{Present}
 use Rattle.iso_plain.specs.EngineStates.{IsEngine}
 use Rattle.iso_plain_core.specs.Programs.{IsDatabase}
 use Rattle.iso_plain.specs.declared.plain.Plain.{Plain}
-use Rattle.iso_plain_core.proofs.CallableLemmas.{index_kept}
 use Rattle.iso_model.specs.Terms.TermOf.{term_of}
 use Rattle.iso_model.specs.Search.Additions.{clause_of, consulted}
-use Rattle.iso_model.specs.Search.Databases.{Key, with_clause, at_end}
+use Rattle.iso_model.specs.Search.Databases.{Key}
 use Rattle.iso_model.specs.Search.BuiltIns.{is_built_in}
 use Rattle.iso_model.specs.Search.Errors.{key}
 use Rattle.iso_store_core.proofs.AtomLemmas.{keeps-then}
-use Rattle.iso_plain_core.specs.Adding.{IsFound}
-use Rattle.iso_plain_core.specs.Callables.{callee_of}
+use Rattle.iso_db.specs.Presents.{contents}
+use Rattle.iso_plain_core.specs.Adding.{IsFound, with_last}
 use Rattle.iso_plain_core.specs.declared.procedures.Functor.{Functor}
 use Rattle.iso_plain.proofs.StartLemmas.{idle_again, refused, unadded}
-use Rattle.iso_plain.proofs.WorldLemmas.{world_on}
+use Rattle.iso_plain.proofs.WorldLemmas.{world_on, finds_kept}
 use Rattle.iso_plain_core.proofs.WrittenLemmas.{clause_kept}
 use Rattle.iso_plain_core.proofs.AddingLemmas.{user_alone}
 use Rattle.iso_plain.proofs.plain.Plain.add.Goals as goal
@@ -34,11 +33,11 @@ add-requires-clause-user g c =
 -- what is called was found before the clause came, and still is behind the names that came
 found : {S W M : Type 0} (names : S → List (List ℕ)) (present : S → Present W) (stands : S → M → Present W → Type 0) (older : M → M → Type 0) (e : Plain S W M) (w : World) (first last : S) (f : Functor) (text : List ℕ)
     → IsEngine names present stands older e (idle w) → KeepsTexts (names e.store) (names first) → KeepsTexts (names first) (names last) → EachOnce (names last) → slice_get (names last) f.name ≡ Some text
-    → IsFound (names last) f text e.procedures.items e.callables.items
+    → IsFound (names last) f text (contents e.db) e.callables.items
 found names present stands older e w first last f text h one other once place = record {
   each_once = once;
   atom = place;
-  found = index_kept (names e.store) (names last) e.callables.items (callee_of e.procedures.items) (keeps-then (names e.store) (names first) (names last) one other) h.world.found;
+  found = finds_kept (keeps-then (names e.store) (names first) (names last) one other) h.world.found;
 }
 
 pub add-requires-clause-named : goal.add-requires-clause-named
@@ -64,10 +63,10 @@ returns-clause-comes g c = λ w h.
     let is_found = found g.S.Store.names g.S.Store.present g.S.Store.stands g.S.Store.older e w c.written_clause.new.store c.intern.new.self f c.in-Some.text.now h c.in_ok-kept.ensures.names c.in_ok-name.ensures.names c.in_ok-name.ensures.each_once c.in_ok-name.ensures.place in
     let texts = keeps-then (g.S.Store.names e.store) first last c.in_ok-kept.ensures.names c.in_ok-name.ensures.names in
     let stood = world_on texts h.world in
-    let came = c.in_ok-add.ensures.ok last w.database.procedures new is_found stood.procedures_are kept in
+    let came = c.in_ok-add.ensures.ok last w.database new is_found stood.database_is kept refl in
     rw added.fits (idle_again h c.requires.now (c.in_ok-name.ensures.present ∙ c.in_ok-kept.ensures.present) (λ m p k. c.in_ok-name.ensures.marks m p (c.in_ok-kept.ensures.marks m p k)) refl refl refl
     (record {
-      procedures_are = subst (λ (k : Key). IsDatabase last c.add.new.database.items (with_clause at_end w.database.procedures k new)) same came.0;
+      database_is = subst (λ (k : Key). IsDatabase last (contents c.add.new.db) (with_last w.database k new)) same came.0;
       found = came.1;
       vocabulary_is = stood.vocabulary_is;
       operators_are = stood.operators_are;
@@ -97,7 +96,9 @@ returns-in_err-add-clause-comes g c = λ w h.
     let ensures = c.in_ok-name.ensures in
     let last = g.S.Store.names c.intern.new.self in
     let stood = world_on ensures.names (world_on before.names h.world) in
-    let same = c.in_err-add.ensures.err last w.database.procedures stood.procedures_are stood.found in
+    let f : Functor = record { name = c.in_ok-name.name; arity = c.in-Some.arity } in
+    let is_found = found g.S.Store.names g.S.Store.present g.S.Store.stands g.S.Store.older c.args.self.now w c.written_clause.new.store c.intern.new.self f c.in-Some.text.now h before.names ensures.names ensures.each_once ensures.place in
+    let same = c.in_err-add.ensures.err last w.database is_found stood.database_is in
     unadded (consulted (term_of c.args.clause.now) w.database) w c.from_residual-in_err-add.result _ c.from_residual-in_err-add.ensures.1
     (idle_again h c.requires.now (ensures.present ∙ before.present) (λ m p k. ensures.marks m p (before.marks m p k)) refl refl refl
-    (record { procedures_are = same.0; found = same.1; vocabulary_is = stood.vocabulary_is; operators_are = stood.operators_are; flags_are = stood.flags_are })))
+    (record { database_is = same.0; found = same.1; vocabulary_is = stood.vocabulary_is; operators_are = stood.operators_are; flags_are = stood.flags_are })))

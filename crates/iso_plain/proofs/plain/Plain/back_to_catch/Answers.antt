@@ -69,18 +69,17 @@ returns-clause-costs g c =
     let at = back_at g.S.Store.names g.S.Store.present g.S.Store.stands g.S.Store.older c.args.self.now c.cut_to.new.self c.go_back-mark.new.self c.go_back-mark.result s c.requires.goes.1 c.requires.goes.2 c.args.height c.requires.goes.5 failing c.go_back-mark.ensures.choices c.go_back-mark.ensures.back in
     let two = c.go_back-mark.new.self in
     let costs = frame_costs two.frames.items in
-    let ps = c.args.self.now.procedures.items in
     let many = at.many in
     let n : c.args.height ≡ length two.choices.items - 1 = omega (arith, many) in
     let are = choices_are g.S.Store.names g.S.Store.present g.S.Store.stands g.S.Store.older two at.choice s (c.requires.goes.5).alternative (c.requires.goes.5).below at.went (omega (arith, many)) in
-    let old = ap (choices_cost ps costs) are ∙ choices_last ps costs (take (length two.choices.items - 1) two.choices.items) at.choice in
+    let old = ap (choices_cost costs) are ∙ choices_last costs (take (length two.choices.items - 1) two.choices.items) at.choice in
     let same = newest_at g.S.Store.names g.S.Store.present g.S.Store.stands g.S.Store.older two at.choice s (c.requires.goes.5).alternative (c.requires.goes.5).below at.went c.args.height c.index.result.now (sym at.many) c.index.ensures in
-    let here : choice_cost ps costs at.choice.left ≡ left_cost 1 (rest_cost costs c.in-Catching.next) = ap (choice_cost ps costs) (ap (λ (x : _). x.left) (sym same) ∙ c.in-Catching.is) in
-    let new = ap (choices_cost ps costs) (c.truncate.ensures.items ∙ ap (λ (k : _). take k two.choices.items) n) in
+    let here : choice_cost costs at.choice.left ≡ left_cost 1 (rest_cost costs c.in-Catching.next) = ap (choice_cost costs) (ap (λ (x : _). x.left) (sym same) ∙ c.in-Catching.is) in
+    let new = ap (choices_cost costs) (c.truncate.ensures.items ∙ ap (λ (k : _). take k two.choices.items) n) in
     let cut = c.cut_to.ensures.costs in
-    let back : choices_cost ps costs c.cut_to.new.self.choices.items ≡ choices_cost ps (frame_costs c.args.self.now.frames.items) c.cut_to.new.self.choices.items =
-    rw (c.cut_to.ensures.stays.procedures, c.cut_to.ensures.frames) at c.go_back-mark.ensures.costs in
-    let kept_all = ap (λ (v : _). choices_cost ps costs v.items) c.go_back-mark.ensures.choices in
+    let back : choices_cost costs c.cut_to.new.self.choices.items ≡ choices_cost (frame_costs c.args.self.now.frames.items) c.cut_to.new.self.choices.items =
+    rw c.cut_to.ensures.frames at c.go_back-mark.ensures.costs in
+    let kept_all = ap (λ (v : _). choices_cost costs v.items) c.go_back-mark.ensures.choices in
     omega (arith, old, here, new, cut, back, kept_all)
 
 pub index-requires : goal.index-requires

@@ -24,4 +24,4 @@ pub returns-then-branch-clause-falls : goal.returns-then-branch-clause-falls
 returns-then-branch-clause-falls g c = λ w less.
     (let e = c.args.self.now in
     let costs = frame_costs e.frames.items in
-    rw c.call.ensures.steps (falls_called e.steps (choices_cost e.procedures.items costs e.choices.items) (rest_cost costs c.args.attempt.rest) w (cost c.call.new.self) less (c.in_ok-call.ensures.costs (ap Ok c.if-branch.true))))
+    rw c.call.ensures.steps (falls_called e.steps (choices_cost costs e.choices.items) (rest_cost costs c.args.attempt.rest) w (cost c.call.new.self) less (c.in_ok-call.ensures.costs (ap Ok c.if-branch.true))))

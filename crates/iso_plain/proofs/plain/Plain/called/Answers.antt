@@ -11,7 +11,7 @@ returns-in-Atom g c = λ w is.
     (let e = c.args.self.now in
     let p = g.S.Store.present e.store in
     let text = text_at (g.S.Store.names e.store) c.in-Atom.name in
-    calls_shown e.procedures.items e.ops e.flags w (meaning p c.args.goal) (key text 0) c.named.result is (ap key_of c.in-Atom.ensures.shape.1) c.named.ensures)
+    calls_shown (g.S.Store.names e.store) e.db w (meaning p c.args.goal) (key text 0) c.named.result (ap key_of c.in-Atom.ensures.shape.1) (c.named.ensures w is))
 
 pub returns-in-Compound : goal.returns-in-Compound
 returns-in-Compound g c = λ w is.
@@ -20,4 +20,4 @@ returns-in-Compound g c = λ w is.
     let shape = c.in-Compound.ensures.shape in
     let text = text_at (g.S.Store.names e.store) c.in-Compound.name in
     let shown : key_of (meaning p c.args.goal) ≡ Some (key text c.in-Compound.arity) = ap key_of shape.2 ∙ ap (λ n. Some (key text n)) shape.3 in
-    calls_shown e.procedures.items e.ops e.flags w (meaning p c.args.goal) (key text c.in-Compound.arity) c.named-in-Compound.result is shown c.named-in-Compound.ensures)
+    calls_shown (g.S.Store.names e.store) e.db w (meaning p c.args.goal) (key text c.in-Compound.arity) c.named-in-Compound.result shown (c.named-in-Compound.ensures w is))

@@ -5,7 +5,7 @@ use Rattle.iso_plain.proofs.plain.Plain.clear.Goals as goal
 
 pub returns-clause-idle : goal.returns-clause-idle
 returns-clause-idle g c = λ w h. record {
-  world = world_on (same_texts c.undo.ensures.names) h;
+  world = rw c.forget_views.ensures.contents (world_on (same_texts c.undo.ensures.names) h);
   steps = refl;
   base = record { present = c.requires.present; stands_for = c.undo.ensures.stands c.requires.present c.requires.stands_for; substitution = c.requires.substitution; next = c.requires.next };
   choices = rw c.clear.ensures.items none_kept;

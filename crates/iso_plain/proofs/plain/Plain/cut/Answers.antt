@@ -24,4 +24,4 @@ returns-clause-moves g c = λ s r.
 pub returns-clause-falls : goal.returns-clause-falls
 returns-clause-falls g c =
     rw (c.at-self.ensures, c.as_slice.ensures.value)
-    (cut_falls g.S.Store.names g.S.Store.present g.S.Store.stands g.S.Store.older c.args.self.now c.requires.stands.0 c.args.frame c.requires.now c.requires.stands.1 c.cut_to.new.self c.requires.cuts c.cut_to.ensures.steps c.cut_to.ensures.frames c.cut_to.ensures.stays.procedures c.cut_to.ensures.costs)
+    (cut_falls g.S.Store.names g.S.Store.present g.S.Store.stands g.S.Store.older c.args.self.now c.requires.stands.0 c.args.frame c.requires.now c.requires.stands.1 c.cut_to.new.self c.requires.cuts c.cut_to.ensures.steps c.cut_to.ensures.frames c.cut_to.ensures.costs)

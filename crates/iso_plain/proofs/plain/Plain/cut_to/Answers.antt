@@ -25,7 +25,7 @@ returns-then-height-len-clause-cut g c = λ s place h.
     ahead_cut g.S.Store.names g.S.Store.present g.S.Store.stands g.S.Store.older c.args.self.now s place c.args.height c.forget.new.self c.truncate.new.self c.index.result.now h there c.truncate.ensures.items c.forget.ensures.present c.forget.ensures.marks (same_texts c.forget.ensures.names))
 
 pub returns-then-height-len-clause-costs : goal.returns-then-height-len-clause-costs
-returns-then-height-len-clause-costs g c = rw c.truncate.ensures.items (choices_fewer c.args.height c.args.self.now.procedures.items (frame_costs c.args.self.now.frames.items) c.args.self.now.choices.items)
+returns-then-height-len-clause-costs g c = rw c.truncate.ensures.items (choices_fewer c.args.height (frame_costs c.args.self.now.frames.items) c.args.self.now.choices.items)
 
 pub returns-else-height-len-clause-cut : goal.returns-else-height-len-clause-cut
 returns-else-height-len-clause-cut g c = λ s place h.

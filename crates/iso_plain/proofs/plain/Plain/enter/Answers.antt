@@ -2,7 +2,8 @@ use Rattle.std.proofs.Common.{arith}
 use Rattle.iso_model.specs.Terms.Variables.{variables}
 use Rattle.iso_plain_core.proofs.ResultLemmas.{behind_error}
 use Rattle.iso_plain.proofs.StoppedLemmas.{base_kept, choices_on}
-use Rattle.iso_plain_core.proofs.KeptLemmas.{kept_at, head_fits, kept_parts_fit}
+use Rattle.iso_plain_core.proofs.KeptLemmas.{head_fits, kept_parts_fit}
+use Rattle.iso_plain_core.proofs.LeavingLemmas.{left_clause}
 use Rattle.iso_plain.proofs.WorldLemmas.{world_on, same_texts}
 use Rattle.iso_plain.proofs.CallLemmas.{entered_least}
 use Rattle.iso_plain_core.proofs.CostLemmas.{behind_cost}
@@ -12,16 +13,13 @@ use Rattle.iso_plain.proofs.EngineLemmas.{Tried, tried_engine}
 use Rattle.iso_plain.proofs.FailLemmas.{awake_entered}
 use Rattle.iso_plain.proofs.plain.Plain.enter.Goals as goal
 
-pub clause_at-clause-requires-clause-within : goal.clause_at-clause-requires-clause-within
-clause_at-clause-requires-clause-within g c =
-    let t = c.requires.5 in
-    let there = kept_at c.args.self.now.procedures.items c.requires.0.world.database.procedures c.args.attempt.procedure c.args.attempt.clause c.requires.2 c.requires.3 t.world.procedures_are t.clauses in
-    rw c.as_slice.ensures.value there.within
+pub clause-clause-requires : goal.clause-clause-requires
+clause-clause-requires g c = (let t = c.requires.5 in (t.clauses.kept, t.clauses.stands))
 
 pub enter-requires-clause-room : goal.enter-requires-clause-room
 enter-requires-clause-room g c =
     let t = c.requires.5 in
-    let is = c.clause_at-clause.ensures (g.S.Store.names c.args.self.now.store) c.requires.0.world.database.procedures c.requires.2 c.requires.3 (rw c.as_slice.ensures.value t.world.procedures_are) t.clauses in
+    let is = left_clause (g.S.Store.names c.args.self.now.store) c.args.self.now.db t.clauses c.clause-clause.result.now c.clause-clause.ensures in
     let few = is.few in
     let many = is.variables in
     let space = t.space in
@@ -31,25 +29,25 @@ enter-requires-clause-room g c =
 pub enter-requires-clause-head_fits : goal.enter-requires-clause-head_fits
 enter-requires-clause-head_fits g c =
     let t = c.requires.5 in
-    let is = c.clause_at-clause.ensures (g.S.Store.names c.args.self.now.store) c.requires.0.world.database.procedures c.requires.2 c.requires.3 (rw c.as_slice.ensures.value t.world.procedures_are) t.clauses in
+    let is = left_clause (g.S.Store.names c.args.self.now.store) c.args.self.now.db t.clauses c.clause-clause.result.now c.clause-clause.ensures in
     rw is.variables (head_fits _ _ _ _ is.head is.head_template)
 
 pub enter-requires-clause-parts_fit : goal.enter-requires-clause-parts_fit
 enter-requires-clause-parts_fit g c =
     let t = c.requires.5 in
-    let is = c.clause_at-clause.ensures (g.S.Store.names c.args.self.now.store) c.requires.0.world.database.procedures c.requires.2 c.requires.3 (rw c.as_slice.ensures.value t.world.procedures_are) t.clauses in
+    let is = left_clause (g.S.Store.names c.args.self.now.store) c.args.self.now.db t.clauses c.clause-clause.result.now c.clause-clause.ensures in
     rw is.variables (kept_parts_fit _ _ _ is.goal_templates)
 
 pub behind-self-requires : goal.behind-self-requires
-behind-self-requires g c = rw c.as_slice-2.ensures.value (chain_place c.args.attempt.rest c.requires.5.at.on.chain)
+behind-self-requires g c = rw c.as_slice.ensures.value (chain_place c.args.attempt.rest c.requires.5.at.on.chain)
 
 pub returns-clause-tried : goal.returns-clause-tried
 returns-clause-tried g c = λ s call k ks gs t.
-    (let is = c.clause_at-clause.ensures (g.S.Store.names c.args.self.now.store) s.world.database.procedures k ks (rw c.as_slice.ensures.value t.world.procedures_are) t.clauses in
-    let tried : Tried g.S.Store.names g.S.Store.present g.S.Store.stands g.S.Store.older c.args.self.now c.args.attempt s call k ks gs c.enter.new.store c.enter.new.nodes c.clause_at-clause.result.now =
+    (let is = left_clause (g.S.Store.names c.args.self.now.store) c.args.self.now.db t.clauses c.clause-clause.result.now c.clause-clause.ensures in
+    let tried : Tried g.S.Store.names g.S.Store.present g.S.Store.stands g.S.Store.older c.args.self.now c.args.attempt s call k ks gs c.enter.new.store c.enter.new.nodes c.clause-clause.result.now =
     record { calls = t; keeps = c.in_ok-entered.ensures.marks; texts = same_texts c.in_ok-entered.ensures.names; adds = c.in_ok-entered.ensures.nodes; is = is } in
-    rw (c.behind-self.ensures, c.as_slice-2.ensures.value)
-    (tried_engine g.S.Store.names g.S.Store.present g.S.Store.stands g.S.Store.older c.args.self.now c.args.attempt s call k ks gs c.enter.new.store c.enter.new.nodes c.clause_at-clause.result.now c.args.mark tried c.in_ok-entered.entered c.in_ok-entered.ensures.enters))
+    rw (c.behind-self.ensures, c.as_slice.ensures.value)
+    (tried_engine g.S.Store.names g.S.Store.present g.S.Store.stands g.S.Store.older c.args.self.now c.args.attempt s call k ks gs c.enter.new.store c.enter.new.nodes c.clause-clause.result.now c.args.mark tried c.in_ok-entered.entered c.in_ok-entered.ensures.enters))
 
 pub returns-clause-awake : goal.returns-clause-awake
 returns-clause-awake g c = rw c.behind-self.ensures (awake_entered _ c.in_ok-entered.entered c.args.mark c.args.attempt.rest)
@@ -59,12 +57,12 @@ returns-in_err-entered-clause-kept g c = λ s call k ks gs t.
     behind_error c.from_residual.result (
       world_on (same_texts c.in_err-entered.ensures.names) t.world,
       base_kept (g.S.Store.stands c.args.self.now.store) (g.S.Store.stands c.enter.new.store) c.args.self.now.base c.in_err-entered.ensures.marks t.base,
-      (variables s.query, choices_on g.S.Store.names g.S.Store.present g.S.Store.stands g.S.Store.older c.args.self.now c.enter.new.store c.enter.new.nodes c.args.self.now.frames s.world (variables s.query) s.stack c.in_err-entered.ensures.marks c.in_err-entered.ensures.nodes (adds_none _) t.choices),
+      (variables s.query, choices_on g.S.Store.names g.S.Store.present g.S.Store.stands g.S.Store.older c.args.self.now c.enter.new.store c.enter.new.nodes c.args.self.now.frames (variables s.query) s.stack c.in_err-entered.ensures.marks (same_texts c.in_err-entered.ensures.names) c.in_err-entered.ensures.nodes (adds_none _) t.choices),
     )
 
 pub returns-clause-cost : goal.returns-clause-cost
 returns-clause-cost g c =
     let e = c.args.self.now in
-    rw (c.behind-self.ensures, c.as_slice-2.ensures.value)
-    (entered_least (g.S.Store.names e.store) (g.S.Store.present e.store) (g.S.Store.present c.enter.new.store) e.nodes.items c.enter.new.nodes ((g.S.Store.present e.store).term c.args.attempt.goal) c.clause_at-clause.result.now e.frames.items c.args.mark c.args.attempt.rest
+    rw (c.behind-self.ensures, c.as_slice.ensures.value)
+    (entered_least (g.S.Store.names e.store) (g.S.Store.present e.store) (g.S.Store.present c.enter.new.store) e.nodes.items c.enter.new.nodes ((g.S.Store.present e.store).term c.args.attempt.goal) c.clause-clause.result.now e.frames.items c.args.mark c.args.attempt.rest
     (behind_cost c.args.attempt.rest c.requires.5.at.on.chain) c.in_ok-entered.entered c.in_ok-entered.ensures.enters)

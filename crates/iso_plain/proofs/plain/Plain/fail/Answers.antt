@@ -41,7 +41,7 @@ go_on-requires-clause-back g c =
 pub returns-in-AsIs-clause-falls : goal.returns-in-AsIs-clause-falls
 returns-in-AsIs-clause-falls g c =
     let back = c.go_back-mark.ensures in
-    let all = back_cost c.args.self.now c.go_back-mark.new.self back.choices back.stays.procedures back.costs in
+    let all = back_cost c.args.self.now c.go_back-mark.new.self back.choices back.costs in
     let less = c.go_on.ensures.costs in
     falls_less c.args.self.now c.go_on.new.self (c.go_on.ensures.steps ∙ back.steps) (omega (arith, all, less))
 
@@ -79,8 +79,8 @@ pub returns-in-Again-2-clause-falls : goal.returns-in-Again-2-clause-falls
 returns-in-Again-2-clause-falls g c =
     let back = c.go_back-mark.ensures in
     let mid = c.go_back-mark.new.self in
-    let all = back_cost c.args.self.now mid back.choices back.stays.procedures back.costs in
-    falls_again c.args.self.now c.go_again.new.self (choices_cost mid.procedures.items (frame_costs mid.frames.items) mid.choices.items) (c.go_again.ensures.step ∙ back.steps) c.go_again.ensures.costs all
+    let all = back_cost c.args.self.now mid back.choices back.costs in
+    falls_again c.args.self.now c.go_again.new.self (choices_cost (frame_costs mid.frames.items) mid.choices.items) (c.go_again.ensures.step ∙ back.steps) c.go_again.ensures.costs all
 
 -- ---- the entry of a catch
 
@@ -107,7 +107,7 @@ pass_catch-requires-clause-back g c =
 pub returns-in-Catching-clause-falls : goal.returns-in-Catching-clause-falls
 returns-in-Catching-clause-falls g c =
     let back = c.go_back-mark.ensures in
-    let all = back_cost c.args.self.now c.go_back-mark.new.self back.choices back.stays.procedures back.costs in
+    let all = back_cost c.args.self.now c.go_back-mark.new.self back.choices back.costs in
     let less = c.pass_catch.ensures.costs in
     falls_less c.args.self.now c.pass_catch.new.self (c.pass_catch.ensures.steps ∙ back.steps) (omega (arith, all, less))
 
@@ -164,8 +164,8 @@ returns-in_ok-enter-in-Clauses-clause-falls g c =
     let mid = c.go_back-mark.new.self in
     let leave = c.leave_choice-below.ensures in
     let on = c.in_ok-enter-in-Clauses.ensures in
-    let all = back_cost c.args.self.now mid back.choices back.stays.procedures back.costs in
-    let less = entered_cost mid c.leave_choice-below.new.self c.enter.new.self c.in-Clauses.attempt.rest leave.frames on.frames on.choices (on.stays.procedures ∙ leave.stays.procedures) leave.costs on.cost in
+    let all = back_cost c.args.self.now mid back.choices back.costs in
+    let less = entered_cost mid c.leave_choice-below.new.self c.enter.new.self c.in-Clauses.attempt.rest leave.frames on.frames on.choices leave.costs on.cost in
     falls_less c.args.self.now c.enter.new.self (on.steps ∙ (leave.steps ∙ back.steps)) (omega (arith, all, less))
 
 -- ---- what a findall/3 has gathered
@@ -204,7 +204,7 @@ pub returns-in_ok-end_gathering-in-Gathering-clause-falls : goal.returns-in_ok-e
 returns-in_ok-end_gathering-in-Gathering-clause-falls g c =
     let back = c.go_back-mark.ensures in
     let on = c.in_ok-end_gathering-in-Gathering.ensures in
-    let all = back_cost c.args.self.now c.go_back-mark.new.self back.choices back.stays.procedures back.costs in
+    let all = back_cost c.args.self.now c.go_back-mark.new.self back.choices back.costs in
     let less = on.costs in
     falls_less c.args.self.now c.end_gathering.new.self (on.steps ∙ back.steps) (omega (arith, all, less))
 
@@ -246,6 +246,6 @@ pub returns-in_ok-try_next-in-Offered-clause-falls : goal.returns-in_ok-try_next
 returns-in_ok-try_next-in-Offered-clause-falls g c =
     let back = c.go_back-mark.ensures in
     let on = c.in_ok-try_next-in-Offered.ensures in
-    let all = back_cost c.args.self.now c.go_back-mark.new.self back.choices back.stays.procedures back.costs in
+    let all = back_cost c.args.self.now c.go_back-mark.new.self back.choices back.costs in
     let less = on.costs in
     falls_less c.args.self.now c.try_next.new.self (on.steps ∙ back.steps) (omega (arith, all, less))

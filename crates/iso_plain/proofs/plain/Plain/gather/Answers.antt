@@ -53,9 +53,9 @@ returns-clause-falls g c =
 pub returns-in_err-gather-clause-stays : goal.returns-in_err-gather-clause-stays
 returns-in_err-gather-clause-stays g c =
     let many = changed_length SameCopies c.in_err-gather.ensures.kept in
-    record { limit = refl; procedures = refl; callables = refl; vocabulary = refl; names_kept = λ place text k. k; within = λ few. subst (λ n. n ≤ c.args.self.now.limit) (sym many) few }
+    record { limit = refl; vocabulary = refl; names_kept = λ place text k. k; within = λ few. subst (λ n. n ≤ c.args.self.now.limit) (sym many) few }
 
 pub returns-clause-stays : goal.returns-clause-stays
 returns-clause-stays g c =
     let many = changed_length (Gains (term_of c.in_ok-solution.solution)) c.in_ok-gather.ensures.gains in
-    record { limit = refl; procedures = refl; callables = refl; vocabulary = refl; names_kept = λ place text k. k; within = λ few. subst (λ n. n ≤ c.args.self.now.limit) (sym many) few }
+    record { limit = refl; vocabulary = refl; names_kept = λ place text k. k; within = λ few. subst (λ n. n ≤ c.args.self.now.limit) (sym many) few }

@@ -30,4 +30,4 @@ returns-clause-costs g c =
     let within : length choices - 1 < length choices = omega (arith, c.requires.some) in
     let many : c.len.result ≡ length choices = cc (c.len.ensures, c.args.self.now.choices.ok.0) in
     let last : slice_get choices (length choices - 1) ≡ Some c.index-choice.result.now = get_at choices (length choices - 1) c.index-choice.result.now within (rw many at c.index-choice.ensures) in
-    rw c.truncate-2.ensures.items (back_costs c.args.self.now.procedures.items c.index-choice.result.now last (c.requires.failing.1).choices))
+    rw c.truncate-2.ensures.items (back_costs c.index-choice.result.now last (c.requires.failing.1).choices))

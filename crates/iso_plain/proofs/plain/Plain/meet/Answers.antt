@@ -88,7 +88,7 @@ returns-clause-met g c = λ s ball h.
 pub returns-clause-costs : goal.returns-clause-costs
 returns-clause-costs g c =
     let e = c.args.self.now in
-    let same : choices_cost c.meets.new.self.procedures.items (frame_costs c.meets.new.self.frames.items) c.meets.new.self.choices.items ≡ choices_cost e.procedures.items (frame_costs e.frames.items) e.choices.items =
-    ap (λ (x : Plain _ _ _). choices_cost x.procedures.items (frame_costs x.frames.items) x.choices.items) c.meets.ensures.same in
+    let same : choices_cost (frame_costs c.meets.new.self.frames.items) c.meets.new.self.choices.items ≡ choices_cost (frame_costs e.frames.items) e.choices.items =
+    ap (λ (x : Plain _ _ _). choices_cost (frame_costs x.frames.items) x.choices.items) c.meets.ensures.same in
     let above = cost_above most (rest_cost (frame_costs e.frames.items) c.args.next) in
     omega (arith, same, above)

@@ -1,47 +1,81 @@
-use Rattle.std.proofs.Common.{◌≡◌, ℕ, List, Some, None, slice_get, sym, ap, ◌∙◌, Vec, Global}
-use Rattle.iso_atoms.specs.Texts.{EachOnce, text_at}
-use Rattle.iso_model.specs.Search.BuiltIns.{built_in}
+-- What is called by the atom of a name is what is called by its text.
+use Rattle.std.proofs.Common.{◌≡◌, Some, None, false, true, is_some, sym, ap, ◌∙◌, subst, List}
+use Rattle.iso_atoms.specs.Texts.{text_at}
 use Rattle.iso_model.specs.Search.Errors.{key}
 use Rattle.iso_store_core.proofs.AtomLemmas.{text-is}
-use Rattle.iso_plain_core.specs.declared.callables.Callable.{Callable}
+use Rattle.iso_db.specs.Databases.{Clause, kind_at, clauses_of}
+use Rattle.iso_db.specs.Presents.{contents, Gives}
+use Rattle.iso_plain_core.specs.declared.clauses.Clause as kept
+use Rattle.iso_plain_core.specs.Leaving.{AreLeft}
 use Rattle.iso_plain_core.specs.declared.callables.Callee.TheVariants as callee
-use Rattle.iso_plain_core.specs.declared.procedures.Procedure.{Procedure}
-use Rattle.iso_plain_core.specs.Callables.{Indexes, callee_at, callee_of, place_at}
-use Rattle.iso_plain_core.proofs.CallableLemmas.{index_none}
-use Rattle.iso_plain_core.proofs.AddingLemmas.{called_own, called_user, called_none}
+use Rattle.iso_plain_core.specs.Callables.{callee_at}
+use Rattle.iso_plain_core.specs.Programs.{kept_at, kind_of}
+use Rattle.iso_plain_core.proofs.AddingLemmas.{called_own, called_user}
+use Rattle.iso_plain_core.proofs.ProgramLemmas.{place_within, kept_there}
+use Rattle.iso_plain.proofs.CalledLemmas.{found_by, found_none, none_of, some_of, clauses_there, named_begins}
 use Rattle.iso_plain.proofs.plain.Plain.named.Goals as goal
 
--- nothing is called by a name that isn't found
-nothing : {names : List (List ℕ)} {e : List (Vec Callable Global)} (ps : List Procedure) (a n : ℕ) (text : List ℕ) → EachOnce names → slice_get names a ≡ Some text → Indexes names e (callee_of ps) → callee_at e a n ≡ None
-    → (built_in (key text n) ≡ None) × (place_at ps (key text n) ≡ None)
-nothing {names = names} {e = e} ps a n text once there is none = called_none ps (key text n) (index_none names e (callee_of ps) a n text once there is none)
+pub view-requires : goal.view-requires
+view-requires g c =
+    let e = c.args.self.now in
+    let names = g.S.Store.names e.store in
+    let found : callee_at e.callables.items c.args.name c.args.arity ≡ Some (callee.User c.in-Some-User.place) = (rw c.as_slice.ensures.value at (sym c.find.ensures)) ∙ c.in-Some-User.is ∙ ap Some c.in-Some-User.field-0-is in
+    let user = called_user (contents e.db) (key (text_at names c.args.name) c.args.arity) c.in-Some-User.place (found_by names e.callables.items (contents e.db) c.args.name c.args.arity (callee.User c.in-Some-User.place) c.requires.found found) in
+    place_within (contents e.db) (key (text_at names c.args.name) c.args.arity) c.in-Some-User.place user.1
 
 pub unknown-requires-clause-none : goal.unknown-requires-clause-none
 unknown-requires-clause-none g c =
     let e = c.args.self.now in
-    (nothing e.procedures.items c.args.name c.args.arity c.text.result.now c.requires.each_once c.text.ensures c.requires.found ((rw c.as_slice.ensures.value at (sym c.find.ensures)) ∙ c.in-None.is)).0
+    let names = g.S.Store.names e.store in
+    let found : callee_at e.callables.items c.args.name c.args.arity ≡ Some (callee.User c.in-Some-User.place) = (rw c.as_slice.ensures.value at (sym c.find.ensures)) ∙ c.in-Some-User.is ∙ ap Some c.in-Some-User.field-0-is in
+    let user = called_user (contents e.db) (key (text_at names c.args.name) c.args.arity) c.in-Some-User.place (found_by names e.callables.items (contents e.db) c.args.name c.args.arity (callee.User c.in-Some-User.place) c.requires.found found) in
+    rw (text-is names c.args.name c.text.result.now c.text.ensures) at user.0
 
 pub unknown-requires-clause-absent : goal.unknown-requires-clause-absent
 unknown-requires-clause-absent g c =
     let e = c.args.self.now in
-    (nothing e.procedures.items c.args.name c.args.arity c.text.result.now c.requires.each_once c.text.ensures c.requires.found ((rw c.as_slice.ensures.value at (sym c.find.ensures)) ∙ c.in-None.is)).1
+    let names = g.S.Store.names e.store in
+    let k = key (text_at names c.args.name) c.args.arity in
+    let found : callee_at e.callables.items c.args.name c.args.arity ≡ Some (callee.User c.in-Some-User.place) = (rw c.as_slice.ensures.value at (sym c.find.ensures)) ∙ c.in-Some-User.is ∙ ap Some c.in-Some-User.field-0-is in
+    let user = called_user (contents e.db) k c.in-Some-User.place (found_by names e.callables.items (contents e.db) c.args.name c.args.arity (callee.User c.in-Some-User.place) c.requires.found found) in
+    let no : false ≡ is_some (kind_at (contents e.db) c.in-Some-User.place) = rw c.in_default.is at c.view.ensures.there in
+    let absent : kind_of (kept_at (contents e.db) k) ≡ None = ap kind_of (kept_there (contents e.db) k c.in-Some-User.place user.1) ∙ none_of (kind_at (contents e.db) c.in-Some-User.place) no in
+    rw (text-is names c.args.name c.text.result.now c.text.ensures) at absent
+
+pub returns-in_default : goal.returns-in_default
+returns-in_default g c = λ w is. rw (text-is (g.S.Store.names c.args.self.now.store) c.args.name c.text.result.now c.text.ensures) (c.unknown.ensures w is)
+
+pub unknown-requires-in-None-clause-none : goal.unknown-requires-in-None-clause-none
+unknown-requires-in-None-clause-none g c =
+    let e = c.args.self.now in
+    (found_none (g.S.Store.names e.store) e.callables.items (contents e.db) c.args.name c.args.arity c.text-in-None.result.now c.requires.each_once c.text-in-None.ensures c.requires.found ((rw c.as_slice.ensures.value at (sym c.find.ensures)) ∙ c.in-None.is)).0
+
+pub unknown-requires-in-None-clause-absent : goal.unknown-requires-in-None-clause-absent
+unknown-requires-in-None-clause-absent g c =
+    let e = c.args.self.now in
+    (found_none (g.S.Store.names e.store) e.callables.items (contents e.db) c.args.name c.args.arity c.text-in-None.result.now c.requires.each_once c.text-in-None.ensures c.requires.found ((rw c.as_slice.ensures.value at (sym c.find.ensures)) ∙ c.in-None.is)).1
 
 pub returns-in-None : goal.returns-in-None
-returns-in-None g c =
-    let e = c.args.self.now in
-    let is = text-is (g.S.Store.names e.store) c.args.name c.text.result.now c.text.ensures in
-    rw is c.unknown.ensures
+returns-in-None g c = λ w is. rw (text-is (g.S.Store.names c.args.self.now.store) c.args.name c.text-in-None.result.now c.text-in-None.ensures) (c.unknown-in-None.ensures w is)
 
 pub returns-in-Some-BuiltIn : goal.returns-in-Some-BuiltIn
-returns-in-Some-BuiltIn g c =
-    let e = c.args.self.now in
+returns-in-Some-BuiltIn g c = λ w is.
+    (let e = c.args.self.now in
     let names = g.S.Store.names e.store in
     let found : callee_at e.callables.items c.args.name c.args.arity ≡ Some (callee.BuiltIn c.in-Some-BuiltIn.built_in) = (rw c.as_slice.ensures.value at (sym c.find.ensures)) ∙ c.in-Some-BuiltIn.is ∙ ap Some c.in-Some-BuiltIn.field-0-is in
-    rw c.in-Some-BuiltIn.built_in-is (called_own e.procedures.items (key (text_at names c.args.name) c.args.arity) c.in-Some-BuiltIn.built_in (c.requires.found.sound c.args.name c.args.arity (callee.BuiltIn c.in-Some-BuiltIn.built_in) found).1)
+    rw c.in-Some-BuiltIn.built_in-is (called_own (contents e.db) (key (text_at names c.args.name) c.args.arity) c.in-Some-BuiltIn.built_in
+    (found_by names e.callables.items (contents e.db) c.args.name c.args.arity (callee.BuiltIn c.in-Some-BuiltIn.built_in) c.requires.found found)))
 
-pub returns-in-Some-User : goal.returns-in-Some-User
-returns-in-Some-User g c =
-    let e = c.args.self.now in
+pub returns-in-Ok : goal.returns-in-Ok
+returns-in-Ok g c = λ w is.
+    (let e = c.args.self.now in
     let names = g.S.Store.names e.store in
+    let k = key (text_at names c.args.name) c.args.arity in
     let found : callee_at e.callables.items c.args.name c.args.arity ≡ Some (callee.User c.in-Some-User.place) = (rw c.as_slice.ensures.value at (sym c.find.ensures)) ∙ c.in-Some-User.is ∙ ap Some c.in-Some-User.field-0-is in
-    rw c.in-Some-User.place-is (called_user e.procedures.items (key (text_at names c.args.name) c.args.arity) c.in-Some-User.place (c.requires.found.sound c.args.name c.args.arity (callee.User c.in-Some-User.place) found).1)
+    let user = called_user (contents e.db) k c.in-Some-User.place (found_by names e.callables.items (contents e.db) c.args.name c.args.arity (callee.User c.in-Some-User.place) c.requires.found found) in
+    let at = kept_there (contents e.db) k c.in-Some-User.place user.1 in
+    let yes : true ≡ is_some (kind_at (contents e.db) c.in-Some-User.place) = rw c.in-Ok.is at c.view.ensures.there in
+    let kind = some_of (kind_at (contents e.db) c.in-Some-User.place) yes in
+    let there = clauses_there k kind.0 is.database_is (ap kind_of at ∙ kind.1) in
+    let gives : Gives e.db c.in-Ok.view (clauses_of (kept_at (contents e.db) k)) = subst (λ (ks : List (Clause kept.Clause)). Gives e.db c.in-Ok.view ks) (ap clauses_of (sym at)) c.in-Ok.ensures.gives in
+    named_begins (AreLeft names e.db) w k there.clauses c.begun.result user.0 there.found (c.begun.ensures names (clauses_of (kept_at (contents e.db) k)) there.clauses gives there.are))

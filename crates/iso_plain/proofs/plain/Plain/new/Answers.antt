@@ -1,8 +1,8 @@
-use Rattle.std.proofs.Common.{[], refl, ap, ◌∙◌}
+use Rattle.std.proofs.Common.{refl, ap, ◌∙◌, inl}
 use Rattle.iso_model.specs.Search.Walker.{first_world, idle}
 use Rattle.iso_plain_core.specs.Standing.{none_kept}
 use Rattle.iso_plain_core.specs.Callables.{callee_of}
-use Rattle.iso_plain_core.specs.Programs.{no_procedures}
+use Rattle.iso_db.specs.Databases.{no_procedures}
 use Rattle.iso_plain_core.proofs.CallableLemmas.{index_same, index_kept}
 use Rattle.iso_plain_core.proofs.AddingLemmas.{callee_first}
 use Rattle.iso_plain.proofs.StartLemmas.{same_fresh}
@@ -22,8 +22,8 @@ returns-clause-stands g c =
       same = same_fresh (idle first_world) refl refl;
       engine = record {
         world = record {
-          procedures_are = rw c.new-2.ensures.items no_procedures;
-          found = rw c.new-2.ensures.items (index_same last rows rows _ (callee_of []) (λ a n. refl) callee_first found);
+          database_is = rw c.new-2.ensures (record { procedures = λ k. refl; added = refl });
+          found = rw c.new-2.ensures (record { calls = callee_of no_procedures; indexes = index_same last rows rows _ (callee_of no_procedures) (λ a n. refl) callee_first found; agrees = λ k. inl refl });
           vocabulary_is = vocabulary_kept (same_texts c.mark-base.ensures.names) c.in_ok-vocabulary.vocabulary c.in_ok-vocabulary.ensures.vocabulary;
           operators_are = c.in_ok-ops.ensures.entries;
           flags_are = c.initial-2.ensures;

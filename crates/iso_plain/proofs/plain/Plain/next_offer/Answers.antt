@@ -72,4 +72,4 @@ returns-else-is_last-clause-stays g c =
     let t = taken g.S.Store.names g.S.Store.present g.S.Store.stands g.S.Store.older e b.0 b.4 b.5 b.6 b.9 b.1 b.2 b.3 b.8 c.len-newest.result c.take_offer.new.choices.items c.take_offer.result c.in-Some.offer c.in-Some.is_last many c.requires.some
     (c.take_offer.ensures b.0 b.1 b.2 b.3 there b.8 has.some) c.in-Some.is in
     let same = taken_many g.S.Store.names g.S.Store.present g.S.Store.stands g.S.Store.older e b.0 b.4 b.5 b.6 b.9 b.1 b.2 b.3 b.8 c.take_offer.new.choices.items _ c.requires.some t.made in
-    record { limit = refl; procedures = refl; callables = refl; vocabulary = refl; names_kept = λ place text k. k; within = λ few. subst (λ n. n ≤ c.args.self.now.limit) (sym same) few }
+    record { limit = refl; vocabulary = refl; names_kept = λ place text k. k; within = λ few. subst (λ n. n ≤ c.args.self.now.limit) (sym same) few }

@@ -14,7 +14,7 @@ use Rattle.iso_plain.proofs.plain.Plain.offer.Goals as goal
 pub returns-in_default-clause-falls : goal.returns-in_default-clause-falls
 returns-in_default-clause-falls g c = λ w less.
     (let e = c.args.self.now in
-    whole_paid e.steps w (choices_cost e.procedures.items (frame_costs e.frames.items) e.choices.items + 0) (omega (arith, less)))
+    whole_paid e.steps w (choices_cost (frame_costs e.frames.items) e.choices.items + 0) (omega (arith, less)))
 
 pub unify_row-requires : goal.unify_row-requires
 unify_row-requires g c =
@@ -58,6 +58,6 @@ pub returns-clause-falls : goal.returns-clause-falls
 returns-clause-falls g c = λ w less.
     (let e = c.args.self.now in
     let costs = frame_costs e.frames.items in
-    let all = call_costs e c.push_offers.new.self c.unify_row.new.self c.args.place c.in_ok-push_offers.ensures.frames c.in_ok-unify_row.ensures.frames c.in_ok-unify_row.ensures.choices (c.in_ok-unify_row.ensures.stays.procedures ∙ c.in_ok-push_offers.ensures.stays.procedures)
+    let all = call_costs e c.push_offers.new.self c.unify_row.new.self c.args.place c.in_ok-push_offers.ensures.frames c.in_ok-unify_row.ensures.frames c.in_ok-unify_row.ensures.choices
     c.in_ok-push_offers.ensures.costs c.in_ok-unify_row.ensures.cost in
-    rw (c.in_ok-unify_row.ensures.steps, c.in_ok-push_offers.ensures.steps) (falls_called e.steps (choices_cost e.procedures.items costs e.choices.items) (rest_cost costs c.args.place) w (cost c.unify_row.new.self) less all))
+    rw (c.in_ok-unify_row.ensures.steps, c.in_ok-push_offers.ensures.steps) (falls_called e.steps (choices_cost costs e.choices.items) (rest_cost costs c.args.place) w (cost c.unify_row.new.self) less all))

@@ -1,64 +1,51 @@
-use Rattle.std.proofs.Common.{◌≡◌, length, arith}
+use Rattle.std.proofs.Common.{◌≡◌, length, arith, subst, ap, sym, ◌∙◌}
+use Rattle.iso_plain_core.specs.Leaving.{AreLeft, NextLeft}
+use Rattle.iso_plain_core.proofs.LeavingLemmas.{left_behind, left_long}
 use Rattle.iso_plain_core.proofs.ResultLemmas.{behind_error}
-use Rattle.iso_plain_core.proofs.KeptLemmas.{kept_at}
-use Rattle.iso_plain_core.proofs.CountLemmas.{clauses_counted}
 use Rattle.iso_plain.proofs.CallLemmas.{calls_last}
 use Rattle.iso_plain.proofs.plain.Plain.push_choice.Goals as goal
 
-pub clause_count-count-requires : goal.clause_count-count-requires
-clause_count-count-requires g c =
+pub next_left-requires : goal.next_left-requires
+next_left-requires g c = (let t = c.requires.5 in (t.clauses.behind, t.clauses.gives))
+
+pub returns-in_default-clause-calls : goal.returns-in_default-clause-calls
+returns-in_default-clause-calls g c = λ s call k ks gs t done.
+    (let e = c.args.self.now in
+    let next = c.next_left.ensures.left (g.S.Store.names e.store) t.clauses.behind ks t.clauses.gives (left_behind (g.S.Store.names e.store) e.db t.clauses) in
+    calls_last g.S.Store.names g.S.Store.present g.S.Store.stands g.S.Store.older e c.args.attempt s call k ks gs t
+    (subst (λ o. NextLeft (AreLeft (g.S.Store.names e.store) e.db) o c.next_left.new.later ks) c.in_default.is next))
+
+pub push_later-requires-clause-calls : goal.push_later-requires-clause-calls
+push_later-requires-clause-calls g c =
+    let e = c.args.self.now in
     let t = c.requires.5 in
-    let there = kept_at c.args.self.now.procedures.items c.requires.0.world.database.procedures c.args.attempt.procedure c.args.attempt.clause c.requires.2 c.requires.3 t.world.procedures_are t.clauses in
-    rw c.as_slice.ensures.value there.within
-
-pub overflow_add-attempt : goal.overflow_add-attempt
-overflow_add-attempt g c =
-    let t = c.requires.5 in
-    let many = clauses_counted c.args.self.now.procedures.items c.requires.0.world.database.procedures c.args.attempt.procedure c.args.attempt.clause c.requires.2 c.requires.3 t.world.procedures_are t.clauses in
-    let count = rw c.as_slice.ensures.value at c.clause_count-count.ensures in
-    let small = c.clause_count-count.type_inv in
-    omega (arith, many, count, small)
-
-pub returns-then-attempt-count-clause-calls : goal.returns-then-attempt-count-clause-calls
-returns-then-attempt-count-clause-calls g c = λ s call k ks gs t done.
-    calls_last g.S.Store.names g.S.Store.present g.S.Store.stands g.S.Store.older c.args.self.now c.args.attempt s call k ks gs t
-    (let many = clauses_counted c.args.self.now.procedures.items s.world.database.procedures c.args.attempt.procedure c.args.attempt.clause k ks t.world.procedures_are t.clauses in
-    let count = rw c.as_slice.ensures.value at c.clause_count-count.ensures in
-    let last = c.if-attempt-count.true in
-    omega (arith, many, count, last))
-
-pub push_later-requires : goal.push_later-requires
-push_later-requires g c =
-    let t = c.requires.5 in (
+    let ks = c.requires.3 in
+    let next = c.next_left.ensures.left (g.S.Store.names e.store) t.clauses.behind ks t.clauses.gives (left_behind (g.S.Store.names e.store) e.db t.clauses) in (
       c.requires.0,
       c.requires.1,
       c.requires.2,
       c.requires.3,
       c.requires.4,
-      (let many = clauses_counted c.args.self.now.procedures.items c.requires.0.world.database.procedures c.args.attempt.procedure c.args.attempt.clause c.requires.2 c.requires.3 t.world.procedures_are t.clauses in
-          let count = rw c.as_slice.ensures.value at c.clause_count-count.ensures in
-          let more = c.if-attempt-count.false in
-          omega (arith, many, count, more)),
+      subst (λ o. NextLeft (AreLeft (g.S.Store.names e.store) e.db) o c.next_left.new.later ks) c.in-Some.is next,
       t,
     )
 
 pub returns-clause-calls : goal.returns-clause-calls
-returns-clause-calls g c = λ s call k ks gs t done. c.in_ok-push_later.ensures.calls s call k ks gs t
-    (let many = clauses_counted c.args.self.now.procedures.items s.world.database.procedures c.args.attempt.procedure c.args.attempt.clause k ks t.world.procedures_are t.clauses in
-    let count = rw c.as_slice.ensures.value at c.clause_count-count.ensures in
-    let more = c.if-attempt-count.false in
-    omega (arith, many, count, more))
+returns-clause-calls g c = λ s call k ks gs t done.
+    (let e = c.args.self.now in
+    let next = c.next_left.ensures.left (g.S.Store.names e.store) t.clauses.behind ks t.clauses.gives (left_behind (g.S.Store.names e.store) e.db t.clauses) in
+    c.in_ok-push_later.ensures.calls s call k ks gs (subst (λ o. NextLeft (AreLeft (g.S.Store.names e.store) e.db) o c.next_left.new.later ks) c.in-Some.is next) t)
 
 pub returns-then-len-self-clause-frames : goal.returns-then-len-self-clause-frames
 returns-then-len-self-clause-frames g c = λ s call k ks gs t done. (
   (let h = c.if-len-self.true in
       let many : c.len.result ≡ length c.args.self.now.choices.items = cc (c.len.ensures, c.args.self.now.choices.ok.0) in
       omega (arith, h, many)),
-  (let many = clauses_counted c.args.self.now.procedures.items s.world.database.procedures c.args.attempt.procedure c.args.attempt.clause k ks t.world.procedures_are t.clauses in
-      let count = rw c.as_slice.ensures.value at c.clause_count-count.ensures in
-      let more = c.if-attempt-count.false in
-      omega (arith, many, count, more)),
+  (let e = c.args.self.now in
+      let next = c.next_left.ensures.left (g.S.Store.names e.store) t.clauses.behind ks t.clauses.gives (left_behind (g.S.Store.names e.store) e.db t.clauses) in
+      left_long (g.S.Store.names e.store) e.db (subst (λ o. NextLeft (AreLeft (g.S.Store.names e.store) e.db) o c.next_left.new.later ks) c.in-Some.is next)),
 )
 
 pub returns-in_err-push_later-clause-kept : goal.returns-in_err-push_later-clause-kept
-returns-in_err-push_later-clause-kept g c = λ s call k ks gs t. behind_error c.from_residual.result (c.in_err-push_later.ensures.kept s call k ks gs t)
+returns-in_err-push_later-clause-kept g c = λ s call k ks gs t.
+    (behind_error c.from_residual.result (c.in_err-push_later.ensures.kept s call k ks gs t))

@@ -1,41 +1,32 @@
 use Rattle.std.proofs.Common.{◌≡◌, ◌+◌, length, arith, ap}
 use Rattle.iso_model.specs.Terms.Variables.{variables}
 use Rattle.iso_plain_core.specs.Costs.{choices_cost, rest_cost, frame_costs}
-use Rattle.iso_plain_core.specs.ClausePlaces.{clauses_at_place}
-use Rattle.iso_plain_core.proofs.StandingLemmas.{choices_keep}
 use Rattle.iso_plain_core.proofs.ResultLemmas.{behind_error}
 use Rattle.iso_plain.proofs.StoppedLemmas.{base_kept}
 use Rattle.iso_plain.proofs.ControlCosts.{gained_cost}
-use Rattle.iso_plain_core.proofs.CountLemmas.{clauses_counted, count_fits}
+use Rattle.iso_db.specs.Presents.{remaining}
 use Rattle.iso_plain.proofs.CallLemmas.{calls_later, later_cost}
-use Rattle.iso_plain.proofs.WorldLemmas.{world_on}
+use Rattle.iso_plain.proofs.WorldLemmas.{world_on, choices_kept}
 use Rattle.iso_plain.proofs.plain.Plain.push_later.Goals as goal
 
-pub overflow_add-clause : goal.overflow_add-clause
-overflow_add-clause g c =
-    let t = c.requires.6 in
-    let many = clauses_counted c.args.self.now.procedures.items c.requires.0.world.database.procedures c.args.attempt.procedure c.args.attempt.clause c.requires.2 c.requires.3 t.world.procedures_are t.clauses in
-    let small = count_fits c.args.self.now.procedures.items c.args.attempt.procedure in
-    omega (arith, many, small)
-
 pub returns-clause-calls : goal.returns-clause-calls
-returns-clause-calls g c = λ s call k ks gs t many.
+returns-clause-calls g c = λ s call k ks gs next t.
     (let e = c.args.self.now in
     let nodes : c.len.result ≡ length e.nodes.items = cc (c.len.ensures, e.nodes.ok.0) in
     let frames : c.len-2.result ≡ length e.frames.items = cc (c.len-2.ensures, e.frames.ok.0) in
-    calls_later g.S.Store.names g.S.Store.present g.S.Store.stands g.S.Store.older e c.args.attempt s call k ks gs c.keep_choice.new.store c.keep_choice.new.choices t many c.in_ok-keep_choice.ensures.present c.in_ok-keep_choice.ensures.marks c.in_ok-keep_choice.ensures.names (rw (nodes, frames) at c.in_ok-keep_choice.ensures.gains))
+    calls_later g.S.Store.names g.S.Store.present g.S.Store.stands g.S.Store.older e c.args.attempt s call k ks gs c.keep_choice.new.store c.keep_choice.new.choices c.args.clause c.args.later t next c.in_ok-keep_choice.ensures.present c.in_ok-keep_choice.ensures.marks c.in_ok-keep_choice.ensures.names (rw (nodes, frames) at c.in_ok-keep_choice.ensures.gains))
 
 pub returns-clause-costs : goal.returns-clause-costs
 returns-clause-costs g c =
     let e = c.args.self.now in
     let costs = frame_costs e.frames.items in
-    let gained = gained_cost e.procedures.items costs c.in_ok-keep_choice.ensures.gains in
-    let later = later_cost (clauses_at_place e.procedures.items c.args.attempt.procedure) (c.args.attempt.clause + 1) (rest_cost costs c.args.attempt.rest) (count_fits e.procedures.items c.args.attempt.procedure) in
+    let gained = gained_cost costs c.in_ok-keep_choice.ensures.gains in
+    let later = later_cost (remaining c.args.later) (rest_cost costs c.args.attempt.rest) c.requires.few in
     omega (arith, gained, later)
 
 pub returns-in_err-keep_choice-clause-costs : goal.returns-in_err-keep_choice-clause-costs
 returns-in_err-keep_choice-clause-costs g c =
-    let same = ap (choices_cost c.args.self.now.procedures.items (frame_costs c.args.self.now.frames.items)) c.in_err-keep_choice.ensures.kept in
+    let same = ap (choices_cost (frame_costs c.args.self.now.frames.items)) c.in_err-keep_choice.ensures.kept in
     omega (arith, same)
 
 pub returns-in_err-keep_choice-clause-kept : goal.returns-in_err-keep_choice-clause-kept
@@ -43,5 +34,5 @@ returns-in_err-keep_choice-clause-kept g c = λ s call k ks gs t.
     behind_error c.from_residual.result (
       world_on c.in_err-keep_choice.ensures.names t.world,
       base_kept (g.S.Store.stands c.args.self.now.store) (g.S.Store.stands c.keep_choice.new.store) c.args.self.now.base c.in_err-keep_choice.ensures.marks t.base,
-      (variables s.query, rw c.in_err-keep_choice.ensures.kept (choices_keep (λ d p among stood. c.in_err-keep_choice.ensures.marks d.mark p stood) t.choices)),
+      (variables s.query, rw c.in_err-keep_choice.ensures.kept (choices_kept c.in_err-keep_choice.ensures.names (λ d p among stood. c.in_err-keep_choice.ensures.marks d.mark p stood) t.choices)),
     )

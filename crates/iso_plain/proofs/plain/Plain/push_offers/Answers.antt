@@ -28,7 +28,7 @@ pub returns-clause-costs : goal.returns-clause-costs
 returns-clause-costs g c =
     let e = c.args.self.now in
     let costs = frame_costs e.frames.items in
-    let gained = gained_cost e.procedures.items costs c.in_ok-keep_choice.ensures.gains in
+    let gained = gained_cost costs c.in_ok-keep_choice.ensures.gains in
     let many = c.args.offers.ok.0 in
     let within = c.args.offers.ok.1 in
     let small = c.args.offers.small in

@@ -50,9 +50,9 @@ pub returns-clause-falls : goal.returns-clause-falls
 returns-clause-falls g c =
     let e = c.args.self.now in
     let mid = c.back_to_catch-goal.new.self in
-    let back : choices_cost e.procedures.items (frame_costs mid.frames.items) mid.choices.items + left_cost 1 (rest_cost (frame_costs mid.frames.items) c.back_to_catch-goal.result.1) ≤ choices_cost e.procedures.items (frame_costs e.frames.items) e.choices.items =
+    let back : choices_cost (frame_costs mid.frames.items) mid.choices.items + left_cost 1 (rest_cost (frame_costs mid.frames.items) c.back_to_catch-goal.result.1) ≤ choices_cost (frame_costs e.frames.items) e.choices.items =
     c.back_to_catch-goal.ensures.costs in
-    let met : cost c.meet.new.self ≤ choices_cost e.procedures.items (frame_costs mid.frames.items) mid.choices.items + body_cost most (rest_cost (frame_costs mid.frames.items) c.back_to_catch-goal.result.1) =
-    rw c.back_to_catch-goal.ensures.stays.procedures at c.in_ok-meet.ensures.costs in
+    let met : cost c.meet.new.self ≤ choices_cost (frame_costs mid.frames.items) mid.choices.items + body_cost most (rest_cost (frame_costs mid.frames.items) c.back_to_catch-goal.result.1) =
+    c.in_ok-meet.ensures.costs in
     let step = left_step 0 (rest_cost (frame_costs mid.frames.items) c.back_to_catch-goal.result.1) in
     falls_less e c.meet.new.self (c.in_ok-meet.ensures.steps ∙ c.back_to_catch-goal.ensures.steps) (omega (arith, back, met, step))

@@ -19,7 +19,7 @@ returns-clause-started g c = λ w fresh.
       own = s;
       same = same_fresh s refl refl;
       engine = record {
-        world = record { procedures_are = fresh.world.procedures_are; found = fresh.world.found; vocabulary_is = fresh.world.vocabulary_is; operators_are = fresh.world.operators_are; flags_are = fresh.world.flags_are };
+        world = record { database_is = fresh.world.database_is; found = fresh.world.found; vocabulary_is = fresh.world.vocabulary_is; operators_are = fresh.world.operators_are; flags_are = fresh.world.flags_are };
         steps = refl;
         base = fresh.base;
         choices = rw fresh.choices none_kept;

@@ -68,7 +68,7 @@ returns-in-Raises-clause-moves g c = λ s r.
 pub returns-in-Raises-clause-falls : goal.returns-in-Raises-clause-falls
 returns-in-Raises-clause-falls g c =
     let same = c.throw.ensures.same in
-    throws_falls g.S.Store.names g.S.Store.present g.S.Store.stands g.S.Store.older c.args.self.now c.requires.stands.0 c.args.frame c.args.place c.requires.now c.requires.there.asks c.requires.stands.1 c.requires.steps c.throw.new.self c.args.frame.next c.throw.ensures.now same.0 same.1 same.2 c.throw.ensures.stays.procedures
+    throws_falls g.S.Store.names g.S.Store.present g.S.Store.stands g.S.Store.older c.args.self.now c.requires.stands.0 c.args.frame c.args.place c.requires.now c.requires.there.asks c.requires.stands.1 c.requires.steps c.throw.new.self c.args.frame.next c.throw.ensures.now same.0 same.1 same.2
 
 -- ---- a goal is run
 

@@ -62,7 +62,7 @@ returns-in-Unknown-clause-moves g c = λ s r.
 pub returns-in-Unknown-clause-falls : goal.returns-in-Unknown-clause-falls
 returns-in-Unknown-clause-falls g c =
     let same = c.throw.ensures.same in
-    throws_falls g.S.Store.names g.S.Store.present g.S.Store.stands g.S.Store.older c.args.self.now c.requires.stands.0 c.args.frame c.args.place c.requires.now c.requires.there.asks c.requires.stands.1 c.if-self-eq0.false c.throw.new.self c.args.frame.next c.throw.ensures.now same.0 same.1 same.2 c.throw.ensures.stays.procedures
+    throws_falls g.S.Store.names g.S.Store.present g.S.Store.stands g.S.Store.older c.args.self.now c.requires.stands.0 c.args.frame c.args.place c.requires.now c.requires.there.asks c.requires.stands.1 c.if-self-eq0.false c.throw.new.self c.args.frame.next c.throw.ensures.now same.0 same.1 same.2
 
 -- ---- a procedure
 
@@ -73,7 +73,7 @@ call_first-requires g c =
     let a = at g.S.Store.names g.S.Store.present g.S.Store.stands g.S.Store.older c.args.self.now c.requires.stands.0 c.args.frame c.args.place c.args.goal c.requires.now c.requires.there c.requires.stands.1 in
     let what = c.in_ok-called.ensures r.own.world r.engine.world in
     let user = rw c.in-User.is at what in
-    let calls = calls_engine g.S.Store.names g.S.Store.present g.S.Store.stands g.S.Store.older e r.own c.args.frame c.args.goal c.in-User.procedure (e.steps - 1) user.first user.others a (one_less e.steps c.if-self-eq0.false) user.left in
+    let calls = calls_engine g.S.Store.names g.S.Store.present g.S.Store.stands g.S.Store.older e r.own c.args.frame c.args.goal c.in-User.clause c.in-User.later (e.steps - 1) user.first user.others a (one_less e.steps c.if-self-eq0.false) user.left in
     (record r.own { steps = e.steps - 1 }, meaning (g.S.Store.present e.store) c.args.goal, user.first, user.others, a.behind, calls)
 
 pub returns-in-User-clause-moves : goal.returns-in-User-clause-moves
@@ -82,7 +82,7 @@ returns-in-User-clause-moves g c = λ s r.
     let a = at g.S.Store.names g.S.Store.present g.S.Store.stands g.S.Store.older c.args.self.now s c.args.frame c.args.place c.args.goal c.requires.now c.requires.there r in
     let what = c.in_ok-called.ensures r.own.world r.engine.world in
     let user = rw c.in-User.is at what in
-    let calls = calls_engine g.S.Store.names g.S.Store.present g.S.Store.stands g.S.Store.older e r.own c.args.frame c.args.goal c.in-User.procedure (e.steps - 1) user.first user.others a (one_less e.steps c.if-self-eq0.false) user.left in
+    let calls = calls_engine g.S.Store.names g.S.Store.present g.S.Store.stands g.S.Store.older e r.own c.args.frame c.args.goal c.in-User.clause c.in-User.later (e.steps - 1) user.first user.others a (one_less e.steps c.if-self-eq0.false) user.left in
     if_ok_map _ _ c.call_first.result (called_on g.S.Store.names g.S.Store.present g.S.Store.stands g.S.Store.older c.args.self.now s c.args.frame c.args.place c.args.goal c.requires.now c.requires.there r c.if-self-eq0.false user.key user.first user.others user.user user.found c.call_first.new.self) (c.call_first.ensures.called _ _ user.first user.others a.behind calls))
 
 pub returns-in-User-clause-frames : goal.returns-in-User-clause-frames
@@ -91,7 +91,7 @@ returns-in-User-clause-frames g c = λ s r.
     let a = at g.S.Store.names g.S.Store.present g.S.Store.stands g.S.Store.older c.args.self.now s c.args.frame c.args.place c.args.goal c.requires.now c.requires.there r in
     let what = c.in_ok-called.ensures r.own.world r.engine.world in
     let user = rw c.in-User.is at what in
-    let calls = calls_engine g.S.Store.names g.S.Store.present g.S.Store.stands g.S.Store.older e r.own c.args.frame c.args.goal c.in-User.procedure (e.steps - 1) user.first user.others a (one_less e.steps c.if-self-eq0.false) user.left in
+    let calls = calls_engine g.S.Store.names g.S.Store.present g.S.Store.stands g.S.Store.older e r.own c.args.frame c.args.goal c.in-User.clause c.in-User.later (e.steps - 1) user.first user.others a (one_less e.steps c.if-self-eq0.false) user.left in
     result_full c.call_first.result (λ h. over g.S.Store.names g.S.Store.present g.S.Store.stands g.S.Store.older c.args.self.now s c.args.frame c.args.place c.args.goal c.requires.now c.requires.there r c.if-self-eq0.false user.key user.first user.others user.user user.found h.0 h.1) (c.call_first.ensures.frames _ _ user.first user.others a.behind calls))
 
 pub returns-in-User-clause-stopped : goal.returns-in-User-clause-stopped
@@ -100,7 +100,7 @@ returns-in-User-clause-stopped g c = λ s r.
     let a = at g.S.Store.names g.S.Store.present g.S.Store.stands g.S.Store.older c.args.self.now s c.args.frame c.args.place c.args.goal c.requires.now c.requires.there r in
     let what = c.in_ok-called.ensures r.own.world r.engine.world in
     let user = rw c.in-User.is at what in
-    let calls = calls_engine g.S.Store.names g.S.Store.present g.S.Store.stands g.S.Store.older e r.own c.args.frame c.args.goal c.in-User.procedure (e.steps - 1) user.first user.others a (one_less e.steps c.if-self-eq0.false) user.left in
+    let calls = calls_engine g.S.Store.names g.S.Store.present g.S.Store.stands g.S.Store.older e r.own c.args.frame c.args.goal c.in-User.clause c.in-User.later (e.steps - 1) user.first user.others a (one_less e.steps c.if-self-eq0.false) user.left in
     on_err_weaker c.call_first.result (λ was. refused_on g.S.Store.names g.S.Store.present g.S.Store.stands g.S.Store.older c.args.self.now s c.args.frame c.args.place c.args.goal c.requires.now c.requires.there r c.if-self-eq0.false user.key user.first user.others user.user user.found c.call_first.new.self was) (c.call_first.ensures.kept _ _ user.first user.others a.behind calls))
 
 pub returns-in-User-clause-falls : goal.returns-in-User-clause-falls

@@ -39,7 +39,7 @@ returns-in-Ok-Done-clause-falls g c = λ w less.
     (let e = c.args.self.now in
     let costs = frame_costs e.frames.items in
     let next = behind_cost c.args.place c.requires.1.meets.ahead.chain in
-    let paid = rest_paid e.steps (choices_cost e.procedures.items costs e.choices.items) (rest_cost costs c.args.place) w less in
+    let paid = rest_paid e.steps (choices_cost costs e.choices.items) (rest_cost costs c.args.place) w less in
     rw (c.at-self.ensures, c.as_slice.ensures.value) (rw next paid))
 
 pub returns-in-Ok-Offers-clause-called : goal.returns-in-Ok-Offers-clause-called
@@ -100,7 +100,7 @@ returns-in-Err-Raise-clause-falls g c = λ w less.
     (let e = c.args.self.now in
     let same = c.throw.ensures.same in
     let new = c.throw.new.self in
-    let here = cost_as e new (now.Raising c.args.place) c.throw.ensures.now same.1 same.2 c.throw.ensures.stays.procedures in
+    let here = cost_as e new (now.Raising c.args.place) c.throw.ensures.now same.1 same.2 in
     subst (λ (k : ℕ). whole_cost k (cost new) < whole_cost (suc e.steps) w) (sym same.0) (whole_paid e.steps w (cost new) (omega (arith, less, here))))
 
 pub returns-in-Err-Full-clause-met : goal.returns-in-Err-Full-clause-met

@@ -1,0 +1,14 @@
+-- The first clause comes next, or there is none.
+use Rattle.std.proofs.Common.{◌≡◌, subst}
+use Rattle.iso_plain_core.specs.Leaving.{AreLeft, NextLeft}
+use Rattle.iso_plain.proofs.plain.Plain.begun.Goals as goal
+
+pub returns-in-Some : goal.returns-in-Some
+returns-in-Some g c = λ names ks cs gives are.
+    (let d = c.args.self.now.db in
+    subst (λ o. NextLeft (AreLeft names d) o c.next_left.new.later cs) c.in-Some.is (c.next_left.ensures.left names ks cs gives are))
+
+pub returns-in-None : goal.returns-in-None
+returns-in-None g c = λ names ks cs gives are.
+    (let d = c.args.self.now.db in
+    subst (λ o. NextLeft (AreLeft names d) o c.next_left.new.later cs) c.in-None.is (c.next_left.ensures.left names ks cs gives are))

@@ -1,0 +1,55 @@
+-- The place is that of the key, and is found by the atom.
+use Rattle.std.proofs.Common.{◌≡◌, refl, sym, ap, ◌∙◌, arith, Some, None, length, subst}
+use Rattle.iso_model.specs.Search.Errors.{key}
+use Rattle.iso_db.specs.Databases.{Database, with_procedure}
+use Rattle.iso_db.specs.Presents.{contents}
+use Rattle.iso_plain_core.specs.declared.clauses.Clause.{Clause}
+use Rattle.iso_plain_core.specs.declared.callables.Callee.TheVariants as callee
+use Rattle.iso_plain_core.specs.Callables.{callee_at, Finds}
+use Rattle.iso_plain_core.specs.Programs.{IsDatabase, place_at}
+use Rattle.iso_plain_core.proofs.AddingLemmas.{called_own, found_callee, found_place, finds_placed, finds_new}
+use Rattle.iso_plain_core.proofs.ProgramLemmas.{place_within, database_placed}
+use Rattle.iso_plain_core.proofs.procedures.place.Goals as goal
+
+pub unreachable-requires : goal.unreachable-requires
+unreachable-requires c =
+    let h = c.requires.named in
+    let found : callee_at c.args.callables.now.items c.args.functor.name c.args.functor.arity ≡ Some (callee.BuiltIn c.in-Some-BuiltIn.field-0-0) = (rw c.as_slice.ensures.value at (sym c.find.ensures)) ∙ c.in-Some-BuiltIn.is ∙ ap Some c.in-Some-BuiltIn.field-0-is in
+    let called = found_callee h.0 c.args.functor c.args.text.now (contents c.args.db.now) c.args.callables.now.items h.1 (callee.BuiltIn c.in-Some-BuiltIn.field-0-0) found in
+    let own = called_own (contents c.args.db.now) (key c.args.text.now c.args.functor.arity) c.in-Some-BuiltIn.field-0-0 called in
+    cc (own, c.requires.user)
+
+pub returns-in_err-insert-in-None-clause-found : goal.returns-in_err-insert-in-None-clause-found
+returns-in_err-insert-in-None-clause-found c = λ names h.
+    (let none : callee_at c.args.callables.now.items c.args.functor.name c.args.functor.arity ≡ None = (rw c.as_slice.ensures.value at (sym c.find.ensures)) ∙ c.in-None.is in
+    subst (λ (d : Database Clause). Finds names c.insert.new.callables.items d) (sym c.in_ok-place-in-None.ensures.contents)
+    (finds_placed names c.args.functor c.args.text.now (contents c.args.db.now) c.args.callables.now.items h c.insert.new.callables.items none c.in_err-insert-in-None.ensures.err c.requires.user))
+
+pub returns-in_err-insert-in-None-clause-database : goal.returns-in_err-insert-in-None-clause-database
+returns-in_err-insert-in-None-clause-database c = λ names m is.
+    subst (λ (d : Database Clause). IsDatabase names d m) (sym c.in_ok-place-in-None.ensures.contents) (database_placed (contents c.args.db.now) m c.args.text.now c.args.functor.arity is)
+
+pub returns-in-Some-User-clause-place : goal.returns-in-Some-User-clause-place
+returns-in-Some-User-clause-place c =
+    let h = c.requires.named in
+    let found : callee_at c.args.callables.now.items c.args.functor.name c.args.functor.arity ≡ Some (callee.User c.in-Some-User.place) = (rw c.as_slice.ensures.value at (sym c.find.ensures)) ∙ c.in-Some-User.is ∙ ap Some c.in-Some-User.field-0-is in
+    rw c.in-Some-User.place-is (found_place h.0 c.args.functor c.args.text.now (contents c.args.db.now) c.args.callables.now.items h.1 c.in-Some-User.place found)
+
+pub returns-in-Some-User-clause-within : goal.returns-in-Some-User-clause-within
+returns-in-Some-User-clause-within c =
+    let h = c.requires.named in
+    let found : callee_at c.args.callables.now.items c.args.functor.name c.args.functor.arity ≡ Some (callee.User c.in-Some-User.place) = (rw c.as_slice.ensures.value at (sym c.find.ensures)) ∙ c.in-Some-User.is ∙ ap Some c.in-Some-User.field-0-is in
+    rw c.in-Some-User.place-is (place_within (contents c.args.db.now) (key c.args.text.now c.args.functor.arity) c.in-Some-User.place
+    (found_place h.0 c.args.functor c.args.text.now (contents c.args.db.now) c.args.callables.now.items h.1 c.in-Some-User.place found))
+
+pub returns-in_ok-insert-in-None-clause-found : goal.returns-in_ok-insert-in-None-clause-found
+returns-in_ok-insert-in-None-clause-found c = λ names h.
+    (let none : callee_at c.args.callables.now.items c.args.functor.name c.args.functor.arity ≡ None = (rw c.as_slice.ensures.value at (sym c.find.ensures)) ∙ c.in-None.is in
+    let placed = c.in_ok-place-in-None.ensures in
+    subst (λ (d : Database Clause). Finds names c.insert.new.callables.items d) (sym placed.contents)
+    (finds_new names c.args.functor c.args.text.now (contents c.args.db.now) c.args.callables.now.items h c.insert.new.callables.items c.in_ok-place-in-None.place none c.requires.user
+    (subst (λ (d : Database Clause). place_at d (key c.args.text.now c.args.functor.arity) ≡ Some c.in_ok-place-in-None.place) placed.contents placed.place) c.in_ok-insert-in-None.ensures.ok))
+
+pub returns-in_ok-insert-in-None-clause-database : goal.returns-in_ok-insert-in-None-clause-database
+returns-in_ok-insert-in-None-clause-database c = λ names m is.
+    subst (λ (d : Database Clause). IsDatabase names d m) (sym c.in_ok-place-in-None.ensures.contents) (database_placed (contents c.args.db.now) m c.args.text.now c.args.functor.arity is)
