@@ -8,6 +8,8 @@ mod arithmetic;
 #[cfg(test)]
 mod atoms;
 #[cfg(test)]
+mod db;
+#[cfg(test)]
 mod heap;
 #[cfg(test)]
 mod library;
