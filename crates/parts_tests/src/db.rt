@@ -115,8 +115,8 @@ fn expect_clauses(
     Ok(())
 }
 
-/// That procedures have places and kinds, and that a static one is not changed but by a text.
-fn expect_places_and_kinds(rt: &impl Abort, db: &mut Db<u64>) -> Result<(), Fail> {
+/// That each key has a place of its own, which it keeps.
+fn expect_places(rt: &impl Abort, db: &mut Db<u64>) -> Result<(), Fail> {
     assert_eq!(rt; db.find("p", 1), None);
     assert_eq!(rt; place(db, "p")?, 0);
     assert_eq!(rt; place(db, "q")?, 1);
@@ -125,6 +125,11 @@ fn expect_places_and_kinds(rt: &impl Abort, db: &mut Db<u64>) -> Result<(), Fail
     assert_eq!(rt; db.find("p", 1), Some(0));
     assert_eq!(rt; db.find("p", 2), Some(2));
     assert_eq!(rt; db.find("p", 3), None);
+    Ok(())
+}
+
+/// That an absent procedure becomes static by a text, and is not changed then but by one.
+fn expect_static(rt: &impl Abort, db: &mut Db<u64>) -> Result<(), Fail> {
     assert_eq!(rt; kind(db, "p")?, None);
     assert!(rt; matches!(view(db, "p"), Err(DbFault::Unknown)));
     consult(db, "p", 1)?;
@@ -134,10 +139,16 @@ fn expect_places_and_kinds(rt: &impl Abort, db: &mut Db<u64>) -> Result<(), Fail
     assert!(rt; matches!(push_last(db, "p", 3), Err(DbFault::Static)));
     assert_eq!(rt; declare(db, "p"), Err(DbFault::Static));
     assert_eq!(rt; abolish(db, "p"), Err(DbFault::Static));
+    expect_clauses(rt, db, "p", &[1, 2])?;
+    Ok(())
+}
+
+/// That an absent procedure is declared as dynamic, and once more.
+fn expect_dynamic(rt: &impl Abort, db: &mut Db<u64>) -> Result<(), Fail> {
+    assert_eq!(rt; kind(db, "q")?, None);
     assert_eq!(rt; declare(db, "q"), Ok(()));
     assert_eq!(rt; declare(db, "q"), Ok(()));
     assert_eq!(rt; kind(db, "q")?, Some(Kind::Dynamic));
-    expect_clauses(rt, db, "p", &[1, 2])?;
     expect_clauses(rt, db, "q", &[])?;
     Ok(())
 }
@@ -145,7 +156,26 @@ fn expect_places_and_kinds(rt: &impl Abort, db: &mut Db<u64>) -> Result<(), Fail
 #[test]
 fn procedures_have_places_and_kinds(rt: HostRuntime) -> Result<(), Fail> {
     let mut db: Db<u64> = Db::new(rt.alloc());
-    expect_places_and_kinds(&rt, &mut db)
+    expect_places(&rt, &mut db)?;
+    expect_static(&rt, &mut db)?;
+    expect_dynamic(&rt, &mut db)
+}
+
+/// Adds and removes clauses at both ends of `p/1`; views stand on. Those of these numbers were there.
+fn change_both_ends(
+    rt: &impl Abort,
+    db: &mut Db<u64>,
+    first: ClauseId,
+    second: ClauseId,
+) -> Result<(), DbFault>
+    ensures views { KeepsViews db.old db.new }
+{
+    push_first(db, "p", 0)?;
+    push_last(db, "p", 4)?;
+    assert!(rt; db.remove(second));
+    assert!(rt; !db.remove(second));
+    assert!(rt; db.remove(first));
+    expect_clauses(rt, db, "p", &[0, 3, 4])
 }
 
 /// That a view gives what was there, whatever is added and removed at both ends.
@@ -156,12 +186,7 @@ fn expect_view_at_its_making(rt: &impl Abort, db: &mut Db<u64>) -> Result<(), Fa
     assert_eq!(rt; first.number(), 1);
     push_last(db, "p", 3)?;
     let seen = view(db, "p")?;
-    push_first(db, "p", 0)?;
-    push_last(db, "p", 4)?;
-    assert!(rt; db.remove(second));
-    assert!(rt; !db.remove(second));
-    assert!(rt; db.remove(first));
-    expect_clauses(rt, db, "p", &[0, 3, 4])?;
+    change_both_ends(rt, db, first, second)?;
     expect_values(rt, db, seen, &[1, 2, 3]);
     Ok(())
 }
@@ -172,31 +197,45 @@ fn a_view_is_the_list_at_its_making(rt: HostRuntime) -> Result<(), Fail> {
     expect_view_at_its_making(&rt, &mut db)
 }
 
-/// That a view gives the clauses of a procedure that was removed, and none of those that came later.
-fn expect_view_of_removed(rt: &impl Abort, db: &mut Db<u64>) -> Result<(), Fail> {
+/// Removes `p/1`, and adds two clauses again; views stand on. Answers the number of the last clause.
+fn begin_again(rt: &impl Abort, db: &mut Db<u64>) -> Result<ClauseId, DbFault>
+    ensures views { KeepsViews db.old db.new }
+{
+    abolish(db, "p")?;
+    assert_eq!(rt; kind(db, "p")?, None);
+    let last = push_last(db, "p", 4)?;
+    push_first(db, "p", 5)?;
+    Ok(last)
+}
+
+/// That a view gives the clauses of a procedure that was removed, and none of those that came later. Answers the number of the last.
+fn expect_view_of_removed(rt: &impl Abort, db: &mut Db<u64>) -> Result<ClauseId, DbFault> {
     push_last(db, "p", 1)?;
     push_last(db, "p", 2)?;
     push_last(db, "q", 3)?;
     let seen = view(db, "p")?;
-    abolish(db, "p")?;
-    assert_eq!(rt; kind(db, "p")?, None);
-    let last = push_last(db, "p", 4)?;
-    assert_eq!(rt; last.number(), 3);
-    push_first(db, "p", 5)?;
-    expect_clauses(rt, db, "p", &[5, 4])?;
+    let last = begin_again(rt, db)?;
     expect_values(rt, db, seen, &[1, 2]);
+    Ok(last)
+}
+
+/// That what was added again is there where views are forgotten, and that the clause of this number is removed.
+fn expect_the_others(rt: &impl Abort, db: &mut Db<u64>, last: ClauseId) -> Result<(), DbFault> {
+    assert_eq!(rt; last.number(), 3);
+    expect_clauses(rt, db, "p", &[5, 4])?;
     db.forget_views();
     expect_clauses(rt, db, "p", &[5, 4])?;
     expect_clauses(rt, db, "q", &[3])?;
     assert!(rt; db.remove(last));
-    expect_clauses(rt, db, "p", &[5])?;
-    Ok(())
+    expect_clauses(rt, db, "p", &[5])
 }
 
 #[test]
 fn a_view_stands_where_its_procedure_is_removed(rt: HostRuntime) -> Result<(), Fail> {
     let mut db: Db<u64> = Db::new(rt.alloc());
-    expect_view_of_removed(&rt, &mut db)
+    let last = expect_view_of_removed(&rt, &mut db)?;
+    expect_the_others(&rt, &mut db, last)?;
+    Ok(())
 }
 
 /// Adds clauses behind those of `name/1`, of the values from the first up to this one, and answers their numbers.
@@ -224,24 +263,21 @@ fn take_first(db: &mut Db<u64>, name: &str) -> Result<Option<u64>, DbFault> {
     Ok(Some(value))
 }
 
-/// That each clause taken from the front is the next one.
-fn expect_taken_from_the_front(
-    rt: &impl Abort,
-    alloc: Global,
-    db: &mut Db<u64>,
-) -> Result<(), Fail> {
-    push_many(alloc, db, "p", 0, 100_000)?;
-    for value in 0..100_000u64 {
+/// That the clauses taken from the front have the values from the first up to this one.
+fn expect_taken(rt: &impl Abort, db: &mut Db<u64>, first: u64, end: u64) -> Result<(), DbFault> {
+    for value in first..end {
         assert_eq!(rt; take_first(db, "p")?, Some(value));
     }
-    assert_eq!(rt; take_first(db, "p")?, None);
     Ok(())
 }
 
 #[test]
 fn many_clauses_are_taken_from_the_front(rt: HostRuntime) -> Result<(), Fail> {
     let mut db: Db<u64> = Db::new(rt.alloc());
-    expect_taken_from_the_front(&rt, rt.alloc(), &mut db)
+    push_many(rt.alloc(), &mut db, "p", 0, 100_000)?;
+    expect_taken(&rt, &mut db, 0, 100_000)?;
+    assert_eq!(rt; take_first(&mut db, "p")?, None);
+    Ok(())
 }
 
 /// That each clause put at the front is the one that is taken there.
@@ -293,7 +329,7 @@ fn many_clauses_are_removed_from_the_end(rt: HostRuntime) -> Result<(), Fail> {
     expect_removed_from_the_end(&rt, rt.alloc(), &mut db)
 }
 
-/// That a view gives all clauses where those in the middle were removed, and a new one the others.
+/// That a view gives all clauses where those in the middle were removed.
 fn expect_removed_from_the_middle(
     rt: &impl Abort,
     alloc: Global,
@@ -305,17 +341,108 @@ fn expect_removed_from_the_middle(
     let seen = view(db, "p")?;
     remove_all(rt, db, &mut ids);
     expect_range(rt, db, seen, 0, 160_000);
-    db.forget_views();
-    for value in 0..30_000u64 {
-        assert_eq!(rt; take_first(db, "p")?, Some(value));
-    }
+    Ok(())
+}
+
+/// That a new view gives the clauses with values from the first up to this one, and no others.
+fn expect_rest(rt: &impl Abort, db: &mut Db<u64>, first: u64, end: u64) -> Result<(), DbFault> {
     let rest = view(db, "p")?;
-    expect_range(rt, db, rest, 130_000, 160_000);
+    expect_range(rt, db, rest, first, end);
     Ok(())
 }
 
 #[test]
 fn many_clauses_are_removed_from_the_middle(rt: HostRuntime) -> Result<(), Fail> {
     let mut db: Db<u64> = Db::new(rt.alloc());
-    expect_removed_from_the_middle(&rt, rt.alloc(), &mut db)
+    expect_removed_from_the_middle(&rt, rt.alloc(), &mut db)?;
+    db.forget_views();
+    expect_taken(&rt, &mut db, 0, 30_000)?;
+    expect_rest(&rt, &mut db, 130_000, 160_000)?;
+    Ok(())
+}
+
+/// That `p/1` has clauses of these values, or where there are none that it is absent.
+fn expect_as_before(rt: &impl Abort, db: &mut Db<u64>, values: &[u64]) -> Result<(), DbFault> {
+    if values.is_empty() {
+        assert_eq!(rt; kind(db, "p")?, None);
+        return Ok(());
+    }
+    expect_clauses(rt, db, "p", values)
+}
+
+/// Adds a clause before those of `p/1`; where memory is refused, these are as before, and it is added once more.
+fn push_first_at_last(
+    rt: &impl Abort,
+    db: &mut Db<u64>,
+    clause: u64,
+    before: &[u64],
+) -> Result<ClauseId, DbFault> {
+    match push_first(db, "p", clause) {
+        Err(DbFault::NoMemory) => {
+            expect_as_before(rt, db, before)?;
+            push_first(db, "p", clause)
+        }
+        answer => answer,
+    }
+}
+
+/// Adds a clause behind those of `p/1`; where memory is refused, these are as before, and it is added once more.
+fn push_last_at_last(
+    rt: &impl Abort,
+    db: &mut Db<u64>,
+    clause: u64,
+    before: &[u64],
+) -> Result<ClauseId, DbFault> {
+    match push_last(db, "p", clause) {
+        Err(DbFault::NoMemory) => {
+            expect_as_before(rt, db, before)?;
+            push_last(db, "p", clause)
+        }
+        answer => answer,
+    }
+}
+
+/// Adds a clause of a text for `q/1`; where memory is refused, it is absent, and the clause is added once more.
+fn consult_at_last(rt: &impl Abort, db: &mut Db<u64>, clause: u64) -> Result<ClauseId, NoMemory> {
+    match consult(db, "q", clause) {
+        Err(NoMemory) => {
+            assert_eq!(rt; kind(db, "q")?, None);
+            consult(db, "q", clause)
+        }
+        answer => answer,
+    }
+}
+
+/// That clauses have the numbers and places that they would have had where no memory was refused.
+fn expect_added_at_last(rt: &impl Abort, db: &mut Db<u64>) -> Result<(), Fail> {
+    assert_eq!(rt; push_last_at_last(rt, db, 1, &[])?.number(), 0);
+    assert_eq!(rt; push_first_at_last(rt, db, 0, &[1])?.number(), 1);
+    assert_eq!(rt; consult_at_last(rt, db, 5)?.number(), 2);
+    assert_eq!(rt; push_last_at_last(rt, db, 2, &[0, 1])?.number(), 3);
+    expect_clauses(rt, db, "p", &[0, 1, 2])?;
+    expect_clauses(rt, db, "q", &[5])?;
+    Ok(())
+}
+
+/// Adds clauses behind those of `p/1`, of the values from the first up to this one; where memory is refused, once more.
+fn push_many_at_last(db: &mut Db<u64>, first: u64, end: u64) -> Result<(), DbFault> {
+    for value in first..end {
+        if push_last(db, "p", value).is_err() {
+            push_last(db, "p", value)?;
+        }
+    }
+    Ok(())
+}
+
+/// Holds too where any one allocation is refused; a removal that would make a block anew does without then.
+#[test]
+fn a_refused_call_changes_nothing(rt: HostRuntime) -> Result<(), Fail> {
+    let mut db: Db<u64> = Db::new(rt.alloc());
+    expect_added_at_last(&rt, &mut db)?;
+    push_many_at_last(&mut db, 3, 40)?;
+    expect_taken(&rt, &mut db, 0, 30)?;
+    expect_rest(&rt, &mut db, 30, 40)?;
+    db.forget_views();
+    expect_rest(&rt, &mut db, 30, 40)?;
+    Ok(())
 }
