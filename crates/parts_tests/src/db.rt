@@ -1,4 +1,8 @@
 //! The database of clauses: each call, views while clauses are added and removed, and many clauses.
+//! A refused allocation is passed on, so that a test that meets one ends in that error, but for the last test, which holds too where any
+//! one is refused. This refuses each of its allocations in turn:
+//!
+//!     ulimit -s unlimited; for n in $(seq 30); do rt try --test --fail-alloc $n -- db::a_refused; done
 ghost use Rattle.std.specs.Prelude.{◌≡◌, ◌<◌, ℕ, List, length, IfOk};
 ghost use Rattle.iso_db.specs.Databases.{Clause};
 ghost use Rattle.iso_db.specs.Presents.{contents, Gives, KeepsViews};

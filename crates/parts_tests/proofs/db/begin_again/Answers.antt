@@ -9,13 +9,13 @@ returns-in_err-last g c = record { views = λ v cs gives. c.push_last.ensures.vi
 pub returns-in_err-push_first : goal.returns-in_err-push_first
 returns-in_err-push_first g c = record {
   views = λ v cs gives.
-    let removed = c.kind.ensures.views v cs (c.abolish.ensures.views v cs gives) in
-    c.push_first.ensures.views v cs (c.push_last.ensures.views v cs removed);
+      let removed = c.kind.ensures.views v cs (c.abolish.ensures.views v cs gives) in
+      c.push_first.ensures.views v cs (c.push_last.ensures.views v cs removed);
 }
 
 pub returns : goal.returns
 returns g c = record {
   views = λ v cs gives.
-    let removed = c.kind.ensures.views v cs (c.abolish.ensures.views v cs gives) in
-    c.push_first.ensures.views v cs (c.push_last.ensures.views v cs removed);
+      let removed = c.kind.ensures.views v cs (c.abolish.ensures.views v cs gives) in
+      c.push_first.ensures.views v cs (c.push_last.ensures.views v cs removed);
 }
