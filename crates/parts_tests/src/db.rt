@@ -1,6 +1,6 @@
 //! The database of clauses: each call, views while clauses are added and removed, and many clauses.
-//! A refused allocation is passed on, so that a test that meets one ends in that error, but for the last test, which holds too where any
-//! one is refused. This refuses each of its allocations in turn:
+//! A refused allocation is passed on, so that a test that meets one ends in that error, but for the last test, which is made to hold
+//! where any one is refused. This refuses its first 30 allocations in turn; it was run for the first two of them alone:
 //!
 //!     ulimit -s unlimited; for n in $(seq 30); do rt try --test --fail-alloc $n -- db::a_refused; done
 ghost use Rattle.std.specs.Prelude.{◌≡◌, ◌<◌, ℕ, List, length, IfOk};
@@ -438,7 +438,7 @@ fn push_many_at_last(db: &mut Db<u64>, first: u64, end: u64) -> Result<(), DbFau
     Ok(())
 }
 
-/// Holds too where any one allocation is refused; a removal that would make a block anew does without then.
+/// Made to hold where any one allocation is refused; a removal that would make a block anew does without then.
 #[test]
 fn a_refused_call_changes_nothing(rt: HostRuntime) -> Result<(), Fail> {
     let mut db: Db<u64> = Db::new(rt.alloc());
