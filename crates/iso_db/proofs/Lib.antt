@@ -10,3 +10,4 @@ pub mod PlaceLemmas
 pub mod ClearLemmas
 pub mod TidyLemmas
 pub mod ForgetLemmas
+pub mod OwnerLemmas

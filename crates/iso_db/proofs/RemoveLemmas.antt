@@ -76,7 +76,7 @@ module _ {C : Type 0} where
   abbrev pub has_number : ℕ → List (Clause C) → Bool
   has_number number cs = list_any (λ c. c.number == number) cs
 
-  any-given : (slots : List (Slot C)) (r number : ℕ) (ns : List ℕ) → is_some (clause_at slots r number) ≡ true → list_any (λ n. n == number) ns ≡ true → has_number number (given slots r ns) ≡ true
+  pub any-given : (slots : List (Slot C)) (r number : ℕ) (ns : List ℕ) → is_some (clause_at slots r number) ≡ true → list_any (λ n. n == number) ns ≡ true → has_number number (given slots r ns) ≡ true
   any-given slots r number [] there h = h
   any-given slots r number (n ∷ ns) there h =
       ⊎_elim
@@ -92,7 +92,7 @@ module _ {C : Type 0} where
       later None e = e
       later (Some c) e = ap (λ b. (c.number == number) || b) e ∙ or_true (c.number == number)
 
-  none-given : (slots : List (Slot C)) (r number : ℕ) (ns : List ℕ) → is_some (clause_at slots r number) ≡ false → has_number number (given slots r ns) ≡ false
+  pub none-given : (slots : List (Slot C)) (r number : ℕ) (ns : List ℕ) → is_some (clause_at slots r number) ≡ false → has_number number (given slots r ns) ≡ false
   none-given slots r number [] gone = refl
   none-given slots r number (n ∷ ns) gone = at (clause_at slots r n) refl (none-given slots r number ns gone)
     where

@@ -49,9 +49,13 @@ module _ {C : Type 0} where
   abbrev pub clauses_at : Database C → ℕ → List (Clause C)
   clauses_at db place = clauses_of (slice_get db.procedures place)
 
+  -- whether one of these clauses has this number
+  abbrev pub has_in : List (Clause C) → ℕ → Bool
+  has_in cs number = list_any (λ c. c.number == number) cs
+
   -- whether the clause of this number is in the database
   abbrev pub has_clause : Database C → ℕ → Bool
-  has_clause db number = list_any (λ p. list_any (λ c. c.number == number) p.clauses) db.procedures
+  has_clause db number = list_any (λ p. has_in p.clauses number) db.procedures
 
   -- the procedure at a place changed, and no other
   abbrev pub at_place : ℕ → (Procedure C → Procedure C) → List (Procedure C) → List (Procedure C)
@@ -97,3 +101,7 @@ module _ {C : Type 0} where
   -- the clause of this number removed
   abbrev pub without_clause : ℕ → Database C → Database C
   without_clause number db = record db { procedures = map (one_less number) db.procedures }
+
+  -- the clause of this number removed from the procedure at a place
+  abbrev pub without_clause_at : ℕ → ℕ → Database C → Database C
+  without_clause_at place number db = record db { procedures = at_place place (one_less number) db.procedures }

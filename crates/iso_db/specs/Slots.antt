@@ -15,6 +15,11 @@ abbrev pub before : ℕ → Option ℕ → Bool
 before removals None = true
 before removals (Some died) = nat_lt died removals
 
+-- whether the place of a procedure is this one
+abbrev pub is_place : ℕ → Option ℕ → Bool
+is_place place None = false
+is_place place (Some owner) = owner == place
+
 module _ {C : Type 0} where
   -- the clause that is kept in a slot, as a view gives it that was made after so many removals
   abbrev pub given_by : ℕ → ℕ → Slot C → Option (Clause C)

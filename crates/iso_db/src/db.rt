@@ -10,7 +10,7 @@ use super::blocks::{Entry, Side};
 use super::ids::ClauseId;
 use super::kinds::{DbFault, Kind};
 use super::places::Places;
-use super::slots::{Slot, kill, kill_all};
+use super::slots::{Slot, belongs, is_given, kill, kill_all};
 use super::tidy::{forget_blocks, forget_values, tidy, trim};
 use super::views::{View, step};
 use std::alloc::{AllocError, Global};
@@ -67,7 +67,7 @@ fn add<C: Drop>(
 impl<C: Drop> Db<C> {
     ghost use Rattle.iso_db.specs.declared.kinds.Kind.TheVariants.{Static as static_kind, Dynamic};
     ghost use Rattle.iso_db.specs.declared.kinds.DbFault.TheVariants.{Static, NoMemory, Unknown};
-    ghost use Rattle.iso_db.specs.Databases.{no_procedures, place_in, kind_at, clauses_at, has_clause, at_end, at_front, with_procedure, with_clause, with_kind, without_procedure, without_clause, is_not_static};
+    ghost use Rattle.iso_db.specs.Databases.{no_procedures, place_in, kind_at, clauses_at, has_in, has_clause, at_end, at_front, with_procedure, with_clause, with_kind, without_procedure, without_clause, without_clause_at, is_not_static};
     ghost use Rattle.iso_db.specs.Sides.{put_at_side};
     ghost use Rattle.iso_db.specs.Stepping.{first_number, behind};
     ghost use Rattle.iso_db.specs.Presents.{contents, Gives, Stands, EachStands, KeepsViews, KeepsClauses, remaining};
@@ -173,6 +173,15 @@ impl<C: Drop> Db<C> {
             Some(value) => value,
             None => unreachable!(),
         }
+    }
+
+    /// Whether the procedure at this place has the clause of this number. Takes no memory.
+    pub fn has(&self, place: usize, id: ClauseId) -> bool
+        requires { place < length (contents self.now).procedures }
+        ensures { result ≡ has_in (clauses_at (contents self.now) place) id }
+    {
+        let slots = self.slots.as_slice();
+        belongs(slots, id, place) && is_given(slots, id, self.removals)
     }
 
     /// Adds a clause to the procedure at this place, which gets this kind where it is absent. The error is that memory was refused;
@@ -319,6 +328,21 @@ impl<C: Drop> Db<C> {
             id,
         );
         true
+    }
+
+    /// Removes the clause of this number from the procedure at this place; views made before give it still. False where that procedure has
+    /// it not, or not any more. Takes no memory.
+    pub fn remove_from(&mut self, place: usize, id: ClauseId) -> bool
+        requires { place < length (contents self.old).procedures }
+        ensures removed { result ≡ has_in (clauses_at (contents self.old) place) id }
+        ensures contents { contents self.new ≡ without_clause_at place id (contents self.old) }
+        ensures views { KeepsViews self.old self.new }
+        ensures clauses { KeepsClauses self.old self.new }
+    {
+        if !belongs(self.slots.as_slice(), id, place) {
+            return false;
+        }
+        self.remove(id)
     }
 
     /// From here on no view stands that was made before, and what no new view can give is given back. Takes one step where no clause was

@@ -1,6 +1,6 @@
 //! What is kept of each clause that was ever added.
 ghost use Rattle.std.specs.Prelude.{◌≡◌, ◌<◌, length, is_some};
-ghost use Rattle.iso_db.specs.Slots.{lives, clause_at, IsCounted, Removes, Clears};
+ghost use Rattle.iso_db.specs.Slots.{lives, clause_at, procedure_at, is_place, IsCounted, Removes, Clears};
 ghost use Rattle.iso_db.specs.Blocks.{ids};
 
 use super::blocks::Block;
@@ -37,6 +37,14 @@ pub(crate) fn is_given<C>(slots: &[Slot<C>], id: ClauseId, made: usize) -> bool
     }
     let slot = &slots[place];
     slot.value.is_some() && lives(slot.died, made)
+}
+
+/// Whether the clause of this number was added to the procedure at this place.
+pub(crate) fn belongs<C>(slots: &[Slot<C>], id: ClauseId, place: usize) -> bool
+    ensures { result ≡ is_place place (procedure_at slots.now id) }
+{
+    let number = id.number();
+    number < slots.len() && slots[number].procedure == place
 }
 
 /// Removes the clause of this number, unless it was removed before.

@@ -1,1 +1,2 @@
+mod IndicatorLemmas
 mod SettlementLemmas

@@ -1,5 +1,5 @@
 -- Goals that read or change operators and flags, check by check.
-use Rattle.std.proofs.Common.{◌≡◌, ℕ, List, [], ◌∷◌, ◌++◌, map, false, ◌||◌, sym, ap, ◌∙◌, subst, if◌then◌else◌, Result, Ok, Err}
+use Rattle.std.proofs.Common.{◌≡◌, ℕ, List, [], ◌∷◌, ◌++◌, map, false, ◌||◌, refl, sym, ap, ◌∙◌, subst, if◌then◌else◌, Result, Ok, Err}
 use Rattle.std.specs.Result.{IsErrAnd}
 use Rattle.std.proofs.lemmas.List.{map-append, append_assoc}
 use Rattle.iso_ops.specs.Operators.{Operator}
@@ -7,14 +7,15 @@ use Rattle.iso_ops.specs.declared.settings.Flags.{Flags}
 use Rattle.iso_model.specs.Terms.Trees.{Tree, Name}
 use Rattle.iso_model.specs.Terms.Types.{is_variable}
 use Rattle.iso_model.specs.Search.Errors.{instantiation_error}
-use Rattle.iso_model.specs.Search.Settings.{Settled, Refuses, op_key, op_settled, op_set, with_priority, with_specifier, with_listed, with_texts, name_list, has_unbound, set_names, setting_settled, set_flag_key, set_flag_settled, named_flag_settled}
+use Rattle.iso_model.specs.Search.Settings.{Settled, Refuses, constant_offer, op_key, op_settled, op_set, with_priority, with_specifier, with_listed, with_texts, name_list, has_unbound, set_names, setting_settled, set_flag_key, set_flag_settled, named_flag_settled}
 use Rattle.iso_model.specs.Search.Worlds.{World}
 use Rattle.iso_model.specs.declared.library.Setting.{Setting}
 use Rattle.iso_lib_core.specs.declared.outcomes.Fault.{Fault}
 use Rattle.iso_lib_core.specs.declared.outcomes.Fault.TheVariants as fault
+use Rattle.iso_lib.specs.declared.settings.Offer.{Offer}
 use Rattle.iso_lib.specs.declared.settings.Settled.{Settled as Came}
 use Rattle.iso_lib_core.specs.Replies.{IsError}
-use Rattle.iso_lib.specs.Settlements.{IsRefused, IsSettled, PassesTo, AreSet, IsSet, with_settings}
+use Rattle.iso_lib.specs.Settlements.{IsRefused, IsSettled, PassesTo, AreSet, IsSet, offer_tree, with_settings}
 
 -- a flag that has a name
 pub flag_named : (f v : Tree) (a : List ℕ) (w : World) → f ≡ Name a → is_variable v ≡ false → set_flag_settled f v w ≡ named_flag_settled a v w
@@ -73,3 +74,12 @@ settled_in w new new' flags flags' setting setting' t v v' r n f s is settled =
 -- a world has its own operators and flags
 pub own_settings : (w : World) (ops : List Operator) (flags : Flags) → w.operators ≡ ops → w.flags ≡ flags → with_settings w ops flags ≡ w
 own_settings w ops flags o f = λ i. with_settings w (sym o i) (sym f i)
+
+-- rows are offered with what is made for each
+rows_made : {X : Type 0} (made : ℕ) (f : X → Tree) (xs : List X) → map (λ x. constant_offer made (f x)) xs ≡ map (constant_offer made) (map f xs)
+rows_made made f [] = refl
+rows_made made f (x ∷ xs) = ap (λ os. constant_offer made (f x) ∷ os) (rows_made made f xs)
+
+pub offered_rows : {X : Type 0} (made : ℕ) (f : X → Tree) (xs : List X) (offers : List Offer) → map offer_tree offers ≡ map f xs
+    → map (λ x. constant_offer made (f x)) xs ≡ map (λ o. constant_offer made (offer_tree o)) offers
+offered_rows made f xs offers rows = rows_made made f xs ∙ ap (map (constant_offer made)) (sym rows) ∙ sym (rows_made made offer_tree offers)

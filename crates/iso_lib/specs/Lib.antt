@@ -1,1 +1,2 @@
 pub mod Settlements
+pub mod Indicators

@@ -7,7 +7,7 @@ use Rattle.iso_ops.specs.Operators.{Operator}
 use Rattle.iso_ops.specs.declared.settings.Flags.{Flags}
 use Rattle.iso_model.specs.Terms.Trees.{Tree, Integer, Name, row}
 use Rattle.iso_model.specs.Terms.Arguments.{argument}
-use Rattle.iso_model.specs.Search.Settings.{Settled, Refuses, Changes, Offers, setting_arity}
+use Rattle.iso_model.specs.Search.Settings.{Settled, Refuses, Changes, Offers, constant_offer, setting_arity}
 use Rattle.iso_model.specs.Search.Worlds.{World}
 use Rattle.iso_model.specs.declared.library.Setting.{Setting}
 use Rattle.iso_model.specs.declared.pauses.Ball.{Ball}
@@ -49,8 +49,8 @@ IsRefused settled ball = ⊥
 
 -- In the world w the goal of this row, the term t, comes to what is settled: these are the operators and flags behind it.
 abbrev pub IsSettled : World → List Operator → Flags → Setting → Tree → Settled → Result Came Fault → Type 0
-IsSettled w ops flags setting t settled (Ok came.Done) = settled ≡ Changes (with_settings w ops flags)
-IsSettled w ops flags setting t settled (Ok (came.Offers offers)) = settled ≡ Offers (2 * setting_arity setting) (goal_row setting t) (map offer_tree offers.items)
+IsSettled w ops flags setting t settled (Ok came.Done) = settled ≡ Changes 0 (with_settings w ops flags)
+IsSettled w ops flags setting t settled (Ok (came.Offers offers)) = settled ≡ Offers (goal_row setting t) (map (λ o. constant_offer (2 * setting_arity setting) (offer_tree o)) offers.items)
 IsSettled w ops flags setting t settled (Err (fault.Raise ball)) = IsRefused settled ball
 IsSettled w ops flags setting t settled (Err fault.Full) = ⊥
 IsSettled w ops flags setting t settled (Err fault.NoMemory) = Unit {0}

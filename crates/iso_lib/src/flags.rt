@@ -1,22 +1,27 @@
 //! Flags (8.17.1 and 8.17.2).
-ghost use Rattle.std.specs.Prelude.{◌≡◌, ◌≤◌, length, map, false, true, IfOk, OnErr, MatchOption};
+ghost use Rattle.std.specs.Prelude.{◌≡◌, ◌≤◌, length, map, false, true, IfOk, OnErr, MatchOption, codes};
 ghost use Rattle.std.specs.List.{All};
 ghost use Rattle.iso_ops.specs.Settings.{flag_entries, entry_of_flag};
+ghost use Rattle.iso_model.specs.Terms.Trees.{Name, arities_fit};
+ghost use Rattle.iso_model.specs.Terms.TermOf.{term_of};
 ghost use Rattle.iso_model.specs.Terms.Arguments.{arity};
-ghost use Rattle.iso_model.specs.Search.Settings.{setting_settled, named_flag_settled, flags_with, is_settable, may_be_flag, flag_row};
+ghost use Rattle.iso_model.specs.Search.Bodies.{two};
+ghost use Rattle.iso_model.specs.Search.Errors.{domain_error, not_permitted};
+ghost use Rattle.iso_model.specs.Search.Settings.{setting_settled, named_flag_settled, flags_with, is_settable, may_be_flag, flag_row, set_flag_key};
 ghost use Rattle.iso_model.specs.Search.Worlds.{World};
 ghost use Rattle.iso_model.specs.declared.library.Setting.TheVariants as row;
 ghost use Rattle.iso_store_core.specs.Presents.{Holds, meaning};
+ghost use Rattle.iso_lib_core.specs.Replies.{IsError};
 ghost use Rattle.iso_lib.specs.Settlements.{IsSettled, OnOffers, OffersEach, offer_tree, with_settings};
 
 use super::operators::may_be_atom;
 use super::settings::{Constant, Offer, Settled};
 use super::types::is_unbound;
 use iso_lib_core::{Fault, errors};
-use iso_model::NoMemory;
+use iso_model::{Ball, NoMemory, Term};
 use iso_ops::{FlagValue, Flags};
 use iso_store_core::{Shape, Store};
-use std::alloc::Global;
+use std::alloc::{AllocError, Global};
 
 /// Whether a flag of this name can be set.
 fn is_settable(name: &str) -> bool
@@ -38,6 +43,32 @@ fn set_value<S: Store>(store: &S, name: &str, value: S::Word, flags: &mut Flags)
     flags.set(name, store.text(text))
 }
 
+/// `domain_error(prolog_flag, Flag)`, raised by `set_prolog_flag/2`.
+fn no_flag(alloc: Global, name: &str) -> Result<Ball, AllocError>
+    ensures { IfOk result (IsError (domain_error (codes "prolog_flag") (Name name.now) set_flag_key)) }
+{
+    let culprit = errors::atom(alloc, name)?;
+    errors::out_of_domain(alloc, "prolog_flag", culprit, "set_prolog_flag", 2)
+}
+
+/// `permission_error(modify, flag, Flag)`, raised by `set_prolog_flag/2`.
+fn not_settable(alloc: Global, name: &str) -> Result<Ball, AllocError>
+    ensures { IfOk result (IsError (not_permitted (codes "modify") (codes "flag") (Name name.now) set_flag_key)) }
+{
+    let culprit = errors::atom(alloc, name)?;
+    errors::not_permitted(alloc, "modify", "flag", culprit, "set_prolog_flag", 2)
+}
+
+/// `domain_error(flag_value, Flag + Value)`, raised by `set_prolog_flag/2`.
+fn no_value(alloc: Global, name: &str, value: Term) -> Result<Ball, AllocError>
+    requires { arities_fit (term_of value) ≡ true }
+    ensures { IfOk result (IsError (domain_error (codes "flag_value") (two (codes "+") (Name name.now) (term_of value)) set_flag_key)) }
+{
+    let flag = errors::atom(alloc, name)?;
+    let culprit = errors::compound2(alloc, "+", flag, value)?;
+    errors::out_of_domain(alloc, "flag_value", culprit, "set_prolog_flag", 2)
+}
+
 /// `set_prolog_flag/2` for a flag of this name. The errors: one is raised, or memory was refused.
 fn set_named<S: Store>(
     alloc: Global,
@@ -55,20 +86,14 @@ fn set_named<S: Store>(
     ensures flags_stay { OnOffers result (flags.new ≡ flags.old) }
 {
     if flags.get(name).is_none() {
-        let culprit = errors::atom(alloc, name)?;
-        let ball = errors::out_of_domain(alloc, "prolog_flag", culprit, "set_prolog_flag", 2)?;
-        return Err(Fault::Raise(ball));
+        return Err(Fault::Raise(no_flag(alloc, name)?));
     }
     if !is_settable(name) {
-        let culprit = errors::atom(alloc, name)?;
-        let ball = errors::not_permitted(alloc, "modify", "flag", culprit, "set_prolog_flag", 2)?;
-        return Err(Fault::Raise(ball));
+        return Err(Fault::Raise(not_settable(alloc, name)?));
     }
     if !set_value(store, name, value, flags) {
-        let (flag, value) = (errors::atom(alloc, name)?, store.copy_out(value)?);
-        let culprit = errors::compound2(alloc, "+", flag, value)?;
-        let ball = errors::out_of_domain(alloc, "flag_value", culprit, "set_prolog_flag", 2)?;
-        return Err(Fault::Raise(ball));
+        let value = store.copy_out(value)?;
+        return Err(Fault::Raise(no_value(alloc, name, value)?));
     }
     Ok(Settled::Done)
 }

@@ -5,6 +5,7 @@
 mod arithmetic;
 mod equations;
 mod flags;
+pub mod indicators;
 mod library;
 mod operators;
 mod order;

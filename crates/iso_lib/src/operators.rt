@@ -6,7 +6,7 @@ ghost use Rattle.iso_ops.specs.Operators.{asked_op};
 ghost use Rattle.iso_ops.specs.Entries.{operator_of};
 ghost use Rattle.iso_model.specs.Terms.Trees.{Tree};
 ghost use Rattle.iso_model.specs.Terms.Types.{is_variable};
-ghost use Rattle.iso_model.specs.Terms.Lists.{is_nil, elements, tail};
+ghost use Rattle.iso_model.specs.Terms.Lists.{elements, tail};
 ghost use Rattle.iso_model.specs.Terms.Arguments.{arity};
 ghost use Rattle.iso_model.specs.Search.Settings as table;
 ghost use Rattle.iso_model.specs.Search.Settings.{setting_settled};
@@ -18,7 +18,7 @@ ghost use Rattle.iso_lib.specs.Settlements.{IsSettled, OnOffers, OffersEach, Pas
 use super::settings::{Constant, Offer, Settled};
 use super::types::is_unbound;
 use iso_atoms::Atom;
-use iso_lib_core::lists::{ListParts, elements};
+use iso_lib_core::lists::{ListParts, elements, is_nil};
 use iso_lib_core::{Fault, errors};
 use iso_model::{NoMemory, Term};
 use iso_ops::{Entry, OpFault, OpTable, Spec};
@@ -96,17 +96,6 @@ fn asked_specifier<S: Store>(alloc: Global, store: &S, word: S::Word) -> Result<
         return Err(Fault::Raise(ball));
     }
     Ok(name)
-}
-
-/// Whether the term that the word stands for is the empty list.
-fn is_nil<S: Store>(store: &S, word: S::Word) -> bool
-    requires { Holds (S.present store.now) word }
-    ensures { result ≡ is_nil (meaning (S.present store.now) word) }
-{
-    match store.shape(word) {
-        Shape::Atom(name) => store.text(name) == "[]",
-        _ => false,
-    }
 }
 
 /// Words for the names: an atom alone is one, and a list has some, whose parts these are. The errors: one is raised, or memory was

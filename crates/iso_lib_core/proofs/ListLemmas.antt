@@ -30,15 +30,15 @@ rows_of : (f : List ℕ) (ts : Tree) → is_term (Apply f ts) ≡ true → is_ro
 rows_of f ts h = (and_parts (nat_le (count ts) 255) (is_row ts) ((and_parts (nat_le 1 (count ts)) (nat_le (count ts) 255 && is_row ts) h).1)).1
 
 -- a term of the name `.` and two arguments is an element before another term
-pub pair_of : (t : Tree) (f : List ℕ) (ts : Tree) → is_term t ≡ true → t ≡ Apply f ts → count ts ≡ 2 → f ≡ dot → t ≡ Apply dot (More (argument 0 t) (More (argument 1 t) End))
-pair_of t f ts fits is many named =
+pub pair_of : (t : Tree) (f name : List ℕ) (ts : Tree) → is_term t ≡ true → t ≡ Apply f ts → count ts ≡ 2 → f ≡ name → t ≡ Apply name (More (argument 0 t) (More (argument 1 t) End))
+pair_of t f name ts fits is many named =
     let own : is_term (Apply f ts) ≡ true = sym (ap is_term is) ∙ fits in
     let parts = two_parts f ts (rows_of f ts own) many in
-    subst (λ (u : Tree). u ≡ Apply dot (More (argument 0 u) (More (argument 1 u) End))) (sym is)
+    subst (λ (u : Tree). u ≡ Apply name (More (argument 0 u) (More (argument 1 u) End))) (sym is)
     (parts ∙ ap (λ g. Apply g (More (argument 0 (Apply f ts)) (More (argument 1 (Apply f ts)) End))) named)
 
-pub named_dot : (text : List ℕ) → false ≡ not (bytes_eq text dot) → text ≡ dot
-named_dot text same = (bytes_eq-Decides text dot).0 (not_false (bytes_eq text dot) same) where
+pub named_as : (text name : List ℕ) → false ≡ not (bytes_eq text name) → text ≡ name
+named_as text name same = (bytes_eq-Decides text name).0 (not_false (bytes_eq text name) same) where
   not_false : (b : Bool) → false ≡ not b → b ≡ true
   not_false true h = refl
   not_false false h = absurd (true≢false (sym h))

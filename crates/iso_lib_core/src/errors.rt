@@ -5,7 +5,6 @@ ghost use Rattle.iso_model.specs.Terms.TermOf.{term_of};
 ghost use Rattle.iso_model.specs.Search.Bodies.{one, two};
 ghost use Rattle.iso_model.specs.Search.Errors.{key};
 ghost use Rattle.iso_model.specs.Search.Errors as errors;
-ghost use Rattle.iso_model.specs.Search.Additions.{consult_key};
 ghost use Rattle.iso_model.specs.Search.Arithmetic.{not_evaluable};
 
 use iso_model::{Ball, Term};
@@ -151,13 +150,18 @@ pub fn not_permitted(
     error(alloc, what, place)
 }
 
-/// `permission_error(modify, static_procedure, PI)`, raised by `consult/1` (7.12.2 e).
-pub fn static_procedure(alloc: Global, name: &str, arity: usize) -> Result<Ball, AllocError>
+/// `permission_error(modify, static_procedure, PI)`, raised by this procedure of one argument (7.12.2 e).
+pub fn static_procedure(
+    alloc: Global,
+    name: &str,
+    arity: usize,
+    by: &str,
+) -> Result<Ball, AllocError>
     requires { arity < 256 }
-    ensures { IfOk result (λ b. term_of b.term ≡ errors.permission_error (key name.now arity) consult_key) }
+    ensures { IfOk result (λ b. term_of b.term ≡ errors.permission_error (key name.now arity) (key by.now 1)) }
 {
     let culprit = indicator(alloc, name, arity)?;
-    not_permitted(alloc, "modify", "static_procedure", culprit, "consult", 1)
+    not_permitted(alloc, "modify", "static_procedure", culprit, by, 1)
 }
 
 /// `kind(what)`, raised by this procedure.
@@ -187,11 +191,11 @@ pub fn evaluation(alloc: Global, what: &str, name: &str, arity: usize) -> Result
     named(alloc, "evaluation_error", what, name, arity)
 }
 
-/// `representation_error(max_variables)`, raised by `consult/1` (own limit).
-pub fn too_many_variables(alloc: Global) -> Result<Ball, AllocError>
-    ensures { IfOk result (λ b. term_of b.term ≡ errors.max_variables_error consult_key) }
+/// `representation_error(max_variables)`, raised by this procedure of one argument (own limit).
+pub fn too_many_variables(alloc: Global, by: &str) -> Result<Ball, AllocError>
+    ensures { IfOk result (λ b. term_of b.term ≡ errors.max_variables_error (key by.now 1)) }
 {
-    named(alloc, "representation_error", "max_variables", "consult", 1)
+    named(alloc, "representation_error", "max_variables", by, 1)
 }
 
 /// `representation_error(max_arity)`, raised by this procedure (own limit).

@@ -3,7 +3,7 @@ ghost use Rattle.std.specs.Prelude.{◌≡◌, ◌∷◌, [], slice_get, IfOk, O
 ghost use Rattle.std.specs.List.{All};
 ghost use Rattle.iso_atoms.specs.Texts.{KeepsTexts};
 ghost use Rattle.iso_model.specs.Terms.Trees.{Name, Apply, row};
-ghost use Rattle.iso_model.specs.Terms.Lists.{nil, dot, elements, tail, is_partial_list};
+ghost use Rattle.iso_model.specs.Terms.Lists.{nil, dot, is_nil, elements, tail, is_partial_list};
 ghost use Rattle.iso_store_core.specs.Presents.{Holds, meaning, KeepsMarks, KeepsNumbers};
 ghost use Rattle.iso_lib_core.specs.Lists.{IsPairOf, Comes, MakesList};
 
@@ -44,6 +44,17 @@ pub fn tail<S: Store>(store: &S, word: S::Word) -> S::Word
         rest = next;
     }
     rest
+}
+
+/// Whether the term that the word stands for is the empty list.
+pub fn is_nil<S: Store>(store: &S, word: S::Word) -> bool
+    requires { Holds (S.present store.now) word }
+    ensures { result ≡ is_nil (meaning (S.present store.now) word) }
+{
+    match store.shape(word) {
+        Shape::Atom(name) => store.text(name) == "[]",
+        _ => false,
+    }
 }
 
 /// Whether the term is a list, or ends in a variable as a list.

@@ -4,7 +4,7 @@ ghost use Rattle.iso_model.specs.Search.Keys.{key};
 ghost use Rattle.iso_model.specs.Search.BuiltIns as table;
 ghost use Rattle.iso_model.specs.Search.Rows.{entries_of};
 
-use super::library::{Comparison, Library, OrderTest, Setting, TypeTest};
+use super::library::{Comparison, Library, OrderTest, Setting, Storage, TypeTest};
 
 /// A procedure of the language itself (7.8, 8).
 #[derive(Clone, Copy, Debug, PartialEq, Eq)]
@@ -35,13 +35,15 @@ pub enum BuiltIn {
     Library(Library),
     /// One that reads or changes the operators or the flags (8.14.3, 8.14.4, 8.17.1, 8.17.2).
     Setting(Setting),
+    /// One that reads or changes the database (8.8, 8.9).
+    Storage(Storage),
 }
 
 /// The name and the arity of a built-in.
 #[derive(Clone, Copy)]
 pub struct Row(pub &'static str, pub usize, pub BuiltIn);
 
-const ROWS: [Row; 57] = [
+const ROWS: [Row; 66] = [
     Row("true", 0, BuiltIn::True),
     Row("fail", 0, BuiltIn::Fail),
     Row("false", 0, BuiltIn::Fail),
@@ -175,6 +177,19 @@ const ROWS: [Row; 57] = [
         2,
         BuiltIn::Setting(Setting::CurrentFlag),
     ),
+    Row("asserta", 1, BuiltIn::Storage(Storage::Asserta)),
+    Row("assertz", 1, BuiltIn::Storage(Storage::Assertz)),
+    Row("clause", 2, BuiltIn::Storage(Storage::Clause)),
+    Row("retract", 1, BuiltIn::Storage(Storage::Retract)),
+    Row("retractall", 1, BuiltIn::Storage(Storage::Retractall)),
+    Row("abolish", 1, BuiltIn::Storage(Storage::Abolish)),
+    Row("dynamic", 1, BuiltIn::Storage(Storage::Dynamic)),
+    Row("multifile", 1, BuiltIn::Storage(Storage::Multifile)),
+    Row(
+        "discontiguous",
+        1,
+        BuiltIn::Storage(Storage::Discontiguous),
+    ),
 ];
 
 /// The built-ins, each with its name and arity.
@@ -207,7 +222,7 @@ pub fn built_in(name: &str, arity: usize) -> Option<BuiltIn>
 }
 
 /// Whether this is the name and the arity of a control construct, which bodies are converted through (7.6.2).
-fn is_control(name: &str, arity: usize) -> bool
+pub fn is_control(name: &str, arity: usize) -> bool
     ensures { result ≡ table.is_control (key name.now arity) }
 {
     matches!((name, arity), ("," | ";" | "->", 2) | ("!", 0))

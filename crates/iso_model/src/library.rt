@@ -49,6 +49,29 @@ pub enum Setting {
     CurrentFlag,
 }
 
+/// A built-in that reads or changes the database of clauses.
+#[derive(Clone, Copy, Debug, PartialEq, Eq)]
+pub enum Storage {
+    /// `asserta/1`: a clause is added before those of its procedure (8.9.1).
+    Asserta,
+    /// `assertz/1`: a clause is added behind those of its procedure (8.9.2).
+    Assertz,
+    /// `clause/2`: each clause of a procedure, its head and its body (8.8.1).
+    Clause,
+    /// `retract/1`: each clause that unifies is removed when it comes (8.9.3).
+    Retract,
+    /// `retractall/1`: all clauses are removed whose heads unify (8.9.5 of the second corrigendum).
+    Retractall,
+    /// `abolish/1`: a procedure goes with all its clauses (8.9.4).
+    Abolish,
+    /// `dynamic/1`: procedures are declared as dynamic (7.4.2.1; that it is a goal is own).
+    Dynamic,
+    /// `multifile/1`, which changes nothing (7.4.2.2; that it is a goal is own).
+    Multifile,
+    /// `discontiguous/1`, which changes nothing (7.4.2.3; that it is a goal is own).
+    Discontiguous,
+}
+
 /// How two integers are compared (8.7).
 #[derive(Clone, Copy, Debug, PartialEq, Eq)]
 pub enum Comparison {

@@ -12,6 +12,9 @@ pub mod CutMoves
 pub mod CatchMoves
 pub mod GatherMoves
 pub mod OfferMoves
+pub mod ShowMoves
+pub mod ShowEnds
+pub mod StoreMoves
 pub mod LocalMoves
 pub mod SameBodies
 pub mod ResumeLemmas

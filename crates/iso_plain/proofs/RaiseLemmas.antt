@@ -73,6 +73,7 @@ module _ {S W M : Type 0} (names : S → List (List ℕ)) (present : S → Prese
       by_left (left.Again place) has = absurd (let other = sym has.is ∙ catches in cc)
       by_left (left.Gathering result place gathered) has = absurd (let other = sym has.is ∙ catches in cc)
       by_left (left.Offered goal place offers) has = absurd (let other = sym has.is ∙ catches in cc)
+      by_left (left.Shown shown) has = absurd (let other = sym has.is ∙ catches in cc)
       by_left (left.Clauses attempt) has = absurd (let other = sym has.left ∙ catches in cc)
 
     -- the choice is gone, and its catcher is to meet the ball

@@ -13,7 +13,9 @@ use Rattle.iso_model.specs.Search.BuiltIns.{Reply, Fails, Succeeds, Equates, Equ
 use Rattle.iso_model.specs.declared.built_ins.BuiltIn.{BuiltIn}
 use Rattle.iso_model.specs.declared.built_ins.BuiltIn.TheVariants as built_in
 use Rattle.iso_model.specs.declared.library.Setting.{Setting}
+use Rattle.iso_model.specs.declared.library.Storage.{Storage}
 use Rattle.iso_model.specs.Search.Settings.{setting_settled}
+use Rattle.iso_model.specs.Search.Storages.{storage_settled}
 use Rattle.iso_model.specs.declared.pauses.Pause.{Pause}
 use Rattle.iso_model.specs.declared.limit.Limit.TheVariants as limit
 use Rattle.iso_model.specs.Search.Walker.{State, World, Goal, CutTo, Fail, Leave, Raise, Goes, AsIs, Again, Gather, Catching, Gathering, Halted, idle, fails, with_goal, pushed, settled, step}
@@ -42,6 +44,7 @@ use Rattle.iso_plain_core.specs.Entering.{Adds}
 use Rattle.iso_plain.specs.Catches.{EntersCatch, throwing, catching, calling_inside, catcher_of, recovery_of}
 use Rattle.iso_plain.specs.Gathers.{EntersFindall, FindsAll, finding, template_of, result_of}
 use Rattle.iso_plain.specs.Settles.{AsksAt, WasStopped}
+use Rattle.iso_plain.specs.Shows.{StoresAt}
 use Rattle.iso_plain.specs.Worlds.{IsWorld}
 use Rattle.iso_lib_core.specs.Replies.{IsUnbound, UnifiesCopy}
 use Rattle.iso_plain_core.specs.Replies.{IsReply, IsInside, Places}
@@ -55,7 +58,7 @@ use Rattle.iso_plain.proofs.RunLemmas.{AtRun, ahead_step, ahead_more, one_less}
 use Rattle.iso_plain.proofs.OfferMoves.{settled_steps}
 use Rattle.iso_plain.proofs.RunMoves.{failed_engine, at, runs_to, throws, ends_by}
 use Rattle.iso_plain_core.proofs.ArityLemmas.{HasArity, built_in_arguments}
-use Rattle.iso_plain_core.proofs.ReplyLemmas.{catch_parts, gather_parts, setting_parts}
+use Rattle.iso_plain_core.proofs.ReplyLemmas.{catch_parts, gather_parts}
 use Rattle.iso_plain.proofs.SameBodies.{around_own, around_steps, around_pushed, same_first, same_inside, same_finding}
 use Rattle.iso_plain.proofs.SearchMoves.{goes, goes_as, stops, stops_here, comes_over}
 use Rattle.iso_plain.proofs.SearchSteps.{own_goal}
@@ -82,7 +85,7 @@ went_on p q old new (Gathers template b result) h = absurd h
 went_on p q old new Repeats h = absurd h
 went_on p q old new (Catches inside catcher recovery) h = absurd h
 went_on p q old new (Halts n) h = absurd h
-went_on p q old new (AsksWorld row t) h = absurd h
+went_on p q old new (AsksWorld settles) h = absurd h
 
 -- The goal failed.
 pub data Failed {W : Type 0} (p : Present W) : Reply → Type 0 where
@@ -103,7 +106,7 @@ failed_on p q old new (Gathers template b result) h = absurd h
 failed_on p q old new Repeats h = absurd h
 failed_on p q old new (Catches inside catcher recovery) h = absurd h
 failed_on p q old new (Halts n) h = absurd h
-failed_on p q old new (AsksWorld row t) h = absurd h
+failed_on p q old new (AsksWorld settles) h = absurd h
 
 pub raised_by : {W : Type 0} (p q : Present W) (old new : List (Node W)) (x : Reply) (ball : Ball) → IsReply p q old new x (replied.Raises ball) → (x ≡ Raises (term_of ball.term)) × (arities_fit (term_of ball.term) ≡ true) × IsUnbound p q
 raised_by p q old new (Raises error) ball h = (ap Raises (sym h.is), h.fits, h.unbound)
@@ -118,7 +121,7 @@ raised_by p q old new (Gathers template b result) ball h = absurd h
 raised_by p q old new Repeats ball h = absurd h
 raised_by p q old new (Catches inside catcher recovery) ball h = absurd h
 raised_by p q old new (Halts n) ball h = absurd h
-raised_by p q old new (AsksWorld row t) ball h = absurd h
+raised_by p q old new (AsksWorld settles) ball h = absurd h
 
 pub calls_by : {W : Type 0} (p q : Present W) (old new : List (Node W)) (x : Reply) (place : ℕ) → IsReply p q old new x (replied.Calls place) → (b : Body) × (x ≡ Calls b) × Places p q old new b place
 calls_by p q old new (Calls b) place h = (b, refl, h)
@@ -133,7 +136,7 @@ calls_by p q old new (Gathers template b result) place h = absurd h
 calls_by p q old new Repeats place h = absurd h
 calls_by p q old new (Catches inside catcher recovery) place h = absurd h
 calls_by p q old new (Halts n) place h = absurd h
-calls_by p q old new (AsksWorld row t) place h = absurd h
+calls_by p q old new (AsksWorld settles) place h = absurd h
 
 pub once_by : {W : Type 0} (p q : Present W) (old new : List (Node W)) (x : Reply) (place : ℕ) → IsReply p q old new x (replied.CallsOnce place) → (b : Body) × (x ≡ CallsOnce b) × Places p q old new b place
 once_by p q old new (CallsOnce b) place h = (b, refl, h)
@@ -148,7 +151,7 @@ once_by p q old new (Gathers template b result) place h = absurd h
 once_by p q old new Repeats place h = absurd h
 once_by p q old new (Catches inside catcher recovery) place h = absurd h
 once_by p q old new (Halts n) place h = absurd h
-once_by p q old new (AsksWorld row t) place h = absurd h
+once_by p q old new (AsksWorld settles) place h = absurd h
 
 pub refutes_by : {W : Type 0} (p q : Present W) (old new : List (Node W)) (x : Reply) (place : ℕ) → IsReply p q old new x (replied.Refutes place) → (b : Body) × (x ≡ Refutes b) × Places p q old new b place
 refutes_by p q old new (Refutes b) place h = (b, refl, h)
@@ -163,7 +166,7 @@ refutes_by p q old new (CallsOnce b) place h = absurd h
 refutes_by p q old new Repeats place h = absurd h
 refutes_by p q old new (Catches inside catcher recovery) place h = absurd h
 refutes_by p q old new (Halts n) place h = absurd h
-refutes_by p q old new (AsksWorld row t) place h = absurd h
+refutes_by p q old new (AsksWorld settles) place h = absurd h
 
 pub repeats_by : {W : Type 0} (p q : Present W) (old new : List (Node W)) (x : Reply) → IsReply p q old new x replied.Repeats → (x ≡ Repeats) × (q ≡ p)
 repeats_by p q old new Repeats h = (refl, h.0)
@@ -178,7 +181,7 @@ repeats_by p q old new (Refutes b) h = absurd h
 repeats_by p q old new (Gathers template b result) h = absurd h
 repeats_by p q old new (Catches inside catcher recovery) h = absurd h
 repeats_by p q old new (Halts n) h = absurd h
-repeats_by p q old new (AsksWorld row t) h = absurd h
+repeats_by p q old new (AsksWorld settles) h = absurd h
 
 pub catches_by : {W : Type 0} (p q : Present W) (old new : List (Node W)) (x : Reply) (placed : Placed) → IsReply p q old new x (replied.Catches placed)
     → (inside : Reply) × (catcher : Tree) × (recovery : Tree) × (x ≡ Catches inside catcher recovery) × IsInside p q old new inside placed
@@ -194,7 +197,7 @@ catches_by p q old new (Refutes b) placed h = absurd h
 catches_by p q old new (Gathers template b result) placed h = absurd h
 catches_by p q old new Repeats placed h = absurd h
 catches_by p q old new (Halts n) placed h = absurd h
-catches_by p q old new (AsksWorld row t) placed h = absurd h
+catches_by p q old new (AsksWorld settles) placed h = absurd h
 
 pub halts_by : {W : Type 0} (p q : Present W) (old new : List (Node W)) (x : Reply) (status : ℕ) → IsReply p q old new x (replied.Halts status) → x ≡ Halts status
 halts_by p q old new (Halts n) status h = ap Halts (sym h)
@@ -207,7 +210,7 @@ halts_by p q old new (Calls b) status h = absurd h
 halts_by p q old new (CallsOnce b) status h = absurd h
 halts_by p q old new (Refutes b) status h = absurd h
 halts_by p q old new (Gathers template b result) status h = absurd h
-halts_by p q old new (AsksWorld row t) status h = absurd h
+halts_by p q old new (AsksWorld settles) status h = absurd h
 halts_by p q old new Repeats status h = absurd h
 halts_by p q old new (Catches inside catcher recovery) status h = absurd h
 
@@ -225,10 +228,10 @@ gathers_by p q old new (Refutes b) place h = absurd h
 gathers_by p q old new Repeats place h = absurd h
 gathers_by p q old new (Catches inside catcher recovery) place h = absurd h
 gathers_by p q old new (Halts n) place h = absurd h
-gathers_by p q old new (AsksWorld row t) place h = absurd h
+gathers_by p q old new (AsksWorld settles) place h = absurd h
 
-pub asks_by : {W : Type 0} (p q : Present W) (old new : List (Node W)) (x : Reply) (row : Setting) → IsReply p q old new x (replied.AsksWorld row) → (t : Tree) × (x ≡ AsksWorld row t) × (q ≡ p)
-asks_by p q old new (AsksWorld r t) row h = (t, ap (λ (y : Setting). AsksWorld y t) (sym h.0), h.1)
+pub asks_by : {W : Type 0} (p q : Present W) (old new : List (Node W)) (x : Reply) (row : Setting) → IsReply p q old new x (replied.AsksSettings row) → q ≡ p
+asks_by p q old new (AsksWorld settles) row h = h.0
 asks_by p q old new Fails row h = absurd h
 asks_by p q old new Succeeds row h = absurd h
 asks_by p q old new (Equates made a b) row h = absurd h
@@ -241,6 +244,21 @@ asks_by p q old new (Gathers template b result) row h = absurd h
 asks_by p q old new Repeats row h = absurd h
 asks_by p q old new (Catches inside catcher recovery) row h = absurd h
 asks_by p q old new (Halts n) row h = absurd h
+
+pub stores_by : {W : Type 0} (p q : Present W) (old new : List (Node W)) (x : Reply) (row : Storage) → IsReply p q old new x (replied.AsksDatabase row) → q ≡ p
+stores_by p q old new (AsksWorld settles) row h = h.0
+stores_by p q old new Fails row h = absurd h
+stores_by p q old new Succeeds row h = absurd h
+stores_by p q old new (Equates made a b) row h = absurd h
+stores_by p q old new (EquatesCopy a b) row h = absurd h
+stores_by p q old new (Raises error) row h = absurd h
+stores_by p q old new (Calls b) row h = absurd h
+stores_by p q old new (CallsOnce b) row h = absurd h
+stores_by p q old new (Refutes b) row h = absurd h
+stores_by p q old new (Gathers template b result) row h = absurd h
+stores_by p q old new Repeats row h = absurd h
+stores_by p q old new (Catches inside catcher recovery) row h = absurd h
+stores_by p q old new (Halts n) row h = absurd h
 
 -- what is inside a catch
 pub inside_calls : {W : Type 0} (p q : Present W) (old new : List (Node W)) (x : Reply) (place : ℕ) → IsInside p q old new x (placed.Body place) → (b : Body) × (x ≡ Calls b) × Places p q old new b place
@@ -256,7 +274,7 @@ inside_calls p q old new (Gathers template b result) place h = absurd h
 inside_calls p q old new Repeats place h = absurd h
 inside_calls p q old new (Catches inside catcher recovery) place h = absurd h
 inside_calls p q old new (Halts n) place h = absurd h
-inside_calls p q old new (AsksWorld row t) place h = absurd h
+inside_calls p q old new (AsksWorld settles) place h = absurd h
 
 pub inside_raises : {W : Type 0} (p q : Present W) (old new : List (Node W)) (x : Reply) (ball : Ball) → IsInside p q old new x (placed.Raises ball)
     → (x ≡ Raises (term_of ball.term)) × (arities_fit (term_of ball.term) ≡ true) × IsUnbound p q
@@ -272,7 +290,7 @@ inside_raises p q old new (Gathers template b result) ball h = absurd h
 inside_raises p q old new Repeats ball h = absurd h
 inside_raises p q old new (Catches inside catcher recovery) ball h = absurd h
 inside_raises p q old new (Halts n) ball h = absurd h
-inside_raises p q old new (AsksWorld row t) ball h = absurd h
+inside_raises p q old new (AsksWorld settles) ball h = absurd h
 
 -- a body came, and nothing was bound
 pub places_unbound : {W : Type 0} (p q : Present W) (old new : List (Node W)) (b : Body) (place : ℕ) → Places p q old new b place → IsUnbound p q
@@ -349,7 +367,7 @@ module _ {S W M : Type 0} (names : S → List (List ℕ)) (present : S → Prese
     goes_on (Catches inside catcher recovery) is x9 = elim x9 [ ]
     goes_on (Halts status) is x10 = elim x10 [ ]
     goes_on (Gathers template goal result) is x11 = elim x11 [ ]
-    goes_on (AsksWorld row u) is x12 = elim x12 [ ]
+    goes_on (AsksWorld settles) is x12 = elim x12 [ ]
 
     -- ---- it failed
 
@@ -378,7 +396,7 @@ module _ {S W M : Type 0} (names : S → List (List ℕ)) (present : S → Prese
     fails_now (Catches inside catcher recovery) is x9 = elim x9 [ ]
     fails_now (Halts status) is x10 = elim x10 [ ]
     fails_now (Gathers template goal result) is x11 = elim x11 [ ]
-    fails_now (AsksWorld row u) is x12 = elim x12 [ ]
+    fails_now (AsksWorld settles) is x12 = elim x12 [ ]
 
     -- ---- a ball is thrown
 
@@ -669,7 +687,7 @@ module _ {S W M : Type 0} (names : S → List (List ℕ)) (present : S → Prese
 
     -- ---- what it comes to rests on the operators and the flags
 
-    module _ (row : Setting) (u : Tree) (is : reply b t ≡ AsksWorld row u) (same : present store ≡ present e.store) where
+    module _ (row : Setting) (of_row : b ≡ built_in.Setting row) (same : present store ≡ present e.store) where
       abbrev pub asking : State
       asking = behind o.built
 
@@ -677,16 +695,17 @@ module _ {S W M : Type 0} (names : S → List (List ℕ)) (present : S → Prese
       asked_goal : meaning (present store) w ≡ t
       asked_goal = ap (λ (q : Present W). meaning q w) same
 
-      asked_parts : (b ≡ built_in.Setting row) × (u ≡ t)
-      asked_parts = setting_parts b t u row is
+      asks_is : reply b t ≡ AsksWorld (λ k v. setting_settled row t v)
+      asks_is = ap (λ (x : BuiltIn). reply x t) of_row
 
       pub asks_at : AsksAt names present stands older mid row w asking f.next
       asks_at = record {
         meets = record {
           ahead = behind_ahead o.built (subst (λ (q : Present W). KeepsWords (present e.store) q) (sym same) (words_same (present e.store))) (ap (λ (q : Present W). q.substitution) same) (ap (λ (q : Present W). q.next) same);
+          space = (let room = a.ahead.goes.room in let all = a.ahead.steps in let one = one_less e.steps more in omega (arith, room, all, one));
           holds = subst (λ (q : Present W). q.holds w ≡ true) (sym same) a.holds;
         };
-        arity_is = ap arity asked_goal ∙ subst (λ (x : BuiltIn). HasArity x (arity t)) asked_parts.0 (built_in_arguments t b is_own);
+        arity_is = ap arity asked_goal ∙ subst (λ (x : BuiltIn). HasArity x (arity t)) of_row (built_in_arguments t b is_own);
       }
 
       -- the state that the walker comes to
@@ -695,9 +714,8 @@ module _ {S W M : Type 0} (names : S → List (List ℕ)) (present : S → Prese
 
       settles_to : step o ≡ Goes walker_settles
       settles_to =
-          let goal : u ≡ meaning (present store) w = asked_parts.1 ∙ sym asked_goal in
-          runs_to names present stands older e s f k w doing there r (settled (setting_settled row u o.world) a.behind o) more (own_goal t a.behind o b (AsksWorld row u) is_own is)
-          ∙ (ap Goes (settled_steps (setting_settled row u o.world) a.behind n o) ∙ ap (λ (x : Tree). Goes (settled (setting_settled row x o.world) a.behind asking)) goal)
+          runs_to names present stands older e s f k w doing there r (settled (setting_settled row t o.world) a.behind o) more (own_goal t a.behind o b (AsksWorld (λ k v. setting_settled row t v)) is_own asks_is)
+          ∙ (ap Goes (settled_steps (setting_settled row t o.world) a.behind n o) ∙ ap (λ (x : Tree). Goes (settled (setting_settled row x o.world) a.behind asking)) (sym asked_goal))
 
       pub settles_now : (new : Plain S W M) (m : Move) → WasCalled names present stands older m new asking walker_settles → Moves names present stands older m s new
       settles_now new move.Goes was = goes names present stands older e new s r walker_settles settles_to was.0 was.1
@@ -713,3 +731,48 @@ module _ {S W M : Type 0} (names : S → List (List ℕ)) (present : S → Prese
           let many = choices_length r.engine.choices in
           let within = full.0 in
           comes_over names present stands older e s r walker_settles e.limit settles_to full.1 (omega (arith, many, within))
+
+    -- ---- what it comes to rests on the database
+
+    module _ (row : Storage) (of_row : b ≡ built_in.Storage row) (same : present store ≡ present e.store) where
+      abbrev pub storing : State
+      storing = behind o.built
+
+      -- the goal's word stands for what it did
+      stored_goal : meaning (present store) w ≡ t
+      stored_goal = ap (λ (q : Present W). meaning q w) same
+
+      stores_is : reply b t ≡ AsksWorld (λ k v. storage_settled row t k v)
+      stores_is = ap (λ (x : BuiltIn). reply x t) of_row
+
+      pub stores_at : StoresAt names present stands older mid row w storing f.next
+      stores_at = record {
+        ahead = behind_ahead o.built (subst (λ (q : Present W). KeepsWords (present e.store) q) (sym same) (words_same (present e.store))) (ap (λ (q : Present W). q.substitution) same) (ap (λ (q : Present W). q.next) same);
+        space = (let room = a.ahead.goes.room in let all = a.ahead.steps in let one = one_less e.steps more in omega (arith, room, all, one));
+        holds = subst (λ (q : Present W). q.holds w ≡ true) (sym same) a.holds;
+        arity_is = ap arity stored_goal ∙ subst (λ (x : BuiltIn). HasArity x (arity t)) of_row (built_in_arguments t b is_own);
+      }
+
+      -- the state that the walker comes to
+      abbrev pub walker_stores : State
+      walker_stores = settled (storage_settled row (meaning (present store) w) storing.next storing.world) storing.list storing
+
+      stores_to : step o ≡ Goes walker_stores
+      stores_to =
+          runs_to names present stands older e s f k w doing there r (settled (storage_settled row t o.next o.world) a.behind o) more (own_goal t a.behind o b (AsksWorld (λ k v. storage_settled row t k v)) is_own stores_is)
+          ∙ (ap Goes (settled_steps (storage_settled row t o.next o.world) a.behind n o) ∙ ap (λ (x : Tree). Goes (settled (storage_settled row x o.next o.world) a.behind storing)) (sym stored_goal))
+
+      pub stores_now : (new : Plain S W M) (m : Move) → WasCalled names present stands older m new storing walker_stores → Moves names present stands older m s new
+      stores_now new move.Goes was = goes names present stands older e new s r walker_stores stores_to was.0 was.1
+      stores_now new (move.Pauses p) was =
+          rw was.0 (spent_stands names present stands older limit.Frames new.now new s (ap phase_of was.1) (stops_here names present stands older new o s r.same was.2), ap phase_of was.1)
+
+      pub store_stops : (new : Plain S W M) → WasStopped names present stands older new storing walker_stores → Stopped names present stands older new s
+      store_stops new (inl kept) = stops_here names present stands older new o s r.same kept
+      store_stops new (inr kept) = stops names present stands older new o walker_stores s walker_stores.stack r.same stores_to refl kept.0 kept.1
+
+      pub store_over : (e.limit ≤ length e.choices.items) × (length walker_stores.stack ≡ suc (length storing.stack)) → ComesOver e.limit s
+      store_over full =
+          let many = choices_length r.engine.choices in
+          let within = full.0 in
+          comes_over names present stands older e s r walker_stores e.limit stores_to full.1 (omega (arith, many, within))

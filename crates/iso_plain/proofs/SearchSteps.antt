@@ -8,6 +8,7 @@ use Rattle.iso_model.specs.Terms.Copies.{renamed}
 use Rattle.iso_model.specs.Search.Bodies.{Body, Cut, Run, And, Or, If, Choose}
 use Rattle.iso_model.specs.Search.Databases.{Clause, Key, clauses_at}
 use Rattle.iso_model.specs.Search.BuiltIns.{Reply, reply}
+use Rattle.iso_model.specs.Search.Settlements.{Offer}
 use Rattle.iso_model.specs.declared.built_ins.BuiltIn.{BuiltIn}
 use Rattle.iso_model.specs.Search.Walker.{State, World, Ending, Member, Goal, CutTo, Fail, Leave, Raise, Meet, Alternative, Left, AsIs, Again, Clauses, Catching, Gather, Gathering, Offered, offered, gathered_at, pushed, cut_back, Outcome, Goes, Gives, Ends, Answered, NoMore, Budget, charged, paid, fails, values, under, entered, with_others, tried, retried, backtracked, unknown_called, called, replied, selected, run_goal, run_value, thrown, meets, clause_size, step_list, step}
 use Rattle.iso_plain_core.specs.GoalKinds.{IsBuiltIn, IsUser}
@@ -44,9 +45,9 @@ pub found_step : (s : State) (rest : List Member) (a : Alternative) (below : Lis
 found_step s rest a below result copies count list stack left = back_step s rest a below (Gathering result copies count) list stack left
 
 -- the goal's arguments are unified with the rows that are left
-pub offer_step : (s : State) (rest : List Member) (a : Alternative) (below : List Alternative) (made : ℕ) (left : Tree) (rights : List Tree) → s.list ≡ Fail ∷ rest → s.stack ≡ a ∷ below → a.left ≡ Offered made left rights
-    → step s ≡ Goes (offered made left rights a.list (went_back a below s))
-offer_step s rest a below made left rights list stack is = back_step s rest a below (Offered made left rights) list stack is
+pub offer_step : (s : State) (rest : List Member) (a : Alternative) (below : List Alternative) (left : Tree) (rights : List Offer) → s.list ≡ Fail ∷ rest → s.stack ≡ a ∷ below → a.left ≡ Offered left rights
+    → step s ≡ Goes (offered left rights a.list (went_back a below s))
+offer_step s rest a below left rights list stack is = back_step s rest a below (Offered left rights) list stack is
 
 -- and again, for which a step is needed
 pub again_step : (s : State) (rest : List Member) (a : Alternative) (below : List Alternative) (n : ℕ) → s.list ≡ Fail ∷ rest → s.stack ≡ a ∷ below → a.left ≡ Again → s.steps ≡ suc n

@@ -13,7 +13,7 @@ use Rattle.iso_model.specs.declared.terms.Term.{Term}
 use Rattle.iso_model.specs.Search.Bodies.{Body, Cut, Run, And, Or, If, Choose, converted, map_body, two}
 use Rattle.iso_model.proofs.OnTerms.VariableLemmas.{listed_occurring}
 use Rattle.iso_model.proofs.OnTerms.CopyLemmas.{in_numbers_from}
-use Rattle.iso_model.specs.Search.Databases.{Clause, at_end}
+use Rattle.iso_model.specs.Search.Databases.{Clause, Static, at_end}
 use Rattle.iso_model.specs.Search.Errors.{key, type_error_callable}
 use Rattle.iso_store_core.specs.Presents.{Present, KeepsMarks}
 use Rattle.iso_plain_core.specs.declared.parts.Choice as kept
@@ -165,11 +165,11 @@ module _ {S W M : Type 0} {names : S → List (List ℕ)} {present : S → Prese
   }
 
   -- The clause was refused before it came to the procedures.
-  pub refused : (t : Tree) (w : World) (r : Result Unit AddFault) (fault : AddFault) (e : Plain S W M) → Prepares t (Err fault) → IsErrAnd r (λ x. x ≡ fault) → IsEngine names present stands older e (idle w)
+  pub refused : (t : Tree) (w : World) (r : Result Unit AddFault) (fault : AddFault) (e : Plain S W M) → Prepares consult_key t (Err fault) → IsErrAnd r (λ x. x ≡ fault) → IsEngine names present stands older e (idle w)
       → Comes names present stands older (consulted t w.database) w r e
   refused t w (Ok u) fault e h is engine = absurd is
   refused t w (Err x) (add.Refused ball) e h is engine = rw is (by_check (checked t) h) where
-    by_check : (c : Check) → IsRefused c (term_of ball.term) → Comes names present stands older (addition_by at_end consult_key t w.database c) w (Err (add.Refused ball)) e
+    by_check : (c : Check) → IsRefused consult_key c (term_of ball.term) → Comes names present stands older (addition_by at_end Static consult_key t w.database c) w (Err (add.Refused ball)) e
     by_check (Fits k b) h = absurd h
     by_check (Faulty fault) h = (sym h, engine)
   refused t w (Err x) add.NoMemory e h is engine = rw is (no_memory (consulted t w.database)) where

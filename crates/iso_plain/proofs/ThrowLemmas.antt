@@ -1,16 +1,16 @@
 -- A thrown ball finds the catch that it goes to.
 use Rattle.iso_plain_core.specs.Leaving.{Leaving}
-use Rattle.std.proofs.Common.{◌≡◌, ℕ, suc, ◌-◌, ◌≤◌, ◌<◌, ◌==◌, List, [], ◌∷◌, ◌++◌, length, drop, Option, Some, Bool, refl, ap, sym, ◌∙◌, subst, arith, ◌⊎◌, inl, inr, if◌then◌else◌}
+use Rattle.std.proofs.Common.{◌≡◌, ℕ, suc, ◌-◌, ◌≤◌, ◌<◌, ◌==◌, List, [], ◌∷◌, ◌++◌, length, map, drop, Option, Some, Bool, refl, ap, sym, ◌∙◌, subst, arith, ◌⊎◌, inl, inr, if◌then◌else◌}
 use Rattle.std.specs.List.{slice_get}
 use Rattle.std.proofs.Math.Nat.{eq-or-lt_of_le}
 use Rattle.std.proofs.lemmas.Bool.{eqb-true, cases_Bool, eq-eqb}
 use Rattle.std.proofs.lemmas.Option.{slice_get_within}
-use Rattle.iso_model.specs.Terms.Trees.{Tree}
+use Rattle.iso_model.specs.Terms.Trees.{Tree, row}
 use Rattle.iso_model.specs.Search.Databases.{Clause}
 use Rattle.iso_model.specs.Search.Walker.{State, Alternative, Left, AsIs, Again, Clauses, Catching, Gathering, Offered, Outcome, caught_at, caught, shortened}
 use Rattle.iso_store_core.specs.Presents.{Present, meaning}
 use Rattle.iso_plain_core.specs.Solutions.{copies_of}
-use Rattle.iso_plain_core.specs.Offers.{goal_arguments, rights_of}
+use Rattle.iso_plain_core.specs.Offers.{goal_arguments, rights_of, clause_offer}
 use Rattle.iso_plain_core.specs.declared.parts.Frame.{Frame}
 use Rattle.iso_plain_core.specs.declared.parts.Left as engine
 use Rattle.iso_plain_core.specs.declared.parts.Left.TheVariants as left
@@ -110,6 +110,7 @@ module _ {W M : Type 0} {leaves : Leaving} {query : List W} {named : List ℕ} w
     by_left (left.Again place) e has = absurd e
     by_left (left.Gathering result place g) e has = absurd e
     by_left (left.Offered goal place offers) e has = absurd e
+    by_left (left.Shown shown) e has = absurd e
     by_left (left.Clauses attempt) e has = absurd e
 
   -- any other
@@ -124,7 +125,8 @@ module _ {W M : Type 0} {leaves : Leaving} {query : List W} {named : List ℕ} w
     by_left (left.AsIs place) e has = passes AsIs has.is refl
     by_left (left.Again place) e has = passes Again has.is refl
     by_left (left.Gathering result place g) e has = passes (Gathering (meaning at.present result) (copies_of g) g.variables) has.is refl
-    by_left (left.Offered goal place offers) e has = passes (Offered has.made (goal_arguments (meaning at.present goal)) (rights_of offers.items)) has.is refl
+    by_left (left.Offered goal place offers) e has = passes (Offered (goal_arguments (meaning at.present goal)) (rights_of has.made offers.items)) has.is refl
+    by_left (left.Shown shown) e has = passes (Offered (row (meaning at.present shown.head ∷ meaning at.present shown.body ∷ [])) (map (clause_offer shown.removes has.key) has.clauses)) has.is refl
     by_left (left.Clauses attempt) e has = passes (Clauses has.call has.clauses) has.left refl
 
 -- a choice that is no entry of a catch
@@ -138,4 +140,5 @@ no_entry {W} {M} choices f c there none h =
       by_left (left.Again place) never e = e
       by_left (left.Gathering result place g) never e = e
       by_left (left.Offered goal place offers) never e = e
+      by_left (left.Shown shown) never e = e
       by_left (left.Clauses attempt) never e = e

@@ -5,5 +5,6 @@ pub mod Stays
 pub mod Catches
 pub mod Gathers
 pub mod Settles
+pub mod Shows
 pub mod Starts
 pub mod Called

@@ -1,14 +1,14 @@
 -- Goals that read or change operators and flags, as the engine comes to them (ISO/IEC 13211-1:1995, 8.14.3, 8.14.4, 8.17.1, 8.17.2).
-use Rattle.std.specs.Prelude.{◌≡◌, ℕ, List, ◌∷◌, true, Option, ◌⊎◌}
-use Rattle.iso_model.specs.Terms.Trees.{Tree}
+use Rattle.std.specs.Prelude.{◌≡◌, ◌+◌, ◌*◌, ◌≤◌, ℕ, List, ◌∷◌, true, Option, ◌⊎◌}
 use Rattle.iso_model.specs.Terms.Arguments.{arity}
 use Rattle.iso_model.specs.Search.Settings.{setting_arity}
 use Rattle.iso_model.specs.Search.Walker.{State, Alternative, Offered, with_rights}
 use Rattle.iso_model.specs.declared.library.Setting.{Setting}
 use Rattle.iso_store_core.specs.Presents.{Present, meaning}
 use Rattle.iso_lib.specs.declared.settings.Offer.{Offer}
-use Rattle.iso_lib.specs.Settlements.{offer_tree}
-use Rattle.iso_plain_core.specs.Offers.{goal_arguments}
+use Rattle.iso_model.specs.Search.Settlements as walker
+use Rattle.iso_plain_core.specs.Offers.{goal_arguments, constants_offer}
+use Rattle.iso_plain_core.specs.Standing.{most_numbers, numbers_a_step}
 use Rattle.iso_plain.specs.declared.plain.Plain.{Plain}
 use Rattle.iso_plain.specs.EngineStates.{IsAhead, Keeps, went_back}
 
@@ -16,6 +16,7 @@ module _ {S W M : Type 0} (names : S → List (List ℕ)) (present : S → Prese
   -- The engine, in this state, is about to unify the arguments of this goal with a row, before its members from this place of the frames on.
   pub record MeetsRow (e : Plain S W M) (goal : W) (s : State) (place : Option ℕ) : Type 0 where
     pub ahead : IsAhead names present stands older e s place
+    pub space : s.next + numbers_a_step * (e.steps + 1) ≤ most_numbers
     pub holds : (present e.store).holds goal ≡ true
 
   -- The engine, in this state, is about to run this goal of this row, with its members from this place of the frames on behind it.
@@ -26,9 +27,9 @@ module _ {S W M : Type 0} (names : S → List (List ℕ)) (present : S → Prese
   -- The engine, in this state, is about to unify the arguments of this goal with the first row that was left at its newest alternative.
   pub record MeetsNext (e : Plain S W M) (goal : W) (place : Option ℕ) (s : State) (a : Alternative) (below : List Alternative) (offer : Offer) : Type 0 where
     pub made : ℕ
-    pub others : List Tree
-    pub left : a.left ≡ Offered made (goal_arguments (meaning (present e.store) goal)) (offer_tree offer ∷ others)
-    pub meets : MeetsRow e goal (with_rights made (goal_arguments (meaning (present e.store) goal)) others a.list (went_back a below s)) place
+    pub others : List walker.Offer
+    pub left : a.left ≡ Offered (goal_arguments (meaning (present e.store) goal)) (constants_offer made offer ∷ others)
+    pub meets : MeetsRow e goal (with_rights (goal_arguments (meaning (present e.store) goal)) others a.list (went_back a below s)) place
 
   -- The goal was refused: before it came to anything, or with the rows behind the first as an alternative.
   abbrev pub WasStopped : Plain S W M → State → State → Type 0

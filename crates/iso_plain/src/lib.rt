@@ -13,6 +13,7 @@ pub mod moves;
 pub mod plain;
 pub mod runs;
 mod settles;
+mod storages;
 pub mod throws;
 // what the callers call
 pub mod engine;

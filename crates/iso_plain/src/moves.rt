@@ -239,6 +239,10 @@ impl<S: Store + Drop> Plain<S> {
                 self.try_next(mark, goal, place)?;
                 Ok(Move::Goes)
             }
+            Left::Shown(shown) => {
+                self.show_next(mark, shown)?;
+                Ok(Move::Goes)
+            }
             Left::Clauses(attempt) => {
                 let below = self.leave_choice(mark, attempt);
                 self.enter(attempt, below)?;

@@ -172,7 +172,8 @@ impl<S: Store + Drop> Plain<S> {
             Replied::Catches(Placed::Body(body)) => self.call_inside(body, goal, frame.next),
             Replied::Catches(Placed::Raises(ball)) => self.throw_inside(ball, goal, frame.next),
             Replied::Gathers(body) => self.find_all(body, goal, frame.next),
-            Replied::AsksWorld(row) => self.settle(row, goal, frame.next),
+            Replied::AsksSettings(row) => self.settle(row, goal, frame.next),
+            Replied::AsksDatabase(row) => self.store_goal(row, goal, frame.next),
             Replied::Halts(status) => {
                 self.clear();
                 Ok(Move::Pauses(Pause::Halt(status)))

@@ -3,12 +3,12 @@ ghost use Rattle.std.specs.Prelude.{◌≡◌, ℕ, suc, ◌+◌, ◌<◌, ◌�
 ghost use Rattle.std.specs.Global.{Global};
 ghost use Rattle.iso_model.specs.Terms.Trees.{Tree};
 ghost use Rattle.iso_model.specs.Search.Settings.{setting_settled};
+ghost use Rattle.iso_model.specs.Search.Settlements as settlements;
 ghost use Rattle.iso_model.specs.Search.Walker as walker;
 ghost use Rattle.iso_model.specs.Search.Walker.{State, Alternative, with_rights, tried_right, offered, settled};
 ghost use Rattle.iso_store_core.specs.Presents.{meaning};
-ghost use Rattle.iso_lib.specs.Settlements.{offer_tree};
 ghost use Rattle.iso_lib.specs.declared.settings.Offer as rows;
-ghost use Rattle.iso_plain_core.specs.Offers.{goal_arguments, rights_of};
+ghost use Rattle.iso_plain_core.specs.Offers.{goal_arguments, constants_offer, rights_of};
 ghost use Rattle.iso_plain_core.specs.declared.parts.Choice as kept;
 
 use super::plain::{Move, Plain};
@@ -38,7 +38,7 @@ impl<S: Store + Drop> Plain<S> {
     ) -> Result<(), StoreFault>
         requires { (s : State) × MeetsRow S.names S.present S.stands S.older self.old goal s place }
         ensures tried { (s : State) (made : ℕ) → MeetsRow S.names S.present S.stands S.older self.old goal s place
-            → OnOk result (IsEngine S.names S.present S.stands S.older self.new (tried_right made (goal_arguments (meaning (S.present self.old.store) goal)) (offer_tree offer.now) s.list s)) }
+            → OnOk result (IsEngine S.names S.present S.stands S.older self.new (tried_right (goal_arguments (meaning (S.present self.old.store) goal)) (constants_offer made offer.now) s.list s)) }
         ensures kept { (s : State) → MeetsRow S.names S.present S.stands S.older self.old goal s place → OnErr result (Keeps S.names S.present S.stands S.older self.new s.world s.stack) }
         ensures awake { OnOk result (IsAwake (phase_of self.new.now)) }
         ensures full { result ≡ Err StoreFault.Full → S.full self.new.store }
@@ -66,7 +66,7 @@ impl<S: Store + Drop> Plain<S> {
     ) -> Result<bool, AllocError>
         requires { (s : State) × MeetsRow S.names S.present S.stands S.older self.old goal s place }
         ensures meets { (s : State) (made : ℕ) → MeetsRow S.names S.present S.stands S.older self.old goal s place → result ≡ Ok true
-            → MeetsRow S.names S.present S.stands S.older self.new goal (with_rights made (goal_arguments (meaning (S.present self.old.store) goal)) (rights_of offers.items) s.list s) place }
+            → MeetsRow S.names S.present S.stands S.older self.new goal (with_rights (goal_arguments (meaning (S.present self.old.store) goal)) (rights_of made offers.items) s.list s) place }
         ensures present { result ≡ Ok true → S.present self.new.store ≡ S.present self.old.store }
         ensures kept { (s : State) → MeetsRow S.names S.present S.stands S.older self.old goal s place → OnErr result (Keeps S.names S.present S.stands S.older self.new s.world s.stack) }
         ensures refused { result ≡ Ok false → self.new ≡ self.old }
@@ -103,14 +103,14 @@ impl<S: Store + Drop> Plain<S> {
     ) -> Result<Move, StoreFault>
         requires { (s : State) × MeetsRow S.names S.present S.stands S.older self.old goal s place }
         ensures called { (s : State) (made : ℕ) → MeetsRow S.names S.present S.stands S.older self.old goal s place
-            → IfOk result (λ m. WasCalled S.names S.present S.stands S.older m self.new s (offered made (goal_arguments (meaning (S.present self.old.store) goal)) (map offer_tree offers.items) s.list s)) }
+            → IfOk result (λ m. WasCalled S.names S.present S.stands S.older m self.new s (offered (goal_arguments (meaning (S.present self.old.store) goal)) (map (constants_offer made) offers.items) s.list s)) }
         ensures kept { (s : State) (made : ℕ) → MeetsRow S.names S.present S.stands S.older self.old goal s place
-            → OnErr result (WasStopped S.names S.present S.stands S.older self.new s (offered made (goal_arguments (meaning (S.present self.old.store) goal)) (map offer_tree offers.items) s.list s)) }
+            → OnErr result (WasStopped S.names S.present S.stands S.older self.new s (offered (goal_arguments (meaning (S.present self.old.store) goal)) (map (constants_offer made) offers.items) s.list s)) }
         ensures falls { (w : ℕ) → choices_cost (frame_costs self.old.frames.items) self.old.choices.items
             + rest_cost (frame_costs self.old.frames.items) place ≤ w → IfOk result (λ m. Falls m (whole_cost (suc self.old.steps) w) (weight self.new)) }
         ensures frames { (s : State) (made : ℕ) → MeetsRow S.names S.present S.stands S.older self.old goal s place
             → ResultFull ((self.old.limit ≤ length self.old.choices.items)
-            × (length (offered made (goal_arguments (meaning (S.present self.old.store) goal)) (map offer_tree offers.items) s.list s).stack ≡ suc (length s.stack))) result }
+            × (length (offered (goal_arguments (meaning (S.present self.old.store) goal)) (map (constants_offer made) offers.items) s.list s).stack ≡ suc (length s.stack))) result }
         ensures met { ResultMet S.full result self.new }
         ensures stays { Stays S.names self.old self.new }
     {
@@ -207,13 +207,13 @@ impl<S: Store + Drop> Plain<S> {
         requires some { 0 < length self.old.choices.items }
         requires back { (c : kept.Choice S.Word S.Mark) × (offers : Vec rows.Offer Global) × (s : State) × (a : Alternative) × (below : List Alternative) × (c.mark ≡ mark)
             × (c.left ≡ left.Offered goal place offers) × WentBack S.names S.present S.stands S.older self.old c s a below }
-        ensures tried { (c : kept.Choice S.Word S.Mark) (offers : Vec rows.Offer Global) (s : State) (a : Alternative) (below : List Alternative) (made : ℕ) (first : Tree) (rights : List Tree) → c.mark ≡ mark
-            → c.left ≡ left.Offered goal place offers → WentBack S.names S.present S.stands S.older self.old c s a below → a.left ≡ walker.Offered made first rights
-            → OnOk result (IsEngine S.names S.present S.stands S.older self.new (offered made first rights a.list (went_back a below s))) }
-        ensures kept { (c : kept.Choice S.Word S.Mark) (offers : Vec rows.Offer Global) (s : State) (a : Alternative) (below : List Alternative) (made : ℕ) (first : Tree) (rights : List Tree) → c.mark ≡ mark
-            → c.left ≡ left.Offered goal place offers → WentBack S.names S.present S.stands S.older self.old c s a below → a.left ≡ walker.Offered made first rights
-            → OnErr result (((offered made first rights a.list (went_back a below s)).world ≡ s.world)
-            × Keeps S.names S.present S.stands S.older self.new s.world (offered made first rights a.list (went_back a below s)).stack) }
+        ensures tried { (c : kept.Choice S.Word S.Mark) (offers : Vec rows.Offer Global) (s : State) (a : Alternative) (below : List Alternative) (first : Tree) (rights : List settlements.Offer) → c.mark ≡ mark
+            → c.left ≡ left.Offered goal place offers → WentBack S.names S.present S.stands S.older self.old c s a below → a.left ≡ walker.Offered first rights
+            → OnOk result (IsEngine S.names S.present S.stands S.older self.new (offered first rights a.list (went_back a below s))) }
+        ensures kept { (c : kept.Choice S.Word S.Mark) (offers : Vec rows.Offer Global) (s : State) (a : Alternative) (below : List Alternative) (first : Tree) (rights : List settlements.Offer) → c.mark ≡ mark
+            → c.left ≡ left.Offered goal place offers → WentBack S.names S.present S.stands S.older self.old c s a below → a.left ≡ walker.Offered first rights
+            → OnErr result (((offered first rights a.list (went_back a below s)).world ≡ s.world)
+            × Keeps S.names S.present S.stands S.older self.new s.world (offered first rights a.list (went_back a below s)).stack) }
         ensures awake { OnOk result (IsAwake (phase_of self.new.now)) }
         ensures full { result ≡ Err StoreFault.Full → S.full self.new.store }
         ensures steps { self.new.steps ≡ self.old.steps }

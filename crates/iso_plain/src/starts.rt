@@ -10,10 +10,11 @@ ghost use Rattle.iso_model.specs.Search.Walker.{World, first_world, idle, starte
 use super::plain::Plain;
 use iso_db::Db;
 use iso_lib::errors;
+use iso_lib::indicators::Functor;
 use iso_model::{AddFault, Term};
 use iso_ops::{Flags, OpTable};
 use iso_plain_core::parts::{Frame, Now, Todo};
-use iso_plain_core::procedures::{self, Functor};
+use iso_plain_core::procedures::{self, Way};
 use iso_plain_core::vocabulary::Vocabulary;
 use iso_plain_core::{callables, clauses, entries, writing};
 use iso_prep::{Fault, Prepared};
@@ -147,7 +148,7 @@ impl<S: Store + Drop> Plain<S> {
         ensures present { S.present self.new.store ≡ S.present self.old.store }
         ensures base { self.new.base ≡ self.old.base }
     {
-        let checked = clauses::prepare(self.alloc, clause)?;
+        let checked = clauses::prepare(self.alloc, clause, "consult")?;
         let Some((text, arity)) = clauses::indicator_of(&checked.head) else {
             unreachable!();
         };
@@ -159,6 +160,7 @@ impl<S: Store + Drop> Plain<S> {
             &mut self.callables,
             Functor { name, arity },
             text,
+            Way::Consulted,
             kept,
         )?;
         Ok(())

@@ -1,24 +1,28 @@
 -- What is called, as procedures come and clauses are added to them.
-use Rattle.std.proofs.Common.{◌≡◌, ◌<◌, ◌==◌, ◌⊎◌, ℕ, List, [], ◌∷◌, length, refl, sym, ap, ◌∙◌, subst, Bool, true, false, ◌&&◌, ◌||◌, Some, None, Option, option_map, inl, inr, Vec, Global}
+use Rattle.std.proofs.Common.{◌≡◌, ◌==◌, ℕ, List, refl, sym, ap, ◌∙◌, subst, Bool, true, false, ◌&&◌, ◌||◌, Some, None, Option, option_map, inl, inr, Vec, Global}
 use Rattle.std.specs.Option.{option_or, option_and_then}
 use Rattle.std.specs.List.{slice_get}
 use Rattle.std.proofs.lemmas.Bool.{cases_Bool}
-use Rattle.iso_model.specs.Search.Databases as databases
 use Rattle.iso_model.specs.Search.Databases.{Key, key, same_key}
 use Rattle.iso_model.specs.Search.BuiltIns.{built_in, is_built_in, is_control, is_some_built_in}
 use Rattle.iso_model.specs.declared.built_ins.BuiltIn.{BuiltIn}
 use Rattle.iso_store_core.proofs.AtomLemmas.{text-is}
+use Rattle.iso_db.specs.Databases as db
 use Rattle.iso_db.specs.Databases.{Database, Procedure, no_procedures, with_procedure}
+use Rattle.iso_db.specs.declared.kinds.Kind.{Kind}
+use Rattle.iso_db.specs.declared.kinds.Kind.TheVariants as kind
 use Rattle.iso_plain_core.specs.declared.callables.Callable.{Callable}
 use Rattle.iso_plain_core.specs.declared.callables.Callee.{Callee}
 use Rattle.iso_plain_core.specs.declared.callables.Callee.TheVariants as callee
 use Rattle.iso_plain_core.specs.declared.clauses.Clause.{Clause}
-use Rattle.iso_plain_core.specs.declared.procedures.Functor.{Functor}
-use Rattle.iso_plain_core.specs.Adding.{IsFound}
-use Rattle.iso_plain_core.specs.Callables.{Indexes, Finds, Agrees, callee_at, callee_of, where_holds}
+use Rattle.iso_lib.specs.declared.indicators.Functor.{Functor}
+use Rattle.iso_plain_core.specs.declared.procedures.Way.{Way}
+use Rattle.iso_plain_core.specs.declared.procedures.Way.TheVariants as way
+use Rattle.iso_plain_core.specs.Adding.{IsFound, came}
+use Rattle.iso_plain_core.specs.Callables.{Finds, Agrees, callee_at, callee_of, where_holds}
 use Rattle.iso_plain_core.specs.Programs.{place_at, kept_at, kind_of}
 use Rattle.iso_plain_core.proofs.CallableLemmas.{index_same, index_more, index_none, same_key_is}
-use Rattle.iso_plain_core.proofs.ProgramLemmas.{place_within, placed_kept, placed_other, with_new, same_place, kept_other}
+use Rattle.iso_plain_core.proofs.ProgramLemmas.{placed_kept, placed_other, Put, with_new, same_place, kept_other}
 
 -- ---- what a key calls
 
@@ -130,23 +134,31 @@ module _ (names : List (List ℕ)) (f : Functor) (text : List ℕ) (d : Database
     agrees_other k other (inr b) = inr (b.0, b.1, (placed_kept d text f.arity k).0 ∙ b.2)
 
 -- a clause came where the procedure is found
-pub finds_more : (names : List (List ℕ)) (f : Functor) (text : List ℕ) (d : Database Clause) (rows : List (Vec Callable Global)) (place : ℕ) (value : Clause) → slice_get names f.name ≡ Some text → place_at d (key text f.arity) ≡ Some place
-    → callee_at rows f.name f.arity ≡ Some (callee.User place) → Finds names rows d → Finds names rows (with_new d place value)
-finds_more names f text d rows place value atom at found is = record {
-  calls = is.calls;
-  indexes = is.indexes;
-  agrees = λ k. by_case k (is.agrees k);
-} where
-  named : Key
-  named = key text f.arity
+module _ (put : Put) (kd : Kind) where
+  finds_put : (names : List (List ℕ)) (f : Functor) (text : List ℕ) (d : Database Clause) (rows : List (Vec Callable Global)) (place : ℕ) (value : Clause) → slice_get names f.name ≡ Some text → place_at d (key text f.arity) ≡ Some place
+      → callee_at rows f.name f.arity ≡ Some (callee.User place) → Finds names rows d → Finds names rows (with_new put kd d place value)
+  finds_put names f text d rows place value atom at found is = record {
+    calls = is.calls;
+    indexes = is.indexes;
+    agrees = λ k. by_case k (is.agrees k);
+  } where
+    named : Key
+    named = key text f.arity
 
-  called : is.calls named ≡ Some (callee.User place)
-  called = ap (λ t. is.calls (key t f.arity)) (sym (text-is names f.name text atom)) ∙ (is.indexes.sound f.name f.arity (callee.User place) found).1
+    called : is.calls named ≡ Some (callee.User place)
+    called = ap (λ t. is.calls (key t f.arity)) (sym (text-is names f.name text atom)) ∙ (is.indexes.sound f.name f.arity (callee.User place) found).1
 
-  by_case : (k : Key) → Agrees d k (is.calls k) → Agrees (with_new d place value) k (is.calls k)
-  by_case k (inl a) = inl (a ∙ ap (λ o. option_or (option_map callee.BuiltIn (built_in k)) (option_map callee.User o)) (sym (same_place d place value k)))
-  by_case k (inr b) =
-      elim (cases_Bool (same_key named k)) [
-        | inl here ↦ absurd (let same : is.calls k ≡ Some (callee.User place) = ap is.calls (sym (same_key_is named k here)) ∙ called in let e : None ≡ Some (callee.User place) = sym b.0 ∙ same in cc e)
-        | inr other ↦ inr (b.0, b.1, ap kind_of (kept_other d place value named k at other) ∙ b.2)
-      ]
+    by_case : (k : Key) → Agrees d k (is.calls k) → Agrees (with_new put kd d place value) k (is.calls k)
+    by_case k (inl a) = inl (a ∙ ap (λ o. option_or (option_map callee.BuiltIn (built_in k)) (option_map callee.User o)) (sym (same_place put kd d place value k)))
+    by_case k (inr b) =
+        elim (cases_Bool (same_key named k)) [
+          | inl here ↦ absurd (let same : is.calls k ≡ Some (callee.User place) = ap is.calls (sym (same_key_is named k here)) ∙ called in let e : None ≡ Some (callee.User place) = sym b.0 ∙ same in cc e)
+          | inr other ↦ inr (b.0, b.1, ap kind_of (kept_other put kd d place value named k at other) ∙ b.2)
+        ]
+
+-- in whichever way it came
+pub finds_more : (w : Way) (names : List (List ℕ)) (f : Functor) (text : List ℕ) (d : Database Clause) (rows : List (Vec Callable Global)) (place : ℕ) (value : Clause) → slice_get names f.name ≡ Some text → place_at d (key text f.arity) ≡ Some place
+    → callee_at rows f.name f.arity ≡ Some (callee.User place) → Finds names rows d → Finds names rows (came w place value d)
+finds_more way.Consulted names f text d rows place value atom at found is = finds_put db.at_end kind.Static names f text d rows place value atom at found is
+finds_more way.First names f text d rows place value atom at found is = finds_put db.at_front kind.Dynamic names f text d rows place value atom at found is
+finds_more way.Last names f text d rows place value atom at found is = finds_put db.at_end kind.Dynamic names f text d rows place value atom at found is

@@ -1,5 +1,5 @@
 -- What is to be done at most: bodies, clauses, steps and frames.
-use Rattle.std.proofs.Common.{◌≡◌, ◌<◌, ◌≤◌, ℕ, zero, suc, ◌+◌, ◌-◌, List, [], ◌∷◌, ◌++◌, length, take, drop, Option, Some, None, ◌⊎◌, inl, inr, refl, sym, ap, ◌∙◌, subst, arith, append_assoc, append-nil, length-take, length-append, min}
+use Rattle.std.proofs.Common.{◌≡◌, ◌<◌, ◌≤◌, ℕ, zero, suc, ◌+◌, List, [], ◌∷◌, ◌++◌, length, take, drop, Option, Some, None, ◌⊎◌, inl, inr, refl, sym, ap, ◌∙◌, subst, arith, append_assoc, append-nil, length-take, length-append, min}
 use Rattle.std.specs.List.{slice_index_or, slice_get}
 use Rattle.std.proofs.lemmas.List.{take-append-drop, get_or_append_left}
 use Rattle.std.proofs.lemmas.Option.{slice_get_within}
@@ -206,6 +206,7 @@ left_place leaves query named p links a more (left.Again place) h = ap suc (more
 left_place leaves query named p links a more (left.Catching goal place) h = ap (left_cost 1) (more_cost links.frames more place (chain_place place h.on.chain))
 left_place leaves query named p links a more (left.Gathering result place gathered) h = ap suc (more_cost links.frames more place (chain_place place h.on.chain))
 left_place leaves query named p links a more (left.Offered goal place offers) h = ap (left_cost (length offers.items)) (more_cost links.frames more place (chain_place place h.on.chain))
+left_place leaves query named p links a more (left.Shown shown) h = ap (left_cost (suc (remaining shown.later))) (more_cost links.frames more shown.rest (chain_place shown.rest h.on.chain))
 left_place leaves query named p links a more (left.Clauses attempt) h =
     ap (left_cost (suc (remaining attempt.later))) (more_cost links.frames more attempt.rest (chain_place attempt.rest h.at.on.chain))
 

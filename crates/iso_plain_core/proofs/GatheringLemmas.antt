@@ -6,6 +6,7 @@ use Rattle.iso_model.specs.Terms.Copies.{copy_from}
 use Rattle.iso_model.specs.Terms.Trees.{Tree, Name, arities_fit}
 use Rattle.iso_model.specs.Terms.Lists.{nil, list_of}
 use Rattle.iso_model.specs.Search.Databases.{Clause}
+use Rattle.iso_model.specs.Search.Settlements.{Offer}
 use Rattle.iso_model.specs.Search.Walker.{Alternative, AsIs, Again, Clauses, Catching, Gathering, Offered, gathered, gathered_at}
 use Rattle.iso_model.specs.Search.Walker as walker
 use Rattle.iso_store_core.specs.Presents.{Present, meaning}
@@ -31,6 +32,7 @@ not_gathering R (left.Again place) none = refl
 not_gathering R (left.Catching goal place) none = refl
 not_gathering R (left.Clauses attempt) none = refl
 not_gathering R (left.Offered goal place offers) none = refl
+not_gathering R (left.Shown shown) none = refl
 
 left_costs : {W : Type 0} (R : Gathered → Gathered → Type 0) (costs : List ℕ) (l m : Left W) → LeftChanges R l m → choice_cost costs m ≡ choice_cost costs l
 left_costs R costs (left.Gathering result place g) m h = ap (choice_cost costs) h.1
@@ -39,6 +41,7 @@ left_costs R costs (left.Again place) m h = ap (choice_cost costs) h
 left_costs R costs (left.Catching goal place) m h = ap (choice_cost costs) h
 left_costs R costs (left.Clauses attempt) m h = ap (choice_cost costs) h
 left_costs R costs (left.Offered goal place offers) m h = ap (choice_cost costs) h
+left_costs R costs (left.Shown shown) m h = ap (choice_cost costs) h
 
 module _ {W M : Type 0} (R : Gathered → Gathered → Type 0) where
   pub changes_none : (n : ℕ) (cs : List (kept.Choice W M)) → length cs ≤ n → ChangesAt R n cs cs
@@ -143,7 +146,7 @@ pub record Together (f : walker.Left → walker.Left) (R : Gathered → Gathered
   pub again : f Again ≡ Again
   pub clauses : (call : Tree) (cs : List Clause) → f (Clauses call cs) ≡ Clauses call cs
   pub catching : (catcher recovery : Tree) → f (Catching catcher recovery) ≡ Catching catcher recovery
-  pub offered : (made : ℕ) (left : Tree) (rights : List Tree) → f (Offered made left rights) ≡ Offered made left rights
+  pub offered : (left : Tree) (rights : List Offer) → f (Offered left rights) ≡ Offered left rights
   pub gathering : (result : Tree) (g h : Gathered) → R g h → f (Gathering result (copies_of g) g.variables) ≡ Gathering result (copies_of h) h.variables
   pub fits : (g h : Gathered) → R g h → arities_fit (list_of (copies_of g)) ≡ true → arities_fit (list_of (copies_of h)) ≡ true
   pub entered : (l : walker.Left) → entered_at (f l) ≡ entered_at l
@@ -163,7 +166,10 @@ module _ (f : walker.Left → walker.Left) (R : Gathered → Gathered → Type 0
         (record { holds = has.holds; three = has.three; on = has.on; is = ap f has.is ∙ k.catching _ _ })
     left_changed (left.Offered goal place offers) m h has =
         subst (λ (x : Left W). HasLeft leaves query named p links x (record a { left = f a.left })) (sym h)
-        (record { holds = has.holds; on = has.on; made = has.made; is = ap f has.is ∙ k.offered _ _ _; some = has.some })
+        (record { holds = has.holds; on = has.on; made = has.made; is = ap f has.is ∙ k.offered _ _; some = has.some })
+    left_changed (left.Shown shown) m h has =
+        subst (λ (x : Left W). HasLeft leaves query named p links x (record a { left = f a.left })) (sym h)
+        (record { head = has.head; body = has.body; on = has.on; key = has.key; key_is = has.key_is; user = has.user; clauses = has.clauses; is = ap f has.is ∙ k.offered _ _; are = has.are })
     left_changed (left.Clauses attempt) m h has =
         subst (λ (x : Left W). HasLeft leaves query named p links x (record a { left = f a.left })) (sym h)
         (record { call = has.call; clauses = has.clauses; at = record { holds = has.at.holds; value = has.at.value; on = has.at.on }; left = ap f has.left ∙ k.clauses _ _; are = has.are })
@@ -223,7 +229,7 @@ entered_gathered t Again = refl
 entered_gathered t (Clauses call cs) = refl
 entered_gathered t (Catching catcher recovery) = refl
 entered_gathered t (Gathering result copies count) = refl
-entered_gathered t (Offered made left rights) = refl
+entered_gathered t (Offered left rights) = refl
 
 with_solution : (t : Tree) → arities_fit t ≡ true → Together (λ l. gathered l t) (Gains t)
 with_solution t fits = record {
@@ -231,7 +237,7 @@ with_solution t fits = record {
   again = refl;
   clauses = λ call cs. refl;
   catching = λ catcher recovery. refl;
-  offered = λ made left rights. refl;
+  offered = λ left rights. refl;
   gathering = λ result g h r. ap₂ (Gathering result) (sym r.copies) (sym r.variables);
   fits = λ g h r all. subst (λ (ts : List Tree). arities_fit (list_of ts) ≡ true) (sym r.copies) (list_fits (copies_of g) (copy_from t g.variables) (Name nil) all (copy_fits t g.variables fits));
   entered = entered_gathered t;
@@ -243,7 +249,7 @@ with_none = record {
   again = refl;
   clauses = λ call cs. refl;
   catching = λ catcher recovery. refl;
-  offered = λ made left rights. refl;
+  offered = λ left rights. refl;
   gathering = λ result g h r. ap₂ (Gathering result) (sym r.0) (sym r.1);
   fits = λ g h r all. subst (λ (ts : List Tree). arities_fit (list_of ts) ≡ true) (sym r.0) all;
   entered = λ l. refl;

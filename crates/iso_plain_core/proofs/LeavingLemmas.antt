@@ -1,5 +1,5 @@
 -- The clauses that are left to be tried: the first of them, and those behind it.
-use Rattle.std.proofs.Common.{◌≡◌, ◌<◌, ℕ, zero, List, length, arith, [], ◌∷◌, Option, Some, None, refl, sym, ap, ◌∙◌, subst}
+use Rattle.std.proofs.Common.{◌≡◌, ◌<◌, ℕ, List, length, arith, [], ◌∷◌, Option, refl, sym, subst}
 use Rattle.iso_model.specs.Search.Databases as databases
 use Rattle.iso_db.specs.Databases as db
 use Rattle.iso_db.specs.Presents.{Gives, Stands, EachStands}

@@ -13,7 +13,7 @@ use Rattle.iso_model.specs.Terms.Copies.{place_of, copy_from}
 use Rattle.iso_model.specs.Search.Bodies.{Body, converted}
 use Rattle.iso_model.specs.Search.Databases.{Key, key_of}
 use Rattle.iso_model.specs.Search.BuiltIns.{is_built_in}
-use Rattle.iso_model.specs.Search.Additions.{head_of, body_of, most_variables, consult_key, Check, Fits, Faulty, UnboundHead, NotCallable, TooManyVariables, NotUser, checked, prepared, prepared_head, prepared_body, prepared_small, user_checked, fault_error}
+use Rattle.iso_model.specs.Search.Additions.{head_of, body_of, most_variables, Check, Fits, Faulty, UnboundHead, NotCallable, TooManyVariables, NotUser, checked, prepared, prepared_head, prepared_body, prepared_small, user_checked, fault_error}
 use Rattle.iso_model.specs.declared.pauses.AddFault.{AddFault}
 use Rattle.iso_model.specs.declared.pauses.AddFault.TheVariants as add
 use Rattle.iso_prep.specs.declared.fault.Fault.{Fault}
@@ -159,21 +159,21 @@ module _ (t : Tree) (p : Preparation) (r : IsReady p t) where
   }
 
   -- or it is that of a built-in
-  pub built_in_refused : (k : Key) (e : AddFault) (x : Result Checked AddFault) → k ≡ r.key → IsErrAnd x (λ y. y ≡ e) → ChecksUser k (Err e) → Prepares t x
-  built_in_refused k e (Ok c) same is h = absurd is
-  built_in_refused k (add.Refused ball) (Err y) same is h =
+  pub built_in_refused : (by k : Key) (e : AddFault) (x : Result Checked AddFault) → k ≡ r.key → IsErrAnd x (λ y. y ≡ e) → ChecksUser by k (Err e) → Prepares by t x
+  built_in_refused by k e (Ok c) same is h = absurd is
+  built_in_refused by k (add.Refused ball) (Err y) same is h =
       let built : is_built_in r.key ≡ true = ap is_built_in (sym same) ∙ h.0 in
       let check : checked t ≡ Faulty (NotUser r.key) = ap user_checked r.fits ∙ rw built refl in
-      let error : fault_error consult_key (NotUser r.key) ≡ term_of ball.term = ap (λ j. fault_error consult_key (NotUser j)) (sym same) ∙ sym h.1 in
-      rw is (subst (λ (c : Check). IsRefused c (term_of ball.term)) (sym check) error)
-  built_in_refused k add.NoMemory (Err y) same is h = rw is tt
+      let error : fault_error by (NotUser r.key) ≡ term_of ball.term = ap (λ j. fault_error by (NotUser j)) (sym same) ∙ sym h.1 in
+      rw is (subst (λ (c : Check). IsRefused by c (term_of ball.term)) (sym check) error)
+  built_in_refused by k add.NoMemory (Err y) same is h = rw is tt
 
 -- ---- a clause that wasn't made ready
 
-pub refused_clause : (t : Tree) (f : Fault) (x : AddFault) → PreparesClause (λ p. p) t (prepared t) (Err f) → Refuses f x → Prepares t (Err x)
-refused_clause t f add.NoMemory h k = tt
-refused_clause t f (add.Refused ball) h k = by_check (prepared t) f h k where
-  by_check : (c : Check) (f : Fault) → PreparesClause (λ p. p) t c (Err f) → Refuses f (add.Refused ball) → IsRefused (user_checked c) (term_of ball.term)
+pub refused_clause : (by : Key) (t : Tree) (f : Fault) (x : AddFault) → PreparesClause (λ p. p) t (prepared t) (Err f) → Refuses by f x → Prepares by t (Err x)
+refused_clause by t f add.NoMemory h k = tt
+refused_clause by t f (add.Refused ball) h k = by_check (prepared t) f h k where
+  by_check : (c : Check) (f : Fault) → PreparesClause (λ p. p) t c (Err f) → Refuses by f (add.Refused ball) → IsRefused by (user_checked c) (term_of ball.term)
   by_check c fault.NoMemory h k = absurd k
   by_check (Fits j b) fault.Instantiation h k = absurd h
   by_check (Fits j b) (fault.Callable u) h k = absurd h
@@ -182,7 +182,7 @@ refused_clause t f (add.Refused ball) h k = by_check (prepared t) f h k where
   by_check (Faulty UnboundHead) (fault.Callable u) h k = absurd h
   by_check (Faulty UnboundHead) fault.TooManyVariables h k = absurd h
   by_check (Faulty (NotCallable v)) fault.Instantiation h k = absurd h
-  by_check (Faulty (NotCallable v)) (fault.Callable u) h k = ap (λ w. fault_error consult_key (NotCallable w)) (sym h) ∙ sym k
+  by_check (Faulty (NotCallable v)) (fault.Callable u) h k = ap (λ w. fault_error by (NotCallable w)) (sym h) ∙ sym k
   by_check (Faulty (NotCallable v)) fault.TooManyVariables h k = absurd h
   by_check (Faulty TooManyVariables) fault.Instantiation h k = absurd h
   by_check (Faulty TooManyVariables) (fault.Callable u) h k = absurd h

@@ -14,6 +14,11 @@ use Rattle.iso_model.specs.Search.Errors.{Key, key, domain_error, max_arity_erro
 use Rattle.iso_model.specs.declared.built_ins.BuiltIn.{BuiltIn}
 use Rattle.iso_model.specs.declared.built_ins.BuiltIn.TheVariants as built_in
 use Rattle.iso_model.specs.declared.library.Setting.{Setting}
+use Rattle.iso_model.specs.declared.library.Storage.{Storage}
+use Rattle.iso_model.specs.Search.Settlements.{Settled}
+use Rattle.iso_model.specs.Search.Settings.{setting_settled}
+use Rattle.iso_model.specs.Search.Storages.{storage_settled}
+use Rattle.iso_model.specs.Search.Worlds.{World}
 use Rattle.iso_model.specs.declared.pauses.Ball.{Ball}
 use Rattle.iso_store_core.specs.Presents.{Present}
 use Rattle.iso_plain_core.specs.declared.bodies.Node.{Node}
@@ -22,7 +27,7 @@ use Rattle.iso_plain_core.specs.declared.goals.Placed.TheVariants as placed
 use Rattle.iso_plain_core.specs.declared.replies.Replied.{Replied}
 use Rattle.iso_plain_core.specs.declared.replies.Replied.TheVariants as replied
 use Rattle.iso_plain_core.specs.Entering.{Adds}
-use Rattle.iso_plain_core.specs.Replies.{IsRunAs, IsPlaced, IsReply, IsInside, IsHalt, IsRaising, called_of}
+use Rattle.iso_plain_core.specs.Replies.{IsRunAs, IsPlaced, IsReply, IsInside, IsHalt, IsRaising, Asks, called_of}
 use Rattle.iso_plain_core.proofs.EnteringLemmas.{adds_none, words_same}
 
 module _ {W : Type 0} (p q : Present W) (old new : List (Node W)) (t : Tree) where
@@ -100,7 +105,8 @@ module _ {W : Type 0} (p : Present W) (old : List (Node W)) where
   halt_replied (Raises error) (replied.Catches placed) h = absurd h
   halt_replied (Raises error) (replied.Gathers place) h = absurd h
   halt_replied (Raises error) (replied.Halts status) h = absurd h
-  halt_replied (Raises error) (replied.AsksWorld row) h = absurd h
+  halt_replied (Raises error) (replied.AsksSettings row) h = absurd h
+  halt_replied (Raises error) (replied.AsksDatabase row) h = absurd h
   halt_replied (Halts n) (replied.Halts status) h = h
   halt_replied (Halts n) replied.GoesOn h = absurd h
   halt_replied (Halts n) replied.Fails h = absurd h
@@ -111,7 +117,8 @@ module _ {W : Type 0} (p : Present W) (old : List (Node W)) where
   halt_replied (Halts n) replied.Repeats h = absurd h
   halt_replied (Halts n) (replied.Catches placed) h = absurd h
   halt_replied (Halts n) (replied.Gathers place) h = absurd h
-  halt_replied (Halts n) (replied.AsksWorld row) h = absurd h
+  halt_replied (Halts n) (replied.AsksSettings row) h = absurd h
+  halt_replied (Halts n) (replied.AsksDatabase row) h = absurd h
   halt_replied Fails answer h = absurd h
   halt_replied Succeeds answer h = absurd h
   halt_replied (Equates made a b) answer h = absurd h
@@ -122,7 +129,7 @@ module _ {W : Type 0} (p : Present W) (old : List (Node W)) where
   halt_replied Repeats answer h = absurd h
   halt_replied (Catches inside catcher recovery) answer h = absurd h
   halt_replied (Gathers template b result) answer h = absurd h
-  halt_replied (AsksWorld row t) answer h = absurd h
+  halt_replied (AsksWorld settles) answer h = absurd h
 
 -- what the library answers
 pub library_replied : {W : Type 0} (p q : Present W) (nodes : List (Node W)) (x : Answer) → IsDone p q x → IsReply p q nodes nodes (answered x) replied.GoesOn
@@ -204,7 +211,7 @@ IsGathers (Gathers template b result) = Unit {0}
 IsGathers x = ⊥
 
 abbrev IsAsking : Reply → Type 0
-IsAsking (AsksWorld row t) = Unit {0}
+IsAsking (AsksWorld settles) = Unit {0}
 IsAsking x = ⊥
 
 no_asking_answered : (x : Answer) → IsAsking (answered x) → ⊥
@@ -242,6 +249,7 @@ only_catch built_in.HaltWith t h = absurd (none_ended IsCatches (λ e i. i) (λ 
 only_catch built_in.Findall t h = absurd (none_found IsCatches (λ e i. i) (λ n i. i) (argument 0 t) (argument 1 t) (argument 2 t) (key (codes "findall") 3) (λ b i. i) h)
 only_catch (built_in.Library row) t h = absurd (no_catch_answered (library_answer row t) h)
 only_catch (built_in.Setting row) t h = absurd h
+only_catch (built_in.Storage row) t h = absurd h
 
 only_findall : (b : BuiltIn) (t : Tree) → IsGathers (reply b t) → b ≡ built_in.Findall
 only_findall built_in.True t h = absurd h
@@ -257,6 +265,7 @@ only_findall built_in.HaltWith t h = absurd (none_ended IsGathers (λ e i. i) (�
 only_findall built_in.Findall t h = refl
 only_findall (built_in.Library row) t h = absurd (no_gatherer_answered (library_answer row t) h)
 only_findall (built_in.Setting row) t h = absurd h
+only_findall (built_in.Storage row) t h = absurd h
 
 -- a catch's parts are the goal's arguments
 pub catch_parts : (b : BuiltIn) (t : Tree) (inside : Reply) (catcher recovery : Tree) → reply b t ≡ Catches inside catcher recovery → (b ≡ built_in.Catch) × (catcher ≡ argument 1 t) × (recovery ≡ argument 2 t)
@@ -295,25 +304,62 @@ gather_parts b t template result c is =
     let parts = subst (λ (x : Reply). HasParts t x) there (found_parts t (argument 1 t) (key (codes "findall") 3)) in
     (own, parts.0, parts.1)
 
--- what a goal asks of the world is asked of the goal itself
-only_setting : (b : BuiltIn) (t : Tree) → IsAsking (reply b t) → (row : Setting) × (b ≡ built_in.Setting row)
-only_setting built_in.True t h = absurd h
-only_setting built_in.Fail t h = absurd h
-only_setting built_in.Call t h = absurd (none_called IsAsking (λ e i. i) (λ n i. i) (called_of t) (key (codes "call") (arity t)) (λ b i. i) h)
-only_setting built_in.Once t h = absurd (none_goal IsAsking (λ e i. i) (λ n i. i) CallsOnce (argument 0 t) (key (codes "once") 1) (λ b i. i) h)
-only_setting built_in.Not t h = absurd (none_goal IsAsking (λ e i. i) (λ n i. i) Refutes (argument 0 t) (key (codes "\\+") 1) (λ b i. i) h)
-only_setting built_in.Repeat t h = absurd h
-only_setting built_in.Catch t h = absurd h
-only_setting built_in.Throw t h = absurd (none_thrown IsAsking (λ e i. i) (λ n i. i) (argument 0 t) (key (codes "throw") 1) h)
-only_setting built_in.Halt t h = absurd h
-only_setting built_in.HaltWith t h = absurd (none_ended IsAsking (λ e i. i) (λ n i. i) (argument 0 t) (key (codes "halt") 1) h)
-only_setting built_in.Findall t h = absurd (none_found IsAsking (λ e i. i) (λ n i. i) (argument 0 t) (argument 1 t) (argument 2 t) (key (codes "findall") 3) (λ b i. i) h)
-only_setting (built_in.Library row) t h = absurd (no_asking_answered (library_answer row t) h)
-only_setting (built_in.Setting row) t h = (row, refl)
+-- A goal that asks nothing of what outlives a run gets no such answer.
+module _ {W : Type 0} (p q : Present W) (old new : List (Node W)) (b : BuiltIn) where
+  asks_none : (x : Reply) (answer : Replied) → (IsAsking x → ⊥) → IsReply p q old new x answer → Asks b answer
+  asks_none x replied.GoesOn none h = tt
+  asks_none x replied.Fails none h = tt
+  asks_none x (replied.Raises ball) none h = tt
+  asks_none x (replied.Calls place) none h = tt
+  asks_none x (replied.CallsOnce place) none h = tt
+  asks_none x (replied.Refutes place) none h = tt
+  asks_none x replied.Repeats none h = tt
+  asks_none x (replied.Catches placed) none h = tt
+  asks_none x (replied.Gathers place) none h = tt
+  asks_none x (replied.Halts status) none h = tt
+  asks_none Fails (replied.AsksSettings row) none h = absurd h
+  asks_none Succeeds (replied.AsksSettings row) none h = absurd h
+  asks_none (Equates made a b) (replied.AsksSettings row) none h = absurd h
+  asks_none (EquatesCopy a b) (replied.AsksSettings row) none h = absurd h
+  asks_none (Raises error) (replied.AsksSettings row) none h = absurd h
+  asks_none (Calls c) (replied.AsksSettings row) none h = absurd h
+  asks_none (CallsOnce c) (replied.AsksSettings row) none h = absurd h
+  asks_none (Refutes c) (replied.AsksSettings row) none h = absurd h
+  asks_none Repeats (replied.AsksSettings row) none h = absurd h
+  asks_none (Catches inside catcher recovery) (replied.AsksSettings row) none h = absurd h
+  asks_none (Gathers template c result) (replied.AsksSettings row) none h = absurd h
+  asks_none (Halts n) (replied.AsksSettings row) none h = absurd h
+  asks_none (AsksWorld settles) (replied.AsksSettings row) none h = absurd (none tt)
+  asks_none Fails (replied.AsksDatabase row) none h = absurd h
+  asks_none Succeeds (replied.AsksDatabase row) none h = absurd h
+  asks_none (Equates made a b) (replied.AsksDatabase row) none h = absurd h
+  asks_none (EquatesCopy a b) (replied.AsksDatabase row) none h = absurd h
+  asks_none (Raises error) (replied.AsksDatabase row) none h = absurd h
+  asks_none (Calls c) (replied.AsksDatabase row) none h = absurd h
+  asks_none (CallsOnce c) (replied.AsksDatabase row) none h = absurd h
+  asks_none (Refutes c) (replied.AsksDatabase row) none h = absurd h
+  asks_none Repeats (replied.AsksDatabase row) none h = absurd h
+  asks_none (Catches inside catcher recovery) (replied.AsksDatabase row) none h = absurd h
+  asks_none (Gathers template c result) (replied.AsksDatabase row) none h = absurd h
+  asks_none (Halts n) (replied.AsksDatabase row) none h = absurd h
+  asks_none (AsksWorld settles) (replied.AsksDatabase row) none h = absurd (none tt)
 
-pub setting_parts : (b : BuiltIn) (t u : Tree) (row : Setting) → reply b t ≡ AsksWorld row u → (b ≡ built_in.Setting row) × (u ≡ t)
-setting_parts b t u row is =
-    let own = only_setting b t (subst (λ (x : Reply). IsAsking x) (sym is) tt) in
-    let there : AsksWorld own.0 t ≡ AsksWorld row u = subst (λ (x : BuiltIn). reply x t ≡ AsksWorld row u) own.1 is in
-    let same : own.0 ≡ row = cc in
-    (own.1 ∙ ap built_in.Setting same, cc)
+  pub halt_asks : (t : Tree) (answer : Replied) → IsReply p q old new (reply built_in.HaltWith t) answer → Asks b answer
+  halt_asks t answer h = asks_none (reply built_in.HaltWith t) answer (none_ended IsAsking (λ e i. i) (λ n i. i) (argument 0 t) (key (codes "halt") 1)) h
+
+  pub findall_asks : (t : Tree) (answer : Replied) → IsReply p q old new (reply built_in.Findall t) answer → Asks b answer
+  findall_asks t answer h = asks_none (reply built_in.Findall t) answer (none_found IsAsking (λ e i. i) (λ n i. i) (argument 0 t) (argument 1 t) (argument 2 t) (key (codes "findall") 3) (λ c i. i)) h
+
+  pub library_asks : (x : Answer) (answer : Replied) → IsReply p q old new (answered x) answer → Asks b answer
+  library_asks x answer h = asks_none (answered x) answer (no_asking_answered x) h
+
+-- what a goal asks is settled by its row
+pub setting_settles : (b : BuiltIn) (t : Tree) (row : Setting) (settles : ℕ → World → Settled) → b ≡ built_in.Setting row → reply b t ≡ AsksWorld settles → settles ≡ (λ n w. setting_settled row t w)
+setting_settles b t row settles own is =
+    let there : AsksWorld (λ n w. setting_settled row t w) ≡ AsksWorld settles = subst (λ (x : BuiltIn). reply x t ≡ AsksWorld settles) own is in
+    cc
+
+pub storage_settles : (b : BuiltIn) (t : Tree) (row : Storage) (settles : ℕ → World → Settled) → b ≡ built_in.Storage row → reply b t ≡ AsksWorld settles → settles ≡ (λ n w. storage_settled row t n w)
+storage_settles b t row settles own is =
+    let there : AsksWorld (λ n w. storage_settled row t n w) ≡ AsksWorld settles = subst (λ (x : BuiltIn). reply x t ≡ AsksWorld settles) own is in
+    cc

@@ -177,6 +177,7 @@ left_stays query named p links a keeps (left.Again place) has = record { on = ha
 left_stays query named p links a keeps (left.Catching goal place) has = record { holds = has.holds; three = has.three; on = has.on; is = has.is }
 left_stays query named p links a keeps (left.Gathering result place gathered) has = record { holds = has.holds; on = has.on; is = has.is; fits = has.fits }
 left_stays query named p links a keeps (left.Offered goal place offers) has = record { holds = has.holds; on = has.on; made = has.made; is = has.is; some = has.some }
+left_stays query named p links a keeps (left.Shown shown) has = record { head = has.head; body = has.body; on = has.on; key = has.key; key_is = has.key_is; user = has.user; clauses = has.clauses; is = has.is; are = keeps shown.clause shown.later has.clauses has.are }
 left_stays query named p links a keeps (left.Clauses attempt) has = record { call = has.call; clauses = has.clauses; at = has.at; left = has.left; are = keeps attempt.clause attempt.later has.clauses has.are }
 
 module _ {W M : Type 0} {older : M → M → Type 0} {base : M} {leaves : Leaving} {query : List W} {named : List ℕ} where

@@ -69,6 +69,7 @@ choice_cost costs (left.Again place) = suc (rest_cost costs place)
 choice_cost costs (left.Catching goal place) = left_cost 1 (rest_cost costs place)
 choice_cost costs (left.Gathering result place gathered) = suc (rest_cost costs place)
 choice_cost costs (left.Offered goal place offers) = left_cost (length offers.items) (rest_cost costs place)
+choice_cost costs (left.Shown shown) = left_cost (suc (remaining shown.later)) (rest_cost costs shown.rest)
 choice_cost costs (left.Clauses attempt) = left_cost (suc (remaining attempt.later)) (rest_cost costs attempt.rest)
 
 abbrev pub choices_cost : {W M : Type 0} → List ℕ → List (kept.Choice W M) → ℕ

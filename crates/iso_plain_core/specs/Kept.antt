@@ -9,7 +9,7 @@ use Rattle.iso_model.specs.Search.Databases as databases
 use Rattle.iso_model.specs.Search.Databases.{Key, key_of}
 use Rattle.iso_model.specs.Search.BuiltIns.{is_built_in}
 use Rattle.iso_model.specs.Search.Errors.{permission_error}
-use Rattle.iso_model.specs.Search.Additions.{most_variables, consult_key, Check, Fits, Faulty, UnboundHead, NotCallable, TooManyVariables, checked, prepared, fault_error, clause_of}
+use Rattle.iso_model.specs.Search.Additions.{most_variables, Check, Fits, Faulty, UnboundHead, NotCallable, TooManyVariables, checked, prepared, fault_error, clause_of}
 use Rattle.iso_model.specs.declared.terms.Term.{Term}
 use Rattle.iso_model.specs.declared.pauses.AddFault.{AddFault}
 use Rattle.iso_model.specs.declared.pauses.AddFault.TheVariants as add
@@ -68,24 +68,24 @@ pub record IsReady (p : Preparation) (t : Tree) : Type 0 where
   pub fits : prepared t ≡ Fits key body
   pub is : p ≡ clause_preparation t body
 
--- the checks found a fault, for which this is the error of a clause of the text
-abbrev pub IsRefused : Check → Tree → Type 0
-IsRefused (Fits k b) error = ⊥
-IsRefused (Faulty fault) error = fault_error consult_key fault ≡ error
+-- the checks found a fault, for which this procedure raises this error
+abbrev pub IsRefused : Key → Check → Tree → Type 0
+IsRefused by (Fits k b) error = ⊥
+IsRefused by (Faulty fault) error = fault_error by fault ≡ error
 
 -- What refuses a clause that wasn't made ready for this reason.
-abbrev pub Refuses : Fault → AddFault → Type 0
-Refuses fault.Instantiation (add.Refused ball) = term_of ball.term ≡ fault_error consult_key UnboundHead
-Refuses (fault.Callable culprit) (add.Refused ball) = term_of ball.term ≡ fault_error consult_key (NotCallable (term_of culprit))
-Refuses fault.TooManyVariables (add.Refused ball) = term_of ball.term ≡ fault_error consult_key TooManyVariables
-Refuses fault.NoMemory (add.Refused ball) = ⊥
-Refuses fault add.NoMemory = Unit {0}
+abbrev pub Refuses : Key → Fault → AddFault → Type 0
+Refuses by fault.Instantiation (add.Refused ball) = term_of ball.term ≡ fault_error by UnboundHead
+Refuses by (fault.Callable culprit) (add.Refused ball) = term_of ball.term ≡ fault_error by (NotCallable (term_of culprit))
+Refuses by fault.TooManyVariables (add.Refused ball) = term_of ball.term ≡ fault_error by TooManyVariables
+Refuses by fault.NoMemory (add.Refused ball) = ⊥
+Refuses by fault add.NoMemory = Unit {0}
 
 -- The head is that of no built-in, or the clause is refused.
-abbrev pub ChecksUser : Key → Result Unit AddFault → Type 0
-ChecksUser k (Ok u) = is_built_in k ≡ false
-ChecksUser k (Err (add.Refused ball)) = (is_built_in k ≡ true) × (term_of ball.term ≡ permission_error k consult_key)
-ChecksUser k (Err add.NoMemory) = Unit {0}
+abbrev pub ChecksUser : Key → Key → Result Unit AddFault → Type 0
+ChecksUser by k (Ok u) = is_built_in k ≡ false
+ChecksUser by k (Err (add.Refused ball)) = (is_built_in k ≡ true) × (term_of ball.term ≡ permission_error k by)
+ChecksUser by k (Err add.NoMemory) = Unit {0}
 
 -- The clause may be added, whatever its number will be.
 pub record IsAddition (t : Tree) (kept : Checked) : Type 0 where
@@ -96,8 +96,8 @@ pub record IsAddition (t : Tree) (kept : Checked) : Type 0 where
   pub user : is_built_in key ≡ false
   pub fits : checked t ≡ Fits key body
 
--- The clause is to be added, or refused with its error.
-abbrev pub Prepares : Tree → Result Checked AddFault → Type 0
-Prepares t (Ok kept) = IsAddition t kept
-Prepares t (Err (add.Refused ball)) = IsRefused (checked t) (term_of ball.term)
-Prepares t (Err add.NoMemory) = Unit {0}
+-- The clause is to be added, or refused with the error that this procedure raises.
+abbrev pub Prepares : Key → Tree → Result Checked AddFault → Type 0
+Prepares by t (Ok kept) = IsAddition t kept
+Prepares by t (Err (add.Refused ball)) = IsRefused by (checked t) (term_of ball.term)
+Prepares by t (Err add.NoMemory) = Unit {0}

@@ -19,7 +19,9 @@ pub data AreClauses (names : List (List ℕ)) : List (db.Clause Clause) → List
 -- the same kind of procedure
 abbrev pub IsKind : Kind → databases.Kind → Type 0
 IsKind kind.Static databases.Static = Unit {0}
+IsKind kind.Static databases.Dynamic = ⊥
 IsKind kind.Dynamic databases.Static = ⊥
+IsKind kind.Dynamic databases.Dynamic = Unit {0}
 
 -- a procedure that is there is one of the language with these clauses; one that is absent is none, and has no clauses
 abbrev pub IsProcedure : List (List ℕ) → Option Kind → List (db.Clause Clause) → Option databases.Procedure → Type 0

@@ -10,6 +10,8 @@ use Rattle.iso_model.specs.Terms.Unifiers.{Unifier, NeverEqual}
 use Rattle.iso_model.specs.Search.Bodies.{Body, map_body}
 use Rattle.iso_model.specs.Search.BuiltIns.{Reply, Fails, Succeeds, Equates, EquatesCopy, Raises, Calls, CallsOnce, Refutes, Repeats, Catches, Gathers, Halts, AsksWorld, goal_reply}
 use Rattle.iso_model.specs.Search.Errors.{Key, max_arity_error}
+use Rattle.iso_model.specs.declared.built_ins.BuiltIn.{BuiltIn}
+use Rattle.iso_model.specs.declared.built_ins.BuiltIn.TheVariants as built
 use Rattle.iso_store_core.specs.Presents.{Present, Binds, KeepsWords}
 use Rattle.iso_lib_core.specs.Replies.{IsUnbound, UnifiesCopy}
 use Rattle.iso_plain_core.specs.declared.bodies.Node.{Node}
@@ -105,5 +107,12 @@ IsReply p q old new (CallsOnce b) (replied.CallsOnce place) = Places p q old new
 IsReply p q old new (Refutes b) (replied.Refutes place) = Places p q old new b place
 IsReply p q old new (Gathers template b result) (replied.Gathers place) = Places p q old new b place
 IsReply p q old new Repeats replied.Repeats = (q ≡ p) × (new ≡ old)
-IsReply p q old new (AsksWorld row t) (replied.AsksWorld r) = (r ≡ row) × (q ≡ p) × (new ≡ old)
+IsReply p q old new (AsksWorld settles) (replied.AsksSettings row) = (q ≡ p) × (new ≡ old)
+IsReply p q old new (AsksWorld settles) (replied.AsksDatabase row) = (q ≡ p) × (new ≡ old)
 IsReply p q old new reply answer = ⊥
+
+-- Of this built-in: where it asks what outlives a run, it is one of this row.
+abbrev pub Asks : BuiltIn → Replied → Type 0
+Asks b (replied.AsksSettings row) = b ≡ built.Setting row
+Asks b (replied.AsksDatabase row) = b ≡ built.Storage row
+Asks b answer = Unit {0}

@@ -1,20 +1,21 @@
 -- How the engine's parts stand for a state of the search.
-use Rattle.std.specs.Prelude.{◌≡◌, ℕ, ◌+◌, ◌*◌, ◌-◌, ◌≤◌, ◌<◌, List, [], ◌∷◌, ◌++◌, length, take, Option, Some, None, true, ◌⊎◌}
+use Rattle.std.specs.Prelude.{◌≡◌, ℕ, ◌+◌, ◌*◌, ◌-◌, ◌≤◌, ◌<◌, List, [], ◌∷◌, ◌++◌, length, map, take, Option, Some, None, true, ◌⊎◌}
 use Rattle.std.specs.List.{slice_get}
-use Rattle.iso_model.specs.Terms.Trees.{Tree, Variable, arities_fit}
+use Rattle.iso_model.specs.Terms.Trees.{Tree, Variable, row, arities_fit}
 use Rattle.iso_model.specs.Terms.Arguments.{arity, argument}
 use Rattle.iso_model.specs.Terms.Variables.{variables}
 use Rattle.iso_model.specs.Terms.Lists.{list_of}
 use Rattle.iso_model.specs.Terms.Substitutions.{Subst}
 use Rattle.iso_model.specs.Search.Bodies.{Body, Run}
-use Rattle.iso_model.specs.Search.Databases.{Clause}
+use Rattle.iso_model.specs.Search.Databases.{Clause, Key, key_of}
+use Rattle.iso_model.specs.Search.BuiltIns.{built_in}
 use Rattle.iso_model.specs.Search.Walker.{State, Member, Goal, CutTo, Fail, Leave, Raise, Gather, Alternative, AsIs, Again, Clauses, Catching, Gathering, Offered, idle}
 use Rattle.iso_model.specs.Search.Walker as walker
 use Rattle.iso_store_core.specs.Presents.{Present, meaning}
 use Rattle.iso_plain_core.specs.Nodes.{At, IsTree}
 use Rattle.iso_plain_core.specs.Leaving.{Leaving}
 use Rattle.iso_plain_core.specs.Solutions.{copies_of}
-use Rattle.iso_plain_core.specs.Offers.{goal_arguments, rights_of}
+use Rattle.iso_plain_core.specs.Offers.{goal_arguments, rights_of, clause_offer}
 use Rattle.iso_lib.specs.declared.settings.Offer.{Offer}
 use Rattle.iso_plain_core.specs.declared.solutions.Gathered.{Gathered}
 use Rattle.iso_plain_core.specs.declared.bodies.Node.{Node}
@@ -24,6 +25,7 @@ use Rattle.iso_plain_core.specs.declared.parts.Frame.{Frame}
 use Rattle.iso_plain_core.specs.declared.parts.Left.{Left}
 use Rattle.iso_plain_core.specs.declared.parts.Left.TheVariants as left
 use Rattle.iso_plain_core.specs.declared.parts.Attempt.{Attempt}
+use Rattle.iso_plain_core.specs.declared.parts.Showing.{Showing}
 use Rattle.iso_plain_core.specs.declared.parts.Choice as kept
 use Rattle.iso_plain_core.specs.declared.parts.Now.{Now}
 use Rattle.iso_plain_core.specs.declared.parts.Now.TheVariants as now
@@ -143,8 +145,21 @@ module _ {W : Type 0} (leaves : Leaving) (query : List W) (named : List ℕ) whe
     pub holds : p.holds goal ≡ true
     pub on : OnList p links query named place a.list a.subst a.next
     pub made : ℕ
-    pub is : a.left ≡ Offered made (goal_arguments (meaning p goal)) (rights_of offers)
+    pub is : a.left ≡ Offered (goal_arguments (meaning p goal)) (rights_of made offers)
     pub some : 0 < length offers
+
+  -- At the alternative the heads and bodies of these clauses are to be unified with two terms, before the members from this place on. They are of a user
+  -- procedure, with the key of the first term.
+  pub record HasShown (p : Present W) (links : Links W) (shown : Showing W) (a : Alternative) : Type 0 where
+    pub head : p.holds shown.head ≡ true
+    pub body : p.holds shown.body ≡ true
+    pub on : OnList p links query named shown.rest a.list a.subst a.next
+    pub key : Key
+    pub key_is : key_of (meaning p shown.head) ≡ Some key
+    pub user : built_in key ≡ None
+    pub clauses : List Clause
+    pub is : a.left ≡ Offered (row (meaning p shown.head ∷ meaning p shown.body ∷ [])) (map (clause_offer shown.removes key) clauses)
+    pub are : leaves shown.clause shown.later clauses
 
   -- over this store, this is left to be tried at the alternative
   abbrev pub HasLeft : Present W → Links W → Left W → Alternative → Type 0
@@ -154,6 +169,7 @@ module _ {W : Type 0} (leaves : Leaving) (query : List W) (named : List ℕ) whe
   HasLeft p links (left.Catching goal place) a = HasCatch p links goal place a
   HasLeft p links (left.Gathering result place gathered) a = HasGathered p links result place gathered a
   HasLeft p links (left.Offered goal place offers) a = HasOffered p links goal place offers.items a
+  HasLeft p links (left.Shown shown) a = HasShown p links shown a
 
 -- Choices are made of an engine's marks (whether a mark stands for a store, and which is older), its mark for the empty store, which clauses are left by
 -- a number and a view, and the words of the query's variables with their numbers.
@@ -193,20 +209,20 @@ pub record GainsChoice {W M : Type 0} (old new : M → Present W → Type 0) (ol
 abbrev pub most_numbers : ℕ
 most_numbers = 4611686018427387904
 
--- a step uses at most so many: those of a clause that is entered, of a ball that is caught, or of the list that a findall/3 has gathered
+-- a step uses at most so many: those of a clause that is entered or shown, of a ball that is caught, or of the list that a findall/3 has gathered
 abbrev pub numbers_a_step : ℕ
 numbers_a_step = 536870912
 
--- how many clauses are entered, balls caught, or lists made, at once where this is tried, without a step
+-- how many clauses are entered or shown, balls caught, or lists made, at once where this is tried, without a step
 abbrev pub entered_at : walker.Left → ℕ
 entered_at AsIs = 0
 entered_at Again = 0
 entered_at (Clauses call cs) = 1
 entered_at (Catching catcher recovery) = 1
 entered_at (Gathering result copies count) = 1
-entered_at (Offered made left rights) = 0
+entered_at (Offered left rights) = 1
 
--- Room is left for the numbers of a clause entered, a ball caught or a list made at each alternative, and in each step that is left.
+-- Room is left for the numbers of a clause entered or shown, a ball caught or a list made at each alternative, and in each step that is left.
 abbrev pub HaveRoom : ℕ → List Alternative → Type 0
 HaveRoom steps [] = Unit {0}
 HaveRoom steps (a ∷ ks) = (a.next + numbers_a_step * (steps + entered_at a.left) ≤ most_numbers) × HaveRoom steps ks

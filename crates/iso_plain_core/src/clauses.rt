@@ -66,35 +66,36 @@ fn parts_of(alloc: Global, prepared: &Prepared) -> Result<Vec<Node<Term>>, Alloc
     bodies::parts_of(alloc, prepared)
 }
 
-/// That the head is that of no built-in and of no control construct.
-fn check_user(alloc: Global, name: &str, arity: usize) -> Result<(), AddFault>
+/// That the head is that of no built-in and of no control construct; the error is raised by this procedure of one argument.
+fn check_user(alloc: Global, name: &str, arity: usize, by: &str) -> Result<(), AddFault>
     requires { arity < 256 }
-    ensures { ChecksUser (key name.now arity) result }
+    ensures { ChecksUser (key by.now 1) (key name.now arity) result }
 {
     if is_built_in(name, arity) {
-        return Err(AddFault::Refused(errors::static_procedure(alloc, name, arity)?));
+        let ball = errors::static_procedure(alloc, name, arity, by)?;
+        return Err(AddFault::Refused(ball));
     }
     Ok(())
 }
 
-/// The error by which a clause is refused that wasn't prepared for this reason, raised by `consult/1`.
-fn refusal(alloc: Global, fault: Fault) -> Result<AddFault, AllocError>
-    ensures { IfOk result (Refuses fault) }
+/// The error by which a clause is refused that wasn't prepared for this reason, raised by this procedure of one argument.
+fn refusal(alloc: Global, fault: Fault, by: &str) -> Result<AddFault, AllocError>
+    ensures { IfOk result (Refuses (key by.now 1) fault) }
 {
     match fault {
-        Fault::Instantiation => Ok(AddFault::Refused(errors::instantiation(alloc, "consult", 1)?)),
+        Fault::Instantiation => Ok(AddFault::Refused(errors::instantiation(alloc, by, 1)?)),
         Fault::Callable(culprit) => Ok(AddFault::Refused(errors::not_callable(
-            alloc, culprit, "consult", 1,
+            alloc, culprit, by, 1,
         )?)),
-        Fault::TooManyVariables => Ok(AddFault::Refused(errors::too_many_variables(alloc)?)),
+        Fault::TooManyVariables => Ok(AddFault::Refused(errors::too_many_variables(alloc, by)?)),
         Fault::NoMemory => Ok(AddFault::NoMemory),
     }
 }
 
 /// The prepared clause as it is kept. Refused where its head is that of a built-in or of a control construct.
-fn kept(alloc: Global, prepared: &Prepared) -> Result<Checked, AddFault>
+fn kept(alloc: Global, prepared: &Prepared, by: &str) -> Result<Checked, AddFault>
     requires { (t : Tree) × IsReady prepared.now t }
-    ensures { (t : Tree) → IsReady prepared.now t → Prepares t result }
+    ensures { (t : Tree) → IsReady prepared.now t → Prepares (key by.now 1) t result }
 {
     let Some(head) = prepared.head() else {
         unreachable!();
@@ -102,7 +103,7 @@ fn kept(alloc: Global, prepared: &Prepared) -> Result<Checked, AddFault>
     let Some((name, arity)) = indicator_of(head) else {
         unreachable!();
     };
-    check_user(alloc, name, arity)?;
+    check_user(alloc, name, arity, by)?;
     let head = copied(alloc, head)?;
     let parts = parts_of(alloc, prepared)?;
     Ok(Checked {
@@ -112,17 +113,17 @@ fn kept(alloc: Global, prepared: &Prepared) -> Result<Checked, AddFault>
     })
 }
 
-/// The clause, checked and converted (8.9.2, with Info `consult/1`). Refused where the head is a variable
-/// (`instantiation_error`) or a number (`type_error(callable, Head)`), where the body can't be converted
+/// The clause, checked and converted for this procedure of one argument, which raises the errors (8.9.1, 8.9.2). Refused where the head is
+/// a variable (`instantiation_error`) or a number (`type_error(callable, Head)`), where the body can't be converted
 /// (`type_error(callable, Body)`), where there are more than 65,535 distinct variables
 /// (`representation_error(max_variables)`), or where the head is that of a built-in
 /// (`permission_error(modify, static_procedure, PI)`), checked in this order.
-pub fn prepare(alloc: Global, clause: &Term) -> Result<Checked, AddFault>
+pub fn prepare(alloc: Global, clause: &Term, by: &str) -> Result<Checked, AddFault>
     requires { arities_fit (term_of clause.now) ≡ true }
-    ensures { Prepares (term_of clause.now) result }
+    ensures { Prepares (key by.now 1) (term_of clause.now) result }
 {
     match iso_prep::prepare(alloc, clause) {
-        Ok(prepared) => kept(alloc, &prepared),
-        Err(fault) => Err(refusal(alloc, fault)?),
+        Ok(prepared) => kept(alloc, &prepared, by),
+        Err(fault) => Err(refusal(alloc, fault, by)?),
     }
 }

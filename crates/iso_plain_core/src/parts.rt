@@ -55,6 +55,19 @@ pub struct Attempt<W> {
     pub rest: Option<usize>,
 }
 
+/// A clause whose head and body are to be unified with two terms, a view of those behind it, and the place of the member behind the goal
+/// (8.8.1, 8.9.3).
+#[derive(Clone, Copy)]
+pub struct Showing<W> {
+    pub clause: ClauseId,
+    pub later: View,
+    pub head: W,
+    pub body: W,
+    /// Whether a clause is removed when it was unified (8.9.3).
+    pub removes: bool,
+    pub rest: Option<usize>,
+}
+
 /// What is left to be tried at a choice.
 #[derive(Drop)]
 pub enum Left<W> {
@@ -70,6 +83,8 @@ pub enum Left<W> {
     Gathering(W, Option<usize>, Gathered),
     /// To unify the arguments of this goal with rows of constants, the last of them first, before the members from this place on.
     Offered(W, Option<usize>, Vec<Offer>),
+    /// The heads and bodies of the clauses from this one on.
+    Shown(Showing<W>),
 }
 
 /// What is left to be tried, and what to go back to first.

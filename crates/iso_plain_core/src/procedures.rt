@@ -3,29 +3,34 @@ ghost use Rattle.std.specs.Prelude.{◌≡◌, ◌<◌, ℕ, List, OnOk, OnErr, 
 ghost use Rattle.iso_model.specs.Search.Databases as databases;
 ghost use Rattle.iso_model.specs.Search.BuiltIns.{built_in};
 ghost use Rattle.iso_model.specs.Search.Errors.{key};
+ghost use Rattle.iso_db.specs.Databases.{kind_at};
 ghost use Rattle.iso_db.specs.Presents.{contents, KeepsViews, KeepsClauses};
 ghost use Rattle.iso_plain_core.specs.Kept.{IsClause};
 ghost use Rattle.iso_plain_core.specs.Callables.{Finds, callee_at};
-ghost use Rattle.iso_plain_core.specs.Programs.{IsDatabase, place_at};
-ghost use Rattle.iso_plain_core.specs.Adding.{IsFound, with_last};
+ghost use Rattle.iso_plain_core.specs.Programs.{IsDatabase, place_at, kind_of, kept_at};
+ghost use Rattle.iso_plain_core.specs.Adding.{IsFound, MayCome, came, with_more};
 ghost use Rattle.iso_plain_core.specs.declared.callables.Callee.TheVariants as callee;
 
 use super::callables::{self, Callable, Callee};
 use super::clauses::Clause;
-use iso_atoms::Atom;
-use iso_db::Db;
+use iso_db::{Db, DbFault};
+use iso_lib::indicators::Functor;
 use std::alloc::{AllocError, Global};
 
-/// The name of a procedure, by its atom, and how many arguments goals of it have.
+/// How a clause comes to its procedure.
 #[derive(Clone, Copy)]
-pub struct Functor {
-    pub name: Atom,
-    pub arity: usize,
+pub enum Way {
+    /// At the end, from a text; a new procedure is static.
+    Consulted,
+    /// Before the others, by a goal (8.9.1); a new procedure is dynamic.
+    First,
+    /// Behind the others, by a goal (8.9.2); a new procedure is dynamic.
+    Last,
 }
 
 /// The place of the procedure of this name, whose text this is: the one that it has, or a new one. The error is that memory was refused.
 /// No procedure comes or goes by it.
-fn place(
+pub fn place(
     alloc: Global,
     db: &mut Db<Clause>,
     callables: &mut Vec<Vec<Callable>>,
@@ -36,6 +41,7 @@ fn place(
     requires user { built_in (key text.now functor.arity) ≡ None }
     ensures place { IfOk result (λ place. place_at (contents db.new) (key text.now functor.arity) ≡ Some place) }
     ensures within { IfOk result (λ place. place < length (contents db.new).procedures) }
+    ensures kind { IfOk result (λ place. kind_at (contents db.new) place ≡ kind_of (kept_at (contents db.old) (key text.now functor.arity))) }
     ensures called { IfOk result (λ place. callee_at callables.new.items functor.name functor.arity ≡ Some (callee.User place)) }
     ensures found { (names : List (List ℕ)) → IsFound names functor text.now (contents db.old) callables.old.items → Finds names callables.new.items (contents db.new) }
     ensures database { (names : List (List ℕ)) (m : databases.Database) → IsDatabase names (contents db.old) m → IsDatabase names (contents db.new) m }
@@ -54,7 +60,34 @@ fn place(
     }
 }
 
-/// Adds the clause at the end of its procedure, whose name has this text, and which is made where there is none.
+/// Adds the clause to the procedure at this place, which may take it. The error is that memory was refused; nothing changed then.
+fn insert(db: &mut Db<Clause>, place: usize, way: Way, clause: Clause) -> Result<(), AllocError>
+    requires within { place < length (contents db.old).procedures }
+    requires allowed { MayCome way (kind_at (contents db.old) place) }
+    ensures contents { OnOk result (contents db.new ≡ came way place clause (contents db.old)) }
+    ensures unchanged { OnErr result (contents db.new ≡ contents db.old) }
+    ensures views { KeepsViews db.old db.new }
+    ensures clauses { KeepsClauses db.old db.new }
+{
+    match way {
+        Way::Consulted => {
+            db.add_consulted(place, clause)?;
+            Ok(())
+        }
+        Way::First => match db.add_first(place, clause) {
+            Ok(_) => Ok(()),
+            Err(DbFault::Static) => unreachable!(),
+            Err(DbFault::NoMemory | DbFault::Unknown) => Err(AllocError),
+        },
+        Way::Last => match db.add_last(place, clause) {
+            Ok(_) => Ok(()),
+            Err(DbFault::Static) => unreachable!(),
+            Err(DbFault::NoMemory | DbFault::Unknown) => Err(AllocError),
+        },
+    }
+}
+
+/// Adds the clause to its procedure, whose name has this text, and which is made where there is none.
 /// The error is that memory was refused; the procedures are as they were then.
 pub fn add(
     alloc: Global,
@@ -62,19 +95,20 @@ pub fn add(
     callables: &mut Vec<Vec<Callable>>,
     functor: Functor,
     text: &str,
+    way: Way,
     clause: Clause,
 ) -> Result<(), AllocError>
     requires named { (names : List (List ℕ)) × IsFound names functor text.now (contents db.old) callables.old.items }
     requires user { built_in (key text.now functor.arity) ≡ None }
+    requires allowed { MayCome way (kind_of (kept_at (contents db.old) (key text.now functor.arity))) }
     ensures ok { OnOk result ((names : List (List ℕ)) (m : databases.Database) (c : databases.Clause) → IsFound names functor text.now (contents db.old) callables.old.items
         → IsDatabase names (contents db.old) m → IsClause names clause c → c.number ≡ m.added
-        → IsDatabase names (contents db.new) (with_last m (key text.now functor.arity) c) × Finds names callables.new.items (contents db.new)) }
+        → IsDatabase names (contents db.new) (with_more way m (key text.now functor.arity) c) × Finds names callables.new.items (contents db.new)) }
     ensures err { OnErr result ((names : List (List ℕ)) (m : databases.Database) → IsFound names functor text.now (contents db.old) callables.old.items
         → IsDatabase names (contents db.old) m → IsDatabase names (contents db.new) m × Finds names callables.new.items (contents db.new)) }
     ensures views { KeepsViews db.old db.new }
     ensures clauses { KeepsClauses db.old db.new }
 {
     let place = place(alloc, db, callables, functor, text)?;
-    db.add_consulted(place, clause)?;
-    Ok(())
+    insert(db, place, way, clause)
 }

@@ -9,7 +9,7 @@ ghost use Rattle.iso_store_core.specs.Presents.{Holds, meaning, KeepsMarks};
 ghost use Rattle.iso_plain_core.specs.GoalKinds.{IsBuiltIn};
 ghost use Rattle.iso_plain_core.specs.Controls.{AreControls};
 ghost use Rattle.iso_plain_core.specs.Vocabularies.{IsVocabulary};
-ghost use Rattle.iso_plain_core.specs.Replies.{IsReply, IsHalt};
+ghost use Rattle.iso_plain_core.specs.Replies.{IsReply, IsHalt, Asks};
 ghost use Rattle.iso_model.specs.Terms.Trees.{arities_fit};
 ghost use Rattle.iso_model.specs.Terms.TermOf.{term_of};
 ghost use Rattle.iso_model.specs.Terms.Arguments as arguments;
@@ -21,7 +21,7 @@ use super::controls::Controls;
 use super::goals::{Placed, place_argument, place_called};
 use super::vocabulary::Vocabulary;
 use iso_lib::{Fault, Reply, builtin, errors, lists};
-use iso_model::{Ball, BuiltIn, Library, NoMemory, Setting, Term};
+use iso_model::{Ball, BuiltIn, Library, NoMemory, Setting, Storage, Term};
 use iso_store_core::{Shape, Store, StoreFault};
 use std::alloc::Global;
 
@@ -49,7 +49,9 @@ pub enum Replied {
     /// The session ends with this status (8.17.3, 8.17.4).
     Halts(u8),
     /// What it comes to rests on the operators and the flags (8.14.3, 8.14.4, 8.17.1, 8.17.2).
-    AsksWorld(Setting),
+    AsksSettings(Setting),
+    /// What it comes to rests on the database (8.8, 8.9).
+    AsksDatabase(Storage),
 }
 
 /// Runs the goal of this built-in: what it comes to. The errors: the store is full, or memory was refused.
@@ -67,6 +69,7 @@ pub fn reply<S: Store>(
     requires vocabulary { IsVocabulary (S.names store.old) vocabulary.now }
     ensures replies { IfOk result (IsReply (S.present store.old) (S.present store.new) nodes.old.items nodes.new.items
         (table.reply built_in (meaning (S.present store.old) goal))) }
+    ensures asks { IfOk result (Asks built_in) }
     ensures nodes { Adds nodes.old.items nodes.new.items }
     ensures full { result ≡ Err StoreFault.Full → S.full store.new }
     ensures names { KeepsTexts (S.names store.old) (S.names store.new) }
@@ -97,7 +100,8 @@ pub fn reply<S: Store>(
         BuiltIn::HaltWith => halted(alloc, store, goal),
         BuiltIn::Findall => findall(alloc, store, controls, nodes, goal),
         BuiltIn::Library(row) => library(alloc, store, vocabulary, row, goal),
-        BuiltIn::Setting(row) => Ok(Replied::AsksWorld(row)),
+        BuiltIn::Setting(row) => Ok(Replied::AsksSettings(row)),
+        BuiltIn::Storage(row) => Ok(Replied::AsksDatabase(row)),
     }
 }
 

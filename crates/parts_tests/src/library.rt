@@ -734,7 +734,7 @@ fn makes_errors_of_procedures(rt: HostRuntime) -> Result<(), Fail> {
     let ball = errors::unknown_procedure(alloc, "foo", 0)?;
     let wanted = "error(existence_error(procedure,/(foo,0)),/(foo,0))";
     expect_ball(&rt, alloc, ball, wanted)?;
-    let ball = errors::static_procedure(alloc, "foo", 3)?;
+    let ball = errors::static_procedure(alloc, "foo", 3, "consult")?;
     let wanted = "error(permission_error(modify,static_procedure,/(foo,3)),/(consult,1))";
     expect_ball(&rt, alloc, ball, wanted)
 }
@@ -748,7 +748,7 @@ fn makes_errors_of_values_and_limits(rt: HostRuntime) -> Result<(), Fail> {
     let ball = errors::evaluation(alloc, "undefined", "is", 2)?;
     let wanted = "error(evaluation_error(undefined),/(is,2))";
     expect_ball(&rt, alloc, ball, wanted)?;
-    let ball = errors::too_many_variables(alloc)?;
+    let ball = errors::too_many_variables(alloc, "consult")?;
     let wanted = "error(representation_error(max_variables),/(consult,1))";
     expect_ball(&rt, alloc, ball, wanted)?;
     let ball = errors::too_many_arguments(alloc, "call", 8)?;

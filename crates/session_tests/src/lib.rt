@@ -8,6 +8,8 @@ mod catch;
 #[cfg(test)]
 mod control;
 #[cfg(test)]
+mod database;
+#[cfg(test)]
 mod directives;
 #[cfg(test)]
 mod language;

@@ -5,8 +5,8 @@ use Rattle.iso_model.specs.Terms.Trees.{Tree, Variable, Name, Apply, End, More}
 use Rattle.iso_model.specs.Terms.Variables.{variable_count}
 use Rattle.iso_model.specs.Terms.Copies.{copy_from}
 use Rattle.iso_model.specs.Search.Bodies.{Body, converted}
-use Rattle.iso_model.specs.Search.BuiltIns.{is_built_in}
-use Rattle.iso_model.specs.Search.Databases.{Clause, Key, Database, Place, at_end, key, key_of, with_clause}
+use Rattle.iso_model.specs.Search.Table.{is_built_in}
+use Rattle.iso_model.specs.Search.Databases.{Clause, Key, Kind, Static, Dynamic, Database, Procedures, Place, at_end, key, key_of, kind_at, is_static, with_clause}
 use Rattle.iso_model.specs.Search.Errors.{instantiation_error, type_error_callable, permission_error, max_variables_error}
 
 -- the head of a clause `Head :- Body`, or of a fact
@@ -65,6 +65,11 @@ user_checked (Faulty fault) = Faulty fault
 abbrev pub checked : Tree → Check
 checked t = user_checked (prepared t)
 
+-- goals change dynamic procedures alone (8.9.1.3)
+abbrev pub dynamic_checked : Procedures → Check → Check
+dynamic_checked ps (Fits k b) = if is_static (kind_at ps k) then Faulty (NotUser k) else Fits k b
+dynamic_checked ps (Faulty fault) = Faulty fault
+
 -- the error that this procedure raises for the fault
 abbrev pub fault_error : Key → ClauseFault → Tree
 fault_error by UnboundHead = instantiation_error by
@@ -78,27 +83,27 @@ fault_error by (NotUser k) = permission_error k by
 abbrev pub clause_of : Tree → Body → ℕ → Clause
 clause_of t b n = record { number = n; head = head_of (copy_from t 0); body = b; variables = variable_count t }
 
--- the database with the clause
-abbrev pub with_added : Place → Tree → Key → Body → Database → Database
-with_added place t k b db = record { procedures = with_clause place db.procedures k (clause_of t b db.added); added = db.added + 1 }
+-- the database with the clause, whose procedure gets this kind where it is new
+abbrev pub with_added : Place → Kind → Tree → Key → Body → Database → Database
+with_added place kind t k b db = record { procedures = with_clause place kind db.procedures k (clause_of t b db.added); added = db.added + 1 }
 
 -- what adding a clause comes to
 pub data Addition : Type 0 where
   Adds : (after : Database) → Addition
   Refuses : (error : Tree) → Addition
 
-abbrev pub addition_by : Place → Key → Tree → Database → Check → Addition
-addition_by place by t db (Fits k b) = Adds (with_added place t k b db)
-addition_by place by t db (Faulty fault) = Refuses (fault_error by fault)
-
--- the clause is added at this place of its procedure, or refused with an error that this procedure raises
-abbrev pub addition : Place → Key → Tree → Database → Addition
-addition place by t db = addition_by place by t db (checked t)
+abbrev pub addition_by : Place → Kind → Key → Tree → Database → Check → Addition
+addition_by place kind by t db (Fits k b) = Adds (with_added place kind t k b db)
+addition_by place kind by t db (Faulty fault) = Refuses (fault_error by fault)
 
 -- the procedure that adds the clauses of a text, as errors name it (own)
 abbrev pub consult_key : Key
 consult_key = key (codes "consult") 1
 
--- a clause of the text comes at the end of its procedure
+-- a clause of the text comes at the end of its procedure, which is static where it is new
 abbrev pub consulted : Tree → Database → Addition
-consulted t db = addition at_end consult_key t db
+consulted t db = addition_by at_end Static consult_key t db (checked t)
+
+-- A goal of this procedure adds the clause at this place of its procedure, which is dynamic where it is new; or it raises an error (8.9.1, 8.9.2).
+abbrev pub asserted : Place → Key → Tree → Database → Addition
+asserted place by t db = addition_by place Dynamic by t db (dynamic_checked db.procedures (checked t))

@@ -2,7 +2,8 @@
 use Rattle.std.specs.Prelude.{ℕ}
 use Rattle.iso_model.specs.Terms.Trees.{Tree}
 use Rattle.iso_model.specs.Search.Bodies.{Body}
-use Rattle.iso_model.specs.declared.library.Setting.{Setting}
+use Rattle.iso_model.specs.Search.Worlds.{World}
+use Rattle.iso_model.specs.Search.Settlements.{Settled}
 
 -- what a goal of a built-in comes to
 pub data Reply : Type 0 where
@@ -28,8 +29,8 @@ pub data Reply : Type 0 where
   Gathers : (template : Tree) → (goal : Body) → (result : Tree) → Reply
   -- the search ends with this status
   Halts : (status : ℕ) → Reply
-  -- what this goal comes to rests on the world
-  AsksWorld : (row : Setting) → (goal : Tree) → Reply
+  -- what it comes to rests on the next variable number and on the world
+  AsksWorld : (settles : ℕ → World → Settled) → Reply
 
 -- what a goal of a built-in comes to that runs no goal
 pub data Answer : Type 0 where

@@ -7,8 +7,9 @@ pub mod Moves
 pub mod Marks
 pub mod TermValues
 pub mod LibraryValues
-pub mod Values
 pub mod SettingValues
+pub mod StorageValues
+pub mod Values
 pub mod Sameness
 pub mod SameSteps
 pub mod SameRuns

@@ -16,15 +16,9 @@ use Rattle.iso_model.specs.Search.Bodies.{two}
 use Rattle.iso_model.specs.Search.Keys.{Key, key}
 use Rattle.iso_model.specs.Search.Errors.{instantiation_error, type_error, domain_error, not_permitted}
 use Rattle.iso_model.specs.Search.Worlds.{World}
+pub use Rattle.iso_model.specs.Search.Settlements.{Settled, Refuses, Changes, Offers, constant_offer}
 use Rattle.iso_model.specs.declared.library.Setting.{Setting}
 use Rattle.iso_model.specs.declared.library.Setting.TheVariants.{Op, CurrentOp, SetFlag, CurrentFlag}
-
--- What a goal that reads or changes the world comes to: an error is thrown; it succeeds, and the world is this one from then on; or the left row of terms
--- is unified with each of the right ones, which are tried in order, and so much is made for each (own).
-pub data Settled : Type 0 where
-  Refuses : (error : Tree) → Settled
-  Changes : (after : World) → Settled
-  Offers : (made : ℕ) → (left : Tree) → (rights : List Tree) → Settled
 
 -- ---- op/3 (8.14.3)
 
@@ -76,7 +70,7 @@ set_names p s (a ∷ names) ops = set_next (set_names p s names) a ops (asked_op
 
 -- an error leaves the world as it was
 abbrev pub op_set : World → Result (List Operator) Tree → Settled
-op_set w (Ok ops) = Changes (record w { operators = ops })
+op_set w (Ok ops) = Changes 0 (record w { operators = ops })
 op_set w (Err error) = Refuses error
 
 abbrev pub op_settled : Tree → Tree → Tree → World → Settled
@@ -114,7 +108,7 @@ current_op_settled p s name w =
     if not (may_be_priority p) then Refuses (domain_error (codes "operator_priority") p current_op_key) else
     (if not (may_be_specifier s) then Refuses (domain_error (codes "operator_specifier") s current_op_key) else
     (if not (may_be_atom name) then Refuses (type_error (codes "atom") name current_op_key) else
-    Offers 6 (row (p ∷ s ∷ name ∷ [])) (map operator_row w.operators)))
+    Offers (row (p ∷ s ∷ name ∷ [])) (map (λ op. constant_offer 6 (operator_row op)) w.operators)))
 
 -- ---- set_prolog_flag/2 (8.17.1)
 
@@ -131,7 +125,7 @@ flags_with f (Name v) flags = with_flag flags f v
 flags_with f t flags = None
 
 abbrev pub flag_set : List ℕ → Tree → World → Option Flags → Settled
-flag_set f v w (Some flags) = Changes (record w { flags = flags })
+flag_set f v w (Some flags) = Changes 0 (record w { flags = flags })
 flag_set f v w None = Refuses (domain_error (codes "flag_value") (two (codes "+") (Name f) v) set_flag_key)
 
 abbrev pub named_flag_settled : List ℕ → Tree → World → Settled
@@ -170,7 +164,7 @@ abbrev pub current_flag_settled : Tree → Tree → World → Settled
 current_flag_settled f v w =
     if not (may_be_atom f) then Refuses (type_error (codes "atom") f current_flag_key) else
     (if not (may_be_flag f w.flags) then Refuses (domain_error (codes "prolog_flag") f current_flag_key) else
-    Offers 4 (row (f ∷ v ∷ [])) (map flag_row (flag_entries w.flags)))
+    Offers (row (f ∷ v ∷ [])) (map (λ e. constant_offer 4 (flag_row e)) (flag_entries w.flags)))
 
 -- ---- the rows
 

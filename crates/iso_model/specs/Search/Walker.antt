@@ -1,5 +1,5 @@
 -- The standard's search, step by step (ISO/IEC 13211-1:1995, 7.7): depth first, clauses in their order, goals from left to right.
-use Rattle.std.specs.Prelude.{ℕ, zero, suc, ◌+◌, ◌-◌, List, [], ◌∷◌, ◌++◌, length, drop, map, Option, Some, None, option_map, codes, ◌==◌, if◌then◌else◌}
+use Rattle.std.specs.Prelude.{ℕ, zero, suc, ◌+◌, ◌-◌, List, [], ◌∷◌, ◌++◌, length, drop, map, Bool, true, Option, Some, None, option_map, codes, ◌==◌, if◌then◌else◌}
 use Rattle.iso_ops.specs.declared.settings.Unknown.{Unknown}
 use Rattle.iso_ops.specs.declared.settings.Unknown.TheVariants as on_unknown
 use Rattle.iso_model.specs.Terms.Trees.{Tree, Variable, Name, Apply}
@@ -10,11 +10,11 @@ use Rattle.iso_model.specs.Terms.Unification.{unifier_of}
 use Rattle.iso_model.specs.Terms.Copies.{copy_from, renamed}
 use Rattle.iso_model.specs.Terms.Lists.{list_of}
 use Rattle.iso_model.specs.Search.Bodies.{Body, Cut, Run, And, Or, If, Choose, one, converted, body_term, map_body, is_true}
-use Rattle.iso_model.specs.Search.Databases.{Clause, Key, key, key_of, clauses_at}
+use Rattle.iso_model.specs.Search.Databases.{Clause, Key, key, key_of, clauses_at, has_clause, without_clause}
 pub use Rattle.iso_model.specs.Search.Worlds.{World, first_world}
 use Rattle.iso_model.specs.Search.BuiltIns.{Reply, Fails, Succeeds, Equates, EquatesCopy, Raises, Calls, CallsOnce, Refutes, Repeats, Catches, Gathers, Halts, AsksWorld, built_in, reply}
 use Rattle.iso_model.specs.Search.Errors.{type_error_callable, existence_error}
-use Rattle.iso_model.specs.Search.Settings.{Settled, Refuses, Changes, Offers, setting_settled}
+use Rattle.iso_model.specs.Search.Settlements.{Settled, Refuses, Changes, Offers, Offer, Reference}
 use Rattle.iso_model.specs.declared.built_ins.BuiltIn.{BuiltIn}
 
 -- A member of the list of goals: a goal with its cut mark (a height of the stack), a cut back to a height, failure, the end of a catch's goal (its
@@ -31,14 +31,14 @@ pub data Member : Type 0 where
 
 -- what is left to be tried at an alternative: its goals as they are, once or again and again, these clauses for this call, or nothing: it is the entry
 -- of a catch; or what a findall/3 has gathered: the result, and the copies of its solutions so far, whose variables are 0, 1, .. up to this count; or
--- the rows of terms that the left one is still to be unified with, and what is made for each
+-- the rows of terms that the left one is still to be unified with
 pub data Left : Type 0 where
   AsIs : Left
   Again : Left
   Clauses : (call : Tree) → (clauses : List Clause) → Left
   Catching : (catcher : Tree) → (recovery : Tree) → Left
   Gathering : (result : Tree) → (copies : List Tree) → (count : ℕ) → Left
-  Offered : (made : ℕ) → (left : Tree) → (rights : List Tree) → Left
+  Offered : (left : Tree) → (rights : List Offer) → Left
 
 -- An alternative: the goals, the substitution, the next number and what was built, as they were when it was made, and what is left to
 -- be tried (7.7.8).
@@ -170,24 +170,43 @@ equated None rest s = fails s
 equated (Some u) rest s = record s { list = rest; subst = u }
 
 -- the right rows behind the first are one alternative, where there are any
-abbrev pub with_rights : ℕ → Tree → List Tree → List Member → State → State
-with_rights made left [] rest s = s
-with_rights made left (t ∷ ts) rest s = pushed rest (Offered made left (t ∷ ts)) s
+abbrev pub with_rights : Tree → List Offer → List Member → State → State
+with_rights left [] rest s = s
+with_rights left (o ∷ os) rest s = pushed rest (Offered left (o ∷ os)) s
 
--- the left row is unified with this one
-abbrev pub tried_right : ℕ → Tree → Tree → List Member → State → State
-tried_right made left right rest s = equated (under s.subst (unifier_of left right)) rest (record s { built = s.built + made })
+-- the world without the clause of a row that was taken
+abbrev pub without_removed : Option Reference → World → World
+without_removed None w = w
+without_removed (Some r) w = record w { database = record w.database { procedures = without_clause w.database.procedures r.procedure r.number } }
+
+-- the left row was unified with a right one, whose clause is removed; or not
+abbrev pub taken : Option Subst → Option Reference → List Member → State → State
+taken None removes rest s = fails s
+taken (Some u) removes rest s = record s { list = rest; subst = u; world = without_removed removes s.world }
+
+-- The left row is unified with this one, whose variables are numbered from the next number on.
+abbrev pub met_right : Tree → Offer → List Member → State → State
+met_right left o rest s =
+    taken (under s.subst (unifier_of left (apply s.subst (renamed s.next o.right)))) o.removes rest (record s { next = s.next + o.variables; built = s.built + o.made })
+
+-- whether the clause of a row is still there: a row whose clause was removed meanwhile fails (8.9.3.1; that it is passed over so is own)
+abbrev pub is_there : Option Reference → World → Bool
+is_there None w = true
+is_there (Some r) w = has_clause w.database.procedures r.procedure r.number
+
+abbrev pub tried_right : Tree → Offer → List Member → State → State
+tried_right left o rest s = if is_there o.removes s.world then met_right left o rest s else fails s
 
 -- the right rows are tried in their order
-abbrev pub offered : ℕ → Tree → List Tree → List Member → State → State
-offered made left [] rest s = fails s
-offered made left (t ∷ ts) rest s = tried_right made left t rest (with_rights made left ts rest s)
+abbrev pub offered : Tree → List Offer → List Member → State → State
+offered left [] rest s = fails s
+offered left (o ∷ os) rest s = tried_right left o rest (with_rights left os rest s)
 
--- a goal that reads or changes operators and flags comes to this
+-- a goal that reads or changes what outlives a run comes to this
 abbrev pub settled : Settled → List Member → State → State
 settled (Refuses error) rest s = record s { list = Raise error ∷ rest }
-settled (Changes w) rest s = record s { list = rest; world = w }
-settled (Offers made left rights) rest s = offered made left rights rest s
+settled (Changes made w) rest s = record s { list = rest; built = s.built + made; world = w }
+settled (Offers left rights) rest s = offered left rights rest s
 
 -- what a built-in makes is the goal that it runs (own)
 abbrev pub with_goal : Body → State → State
@@ -214,7 +233,7 @@ replied (Gathers template b result) rest s =
 replied (Halts status) rest s = Ends (Halted status) s.world
 replied (Equates made a b) rest s = Goes (equated (under s.subst (unifier_of a b)) rest (record s { built = s.built + made }))
 replied (EquatesCopy a b) rest s = Goes (equated (under s.subst (unifier_of a (apply s.subst (copy_from b s.next)))) rest (with_copy b s))
-replied (AsksWorld row t) rest s = Goes (settled (setting_settled row t s.world) rest s)
+replied (AsksWorld settles) rest s = Goes (settled (settles s.next s.world) rest s)
 
 -- What is left at an alternative is tried. A further solution of `repeat` takes a step (8.15.3; that it does is own). Where the goal of a findall/3 has no
 -- further solution, the result is unified with the list of the copies, whose variables are numbered on from the next number (8.10.1).
@@ -224,7 +243,7 @@ retried Again s = paid s.steps s (Goes (pushed s.list Again s))
 retried (Clauses call cs) s = Goes (tried call cs s.list s)
 retried (Catching catcher recovery) s = Goes (fails s)
 retried (Gathering result copies count) s = replied (EquatesCopy result (list_of copies)) s.list s
-retried (Offered made left rights) s = Goes (offered made left rights s.list s)
+retried (Offered left rights) s = Goes (offered left rights s.list s)
 
 -- failure goes on with the newest alternative; where there is none the search ends
 abbrev pub backtracked : List Alternative → State → Outcome

@@ -13,9 +13,9 @@ use Rattle.iso_model.specs.Terms.Lists.{list_of}
 use Rattle.iso_model.specs.Search.Bodies.{Body, Cut, Run, And, Or, If, Choose, map_body, is_true, converted}
 use Rattle.iso_model.specs.Search.Databases.{Clause, Key, key_of, clauses_at}
 use Rattle.iso_model.specs.Search.BuiltIns.{Reply, Fails, Succeeds, Equates, EquatesCopy, Raises, Calls, CallsOnce, Refutes, Repeats, Catches, Gathers, Halts, AsksWorld, built_in, reply}
-use Rattle.iso_model.specs.Search.Settings.{Settled, Refuses, Changes, Offers, setting_settled}
+use Rattle.iso_model.specs.Search.Settlements.{Settled, Refuses, Changes, Offers, Offer, Reference}
 use Rattle.iso_model.specs.declared.built_ins.BuiltIn.{BuiltIn}
-use Rattle.iso_model.specs.Search.Walker.{State, World, Member, Goal, CutTo, Fail, Leave, Raise, Meet, Gather, Left, AsIs, Again, Clauses, Catching, Gathering, Offered, Alternative, Outcome, Goes, Gives, Ends, charged, paid, before, entered, under, with_others, tried, retried, backtracked, unknown_called, called, equated, with_rights, offered, settled, replied, selected, run_goal, run_value, caught_at, caught, thrown, met, gathered, gathered_at, clause_size, shortened, cut_back, pushed, step_goal, step_list, step, opening, started, with_copy}
+use Rattle.iso_model.specs.Search.Walker.{State, World, Member, Goal, CutTo, Fail, Leave, Raise, Meet, Gather, Left, AsIs, Again, Clauses, Catching, Gathering, Offered, Alternative, Outcome, Goes, Gives, Ends, charged, paid, before, entered, under, with_others, tried, retried, backtracked, unknown_called, called, equated, with_rights, taken, met_right, tried_right, is_there, offered, settled, replied, selected, run_goal, run_value, caught_at, caught, thrown, met, gathered, gathered_at, clause_size, shortened, cut_back, pushed, step_goal, step_list, step, opening, started, fails, with_copy}
 
 -- The first stack is what is left of the second when some of its newest alternatives are taken away.
 pub data Under : List Alternative → List Alternative → Type 0 where
@@ -106,7 +106,7 @@ gathered_catching AsIs t h = absurd h
 gathered_catching Again t h = absurd h
 gathered_catching (Clauses call cs) t h = absurd h
 gathered_catching (Gathering result copies count) t h = absurd h
-gathered_catching (Offered made left rights) t h = absurd h
+gathered_catching (Offered left rights) t h = absurd h
 
 gathered_entry : (height : ℕ) (t : Tree) (a : Alternative) (here : Bool) → IsCatching a.left → IsCatching (if here then record a { left = gathered a.left t } else a).left
 gathered_entry height t a true h = gathered_catching a.left t h
@@ -182,24 +182,35 @@ equated_marked : (u : Option Subst) (rest : List Member) (s : State) → Marked 
 equated_marked None rest s marked k = fails_marked s k
 equated_marked (Some u) rest s marked k = record { list = marked; stack = k }
 
-rights_stacked : (made : ℕ) (left : Tree) (ts : List Tree) (rest : List Member) (s : State) → Marked s.stack rest → Stacked s.stack → Stacked (with_rights made left ts rest s).stack
-rights_stacked made left [] rest s marked k = k
-rights_stacked made left (t ∷ ts) rest s marked k = more marked k
+taken_marked : (u : Option Subst) (removes : Option Reference) (rest : List Member) (s : State) → Marked s.stack rest → Stacked s.stack → IsMarked (taken u removes rest s)
+taken_marked None removes rest s marked k = fails_marked s k
+taken_marked (Some u) removes rest s marked k = record { list = marked; stack = k }
 
-rights_under : (made : ℕ) (left : Tree) (ts : List Tree) (rest : List Member) (s : State) → Under s.stack (with_rights made left ts rest s).stack
-rights_under made left [] rest s = all
-rights_under made left (t ∷ ts) rest s = above all
+rights_stacked : (left : Tree) (os : List Offer) (rest : List Member) (s : State) → Marked s.stack rest → Stacked s.stack → Stacked (with_rights left os rest s).stack
+rights_stacked left [] rest s marked k = k
+rights_stacked left (o ∷ os) rest s marked k = more marked k
 
-offered_marked : (made : ℕ) (left : Tree) (ts : List Tree) (rest : List Member) (s : State) → Marked s.stack rest → Stacked s.stack → IsMarked (offered made left ts rest s)
-offered_marked made left [] rest s marked k = fails_marked s k
-offered_marked made left (t ∷ ts) rest s marked k =
-    let p = with_rights made left ts rest s in
-    equated_marked (under p.subst (unifier_of left t)) rest (record p { built = p.built + made }) (marked_on (rights_under made left ts rest s) marked) (rights_stacked made left ts rest s marked k)
+rights_under : (left : Tree) (os : List Offer) (rest : List Member) (s : State) → Under s.stack (with_rights left os rest s).stack
+rights_under left [] rest s = all
+rights_under left (o ∷ os) rest s = above all
+
+right_marked : (left : Tree) (o : Offer) (os : List Offer) (rest : List Member) (s : State) → Marked s.stack rest → Stacked s.stack → IsMarked (tried_right left o rest (with_rights left os rest s))
+right_marked left o os rest s marked k =
+    let p = with_rights left os rest s in
+    elim (is_there o.removes p.world) as (λ x. IsMarked (if x then met_right left o rest p else fails p)) [
+      | true ↦ taken_marked (under p.subst (unifier_of left (apply p.subst (renamed p.next o.right)))) o.removes rest (record p { next = p.next + o.variables; built = p.built + o.made })
+        (marked_on (rights_under left os rest s) marked) (rights_stacked left os rest s marked k)
+      | false ↦ fails_marked p (rights_stacked left os rest s marked k)
+    ]
+
+offered_marked : (left : Tree) (os : List Offer) (rest : List Member) (s : State) → Marked s.stack rest → Stacked s.stack → IsMarked (offered left os rest s)
+offered_marked left [] rest s marked k = fails_marked s k
+offered_marked left (o ∷ os) rest s marked k = right_marked left o os rest s marked k
 
 settled_marked : (x : Settled) (rest : List Member) (s : State) → Marked s.stack rest → Stacked s.stack → IsMarked (settled x rest s)
 settled_marked (Refuses error) rest s marked k = record { list = raising all marked; stack = k }
-settled_marked (Changes w) rest s marked k = record { list = marked; stack = k }
-settled_marked (Offers made left rights) rest s marked k = offered_marked made left rights rest s marked k
+settled_marked (Changes made w) rest s marked k = record { list = marked; stack = k }
+settled_marked (Offers left rights) rest s marked k = offered_marked left rights rest s marked k
 
 retried_marked : (l : Left) (s : State) → Marked s.stack s.list → Stacked s.stack → KeepsMarked (retried l s)
 retried_marked AsIs s marked k = record { list = marked; stack = k }
@@ -208,7 +219,7 @@ retried_marked (Clauses call cs) s marked k = tried_marked call cs s.list s mark
 retried_marked (Catching catcher recovery) s marked k = fails_marked s k
 retried_marked (Gathering result copies count) s marked k =
     equated_marked (under s.subst (unifier_of result (apply s.subst (copy_from (list_of copies) s.next)))) s.list (with_copy (list_of copies) s) marked k
-retried_marked (Offered made left rights) s marked k = offered_marked made left rights s.list s marked k
+retried_marked (Offered left rights) s marked k = offered_marked left rights s.list s marked k
 
 backtracked_marked : (stack : List Alternative) (s : State) → Stacked stack → KeepsMarked (backtracked stack s)
 backtracked_marked [] s k = tt
@@ -236,7 +247,7 @@ replied_marked (Catches inside catcher recovery) rest s marked k =
 replied_marked (Gathers template b result) rest s marked k = record { list = goal all refl (gathering (above all) marked); stack = more marked k }
 replied_marked (Halts status) rest s marked k = tt
 replied_marked Repeats rest s marked k = record { list = marked_on (above all) marked; stack = more marked k }
-replied_marked (AsksWorld row t) rest s marked k = settled_marked (setting_settled row t s.world) rest s marked k
+replied_marked (AsksWorld settles) rest s marked k = settled_marked (settles s.next s.world) rest s marked k
 
 selected_marked : (b : Option BuiltIn) (k : Key) (t : Tree) (rest : List Member) (s : State) → Marked s.stack rest → Stacked s.stack → KeepsMarked (selected b k t rest s)
 selected_marked (Some b) k t rest s marked stacked = replied_marked (reply b t) rest s marked stacked
@@ -260,7 +271,7 @@ caught_at_marked AsIs a below ball s o k other = other
 caught_at_marked Again a below ball s o k other = other
 caught_at_marked (Clauses call cs) a below ball s o k other = other
 caught_at_marked (Gathering result copies count) a below ball s o k other = other
-caught_at_marked (Offered made left rights) a below ball s o k other = other
+caught_at_marked (Offered left rights) a below ball s o k other = other
 
 caught_marked : (height : ℕ) (stack : List Alternative) (ball : Tree) (s : State) (o : Outcome) → Stacked stack → KeepsMarked o → KeepsMarked (caught height stack ball s o)
 caught_marked height [] ball s o k other = other

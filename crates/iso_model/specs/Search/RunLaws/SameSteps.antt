@@ -14,9 +14,9 @@ use Rattle.iso_model.specs.Terms.Lists.{list_of}
 use Rattle.iso_model.specs.Search.Bodies.{Body, Cut, Run, And, Or, If, Choose, one, map_body, is_true}
 use Rattle.iso_model.specs.Search.Databases.{Clause, Key, key_of, clauses_at}
 use Rattle.iso_model.specs.Search.BuiltIns.{Reply, Fails, Succeeds, Equates, EquatesCopy, Raises, Calls, CallsOnce, Refutes, Repeats, Catches, Gathers, Halts, AsksWorld, built_in, reply}
-use Rattle.iso_model.specs.Search.Settings.{Settled, Refuses, Changes, Offers, setting_settled}
+use Rattle.iso_model.specs.Search.Settlements.{Settled, Refuses, Changes, Offers, Offer}
 use Rattle.iso_model.specs.declared.built_ins.BuiltIn.{BuiltIn}
-use Rattle.iso_model.specs.Search.Walker.{State, World, Member, Goal, CutTo, Fail, Leave, Raise, Meet, Gather, Left, AsIs, Again, Clauses, Catching, Gathering, Offered, Alternative, Event, Ending, Outcome, Goes, Gives, Ends, Answered, NoMore, Budget, Uncaught, Halted, charged, paid, before, entered, under, tried_clause, with_others, tried, retried, backtracked, unknown_called, called, equated, with_rights, tried_right, offered, settled, with_goal, replied, selected, run_goal, run_value, caught_at, caught, thrown, met, meets, gathered, gathered_at, fails, values, clause_size, shortened, cut_back, pushed, step_goal, step_list, step, with_copy}
+use Rattle.iso_model.specs.Search.Walker.{State, World, Member, Goal, CutTo, Fail, Leave, Raise, Meet, Gather, Left, AsIs, Again, Clauses, Catching, Gathering, Offered, Alternative, Event, Ending, Outcome, Goes, Gives, Ends, Answered, NoMore, Budget, Uncaught, Halted, charged, paid, before, entered, under, tried_clause, with_others, tried, retried, backtracked, unknown_called, called, equated, with_rights, without_removed, taken, met_right, tried_right, is_there, offered, settled, with_goal, replied, selected, run_goal, run_value, caught_at, caught, thrown, met, meets, gathered, gathered_at, fails, values, clause_size, shortened, cut_back, pushed, step_goal, step_list, step, with_copy}
 use Rattle.iso_model.specs.Search.Runs.{Quiet, here, onward}
 use Rattle.iso_model.specs.Search.RunLaws.SettingValues.{IsOwnSettled, settings_own}
 use Rattle.iso_model.specs.Search.RunLaws.Values as of
@@ -210,7 +210,7 @@ gathered_own r AsIs v own = own
 gathered_own r Again v own = own
 gathered_own r (Clauses call cs) v own = own
 gathered_own r (Catching catcher recovery) v own = own
-gathered_own r (Offered made left rights) v own = own
+gathered_own r (Offered left rights) v own = own
 
 -- the same copy comes to both
 gathered_first : {vs ws : List ℕ} (a b : Alternative) {xs ys : List Alternative} (v : Tree) (here : Bool) → Agree a.subst b.subst vs ws a.next → a.next ≡ b.next → SameList a.subst b.subst (flat a.list) (flat b.list) → a.left ≡ b.left
@@ -363,40 +363,75 @@ own_put : (r q : Subst) (b : Body) (mark : ℕ) (ms ns : List Member) → IsOwnB
 own_put r q b mark ms ns own other list = put_alike r q (flat ms) (flat ns) b b mark (own ∙ sym other) list
 
 -- the rows that are left come to both
-rights_same : (s t : State) (ms ns : List Member) (made : ℕ) (left : Tree) (ts : List Tree) → IsValue s.subst left → IsValue t.subst left → of.AreValues s.subst ts → of.AreValues t.subst ts → Around s t
-    → SameList s.subst t.subst (flat ms) (flat ns) → Around (with_rights made left ts ms s) (with_rights made left ts ns t)
-rights_same s t ms ns made left [] own other owns others at list = at
-rights_same s t ms ns made left (u ∷ us) own other owns others at list = record {
+rights_same : (s t : State) (ms ns : List Member) (left : Tree) (os : List Offer) → IsValue s.subst left → IsValue t.subst left → Around s t
+    → SameList s.subst t.subst (flat ms) (flat ns) → Around (with_rights left os ms s) (with_rights left os ns t)
+rights_same s t ms ns left [] own other at list = at
+rights_same s t ms ns left (u ∷ us) own other at list = record {
   agree = at.agree;
   next = at.next;
-  beside = record { stack = same_alternative at.agree at.next list refl (own, owns) (other, others) at.beside.stack; world = at.beside.world; steps = at.beside.steps };
+  beside = record { stack = same_alternative at.agree at.next list refl own other at.beside.stack; world = at.beside.world; steps = at.beside.steps };
 }
 
 -- they change no substitution
-rights_subst : (made : ℕ) (left : Tree) (ts : List Tree) (ms : List Member) (s : State) → (with_rights made left ts ms s).subst ≡ s.subst
-rights_subst made left [] ms s = refl
-rights_subst made left (u ∷ us) ms s = refl
+rights_subst : (left : Tree) (os : List Offer) (ms : List Member) (s : State) → (with_rights left os ms s).subst ≡ s.subst
+rights_subst left [] ms s = refl
+rights_subst left (u ∷ us) ms s = refl
 
-right_same : (s t : State) (ms ns : List Member) (made : ℕ) (left right : Tree) → AreValues s.subst t.subst left right → Around s t → SameList s.subst t.subst (flat ms) (flat ns)
-    → Same (tried_right made left right ms s) (tried_right made left right ns t)
-right_same s t ms ns made left right are at list = equated_same s t ms ns made (unifier_of left right) left right are (unifier_of_is left right) at list
+-- a row was met, with the same unifier of the left one with it
+taken_same : (s t : State) (ms ns : List Member) (o : Option Subst) (a b : Tree) (offer : Offer) → AreValues s.subst t.subst a b → IsUnifierOf a b o → Around s t → SameList s.subst t.subst (flat ms) (flat ns)
+    → Same (taken (under s.subst o) offer.removes ms (record s { next = s.next + offer.variables; built = s.built + offer.made }))
+    (taken (under t.subst o) offer.removes ns (record t { next = t.next + offer.variables; built = t.built + offer.made }))
+taken_same s t ms ns None a b offer are is at list = failing [] [] refl refl (record { stack = at.beside.stack; world = at.beside.world; steps = at.beside.steps })
+taken_same s t ms ns (Some u) a b offer are is at list = going (record {
+  agree = agree_more offer.variables (agree_on u a b are is at.agree);
+  next = ap (λ (n : ℕ). n + offer.variables) at.next;
+  beside = record { stack = at.beside.stack; world = ap (without_removed offer.removes) at.beside.world; steps = at.beside.steps };
+}) (list_on u list)
 
-offered_same : (s t : State) (ms ns : List Member) (made : ℕ) (left : Tree) (ts : List Tree) → IsValue s.subst left → IsValue t.subst left → of.AreValues s.subst ts → of.AreValues t.subst ts → Around s t
-    → SameList s.subst t.subst (flat ms) (flat ns) → Same (offered made left ts ms s) (offered made left ts ns t)
-offered_same s t ms ns made left [] own other owns others at list = fails_same at.beside
-offered_same s t ms ns made left (u ∷ us) own other owns others at list =
-    let p = with_rights made left us ms s in
-    let q = with_rights made left us ns t in
-    let first : p.subst ≡ s.subst = rights_subst made left us ms s in
-    let second : q.subst ≡ t.subst = rights_subst made left us ns t in
-    let are : AreValues s.subst t.subst left u = record { first = own; second = owns.0; third = other; fourth = others.0 } in
-    right_same p q ms ns made left u (rw (first, second) are) (rights_same s t ms ns made left us own other owns.1 others.1 at list) (rw (first, second) list)
+met_same_right : (s t : State) (ms ns : List Member) (left : Tree) (offer : Offer) → IsValue s.subst left → IsValue t.subst left → Around s t → SameList s.subst t.subst (flat ms) (flat ns)
+    → Same (met_right left offer ms s) (met_right left offer ns t)
+met_same_right s t ms ns left offer own other at list =
+    let right = apply s.subst (renamed s.next offer.right) in
+    let o = unifier_of left right in
+    let one = renamed_same s.subst t.subst s.next offer.right at.agree.beyond ∙ ap (λ (n : ℕ). apply t.subst (renamed n offer.right)) at.next in
+    let same : o ≡ unifier_of left (apply t.subst (renamed t.next offer.right)) = ap (unifier_of left) one in
+    let are : AreValues s.subst t.subst left right = record {
+      first = own;
+      second = value_is s.subst (renamed s.next offer.right) at.agree.twice;
+      third = other;
+      fourth = subst (λ (x : Tree). IsValue t.subst x) (sym one) (value_is t.subst (renamed t.next offer.right) at.agree.other);
+    } in
+    subst (λ (p : Option Subst). Same (met_right left offer ms s) (taken (under t.subst p) offer.removes ns (record t { next = t.next + offer.variables; built = t.built + offer.made }))) same
+    (taken_same s t ms ns o left right offer are (unifier_of_is left right) at list)
+
+right_same : (s t : State) (ms ns : List Member) (left : Tree) (o : Offer) → IsValue s.subst left → IsValue t.subst left → Around s t → SameList s.subst t.subst (flat ms) (flat ns)
+    → Same (tried_right left o ms s) (tried_right left o ns t)
+right_same s t ms ns left o own other at list =
+    subst (λ (w : World). Same (tried_right left o ms s) (if is_there o.removes w then met_right left o ns t else fails t)) at.beside.world
+    (elim (is_there o.removes s.world) as (λ x. Same (if x then met_right left o ms s else fails s) (if x then met_right left o ns t else fails t)) [
+      | true ↦ met_same_right s t ms ns left o own other at list
+      | false ↦ fails_same at.beside
+    ])
+
+first_same : (s t : State) (ms ns : List Member) (left : Tree) (o : Offer) (os : List Offer) → IsValue s.subst left → IsValue t.subst left → Around s t
+    → SameList s.subst t.subst (flat ms) (flat ns) → Same (tried_right left o ms (with_rights left os ms s)) (tried_right left o ns (with_rights left os ns t))
+first_same s t ms ns left o os own other at list =
+    let p = with_rights left os ms s in
+    let q = with_rights left os ns t in
+    let first : p.subst ≡ s.subst = rights_subst left os ms s in
+    let second : q.subst ≡ t.subst = rights_subst left os ns t in
+    right_same p q ms ns left o (rw first own) (rw second other) (rights_same s t ms ns left os own other at list) (rw (first, second) list)
+
+offered_same : (s t : State) (ms ns : List Member) (left : Tree) (os : List Offer) → IsValue s.subst left → IsValue t.subst left → Around s t
+    → SameList s.subst t.subst (flat ms) (flat ns) → Same (offered left os ms s) (offered left os ns t)
+offered_same s t ms ns left [] own other at list = fails_same at.beside
+offered_same s t ms ns left (o ∷ os) own other at list = first_same s t ms ns left o os own other at list
 
 settled_same : (s t : State) (ms ns : List Member) (x : Settled) → IsOwnSettled s.subst x → IsOwnSettled t.subst x → Around s t → SameList s.subst t.subst (flat ms) (flat ns) → Same (settled x ms s) (settled x ns t)
 settled_same s t ms ns (Refuses error) own other at list = listed_same s t (Raise error ∷ ms) (Raise error ∷ ns) s.built t.built at (same_ball list)
-settled_same s t ms ns (Changes w) own other at list =
+settled_same s t ms ns (Changes made w) own other at list =
     going (record { agree = at.agree; next = at.next; beside = record { stack = at.beside.stack; world = refl; steps = at.beside.steps } }) list
-settled_same s t ms ns (Offers made left rights) own other at list = offered_same s t ms ns made left rights own.0 other.0 own.1 other.1 at list
+settled_same s t ms ns (Offers left rights) own other at list = offered_same s t ms ns left rights own other at list
 
 replied_same : (s t : State) (ms ns : List Member) (r : Reply) → IsOwnReply s.subst r → IsOwnReply t.subst r → Around s t → SameList s.subst t.subst (flat ms) (flat ns) → SameOut (replied r ms s) (replied r ns t)
 replied_same s t ms ns Fails own other at list = both_go (fails_same at.beside)
@@ -442,10 +477,11 @@ replied_same s t ms ns (Gathers template b result) own other at list =
 replied_same s t ms ns (Halts status) own other at list =
     subst (λ (w : World). SameOut (Ends (Halted status) s.world) (Ends (Halted status) w)) at.beside.world both_end
 replied_same s t ms ns Repeats own other at list = both_go (pushed_same s t Again ms ns ms ns tt tt at list list)
-replied_same s t ms ns (AsksWorld row v) own other at list =
-    let x = setting_settled row v s.world in
-    subst (λ (w : World). SameOut (Goes (settled x ms s)) (Goes (settled (setting_settled row v w) ns t))) at.beside.world
-    (both_go (settled_same s t ms ns x (settings_own s.subst row v s.world own) (settings_own t.subst row v s.world other) at list))
+replied_same s t ms ns (AsksWorld settles) own other at list =
+    let x = settles s.next s.world in
+    let same : settles s.next s.world ≡ settles t.next t.world = ap₂ settles at.next at.beside.world in
+    subst (λ (y : Settled). SameOut (Goes (settled x ms s)) (Goes (settled y ns t))) same
+    (both_go (settled_same s t ms ns x (own s.next s.world) (other s.next s.world) at list))
 
 selected_same : (s t : State) (ms ns : List Member) (b : Option BuiltIn) (k : Key) (v : Tree) → IsValue s.subst v → IsValue t.subst v → Around s t → SameList s.subst t.subst (flat ms) (flat ns) → SameOut (selected b k v ms s) (selected b k v ns t)
 selected_same s t ms ns (Some b) k v own other at list = replied_same s t ms ns (reply b v) (reply_own s.subst b v own) (reply_own t.subst b v other) at list
@@ -486,9 +522,9 @@ retried_same s t ms ns (Catching catcher recovery) own other first second at lis
 retried_same s t ms ns (Gathering result copies count) own other first second at list =
     let here : SameList s.subst t.subst (flat s.list) (flat t.list) = rw (first, second) list in
     copies_same s t s.list t.list result (list_of copies) own other at here
-retried_same s t ms ns (Offered made left rights) own other first second at list =
+retried_same s t ms ns (Offered left rights) own other first second at list =
     let here : SameList s.subst t.subst (flat s.list) (flat t.list) = rw (first, second) list in
-    both_go (offered_same s t s.list t.list made left rights own.0 other.0 own.1 other.1 at here)
+    both_go (offered_same s t s.list t.list left rights own other at here)
 
 backtracked_same : {vs ws : List ℕ} {xs ys : List Alternative} (s t : State) → variables s.query ≡ vs → variables t.query ≡ ws → s.world ≡ t.world → s.steps ≡ t.steps → SameStack vs ws xs ys
     → SameOut (backtracked xs s) (backtracked ys t)
@@ -520,7 +556,7 @@ caught_at_same s t AsIs a b xs ys ball o p first second h agree next list own ot
 caught_at_same s t Again a b xs ys ball o p first second h agree next list own other others out = out
 caught_at_same s t (Clauses call cs) a b xs ys ball o p first second h agree next list own other others out = out
 caught_at_same s t (Gathering result copies count) a b xs ys ball o p first second h agree next list own other others out = out
-caught_at_same s t (Offered made left rights) a b xs ys ball o p first second h agree next list own other others out = out
+caught_at_same s t (Offered left rights) a b xs ys ball o p first second h agree next list own other others out = out
 
 caught_same : {vs ws : List ℕ} {xs ys : List Alternative} (s t : State) (height : ℕ) (ball : Tree) (o p : Outcome) → variables s.query ≡ vs → variables t.query ≡ ws → Beside s t → SameStack vs ws xs ys → SameOut o p
     → SameOut (caught height xs ball s o) (caught height ys ball t p)

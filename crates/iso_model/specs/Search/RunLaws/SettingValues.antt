@@ -3,7 +3,7 @@ use Rattle.std.proofs.Common.{ℕ, List, [], ◌∷◌, map, true, false, not, O
 use Rattle.iso_ops.specs.declared.settings.Flags.{Flags}
 use Rattle.iso_ops.specs.Specifiers.{spec_named}
 use Rattle.iso_ops.specs.Operators.{Operator}
-use Rattle.iso_ops.specs.Settings.{FlagTerm, FlagInteger, FlagAtom, flag_entries, flag_value}
+use Rattle.iso_ops.specs.Settings.{flag_entries, flag_value}
 use Rattle.iso_model.specs.Terms.Trees.{Tree, Variable, Integer, Name, Apply, End, More, row}
 use Rattle.iso_model.specs.Terms.Types.{is_variable}
 use Rattle.iso_model.specs.Terms.Substitutions.{Subst}
@@ -11,16 +11,16 @@ use Rattle.iso_model.specs.Terms.Arguments.{argument}
 use Rattle.iso_model.specs.Search.Errors.{instantiation_error, type_error, domain_error, not_permitted}
 use Rattle.iso_model.specs.Search.Worlds.{World}
 use Rattle.iso_model.specs.Search.Settings as table
-use Rattle.iso_model.specs.Search.Settings.{Settled, Refuses, Changes, Offers, op_key, current_op_key, set_flag_key, current_flag_key, setting_settled}
-use Rattle.iso_model.specs.Search.RunLaws.TermValues.{IsValue, AreValues, argument_value, row_value}
+use Rattle.iso_model.specs.Search.Settings.{Settled, Refuses, Changes, Offers, constant_offer, op_key, current_op_key, set_flag_key, current_flag_key, setting_settled}
+use Rattle.iso_model.specs.Search.RunLaws.TermValues.{IsValue, argument_value, row_value}
 use Rattle.iso_model.specs.declared.library.Setting.{Setting}
 use Rattle.iso_model.specs.declared.library.Setting.TheVariants as setting
 
--- the rows that are unified are values
+-- the row that the others are unified with is a value
 abbrev pub IsOwnSettled : Subst → Settled → Type 0
 IsOwnSettled r (Refuses error) = Unit {0}
-IsOwnSettled r (Changes w) = Unit {0}
-IsOwnSettled r (Offers made left rights) = IsValue r left × AreValues r rights
+IsOwnSettled r (Changes made w) = Unit {0}
+IsOwnSettled r (Offers left rights) = IsValue r left
 
 -- ---- op/3
 
@@ -78,13 +78,9 @@ op_own r p s names w =
 
 -- ---- current_op/3
 
-operators_values : (r : Subst) (ops : List Operator) → AreValues r (map table.operator_row ops)
-operators_values r [] = tt
-operators_values r (op ∷ ops) = (refl, operators_values r ops)
-
 current_op_own : (r : Subst) (p s name : Tree) (w : World) → IsValue r p → IsValue r s → IsValue r name → IsOwnSettled r (table.current_op_settled p s name w)
 current_op_own r p s name w first second third =
-    let offers = Offers 6 (row (p ∷ s ∷ name ∷ [])) (map table.operator_row w.operators) in
+    let offers = Offers (row (p ∷ s ∷ name ∷ [])) (map (λ op. constant_offer 6 (table.operator_row op)) w.operators) in
     let named = if not (table.may_be_atom name) then Refuses (type_error (codes "atom") name current_op_key) else offers in
     let specified = if not (table.may_be_specifier s) then Refuses (domain_error (codes "operator_specifier") s current_op_key) else named in
     elim (not (table.may_be_priority p)) as (λ x. IsOwnSettled r (if x then Refuses (domain_error (codes "operator_priority") p current_op_key) else specified)) [
@@ -93,7 +89,7 @@ current_op_own r p s name w first second third =
         | true ↦ tt
         | false ↦ elim (not (table.may_be_atom name)) as (λ x. IsOwnSettled r (if x then Refuses (type_error (codes "atom") name current_op_key) else offers)) [
           | true ↦ tt
-          | false ↦ (row_value r (p ∷ s ∷ name ∷ []) (first, (second, (third, tt))), operators_values r w.operators)
+          | false ↦ row_value r (p ∷ s ∷ name ∷ []) (first, (second, (third, tt)))
         ]
       ]
     ]
@@ -132,23 +128,15 @@ set_flag_own r f v w = elim (is_variable f || is_variable v) as (λ x. IsOwnSett
 
 -- ---- current_prolog_flag/2
 
-flag_tree_value : (r : Subst) (v : FlagTerm) → IsValue r (table.flag_tree v)
-flag_tree_value r (FlagInteger z) = refl
-flag_tree_value r (FlagAtom a) = refl
-
-flags_values : (r : Subst) (es : List (List ℕ × FlagTerm)) → AreValues r (map table.flag_row es)
-flags_values r [] = tt
-flags_values r (e ∷ es) = (row_value r (Name e.0 ∷ table.flag_tree e.1 ∷ []) (refl, (flag_tree_value r e.1, tt)), flags_values r es)
-
 current_flag_own : (r : Subst) (f v : Tree) (w : World) → IsValue r f → IsValue r v → IsOwnSettled r (table.current_flag_settled f v w)
 current_flag_own r f v w first second =
-    let offers = Offers 4 (row (f ∷ v ∷ [])) (map table.flag_row (flag_entries w.flags)) in
+    let offers = Offers (row (f ∷ v ∷ [])) (map (λ e. constant_offer 4 (table.flag_row e)) (flag_entries w.flags)) in
     let known = if not (table.may_be_flag f w.flags) then Refuses (domain_error (codes "prolog_flag") f current_flag_key) else offers in
     elim (not (table.may_be_atom f)) as (λ x. IsOwnSettled r (if x then Refuses (type_error (codes "atom") f current_flag_key) else known)) [
       | true ↦ tt
       | false ↦ elim (not (table.may_be_flag f w.flags)) as (λ x. IsOwnSettled r (if x then Refuses (domain_error (codes "prolog_flag") f current_flag_key) else offers)) [
         | true ↦ tt
-        | false ↦ (row_value r (f ∷ v ∷ []) (first, (second, tt)), flags_values r (flag_entries w.flags))
+        | false ↦ row_value r (f ∷ v ∷ []) (first, (second, tt))
       ]
     ]
 

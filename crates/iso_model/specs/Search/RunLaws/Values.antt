@@ -12,7 +12,10 @@ use Rattle.iso_model.specs.Terms.Lists.{is_partial_list}
 use Rattle.iso_model.specs.Search.Library.{library_answer}
 use Rattle.iso_model.specs.Search.Replies.{Answer, Fail, Succeed, Equate, EquateCopy, Raise}
 use Rattle.iso_model.specs.Search.Walker.{Left, AsIs, Again, Clauses, Catching, Gathering, Offered}
+use Rattle.iso_model.specs.Search.Worlds.{World}
 use Rattle.iso_model.specs.Search.RunLaws.LibraryValues.{IsOwnAnswer, library_own}
+use Rattle.iso_model.specs.Search.RunLaws.SettingValues.{IsOwnSettled, settings_own}
+use Rattle.iso_model.specs.Search.RunLaws.StorageValues.{storages_own}
 use Rattle.iso_model.specs.declared.built_ins.BuiltIn.{BuiltIn}
 use Rattle.iso_model.specs.declared.built_ins.BuiltIn.TheVariants as built_in
 pub use Rattle.iso_model.specs.Search.RunLaws.TermValues.{IsValue, AreValues, IsTwice, value_is, twice_on, argument_value, arguments_value, others_value, with_value}
@@ -24,7 +27,7 @@ IsOwnLeft r Again = Unit {0}
 IsOwnLeft r (Clauses call cs) = IsValue r call
 IsOwnLeft r (Catching catcher recovery) = IsValue r catcher × IsValue r recovery
 IsOwnLeft r (Gathering result copies count) = IsValue r result
-IsOwnLeft r (Offered made left rights) = IsValue r left × AreValues r rights
+IsOwnLeft r (Offered left rights) = IsValue r left
 
 -- ---- bodies of values
 
@@ -111,7 +114,7 @@ IsOwnReply r Repeats = Unit {0}
 IsOwnReply r (Catches inside catcher recovery) = IsOwnReply r inside × IsValue r catcher × IsValue r recovery
 IsOwnReply r (Gathers template b result) = IsValue r template × IsOwnBody r b × IsValue r result
 IsOwnReply r (Halts status) = Unit {0}
-IsOwnReply r (AsksWorld row t) = IsValue r t
+IsOwnReply r (AsksWorld settles) = (n : ℕ) (w : World) → IsOwnSettled r (settles n w)
 
 converted_reply_own : (r : Subst) (runs : Body → Reply) (o : Option Body) (goal : Tree) (k : Key) → ((b : Body) → IsOwnBody r b → IsOwnReply r (runs b)) → IsOwnOption r o → IsOwnReply r (converted_reply runs o goal k)
 converted_reply_own r runs (Some b) goal k keeps own = keeps b own
@@ -184,4 +187,5 @@ reply_own r built_in.HaltWith v own = halt_own r (argument 0 v) (key (codes "hal
 reply_own r built_in.Findall v own =
     findall_own r (argument 0 v) (argument 1 v) (argument 2 v) (key (codes "findall") 3) (argument_value r 0 v own) (argument_value r 1 v own) (argument_value r 2 v own)
 reply_own r (built_in.Library row) v own = answered_own r (library_answer row v) (library_own r row v own)
-reply_own r (built_in.Setting row) v own = own
+reply_own r (built_in.Setting row) v own = λ n w. settings_own r row v w own
+reply_own r (built_in.Storage row) v own = λ n w. storages_own r row v n w own

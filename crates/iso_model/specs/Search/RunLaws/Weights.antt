@@ -9,7 +9,8 @@ use Rattle.iso_model.specs.Terms.Copies.{copy_from, renamed}
 use Rattle.iso_model.specs.Terms.Lists.{list_of}
 use Rattle.iso_model.specs.Search.Bodies.{Body, Cut, Run, And, Or, If, Choose, map_body, is_true}
 use Rattle.iso_model.specs.Search.Databases.{Clause}
-use Rattle.iso_model.specs.Search.Walker.{State, Member, Goal, CutTo, Fail, Leave, Raise, Meet, Gather, Left, AsIs, Again, Clauses, Catching, Gathering, Offered, Alternative, Outcome, Goes, Gives, Ends, charged, paid, before, entered, pushed, with_others, tried, retried, backtracked, caught_at, caught, thrown, met, gathered, gathered_at, step_goal, step_list, step, run_value, under, clause_size, equated, with_rights, offered, with_copy}
+use Rattle.iso_model.specs.Search.Walker.{State, Member, Goal, CutTo, Fail, Leave, Raise, Meet, Gather, Left, AsIs, Again, Clauses, Catching, Gathering, Offered, Alternative, Outcome, Goes, Gives, Ends, charged, paid, before, entered, pushed, with_others, tried, retried, backtracked, caught_at, caught, thrown, met, gathered, gathered_at, step_goal, step_list, step, run_value, under, clause_size, equated, with_rights, taken, met_right, tried_right, is_there, offered, fails, with_copy}
+use Rattle.iso_model.specs.Search.Settlements.{Offer, Reference}
 
 -- a body, before what weighs r
 abbrev pub body_weight : Body → ℕ → ℕ
@@ -38,9 +39,9 @@ clauses_weight [] r = 1
 clauses_weight (c ∷ cs) r = suc (body_weight c.body r) + clauses_weight cs r
 
 -- right rows, each before what weighs r
-abbrev pub rights_weight : List Tree → ℕ → ℕ
+abbrev pub rights_weight : List Offer → ℕ → ℕ
 rights_weight [] r = 1
-rights_weight (t ∷ ts) r = suc r + rights_weight ts r
+rights_weight (o ∷ os) r = suc r + rights_weight os r
 
 abbrev pub left_weight : Left → ℕ → ℕ
 left_weight AsIs r = suc r
@@ -48,7 +49,7 @@ left_weight Again r = 1
 left_weight (Clauses call cs) r = clauses_weight cs r
 left_weight (Catching catcher recovery) r = 2 + r
 left_weight (Gathering result copies count) r = suc r
-left_weight (Offered made left rights) r = rights_weight rights r
+left_weight (Offered left rights) r = rights_weight rights r
 
 abbrev pub stack_weight : List Alternative → ℕ
 stack_weight [] = 0
@@ -141,7 +142,7 @@ left_gathered_weight AsIs t r = refl
 left_gathered_weight Again t r = refl
 left_gathered_weight (Clauses call cs) t r = refl
 left_gathered_weight (Catching catcher recovery) t r = refl
-left_gathered_weight (Offered made left rights) t r = refl
+left_gathered_weight (Offered left rights) t r = refl
 
 gathered_weight : (height : ℕ) (t : Tree) (stack : List Alternative) → stack_weight (gathered_at height t stack) ≡ stack_weight stack
 gathered_weight height t [] = refl
@@ -166,22 +167,33 @@ equated_lighter : (u : Option Subst) (rest : List Member) (s : State) → Lighte
 equated_lighter None rest s = record { steps = refl; lighter = omega arith }
 equated_lighter (Some u) rest s = record { steps = refl; lighter = omega arith }
 
-rights_behind : (made : ℕ) (left : Tree) (ts : List Tree) (rest : List Member) (s : State)
-    → ((with_rights made left ts rest s).steps ≡ s.steps) × (stack_weight (with_rights made left ts rest s).stack ≤ rights_weight ts (list_weight rest) + stack_weight s.stack)
-rights_behind made left [] rest s = (refl, omega arith)
-rights_behind made left (t ∷ ts) rest s = (refl, omega arith)
+taken_lighter : (u : Option Subst) (removes : Option Reference) (rest : List Member) (s : State) → Lighter s.steps (suc (list_weight rest) + stack_weight s.stack) (taken u removes rest s)
+taken_lighter None removes rest s = record { steps = refl; lighter = omega arith }
+taken_lighter (Some u) removes rest s = record { steps = refl; lighter = omega arith }
 
-offered_lighter : (made : ℕ) (left : Tree) (ts : List Tree) (rest : List Member) (s : State)
-    → Lighter s.steps (rights_weight ts (list_weight rest) + stack_weight s.stack) (offered made left ts rest s)
-offered_lighter made left [] rest s = record { steps = refl; lighter = omega arith }
-offered_lighter made left (t ∷ ts) rest s =
-    let p = with_rights made left ts rest s in
-    let others = rights_behind made left ts rest s in
+rights_behind : (left : Tree) (os : List Offer) (rest : List Member) (s : State)
+    → ((with_rights left os rest s).steps ≡ s.steps) × (stack_weight (with_rights left os rest s).stack ≤ rights_weight os (list_weight rest) + stack_weight s.stack)
+rights_behind left [] rest s = (refl, omega arith)
+rights_behind left (o ∷ os) rest s = (refl, omega arith)
+
+right_lighter : (left : Tree) (o : Offer) (os : List Offer) (rest : List Member) (s : State)
+    → Lighter s.steps (rights_weight (o ∷ os) (list_weight rest) + stack_weight s.stack) (tried_right left o rest (with_rights left os rest s))
+right_lighter left o os rest s =
+    let p = with_rights left os rest s in
+    let others = rights_behind left os rest s in
     let below = others.1 in
-    let q : State = record p { built = p.built + made } in
-    let one = equated_lighter (under p.subst (unifier_of left t)) rest q in
+    let q : State = record p { next = p.next + o.variables; built = p.built + o.made } in
+    let one = taken_lighter (under p.subst (unifier_of left (apply p.subst (renamed p.next o.right)))) o.removes rest q in
     let light = one.lighter in
-    record { steps = one.steps ∙ others.0; lighter = omega arith }
+    elim (is_there o.removes p.world)
+    as (λ x. Lighter s.steps (rights_weight (o ∷ os) (list_weight rest) + stack_weight s.stack) (if x then met_right left o rest p else fails p)) [
+      | true ↦ record { steps = one.steps ∙ others.0; lighter = omega arith }
+      | false ↦ record { steps = others.0; lighter = omega arith }
+    ]
+
+offered_lighter : (left : Tree) (os : List Offer) (rest : List Member) (s : State) → Lighter s.steps (rights_weight os (list_weight rest) + stack_weight s.stack) (offered left os rest s)
+offered_lighter left [] rest s = record { steps = refl; lighter = omega arith }
+offered_lighter left (o ∷ os) rest s = right_lighter left o os rest s
 
 retried_progress : (l : Left) (s : State) → Progress s.steps (left_weight l (list_weight s.list) + stack_weight s.stack) (retried l s)
 retried_progress AsIs s = inr (record { steps = refl; lighter = omega arith })
@@ -191,7 +203,7 @@ retried_progress (Catching catcher recovery) s = inr (record { steps = refl; lig
 retried_progress (Gathering result copies count) s =
     let t = equated_lighter (under s.subst (unifier_of result (apply s.subst (copy_from (list_of copies) s.next)))) s.list (with_copy (list_of copies) s) in
     inr (record { steps = t.steps; lighter = t.lighter })
-retried_progress (Offered made left rights) s = inr (offered_lighter made left rights s.list s)
+retried_progress (Offered left rights) s = inr (offered_lighter left rights s.list s)
 
 backtracked_progress : (stack : List Alternative) (s : State) → Progress s.steps (stack_weight stack) (backtracked stack s)
 backtracked_progress [] s = tt
@@ -204,7 +216,7 @@ caught_at_progress AsIs a below ball s o w less other = other
 caught_at_progress Again a below ball s o w less other = other
 caught_at_progress (Clauses call cs) a below ball s o w less other = other
 caught_at_progress (Gathering result copies count) a below ball s o w less other = other
-caught_at_progress (Offered made left rights) a below ball s o w less other = other
+caught_at_progress (Offered left rights) a below ball s o w less other = other
 
 caught_progress : (height : ℕ) (stack : List Alternative) (ball : Tree) (s : State) (o : Outcome) (w : ℕ) → stack_weight stack < w → Progress s.steps w o → Progress s.steps w (caught height stack ball s o)
 caught_progress height [] ball s o w less other = other

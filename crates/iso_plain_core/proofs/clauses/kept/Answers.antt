@@ -33,7 +33,7 @@ returns-in_err-check_user c = λ t r.
     (let p = c.args.prepared.now in
     let is = head_read t p (term_of c.in-Some.head.now) r c.in-Some.ensures in
     let k = key c.in-Some-indicator_of.name.now c.in-Some-indicator_of.arity in
-    built_in_refused t p r k _ _ (key_read t p r (term_of c.in-Some.head.now) k is c.in-Some-indicator_of.ensures) c.from_residual.ensures.1 c.in_err-check_user.ensures)
+    built_in_refused t p r (key c.args.by.now 1) k _ _ (key_read t p r (term_of c.in-Some.head.now) k is c.in-Some-indicator_of.ensures) c.from_residual.ensures.1 c.in_err-check_user.ensures)
 
 pub returns : goal.returns
 returns c = λ t r.

@@ -1,5 +1,4 @@
 -- A step of the view.
-use Rattle.std.proofs.Common.{◌≡◌, List}
 use Rattle.iso_plain_core.proofs.LeavingLemmas.{next_is_left}
 use Rattle.iso_plain_core.proofs.leaving.next_left.Goals as goal
 

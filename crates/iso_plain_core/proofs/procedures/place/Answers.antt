@@ -1,14 +1,14 @@
 -- The place is that of the key, and is found by the atom.
-use Rattle.std.proofs.Common.{◌≡◌, refl, sym, ap, ◌∙◌, arith, Some, None, length, subst}
+use Rattle.std.proofs.Common.{◌≡◌, sym, ap, ◌∙◌, Some, None, subst}
 use Rattle.iso_model.specs.Search.Errors.{key}
-use Rattle.iso_db.specs.Databases.{Database, with_procedure}
+use Rattle.iso_db.specs.Databases.{Database, kind_at, with_procedure}
 use Rattle.iso_db.specs.Presents.{contents}
 use Rattle.iso_plain_core.specs.declared.clauses.Clause.{Clause}
 use Rattle.iso_plain_core.specs.declared.callables.Callee.TheVariants as callee
 use Rattle.iso_plain_core.specs.Callables.{callee_at, Finds}
-use Rattle.iso_plain_core.specs.Programs.{IsDatabase, place_at}
+use Rattle.iso_plain_core.specs.Programs.{IsDatabase, place_at, kept_at, kind_of}
 use Rattle.iso_plain_core.proofs.AddingLemmas.{called_own, found_callee, found_place, finds_placed, finds_new}
-use Rattle.iso_plain_core.proofs.ProgramLemmas.{place_within, database_placed}
+use Rattle.iso_plain_core.proofs.ProgramLemmas.{place_within, placed_kept, database_placed, kind_there}
 use Rattle.iso_plain_core.proofs.procedures.place.Goals as goal
 
 pub unreachable-requires : goal.unreachable-requires
@@ -53,3 +53,19 @@ returns-in_ok-insert-in-None-clause-found c = λ names h.
 pub returns-in_ok-insert-in-None-clause-database : goal.returns-in_ok-insert-in-None-clause-database
 returns-in_ok-insert-in-None-clause-database c = λ names m is.
     subst (λ (d : Database Clause). IsDatabase names d m) (sym c.in_ok-place-in-None.ensures.contents) (database_placed (contents c.args.db.now) m c.args.text.now c.args.functor.arity is)
+
+pub returns-in-Some-User-clause-kind : goal.returns-in-Some-User-clause-kind
+returns-in-Some-User-clause-kind c =
+    let h = c.requires.named in
+    let found : callee_at c.args.callables.now.items c.args.functor.name c.args.functor.arity ≡ Some (callee.User c.in-Some-User.place) = (rw c.as_slice.ensures.value at (sym c.find.ensures)) ∙ c.in-Some-User.is ∙ ap Some c.in-Some-User.field-0-is in
+    rw c.in-Some-User.place-is (kind_there (contents c.args.db.now) (key c.args.text.now c.args.functor.arity) c.in-Some-User.place
+    (found_place h.0 c.args.functor c.args.text.now (contents c.args.db.now) c.args.callables.now.items h.1 c.in-Some-User.place found))
+
+pub returns-in_ok-insert-in-None-clause-kind : goal.returns-in_ok-insert-in-None-clause-kind
+returns-in_ok-insert-in-None-clause-kind c =
+    let placed = c.in_ok-place-in-None.ensures in
+    let old = contents c.args.db.now in
+    let named = key c.args.text.now c.args.functor.arity in
+    subst (λ (d : Database Clause). kind_at d c.in_ok-place-in-None.place ≡ kind_of (kept_at old named)) (sym placed.contents)
+    (kind_there (with_procedure c.args.text.now c.args.functor.arity old) named c.in_ok-place-in-None.place (subst (λ (d : Database Clause). place_at d named ≡ Some c.in_ok-place-in-None.place) placed.contents placed.place)
+    ∙ (placed_kept old c.args.text.now c.args.functor.arity named).0)

@@ -12,8 +12,9 @@ use Rattle.iso_model.specs.Search.BuiltIns.{is_built_in}
 use Rattle.iso_model.specs.Search.Errors.{key}
 use Rattle.iso_store_core.proofs.AtomLemmas.{keeps-then}
 use Rattle.iso_db.specs.Presents.{contents}
-use Rattle.iso_plain_core.specs.Adding.{IsFound, with_last}
-use Rattle.iso_plain_core.specs.declared.procedures.Functor.{Functor}
+use Rattle.iso_plain_core.specs.Adding.{IsFound, with_more}
+use Rattle.iso_plain_core.specs.declared.procedures.Way.TheVariants as way
+use Rattle.iso_lib.specs.declared.indicators.Functor.{Functor}
 use Rattle.iso_plain.proofs.StartLemmas.{idle_again, refused, unadded}
 use Rattle.iso_plain.proofs.WorldLemmas.{world_on, finds_kept}
 use Rattle.iso_plain_core.proofs.WrittenLemmas.{clause_kept}
@@ -66,7 +67,7 @@ returns-clause-comes g c = λ w h.
     let came = c.in_ok-add.ensures.ok last w.database new is_found stood.database_is kept refl in
     rw added.fits (idle_again h c.requires.now (c.in_ok-name.ensures.present ∙ c.in_ok-kept.ensures.present) (λ m p k. c.in_ok-name.ensures.marks m p (c.in_ok-kept.ensures.marks m p k)) refl refl refl
     (record {
-      database_is = subst (λ (k : Key). IsDatabase last (contents c.add.new.db) (with_last w.database k new)) same came.0;
+      database_is = subst (λ (k : Key). IsDatabase last (contents c.add.new.db) (with_more way.Consulted w.database k new)) same came.0;
       found = came.1;
       vocabulary_is = stood.vocabulary_is;
       operators_are = stood.operators_are;

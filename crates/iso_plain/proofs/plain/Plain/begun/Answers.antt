@@ -1,5 +1,5 @@
 -- The first clause comes next, or there is none.
-use Rattle.std.proofs.Common.{◌≡◌, subst}
+use Rattle.std.proofs.Common.{subst}
 use Rattle.iso_plain_core.specs.Leaving.{AreLeft, NextLeft}
 use Rattle.iso_plain.proofs.plain.Plain.begun.Goals as goal
 

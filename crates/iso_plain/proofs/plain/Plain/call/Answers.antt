@@ -1,4 +1,4 @@
-use Rattle.std.proofs.Common.{◌≡◌, ℕ, length, ap, ◌∙◌, subst, Ok, inl, inr}
+use Rattle.std.proofs.Common.{◌≡◌, ℕ, length, ap, subst, Ok, inl, inr}
 use Rattle.iso_model.specs.Search.Walker.{with_others, tried_clause}
 use Rattle.iso_plain.specs.EngineStates.{IsEngine}
 use Rattle.iso_plain_core.proofs.StandingLemmas.{choices_length}

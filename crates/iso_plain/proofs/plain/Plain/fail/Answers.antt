@@ -229,7 +229,7 @@ returns-in_ok-try_next-in-Offered-clause-moves g c = λ s r.
     let tries = ap (λ (x : _). x.left) (sym same) ∙ c.in-Offered.is in
     let has = has_members g.S.Store.names g.S.Store.present g.S.Store.stands g.S.Store.older mid b.0 r.own b.1 b.2 b.5 _ tries in
     let e = c.in_ok-try_next-in-Offered.ensures in
-    offers_on g.S.Store.names g.S.Store.present g.S.Store.stands g.S.Store.older c.args.self.now c.try_next.new.self s r b.1 b.2 c.requires.failing b.3 _ _ _ has.is (e.tried b.0 _ r.own b.1 b.2 _ _ _ b.4 tries b.5 has.is) e.awake)
+    offers_on g.S.Store.names g.S.Store.present g.S.Store.stands g.S.Store.older c.args.self.now c.try_next.new.self s r b.1 b.2 c.requires.failing b.3 _ _ has.is (e.tried b.0 _ r.own b.1 b.2 _ _ b.4 tries b.5 has.is) e.awake)
 
 pub returns-in_err-try_next-in-Offered-clause-stopped : goal.returns-in_err-try_next-in-Offered-clause-stopped
 returns-in_err-try_next-in-Offered-clause-stopped g c = λ s r.
@@ -240,7 +240,7 @@ returns-in_err-try_next-in-Offered-clause-stopped g c = λ s r.
     let tries = ap (λ (x : _). x.left) (sym same) ∙ c.in-Offered.is in
     let has = has_members g.S.Store.names g.S.Store.present g.S.Store.stands g.S.Store.older mid b.0 r.own b.1 b.2 b.5 _ tries in
     let e = c.in_err-try_next-in-Offered.ensures in
-    behind_error c.from_residual-in_err-try_next-in-Offered.result (offers_stop g.S.Store.names g.S.Store.present g.S.Store.stands g.S.Store.older c.args.self.now c.try_next.new.self s r b.1 b.2 c.requires.failing b.3 _ _ _ has.is (e.kept b.0 _ r.own b.1 b.2 _ _ _ b.4 tries b.5 has.is)))
+    behind_error c.from_residual-in_err-try_next-in-Offered.result (offers_stop g.S.Store.names g.S.Store.present g.S.Store.stands g.S.Store.older c.args.self.now c.try_next.new.self s r b.1 b.2 c.requires.failing b.3 _ _ has.is (e.kept b.0 _ r.own b.1 b.2 _ _ b.4 tries b.5 has.is)))
 
 pub returns-in_ok-try_next-in-Offered-clause-falls : goal.returns-in_ok-try_next-in-Offered-clause-falls
 returns-in_ok-try_next-in-Offered-clause-falls g c =
@@ -249,3 +249,34 @@ returns-in_ok-try_next-in-Offered-clause-falls g c =
     let all = back_cost c.args.self.now c.go_back-mark.new.self back.choices back.costs in
     let less = on.costs in
     falls_less c.args.self.now c.try_next.new.self (on.steps ∙ back.steps) (omega (arith, all, less))
+
+-- ---- clauses that were left to be shown
+
+pub show_next-requires-clause-back : goal.show_next-requires-clause-back
+show_next-requires-clause-back g c =
+    let r = c.requires.represents.1 in
+    let b = c.go_back-mark.ensures.back r.own r.engine in
+    let mid = c.go_back-mark.new.self in
+    let many : c.len.result ≡ length mid.choices.items = cc (c.len.ensures, mid.choices.ok.0) in
+    let same = newest_is g.S.Store.names g.S.Store.present g.S.Store.stands g.S.Store.older mid b.0 r.own b.1 b.2 b.5 c.len.result c.index.result.now many c.index.ensures in
+    let tries = ap (λ (x : _). x.left) (sym same) ∙ c.in-Shown.is in
+    (b.0, r.own, b.1, b.2, b.4, tries, b.5)
+
+pub returns-in_ok-show_next-in-Shown-clause-moves : goal.returns-in_ok-show_next-in-Shown-clause-moves
+returns-in_ok-show_next-in-Shown-clause-moves g c = λ s r.
+    (let b = c.go_back-mark.ensures.back r.own r.engine in
+    let mid = c.go_back-mark.new.self in
+    let many : c.len.result ≡ length mid.choices.items = cc (c.len.ensures, mid.choices.ok.0) in
+    let same = newest_is g.S.Store.names g.S.Store.present g.S.Store.stands g.S.Store.older mid b.0 r.own b.1 b.2 b.5 c.len.result c.index.result.now many c.index.ensures in
+    let tries = ap (λ (x : _). x.left) (sym same) ∙ c.in-Shown.is in
+    let has = has_members g.S.Store.names g.S.Store.present g.S.Store.stands g.S.Store.older mid b.0 r.own b.1 b.2 b.5 _ tries in
+    let e = c.in_ok-show_next-in-Shown.ensures in
+    offers_on g.S.Store.names g.S.Store.present g.S.Store.stands g.S.Store.older c.args.self.now c.show_next.new.self s r b.1 b.2 c.requires.failing b.3 _ _ has.is (e.tried b.0 r.own b.1 b.2 _ _ b.4 tries b.5 has.is) e.awake)
+
+pub returns-in_ok-show_next-in-Shown-clause-falls : goal.returns-in_ok-show_next-in-Shown-clause-falls
+returns-in_ok-show_next-in-Shown-clause-falls g c =
+    let back = c.go_back-mark.ensures in
+    let on = c.in_ok-show_next-in-Shown.ensures in
+    let all = back_cost c.args.self.now c.go_back-mark.new.self back.choices back.costs in
+    let less = on.costs in
+    falls_less c.args.self.now c.show_next.new.self (on.steps ∙ back.steps) (omega (arith, all, less))

@@ -1,4 +1,4 @@
-use Rattle.std.proofs.Common.{◌≡◌, length, arith, subst, ap, sym, ◌∙◌}
+use Rattle.std.proofs.Common.{◌≡◌, length, arith, subst}
 use Rattle.iso_plain_core.specs.Leaving.{AreLeft, NextLeft}
 use Rattle.iso_plain_core.proofs.LeavingLemmas.{left_behind, left_long}
 use Rattle.iso_plain_core.proofs.ResultLemmas.{behind_error}

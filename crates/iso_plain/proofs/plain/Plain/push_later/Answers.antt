@@ -1,4 +1,4 @@
-use Rattle.std.proofs.Common.{◌≡◌, ◌+◌, length, arith, ap}
+use Rattle.std.proofs.Common.{◌≡◌, length, arith, ap}
 use Rattle.iso_model.specs.Terms.Variables.{variables}
 use Rattle.iso_plain_core.specs.Costs.{choices_cost, rest_cost, frame_costs}
 use Rattle.iso_plain_core.proofs.ResultLemmas.{behind_error}

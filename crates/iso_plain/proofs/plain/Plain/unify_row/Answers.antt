@@ -23,7 +23,7 @@ returns-then-not-branch-clause-tried g c = λ s made h.
     (let e = c.args.self.now in
     let left = goal_arguments (meaning (g.S.Store.present e.store) c.args.goal) in
     let right = offer_tree c.args.offer.now in
-    row_missed g.S.Store.names g.S.Store.present g.S.Store.stands g.S.Store.older e c.args.goal s c.args.place h made left right c.unify_offer.new.store c.in_ok-unify_offer.ensures.marks c.in_ok-unify_offer.ensures.names
+    row_missed g.S.Store.names g.S.Store.present g.S.Store.stands g.S.Store.older e c.args.goal s c.args.place h made left c.args.offer.now c.unify_offer.new.store c.in_ok-unify_offer.ensures.marks c.in_ok-unify_offer.ensures.names
     (was_never (g.S.Store.present e.store) (g.S.Store.present c.unify_offer.new.store) left right c.in_ok-unify_offer.field-0 c.if-not-branch.true c.in_ok-unify_offer.ensures.unified))
 
 pub at-self-requires : goal.at-self-requires
@@ -36,7 +36,7 @@ returns-clause-tried g c = λ s made h.
     let right = offer_tree c.args.offer.now in
     let found = was_unified (g.S.Store.present e.store) (g.S.Store.present c.unify_offer.new.store) left right c.in_ok-unify_offer.field-0 c.if-not-branch.false c.in_ok-unify_offer.ensures.unified in
     rw (c.at-self.ensures, c.as_slice.ensures.value)
-    (row_found g.S.Store.names g.S.Store.present g.S.Store.stands g.S.Store.older e c.args.goal s c.args.place h made left right c.unify_offer.new.store c.in_ok-unify_offer.ensures.marks c.in_ok-unify_offer.ensures.names found.0 found.1 found.2))
+    (row_found g.S.Store.names g.S.Store.present g.S.Store.stands g.S.Store.older e c.args.goal s c.args.place h made left c.args.offer.now c.unify_offer.new.store c.in_ok-unify_offer.ensures.marks c.in_ok-unify_offer.ensures.names found.0 found.1 found.2))
 
 pub returns-clause-cost : goal.returns-clause-cost
 returns-clause-cost g c =

@@ -1,0 +1,135 @@
+-- What a clause that is shown comes to.
+use Rattle.std.proofs.Common.{◌≡◌, ℕ, ◌+◌, ◌*◌, ◌≤◌, List, [], ◌∷◌, Option, Some, None, Bool, true, false, Result, Ok, Err, OnErr, refl, ap, sym, ◌∙◌, subst, arith}
+use Rattle.iso_atoms.specs.Texts.{KeepsTexts}
+use Rattle.iso_model.specs.Terms.Trees.{Tree}
+use Rattle.iso_model.specs.Terms.Substitutions.{Subst, apply, compose}
+use Rattle.iso_model.specs.Terms.Unifiers.{Unifier, NeverEqual}
+use Rattle.iso_model.specs.Terms.Copies.{renamed}
+use Rattle.iso_model.specs.Terms.Unification.{unifier_of}
+use Rattle.iso_model.specs.Search.Additions.{most_variables}
+use Rattle.iso_model.specs.Search.Databases as databases
+use Rattle.iso_model.specs.Search.Databases.{Key, key, key_of}
+use Rattle.iso_model.specs.Search.BuiltIns.{built_in}
+use Rattle.iso_db.specs.Databases.{Database}
+use Rattle.iso_plain_core.specs.declared.clauses.Clause as kept
+use Rattle.iso_plain_core.proofs.StandingLemmas.{some_same}
+use Rattle.iso_model.specs.Search.Storages.{clause_row, clause_cost, shown_clause}
+use Rattle.iso_model.specs.Search.Walker.{State, fails, under, taken, tried_right}
+use Rattle.iso_model.proofs.Search.CallLemmas.{unify_found, unify_none}
+use Rattle.iso_store_core.specs.Presents.{Present, KeepsMarks, meaning}
+use Rattle.iso_storage.specs.Shown.{MeetsClause, UnifiesClause}
+use Rattle.iso_plain_core.specs.Next.{now_behind}
+use Rattle.iso_plain_core.specs.Offers.{clause_offer}
+use Rattle.iso_plain_core.specs.declared.parts.Now.{Now}
+use Rattle.iso_plain_core.specs.declared.parts.Now.TheVariants as now
+use Rattle.iso_plain_core.specs.declared.parts.Showing.{Showing}
+use Rattle.iso_plain_core.proofs.EnteringLemmas.{adds_none}
+use Rattle.iso_plain.specs.declared.plain.Plain.{Plain}
+use Rattle.iso_plain.specs.EngineStates.{IsEngine, IsAhead}
+use Rattle.iso_plain.specs.Shows.{Shows, HasUnified, IsUserPlace, shown_row}
+use Rattle.iso_plain.proofs.AheadLemmas.{engine_place}
+use Rattle.iso_plain.proofs.MeetLemmas.{ahead_bound}
+use Rattle.iso_plain.proofs.StoppedLemmas.{base_kept}
+use Rattle.iso_plain.proofs.WorldLemmas.{world_on, choices_kept}
+
+-- what holds anyway
+pub on_error_too : {T E P : Type 0} (r : Result T E) → P → OnErr r P
+on_error_too (Ok t) h = tt
+on_error_too (Err e) h = h
+
+module _ {S W M : Type 0} (names : S → List (List ℕ)) (present : S → Present W) (stands : S → M → Present W → Type 0) (older : M → M → Type 0) where
+  module _ (e : Plain S W M) (shown : Showing W) (s : State) (k : Key) (c : databases.Clause) (cs : List databases.Clause) (t : Shows names present stands older e shown s k c cs)
+      (store : S) (keeps : KeepsMarks (stands e.store) (stands store)) (texts : KeepsTexts (names e.store) (names store)) where
+    abbrev here : Tree
+    here = shown_row (present e.store) shown
+
+    abbrev right : Tree
+    right = apply s.subst (renamed s.next (clause_row c))
+
+    -- the clause, as the store makes it
+    right_is : apply (present e.store).substitution (renamed (present e.store).next (clause_row c)) ≡ right
+    right_is = ap (λ (r : Subst). apply r (renamed (present e.store).next (clause_row c))) t.ahead.goes.subst ∙ ap (λ (n : ℕ). apply s.subst (renamed n (clause_row c))) t.ahead.goes.next
+
+    found : c.variables ≤ most_variables → MeetsClause (present e.store) (present store) (meaning (present e.store) shown.head) (meaning (present e.store) shown.body) c
+        → HasUnified names present stands older (record e { store = store }) here shown s c true
+    found few m =
+        let a = t.ahead in
+        let space = t.space in
+        (compose s.subst m.unifier, unify_found s.subst here right (subst (λ (x : Tree). Unifier here x m.unifier) right_is m.is),
+        ahead_bound names present stands older e store e.nodes s shown.rest c.variables (compose s.subst m.unifier) a keeps texts (adds_none e.nodes.items) m.words
+        (m.substitution ∙ ap (λ (r : Subst). compose r m.unifier) a.goes.subst) m.next (omega (arith, space, few)))
+
+    missed : e.now ≡ now.Failing → NeverEqual here (apply (present e.store).substitution (renamed (present e.store).next (clause_row c)))
+        → HasUnified names present stands older (record e { store = store }) here shown s c false
+    missed failing never =
+        let a = t.ahead in
+        (unify_none s.subst here right (subst (λ (x : Tree). NeverEqual here x) right_is never),
+        subst (λ (n : Now). IsEngine names present stands older (record e { store = store; now = n }) (fails s)) (sym failing) (record {
+          world = world_on texts a.world;
+          steps = a.steps;
+          base = base_kept (stands e.store) (stands store) e.base keeps a.base;
+          choices = choices_kept texts (λ d p among stood. keeps d.mark p stood) a.choices;
+          room = a.room;
+          next = ([], refl);
+        }))
+
+    -- its head and its body were unified with the two terms, or can't be
+    pub unified : e.now ≡ now.Failing → c.variables ≤ most_variables → (answer : Bool) → UnifiesClause (present e.store) (present store) (meaning (present e.store) shown.head) (meaning (present e.store) shown.body) c answer
+        → HasUnified names present stands older (record e { store = store }) here shown s c answer
+    unified failing few true m = found few m
+    unified failing few false never = missed failing never
+
+  -- whatever comes next
+  pub shows_next : (e : Plain S W M) (n : Now) (shown : Showing W) (s : State) (k : Key) (c : databases.Clause) (cs : List databases.Clause) → Shows names present stands older e shown s k c cs
+      → Shows names present stands older (record e { now = n }) shown s k c cs
+  shows_next e n shown s k c cs t =
+      let a = t.ahead in
+      record {
+        ahead = record { world = a.world; steps = a.steps; base = a.base; choices = a.choices; room = a.room; goes = a.goes; chain = a.chain };
+        space = t.space;
+        head = t.head;
+        body = t.body;
+        key_is = t.key_is;
+        user = t.user;
+        clauses = t.clauses;
+      }
+
+  -- ---- a clause that stays
+
+  -- the search goes on behind it
+  pub read_found : (e : Plain S W M) (r : Tree) (shown : Showing W) (s : State) (k : Key) (c : databases.Clause) → shown.removes ≡ false → HasUnified names present stands older e r shown s c true
+      → IsEngine names present stands older (record e { now = now_behind e.frames.items shown.rest }) (tried_right r (clause_offer shown.removes k c) s.list s)
+  read_found e r shown s k c stays h =
+      let a = h.2 in
+      let x : State = record s { subst = h.0; next = s.next + c.variables; built = s.built + clause_cost c } in
+      let counted : IsAhead names present stands older e x shown.rest = record {
+        world = a.world;
+        steps = a.steps;
+        base = a.base;
+        choices = a.choices;
+        room = a.room;
+        goes = record { subst = a.goes.subst; next = a.goes.next; room = a.goes.room; words = a.goes.words };
+        chain = a.chain;
+      } in
+      let is : taken (under s.subst (unifier_of r (apply s.subst (renamed s.next (clause_row c))))) None s.list (record s { next = s.next + c.variables; built = s.built + clause_cost c }) ≡ x =
+      ap (λ (o : Option Subst). taken o None s.list (record s { next = s.next + c.variables; built = s.built + clause_cost c })) h.1 in
+      subst (λ (b : Bool). IsEngine names present stands older (record e { now = now_behind e.frames.items shown.rest }) (tried_right r (clause_offer b k c) s.list s)) (sym stays)
+      (subst (λ (y : State). IsEngine names present stands older (record e { now = now_behind e.frames.items shown.rest }) y) (sym is) (engine_place names present stands older e x shown.rest counted))
+
+  -- it fails
+  pub read_missed : (e : Plain S W M) (r : Tree) (shown : Showing W) (s : State) (k : Key) (c : databases.Clause) → e.now ≡ now.Failing → shown.removes ≡ false → HasUnified names present stands older e r shown s c false
+      → IsEngine names present stands older e (tried_right r (clause_offer shown.removes k c) s.list s)
+  read_missed e r shown s k c failing stays h =
+      let f = h.1 in
+      let one : IsEngine names present stands older (record e { now = now.Failing }) (fails (record s { next = s.next + c.variables; built = s.built + clause_cost c })) =
+      record { world = f.world; steps = f.steps; base = f.base; choices = f.choices; room = f.room; next = ([], refl) } in
+      subst (λ (b : Bool). IsEngine names present stands older e (tried_right r (clause_offer b k c) s.list s)) (sym stays)
+      (subst (λ (n : Now). IsEngine names present stands older (record e { now = n }) (tried_right r (shown_clause c) s.list s)) (sym failing)
+      (subst (λ (o : Option Subst). IsEngine names present stands older (record e { now = now.Failing }) (taken o None s.list (record s { next = s.next + c.variables; built = s.built + clause_cost c }))) (sym h.0) one))
+
+-- what is found under the key of a term
+pub place_by : (d : Database kept.Clause) (text : List ℕ) (n : ℕ) (t : Tree) (k : Key) (place : Option ℕ) → key_of t ≡ Some (key text n) → key_of t ≡ Some k → built_in k ≡ None
+    → (built_in (key text n) ≡ None → IsUserPlace d (key text n) place) → IsUserPlace d k place
+place_by d text n t k place shown is none found =
+    let same : key text n ≡ k = some_same (sym shown ∙ is) in
+    subst (λ (j : Key). IsUserPlace d j place) same (found (ap built_in same ∙ none))

@@ -1,0 +1,49 @@
+use Rattle.std.proofs.Common.{◌≡◌, ◌+◌, length, arith, ap, subst, sym, ◌∙◌}
+use Rattle.iso_model.specs.Terms.Variables.{variables}
+use Rattle.iso_plain_core.specs.Leaving.{AreLeft, NextLeft}
+use Rattle.iso_plain_core.proofs.LeavingLemmas.{left_behind, left_long}
+use Rattle.iso_plain_core.proofs.ResultLemmas.{behind_error}
+use Rattle.iso_plain_core.specs.Costs.{choices_cost, rest_cost, frame_costs}
+use Rattle.iso_db.specs.Presents.{remaining}
+use Rattle.iso_plain.proofs.CallLemmas.{later_cost}
+use Rattle.iso_plain.proofs.ControlCosts.{gained_cost}
+use Rattle.iso_plain.proofs.ShowMoves.{shows_last, shows_later}
+use Rattle.iso_plain.proofs.StoppedLemmas.{base_kept}
+use Rattle.iso_plain.proofs.WorldLemmas.{world_on, choices_kept}
+use Rattle.iso_plain.proofs.plain.Plain.push_shown.Goals as goal
+
+pub next_left-requires : goal.next_left-requires
+next_left-requires g c = (let t = c.requires.4 in (t.clauses.behind, t.clauses.gives))
+
+pub returns-in_default-clause-shows : goal.returns-in_default-clause-shows
+returns-in_default-clause-shows g c = λ s k x xs t done.
+    (let e = c.args.self.now in
+    let next = c.next_left.ensures.left (g.S.Store.names e.store) t.clauses.behind xs t.clauses.gives (left_behind (g.S.Store.names e.store) e.db t.clauses) in
+    shows_last g.S.Store.names g.S.Store.present g.S.Store.stands g.S.Store.older e c.args.shown s k x xs t
+    (subst (λ o. NextLeft (AreLeft (g.S.Store.names e.store) e.db) o c.next_left.new.later xs) c.in_default.is next))
+
+pub returns-clause-shows : goal.returns-clause-shows
+returns-clause-shows g c = λ s k x xs t done.
+    (let e = c.args.self.now in
+    let next = c.next_left.ensures.left (g.S.Store.names e.store) t.clauses.behind xs t.clauses.gives (left_behind (g.S.Store.names e.store) e.db t.clauses) in
+    let nodes : c.len-2.result ≡ length e.nodes.items = cc (c.len-2.ensures, e.nodes.ok.0) in
+    let frames : c.len-3.result ≡ length e.frames.items = cc (c.len-3.ensures, e.frames.ok.0) in
+    shows_later g.S.Store.names g.S.Store.present g.S.Store.stands g.S.Store.older e c.args.shown s k x xs t c.keep_choice.new.store c.keep_choice.new.choices c.in-Some.clause c.next_left.new.later
+    (subst (λ o. NextLeft (AreLeft (g.S.Store.names e.store) e.db) o c.next_left.new.later xs) c.in-Some.is next)
+    c.in_ok-keep_choice.ensures.present c.in_ok-keep_choice.ensures.marks c.in_ok-keep_choice.ensures.names (rw (nodes, frames) at c.in_ok-keep_choice.ensures.gains))
+
+pub returns-clause-costs : goal.returns-clause-costs
+returns-clause-costs g c =
+    let e = c.args.self.now in
+    let costs = frame_costs e.frames.items in
+    let gained = gained_cost costs c.in_ok-keep_choice.ensures.gains in
+    let later = later_cost (remaining c.next_left.new.later) (rest_cost costs c.args.shown.rest) c.next_left.ensures.few in
+    omega (arith, gained, later)
+
+pub returns-in_err-keep_choice-clause-kept : goal.returns-in_err-keep_choice-clause-kept
+returns-in_err-keep_choice-clause-kept g c = λ s k x xs t.
+    behind_error c.from_residual.result (
+      world_on c.in_err-keep_choice.ensures.names t.ahead.world,
+      base_kept (g.S.Store.stands c.args.self.now.store) (g.S.Store.stands c.keep_choice.new.store) c.args.self.now.base c.in_err-keep_choice.ensures.marks t.ahead.base,
+      (variables s.query, rw c.in_err-keep_choice.ensures.kept (choices_kept c.in_err-keep_choice.ensures.names (λ d p among stood. c.in_err-keep_choice.ensures.marks d.mark p stood) t.ahead.choices)),
+    )

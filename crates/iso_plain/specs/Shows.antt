@@ -1,0 +1,75 @@
+-- Goals that read or change the database, as the engine comes to them (ISO/IEC 13211-1:1995, 7.4.2, 8.8, 8.9).
+use Rattle.std.specs.Prelude.{◌≡◌, ℕ, ◌+◌, ◌*◌, ◌≤◌, List, [], ◌∷◌, map, Bool, true, false, Option, Some, None}
+use Rattle.iso_model.specs.Terms.Trees.{Tree, row}
+use Rattle.iso_model.specs.Terms.Arguments.{arity}
+use Rattle.iso_model.specs.Terms.Copies.{renamed}
+use Rattle.iso_model.specs.Terms.Substitutions.{Subst, apply}
+use Rattle.iso_model.specs.Terms.Unification.{unifier_of}
+use Rattle.iso_model.specs.Search.BuiltIns.{built_in}
+use Rattle.iso_model.specs.Search.Databases.{Clause, Key, key_of}
+use Rattle.iso_model.specs.Search.Storages.{storage_arity, clause_row}
+use Rattle.iso_model.specs.Search.Walker.{State, Alternative, Offered, under, fails, with_rights}
+use Rattle.iso_model.specs.Search.Settlements as walker
+use Rattle.iso_model.specs.declared.library.Storage.{Storage}
+use Rattle.iso_store_core.specs.Presents.{Present, meaning}
+use Rattle.iso_db.specs.Databases.{Database}
+use Rattle.iso_plain_core.specs.Offers.{clause_offer}
+use Rattle.iso_plain_core.specs.Programs.{place_at, kept_at, kind_of}
+use Rattle.iso_plain_core.specs.declared.clauses.Clause as kept
+use Rattle.iso_plain_core.specs.Standing.{most_numbers, numbers_a_step}
+use Rattle.iso_plain_core.specs.declared.parts.Showing.{Showing}
+use Rattle.iso_plain.specs.declared.plain.Plain.{Plain}
+use Rattle.iso_plain.specs.EngineStates.{IsEngine, IsAhead, Keeps, leaves_of, went_back}
+
+-- the head and the body that clauses are to be unified with
+abbrev pub shown_row : {W : Type 0} → Present W → Showing W → Tree
+shown_row p shown = row (meaning p shown.head ∷ meaning p shown.body ∷ [])
+
+-- the rows that these clauses of the procedure with this key offer
+abbrev pub offers_of : {W : Type 0} → Showing W → Key → List Clause → List walker.Offer
+offers_of shown k cs = map (clause_offer shown.removes k) cs
+
+-- The procedure with this key is at this place; without a place it is absent.
+abbrev pub IsUserPlace : Database kept.Clause → Key → Option ℕ → Type 0
+IsUserPlace d k (Some place) = place_at d k ≡ Some place
+IsUserPlace d k None = kind_of (kept_at d k) ≡ None
+
+module _ {S W M : Type 0} (names : S → List (List ℕ)) (present : S → Present W) (stands : S → M → Present W → Type 0) (older : M → M → Type 0) where
+  -- The engine, in this state, is about to unify a head and a body with those of this clause, and then of these, before its members from a place of the
+  -- frames on. They are of the user procedure with this key, which is the key of the head.
+  pub record Shows (e : Plain S W M) (shown : Showing W) (s : State) (k : Key) (c : Clause) (cs : List Clause) : Type 0 where
+    pub ahead : IsAhead names present stands older e s shown.rest
+    pub space : s.next + numbers_a_step * (e.steps + 1) ≤ most_numbers
+    pub head : (present e.store).holds shown.head ≡ true
+    pub body : (present e.store).holds shown.body ≡ true
+    pub key_is : key_of (meaning (present e.store) shown.head) ≡ Some k
+    pub user : built_in k ≡ None
+    pub clauses : leaves_of names present stands older e shown.clause shown.later (c ∷ cs)
+
+  -- The head and the body, this row of two terms, were unified with those of the clause, or can't be; then the engine, which fails next, is in that state.
+  abbrev pub HasUnified : Plain S W M → Tree → Showing W → State → Clause → Bool → Type 0
+  HasUnified e r shown s c true = (u : Subst) × (under s.subst (unifier_of r (apply s.subst (renamed s.next (clause_row c)))) ≡ Some u) × IsAhead names present stands older e (record s { subst = u; next = s.next + c.variables }) shown.rest
+  HasUnified e r shown s c false = (under s.subst (unifier_of r (apply s.subst (renamed s.next (clause_row c)))) ≡ None) × IsEngine names present stands older e (fails s)
+
+  -- The engine, in this state, is about to run this goal of this row, with its members from this place of the frames on behind it.
+  pub record StoresAt (e : Plain S W M) (row : Storage) (goal : W) (s : State) (place : Option ℕ) : Type 0 where
+    pub ahead : IsAhead names present stands older e s place
+    pub space : s.next + numbers_a_step * (e.steps + 1) ≤ most_numbers
+    pub holds : (present e.store).holds goal ≡ true
+    pub arity_is : arity (meaning (present e.store) goal) ≡ storage_arity row
+
+  -- The engine, in this state, is about to unify a head and a body with those of the first clause that was left at its newest alternative.
+  pub record ShowsNext (e : Plain S W M) (shown : Showing W) (s : State) (a : Alternative) (below : List Alternative) : Type 0 where
+    pub key : Key
+    pub clause : Clause
+    pub others : List Clause
+    pub left : a.left ≡ Offered (shown_row (present e.store) shown) (offers_of shown key (clause ∷ others))
+    pub shows : Shows e shown (with_rights (shown_row (present e.store) shown) (offers_of shown key others) a.list (went_back a below s)) key clause others
+
+  -- Stopped at that clause, it keeps the world and the alternatives that stood then.
+  pub record KeepsShown (e : Plain S W M) (shown : Showing W) (s : State) (a : Alternative) (below : List Alternative) : Type 0 where
+    pub left : Tree
+    pub others : List walker.Offer
+    pub first : walker.Offer
+    pub is : a.left ≡ Offered left (first ∷ others)
+    pub keeps : Keeps names present stands older e s.world (with_rights left others a.list (went_back a below s)).stack

@@ -1,0 +1,335 @@
+//! The engine's moves at goals that read or change the database (7.4.2, 8.8, 8.9).
+ghost use Rattle.std.specs.Prelude.{◌≡◌, ℕ, suc, ◌+◌, ◌<◌, ◌≤◌, IfOk, OnOk, OnErr, Err, List, ◌∷◌, length, Some, None, true, false};
+ghost use Rattle.iso_model.specs.Terms.Trees.{Tree};
+ghost use Rattle.iso_model.specs.Search.Databases as databases;
+ghost use Rattle.iso_model.specs.Search.Storages.{storage_settled};
+ghost use Rattle.iso_model.specs.Search.Settlements as settlements;
+ghost use Rattle.iso_model.specs.Search.Walker as walker;
+ghost use Rattle.iso_model.specs.Search.Walker.{State, Alternative, with_rights, tried_right, offered, settled};
+ghost use Rattle.iso_model.specs.Search.BuiltIns.{built_in};
+ghost use Rattle.iso_db.specs.Presents.{contents};
+ghost use Rattle.iso_store_core.specs.Presents.{Holds, meaning};
+ghost use Rattle.iso_plain_core.specs.Callables.{Finds};
+ghost use Rattle.iso_atoms.specs.Texts.{EachOnce, text_at};
+ghost use Rattle.iso_model.specs.Search.Errors.{key};
+ghost use Rattle.iso_plain_core.specs.Offers.{clause_offer};
+ghost use Rattle.iso_plain_core.specs.declared.parts.Choice as kept;
+
+use super::plain::{Move, Plain};
+use iso_atoms::Atom;
+use iso_lib::Fault;
+use iso_model::{Limit, Pause, Storage};
+use iso_plain_core::callables::{self, Callee};
+use iso_plain_core::leaving::next_left;
+use iso_plain_core::parts::{Left, Now, Showing, at, keep_choice};
+use iso_storage::shown::unify_clause;
+use iso_storage::{Stored, store};
+use iso_store_core::{Shape, Store, StoreFault};
+use std::alloc::AllocError;
+
+impl<S: Store + Drop> Plain<S> {
+    ghost use Rattle.iso_plain.specs.Shows.{Shows, HasUnified, IsUserPlace, StoresAt, ShowsNext, KeepsShown, shown_row, offers_of};
+    ghost use Rattle.iso_plain.specs.Settles.{WasStopped};
+    ghost use Rattle.iso_plain.specs.EngineStates.{IsEngine, Keeps, WentBack, WasCalled, Falls, cost, weight, phase_of, went_back};
+    ghost use Rattle.iso_plain_core.specs.Costs.{choices_cost, now_cost, body_cost, left_cost, most, rest_cost, frame_costs, whole_cost};
+    ghost use Rattle.iso_model.specs.Search.Engines.{IsAwake};
+    ghost use Rattle.iso_plain.specs.Stays.{Stays};
+    ghost use Rattle.iso_plain.specs.Limits.{ResultMet, ResultFull};
+    ghost use Rattle.iso_plain_core.specs.declared.parts.Now.TheVariants as now;
+    ghost use Rattle.iso_plain_core.specs.declared.parts.Left.TheVariants as left;
+
+    /// The place of the user procedure with this name and so many arguments, if it has one.
+    fn user_place(&self, name: Atom, arity: usize) -> Option<usize>
+        requires name { name < length (S.names self.now.store) }
+        requires each_once { EachOnce (S.names self.now.store) }
+        requires found { Finds (S.names self.now.store) self.now.callables.items (contents self.now.db) }
+        ensures { built_in (key (text_at (S.names self.entry.now.store) name) arity) ≡ None
+            → IsUserPlace (contents self.entry.now.db) (key (text_at (S.names self.entry.now.store) name) arity) result }
+    {
+        match callables::find(self.callables.as_slice(), name, arity) {
+            Some(Callee::User(place)) => Some(place),
+            Some(Callee::BuiltIn(_)) => None,
+            None => None,
+        }
+    }
+
+    /// The place of the user procedure of this head, if it has one.
+    fn place_of(&self, head: S::Word) -> Option<usize>
+        requires head { Holds (S.present self.now.store) head }
+        requires found { Finds (S.names self.now.store) self.now.callables.items (contents self.now.db) }
+        ensures { (k : databases.Key) → databases.key_of (meaning (S.present self.entry.now.store) head) ≡ Some k → built_in k ≡ None → IsUserPlace (contents self.entry.now.db) k result }
+    {
+        match self.store.shape(head) {
+            Shape::Atom(name) => self.user_place(name, 0),
+            Shape::Compound(name, arity) => self.user_place(name, arity),
+            Shape::Var(_) | Shape::Int(_) => None,
+        }
+    }
+
+    /// Whether the head and the body that are shown unify with those of the clause that comes first; then their unifier is bound. The
+    /// errors: the store is full, or memory was refused.
+    fn unify_shown(&mut self, shown: Showing<S::Word>) -> Result<bool, StoreFault>
+        requires shows { (s : State) × (k : databases.Key) × (c : databases.Clause) × (cs : List databases.Clause) × Shows S.names S.present S.stands S.older self.old shown s k c cs }
+        requires failing { self.old.now ≡ now.Failing }
+        ensures unified { (s : State) (k : databases.Key) (c : databases.Clause) (cs : List databases.Clause) → Shows S.names S.present S.stands S.older self.old shown s k c cs
+            → IfOk result (HasUnified S.names S.present S.stands S.older self.new (shown_row (S.present self.old.store) shown) shown s c) }
+        ensures kept { (s : State) (k : databases.Key) (c : databases.Clause) (cs : List databases.Clause) → Shows S.names S.present S.stands S.older self.old shown s k c cs
+            → OnErr result (Keeps S.names S.present S.stands S.older self.new s.world s.stack) }
+        ensures full { result ≡ Err StoreFault.Full → S.full self.new.store }
+        ensures now { self.new.now ≡ self.old.now }
+        ensures db { self.new.db ≡ self.old.db }
+        ensures steps { self.new.steps ≡ self.old.steps }
+        ensures choices { self.new.choices ≡ self.old.choices }
+        ensures frames { self.new.frames ≡ self.old.frames }
+        ensures stays { Stays S.names self.old self.new }
+    {
+        let clause = self.db.clause(shown.clause);
+        let controls = &self.vocabulary.controls;
+        let (head, body) = (shown.head, shown.body);
+        unify_clause(self.alloc, &mut self.store, controls, clause, head, body)
+    }
+
+    /// Unifies the head and the body that are shown with those of the clause that comes first, and goes on (8.8.1); where they don't
+    /// unify it fails next. The errors: the store is full, or memory was refused.
+    fn read_clause(&mut self, shown: Showing<S::Word>) -> Result<(), StoreFault>
+        requires shows { (s : State) × (k : databases.Key) × (c : databases.Clause) × (cs : List databases.Clause) × Shows S.names S.present S.stands S.older self.old shown s k c cs }
+        requires failing { self.old.now ≡ now.Failing }
+        requires stays { shown.removes ≡ false }
+        ensures tried { (s : State) (k : databases.Key) (c : databases.Clause) (cs : List databases.Clause) → Shows S.names S.present S.stands S.older self.old shown s k c cs
+            → OnOk result (IsEngine S.names S.present S.stands S.older self.new (tried_right (shown_row (S.present self.old.store) shown) (clause_offer shown.removes k c) s.list s)) }
+        ensures kept { (s : State) (k : databases.Key) (c : databases.Clause) (cs : List databases.Clause) → Shows S.names S.present S.stands S.older self.old shown s k c cs
+            → OnErr result (Keeps S.names S.present S.stands S.older self.new s.world s.stack) }
+        ensures awake { OnOk result (IsAwake (phase_of self.new.now)) }
+        ensures full { result ≡ Err StoreFault.Full → S.full self.new.store }
+        ensures steps { self.new.steps ≡ self.old.steps }
+        ensures choices { self.new.choices ≡ self.old.choices }
+        ensures frames { self.new.frames ≡ self.old.frames }
+        ensures cost { OnOk result (now_cost (frame_costs self.old.frames.items) self.new.now ≤ body_cost most (rest_cost (frame_costs self.old.frames.items) shown.rest)) }
+        ensures stays { Stays S.names self.old self.new }
+    {
+        if self.unify_shown(shown)? {
+            self.now = at(self.frames.as_slice(), shown.rest);
+        }
+        Ok(())
+    }
+
+    /// Unifies the head and the body that are shown with those of the clause that comes first, removes it, and goes on (8.9.3); where it
+    /// was removed before, or they don't unify, it fails next. The errors: the store is full, or memory was refused.
+    fn take_clause(&mut self, shown: Showing<S::Word>) -> Result<(), StoreFault>
+        requires shows { (s : State) × (k : databases.Key) × (c : databases.Clause) × (cs : List databases.Clause) × Shows S.names S.present S.stands S.older self.old shown s k c cs }
+        requires failing { self.old.now ≡ now.Failing }
+        requires removes { shown.removes ≡ true }
+        ensures tried { (s : State) (k : databases.Key) (c : databases.Clause) (cs : List databases.Clause) → Shows S.names S.present S.stands S.older self.old shown s k c cs
+            → OnOk result (IsEngine S.names S.present S.stands S.older self.new (tried_right (shown_row (S.present self.old.store) shown) (clause_offer shown.removes k c) s.list s)) }
+        ensures kept { (s : State) (k : databases.Key) (c : databases.Clause) (cs : List databases.Clause) → Shows S.names S.present S.stands S.older self.old shown s k c cs
+            → OnErr result (Keeps S.names S.present S.stands S.older self.new s.world s.stack) }
+        ensures awake { OnOk result (IsAwake (phase_of self.new.now)) }
+        ensures full { result ≡ Err StoreFault.Full → S.full self.new.store }
+        ensures steps { self.new.steps ≡ self.old.steps }
+        ensures choices { self.new.choices ≡ self.old.choices }
+        ensures frames { self.new.frames ≡ self.old.frames }
+        ensures cost { OnOk result (now_cost (frame_costs self.old.frames.items) self.new.now ≤ body_cost most (rest_cost (frame_costs self.old.frames.items) shown.rest)) }
+        ensures stays { Stays S.names self.old self.new }
+    {
+        let Some(place) = self.place_of(shown.head) else {
+            return Ok(());
+        };
+        if !self.db.has(place, shown.clause) {
+            return Ok(());
+        }
+        if self.unify_shown(shown)? {
+            self.db.remove_from(place, shown.clause);
+            self.now = at(self.frames.as_slice(), shown.rest);
+        }
+        Ok(())
+    }
+
+    /// Unifies the head and the body that are shown with those of the clause that comes first, which is removed then where it is to be;
+    /// where they don't unify, or it was removed before, it fails next. The errors: the store is full, or memory was refused.
+    fn show_clause(&mut self, shown: Showing<S::Word>) -> Result<(), StoreFault>
+        requires { (s : State) × (k : databases.Key) × (c : databases.Clause) × (cs : List databases.Clause) × Shows S.names S.present S.stands S.older self.old shown s k c cs }
+        ensures tried { (s : State) (k : databases.Key) (c : databases.Clause) (cs : List databases.Clause) → Shows S.names S.present S.stands S.older self.old shown s k c cs
+            → OnOk result (IsEngine S.names S.present S.stands S.older self.new (tried_right (shown_row (S.present self.old.store) shown) (clause_offer shown.removes k c) s.list s)) }
+        ensures kept { (s : State) (k : databases.Key) (c : databases.Clause) (cs : List databases.Clause) → Shows S.names S.present S.stands S.older self.old shown s k c cs
+            → OnErr result (Keeps S.names S.present S.stands S.older self.new s.world s.stack) }
+        ensures awake { OnOk result (IsAwake (phase_of self.new.now)) }
+        ensures full { result ≡ Err StoreFault.Full → S.full self.new.store }
+        ensures steps { self.new.steps ≡ self.old.steps }
+        ensures choices { self.new.choices ≡ self.old.choices }
+        ensures frames { self.new.frames ≡ self.old.frames }
+        ensures cost { OnOk result (now_cost (frame_costs self.old.frames.items) self.new.now ≤ body_cost most (rest_cost (frame_costs self.old.frames.items) shown.rest)) }
+        ensures stays { Stays S.names self.old self.new }
+    {
+        self.now = Now::Failing;
+        if shown.removes {
+            self.take_clause(shown)
+        } else {
+            self.read_clause(shown)
+        }
+    }
+
+    /// Keeps the clauses behind the first as a choice where there are any (7.7.8); false where no choice may be made any more. The error
+    /// is that memory was refused.
+    fn push_shown(&mut self, shown: Showing<S::Word>) -> Result<bool, AllocError>
+        requires { (s : State) × (k : databases.Key) × (c : databases.Clause) × (cs : List databases.Clause) × Shows S.names S.present S.stands S.older self.old shown s k c cs }
+        ensures shows { (s : State) (k : databases.Key) (c : databases.Clause) (cs : List databases.Clause) → Shows S.names S.present S.stands S.older self.old shown s k c cs → result ≡ Ok true
+            → Shows S.names S.present S.stands S.older self.new shown (with_rights (shown_row (S.present self.old.store) shown) (offers_of shown k cs) s.list s) k c cs }
+        ensures present { result ≡ Ok true → S.present self.new.store ≡ S.present self.old.store }
+        ensures kept { (s : State) (k : databases.Key) (c : databases.Clause) (cs : List databases.Clause) → Shows S.names S.present S.stands S.older self.old shown s k c cs
+            → OnErr result (Keeps S.names S.present S.stands S.older self.new s.world s.stack) }
+        ensures refused { result ≡ Ok false → self.new ≡ self.old }
+        ensures over { (s : State) (k : databases.Key) (c : databases.Clause) (cs : List databases.Clause) → Shows S.names S.present S.stands S.older self.old shown s k c cs
+            → result ≡ Ok false → (self.old.limit ≤ length self.old.choices.items) × (0 < length cs) }
+        ensures steps { self.new.steps ≡ self.old.steps }
+        ensures frames { self.new.frames ≡ self.old.frames }
+        ensures costs { choices_cost (frame_costs self.old.frames.items) self.new.choices.items
+            ≤ choices_cost (frame_costs self.old.frames.items) self.old.choices.items + left_cost most (rest_cost (frame_costs self.old.frames.items) shown.rest) }
+        ensures stays { Stays S.names self.old self.new }
+    {
+        let mut later = shown.later;
+        let Some(clause) = next_left(&self.db, &mut later) else {
+            return Ok(true);
+        };
+        if self.choices.len() >= self.limit as usize {
+            return Ok(false);
+        }
+        keep_choice(
+            &mut self.store,
+            &mut self.choices,
+            Left::Shown(Showing {
+                clause,
+                later,
+                ..shown
+            }),
+            self.nodes.len(),
+            self.frames.len(),
+        )?;
+        Ok(true)
+    }
+
+    /// Unifies the head and the body that are shown with those of the first clause; those behind it are one choice. The errors: the store
+    /// is full, or memory was refused; where no choice may be made any more the engine is spent.
+    fn show(&mut self, shown: Showing<S::Word>) -> Result<Move, StoreFault>
+        requires { (s : State) × (k : databases.Key) × (c : databases.Clause) × (cs : List databases.Clause) × Shows S.names S.present S.stands S.older self.old shown s k c cs }
+        ensures called { (s : State) (k : databases.Key) (c : databases.Clause) (cs : List databases.Clause) → Shows S.names S.present S.stands S.older self.old shown s k c cs
+            → IfOk result (λ m. WasCalled S.names S.present S.stands S.older m self.new s (offered (shown_row (S.present self.old.store) shown) (offers_of shown k (c ∷ cs)) s.list s)) }
+        ensures kept { (s : State) (k : databases.Key) (c : databases.Clause) (cs : List databases.Clause) → Shows S.names S.present S.stands S.older self.old shown s k c cs
+            → OnErr result (WasStopped S.names S.present S.stands S.older self.new s (with_rights (shown_row (S.present self.old.store) shown) (offers_of shown k cs) s.list s)) }
+        ensures falls { (w : ℕ) → choices_cost (frame_costs self.old.frames.items) self.old.choices.items
+            + rest_cost (frame_costs self.old.frames.items) shown.rest ≤ w → IfOk result (λ m. Falls m (whole_cost (suc self.old.steps) w) (weight self.new)) }
+        ensures frames { (s : State) (k : databases.Key) (c : databases.Clause) (cs : List databases.Clause) → Shows S.names S.present S.stands S.older self.old shown s k c cs
+            → ResultFull ((self.old.limit ≤ length self.old.choices.items) × (0 < length cs)) result }
+        ensures met { ResultMet S.full result self.new }
+        ensures stays { Stays S.names self.old self.new }
+    {
+        if !self.push_shown(shown)? {
+            self.now = Now::Spent(Limit::Frames);
+            return Ok(Move::Pauses(Pause::FramesFull));
+        }
+        self.show_clause(shown)?;
+        Ok(Move::Goes)
+    }
+
+    /// Runs the goal of this row, before the members from this place on. The errors: the store is full, or memory was refused; where no
+    /// choice may be made any more the engine is spent.
+    pub(crate) fn store_goal(
+        &mut self,
+        row: Storage,
+        goal: S::Word,
+        place: Option<usize>,
+    ) -> Result<Move, StoreFault>
+        requires { (s : State) × StoresAt S.names S.present S.stands S.older self.old row goal s place }
+        ensures called { (s : State) → StoresAt S.names S.present S.stands S.older self.old row goal s place
+            → IfOk result (λ m. WasCalled S.names S.present S.stands S.older m self.new s (settled (storage_settled row (meaning (S.present self.old.store) goal) s.next s.world) s.list s)) }
+        ensures kept { (s : State) → StoresAt S.names S.present S.stands S.older self.old row goal s place
+            → OnErr result (WasStopped S.names S.present S.stands S.older self.new s (settled (storage_settled row (meaning (S.present self.old.store) goal) s.next s.world) s.list s)) }
+        ensures falls { (w : ℕ) → choices_cost (frame_costs self.old.frames.items) self.old.choices.items
+            + rest_cost (frame_costs self.old.frames.items) place + 1 ≤ w → IfOk result (λ m. Falls m (whole_cost (suc self.old.steps) w) (weight self.new)) }
+        ensures frames { (s : State) → StoresAt S.names S.present S.stands S.older self.old row goal s place
+            → ResultFull ((self.old.limit ≤ length self.old.choices.items)
+            × (length (settled (storage_settled row (meaning (S.present self.old.store) goal) s.next s.world) s.list s).stack ≡ suc (length s.stack))) result }
+        ensures met { ResultMet S.full result self.new }
+        ensures stays { Stays S.names self.old self.new }
+    {
+        match store(
+            self.alloc,
+            &mut self.store,
+            &mut self.db,
+            &mut self.callables,
+            row,
+            goal,
+        ) {
+            Ok(Stored::Done) => {
+                self.now = at(self.frames.as_slice(), place);
+                Ok(Move::Goes)
+            }
+            Ok(Stored::Fails) => {
+                self.now = Now::Failing;
+                Ok(Move::Goes)
+            }
+            Ok(Stored::Shows(shown)) => self.show(Showing {
+                rest: place,
+                ..shown
+            }),
+            Err(Fault::Raise(ball)) => {
+                self.throw(ball, place);
+                Ok(Move::Goes)
+            }
+            Err(Fault::Full) => Err(StoreFault::Full),
+            Err(Fault::NoMemory) => Err(StoreFault::NoMemory),
+        }
+    }
+
+    /// Leaves the newest choice at its next clause, or takes it away where this is its last one.
+    fn leave_shown(&mut self, mark: S::Mark, shown: Showing<S::Word>)
+        requires some { 0 < length self.old.choices.items }
+        requires back { (c : kept.Choice S.Word S.Mark) × (s : State) × (a : Alternative) × (below : List Alternative) × (c.mark ≡ mark) × (c.left ≡ left.Shown shown)
+            × WentBack S.names S.present S.stands S.older self.old c s a below }
+        ensures shows { (c : kept.Choice S.Word S.Mark) (s : State) (a : Alternative) (below : List Alternative) → c.mark ≡ mark → c.left ≡ left.Shown shown → WentBack S.names S.present S.stands S.older self.old c s a below
+            → ShowsNext S.names S.present S.stands S.older self.new shown s a below }
+        ensures steps { self.new.steps ≡ self.old.steps }
+        ensures frames { self.new.frames ≡ self.old.frames }
+        ensures costs { choices_cost (frame_costs self.old.frames.items) self.new.choices.items + (body_cost most (rest_cost (frame_costs self.old.frames.items) shown.rest) + 1)
+            ≤ choices_cost (frame_costs self.old.frames.items) self.old.choices.items }
+        ensures stays { Stays S.names self.old self.new }
+    {
+        let newest = self.choices.len() - 1;
+        let mut later = shown.later;
+        if let Some(clause) = next_left(&self.db, &mut later) {
+            self.choices[newest].left = Left::Shown(Showing {
+                clause,
+                later,
+                ..shown
+            });
+        } else {
+            self.choices.truncate(newest);
+            self.store.forget(mark);
+        }
+    }
+
+    /// Unifies a head and a body with those of the first clause that was left at the newest choice; then it goes on, or fails next. The
+    /// errors: the store is full, or memory was refused.
+    pub(crate) fn show_next(
+        &mut self,
+        mark: S::Mark,
+        shown: Showing<S::Word>,
+    ) -> Result<(), StoreFault>
+        requires some { 0 < length self.old.choices.items }
+        requires back { (c : kept.Choice S.Word S.Mark) × (s : State) × (a : Alternative) × (below : List Alternative) × (c.mark ≡ mark) × (c.left ≡ left.Shown shown)
+            × WentBack S.names S.present S.stands S.older self.old c s a below }
+        ensures tried { (c : kept.Choice S.Word S.Mark) (s : State) (a : Alternative) (below : List Alternative) (first : Tree) (rights : List settlements.Offer) → c.mark ≡ mark → c.left ≡ left.Shown shown
+            → WentBack S.names S.present S.stands S.older self.old c s a below → a.left ≡ walker.Offered first rights
+            → OnOk result (IsEngine S.names S.present S.stands S.older self.new (offered first rights a.list (went_back a below s))) }
+        ensures kept { (c : kept.Choice S.Word S.Mark) (s : State) (a : Alternative) (below : List Alternative) → c.mark ≡ mark → c.left ≡ left.Shown shown
+            → WentBack S.names S.present S.stands S.older self.old c s a below
+            → OnErr result (KeepsShown S.names S.present S.stands S.older self.new shown s a below) }
+        ensures awake { OnOk result (IsAwake (phase_of self.new.now)) }
+        ensures full { result ≡ Err StoreFault.Full → S.full self.new.store }
+        ensures steps { self.new.steps ≡ self.old.steps }
+        ensures costs { OnOk result (cost self.new < choices_cost (frame_costs self.old.frames.items) self.old.choices.items) }
+        ensures stays { Stays S.names self.old self.new }
+    {
+        self.leave_shown(mark, shown);
+        self.show_clause(shown)
+    }
+}

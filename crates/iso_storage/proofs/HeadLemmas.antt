@@ -1,0 +1,139 @@
+-- The procedure of a head, as it is found by an atom and as it is in the database.
+use Rattle.std.proofs.Common.{◌≡◌, ◌<◌, ℕ, List, [], ◌∷◌, length, refl, sym, ap, ◌∙◌, subst, Bool, true, false, not, ◌||◌, Option, Some, None, option_map, unwrap_or, is_some, is_ok, inl, inr, Vec, Global, Result, Ok, Err}
+use Rattle.std.specs.Prelude.{IfOk}
+use Rattle.std.specs.Result.{result_ok}
+use Rattle.std.proofs.lemmas.Bool.{cases_Bool}
+use Rattle.iso_model.specs.Search.Databases as databases
+use Rattle.iso_model.specs.Search.Databases.{Key, key, Procedures, Static, Dynamic, same_key, kind_at, is_static}
+use Rattle.iso_model.specs.Search.BuiltIns.{built_in, is_built_in}
+use Rattle.iso_model.specs.Search.Storages.{is_fixed, clauses_of}
+use Rattle.iso_db.specs.Databases as db
+use Rattle.iso_db.specs.Databases.{Database, is_not_static}
+use Rattle.iso_db.specs.Presents.{contents, Gives}
+use Rattle.iso_db.specs.declared.db.Db.{Db}
+use Rattle.iso_db.specs.declared.kinds.Kind.{Kind}
+use Rattle.iso_db.specs.declared.kinds.Kind.TheVariants as kind
+use Rattle.iso_db.specs.declared.views.View.{View}
+use Rattle.iso_plain_core.specs.declared.callables.Callable.{Callable}
+use Rattle.iso_plain_core.specs.declared.callables.Callee.{Callee}
+use Rattle.iso_plain_core.specs.declared.callables.Callee.TheVariants as callee
+use Rattle.iso_plain_core.specs.declared.clauses.Clause.{Clause}
+use Rattle.iso_plain_core.specs.Adding.{IsFound}
+use Rattle.iso_plain_core.specs.Callables.{callee_at}
+use Rattle.iso_plain_core.specs.Programs.{AreClauses, no_clauses, IsKind, IsProcedure, IsDatabase, procedure_with, place_at, kept_at, kind_of}
+use Rattle.iso_plain_core.proofs.AddingLemmas.{user_alone, called_own, found_callee, found_place, found_absent}
+use Rattle.iso_plain_core.proofs.ProgramLemmas.{clauses_with, place_within, kept_there, kind_there}
+use Rattle.iso_lib.specs.declared.indicators.Functor.{Functor}
+use Rattle.iso_storage.specs.Storing.{IsProgram, IsNamed, AreOf, user_place}
+
+-- ---- the procedures of the language
+
+kinds_with : (ps : Procedures) (k : Key) → kind_at ps k ≡ option_map (λ p. p.kind) (procedure_with ps k)
+kinds_with [] k = refl
+kinds_with (p ∷ ps) k =
+    elim (cases_Bool (same_key p.key k)) [
+      | inl here ↦ rw here refl
+      | inr other ↦ rw other (kinds_with ps k)
+    ]
+
+module _ {names : List (List ℕ)} (d : Database Clause) (m : databases.Database) (k : Key) (is : IsDatabase names d m) where
+  -- it is static where it is kept as static
+  pub kept_kind : (o : Option Kind) → kind_of (kept_at d k) ≡ o → is_static (kind_at m.procedures k) ≡ not (is_not_static o)
+  kept_kind o there = ap is_static (kinds_with m.procedures k) ∙ by_kind o (db.clauses_of (kept_at d k)) (procedure_with m.procedures k)
+      (subst (λ (x : Option Kind). IsProcedure names x (db.clauses_of (kept_at d k)) (procedure_with m.procedures k)) there (is.procedures k)) where
+        by_own : (x : Kind) (y : databases.Kind) → IsKind x y → is_static (Some y) ≡ not (is_not_static (Some x))
+        by_own kind.Static Static h = refl
+        by_own kind.Static Dynamic h = absurd h
+        by_own kind.Dynamic Static h = absurd h
+        by_own kind.Dynamic Dynamic h = refl
+
+        by_kind : (x : Option Kind) (ks : List (db.Clause Clause)) (q : Option databases.Procedure) → IsProcedure names x ks q → is_static (option_map (λ p. p.kind) q) ≡ not (is_not_static x)
+        by_kind None ks None h = refl
+        by_kind None ks (Some p) h = absurd h
+        by_kind (Some x) ks None h = absurd h
+        by_kind (Some x) ks (Some p) h = by_own x p.kind h.0
+
+  -- its clauses are kept
+  pub kept_clauses : AreClauses names (db.clauses_of (kept_at d k)) (clauses_of m.procedures k)
+  kept_clauses = subst (λ (o : Option (List databases.Clause)). AreClauses names (db.clauses_of (kept_at d k)) (unwrap_or o [])) (sym (clauses_with m.procedures k))
+      (by_kind (kind_of (kept_at d k)) (db.clauses_of (kept_at d k)) (procedure_with m.procedures k) (is.procedures k)) where
+        by_kind : (x : Option Kind) (ks : List (db.Clause Clause)) (q : Option databases.Procedure) → IsProcedure names x ks q → AreClauses names ks (unwrap_or (option_map (λ p. p.clauses) q) [])
+        by_kind None ks None h = subst (λ (xs : List (db.Clause Clause)). AreClauses names xs []) (sym h) no_clauses
+        by_kind None ks (Some p) h = absurd h
+        by_kind (Some x) ks None h = absurd h
+        by_kind (Some x) ks (Some p) h = h.1
+
+  -- one that is absent has none
+  pub absent_clauses : kind_of (kept_at d k) ≡ None → clauses_of m.procedures k ≡ []
+  absent_clauses none = ap (λ o. unwrap_or o []) (clauses_with m.procedures k) ∙ by_kind (db.clauses_of (kept_at d k)) (procedure_with m.procedures k)
+      (subst (λ (x : Option Kind). IsProcedure names x (db.clauses_of (kept_at d k)) (procedure_with m.procedures k)) none (is.procedures k)) where
+        by_kind : (ks : List (db.Clause Clause)) (q : Option databases.Procedure) → IsProcedure names None ks q → unwrap_or (option_map (λ p. p.clauses) q) [] ≡ []
+        by_kind ks None h = refl
+        by_kind ks (Some p) h = absurd h
+
+-- ---- what is found by an atom
+
+-- what may be changed is no built-in
+or_false : (a b : Bool) → a || b ≡ false → a ≡ false
+or_false false b h = refl
+or_false true b h = absurd (cc h)
+
+pub free_user : (ps : Procedures) (k : Key) → is_fixed ps k ≡ false → is_built_in k ≡ false
+free_user ps k h = or_false (is_built_in k) (is_static (kind_at ps k)) h
+
+pub free_alone : (ps : Procedures) (k : Key) → is_fixed ps k ≡ false → built_in k ≡ None
+free_alone ps k h = user_alone k (free_user ps k h)
+
+module _ (names : List (List ℕ)) (d : Database Clause) (rows : List (Vec Callable Global)) (m : databases.Database) (f : Functor) (text : List ℕ) (is : IsProgram names d rows m) (named : IsNamed names f text) where
+  abbrev by_atom : IsFound names f text d rows
+  by_atom = record { each_once = named.each_once; atom = named.atom; found = is.found }
+
+  abbrev of_name : Key
+  of_name = key text f.arity
+
+  -- the procedure at the place
+  pub user_there : (i : ℕ) → user_place (callee_at rows f.name f.arity) ≡ Some i → place_at d of_name ≡ Some i
+  user_there i h = by_callee (callee_at rows f.name f.arity) refl h where
+    by_callee : (o : Option Callee) → callee_at rows f.name f.arity ≡ o → user_place o ≡ Some i → place_at d of_name ≡ Some i
+    by_callee None at h = absurd (cc h)
+    by_callee (Some (callee.BuiltIn b)) at h = absurd (cc h)
+    by_callee (Some (callee.User j)) at h = found_place names f text d rows by_atom i (at ∙ ap (option_map callee.User) h)
+
+  pub user_within : (i : ℕ) → user_place (callee_at rows f.name f.arity) ≡ Some i → i < length d.procedures
+  user_within i h = place_within d of_name i (user_there i h)
+
+  -- without a place it is a built-in or absent
+  pub user_absent : user_place (callee_at rows f.name f.arity) ≡ None → built_in of_name ≡ None → kind_of (kept_at d of_name) ≡ None
+  user_absent h alone = by_callee (callee_at rows f.name f.arity) refl h where
+    by_callee : (o : Option Callee) → callee_at rows f.name f.arity ≡ o → user_place o ≡ None → kind_of (kept_at d of_name) ≡ None
+    by_callee None at h = found_absent names f text d rows by_atom at
+    by_callee (Some (callee.BuiltIn b)) at h = absurd (let own = called_own d of_name b (found_callee names f text d rows by_atom (callee.BuiltIn b) at) in let e : None ≡ Some b = sym alone ∙ own in cc e)
+    by_callee (Some (callee.User j)) at h = absurd (cc h)
+
+  -- whether it may be read or changed
+  pub fixed_there : (i : ℕ) → user_place (callee_at rows f.name f.arity) ≡ Some i → is_built_in of_name ≡ false → not (is_not_static (db.kind_at d i)) ≡ is_fixed m.procedures of_name
+  fixed_there i h free =
+      sym (ap (λ b. b || is_static (kind_at m.procedures of_name)) free ∙ kept_kind d m of_name is.database (db.kind_at d i) (sym (kind_there d of_name i (user_there i h))))
+
+  pub fixed_none : user_place (callee_at rows f.name f.arity) ≡ None → is_built_in of_name ≡ false → false ≡ is_fixed m.procedures of_name
+  fixed_none h free =
+      sym (ap (λ b. b || is_static (kind_at m.procedures of_name)) free ∙ kept_kind d m of_name is.database None (user_absent h (user_alone of_name free)))
+
+  -- its clauses
+  pub clauses_there : (i : ℕ) → user_place (callee_at rows f.name f.arity) ≡ Some i → AreClauses names (db.clauses_at d i) (clauses_of m.procedures of_name)
+  clauses_there i h = subst (λ (ks : List (db.Clause Clause)). AreClauses names ks (clauses_of m.procedures of_name)) (ap db.clauses_of (kept_there d of_name i (user_there i h))) (kept_clauses d m of_name is.database)
+
+  pub clauses_none : user_place (callee_at rows f.name f.arity) ≡ None → is_fixed m.procedures of_name ≡ false → clauses_of m.procedures of_name ≡ []
+  clauses_none h free = absent_clauses d m of_name is.database (user_absent h (free_alone m.procedures of_name free))
+
+  pub clauses_absent : (i : ℕ) → user_place (callee_at rows f.name f.arity) ≡ Some i → is_some (db.kind_at d i) ≡ false → clauses_of m.procedures of_name ≡ []
+  clauses_absent i h none = absent_clauses d m of_name is.database (sym (kind_there d of_name i (user_there i h)) ∙ none_of (db.kind_at d i) none) where
+    none_of : {X : Type 0} (o : Option X) → is_some o ≡ false → o ≡ None
+    none_of None h = refl
+    none_of (Some x) h = absurd (cc h)
+
+-- a view gives its clauses
+pub view_gives : {E : Type 0} (names : List (List ℕ)) (d : Db Clause) (rows : List (Vec Callable Global)) (m : databases.Database) (f : Functor) (text : List ℕ) (i : ℕ) (r : Result View E) → IsProgram names (contents d) rows m → IsNamed names f text
+    → user_place (callee_at rows f.name f.arity) ≡ Some i → IfOk r (λ view. Gives d view (db.clauses_at (contents d) i)) → is_ok r ≡ is_some (db.kind_at (contents d) i) → AreOf names d (clauses_of m.procedures (key text f.arity)) (result_ok r)
+view_gives names d rows m f text i (Ok view) is named there gives found = (db.clauses_at (contents d) i, gives, clauses_there names (contents d) rows m f text is named i there)
+view_gives names d rows m f text i (Err fault) is named there gives found = clauses_absent names (contents d) rows m f text is named i there (sym found)

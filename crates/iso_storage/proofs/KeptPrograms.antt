@@ -1,0 +1,104 @@
+-- The database stays what it is where names come, and which procedures are fixed.
+use Rattle.std.proofs.Common.{◌≡◌, [], ◌∷◌, ◌<◌, ℕ, List, Bool, true, false, Option, Some, None, option_map, refl, sym, ap, ◌∙◌, subst, inl, inr, Vec, Global, Result, Ok, Err}
+use Rattle.std.specs.Prelude.{OnErr}
+use Rattle.std.specs.Result.{IsErrAnd}
+use Rattle.std.specs.List.{slice_get}
+use Rattle.std.proofs.lemmas.Bool.{cases_Bool, or_parts}
+use Rattle.iso_atoms.specs.Texts.{KeepsTexts, EachOnce}
+use Rattle.iso_model.specs.Search.Databases as databases
+use Rattle.iso_model.specs.Search.Databases.{Key, key, Procedures, same_key, is_static}
+use Rattle.iso_model.specs.Search.BuiltIns.{is_built_in}
+use Rattle.iso_model.specs.Search.Storages as table
+use Rattle.iso_db.specs.Databases as db
+use Rattle.iso_db.specs.Databases.{Database, is_not_static}
+use Rattle.iso_db.specs.declared.kinds.Kind.{Kind}
+use Rattle.iso_db.specs.declared.kinds.Kind.TheVariants as kind
+use Rattle.iso_lib.specs.declared.indicators.Functor.{Functor}
+use Rattle.iso_plain_core.specs.declared.callables.Callable.{Callable}
+use Rattle.iso_plain_core.specs.declared.clauses.Clause.{Clause}
+use Rattle.iso_plain_core.specs.Adding.{IsFound}
+use Rattle.iso_plain_core.specs.Callables.{Finds}
+use Rattle.iso_plain_core.specs.Programs.{AreClauses, no_clauses, more_clauses, IsKind, IsProcedure, IsDatabase, procedure_with, kept_at, kind_of}
+use Rattle.iso_plain_core.proofs.CallableLemmas.{index_kept}
+use Rattle.iso_plain_core.proofs.WrittenLemmas.{clause_kept}
+use Rattle.iso_model.specs.Terms.TermOf.{term_of}
+use Rattle.iso_model.specs.Terms.Trees.{arities_fit}
+use Rattle.iso_model.specs.Search.Errors.{permission_error}
+use Rattle.iso_model.specs.Search.Settlements.{Settled, Refuses}
+use Rattle.iso_model.specs.declared.pauses.Ball.{Ball}
+use Rattle.iso_lib.specs.Settlements.{IsRefused}
+use Rattle.iso_model.specs.Search.Worlds.{World}
+use Rattle.iso_lib_core.specs.declared.outcomes.Fault.{Fault}
+use Rattle.iso_lib_core.specs.declared.outcomes.Fault.TheVariants as fault
+use Rattle.iso_storage.specs.Storing.{IsProgram, IsChanged}
+
+-- ---- names come
+
+pub clauses_kept : {old new : List (List ℕ)} {ks : List (db.Clause Clause)} {cs : List databases.Clause} → KeepsTexts old new → AreClauses old ks cs → AreClauses new ks cs
+clauses_kept keeps no_clauses = no_clauses
+clauses_kept {old = old} {new = new} keeps (more_clauses {k = k} {c = c} number is others) = more_clauses number (clause_kept old new keeps k.value c is) (clauses_kept keeps others)
+
+procedure_kept : (old new : List (List ℕ)) → KeepsTexts old new → (kind : Option Kind) (ks : List (db.Clause Clause)) (o : Option databases.Procedure) → IsProcedure old kind ks o → IsProcedure new kind ks o
+procedure_kept old new keeps None ks None is = is
+procedure_kept old new keeps None ks (Some p) is = is
+procedure_kept old new keeps (Some k) ks None is = is
+procedure_kept old new keeps (Some k) ks (Some p) is = (is.0, clauses_kept keeps is.1)
+
+pub program_kept : {old new : List (List ℕ)} {d : Database Clause} {rows : List (Vec Callable Global)} {m : databases.Database} → KeepsTexts old new → IsProgram old d rows m → IsProgram new d rows m
+program_kept {old = old} {new = new} {d = d} {rows = rows} {m = m} keeps is = record {
+  database = record {
+    procedures = λ k. procedure_kept old new keeps (kind_of (kept_at d k)) (db.clauses_of (kept_at d k)) (procedure_with m.procedures k) (is.database.procedures k);
+    added = is.database.added;
+  };
+  found = record { calls = is.found.calls; indexes = index_kept old new rows is.found.calls keeps is.found.indexes; agrees = is.found.agrees };
+}
+
+pub found_in : {names : List (List ℕ)} {d : Database Clause} {rows : List (Vec Callable Global)} {m : databases.Database} (f : Functor) (text : List ℕ) → IsProgram names d rows m → EachOnce names → slice_get names f.name ≡ Some text → IsFound names f text d rows
+found_in f text is once at = record { each_once = once; atom = at; found = is.found }
+
+-- ---- procedures that are fixed
+
+pub kind_with : (ps : Procedures) (k : Key) → databases.kind_at ps k ≡ option_map (λ p. p.kind) (procedure_with ps k)
+kind_with [] k = refl
+kind_with (p ∷ ps) k =
+    elim (cases_Bool (same_key p.key k)) [
+      | inl here ↦ rw here refl
+      | inr other ↦ rw other (kind_with ps k)
+    ]
+
+-- one that is not static in the language is not static as it is kept
+not_static : (names : List (List ℕ)) (x : Option Kind) (ks : List (db.Clause Clause)) (o : Option databases.Procedure) → IsProcedure names x ks o → is_static (option_map (λ p. p.kind) o) ≡ false → is_not_static x ≡ true
+not_static names None ks o is h = refl
+not_static names (Some kind.Dynamic) ks o is h = refl
+not_static names (Some kind.Static) ks None is h = absurd is
+not_static names (Some kind.Static) ks (Some p) is h = by_kind p.kind is.0 h where
+  by_kind : (k : databases.Kind) → IsKind kind.Static k → is_static (Some k) ≡ false → is_not_static (Some kind.Static) ≡ true
+  by_kind databases.Static i h = absurd (cc h)
+  by_kind databases.Dynamic i h = absurd i
+
+-- goals may change it
+pub changes_fit : {names : List (List ℕ)} {d : Database Clause} {rows : List (Vec Callable Global)} {m : databases.Database} (k : Key) → IsProgram names d rows m → table.is_fixed m.procedures k ≡ false → is_not_static (kind_of (kept_at d k)) ≡ true
+changes_fit {names = names} {d = d} {m = m} k is free =
+    not_static names (kind_of (kept_at d k)) (db.clauses_of (kept_at d k)) (procedure_with m.procedures k) (is.database.procedures k)
+    (ap is_static (sym (kind_with m.procedures k)) ∙ (or_parts (is_built_in k) (is_static (databases.kind_at m.procedures k)) free).1)
+
+-- so where the rows are lent
+pub program_lent : {old new : List (List ℕ)} {d : Database Clause} {rows lent : List (Vec Callable Global)} {m : databases.Database} → lent ≡ rows → KeepsTexts old new → IsProgram old d rows m → IsProgram new d lent m
+program_lent {new = new} {d = d} {m = m} same keeps is = subst (λ (r : List (Vec Callable Global)). IsProgram new d r m) (sym same) (program_kept keeps is)
+
+-- ---- memory was refused
+
+pub no_memory : (names : List (List ℕ)) (d : Database Clause) (rows : List (Vec Callable Global)) (w : World) (s : Settled) (r : Result Unit Fault) → IsErrAnd r (λ x. x ≡ fault.NoMemory) → IsChanged names d rows w s r
+no_memory names d rows w s (Ok u) h = absurd h
+no_memory names d rows w s (Err x) h = rw h tt
+
+pub on_err : (r : Result Unit Fault) (P : Type 0) → P → OnErr r P
+on_err (Ok u) P h = tt
+on_err (Err x) P h = h
+
+-- ---- the procedure is fixed
+
+pub permission_raised : (s : Settled) (k j by : Key) (ball : Ball) → s ≡ Refuses (permission_error j by) → k ≡ j → term_of ball.term ≡ permission_error k by → IsRefused s ball
+permission_raised s k j by ball settled same is =
+    let error : term_of ball.term ≡ permission_error j by = is ∙ ap (λ (x : Key). permission_error x by) same in
+    subst (λ (x : Settled). IsRefused x ball) (sym settled) (error, ap arities_fit error)

@@ -1,0 +1,97 @@
+-- Goals that offer the clauses of a procedure.
+use Rattle.std.proofs.Common.{◌≡◌, ℕ, List, [], ◌∷◌, map, Bool, true, false, Some, None, Ok, refl, sym, ap, ◌∙◌, subst, codes, if◌then◌else◌}
+use Rattle.iso_atoms.specs.Texts.{text_at}
+use Rattle.iso_model.specs.Terms.Trees.{Tree, row, arities_fit}
+use Rattle.iso_model.specs.Terms.TermOf.{term_of}
+use Rattle.iso_model.specs.Terms.Types.{is_integer}
+use Rattle.iso_model.specs.Search.Additions.{head_of, body_of}
+use Rattle.iso_model.specs.Search.BuiltIns.{built_in}
+use Rattle.iso_model.specs.Search.Databases as databases
+use Rattle.iso_model.specs.Search.Databases.{Key, key_of}
+use Rattle.iso_model.specs.Search.Errors.{key, indicator, not_permitted, permission_error, type_error_callable}
+use Rattle.iso_model.specs.Search.Storages.{Settled, Refuses, Offers, with_head, is_fixed, clauses_of, clause_key, clause_settled, shown_clause, retract_key, retract_settled, removed_clause}
+use Rattle.iso_model.specs.Search.Worlds.{World}
+use Rattle.iso_model.specs.declared.pauses.Ball.{Ball}
+use Rattle.iso_db.specs.declared.db.Db.{Db}
+use Rattle.iso_store_core.specs.Presents.{Present, meaning}
+use Rattle.iso_store_core.specs.Shapes.{IsShape}
+use Rattle.iso_store_core.specs.declared.shapes.Shape.{Shape}
+use Rattle.iso_store_core.specs.declared.shapes.Shape.TheVariants as shape
+use Rattle.iso_lib.specs.Indicators.{IsFunctor}
+use Rattle.iso_lib.specs.Settlements.{IsRefused}
+use Rattle.iso_lib.specs.declared.indicators.Functor.{Functor}
+use Rattle.iso_plain_core.specs.Offers.{clause_offer}
+use Rattle.iso_plain_core.specs.declared.clauses.Clause.{Clause}
+use Rattle.iso_storage.specs.Storing.{OffersFirst, IsOffered}
+use Rattle.iso_storage.specs.declared.storages.Stored.{Stored}
+use Rattle.iso_storage.specs.declared.storages.Stored.TheVariants as stored
+
+-- what is no integer
+pub not_integer : (names : List (List ℕ)) (s : Shape) (t : Tree) → IsShape names s t → ((z : _) → s ≡ shape.Int z → ⊥) → is_integer t ≡ false
+not_integer names (shape.Var n) t is other = ap is_integer is
+not_integer names (shape.Int z) t is other = absurd (other z refl)
+not_integer names (shape.Atom a) t is other = ap is_integer is.1
+not_integer names (shape.Compound f n) t is other = ap is_integer is.2
+
+-- the key by the text of its name
+pub key_text : (names : List (List ℕ)) (f : Functor) (k : Key) (text : List ℕ) → IsFunctor names k f → text_at names f.name ≡ text → k ≡ key text f.arity
+key_text names f k text is named = is.key ∙ ap (λ t. key t f.arity) named
+
+-- ---- clause/2
+
+clause_after : (h b : Tree) (w : World) (k : Key) → ((goes_on : Key → Settled) → with_head h clause_key goes_on ≡ goes_on k) → is_integer b ≡ false
+    → clause_settled h b w ≡ (if is_fixed w.database.procedures k then Refuses (not_permitted (codes "access") (codes "private_procedure") (indicator k) clause_key) else Offers (row (h ∷ b ∷ [])) (map shown_clause (clauses_of w.database.procedures k)))
+clause_after h b w k headed other =
+    headed (λ k. if is_integer b then Refuses (type_error_callable b clause_key) else
+    (if is_fixed w.database.procedures k then Refuses (not_permitted (codes "access") (codes "private_procedure") (indicator k) clause_key) else Offers (row (h ∷ b ∷ [])) (map shown_clause (clauses_of w.database.procedures k))))
+    ∙ ap (λ x. if x then Refuses (type_error_callable b clause_key) else
+    (if is_fixed w.database.procedures k then Refuses (not_permitted (codes "access") (codes "private_procedure") (indicator k) clause_key) else Offers (row (h ∷ b ∷ [])) (map shown_clause (clauses_of w.database.procedures k)))) other
+
+pub clause_refused : (h b : Tree) (w : World) (k : Key) (ball : Ball) → ((goes_on : Key → Settled) → with_head h clause_key goes_on ≡ goes_on k) → is_integer b ≡ false → is_fixed w.database.procedures k ≡ true
+    → term_of ball.term ≡ not_permitted (codes "access") (codes "private_procedure") (indicator k) clause_key → IsRefused (clause_settled h b w) ball
+clause_refused h b w k ball headed other fixed is =
+    let same : clause_settled h b w ≡ Refuses (not_permitted (codes "access") (codes "private_procedure") (indicator k) clause_key) =
+    clause_after h b w k headed other ∙ ap (λ x. if x then Refuses (not_permitted (codes "access") (codes "private_procedure") (indicator k) clause_key) else Offers (row (h ∷ b ∷ [])) (map shown_clause (clauses_of w.database.procedures k))) fixed in
+    subst (λ (s : Settled). IsRefused s ball) (sym same) (is, ap arities_fit is)
+
+pub clause_offers : (h b : Tree) (w : World) (k : Key) → ((goes_on : Key → Settled) → with_head h clause_key goes_on ≡ goes_on k) → is_integer b ≡ false → is_fixed w.database.procedures k ≡ false
+    → clause_settled h b w ≡ Offers (row (h ∷ b ∷ [])) (map (clause_offer false k) (clauses_of w.database.procedures k))
+clause_offers h b w k headed other free =
+    clause_after h b w k headed other ∙ ap (λ x. if x then Refuses (not_permitted (codes "access") (codes "private_procedure") (indicator k) clause_key) else Offers (row (h ∷ b ∷ [])) (map shown_clause (clauses_of w.database.procedures k))) free
+
+-- ---- retract/1
+
+retract_after : (t : Tree) (w : World) (k : Key) → ((goes_on : Key → Settled) → with_head (head_of t) retract_key goes_on ≡ goes_on k)
+    → retract_settled t w ≡ (if is_fixed w.database.procedures k then Refuses (permission_error k retract_key) else Offers (row (head_of t ∷ body_of t ∷ [])) (map (removed_clause k) (clauses_of w.database.procedures k)))
+retract_after t w k headed =
+    headed (λ k. if is_fixed w.database.procedures k then Refuses (permission_error k retract_key) else Offers (row (head_of t ∷ body_of t ∷ [])) (map (removed_clause k) (clauses_of w.database.procedures k)))
+
+pub retract_refused : (t : Tree) (w : World) (k : Key) (ball : Ball) → ((goes_on : Key → Settled) → with_head (head_of t) retract_key goes_on ≡ goes_on k) → is_fixed w.database.procedures k ≡ true
+    → term_of ball.term ≡ permission_error k retract_key → IsRefused (retract_settled t w) ball
+retract_refused t w k ball headed fixed is =
+    let same : retract_settled t w ≡ Refuses (permission_error k retract_key) =
+    retract_after t w k headed ∙ ap (λ x. if x then Refuses (permission_error k retract_key) else Offers (row (head_of t ∷ body_of t ∷ [])) (map (removed_clause k) (clauses_of w.database.procedures k))) fixed in
+    subst (λ (s : Settled). IsRefused s ball) (sym same) (is, ap arities_fit is)
+
+pub retract_offers : (t : Tree) (w : World) (k : Key) → ((goes_on : Key → Settled) → with_head (head_of t) retract_key goes_on ≡ goes_on k) → is_fixed w.database.procedures k ≡ false
+    → retract_settled t w ≡ Offers (row (head_of t ∷ body_of t ∷ [])) (map (clause_offer true k) (clauses_of w.database.procedures k))
+retract_offers t w k headed free =
+    retract_after t w k headed ∙ ap (λ x. if x then Refuses (permission_error k retract_key) else Offers (row (head_of t ∷ body_of t ∷ [])) (map (removed_clause k) (clauses_of w.database.procedures k))) free
+
+-- ---- clauses are offered
+
+module _ {W : Type 0} (names : List (List ℕ)) (q : Present W) (d : Db Clause) (head body : W) (removes : Bool) (k : Key) (settled : Settled) (cs : List databases.Clause) where
+  pub offers_shown : (r : Stored W) → q.holds head ≡ true → q.holds body ≡ true → key_of (meaning q head) ≡ Some k → built_in k ≡ None
+      → settled ≡ Offers (row (meaning q head ∷ meaning q body ∷ [])) (map (clause_offer removes k) cs) → OffersFirst names d head body removes cs r → IsOffered names q d settled (Ok r)
+  offers_shown stored.Done held there named user is h = absurd h
+  offers_shown stored.Fails held there named user is h = (row (meaning q head ∷ meaning q body ∷ []), is ∙ ap (λ (xs : List databases.Clause). Offers (row (meaning q head ∷ meaning q body ∷ [])) (map (clause_offer removes k) xs)) h)
+  offers_shown (stored.Shows shown) held there named user is h = record {
+    head = ap q.holds h.0 ∙ held;
+    body = ap q.holds h.1 ∙ there;
+    key = k;
+    key_is = ap (λ (x : W). key_of (meaning q x)) h.0 ∙ named;
+    user = user;
+    clauses = cs;
+    is = is ∙ (λ i. Offers (row (meaning q (sym h.0 i) ∷ meaning q (sym h.1 i) ∷ [])) (map (clause_offer (sym h.2 i) k) cs));
+    are = h.3;
+  }

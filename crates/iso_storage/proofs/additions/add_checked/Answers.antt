@@ -1,0 +1,148 @@
+use Rattle.std.proofs.Common.{◌≡◌, ℕ, List, refl, sym, ap, ◌∙◌, subst}
+use Rattle.iso_model.specs.Terms.Trees.{Tree}
+use Rattle.iso_model.specs.Search.Additions.{asserted, clause_of, with_added}
+use Rattle.iso_model.specs.Search.Databases as databases
+use Rattle.iso_model.specs.Search.Databases.{Key, Dynamic}
+use Rattle.iso_model.specs.Search.BuiltIns.{is_built_in}
+use Rattle.iso_model.specs.Search.Errors.{key, permission_error}
+use Rattle.iso_model.specs.Search.Settlements.{Settled, Refuses}
+use Rattle.iso_model.specs.Search.Storages.{addition_settled, is_fixed}
+use Rattle.iso_model.specs.Search.Worlds.{World}
+use Rattle.iso_store_core.proofs.AtomLemmas.{keeps-then}
+use Rattle.iso_db.specs.Presents.{contents}
+use Rattle.iso_lib.specs.Settlements.{IsRefused}
+use Rattle.iso_lib.specs.declared.indicators.Functor.{Functor}
+use Rattle.iso_plain_core.specs.Adding.{with_more}
+use Rattle.iso_plain_core.specs.Kept.{IsAddition}
+use Rattle.iso_plain_core.specs.Programs.{IsDatabase}
+use Rattle.iso_plain_core.proofs.AddingLemmas.{user_alone}
+use Rattle.iso_plain_core.proofs.WrittenLemmas.{clause_kept}
+use Rattle.iso_storage.specs.Storing.{IsProgram, IsChanged, IsNamed, place_of}
+use Rattle.iso_storage.proofs.AdditionLemmas.{addition_refused, addition_comes, way_more, may_come, checked_key, checked_few}
+use Rattle.iso_storage.proofs.KeptPrograms.{permission_raised, program_kept, program_lent, found_in, changes_fit, no_memory, on_err}
+use Rattle.iso_storage.proofs.additions.add_checked.Goals as goal
+
+pub is_fixed-requires : goal.is_fixed-requires
+is_fixed-requires g c =
+    let a = c.requires.clause in
+    let k = key c.in-Some.text.now c.in-Some.arity in (
+      g.S.Store.names c.intern.new.self,
+      c.requires.program.0,
+      program_lent c.as_slice.ensures.value c.in_ok-name.ensures.names (program_kept c.in_ok-kept.ensures.names c.requires.program.1),
+      record { each_once = c.in_ok-name.ensures.each_once; atom = c.in_ok-name.ensures.place; few = checked_few a.0 c.args.checked.now a.1 k c.in-Some.ensures },
+    )
+
+pub static_procedure-requires : goal.static_procedure-requires
+static_procedure-requires g c = checked_few c.requires.clause.0 c.args.checked.now c.requires.clause.1 (key c.in-Some.text.now c.in-Some.arity) c.in-Some.ensures
+
+pub returns-in_err-kept-clause-added : goal.returns-in_err-kept-clause-added
+returns-in_err-kept-clause-added g c = λ t w is h. no_memory (g.S.Store.names c.written_clause.new.store) (contents c.args.db.now) c.args.callables.now.items w _ c.from_residual.result c.from_residual.ensures.1
+
+pub returns-in_err-kept-clause-kept : goal.returns-in_err-kept-clause-kept
+returns-in_err-kept-clause-kept g c = λ m h. on_err c.from_residual.result _ (program_kept c.in_err-kept.ensures.names h)
+
+pub returns-in_err-name-clause-added : goal.returns-in_err-name-clause-added
+returns-in_err-name-clause-added g c = λ t w is h. no_memory (g.S.Store.names c.intern.new.self) (contents c.args.db.now) c.args.callables.now.items w _ c.from_residual-in_err-name.result c.from_residual-in_err-name.ensures.1
+
+pub returns-in_err-name-clause-kept : goal.returns-in_err-name-clause-kept
+returns-in_err-name-clause-kept g c = λ m h. on_err c.from_residual-in_err-name.result _ (program_kept c.in_err-name.ensures.names (program_kept c.in_ok-kept.ensures.names h))
+
+pub returns-in_err-name-clause-names : goal.returns-in_err-name-clause-names
+returns-in_err-name-clause-names g c = λ a text at. c.in_err-name.ensures.names a text (c.in_ok-kept.ensures.names a text at)
+
+pub returns-in_err-name-clause-marks : goal.returns-in_err-name-clause-marks
+returns-in_err-name-clause-marks g c = λ m p stands. c.in_err-name.ensures.marks m p (c.in_ok-kept.ensures.marks m p stands)
+
+pub returns-in_err-ball-clause-added : goal.returns-in_err-ball-clause-added
+returns-in_err-ball-clause-added g c = λ t w is h. no_memory (g.S.Store.names c.intern.new.self) (contents c.args.db.now) c.args.callables.now.items w _ c.from_residual-in_err-ball.result c.from_residual-in_err-ball.ensures.1
+
+pub returns-in_err-ball-clause-kept : goal.returns-in_err-ball-clause-kept
+returns-in_err-ball-clause-kept g c = λ m h. on_err c.from_residual-in_err-ball.result _ (program_kept c.in_ok-name.ensures.names (program_kept c.in_ok-kept.ensures.names h))
+
+pub returns-in_err-ball-clause-names : goal.returns-in_err-ball-clause-names
+returns-in_err-ball-clause-names g c = λ a text at. c.in_ok-name.ensures.names a text (c.in_ok-kept.ensures.names a text at)
+
+pub returns-in_err-ball-clause-marks : goal.returns-in_err-ball-clause-marks
+returns-in_err-ball-clause-marks g c = λ m p stands. c.in_ok-name.ensures.marks m p (c.in_ok-kept.ensures.marks m p stands)
+
+pub returns-then-is_fixed-clause-added : goal.returns-then-is_fixed-clause-added
+returns-then-is_fixed-clause-added g c = λ t w is h.
+    (let k = key c.in-Some.text.now c.in-Some.arity in
+    let by = key c.args.by.now 1 in
+    let same = checked_key t c.args.checked.now is k c.in-Some.ensures in
+    let named : IsNamed (g.S.Store.names c.intern.new.self) (record { name = c.in_ok-name.name; arity = c.in-Some.arity }) c.in-Some.text.now =
+    record { each_once = c.in_ok-name.ensures.each_once; atom = c.in_ok-name.ensures.place; few = checked_few t c.args.checked.now is k c.in-Some.ensures } in
+    let fixed = sym (c.is_fixed.ensures (g.S.Store.names c.intern.new.self) w.database (program_lent c.as_slice.ensures.value c.in_ok-name.ensures.names (program_kept c.in_ok-kept.ensures.names h)) named) ∙ c.if-is_fixed.true in
+    let settled = addition_refused t c.args.checked.now is (place_of c.args.way) by w (ap (is_fixed w.database.procedures) (sym same) ∙ fixed) in
+    permission_raised (addition_settled (asserted (place_of c.args.way) by t w.database) w) k is.key by c.in_ok-ball.ball settled same c.in_ok-ball.ensures)
+
+pub returns-then-is_fixed-clause-kept : goal.returns-then-is_fixed-clause-kept
+returns-then-is_fixed-clause-kept g c = λ m h. program_kept c.in_ok-name.ensures.names (program_kept c.in_ok-kept.ensures.names h)
+
+pub returns-then-is_fixed-clause-names : goal.returns-then-is_fixed-clause-names
+returns-then-is_fixed-clause-names g c = λ a text at. c.in_ok-name.ensures.names a text (c.in_ok-kept.ensures.names a text at)
+
+pub returns-then-is_fixed-clause-marks : goal.returns-then-is_fixed-clause-marks
+returns-then-is_fixed-clause-marks g c = λ m p stands. c.in_ok-name.ensures.marks m p (c.in_ok-kept.ensures.marks m p stands)
+
+pub add-requires-clause-named : goal.add-requires-clause-named
+add-requires-clause-named g c = (
+  g.S.Store.names c.intern.new.self,
+  found_in (record { name = c.in_ok-name.name; arity = c.in-Some.arity }) c.in-Some.text.now (program_kept c.in_ok-name.ensures.names (program_kept c.in_ok-kept.ensures.names c.requires.program.1)) c.in_ok-name.ensures.each_once c.in_ok-name.ensures.place,
+)
+
+pub add-requires-clause-user : goal.add-requires-clause-user
+add-requires-clause-user g c =
+    let a = c.requires.clause in
+    let k = key c.in-Some.text.now c.in-Some.arity in
+    let same = checked_key a.0 c.args.checked.now a.1 k c.in-Some.ensures in
+    user_alone k (ap is_built_in same ∙ a.1.user)
+
+pub add-requires-clause-allowed : goal.add-requires-clause-allowed
+add-requires-clause-allowed g c =
+    let a = c.requires.clause in
+    let m = c.requires.program.0 in
+    let k = key c.in-Some.text.now c.in-Some.arity in
+    let named : IsNamed (g.S.Store.names c.intern.new.self) (record { name = c.in_ok-name.name; arity = c.in-Some.arity }) c.in-Some.text.now =
+    record { each_once = c.in_ok-name.ensures.each_once; atom = c.in_ok-name.ensures.place; few = checked_few a.0 c.args.checked.now a.1 k c.in-Some.ensures } in
+    let free = sym (c.is_fixed.ensures (g.S.Store.names c.intern.new.self) m (program_lent c.as_slice.ensures.value c.in_ok-name.ensures.names (program_kept c.in_ok-kept.ensures.names c.requires.program.1)) named) ∙ c.if-is_fixed.false in
+    may_come c.args.way c.requires.way _ (changes_fit k c.requires.program.1 free)
+
+pub returns-in_err-add-clause-added : goal.returns-in_err-add-clause-added
+returns-in_err-add-clause-added g c = λ t w is h. no_memory (g.S.Store.names c.intern.new.self) (contents c.add.new.db) c.add.new.callables.items w _ c.from_residual-in_err-add.result c.from_residual-in_err-add.ensures.1
+
+pub returns-in_err-add-clause-kept : goal.returns-in_err-add-clause-kept
+returns-in_err-add-clause-kept g c = λ m h.
+    (let stood = program_kept c.in_ok-name.ensures.names (program_kept c.in_ok-kept.ensures.names h) in
+    let now = c.in_err-add.ensures.err (g.S.Store.names c.intern.new.self) m (found_in (record { name = c.in_ok-name.name; arity = c.in-Some.arity }) c.in-Some.text.now stood c.in_ok-name.ensures.each_once c.in_ok-name.ensures.place) stood.database in
+    on_err c.from_residual-in_err-add.result _ (record { database = now.0; found = now.1 }))
+
+pub returns-in_err-add-clause-names : goal.returns-in_err-add-clause-names
+returns-in_err-add-clause-names g c = λ a text at. c.in_ok-name.ensures.names a text (c.in_ok-kept.ensures.names a text at)
+
+pub returns-in_err-add-clause-marks : goal.returns-in_err-add-clause-marks
+returns-in_err-add-clause-marks g c = λ m p stands. c.in_ok-name.ensures.marks m p (c.in_ok-kept.ensures.marks m p stands)
+
+pub returns-clause-added : goal.returns-clause-added
+returns-clause-added g c = λ t w is h.
+    (let k = key c.in-Some.text.now c.in-Some.arity in
+    let by = key c.args.by.now 1 in
+    let first = g.S.Store.names c.written_clause.new.store in
+    let last = g.S.Store.names c.intern.new.self in
+    let same = checked_key t c.args.checked.now is k c.in-Some.ensures in
+    let stood = program_kept c.in_ok-name.ensures.names (program_kept c.in_ok-kept.ensures.names h) in
+    let named : IsNamed last (record { name = c.in_ok-name.name; arity = c.in-Some.arity }) c.in-Some.text.now =
+    record { each_once = c.in_ok-name.ensures.each_once; atom = c.in_ok-name.ensures.place; few = checked_few t c.args.checked.now is k c.in-Some.ensures } in
+    let free = sym (c.is_fixed.ensures last w.database (program_lent c.as_slice.ensures.value c.in_ok-name.ensures.names (program_kept c.in_ok-kept.ensures.names h)) named) ∙ c.if-is_fixed.false in
+    let settled = addition_comes t c.args.checked.now is (place_of c.args.way) by w (ap (is_fixed w.database.procedures) (sym same) ∙ free) in
+    let new = clause_of t is.body w.database.added in
+    let kept = clause_kept first last c.in_ok-name.ensures.names c.in_ok-kept.kept new (c.in_ok-kept.ensures.clause new (is.clause w.database.added)) in
+    let came = c.in_ok-add.ensures.ok last w.database new (found_in (record { name = c.in_ok-name.name; arity = c.in-Some.arity }) c.in-Some.text.now stood c.in_ok-name.ensures.each_once c.in_ok-name.ensures.place) stood.database kept refl in
+    let more = ap (λ (x : Key). with_more c.args.way w.database x new) same ∙ way_more c.args.way c.requires.way w.database t is.key is.body in
+    (0, with_added (place_of c.args.way) Dynamic t is.key is.body w.database, settled, record { database = subst (λ (m : databases.Database). IsDatabase last (contents c.add.new.db) m) more came.0; found = came.1 }))
+
+pub returns-clause-names : goal.returns-clause-names
+returns-clause-names g c = λ a text at. c.in_ok-name.ensures.names a text (c.in_ok-kept.ensures.names a text at)
+
+pub returns-clause-marks : goal.returns-clause-marks
+returns-clause-marks g c = λ m p stands. c.in_ok-name.ensures.marks m p (c.in_ok-kept.ensures.marks m p stands)

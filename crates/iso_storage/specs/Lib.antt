@@ -1,0 +1,5 @@
+pub mod Storing
+pub mod Shown
+pub mod Declaring
+pub mod Matching
+pub mod Adding

@@ -1,0 +1,118 @@
+//! `asserta/1` and `assertz/1`: a clause is added to its procedure (8.9.1, 8.9.2).
+ghost use Rattle.std.specs.Prelude.{◌≡◌, ◌≢◌, OnErr, Err};
+ghost use Rattle.iso_atoms.specs.Texts.{KeepsTexts};
+ghost use Rattle.iso_model.specs.Terms.Trees.{Tree};
+ghost use Rattle.iso_model.specs.Search.Additions.{asserted};
+ghost use Rattle.iso_model.specs.Search.Databases as databases;
+ghost use Rattle.iso_model.specs.Search.Errors.{key};
+ghost use Rattle.iso_model.specs.Search.Storages.{addition_settled};
+ghost use Rattle.iso_model.specs.Search.Worlds.{World};
+ghost use Rattle.iso_plain_core.specs.declared.procedures.Way.TheVariants.{Consulted};
+ghost use Rattle.iso_db.specs.Presents.{contents, KeepsViews, KeepsClauses};
+ghost use Rattle.iso_store_core.specs.Presents.{Holds, meaning, KeepsMarks};
+ghost use Rattle.iso_plain_core.specs.Kept.{IsAddition};
+ghost use Rattle.iso_storage.specs.Adding.{IsPrepared};
+ghost use Rattle.iso_storage.specs.Storing.{IsProgram, IsChanged, place_of};
+
+use super::heads::is_fixed;
+use iso_db::Db;
+use iso_lib::indicators::Functor;
+use iso_lib::{Fault, errors};
+use iso_model::AddFault;
+use iso_plain_core::callables::Callable;
+use iso_plain_core::clauses::{self, Checked, Clause};
+use iso_plain_core::procedures::{self, Way};
+use iso_plain_core::writing;
+use iso_store_core::Store;
+use std::alloc::Global;
+
+/// The clause that the word stands for, checked and converted. The errors are those of `clauses::prepare`, which this procedure of one
+/// argument raises; or memory was refused.
+fn prepared<S: Store>(alloc: Global, store: &S, clause: S::Word, by: &str) -> Result<Checked, Fault>
+    requires { Holds (S.present store.now) clause }
+    ensures { IsPrepared (key by.now 1) (meaning (S.present store.now) clause) result }
+{
+    let term = store.copy_out(clause)?;
+    match clauses::prepare(alloc, &term, by) {
+        Ok(checked) => Ok(checked),
+        Err(AddFault::Refused(ball)) => Err(Fault::Raise(ball)),
+        Err(AddFault::NoMemory) => Err(Fault::NoMemory),
+    }
+}
+
+/// Adds the clause, which was checked, to its procedure in this way. The errors: `permission_error(modify, static_procedure, PI)` where the
+/// procedure is static, raised by this procedure of one argument; or memory was refused. The database is as it was then.
+fn add_checked<S: Store>(
+    alloc: Global,
+    store: &mut S,
+    db: &mut Db<Clause>,
+    callables: &mut Vec<Vec<Callable>>,
+    checked: &Checked,
+    way: Way,
+    by: &str,
+) -> Result<(), Fault>
+    requires clause { (t : Tree) × IsAddition t checked.now }
+    requires way { way ≢ Consulted }
+    requires program { (m : databases.Database) × IsProgram (S.names store.old) (contents db.old) callables.old.items m }
+    ensures added { (t : Tree) (w : World) → IsAddition t checked.now → IsProgram (S.names store.old) (contents db.old) callables.old.items w.database
+        → IsChanged (S.names store.new) (contents db.new) callables.new.items w (addition_settled (asserted (place_of way) (key by.now 1) t w.database) w) result }
+    ensures kept { (m : databases.Database) → IsProgram (S.names store.old) (contents db.old) callables.old.items m
+        → OnErr result (IsProgram (S.names store.new) (contents db.new) callables.new.items m) }
+    ensures present { S.present store.new ≡ S.present store.old }
+    ensures full { result ≢ Err Fault.Full }
+    ensures names { KeepsTexts (S.names store.old) (S.names store.new) }
+    ensures marks { KeepsMarks (S.stands store.old) (S.stands store.new) }
+    ensures views { KeepsViews db.old db.new }
+    ensures clauses { KeepsClauses db.old db.new }
+{
+    let Some((text, arity)) = clauses::indicator_of(&checked.head) else {
+        unreachable!();
+    };
+    let kept = writing::written_clause(alloc, store, checked)?;
+    let name = store.intern(text)?;
+    let functor = Functor { name, arity };
+    if is_fixed(db, callables.as_slice(), functor, text) {
+        let ball = errors::static_procedure(alloc, text, arity, by)?;
+        return Err(Fault::Raise(ball));
+    }
+    procedures::add(
+        alloc,
+        db,
+        callables,
+        Functor { name, arity },
+        text,
+        way,
+        kept,
+    )?;
+    Ok(())
+}
+
+/// Adds the clause that the word stands for to its procedure in this way, which a goal of this procedure of one argument asks for. The
+/// errors, in this order: those of `clauses::prepare`, and `permission_error(modify, static_procedure, PI)` where the procedure is
+/// static; or memory was refused. The database is as it was then.
+pub(crate) fn add<S: Store>(
+    alloc: Global,
+    store: &mut S,
+    db: &mut Db<Clause>,
+    callables: &mut Vec<Vec<Callable>>,
+    clause: S::Word,
+    way: Way,
+    by: &str,
+) -> Result<(), Fault>
+    requires clause { Holds (S.present store.old) clause }
+    requires way { way ≢ Consulted }
+    requires program { (m : databases.Database) × IsProgram (S.names store.old) (contents db.old) callables.old.items m }
+    ensures added { (w : World) → IsProgram (S.names store.old) (contents db.old) callables.old.items w.database
+        → IsChanged (S.names store.new) (contents db.new) callables.new.items w (addition_settled (asserted (place_of way) (key by.now 1) (meaning (S.present store.old) clause) w.database) w) result }
+    ensures kept { (m : databases.Database) → IsProgram (S.names store.old) (contents db.old) callables.old.items m
+        → OnErr result (IsProgram (S.names store.new) (contents db.new) callables.new.items m) }
+    ensures present { S.present store.new ≡ S.present store.old }
+    ensures full { result ≢ Err Fault.Full }
+    ensures names { KeepsTexts (S.names store.old) (S.names store.new) }
+    ensures marks { KeepsMarks (S.stands store.old) (S.stands store.new) }
+    ensures views { KeepsViews db.old db.new }
+    ensures clauses { KeepsClauses db.old db.new }
+{
+    let checked = prepared(alloc, store, clause, by)?;
+    add_checked(alloc, store, db, callables, &checked, way, by)
+}

@@ -1,0 +1,100 @@
+//! Procedures by the heads of their clauses, and which of them goals may neither read nor change (7.5.2, 8.8.1.3, 8.9).
+ghost use Rattle.std.specs.Prelude.{◌≡◌, ◌<◌, ℕ, List, false, not, IfSome};
+ghost use Rattle.iso_model.specs.Search.Databases as databases;
+ghost use Rattle.iso_model.specs.Search.Errors.{key};
+ghost use Rattle.iso_model.specs.Search.Storages as table;
+ghost use Rattle.iso_db.specs.Databases as held;
+ghost use Rattle.iso_db.specs.Databases.{is_not_static};
+ghost use Rattle.iso_db.specs.Presents.{contents, Gives};
+ghost use Rattle.iso_store_core.specs.Presents.{Holds, meaning};
+ghost use Rattle.iso_plain_core.specs.declared.clauses.Clause as kept;
+ghost use Rattle.iso_plain_core.specs.Callables.{callee_at};
+ghost use Rattle.iso_storage.specs.Storing.{IsProgram, HasHead, IsNamed, AreOf, user_place};
+
+use iso_db::{Db, Kind, View};
+use iso_lib::indicators::Functor;
+use iso_lib::{Fault, errors};
+use iso_model::{Term, is_built_in};
+use iso_plain_core::callables::{self, Callable, Callee};
+use iso_plain_core::clauses::Clause;
+use iso_store_core::{Shape, Store};
+use std::alloc::Global;
+
+/// The procedure of a clause with this head. The errors: `instantiation_error` where it is unbound and `type_error(callable, Head)` where
+/// it is a number, raised by this procedure; or memory was refused.
+pub(crate) fn procedure_of<S: Store>(
+    alloc: Global,
+    store: &S,
+    head: S::Word,
+    by: &str,
+    arity: usize,
+) -> Result<Functor, Fault>
+    requires head { Holds (S.present store.now) head }
+    requires arity { arity < 256 }
+    ensures { HasHead (S.names store.now) (meaning (S.present store.now) head) (key by.now arity) result }
+{
+    match store.shape(head) {
+        Shape::Var(_) => Err(Fault::Raise(errors::instantiation(alloc, by, arity)?)),
+        Shape::Int(number) => {
+            let ball = errors::not_callable(alloc, Term::Int(number), by, arity)?;
+            Err(Fault::Raise(ball))
+        }
+        Shape::Atom(name) => Ok(Functor { name, arity: 0 }),
+        Shape::Compound(name, count) => Ok(Functor { name, arity: count }),
+    }
+}
+
+/// The place in the database of the procedure with this name, where it has one.
+fn place_of(callables: &[Vec<Callable>], functor: Functor) -> Option<usize>
+    ensures { result ≡ user_place (callee_at callables.now functor.name functor.arity) }
+{
+    match callables::find(callables, functor.name, functor.arity) {
+        Some(Callee::User(place)) => Some(place),
+        Some(Callee::BuiltIn(_)) | None => None,
+    }
+}
+
+/// Whether it is the kind of a static procedure.
+fn is_static(kind: Option<Kind>) -> bool
+    ensures { result ≡ not (is_not_static kind) }
+{
+    matches!(kind, Some(Kind::Static))
+}
+
+/// Whether goals may neither read nor change the procedure with this name, whose text this is: it is a built-in, or static.
+pub(crate) fn is_fixed(
+    db: &Db<Clause>,
+    callables: &[Vec<Callable>],
+    functor: Functor,
+    text: &str,
+) -> bool
+    requires { (names : List (List ℕ)) × (m : databases.Database) × IsProgram names (contents db.now) callables.now m × IsNamed names functor text.now }
+    ensures { (names : List (List ℕ)) (m : databases.Database) → IsProgram names (contents db.now) callables.now m → IsNamed names functor text.now
+        → result ≡ table.is_fixed m.procedures (key text.now functor.arity) }
+{
+    if is_built_in(text, functor.arity) {
+        return true;
+    }
+    match place_of(callables, functor) {
+        Some(place) => is_static(db.kind(place)),
+        None => false,
+    }
+}
+
+/// A view of the clauses of the procedure with this name, whose text this is; none where it is absent.
+pub(crate) fn clauses_of(
+    db: &Db<Clause>,
+    callables: &[Vec<Callable>],
+    functor: Functor,
+    text: &str,
+) -> Option<View>
+    requires { (names : List (List ℕ)) × (m : databases.Database) × IsProgram names (contents db.now) callables.now m × IsNamed names functor text.now }
+    ensures gives { IfSome result (λ view. (ks : List (held.Clause kept.Clause)) × Gives db.now view ks) }
+    ensures are { (names : List (List ℕ)) (m : databases.Database) → IsProgram names (contents db.now) callables.now m → IsNamed names functor text.now
+        → table.is_fixed m.procedures (key text.now functor.arity) ≡ false → AreOf names db.now (table.clauses_of m.procedures (key text.now functor.arity)) result }
+{
+    match place_of(callables, functor) {
+        Some(place) => db.view(place).ok(),
+        None => None,
+    }
+}

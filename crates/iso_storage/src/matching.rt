@@ -1,0 +1,74 @@
+//! The clauses whose heads unify with a term, while nothing is bound (8.9.5 of the second corrigendum).
+ghost use Rattle.std.specs.Prelude.{◌≡◌, ◌+◌, ◌<◌, ◌≤◌, ◌^◌, ℕ, List, IfOk, OnOk, Err};
+ghost use Rattle.iso_model.specs.Search.Databases as databases;
+ghost use Rattle.iso_model.specs.Search.Additions.{most_variables};
+ghost use Rattle.iso_model.specs.Search.Storages.{head_unifies};
+ghost use Rattle.iso_db.specs.Databases as db;
+ghost use Rattle.iso_db.specs.Presents.{Gives};
+ghost use Rattle.iso_store_core.specs.Presents.{Holds, meaning, KeepsMarks};
+ghost use Rattle.iso_plain_core.specs.declared.clauses.Clause as kept;
+ghost use Rattle.iso_plain_core.specs.Kept.{IsClause};
+ghost use Rattle.iso_plain_core.specs.Programs.{AreClauses};
+ghost use Rattle.iso_storage.specs.Matching.{matching_numbers};
+
+use iso_db::{ClauseId, Db, View};
+use iso_plain_core::clauses::Clause;
+use iso_plain_core::entries;
+use iso_store_core::{Store, StoreFault};
+use std::alloc::Global;
+
+/// Whether the head of the clause, with new variables, unifies with the term; it leaves open what is bound. The errors: the store is
+/// full, or memory was refused.
+fn unifies<S: Store>(
+    alloc: Global,
+    store: &mut S,
+    clause: &Clause,
+    head: S::Word,
+) -> Result<bool, StoreFault>
+    requires clause { (c : databases.Clause) × IsClause (S.names store.old) clause.now c }
+    requires head { Holds (S.present store.old) head }
+    requires room { (S.present store.old).next + most_variables < 2 ^ 63 }
+    ensures unifies { (c : databases.Clause) → IsClause (S.names store.old) clause.now c
+        → IfOk result (λ yes. yes ≡ head_unifies (meaning (S.present store.old) head) (S.present store.old).next c) }
+    ensures full { result ≡ Err StoreFault.Full → S.full store.new }
+    ensures names { S.names store.new ≡ S.names store.old }
+    ensures marks { KeepsMarks (S.stands store.old) (S.stands store.new) }
+{
+    let _next = store.reserve(0);
+    let variables = entries::new_variables(alloc, store, clause.variables)?;
+    let other = entries::instantiate(store, &clause.head, variables.as_slice())?;
+    store.unify(head, other)
+}
+
+/// The numbers of the clauses of the view whose heads unify with the term; the store is as it was then. The errors: the store is full, or
+/// memory was refused.
+pub(crate) fn matching<S: Store>(
+    alloc: Global,
+    store: &mut S,
+    db: &Db<Clause>,
+    view: View,
+    head: S::Word,
+) -> Result<Vec<ClauseId>, StoreFault>
+    requires clauses { (ks : List (db.Clause kept.Clause)) × (cs : List databases.Clause) × Gives db.now view ks × AreClauses (S.names store.old) ks cs }
+    requires head { Holds (S.present store.old) head }
+    requires room { (S.present store.old).next + most_variables < 2 ^ 63 }
+    ensures matching { (ks : List (db.Clause kept.Clause)) (cs : List databases.Clause) → Gives db.now view ks → AreClauses (S.names store.old) ks cs
+        → IfOk result (λ ids. ids.items ≡ matching_numbers (meaning (S.present store.old) head) (S.present store.old).next cs) }
+    ensures present { OnOk result (S.present store.new ≡ S.present store.old) }
+    ensures full { result ≡ Err StoreFault.Full → S.full store.new }
+    ensures names { S.names store.new ≡ S.names store.old }
+    ensures marks { KeepsMarks (S.stands store.old) (S.stands store.new) }
+{
+    let mut numbers = Vec::new(alloc);
+    let mut later = view;
+    let mark = store.mark();
+    while let Some(id) = db.next_in(&mut later) {
+        let matches = unifies(alloc, store, db.clause(id), head)?;
+        store.undo(mark);
+        if matches {
+            numbers.push(id)?;
+        }
+    }
+    store.forget(mark);
+    Ok(numbers)
+}

@@ -1,0 +1,99 @@
+//! `retractall/1` and `abolish/1`: clauses are removed, or a procedure with all of them (8.9.4, and 8.9.5 of the second corrigendum).
+ghost use Rattle.std.specs.Prelude.{◌≡◌, ◌<◌, ◌+◌, ◌^◌, ◌≢◌, ℕ, List, OnErr, Err};
+ghost use Rattle.iso_model.specs.Search.Additions.{most_variables};
+ghost use Rattle.iso_model.specs.Search.Storages.{retractall_settled, abolish_settled};
+ghost use Rattle.iso_model.specs.Search.Worlds.{World};
+ghost use Rattle.iso_model.specs.Search.Databases as databases;
+ghost use Rattle.iso_db.specs.Presents.{contents, KeepsViews, KeepsClauses};
+ghost use Rattle.iso_store_core.specs.Presents.{Holds, meaning, KeepsMarks};
+ghost use Rattle.iso_storage.specs.Storing.{IsProgram, IsChanged, UnlessStopped};
+
+use super::heads::{clauses_of, is_fixed, procedure_of};
+use super::matching::matching;
+use iso_db::{ClauseId, Db};
+use iso_lib::indicators::indicated;
+use iso_lib::{Fault, errors};
+use iso_plain_core::callables::{self, Callable, Callee};
+use iso_plain_core::clauses::Clause;
+use iso_plain_core::procedures;
+use iso_store_core::Store;
+use std::alloc::Global;
+
+/// Removes the clauses with these numbers from the procedure at this place, which becomes dynamic where it is absent.
+fn remove_all(db: &mut Db<Clause>, place: usize, numbers: &[ClauseId]) {
+    let _ = db.declare(place);
+    for number in numbers {
+        db.remove_from(place, *number);
+    }
+}
+
+/// Removes all clauses whose heads unify with the term. The errors: `instantiation_error` where it is unbound, `type_error(callable, Head)`
+/// where it is a number, `permission_error(modify, static_procedure, PI)` where the procedure is a built-in or static, in this order;
+/// or the store is full, or memory was refused. The database is as it was then.
+pub(crate) fn retractall<S: Store>(
+    alloc: Global,
+    store: &mut S,
+    db: &mut Db<Clause>,
+    callables: &mut Vec<Vec<Callable>>,
+    head: S::Word,
+) -> Result<(), Fault>
+    requires head { Holds (S.present store.old) head }
+    requires room { (S.present store.old).next + most_variables < 2 ^ 63 }
+    requires program { (m : databases.Database) × IsProgram (S.names store.old) (contents db.old) callables.old.items m }
+    ensures changed { (w : World) → IsProgram (S.names store.old) (contents db.old) callables.old.items w.database
+        → IsChanged (S.names store.new) (contents db.new) callables.new.items w (retractall_settled (meaning (S.present store.old) head) (S.present store.old).next w) result }
+    ensures kept { (m : databases.Database) → IsProgram (S.names store.old) (contents db.old) callables.old.items m
+        → OnErr result (IsProgram (S.names store.new) (contents db.new) callables.new.items m) }
+    ensures present { UnlessStopped result (S.present store.new ≡ S.present store.old) }
+    ensures full { result ≡ Err Fault.Full → S.full store.new }
+    ensures names { S.names store.new ≡ S.names store.old }
+    ensures marks { KeepsMarks (S.stands store.old) (S.stands store.new) }
+    ensures views { KeepsViews db.old db.new }
+    ensures clauses { KeepsClauses db.old db.new }
+{
+    let functor = procedure_of(alloc, store, head, "retractall", 1)?;
+    let text = store.text(functor.name);
+    if is_fixed(db, callables.as_slice(), functor, text) {
+        let ball = errors::static_procedure(alloc, text, functor.arity, "retractall")?;
+        return Err(Fault::Raise(ball));
+    }
+    let place = procedures::place(alloc, db, callables, functor, text)?;
+    let Ok(view) = db.view(place) else {
+        let _ = db.declare(place);
+        return Ok(());
+    };
+    let numbers = matching(alloc, store, db, view, head)?;
+    remove_all(db, place, numbers.as_slice());
+    Ok(())
+}
+
+/// Removes the procedure that the indicator names, with all its clauses. The errors: those of an indicator, and
+/// `permission_error(modify, static_procedure, PI)` where the procedure is a built-in or static; or memory was refused.
+pub(crate) fn abolish<S: Store>(
+    alloc: Global,
+    store: &S,
+    db: &mut Db<Clause>,
+    callables: &[Vec<Callable>],
+    indicator: S::Word,
+) -> Result<(), Fault>
+    requires indicator { Holds (S.present store.now) indicator }
+    requires program { (m : databases.Database) × IsProgram (S.names store.now) (contents db.old) callables.now m }
+    ensures changed { (w : World) → IsProgram (S.names store.now) (contents db.old) callables.now w.database
+        → IsChanged (S.names store.now) (contents db.new) callables.now w (abolish_settled (meaning (S.present store.now) indicator) w) result }
+    ensures kept { (m : databases.Database) → IsProgram (S.names store.now) (contents db.old) callables.now m
+        → OnErr result (IsProgram (S.names store.now) (contents db.new) callables.now m) }
+    ensures full { result ≢ Err Fault.Full }
+    ensures views { KeepsViews db.old db.new }
+    ensures clauses { KeepsClauses db.old db.new }
+{
+    let functor = indicated(alloc, store, indicator, "abolish")?;
+    let text = store.text(functor.name);
+    if is_fixed(db, callables, functor, text) {
+        let ball = errors::static_procedure(alloc, text, functor.arity, "abolish")?;
+        return Err(Fault::Raise(ball));
+    }
+    if let Some(Callee::User(place)) = callables::find(callables, functor.name, functor.arity) {
+        let _ = db.abolish(place);
+    }
+    Ok(())
+}

@@ -1,0 +1,77 @@
+//! Built-ins that read or change the database, one by one.
+ghost use Rattle.std.specs.Prelude.{◌≡◌, ◌+◌, ◌<◌, ◌^◌, ℕ, List, Err};
+ghost use Rattle.iso_atoms.specs.Texts.{KeepsTexts};
+ghost use Rattle.iso_model.specs.Terms.Arguments.{arity};
+ghost use Rattle.iso_model.specs.Search.Additions.{most_variables};
+ghost use Rattle.iso_model.specs.Search.Databases as databases;
+ghost use Rattle.iso_model.specs.Search.Storages.{storage_settled, storage_arity};
+ghost use Rattle.iso_model.specs.Search.Worlds.{World};
+ghost use Rattle.iso_db.specs.Presents.{contents, KeepsViews, KeepsClauses};
+ghost use Rattle.iso_lib_core.specs.Replies.{IsUnbound};
+ghost use Rattle.iso_store_core.specs.Presents.{Holds, meaning, KeepsMarks};
+ghost use Rattle.iso_storage.specs.Storing.{IsProgram, IsStored, UnlessDone, UnlessStopped};
+
+use super::additions::add;
+use super::declarations::{check, declare};
+use super::removals::{abolish, retractall};
+use super::rows::{clause, retract};
+use iso_db::Db;
+use iso_lib::Fault;
+use iso_model::Storage;
+use iso_plain_core::callables::Callable;
+use iso_plain_core::clauses::Clause;
+use iso_plain_core::parts::Showing;
+use iso_plain_core::procedures::Way;
+use iso_store_core::Store;
+use std::alloc::Global;
+
+/// What a goal comes to that raises no error.
+#[derive(Clone, Copy)]
+pub enum Stored<W> {
+    /// It succeeds; the database is the one behind it.
+    Done,
+    /// It fails: no clause is offered.
+    Fails,
+    /// Clauses are offered, whose heads and bodies are to be unified with two terms.
+    Shows(Showing<W>),
+}
+
+/// What a goal of this row comes to, which has as many arguments. The errors: one is raised, the store is full, or memory was refused. The
+/// database is changed where the answer is `Done` alone.
+pub fn store<S: Store>(
+    alloc: Global,
+    store: &mut S,
+    db: &mut Db<Clause>,
+    callables: &mut Vec<Vec<Callable>>,
+    row: Storage,
+    goal: S::Word,
+) -> Result<Stored<S::Word>, Fault>
+    requires goal { Holds (S.present store.old) goal }
+    requires arity { arity (meaning (S.present store.old) goal) ≡ storage_arity row }
+    requires room { (S.present store.old).next + most_variables < 2 ^ 63 }
+    requires program { (m : databases.Database) × IsProgram (S.names store.old) (contents db.old) callables.old.items m }
+    ensures stored { (w : World) → IsProgram (S.names store.old) (contents db.old) callables.old.items w.database
+        → IsStored (S.names store.new) (S.present store.new) db.new callables.new.items w (storage_settled row (meaning (S.present store.old) goal) (S.present store.old).next w) result }
+    ensures kept { (m : databases.Database) → IsProgram (S.names store.old) (contents db.old) callables.old.items m
+        → UnlessDone result (IsProgram (S.names store.new) (contents db.new) callables.new.items m) }
+    ensures unbound { UnlessStopped result (IsUnbound (S.present store.old) (S.present store.new)) }
+    ensures full { result ≡ Err Fault.Full → S.full store.new }
+    ensures names { KeepsTexts (S.names store.old) (S.names store.new) }
+    ensures marks { KeepsMarks (S.stands store.old) (S.stands store.new) }
+    ensures views { KeepsViews db.old db.new }
+    ensures clauses { KeepsClauses db.old db.new }
+{
+    let first = store.arg(goal, 0);
+    match row {
+        Storage::Clause => return clause(alloc, store, db, callables.as_slice(), goal),
+        Storage::Retract => return retract(alloc, store, db, callables.as_slice(), first),
+        Storage::Asserta => add(alloc, store, db, callables, first, Way::First, "asserta")?,
+        Storage::Assertz => add(alloc, store, db, callables, first, Way::Last, "assertz")?,
+        Storage::Retractall => retractall(alloc, store, db, callables, first)?,
+        Storage::Abolish => abolish(alloc, store, db, callables.as_slice(), first)?,
+        Storage::Dynamic => declare(alloc, store, db, callables, first)?,
+        Storage::Multifile => check(alloc, store, first, "multifile")?,
+        Storage::Discontiguous => check(alloc, store, first, "discontiguous")?,
+    }
+    Ok(Stored::Done)
+}
