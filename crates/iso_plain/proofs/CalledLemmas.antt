@@ -23,7 +23,7 @@ use Rattle.iso_plain.specs.declared.calls.Called.TheVariants as call
 use Rattle.iso_plain_core.specs.Leaving.{Leaving, AreLeft}
 use Rattle.iso_plain_core.specs.Programs.{AreClauses, IsProcedure, IsDatabase, procedure_with, kept_at, kind_of}
 use Rattle.iso_plain.specs.Called.{IsNamed, IsCalled, Begins}
-use Rattle.iso_plain_core.proofs.ProgramLemmas.{clauses_with}
+use Rattle.iso_plain_core.proofs.ProcedureLemmas.{clauses_with}
 
 -- ---- the procedure of a key
 

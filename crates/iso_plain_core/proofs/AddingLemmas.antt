@@ -22,7 +22,7 @@ use Rattle.iso_plain_core.specs.Adding.{IsFound, came}
 use Rattle.iso_plain_core.specs.Callables.{Finds, Agrees, callee_at, callee_of, where_holds}
 use Rattle.iso_plain_core.specs.Programs.{place_at, kept_at, kind_of}
 use Rattle.iso_plain_core.proofs.CallableLemmas.{index_same, index_more, index_none, same_key_is}
-use Rattle.iso_plain_core.proofs.ProgramLemmas.{placed_kept, placed_other, Put, with_new, same_place, kept_other}
+use Rattle.iso_plain_core.proofs.ProgramLemmas.{placed_kept, placed_other, Put, new, changed, same_place, kept_other}
 
 -- ---- what a key calls
 
@@ -133,28 +133,48 @@ module _ (names : List (List ℕ)) (f : Functor) (text : List ℕ) (d : Database
     agrees_other k other (inl a) = inl (a ∙ ap (λ o. option_or (option_map callee.BuiltIn (built_in k)) (option_map callee.User o)) (sym (placed_other d named k other)))
     agrees_other k other (inr b) = inr (b.0, b.1, (placed_kept d text f.arity k).0 ∙ b.2)
 
--- a clause came where the procedure is found
-module _ (put : Put) (kd : Kind) where
-  finds_put : (names : List (List ℕ)) (f : Functor) (text : List ℕ) (d : Database Clause) (rows : List (Vec Callable Global)) (place : ℕ) (value : Clause) → slice_get names f.name ≡ Some text → place_at d (key text f.arity) ≡ Some place
-      → callee_at rows f.name f.arity ≡ Some (callee.User place) → Finds names rows d → Finds names rows (with_new put kd d place value)
-  finds_put names f text d rows place value atom at found is = record {
+-- ---- what is kept at a place is changed
+
+module _ (names : List (List ℕ)) (rows : List (Vec Callable Global)) (f : Procedure Clause → Procedure Clause) (same : (p : Procedure Clause) → (f p).key ≡ p.key) (n : ℕ) (d : Database Clause) (place : ℕ) (k : Key) (at : place_at d k ≡ Some place) (is : Finds names rows d) where
+  others_agree : (j : Key) → same_key k j ≡ false → Agrees d j (is.calls j) → Agrees (changed f n d place) j (is.calls j)
+  others_agree j other (inl a) = inl (a ∙ ap (λ o. option_or (option_map callee.BuiltIn (built_in j)) (option_map callee.User o)) (sym (same_place f same n d place j)))
+  others_agree j other (inr b) = inr (b.0, b.1, ap kind_of (kept_other f same n d place k j at other) ∙ b.2)
+
+  changed_finds : (Agrees d k (is.calls k) → Agrees (changed f n d place) k (is.calls k)) → Finds names rows (changed f n d place)
+  changed_finds here = record {
     calls = is.calls;
     indexes = is.indexes;
-    agrees = λ k. by_case k (is.agrees k);
-  } where
-    named : Key
-    named = key text f.arity
+    agrees = λ j. elim (cases_Bool (same_key k j)) [
+      | inl there ↦ subst (λ (x : Key). Agrees (changed f n d place) x (is.calls x)) (same_key_is k j there) (here (is.agrees k))
+      | inr other ↦ others_agree j other (is.agrees j)
+    ];
+  }
 
-    called : is.calls named ≡ Some (callee.User place)
-    called = ap (λ t. is.calls (key t f.arity)) (sym (text-is names f.name text atom)) ∙ (is.indexes.sound f.name f.arity (callee.User place) found).1
+  same_call : is.calls k ≡ callee_of d k → Agrees (changed f n d place) k (is.calls k)
+  same_call a = inl (a ∙ ap (λ o. option_or (option_map callee.BuiltIn (built_in k)) (option_map callee.User o)) (sym (same_place f same n d place k)))
 
-    by_case : (k : Key) → Agrees d k (is.calls k) → Agrees (with_new put kd d place value) k (is.calls k)
-    by_case k (inl a) = inl (a ∙ ap (λ o. option_or (option_map callee.BuiltIn (built_in k)) (option_map callee.User o)) (sym (same_place put kd d place value k)))
-    by_case k (inr b) =
-        elim (cases_Bool (same_key named k)) [
-          | inl here ↦ absurd (let same : is.calls k ≡ Some (callee.User place) = ap is.calls (sym (same_key_is named k here)) ∙ called in let e : None ≡ Some (callee.User place) = sym b.0 ∙ same in cc e)
-          | inr other ↦ inr (b.0, b.1, ap kind_of (kept_other put kd d place value named k at other) ∙ b.2)
-        ]
+  -- one that was absent stays so
+  pub finds_absent : (kind_of (kept_at d k) ≡ None → kind_of (kept_at (changed f n d place) k) ≡ None) → Finds names rows (changed f n d place)
+  finds_absent absent = changed_finds by_case where
+    by_case : Agrees d k (is.calls k) → Agrees (changed f n d place) k (is.calls k)
+    by_case (inl a) = same_call a
+    by_case (inr b) = inr (b.0, b.1, absent b.2)
+
+  -- it is found
+  pub finds_called : (g : Functor) (text : List ℕ) → slice_get names g.name ≡ Some text → k ≡ key text g.arity → callee_at rows g.name g.arity ≡ Some (callee.User place) → Finds names rows (changed f n d place)
+  finds_called g text atom named found = changed_finds by_case where
+    called : is.calls k ≡ Some (callee.User place)
+    called = ap is.calls named ∙ ap (λ t. is.calls (key t g.arity)) (sym (text-is names g.name text atom)) ∙ (is.indexes.sound g.name g.arity (callee.User place) found).1
+
+    by_case : Agrees d k (is.calls k) → Agrees (changed f n d place) k (is.calls k)
+    by_case (inl a) = same_call a
+    by_case (inr b) = absurd (let e : None ≡ Some (callee.User place) = sym b.0 ∙ called in cc e)
+
+-- a clause came where the procedure is found
+finds_put : (put : Put) (kd : Kind) (names : List (List ℕ)) (f : Functor) (text : List ℕ) (d : Database Clause) (rows : List (Vec Callable Global)) (place : ℕ) (value : Clause) → slice_get names f.name ≡ Some text → place_at d (key text f.arity) ≡ Some place
+    → callee_at rows f.name f.arity ≡ Some (callee.User place) → Finds names rows d → Finds names rows (db.with_clause put kd place value d)
+finds_put put kd names f text d rows place value atom at found is =
+    finds_called names rows (db.one_more put kd (new d value)) (λ p. refl) (d.added + 1) d place (key text f.arity) at is f text atom refl found
 
 -- in whichever way it came
 pub finds_more : (w : Way) (names : List (List ℕ)) (f : Functor) (text : List ℕ) (d : Database Clause) (rows : List (Vec Callable Global)) (place : ℕ) (value : Clause) → slice_get names f.name ≡ Some text → place_at d (key text f.arity) ≡ Some place

@@ -9,7 +9,10 @@ pub mod NumberLemmas
 pub mod ClauseLemmas
 pub mod RenamingLemmas
 pub mod PrepareLemmas
+pub mod ProcedureLemmas
+pub mod NumberedLemmas
 pub mod ProgramLemmas
+pub mod ChangeLemmas
 pub mod AddingLemmas
 pub mod KeptLemmas
 pub mod LeavingLemmas

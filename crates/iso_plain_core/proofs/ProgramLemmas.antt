@@ -1,5 +1,5 @@
 -- The database as the engine keeps it: how a procedure is found, and how a clause comes to it.
-use Rattle.std.proofs.Common.{◌≡◌, ◌<◌, ◌+◌, ◌==◌, ℕ, zero, suc, List, [], ◌∷◌, ◌++◌, length, map, refl, sym, ap, ap₂, ◌∙◌, subst, arith, Bool, true, false, true≢false, Option, Some, None, option_map, unwrap_or, if◌then◌else◌, inl, inr}
+use Rattle.std.proofs.Common.{◌≡◌, ◌<◌, ◌≤◌, ◌+◌, ◌==◌, ℕ, zero, suc, List, [], ◌∷◌, ◌++◌, length, map, refl, sym, ap, ap₂, ◌∙◌, subst, arith, Bool, true, false, true≢false, Option, Some, None, option_map, unwrap_or, if◌then◌else◌, inl, inr}
 use Rattle.std.specs.List.{slice_get}
 use Rattle.std.specs.Option.{option_and_then, option_or}
 use Rattle.std.specs.Str.{bytes_eq}
@@ -22,43 +22,10 @@ use Rattle.iso_plain_core.specs.declared.procedures.Way.{Way}
 use Rattle.iso_plain_core.specs.declared.procedures.Way.TheVariants as way
 use Rattle.iso_plain_core.specs.Adding.{came, with_more}
 use Rattle.iso_plain_core.specs.Kept.{IsClause}
-use Rattle.iso_plain_core.specs.Programs.{AreClauses, no_clauses, more_clauses, IsKind, IsProcedure, IsDatabase, procedure_with, place_at, kept_at, kind_of}
+use Rattle.iso_plain_core.specs.Programs.{AreClauses, no_clauses, more_clauses, IsKind, IsProcedure, AreNumbered, IsDatabase, procedure_with, place_at, kept_at, kind_of}
 use Rattle.iso_plain_core.proofs.CallableLemmas.{same_key_is, same_key_self}
-
--- ---- the procedures of the language
-
-pub clauses_with : (ps : Procedures) (k : Key) → clauses_at ps k ≡ option_map (λ p. p.clauses) (procedure_with ps k)
-clauses_with [] k = refl
-clauses_with (p ∷ ps) k =
-    elim (cases_Bool (same_key p.key k)) [
-      | inl here ↦ rw here refl
-      | inr other ↦ rw other (clauses_with ps k)
-    ]
-
--- a procedure with a clause more, and the others as they were
-module _ (put : Place) (kd : databases.Kind) where
-  abbrev pub grown : Key → databases.Clause → Option databases.Procedure → databases.Procedure
-  grown k c None = record { key = k; kind = kd; clauses = put c [] }
-  grown k c (Some p) = record p { clauses = put c p.clauses }
-
-  pub with_same : (ps : Procedures) (k : Key) (c : databases.Clause) → procedure_with (with_clause put kd ps k c) k ≡ Some (grown k c (procedure_with ps k))
-  with_same [] k c = rw (same_key_self k) refl
-  with_same (p ∷ ps) k c =
-      elim (cases_Bool (same_key p.key k)) [
-        | inl here ↦ rw (here, here) refl
-        | inr other ↦ rw (other, other) (with_same ps k c)
-      ]
-
-  pub with_other : (ps : Procedures) (k j : Key) (c : databases.Clause) → same_key k j ≡ false → procedure_with (with_clause put kd ps k c) j ≡ procedure_with ps j
-  with_other [] k j c apart = rw apart refl
-  with_other (p ∷ ps) k j c apart =
-      elim (cases_Bool (same_key p.key k)) [
-        | inl here ↦ (let no : same_key p.key j ≡ false = ap (λ (x : Key). same_key x j) (same_key_is p.key k here) ∙ apart in rw (here, no) refl)
-        | inr other ↦ elim (cases_Bool (same_key p.key j)) [
-          | inl there ↦ rw (other, there) refl
-          | inr nor ↦ rw (other, nor) (with_other ps k j c apart)
-        ]
-      ]
+use Rattle.iso_plain_core.proofs.ProcedureLemmas.{grown, with_same, with_other}
+use Rattle.iso_plain_core.proofs.NumberedLemmas.{numbered_more, numbered_front, numbered_end}
 
 -- ---- the keys that have places
 
@@ -178,6 +145,7 @@ database_placed {names = names} d m name arity is = record {
   procedures = λ k. (let kept = placed_kept d name arity k in
       subst (λ (o : Option Kind). IsProcedure names o (clauses_of (kept_at (with_procedure name arity d) k)) (procedure_with m.procedures k)) (sym kept.0)
       (subst (λ (ks : List (db.Clause Clause)). IsProcedure names (kind_of (kept_at d k)) ks (procedure_with m.procedures k)) (sym kept.1) (is.procedures k)));
+  numbers = λ k. subst (λ (n : ℕ). AreNumbered n (clauses_of (kept_at (with_procedure name arity d) k))) (sym (placed_added d name arity)) (subst (AreNumbered d.added) (sym (placed_kept d name arity k).1) (is.numbers k));
   added = placed_added d name arity ∙ is.added;
 }
 
@@ -204,6 +172,58 @@ keys_same f same [] i = refl
 keys_same f same (p ∷ ps) zero = ap (λ k. k ∷ map (λ (x : Procedure Clause). x.key) ps) (same p)
 keys_same f same (p ∷ ps) (suc i) = ap (λ ks. p.key ∷ ks) (keys_same f same ps i)
 
+-- the database with what is kept at a place changed, of so many clauses
+abbrev pub changed : (Procedure Clause → Procedure Clause) → ℕ → Database Clause → ℕ → Database Clause
+changed f n d place = record { procedures = at_place place f d.procedures; added = n }
+
+no_item : (ps : List (Procedure Clause)) (i : ℕ) → i < length ps → slice_get ps i ≡ None → ⊥
+no_item [] i less none = omega (arith, less)
+no_item (p ∷ ps) zero less none = cc none
+no_item (p ∷ ps) (suc i) less none = no_item ps i (omega (arith, less)) none
+
+module _ (f : Procedure Clause → Procedure Clause) (same : (p : Procedure Clause) → (f p).key ≡ p.key) (n : ℕ) (d : Database Clause) (place : ℕ) where
+  pub same_place : (k : Key) → place_at (changed f n d place) k ≡ place_at d k
+  same_place k = ap (λ ks. place_of ks k.name k.arity) (keys_same f same d.procedures place)
+
+  pub kept_here : (k : Key) → place_at d k ≡ Some place → kept_at (changed f n d place) k ≡ option_map f (kept_at d k)
+  kept_here k at = kept_there (changed f n d place) k place (same_place k ∙ at) ∙ changed_here f d.procedures place ∙ ap (option_map f) (sym (kept_there d k place at))
+
+  -- under another key
+  pub kept_other : (k j : Key) → place_at d k ≡ Some place → same_key k j ≡ false → kept_at (changed f n d place) j ≡ kept_at d j
+  kept_other k j at apart = by_place (place_at d j) refl where
+    by_place : (o : Option ℕ) → place_at d j ≡ o → kept_at (changed f n d place) j ≡ kept_at d j
+    by_place None h = ap (λ o. option_and_then (slice_get (changed f n d place).procedures) o) (same_place j ∙ h) ∙ sym (ap (λ o. option_and_then (slice_get d.procedures) o) h)
+    by_place (Some i) h =
+        let other : i ≡ place → ⊥ = λ e.
+        (let one : k ≡ j = place_once (map (λ (x : Procedure Clause). x.key) d.procedures) k j place at (h ∙ ap Some e) in
+        true≢false (sym (same_key_self k) ∙ ap (same_key k) one ∙ apart)) in
+        kept_there (changed f n d place) j i (same_place j ∙ h) ∙ changed_other f d.procedures place i other ∙ sym (kept_there d j i h)
+
+  -- what holds of each procedure, from what held of it
+  each_changed : (P Q : Key → Option (Procedure Clause) → Type 0) (k : Key) → place_at d k ≡ Some place → ((j : Key) (o : Option (Procedure Clause)) → same_key k j ≡ false → P j o → Q j o) → ((p : Procedure Clause) → P k (Some p) → Q k (Some (f p)))
+      → ((j : Key) → P j (kept_at d j)) → (j : Key) → Q j (kept_at (changed f n d place) j)
+  each_changed P Q k at others here is j =
+      elim (cases_Bool (same_key k j)) [
+        | inl there ↦ subst (λ (x : Key). Q x (kept_at (changed f n d place) x)) (same_key_is k j there) (of_kept (kept_at d k) refl)
+        | inr other ↦ subst (Q j) (sym (kept_other k j at other)) (others j (kept_at d j) other (is j))
+      ] where
+        of_kept : (o : Option (Procedure Clause)) → kept_at d k ≡ o → Q k (kept_at (changed f n d place) k)
+        of_kept None h = absurd (no_item d.procedures place (place_within d k place at) (sym (kept_there d k place at) ∙ h))
+        of_kept (Some p) h = subst (Q k) (sym (kept_here k at ∙ ap (option_map f) h)) (here p (subst (P k) h (is k)))
+
+  -- Where the procedure with the key of the place becomes what is kept there, and the others are what they were, that is the database.
+  pub database_changed : {names : List (List ℕ)} (k : Key) (m new : databases.Database) → place_at d k ≡ Some place → d.added ≤ n → n ≡ new.added
+      → ((j : Key) → same_key k j ≡ false → procedure_with new.procedures j ≡ procedure_with m.procedures j)
+      → ((p : Procedure Clause) → AreNumbered d.added p.clauses → AreNumbered n (f p).clauses)
+      → ((p : Procedure Clause) → IsProcedure names p.kind p.clauses (procedure_with m.procedures k) → IsProcedure names (f p).kind (f p).clauses (procedure_with new.procedures k))
+      → IsDatabase names d m → IsDatabase names (changed f n d place) new
+  database_changed {names = names} k m new at more added others numbers here is = record {
+    procedures = each_changed (λ j o. IsProcedure names (kind_of o) (clauses_of o) (procedure_with m.procedures j)) (λ j o. IsProcedure names (kind_of o) (clauses_of o) (procedure_with new.procedures j)) k at
+        (λ j o apart h. subst (λ (q : Option databases.Procedure). IsProcedure names (kind_of o) (clauses_of o) q) (sym (others j apart)) h) here is.procedures;
+    numbers = each_changed (λ j o. AreNumbered d.added (clauses_of o)) (λ j o. AreNumbered n (clauses_of o)) k at (λ j o apart h. numbered_more (clauses_of o) more h) numbers is.numbers;
+    added = added;
+  }
+
 -- how a clause is put among the others, and the kind of a procedure that was absent
 abbrev pub Put : Type 0
 Put = db.Clause Clause → List (db.Clause Clause) → List (db.Clause Clause)
@@ -211,80 +231,41 @@ Put = db.Clause Clause → List (db.Clause Clause) → List (db.Clause Clause)
 abbrev pub new : Database Clause → Clause → db.Clause Clause
 new d value = record { number = d.added; value = value }
 
-module _ (put : Put) (kd : Kind) (d : Database Clause) (place : ℕ) (value : Clause) where
-  abbrev pub with_new : Database Clause
-  with_new = db.with_clause put kd place value d
-
-  pub same_place : (k : Key) → place_at with_new k ≡ place_at d k
-  same_place k = ap (λ ks. place_of ks k.name k.arity) (keys_same (one_more put kd (new d value)) (λ p. refl) d.procedures place)
-
-  pub kept_here : (k : Key) → place_at d k ≡ Some place → kept_at with_new k ≡ option_map (one_more put kd (new d value)) (kept_at d k)
-  kept_here k at =
-      kept_there with_new k place (same_place k ∙ at) ∙ changed_here (one_more put kd (new d value)) d.procedures place
-      ∙ ap (option_map (one_more put kd (new d value))) (sym (kept_there d k place at))
-
-  -- under another key
-  pub kept_other : (k j : Key) → place_at d k ≡ Some place → same_key k j ≡ false → kept_at with_new j ≡ kept_at d j
-  kept_other k j at apart = by_place (place_at d j) refl where
-    by_place : (o : Option ℕ) → place_at d j ≡ o → kept_at with_new j ≡ kept_at d j
-    by_place None h = ap (λ o. option_and_then (slice_get with_new.procedures) o) (same_place j ∙ h) ∙ sym (ap (λ o. option_and_then (slice_get d.procedures) o) h)
-    by_place (Some i) h =
-        let other : i ≡ place → ⊥ = λ e.
-        (let same : k ≡ j = place_once (map (λ (x : Procedure Clause). x.key) d.procedures) k j place at (h ∙ ap Some e) in
-        true≢false (sym (same_key_self k) ∙ ap (same_key k) same ∙ apart)) in
-        kept_there with_new j i (same_place j ∙ h) ∙ changed_other (one_more put kd (new d value)) d.procedures place i other ∙ sym (kept_there d j i h)
-
 -- The ways to put a clause among others are the same.
 abbrev SamePut : List (List ℕ) → Put → Place → Type 0
 SamePut names put own = (ks : List (db.Clause Clause)) (cs : List databases.Clause) (k : db.Clause Clause) (c : databases.Clause) → AreClauses names ks cs → c.number ≡ k.number → IsClause names k.value c → AreClauses names (put k ks) (own c cs)
 
+-- So a clause that comes has a number of its own.
+abbrev StayNumbered : Put → Type 0
+StayNumbered put = (n : ℕ) (k : db.Clause Clause) (ks : List (db.Clause Clause)) → k.number ≡ n → AreNumbered n ks → AreNumbered (n + 1) (put k ks)
+
 clauses_before : {names : List (List ℕ)} {ks : List (db.Clause Clause)} {cs : List databases.Clause} (k : db.Clause Clause) (c : databases.Clause) → AreClauses names ks cs → c.number ≡ k.number → IsClause names k.value c → AreClauses names (k ∷ ks) (c ∷ cs)
 clauses_before k c all number i = more_clauses number i all
 
-module _ {names : List (List ℕ)} (put : Put) (own : Place) (kd : Kind) (is_kind : databases.Kind) (puts : SamePut names put own) (kinds : IsKind kd is_kind) where
+module _ {names : List (List ℕ)} (put : Put) (own : Place) (kd : Kind) (is_kind : databases.Kind) (puts : SamePut names put own) (numbered : StayNumbered put) (kinds : IsKind kd is_kind) where
   one_comes : (k : Key) (p : Procedure Clause) (o : Option databases.Procedure) (n : db.Clause Clause) (c : databases.Clause) → c.number ≡ n.number → IsClause names n.value c → IsProcedure names p.kind p.clauses o
-      → IsProcedure names (one_more put kd n p).kind (one_more put kd n p).clauses (Some (grown own is_kind k c o))
+      → IsProcedure names (one_more put kd n p).kind (one_more put kd n p).clauses (Some (grown (own c) is_kind k o))
   one_comes k p o n c number clause is = by_kind p.kind p.clauses o is where
-    by_kind : (x : Option Kind) (ks : List (db.Clause Clause)) (q : Option databases.Procedure) → IsProcedure names x ks q → IsProcedure names (Some (unwrap_or x kd)) (put n ks) (Some (grown own is_kind k c q))
+    by_kind : (x : Option Kind) (ks : List (db.Clause Clause)) (q : Option databases.Procedure) → IsProcedure names x ks q → IsProcedure names (Some (unwrap_or x kd)) (put n ks) (Some (grown (own c) is_kind k q))
     by_kind None ks None is = (kinds, subst (λ (xs : List (db.Clause Clause)). AreClauses names (put n xs) (own c [])) (sym is) (puts [] [] n c no_clauses number clause))
     by_kind None ks (Some q) is = absurd is
     by_kind (Some x) ks None is = absurd is
     by_kind (Some x) ks (Some q) is = (is.0, puts ks q.clauses n c is.1 number clause)
 
   comes : (d : Database Clause) (m : databases.Database) (k : Key) (place : ℕ) (value : Clause) (c : databases.Clause) → place_at d k ≡ Some place → IsDatabase names d m
-      → IsClause names value c → c.number ≡ m.added → IsDatabase names (with_new put kd d place value) (record { procedures = with_clause own is_kind m.procedures k c; added = m.added + 1 })
-  comes d m k place value c at is clause number = record {
-    procedures = λ j.
-        elim (cases_Bool (same_key k j)) [
-          | inl here ↦ subst (λ (x : Key). IsProcedure names (kind_of (kept_at (with_new put kd d place value) x)) (clauses_of (kept_at (with_new put kd d place value) x)) (procedure_with (with_clause own is_kind m.procedures k c) x)) (same_key_is k j here) at_key
-          | inr other ↦ (let kept = kept_other put kd d place value k j at other in
-              let model = with_other own is_kind m.procedures k j c other in
-              subst (λ (o : Option databases.Procedure). IsProcedure names (kind_of (kept_at (with_new put kd d place value) j)) (clauses_of (kept_at (with_new put kd d place value) j)) o) (sym model)
-              (subst (λ (o : Option (Procedure Clause)). IsProcedure names (kind_of o) (clauses_of o) (procedure_with m.procedures j)) (sym kept) (is.procedures j)))
-        ];
-    added = ap (λ n. n + 1) is.added;
-  } where
-    of_kept : (o : Option (Procedure Clause)) → kept_at d k ≡ o → IsProcedure names (kind_of (kept_at (with_new put kd d place value) k)) (clauses_of (kept_at (with_new put kd d place value) k)) (Some (grown own is_kind k c (procedure_with m.procedures k)))
-    of_kept None h = absurd (let there = kept_there d k place at in let within = place_within d k place at in no_item d.procedures place within (sym there ∙ h)) where
-      no_item : (ps : List (Procedure Clause)) (i : ℕ) → i < length ps → slice_get ps i ≡ None → ⊥
-      no_item [] i less none = omega (arith, less)
-      no_item (p ∷ ps) zero less none = cc none
-      no_item (p ∷ ps) (suc i) less none = no_item ps i (omega (arith, less)) none
-    of_kept (Some p) h =
-        let now : kept_at (with_new put kd d place value) k ≡ Some (one_more put kd (new d value) p) = kept_here put kd d place value k at ∙ ap (option_map (one_more put kd (new d value))) h in
-        let was : IsProcedure names p.kind p.clauses (procedure_with m.procedures k) = subst (λ (o : Option (Procedure Clause)). IsProcedure names (kind_of o) (clauses_of o) (procedure_with m.procedures k)) h (is.procedures k) in
-        subst (λ (o : Option (Procedure Clause)). IsProcedure names (kind_of o) (clauses_of o) (Some (grown own is_kind k c (procedure_with m.procedures k)))) (sym now)
-        (one_comes k p (procedure_with m.procedures k) (new d value) c (number ∙ sym is.added) clause was)
-
-    at_key : IsProcedure names (kind_of (kept_at (with_new put kd d place value) k)) (clauses_of (kept_at (with_new put kd d place value) k)) (procedure_with (with_clause own is_kind m.procedures k c) k)
-    at_key = subst (λ (o : Option databases.Procedure). IsProcedure names (kind_of (kept_at (with_new put kd d place value) k)) (clauses_of (kept_at (with_new put kd d place value) k)) o) (sym (with_same own is_kind m.procedures k c)) (of_kept (kept_at d k) refl)
+      → IsClause names value c → c.number ≡ m.added → IsDatabase names (db.with_clause put kd place value d) (record { procedures = with_clause own is_kind m.procedures k c; added = m.added + 1 })
+  comes d m k place value c at is clause number =
+      database_changed (one_more put kd (new d value)) (λ p. refl) (d.added + 1) d place k m (record { procedures = with_clause own is_kind m.procedures k c; added = m.added + 1 }) at (omega arith) (ap (λ n. n + 1) is.added)
+      (λ j apart. with_other (own c) is_kind m.procedures k j apart) (λ p was. numbered d.added (new d value) p.clauses refl was)
+      (λ p was. subst (λ (o : Option databases.Procedure). IsProcedure names (one_more put kd (new d value) p).kind (one_more put kd (new d value) p).clauses o) (sym (with_same (own c) is_kind m.procedures k))
+      (one_comes k p (procedure_with m.procedures k) (new d value) c (number ∙ sym is.added) clause was)) is
 
 -- it comes in one of the ways
 pub clause_comes : {names : List (List ℕ)} (w : Way) (d : Database Clause) (m : databases.Database) (k : Key) (place : ℕ) (value : Clause) (c : databases.Clause) → place_at d k ≡ Some place → IsDatabase names d m
     → IsClause names value c → c.number ≡ m.added → IsDatabase names (came w place value d) (with_more w m k c)
-clause_comes way.Consulted d m k place value c at is clause number = comes db.at_end at_end kind.Static Static (λ ks cs. clauses_push) tt d m k place value c at is clause number
-clause_comes way.First d m k place value c at is clause number = comes db.at_front at_front kind.Dynamic Dynamic (λ ks cs. clauses_before) tt d m k place value c at is clause number
-clause_comes way.Last d m k place value c at is clause number = comes db.at_end at_end kind.Dynamic Dynamic (λ ks cs. clauses_push) tt d m k place value c at is clause number
+clause_comes way.Consulted d m k place value c at is clause number = comes db.at_end at_end kind.Static Static (λ ks cs. clauses_push) numbered_end tt d m k place value c at is clause number
+clause_comes way.First d m k place value c at is clause number = comes db.at_front at_front kind.Dynamic Dynamic (λ ks cs. clauses_before) numbered_front tt d m k place value c at is clause number
+clause_comes way.Last d m k place value c at is clause number = comes db.at_end at_end kind.Dynamic Dynamic (λ ks cs. clauses_push) numbered_end tt d m k place value c at is clause number
 
 -- the kind of what is at the place of a key
 pub kind_there : (d : Database Clause) (k : Key) (i : ℕ) → place_at d k ≡ Some i → db.kind_at d i ≡ kind_of (kept_at d k)

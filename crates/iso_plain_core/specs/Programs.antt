@@ -1,10 +1,10 @@
 -- The database as the engine keeps it: by the keys of procedures, whatever order they are kept in.
-use Rattle.std.specs.Prelude.{◌≡◌, ℕ, List, [], ◌∷◌, Option, Some, None, if◌then◌else◌}
+use Rattle.std.specs.Prelude.{◌≡◌, ◌<◌, ℕ, List, [], ◌∷◌, false, Option, Some, None, if◌then◌else◌}
 use Rattle.std.specs.List.{slice_get}
 use Rattle.std.specs.Option.{option_and_then}
 use Rattle.iso_model.specs.Search.Databases as databases
 use Rattle.iso_model.specs.Search.Databases.{Key, Procedures, same_key}
-use Rattle.iso_db.specs.Databases.{Database, Procedure, place_in}
+use Rattle.iso_db.specs.Databases.{Database, Procedure, place_in, has_in}
 use Rattle.iso_db.specs.Databases as db
 use Rattle.iso_db.specs.declared.kinds.Kind.{Kind}
 use Rattle.iso_db.specs.declared.kinds.Kind.TheVariants as kind
@@ -46,7 +46,13 @@ kept_at d k = option_and_then (slice_get d.procedures) (place_at d k)
 abbrev pub kind_of : Option (Procedure Clause) → Option Kind
 kind_of o = option_and_then (λ p. p.kind) o
 
--- each procedure is kept, and as many clauses were added
+-- Each of these clauses has a number of its own, below this one.
+abbrev pub AreNumbered : ℕ → List (db.Clause Clause) → Type 0
+AreNumbered added [] = Unit {0}
+AreNumbered added (k ∷ ks) = (k.number < added) × (has_in ks k.number ≡ false) × AreNumbered added ks
+
+-- each procedure is kept, its clauses have numbers of their own, and as many clauses were added
 pub record IsDatabase (names : List (List ℕ)) (d : Database Clause) (m : databases.Database) : Type 0 where
   pub procedures : (k : Key) → IsProcedure names (kind_of (kept_at d k)) (db.clauses_of (kept_at d k)) (procedure_with m.procedures k)
+  pub numbers : (k : Key) → AreNumbered d.added (db.clauses_of (kept_at d k))
   pub added : d.added ≡ m.added

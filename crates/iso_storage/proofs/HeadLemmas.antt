@@ -22,19 +22,10 @@ use Rattle.iso_plain_core.specs.Adding.{IsFound}
 use Rattle.iso_plain_core.specs.Callables.{callee_at}
 use Rattle.iso_plain_core.specs.Programs.{AreClauses, no_clauses, IsKind, IsProcedure, IsDatabase, procedure_with, place_at, kept_at, kind_of}
 use Rattle.iso_plain_core.proofs.AddingLemmas.{user_alone, called_own, found_callee, found_place, found_absent}
-use Rattle.iso_plain_core.proofs.ProgramLemmas.{clauses_with, place_within, kept_there, kind_there}
+use Rattle.iso_plain_core.proofs.ProgramLemmas.{place_within, kept_there, kind_there}
+use Rattle.iso_plain_core.proofs.ProcedureLemmas.{clauses_with, kinds_with}
 use Rattle.iso_lib.specs.declared.indicators.Functor.{Functor}
 use Rattle.iso_storage.specs.Storing.{IsProgram, IsNamed, AreOf, user_place}
-
--- ---- the procedures of the language
-
-kinds_with : (ps : Procedures) (k : Key) → kind_at ps k ≡ option_map (λ p. p.kind) (procedure_with ps k)
-kinds_with [] k = refl
-kinds_with (p ∷ ps) k =
-    elim (cases_Bool (same_key p.key k)) [
-      | inl here ↦ rw here refl
-      | inr other ↦ rw other (kinds_with ps k)
-    ]
 
 module _ {names : List (List ℕ)} (d : Database Clause) (m : databases.Database) (k : Key) (is : IsDatabase names d m) where
   -- it is static where it is kept as static

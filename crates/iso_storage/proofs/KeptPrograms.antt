@@ -19,8 +19,8 @@ use Rattle.iso_plain_core.specs.declared.clauses.Clause.{Clause}
 use Rattle.iso_plain_core.specs.Adding.{IsFound}
 use Rattle.iso_plain_core.specs.Callables.{Finds}
 use Rattle.iso_plain_core.specs.Programs.{AreClauses, no_clauses, more_clauses, IsKind, IsProcedure, IsDatabase, procedure_with, kept_at, kind_of}
-use Rattle.iso_plain_core.proofs.CallableLemmas.{index_kept}
-use Rattle.iso_plain_core.proofs.WrittenLemmas.{clause_kept}
+use Rattle.iso_plain_core.proofs.ChangeLemmas.{database_kept, finds_kept}
+use Rattle.iso_plain_core.proofs.ProcedureLemmas.{kinds_with}
 use Rattle.iso_model.specs.Terms.TermOf.{term_of}
 use Rattle.iso_model.specs.Terms.Trees.{arities_fit}
 use Rattle.iso_model.specs.Search.Errors.{permission_error}
@@ -34,37 +34,13 @@ use Rattle.iso_storage.specs.Storing.{IsProgram, IsChanged}
 
 -- ---- names come
 
-pub clauses_kept : {old new : List (List ℕ)} {ks : List (db.Clause Clause)} {cs : List databases.Clause} → KeepsTexts old new → AreClauses old ks cs → AreClauses new ks cs
-clauses_kept keeps no_clauses = no_clauses
-clauses_kept {old = old} {new = new} keeps (more_clauses {k = k} {c = c} number is others) = more_clauses number (clause_kept old new keeps k.value c is) (clauses_kept keeps others)
-
-procedure_kept : (old new : List (List ℕ)) → KeepsTexts old new → (kind : Option Kind) (ks : List (db.Clause Clause)) (o : Option databases.Procedure) → IsProcedure old kind ks o → IsProcedure new kind ks o
-procedure_kept old new keeps None ks None is = is
-procedure_kept old new keeps None ks (Some p) is = is
-procedure_kept old new keeps (Some k) ks None is = is
-procedure_kept old new keeps (Some k) ks (Some p) is = (is.0, clauses_kept keeps is.1)
-
 pub program_kept : {old new : List (List ℕ)} {d : Database Clause} {rows : List (Vec Callable Global)} {m : databases.Database} → KeepsTexts old new → IsProgram old d rows m → IsProgram new d rows m
-program_kept {old = old} {new = new} {d = d} {rows = rows} {m = m} keeps is = record {
-  database = record {
-    procedures = λ k. procedure_kept old new keeps (kind_of (kept_at d k)) (db.clauses_of (kept_at d k)) (procedure_with m.procedures k) (is.database.procedures k);
-    added = is.database.added;
-  };
-  found = record { calls = is.found.calls; indexes = index_kept old new rows is.found.calls keeps is.found.indexes; agrees = is.found.agrees };
-}
+program_kept keeps is = record { database = database_kept keeps is.database; found = finds_kept keeps is.found }
 
 pub found_in : {names : List (List ℕ)} {d : Database Clause} {rows : List (Vec Callable Global)} {m : databases.Database} (f : Functor) (text : List ℕ) → IsProgram names d rows m → EachOnce names → slice_get names f.name ≡ Some text → IsFound names f text d rows
 found_in f text is once at = record { each_once = once; atom = at; found = is.found }
 
 -- ---- procedures that are fixed
-
-pub kind_with : (ps : Procedures) (k : Key) → databases.kind_at ps k ≡ option_map (λ p. p.kind) (procedure_with ps k)
-kind_with [] k = refl
-kind_with (p ∷ ps) k =
-    elim (cases_Bool (same_key p.key k)) [
-      | inl here ↦ rw here refl
-      | inr other ↦ rw other (kind_with ps k)
-    ]
 
 -- one that is not static in the language is not static as it is kept
 not_static : (names : List (List ℕ)) (x : Option Kind) (ks : List (db.Clause Clause)) (o : Option databases.Procedure) → IsProcedure names x ks o → is_static (option_map (λ p. p.kind) o) ≡ false → is_not_static x ≡ true
@@ -80,7 +56,7 @@ not_static names (Some kind.Static) ks (Some p) is h = by_kind p.kind is.0 h whe
 pub changes_fit : {names : List (List ℕ)} {d : Database Clause} {rows : List (Vec Callable Global)} {m : databases.Database} (k : Key) → IsProgram names d rows m → table.is_fixed m.procedures k ≡ false → is_not_static (kind_of (kept_at d k)) ≡ true
 changes_fit {names = names} {d = d} {m = m} k is free =
     not_static names (kind_of (kept_at d k)) (db.clauses_of (kept_at d k)) (procedure_with m.procedures k) (is.database.procedures k)
-    (ap is_static (sym (kind_with m.procedures k)) ∙ (or_parts (is_built_in k) (is_static (databases.kind_at m.procedures k)) free).1)
+    (ap is_static (sym (kinds_with m.procedures k)) ∙ (or_parts (is_built_in k) (is_static (databases.kind_at m.procedures k)) free).1)
 
 -- so where the rows are lent
 pub program_lent : {old new : List (List ℕ)} {d : Database Clause} {rows lent : List (Vec Callable Global)} {m : databases.Database} → lent ≡ rows → KeepsTexts old new → IsProgram old d rows m → IsProgram new d lent m

@@ -1,7 +1,6 @@
 pub mod HeadLemmas
 pub mod PartLemmas
 pub mod ShownLemmas
-pub mod NameLemmas
 pub mod RowLemmas
 pub mod KeptPrograms
 pub mod AdditionLemmas

@@ -10,41 +10,41 @@ use Rattle.iso_store_core.specs.Presents.{meaning}
 use Rattle.iso_store_core.proofs.AtomLemmas.{text-is}
 use Rattle.iso_storage.specs.Storing.{IsNamed}
 use Rattle.iso_storage.proofs.HeadLemmas.{free_alone}
-use Rattle.iso_storage.proofs.NameLemmas.{program_kept}
+use Rattle.iso_storage.proofs.KeptPrograms.{program_kept}
 use Rattle.iso_storage.proofs.RowLemmas.{key_text, retract_refused, retract_offers, offers_shown}
 use Rattle.iso_storage.proofs.rows.retract.Goals as goal
 
 pub returns-in_err-head-clause-kept : goal.returns-in_err-head-clause-kept
-returns-in_err-head-clause-kept g c = λ m is. program_kept (g.S.Store.names c.args.store.now) (g.S.Store.names c.clause_parts.new.store) (contents c.args.db.now) c.args.callables.now m c.clause_parts.ensures.names is
+returns-in_err-head-clause-kept g c = λ m is. program_kept c.clause_parts.ensures.names is
 
 pub returns-in_err-name-clause-kept : goal.returns-in_err-name-clause-kept
-returns-in_err-name-clause-kept g c = λ m is. program_kept (g.S.Store.names c.args.store.now) (g.S.Store.names c.clause_parts.new.store) (contents c.args.db.now) c.args.callables.now m c.clause_parts.ensures.names is
+returns-in_err-name-clause-kept g c = λ m is. program_kept c.clause_parts.ensures.names is
 
 pub is_fixed-requires : goal.is_fixed-requires
 is_fixed-requires g c =
     let names = g.S.Store.names c.clause_parts.new.store in
     let k = c.requires.program in
-    (names, k.0, program_kept (g.S.Store.names c.args.store.now) names (contents c.args.db.now) c.args.callables.now k.0 c.clause_parts.ensures.names k.1, record { each_once = c.clause_parts.ensures.each_once; atom = c.text-text.ensures; few = c.in_ok-name.ensures.2.few })
+    (names, k.0, program_kept c.clause_parts.ensures.names k.1, record { each_once = c.clause_parts.ensures.each_once; atom = c.text-text.ensures; few = c.in_ok-name.ensures.2.few })
 
 pub returns-in_err-ball-clause-kept : goal.returns-in_err-ball-clause-kept
-returns-in_err-ball-clause-kept g c = λ m is. program_kept (g.S.Store.names c.args.store.now) (g.S.Store.names c.clause_parts.new.store) (contents c.args.db.now) c.args.callables.now m c.clause_parts.ensures.names is
+returns-in_err-ball-clause-kept g c = λ m is. program_kept c.clause_parts.ensures.names is
 
 pub returns-then-is_fixed-clause-kept : goal.returns-then-is_fixed-clause-kept
-returns-then-is_fixed-clause-kept g c = λ m is. program_kept (g.S.Store.names c.args.store.now) (g.S.Store.names c.clause_parts.new.store) (contents c.args.db.now) c.args.callables.now m c.clause_parts.ensures.names is
+returns-then-is_fixed-clause-kept g c = λ m is. program_kept c.clause_parts.ensures.names is
 
 pub returns-clause-kept : goal.returns-clause-kept
-returns-clause-kept g c = λ m is. program_kept (g.S.Store.names c.args.store.now) (g.S.Store.names c.clause_parts.new.store) (contents c.args.db.now) c.args.callables.now m c.clause_parts.ensures.names is
+returns-clause-kept g c = λ m is. program_kept c.clause_parts.ensures.names is
 
 pub clauses_of-view-requires : goal.clauses_of-view-requires
 clauses_of-view-requires g c =
     let names = g.S.Store.names c.clause_parts.new.store in
     let k = c.requires.program in
-    (names, k.0, program_kept (g.S.Store.names c.args.store.now) names (contents c.args.db.now) c.args.callables.now k.0 c.clause_parts.ensures.names k.1, record { each_once = c.clause_parts.ensures.each_once; atom = c.text-text.ensures; few = c.in_ok-name.ensures.2.few })
+    (names, k.0, program_kept c.clause_parts.ensures.names k.1, record { each_once = c.clause_parts.ensures.each_once; atom = c.text-text.ensures; few = c.in_ok-name.ensures.2.few })
 
 pub returns-then-is_fixed-clause-offered : goal.returns-then-is_fixed-clause-offered
 returns-then-is_fixed-clause-offered g c = λ w was.
     (let names = g.S.Store.names c.clause_parts.new.store in
-    let is = program_kept (g.S.Store.names c.args.store.now) names (contents c.args.db.now) c.args.callables.now w.database c.clause_parts.ensures.names was in
+    let is = program_kept c.clause_parts.ensures.names was in
     let t = meaning (g.S.Store.present c.args.store.now) c.args.clause in
     let h = c.in_ok-name.ensures in
     let f = c.in_ok-name.field-0 in
@@ -58,7 +58,7 @@ pub returns-clause-offered : goal.returns-clause-offered
 returns-clause-offered g c = λ w was.
     (let names = g.S.Store.names c.clause_parts.new.store in
     let q = g.S.Store.present c.clause_parts.new.store in
-    let is = program_kept (g.S.Store.names c.args.store.now) names (contents c.args.db.now) c.args.callables.now w.database c.clause_parts.ensures.names was in
+    let is = program_kept c.clause_parts.ensures.names was in
     let t = meaning (g.S.Store.present c.args.store.now) c.args.clause in
     let h = c.in_ok-name.ensures in
     let f = c.in_ok-name.field-0 in

@@ -16,7 +16,8 @@ use Rattle.iso_plain_core.specs.Adding.{IsFound, with_more}
 use Rattle.iso_plain_core.specs.declared.procedures.Way.TheVariants as way
 use Rattle.iso_lib.specs.declared.indicators.Functor.{Functor}
 use Rattle.iso_plain.proofs.StartLemmas.{idle_again, refused, unadded}
-use Rattle.iso_plain.proofs.WorldLemmas.{world_on, finds_kept}
+use Rattle.iso_plain.proofs.WorldLemmas.{world_on}
+use Rattle.iso_plain_core.proofs.ChangeLemmas.{finds_kept}
 use Rattle.iso_plain_core.proofs.WrittenLemmas.{clause_kept}
 use Rattle.iso_plain_core.proofs.AddingLemmas.{user_alone}
 use Rattle.iso_plain.proofs.plain.Plain.add.Goals as goal

@@ -22,7 +22,7 @@ returns-clause-stands g c =
       same = same_fresh (idle first_world) refl refl;
       engine = record {
         world = record {
-          database_is = rw c.new-2.ensures (record { procedures = λ k. refl; added = refl });
+          database_is = rw c.new-2.ensures (record { procedures = λ k. refl; numbers = λ k. tt; added = refl });
           found = rw c.new-2.ensures (record { calls = callee_of no_procedures; indexes = index_same last rows rows _ (callee_of no_procedures) (λ a n. refl) callee_first found; agrees = λ k. inl refl });
           vocabulary_is = vocabulary_kept (same_texts c.mark-base.ensures.names) c.in_ok-vocabulary.vocabulary c.in_ok-vocabulary.ensures.vocabulary;
           operators_are = c.in_ok-ops.ensures.entries;
