@@ -8,6 +8,7 @@ pub mod Settlements
 pub mod Replies
 pub mod Arithmetic
 pub mod Library
+pub mod AtomTexts
 pub mod Table
 pub mod Additions
 pub mod Settings

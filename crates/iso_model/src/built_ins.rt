@@ -4,7 +4,7 @@ ghost use Rattle.iso_model.specs.Search.Keys.{key};
 ghost use Rattle.iso_model.specs.Search.BuiltIns as table;
 ghost use Rattle.iso_model.specs.Search.Rows.{entries_of};
 
-use super::library::{Comparison, Library, OrderTest, Setting, Storage, TypeTest};
+use super::library::{Comparison, Library, OrderTest, Setting, Storage, Text, TypeTest};
 
 /// A procedure of the language itself (7.8, 8).
 #[derive(Clone, Copy, Debug, PartialEq, Eq)]
@@ -37,13 +37,15 @@ pub enum BuiltIn {
     Setting(Setting),
     /// One that reads or changes the database (8.8, 8.9).
     Storage(Storage),
+    /// One on the characters of atoms and on the texts of numbers (8.16).
+    Text(Text),
 }
 
 /// The name and the arity of a built-in.
 #[derive(Clone, Copy)]
 pub struct Row(pub &'static str, pub usize, pub BuiltIn);
 
-const ROWS: [Row; 66] = [
+const ROWS: [Row; 72] = [
     Row("true", 0, BuiltIn::True),
     Row("fail", 0, BuiltIn::Fail),
     Row("false", 0, BuiltIn::Fail),
@@ -190,6 +192,12 @@ const ROWS: [Row; 66] = [
         1,
         BuiltIn::Storage(Storage::Discontiguous),
     ),
+    Row("atom_length", 2, BuiltIn::Text(Text::AtomLength)),
+    Row("atom_chars", 2, BuiltIn::Text(Text::AtomChars)),
+    Row("atom_codes", 2, BuiltIn::Text(Text::AtomCodes)),
+    Row("char_code", 2, BuiltIn::Text(Text::CharCode)),
+    Row("number_chars", 2, BuiltIn::Text(Text::NumberChars)),
+    Row("number_codes", 2, BuiltIn::Text(Text::NumberCodes)),
 ];
 
 /// The built-ins, each with its name and arity.

@@ -72,6 +72,23 @@ pub enum Storage {
     Discontiguous,
 }
 
+/// A built-in on the characters of atoms and on the texts of numbers (8.16). Each comes to one answer.
+#[derive(Clone, Copy, Debug, PartialEq, Eq)]
+pub enum Text {
+    /// `atom_length/2`: how many characters an atom has (8.16.1).
+    AtomLength,
+    /// `atom_chars/2`: an atom and the list of its characters (8.16.4).
+    AtomChars,
+    /// `atom_codes/2`: an atom and the list of its characters' codes (8.16.5).
+    AtomCodes,
+    /// `char_code/2`: a character and its code (8.16.6).
+    CharCode,
+    /// `number_chars/2`: a number and the list of its characters (8.16.7).
+    NumberChars,
+    /// `number_codes/2`: a number and the list of its characters' codes (8.16.8).
+    NumberCodes,
+}
+
 /// How two integers are compared (8.7).
 #[derive(Clone, Copy, Debug, PartialEq, Eq)]
 pub enum Comparison {

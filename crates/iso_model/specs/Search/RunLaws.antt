@@ -9,6 +9,7 @@ pub mod TermValues
 pub mod LibraryValues
 pub mod SettingValues
 pub mod StorageValues
+pub mod TextValues
 pub mod Values
 pub mod Sameness
 pub mod SameSteps

@@ -2,10 +2,11 @@
 use Rattle.std.specs.Prelude.{List, [], ◌∷◌, Bool, true, false, ◌||◌, Option, Some, None, codes, if◌then◌else◌}
 use Rattle.iso_model.specs.Search.Keys.{Key, key, same_key}
 use Rattle.iso_model.specs.declared.built_ins.BuiltIn.{BuiltIn}
-use Rattle.iso_model.specs.declared.built_ins.BuiltIn.TheVariants.{True, Fail, Call, Once, Not, Repeat, Catch, Throw, Halt, HaltWith, Findall, Library, Setting, Storage}
+use Rattle.iso_model.specs.declared.built_ins.BuiltIn.TheVariants.{True, Fail, Call, Once, Not, Repeat, Catch, Throw, Halt, HaltWith, Findall, Library, Setting, Storage, Text}
 use Rattle.iso_model.specs.declared.library.Library.TheVariants as library
 use Rattle.iso_model.specs.declared.library.Setting.TheVariants as setting
 use Rattle.iso_model.specs.declared.library.Storage.TheVariants as storage
+use Rattle.iso_model.specs.declared.library.Text.TheVariants as text
 use Rattle.iso_model.specs.declared.library.Comparison.TheVariants as comparison
 use Rattle.iso_model.specs.declared.library.OrderTest.TheVariants as order
 use Rattle.iso_model.specs.declared.library.TypeTest.TheVariants as test
@@ -43,7 +44,10 @@ built_ins =
     ∷ (key (codes "clause") 2, Storage storage.Clause) ∷ (key (codes "retract") 1, Storage storage.Retract)
     ∷ (key (codes "retractall") 1, Storage storage.Retractall) ∷ (key (codes "abolish") 1, Storage storage.Abolish)
     ∷ (key (codes "dynamic") 1, Storage storage.Dynamic) ∷ (key (codes "multifile") 1, Storage storage.Multifile)
-    ∷ (key (codes "discontiguous") 1, Storage storage.Discontiguous) ∷ []
+    ∷ (key (codes "discontiguous") 1, Storage storage.Discontiguous)
+    ∷ (key (codes "atom_length") 2, Text text.AtomLength) ∷ (key (codes "atom_chars") 2, Text text.AtomChars)
+    ∷ (key (codes "atom_codes") 2, Text text.AtomCodes) ∷ (key (codes "char_code") 2, Text text.CharCode)
+    ∷ (key (codes "number_chars") 2, Text text.NumberChars) ∷ (key (codes "number_codes") 2, Text text.NumberCodes) ∷ []
 
 abbrev pub built_in_among : List (Key × BuiltIn) → Key → Option BuiltIn
 built_in_among [] k = None

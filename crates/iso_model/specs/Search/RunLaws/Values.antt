@@ -10,12 +10,14 @@ use Rattle.iso_model.specs.Search.Errors.{domain_error, max_arity_error, type_er
 use Rattle.iso_model.specs.Search.BuiltIns.{Reply, Fails, Succeeds, Equates, EquatesCopy, Raises, Calls, CallsOnce, Refutes, Repeats, Catches, Gathers, Halts, AsksWorld, converted_reply, goal_reply, called_reply, findall_reply, throw_reply, halt_reply, answered, reply}
 use Rattle.iso_model.specs.Terms.Lists.{is_partial_list}
 use Rattle.iso_model.specs.Search.Library.{library_answer}
+use Rattle.iso_model.specs.Search.AtomTexts.{text_answer}
 use Rattle.iso_model.specs.Search.Replies.{Answer, Fail, Succeed, Equate, EquateCopy, Raise}
 use Rattle.iso_model.specs.Search.Walker.{Left, AsIs, Again, Clauses, Catching, Gathering, Offered}
 use Rattle.iso_model.specs.Search.Worlds.{World}
 use Rattle.iso_model.specs.Search.RunLaws.LibraryValues.{IsOwnAnswer, library_own}
 use Rattle.iso_model.specs.Search.RunLaws.SettingValues.{IsOwnSettled, settings_own}
 use Rattle.iso_model.specs.Search.RunLaws.StorageValues.{storages_own}
+use Rattle.iso_model.specs.Search.RunLaws.TextValues.{texts_own}
 use Rattle.iso_model.specs.declared.built_ins.BuiltIn.{BuiltIn}
 use Rattle.iso_model.specs.declared.built_ins.BuiltIn.TheVariants as built_in
 pub use Rattle.iso_model.specs.Search.RunLaws.TermValues.{IsValue, AreValues, IsTwice, value_is, twice_on, argument_value, arguments_value, others_value, with_value}
@@ -189,3 +191,4 @@ reply_own r built_in.Findall v own =
 reply_own r (built_in.Library row) v own = answered_own r (library_answer row v) (library_own r row v own)
 reply_own r (built_in.Setting row) v own = λ n w. settings_own r row v w own
 reply_own r (built_in.Storage row) v own = λ n w. storages_own r row v n w own
+reply_own r (built_in.Text row) v own = answered_own r (text_answer row v) (texts_own r row v own)
