@@ -4,7 +4,7 @@ ghost use Rattle.iso_model.specs.Search.Keys.{key};
 ghost use Rattle.iso_model.specs.Search.BuiltIns as table;
 ghost use Rattle.iso_model.specs.Search.Rows.{entries_of};
 
-use super::library::{Comparison, Library, OrderTest, Setting, Storage, Text, TypeTest};
+use super::library::{Comparison, Library, OrderTest, Output, Setting, Storage, Text, TypeTest};
 
 /// A procedure of the language itself (7.8, 8).
 #[derive(Clone, Copy, Debug, PartialEq, Eq)]
@@ -39,13 +39,15 @@ pub enum BuiltIn {
     Storage(Storage),
     /// One on the characters of atoms and on the texts of numbers (8.16).
     Text(Text),
+    /// One that writes (8.12.3, 8.14.2).
+    Output(Output),
 }
 
 /// The name and the arity of a built-in.
 #[derive(Clone, Copy)]
 pub struct Row(pub &'static str, pub usize, pub BuiltIn);
 
-const ROWS: [Row; 72] = [
+const ROWS: [Row; 77] = [
     Row("true", 0, BuiltIn::True),
     Row("fail", 0, BuiltIn::Fail),
     Row("false", 0, BuiltIn::Fail),
@@ -198,6 +200,15 @@ const ROWS: [Row; 72] = [
     Row("char_code", 2, BuiltIn::Text(Text::CharCode)),
     Row("number_chars", 2, BuiltIn::Text(Text::NumberChars)),
     Row("number_codes", 2, BuiltIn::Text(Text::NumberCodes)),
+    Row("put_char", 1, BuiltIn::Output(Output::PutChar)),
+    Row("nl", 0, BuiltIn::Output(Output::NewLine)),
+    Row("write", 1, BuiltIn::Output(Output::Write)),
+    Row("writeq", 1, BuiltIn::Output(Output::Writeq)),
+    Row(
+        "write_canonical",
+        1,
+        BuiltIn::Output(Output::WriteCanonical),
+    ),
 ];
 
 /// The built-ins, each with its name and arity.

@@ -89,6 +89,21 @@ pub enum Text {
     NumberCodes,
 }
 
+/// A built-in that writes (8.12.3, 8.14.2).
+#[derive(Clone, Copy, Debug, PartialEq, Eq)]
+pub enum Output {
+    /// `put_char/1`: a character (8.12.3).
+    PutChar,
+    /// `nl/0`: a newline (8.12.3).
+    NewLine,
+    /// `write/1`: a term, without quotes (8.14.2).
+    Write,
+    /// `writeq/1`: a term, with quotes where they are needed (8.14.2).
+    Writeq,
+    /// `write_canonical/1`: the same without operators (8.14.2).
+    WriteCanonical,
+}
+
 /// How two integers are compared (8.7).
 #[derive(Clone, Copy, Debug, PartialEq, Eq)]
 pub enum Comparison {

@@ -1,5 +1,6 @@
 -- What goals of built-ins come to (ISO/IEC 13211-1:1995, 7.8 and 8).
-use Rattle.std.specs.Prelude.{ℕ}
+use Rattle.std.specs.Prelude.{ℕ, List}
+use Rattle.iso_ops.specs.Operators.{Operator}
 use Rattle.iso_model.specs.Terms.Trees.{Tree}
 use Rattle.iso_model.specs.Search.Bodies.{Body}
 use Rattle.iso_model.specs.Search.Worlds.{World}
@@ -31,6 +32,8 @@ pub data Reply : Type 0 where
   Halts : (status : ℕ) → Reply
   -- what it comes to rests on the next variable number and on the world
   AsksWorld : (settles : ℕ → World → Settled) → Reply
+  -- these bytes are written, which the operators decide
+  Writes : (bytes : List Operator → List ℕ) → Reply
 
 -- what a goal of a built-in comes to that runs no goal
 pub data Answer : Type 0 where

@@ -12,7 +12,7 @@ use Rattle.iso_model.specs.Terms.Lists.{list_of}
 use Rattle.iso_model.specs.Search.Bodies.{Body, Cut, Run, And, Or, If, Choose, one, converted, body_term, map_body, is_true}
 use Rattle.iso_model.specs.Search.Databases.{Clause, Key, key, key_of, clauses_at, has_clause, without_clause}
 pub use Rattle.iso_model.specs.Search.Worlds.{World, first_world}
-use Rattle.iso_model.specs.Search.BuiltIns.{Reply, Fails, Succeeds, Equates, EquatesCopy, Raises, Calls, CallsOnce, Refutes, Repeats, Catches, Gathers, Halts, AsksWorld, built_in, reply}
+use Rattle.iso_model.specs.Search.BuiltIns.{Reply, Fails, Succeeds, Equates, EquatesCopy, Raises, Calls, CallsOnce, Refutes, Repeats, Catches, Gathers, Halts, AsksWorld, Writes, built_in, reply}
 use Rattle.iso_model.specs.Search.Errors.{type_error_callable, existence_error}
 use Rattle.iso_model.specs.Search.Settlements.{Settled, Refuses, Changes, Offers, Offer, Reference}
 use Rattle.iso_model.specs.declared.built_ins.BuiltIn.{BuiltIn}
@@ -208,6 +208,11 @@ settled (Refuses error) rest s = record s { list = Raise error ∷ rest }
 settled (Changes made w) rest s = record s { list = rest; built = s.built + made; world = w }
 settled (Offers left rights) rest s = offered left rights rest s
 
+-- bytes that are written are an event; no bytes are none (own)
+abbrev pub written : List ℕ → List Member → State → Outcome
+written [] rest s = Goes (record s { list = rest })
+written (b ∷ bytes) rest s = Gives (Wrote (b ∷ bytes)) (record s { list = rest })
+
 -- what a built-in makes is the goal that it runs (own)
 abbrev pub with_goal : Body → State → State
 with_goal b s = record s { built = s.built + size (body_term b) }
@@ -234,6 +239,7 @@ replied (Halts status) rest s = Ends (Halted status) s.world
 replied (Equates made a b) rest s = Goes (equated (under s.subst (unifier_of a b)) rest (record s { built = s.built + made }))
 replied (EquatesCopy a b) rest s = Goes (equated (under s.subst (unifier_of a (apply s.subst (copy_from b s.next)))) rest (with_copy b s))
 replied (AsksWorld settles) rest s = Goes (settled (settles s.next s.world) rest s)
+replied (Writes bytes) rest s = written (bytes s.world.operators) rest s
 
 -- What is left at an alternative is tried. A further solution of `repeat` takes a step (8.15.3; that it does is own). Where the goal of a findall/3 has no
 -- further solution, the result is unified with the list of the copies, whose variables are numbered on from the next number (8.10.1).

@@ -12,10 +12,10 @@ use Rattle.iso_model.specs.Terms.Copies.{copy_from, renamed}
 use Rattle.iso_model.specs.Terms.Lists.{list_of}
 use Rattle.iso_model.specs.Search.Bodies.{Body, Cut, Run, And, Or, If, Choose, map_body, is_true, converted}
 use Rattle.iso_model.specs.Search.Databases.{Clause, Key, key_of, clauses_at}
-use Rattle.iso_model.specs.Search.BuiltIns.{Reply, Fails, Succeeds, Equates, EquatesCopy, Raises, Calls, CallsOnce, Refutes, Repeats, Catches, Gathers, Halts, AsksWorld, built_in, reply}
+use Rattle.iso_model.specs.Search.BuiltIns.{Reply, Fails, Succeeds, Equates, EquatesCopy, Raises, Calls, CallsOnce, Refutes, Repeats, Catches, Gathers, Halts, AsksWorld, Writes, built_in, reply}
 use Rattle.iso_model.specs.Search.Settlements.{Settled, Refuses, Changes, Offers, Offer, Reference}
 use Rattle.iso_model.specs.declared.built_ins.BuiltIn.{BuiltIn}
-use Rattle.iso_model.specs.Search.Walker.{State, World, Member, Goal, CutTo, Fail, Leave, Raise, Meet, Gather, Left, AsIs, Again, Clauses, Catching, Gathering, Offered, Alternative, Outcome, Goes, Gives, Ends, charged, paid, before, entered, under, with_others, tried, retried, backtracked, unknown_called, called, equated, with_rights, taken, met_right, tried_right, is_there, offered, settled, replied, selected, run_goal, run_value, caught_at, caught, thrown, met, gathered, gathered_at, clause_size, shortened, cut_back, pushed, step_goal, step_list, step, opening, started, fails, with_copy}
+use Rattle.iso_model.specs.Search.Walker.{State, World, Member, Goal, CutTo, Fail, Leave, Raise, Meet, Gather, Left, AsIs, Again, Clauses, Catching, Gathering, Offered, Alternative, Outcome, Goes, Gives, Ends, charged, paid, before, entered, under, with_others, tried, retried, backtracked, unknown_called, written, called, equated, with_rights, taken, met_right, tried_right, is_there, offered, settled, replied, selected, run_goal, run_value, caught_at, caught, thrown, met, gathered, gathered_at, clause_size, shortened, cut_back, pushed, step_goal, step_list, step, opening, started, fails, with_copy}
 
 -- The first stack is what is left of the second when some of its newest alternatives are taken away.
 pub data Under : List Alternative → List Alternative → Type 0 where
@@ -233,6 +233,10 @@ called_marked : (cs : Option (List Clause)) (k : Key) (t : Tree) (rest : List Me
 called_marked (Some cs) k t rest s marked stacked = tried_marked t cs rest s marked stacked
 called_marked None k t rest s marked stacked = unknown_marked s.world.flags.unknown k rest s marked stacked
 
+written_marked : (bytes : List ℕ) (rest : List Member) (s : State) → Marked s.stack rest → Stacked s.stack → KeepsMarked (written bytes rest s)
+written_marked [] rest s marked k = record { list = marked; stack = k }
+written_marked (b ∷ bytes) rest s marked k = record { list = marked; stack = k }
+
 replied_marked : (r : Reply) (rest : List Member) (s : State) → Marked s.stack rest → Stacked s.stack → KeepsMarked (replied r rest s)
 replied_marked Fails rest s marked k = fails_marked s k
 replied_marked Succeeds rest s marked k = record { list = marked; stack = k }
@@ -248,6 +252,7 @@ replied_marked (Gathers template b result) rest s marked k = record { list = goa
 replied_marked (Halts status) rest s marked k = tt
 replied_marked Repeats rest s marked k = record { list = marked_on (above all) marked; stack = more marked k }
 replied_marked (AsksWorld settles) rest s marked k = settled_marked (settles s.next s.world) rest s marked k
+replied_marked (Writes bytes) rest s marked k = written_marked (bytes s.world.operators) rest s marked k
 
 selected_marked : (b : Option BuiltIn) (k : Key) (t : Tree) (rest : List Member) (s : State) → Marked s.stack rest → Stacked s.stack → KeepsMarked (selected b k t rest s)
 selected_marked (Some b) k t rest s marked stacked = replied_marked (reply b t) rest s marked stacked

@@ -13,10 +13,10 @@ use Rattle.iso_model.specs.Terms.Copies.{copy_from, renamed, place_of}
 use Rattle.iso_model.specs.Terms.Lists.{list_of}
 use Rattle.iso_model.specs.Search.Bodies.{Body, Cut, Run, And, Or, If, Choose, one, map_body, is_true}
 use Rattle.iso_model.specs.Search.Databases.{Clause, Key, key_of, clauses_at}
-use Rattle.iso_model.specs.Search.BuiltIns.{Reply, Fails, Succeeds, Equates, EquatesCopy, Raises, Calls, CallsOnce, Refutes, Repeats, Catches, Gathers, Halts, AsksWorld, built_in, reply}
+use Rattle.iso_model.specs.Search.BuiltIns.{Reply, Fails, Succeeds, Equates, EquatesCopy, Raises, Calls, CallsOnce, Refutes, Repeats, Catches, Gathers, Halts, AsksWorld, Writes, built_in, reply}
 use Rattle.iso_model.specs.Search.Settlements.{Settled, Refuses, Changes, Offers, Offer}
 use Rattle.iso_model.specs.declared.built_ins.BuiltIn.{BuiltIn}
-use Rattle.iso_model.specs.Search.Walker.{State, World, Member, Goal, CutTo, Fail, Leave, Raise, Meet, Gather, Left, AsIs, Again, Clauses, Catching, Gathering, Offered, Alternative, Event, Ending, Outcome, Goes, Gives, Ends, Answered, NoMore, Budget, Uncaught, Halted, charged, paid, before, entered, under, tried_clause, with_others, tried, retried, backtracked, unknown_called, called, equated, with_rights, without_removed, taken, met_right, tried_right, is_there, offered, settled, with_goal, replied, selected, run_goal, run_value, caught_at, caught, thrown, met, meets, gathered, gathered_at, fails, values, clause_size, shortened, cut_back, pushed, step_goal, step_list, step, with_copy}
+use Rattle.iso_model.specs.Search.Walker.{State, World, Member, Goal, CutTo, Fail, Leave, Raise, Meet, Gather, Left, AsIs, Again, Clauses, Catching, Gathering, Offered, Alternative, Event, Ending, Outcome, Goes, Gives, Ends, Answered, NoMore, Budget, Uncaught, Halted, charged, paid, before, entered, under, tried_clause, with_others, tried, retried, backtracked, unknown_called, written, called, equated, with_rights, without_removed, taken, met_right, tried_right, is_there, offered, settled, with_goal, replied, selected, run_goal, run_value, caught_at, caught, thrown, met, meets, gathered, gathered_at, fails, values, clause_size, shortened, cut_back, pushed, step_goal, step_list, step, with_copy}
 use Rattle.iso_model.specs.Search.Runs.{Quiet, here, onward}
 use Rattle.iso_model.specs.Search.RunLaws.SettingValues.{IsOwnSettled, settings_own}
 use Rattle.iso_model.specs.Search.RunLaws.Values as of
@@ -433,6 +433,11 @@ settled_same s t ms ns (Changes made w) own other at list =
     going (record { agree = at.agree; next = at.next; beside = record { stack = at.beside.stack; world = refl; steps = at.beside.steps } }) list
 settled_same s t ms ns (Offers left rights) own other at list = offered_same s t ms ns left rights own other at list
 
+-- the same bytes are written
+written_same : (s t : State) (ms ns : List Member) (bytes : List ℕ) → Around s t → SameList s.subst t.subst (flat ms) (flat ns) → SameOut (written bytes ms s) (written bytes ns t)
+written_same s t ms ns [] at list = both_go (listed_same s t ms ns s.built t.built at list)
+written_same s t ms ns (b ∷ bytes) at list = both_give (listed_same s t ms ns s.built t.built at list)
+
 replied_same : (s t : State) (ms ns : List Member) (r : Reply) → IsOwnReply s.subst r → IsOwnReply t.subst r → Around s t → SameList s.subst t.subst (flat ms) (flat ns) → SameOut (replied r ms s) (replied r ns t)
 replied_same s t ms ns Fails own other at list = both_go (fails_same at.beside)
 replied_same s t ms ns Succeeds own other at list = both_go (listed_same s t ms ns s.built t.built at list)
@@ -477,6 +482,8 @@ replied_same s t ms ns (Gathers template b result) own other at list =
 replied_same s t ms ns (Halts status) own other at list =
     subst (λ (w : World). SameOut (Ends (Halted status) s.world) (Ends (Halted status) w)) at.beside.world both_end
 replied_same s t ms ns Repeats own other at list = both_go (pushed_same s t Again ms ns ms ns tt tt at list list)
+replied_same s t ms ns (Writes bytes) own other at list =
+    subst (λ (w : World). SameOut (written (bytes s.world.operators) ms s) (written (bytes w.operators) ns t)) at.beside.world (written_same s t ms ns (bytes s.world.operators) at list)
 replied_same s t ms ns (AsksWorld settles) own other at list =
     let x = settles s.next s.world in
     let same : settles s.next s.world ≡ settles t.next t.world = ap₂ settles at.next at.beside.world in

@@ -1,5 +1,5 @@
 -- What a goal's value runs is made of values.
-use Rattle.std.proofs.Common.{◌≡◌, ℕ, List, true, false, Option, Some, None, refl, ap, ap₂, codes, if◌then◌else◌, nat_lt, int_lt, nat_abs, pos, ◌||◌}
+use Rattle.std.proofs.Common.{◌≡◌, ℕ, List, true, false, Option, Some, None, refl, ap, ap₂, codes, if◌then◌else◌, nat_lt, int_lt, nat_abs, pos, ◌||◌, Result, Ok, Err}
 use Rattle.std.specs.Str.{bytes_eq}
 use Rattle.iso_model.specs.Terms.Trees.{Tree, Variable, Integer, Name, Apply, End, More}
 use Rattle.iso_model.specs.Terms.Substitutions.{Subst, apply}
@@ -7,10 +7,13 @@ use Rattle.iso_model.specs.Terms.Arguments.{arguments, argument, others, with_ar
 use Rattle.iso_model.specs.Search.Bodies.{Body, Cut, Run, And, Or, If, Choose, map_body, either, both, converted, converted_two, one, two}
 use Rattle.iso_model.specs.Search.Keys.{Key, key}
 use Rattle.iso_model.specs.Search.Errors.{domain_error, max_arity_error, type_error}
-use Rattle.iso_model.specs.Search.BuiltIns.{Reply, Fails, Succeeds, Equates, EquatesCopy, Raises, Calls, CallsOnce, Refutes, Repeats, Catches, Gathers, Halts, AsksWorld, converted_reply, goal_reply, called_reply, findall_reply, throw_reply, halt_reply, answered, reply}
+use Rattle.iso_model.specs.Search.BuiltIns.{Reply, Fails, Succeeds, Equates, EquatesCopy, Raises, Calls, CallsOnce, Refutes, Repeats, Catches, Gathers, Halts, AsksWorld, Writes, converted_reply, goal_reply, called_reply, findall_reply, throw_reply, halt_reply, answered, reply}
 use Rattle.iso_model.specs.Terms.Lists.{is_partial_list}
 use Rattle.iso_model.specs.Search.Library.{library_answer}
-use Rattle.iso_model.specs.Search.AtomTexts.{text_answer}
+use Rattle.iso_model.specs.Search.AtomTexts.{text_answer, Characters, element_code}
+use Rattle.iso_model.specs.Search.Outputs.{put_code, put_char_key, output_reply}
+use Rattle.iso_model.specs.declared.library.Output.{Output}
+use Rattle.iso_model.specs.declared.library.Output.TheVariants as output
 use Rattle.iso_model.specs.Search.Replies.{Answer, Fail, Succeed, Equate, EquateCopy, Raise}
 use Rattle.iso_model.specs.Search.Walker.{Left, AsIs, Again, Clauses, Catching, Gathering, Offered}
 use Rattle.iso_model.specs.Search.Worlds.{World}
@@ -117,6 +120,7 @@ IsOwnReply r (Catches inside catcher recovery) = IsOwnReply r inside × IsValue 
 IsOwnReply r (Gathers template b result) = IsValue r template × IsOwnBody r b × IsValue r result
 IsOwnReply r (Halts status) = Unit {0}
 IsOwnReply r (AsksWorld settles) = (n : ℕ) (w : World) → IsOwnSettled r (settles n w)
+IsOwnReply r (Writes bytes) = Unit {0}
 
 converted_reply_own : (r : Subst) (runs : Body → Reply) (o : Option Body) (goal : Tree) (k : Key) → ((b : Body) → IsOwnBody r b → IsOwnReply r (runs b)) → IsOwnOption r o → IsOwnReply r (converted_reply runs o goal k)
 converted_reply_own r runs (Some b) goal k keeps own = keeps b own
@@ -172,6 +176,18 @@ answered_own r (Equate made a b) own = own
 answered_own r (EquateCopy a b) own = own
 answered_own r (Raise error) own = tt
 
+-- what is written is no term
+put_own : (r : Subst) (found : Result ℕ Tree) → IsOwnReply r (put_code found)
+put_own r (Ok code) = tt
+put_own r (Err error) = tt
+
+output_own : (r : Subst) (row : Output) (t : Tree) → IsOwnReply r (output_reply row t)
+output_own r output.PutChar t = put_own r (element_code Characters (argument 0 t) put_char_key)
+output_own r output.NewLine t = tt
+output_own r output.Write t = tt
+output_own r output.Writeq t = tt
+output_own r output.WriteCanonical t = tt
+
 pub reply_own : (r : Subst) (b : BuiltIn) (v : Tree) → IsValue r v → IsOwnReply r (reply b v)
 reply_own r built_in.True v own = tt
 reply_own r built_in.Fail v own = tt
@@ -192,3 +208,4 @@ reply_own r (built_in.Library row) v own = answered_own r (library_answer row v)
 reply_own r (built_in.Setting row) v own = λ n w. settings_own r row v w own
 reply_own r (built_in.Storage row) v own = λ n w. storages_own r row v n w own
 reply_own r (built_in.Text row) v own = answered_own r (text_answer row v) (texts_own r row v own)
+reply_own r (built_in.Output row) v own = output_own r row v
