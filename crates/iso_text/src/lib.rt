@@ -1,0 +1,12 @@
+//! Built-ins on the characters of atoms and on the texts of numbers, and built-ins that write (ISO/IEC 13211-1:1995, 8.12.3, 8.14.2, 8.16), over any store of terms.
+#![tactic(auto)]
+
+mod atoms;
+mod characters;
+mod lengths;
+mod numbers;
+mod outputs;
+mod texts;
+
+pub use outputs::output;
+pub use texts::builtin;
