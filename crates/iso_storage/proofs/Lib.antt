@@ -5,3 +5,4 @@ pub mod RowLemmas
 pub mod KeptPrograms
 pub mod AdditionLemmas
 pub mod MatchLemmas
+pub mod DeclarationLemmas
