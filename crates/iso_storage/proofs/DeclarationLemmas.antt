@@ -1,13 +1,14 @@
 -- Declarations of procedures: which are named, and the database behind them.
-use Rattle.std.proofs.Common.{◌≡◌, ◌<◌, ℕ, zero, suc, List, [], ◌∷◌, ◌++◌, length, map, refl, sym, ap, ◌∙◌, subst, Bool, true, false, Option, Some, None, unwrap_or, is_ok, arith, if◌then◌else◌, Vec, Global, Result, Ok, Err}
+use Rattle.std.proofs.Common.{◌≡◌, ◌<◌, ◌+◌, ℕ, zero, suc, take, get_or, List, [], ◌∷◌, ◌++◌, length, map, refl, sym, ap, ◌∙◌, subst, Bool, true, false, Option, Some, None, unwrap_or, is_ok, arith, if◌then◌else◌, Vec, Global, Result, Ok, Err}
 use Rattle.std.specs.Prelude.{OnOk, OnErr}
 use Rattle.std.specs.List.{All, list_any, slice_get}
 use Rattle.std.specs.Option.{option_and_then}
-use Rattle.std.proofs.lemmas.List.{append_assoc, append-nil}
+use Rattle.std.proofs.lemmas.List.{append_assoc, append-nil, take_more}
 use Rattle.std.proofs.lemmas.Option.{slice_get-get_or}
 use Rattle.std.proofs.lemmas.List.Elements.{All-nil, All-cons}
 use Rattle.iso_atoms.specs.Texts.{text_at}
-use Rattle.iso_model.specs.Terms.Trees.{Tree}
+use Rattle.iso_model.specs.Terms.Trees.{Tree, arities_fit}
+use Rattle.iso_model.specs.Terms.TermOf.{term_of}
 use Rattle.iso_model.specs.Terms.Types.{is_variable}
 use Rattle.iso_model.specs.Search.BuiltIns.{built_in}
 use Rattle.iso_model.specs.Search.Databases as databases
@@ -23,6 +24,9 @@ use Rattle.iso_db.specs.declared.kinds.Kind.{Kind}
 use Rattle.iso_db.specs.declared.kinds.Kind.TheVariants as kind
 use Rattle.iso_db.specs.declared.kinds.DbFault.{DbFault}
 use Rattle.iso_store_core.specs.Presents.{Present, meaning}
+use Rattle.iso_store_core.specs.Shapes.{IsShape}
+use Rattle.iso_store_core.specs.declared.shapes.Shape.{Shape}
+use Rattle.iso_store_core.specs.declared.shapes.Shape.TheVariants as shape
 use Rattle.iso_lib_core.specs.declared.outcomes.Fault.{Fault}
 use Rattle.iso_lib_core.specs.declared.outcomes.Fault.TheVariants as fault
 use Rattle.iso_lib.specs.Indicators.{IsFunctor, IsIndicated}
@@ -36,6 +40,13 @@ use Rattle.iso_plain_core.proofs.ProgramLemmas.{place_within, same_place}
 use Rattle.iso_storage.specs.Storing.{IsProgram, IsChanged}
 use Rattle.iso_storage.specs.Declaring.{AreParts, AreFunctors, AreIndicated, AreChecked, IsOnlyChecked, IsUser, IsPlaced, ArePlaced, all_dynamic}
 use Rattle.iso_storage.proofs.HeadLemmas.{free_alone}
+
+-- what is no variable
+pub not_variable : (names : List (List ℕ)) (s : Shape) (t : Tree) → IsShape names s t → ((n : _) → s ≡ shape.Var n → ⊥) → is_variable t ≡ false
+not_variable names (shape.Var n) t is other = absurd (other n refl)
+not_variable names (shape.Int z) t is other = ap is_variable is
+not_variable names (shape.Atom a) t is other = ap is_variable is.1
+not_variable names (shape.Compound f n) t is other = ap is_variable is.2
 
 -- ---- which procedures are named
 
@@ -112,8 +123,7 @@ some_named names check (t ∷ ts) fs h some = omega arith
 
 module _ (ps : Procedures) (names : List (List ℕ)) where
   abbrev free_key : Bool → Key → Result Key Tree
-  free_key true k = Err (permission_error k dynamic_key)
-  free_key false k = Ok k
+  free_key b k = if b then Err (permission_error k dynamic_key) else Ok k
 
   user_of : (r : Result Key Tree) (k : Key) (f : Functor) → changeable ps dynamic_key r ≡ Ok k → IsFunctor names k f → IsUser names f
   user_of (Err error) k f h is = absurd (cc h)
@@ -126,27 +136,52 @@ module _ (ps : Procedures) (names : List (List ℕ)) where
 
   users : (ts : List Tree) (ks : List Key) (fs : List Functor) → all_indicated (λ p. changeable ps dynamic_key (indicated p dynamic_key)) ts ≡ Ok ks → AreFunctors names ks fs → All (IsUser names) fs
   users [] ks fs h are = by_none ks fs h are where
-    by_none : (js : List Key) (gs : List Functor) → Ok [] ≡ Ok js → AreFunctors names js gs → All (IsUser names) gs
+    by_none : (js : List Key) (gs : List Functor) → all_indicated (λ p. changeable ps dynamic_key (indicated p dynamic_key)) [] ≡ Ok js → AreFunctors names js gs → All (IsUser names) gs
     by_none [] [] h are = All-nil (IsUser names)
     by_none [] (g ∷ gs) h are = absurd are
     by_none (j ∷ js) gs h are = absurd (cc h)
-  users (t ∷ ts) ks fs h are = by_parts (changeable ps dynamic_key (indicated t dynamic_key)) (all_indicated (λ p. changeable ps dynamic_key (indicated p dynamic_key)) ts) refl refl h where
-    by_functors : (k : Key) (js : List Key) (gs : List Functor) → changeable ps dynamic_key (indicated t dynamic_key) ≡ Ok k → all_indicated (λ p. changeable ps dynamic_key (indicated p dynamic_key)) ts ≡ Ok js
-        → AreFunctors names (k ∷ js) gs → All (IsUser names) gs
+  users (t ∷ ts) ks fs h are = by_parts (changeable ps dynamic_key (indicated t dynamic_key)) (all_indicated (λ p. changeable ps dynamic_key (indicated p dynamic_key)) ts) refl refl (λ js gs others more. users ts js gs others more) h where
+    by_functors : (k : Key) (js : List Key) (gs : List Functor) → changeable ps dynamic_key (indicated t dynamic_key) ≡ Ok k → ((hs : List Functor) → AreFunctors names js hs → All (IsUser names) hs) → AreFunctors names (k ∷ js) gs → All (IsUser names) gs
     by_functors k js [] one others h = absurd h
-    by_functors k js (g ∷ gs) one others h = All-cons (IsUser names) g gs (user_of (indicated t dynamic_key) k g one h.0) (users ts js gs others h.1)
+    by_functors k js (g ∷ gs) one others h = All-cons (IsUser names) g gs (user_of (indicated t dynamic_key) k g one h.0) (others gs h.1)
 
     by_parts : (r : Result Key Tree) (rs : Result (List Key) Tree) → changeable ps dynamic_key (indicated t dynamic_key) ≡ r → all_indicated (λ p. changeable ps dynamic_key (indicated p dynamic_key)) ts ≡ rs
-        → indicated_next r rs ≡ Ok ks → All (IsUser names) fs
-    by_parts (Err error) rs one others h = absurd (cc h)
-    by_parts (Ok k) (Err error) one others h = absurd (cc h)
-    by_parts (Ok k) (Ok js) one others h = (let same : k ∷ js ≡ ks = cc h in by_functors k js fs one others (subst (λ (xs : List Key). AreFunctors names xs fs) (sym same) are))
+        → ((js : List Key) (gs : List Functor) → all_indicated (λ p. changeable ps dynamic_key (indicated p dynamic_key)) ts ≡ Ok js → AreFunctors names js gs → All (IsUser names) gs) → indicated_next r rs ≡ Ok ks → All (IsUser names) fs
+    by_parts (Err error) rs one others rest h = absurd (cc h)
+    by_parts (Ok k) (Err error) one others rest h = absurd (cc h)
+    by_parts (Ok k) (Ok js) one others rest h =
+        let same : k ∷ js ≡ ks = cc h in
+        by_functors k js fs one (λ gs more. rest js gs others more) (subst (λ (xs : List Key). AreFunctors names xs fs) (sym same) are)
 
   pub indicated_users : (ts : List Tree) (fs : Vec Functor Global) → AreIndicated names (all_indicated (λ p. changeable ps dynamic_key (indicated p dynamic_key)) ts) (Ok fs) → All (IsUser names) fs.items
   indicated_users ts fs h = by_asked (all_indicated (λ p. changeable ps dynamic_key (indicated p dynamic_key)) ts) refl h where
     by_asked : (r : Result (List Key) Tree) → all_indicated (λ p. changeable ps dynamic_key (indicated p dynamic_key)) ts ≡ r → AreIndicated names r (Ok fs) → All (IsUser names) fs.items
     by_asked (Ok ks) is h = users ts ks fs.items is h
     by_asked (Err error) is h = absurd h
+
+  -- what is changeable
+  named_no_memory : (r : Result Key Tree) → IsIndicated names r (Err fault.NoMemory)
+  named_no_memory (Ok k) = tt
+  named_no_memory (Err error) = tt
+
+  pub changeable_no_memory : (r : Result Key Tree) → IsIndicated names (changeable ps dynamic_key r) (Err fault.NoMemory)
+  changeable_no_memory r = named_no_memory (changeable ps dynamic_key r)
+
+  pub changeable_refused : (r : Result Key Tree) (e : Fault) → IsIndicated names r (Err e) → IsIndicated names (changeable ps dynamic_key r) (Err e)
+  changeable_refused (Ok k) (fault.Raise ball) h = absurd h
+  changeable_refused (Ok k) fault.Full h = absurd h
+  changeable_refused (Ok k) fault.NoMemory h = named_no_memory (free_key (is_fixed ps k) k)
+  changeable_refused (Err error) e h = h
+
+  pub changeable_fixed : (r : Result Key Tree) (k j : Key) (ball : Ball) → r ≡ Ok k → is_fixed ps k ≡ true → k ≡ j → term_of ball.term ≡ permission_error j dynamic_key → IsIndicated names (changeable ps dynamic_key r) (Err (fault.Raise ball))
+  changeable_fixed r k j ball is fixed same error =
+      let refused : changeable ps dynamic_key r ≡ Err (permission_error j dynamic_key) = ap (changeable ps dynamic_key) is ∙ ap (λ b. free_key b k) fixed ∙ ap (λ (x : Key). Err (permission_error x dynamic_key)) same in
+      subst (λ (x : Result Key Tree). IsIndicated names x (Err (fault.Raise ball))) (sym refused) (error, ap arities_fit error)
+
+  pub changeable_free : (r : Result Key Tree) (k : Key) (f : Functor) → r ≡ Ok k → is_fixed ps k ≡ false → IsFunctor names k f → IsIndicated names (changeable ps dynamic_key r) (Ok f)
+  changeable_free r k f is free named =
+      let stays : changeable ps dynamic_key r ≡ Ok k = ap (changeable ps dynamic_key) is ∙ ap (λ b. free_key b k) free in
+      subst (λ (x : Result Key Tree). IsIndicated names x (Ok f)) (sym stays) named
 
 -- ---- their places
 
@@ -164,6 +199,14 @@ placed_more names d rows [] [] f p h is = (is, tt)
 placed_more names d rows [] (q ∷ ps) f p h is = absurd h
 placed_more names d rows (g ∷ fs) [] f p h is = absurd h
 placed_more names d rows (g ∷ fs) (q ∷ ps) f p h is = (h.0, placed_more names d rows fs ps f p h.1 is)
+
+-- the next one's place
+pub placed_next : (names : List (List ℕ)) (d : Database Clause) (rows : List (Vec Callable Global)) (fs : List Functor) (i : ℕ) (f : Functor) (ps qs : List ℕ) (p : ℕ) → i < length fs → f ≡ get_or fs i f → qs ≡ ps ++ p ∷ []
+    → ArePlaced names d rows (take i fs) ps → IsPlaced names d rows f p → ArePlaced names d rows (take (i + 1) fs) qs
+placed_next names d rows fs i f ps qs p within here more h is =
+    let first : take (i + 1) fs ≡ take i fs ++ f ∷ [] = take_more fs i f within ∙ ap (λ x. take i fs ++ x ∷ []) (sym here) in
+    subst (λ (xs : List Functor). ArePlaced names d rows xs qs) (sym first)
+    (subst (λ (xs : List ℕ). ArePlaced names d rows (take i fs ++ f ∷ []) xs) (sym more) (placed_more names d rows (take i fs) ps f p h is))
 
 pub placed_within : (names : List (List ℕ)) (d : Database Clause) (rows : List (Vec Callable Global)) (fs : List Functor) (ps : List ℕ) → ArePlaced names d rows fs ps → All (λ p. p < length d.procedures) ps
 placed_within names d rows [] [] h = All-nil (λ p. p < length d.procedures)

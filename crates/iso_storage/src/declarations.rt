@@ -103,8 +103,8 @@ fn changeable<S: Store>(
     requires each_once { EachOnce (S.names store.now) }
     requires indicator { Holds (S.present store.now) indicator }
     requires program { (m : databases.Database) × IsProgram (S.names store.now) (contents db.now) callables.now m }
-    ensures { (w : World) → IsProgram (S.names store.now) (contents db.now) callables.now w.database
-        → IsIndicated (S.names store.now) (changeable w.database.procedures dynamic_key (indicated (meaning (S.present store.now) indicator) dynamic_key)) result }
+    ensures { (m : databases.Database) → IsProgram (S.names store.now) (contents db.now) callables.now m
+        → IsIndicated (S.names store.now) (changeable m.procedures dynamic_key (indicated (meaning (S.present store.now) indicator) dynamic_key)) result }
 {
     let Functor { name, arity } = indicated(alloc, store, indicator, "dynamic")?;
     let text = store.text(name);
@@ -126,8 +126,8 @@ fn all_changeable<S: Store>(
     requires each_once { 0 < length indicators.now → EachOnce (S.names store.now) }
     requires indicators { All (λ w. Holds (S.present store.now) w) indicators.now }
     requires program { (m : databases.Database) × IsProgram (S.names store.now) (contents db.now) callables.now m }
-    ensures { (w : World) → IsProgram (S.names store.now) (contents db.now) callables.now w.database
-        → AreIndicated (S.names store.now) (all_indicated (λ p. changeable w.database.procedures dynamic_key (indicated p dynamic_key)) (map (meaning (S.present store.now)) indicators.now)) result }
+    ensures { (m : databases.Database) → IsProgram (S.names store.now) (contents db.now) callables.now m
+        → AreIndicated (S.names store.now) (all_indicated (λ p. changeable m.procedures dynamic_key (indicated p dynamic_key)) (map (meaning (S.present store.now)) indicators.now)) result }
 {
     let mut functors = Vec::new(alloc);
     for indicator in indicators {
