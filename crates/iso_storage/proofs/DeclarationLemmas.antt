@@ -105,6 +105,15 @@ checked_refused names (Err error) (fault.Raise ball) h = h
 checked_refused names (Err error) fault.Full h = absurd h
 checked_refused names (Err error) fault.NoMemory h = tt
 
+abbrev failed : Fault → Result Unit Fault
+failed e = Err e
+
+pub never_full : (names : List (List ℕ)) (asked : Result (List Key) Tree) (e : Fault) → AreIndicated names asked (Err e) → (failed e ≡ Err fault.Full → ⊥)
+never_full names asked (fault.Raise ball) h is = cc is
+never_full names (Ok ks) fault.Full h is = absurd h
+never_full names (Err error) fault.Full h is = absurd h
+never_full names asked fault.NoMemory h is = cc is
+
 pub functors_more : (names : List (List ℕ)) (ks : List Key) (fs : List Functor) (k : Key) (f : Functor) → AreFunctors names ks fs → IsFunctor names k f → AreFunctors names (ks ++ k ∷ []) (fs ++ f ∷ [])
 functors_more names [] [] k f h is = (is, tt)
 functors_more names [] (g ∷ fs) k f h is = absurd h
