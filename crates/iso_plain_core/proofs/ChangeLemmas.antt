@@ -44,7 +44,7 @@ module _ {old new : List (List ℕ)} (keeps : KeepsTexts old new) where
   pub finds_kept : {rows : List (Vec Callable Global)} {d : Database Clause} → Finds old rows d → Finds new rows d
   finds_kept {rows = rows} is = record { calls = is.calls; indexes = index_kept old new rows is.calls keeps is.indexes; agrees = is.agrees }
 
--- ---- what becomes of one procedure
+-- ---- what is done to a procedure, on both sides
 
 kind_less : (n : ℕ) (o : Option (Procedure Clause)) → kind_of (option_map (db.one_less n) o) ≡ kind_of o
 kind_less n None = refl
@@ -56,12 +56,23 @@ procedure_less names n None ks (Some p) is = is
 procedure_less names n (Some x) ks None is = is
 procedure_less names n (Some x) ks (Some p) is = (is.0, clauses_less (λ a. not (a == n)) is.1)
 
-abbrev gone : Procedure Clause → Procedure Clause
+procedure_has : (names : List (List ℕ)) (n : ℕ) (x : Option Kind) (ks : List (db.Clause Clause)) (o : Option databases.Procedure) → IsProcedure names x ks o → has_in ks n ≡ list_any (λ c. c.number == n) (unwrap_or (option_map (λ p. p.clauses) o) [])
+procedure_has names n None ks None is = ap (λ xs. has_in xs n) is
+procedure_has names n None ks (Some p) is = absurd is
+procedure_has names n (Some x) ks None is = absurd is
+procedure_has names n (Some x) ks (Some p) is = has_same n is.1
+
+-- a procedure that is taken away
+abbrev pub gone : Procedure Clause → Procedure Clause
 gone p = record p { kind = None; clauses = [] }
 
 no_kind : (o : Option (Procedure Clause)) → kind_of (option_map gone o) ≡ None
 no_kind None = refl
 no_kind (Some p) = refl
+
+-- one that is declared
+abbrev pub declared : Procedure Clause → Procedure Clause
+declared p = record p { kind = Some (unwrap_or p.kind kind.Dynamic) }
 
 procedure_declared : (names : List (List ℕ)) (k : Key) (x : Option Kind) (ks : List (db.Clause Clause)) (o : Option databases.Procedure) → IsProcedure names x ks o → IsProcedure names (Some (unwrap_or x kind.Dynamic)) ks (Some (grown (λ cs. cs) Dynamic k o))
 procedure_declared names k None ks None is = (tt, subst (λ (xs : List (db.Clause Clause)). AreClauses names xs []) (sym is) no_clauses)
@@ -69,52 +80,46 @@ procedure_declared names k None ks (Some p) is = absurd is
 procedure_declared names k (Some x) ks None is = absurd is
 procedure_declared names k (Some x) ks (Some p) is = is
 
-module _ {names : List (List ℕ)} (d : Database Clause) (m : databases.Database) (k : Key) (place : ℕ) (at : place_at d k ≡ Some place) where
-  -- ---- a clause is removed
+-- ---- so in a database
 
-  pub database_less : (n : ℕ) → IsDatabase names d m → IsDatabase names (db.without_clause_at place n d) (record m { procedures = without_clause m.procedures k n })
-  database_less n is =
+module _ (d : Database Clause) (m : databases.Database) (k : Key) (place : ℕ) (at : place_at d k ≡ Some place) where
+  -- a clause is removed
+  pub database_less : {names : List (List ℕ)} (n : ℕ) → IsDatabase names d m → IsDatabase names (db.without_clause_at place n d) (record m { procedures = without_clause m.procedures k n })
+  database_less {names = names} n is =
       database_changed (db.one_less n) (λ p. refl) d.added d place k m (record m { procedures = without_clause m.procedures k n }) at (omega arith) is.added
       (λ j apart. less_other m.procedures k j n apart) (λ p was. numbered_less d.added (λ c. not (c.number == n)) p.clauses was)
       (λ p was. subst (λ (o : Option databases.Procedure). IsProcedure names p.kind (filter (λ c. not (c.number == n)) p.clauses) o) (sym (less_same m.procedures k n)) (procedure_less names n p.kind p.clauses (procedure_with m.procedures k) was)) is
 
-  pub finds_less : {rows : List (Vec Callable Global)} (n : ℕ) → Finds names rows d → Finds names rows (db.without_clause_at place n d)
-  finds_less {rows = rows} n is =
+  pub finds_less : {names : List (List ℕ)} {rows : List (Vec Callable Global)} (n : ℕ) → Finds names rows d → Finds names rows (db.without_clause_at place n d)
+  finds_less {names = names} {rows = rows} n is =
       finds_absent names rows (db.one_less n) (λ p. refl) d.added d place k at is (λ none. ap kind_of (kept_here (db.one_less n) (λ p. refl) d.added d place k at) ∙ kind_less n (kept_at d k) ∙ none)
 
   -- whether it is there
-  pub has_at : (n : ℕ) → IsDatabase names d m → has_in (db.clauses_at d place) n ≡ has_clause m.procedures k n
-  has_at n is =
+  pub has_at : {names : List (List ℕ)} (n : ℕ) → IsDatabase names d m → has_in (db.clauses_at d place) n ≡ has_clause m.procedures k n
+  has_at {names = names} n is =
       ap (λ o. has_in (db.clauses_of o) n) (sym (kept_there d k place at))
-      ∙ by_kind (kind_of (kept_at d k)) (db.clauses_of (kept_at d k)) (procedure_with m.procedures k) (is.procedures k)
-      ∙ ap (λ o. list_any (λ (c : databases.Clause). c.number == n) (unwrap_or o [])) (sym (clauses_with m.procedures k)) where
-        by_kind : (x : Option Kind) (ks : List (db.Clause Clause)) (o : Option databases.Procedure) → IsProcedure names x ks o → has_in ks n ≡ list_any (λ (c : databases.Clause). c.number == n) (unwrap_or (option_map (λ p. p.clauses) o) [])
-        by_kind None ks None h = ap (λ xs. has_in xs n) h
-        by_kind None ks (Some p) h = absurd h
-        by_kind (Some x) ks None h = absurd h
-        by_kind (Some x) ks (Some p) h = has_same n h.1
+      ∙ procedure_has names n (kind_of (kept_at d k)) (db.clauses_of (kept_at d k)) (procedure_with m.procedures k) (is.procedures k)
+      ∙ ap (λ o. list_any (λ c. c.number == n) (unwrap_or o [])) (sym (clauses_with m.procedures k))
 
-  -- ---- the procedure is taken away
-
-  pub database_gone : IsDatabase names d m → IsDatabase names (db.without_procedure place d) (record m { procedures = without_procedure m.procedures k })
-  database_gone is =
-      database_changed (λ p. record p { kind = None; clauses = [] }) (λ p. refl) d.added d place k m (record m { procedures = without_procedure m.procedures k }) at (omega arith) is.added
+  -- the procedure is taken away
+  pub database_gone : {names : List (List ℕ)} → IsDatabase names d m → IsDatabase names (db.without_procedure place d) (record m { procedures = without_procedure m.procedures k })
+  database_gone {names = names} is =
+      database_changed gone (λ p. refl) d.added d place k m (record m { procedures = without_procedure m.procedures k }) at (omega arith) is.added
       (λ j apart. gone_other m.procedures k j apart) (λ p was. tt)
       (λ p was. subst (λ (o : Option databases.Procedure). IsProcedure names None [] o) (sym (gone_same m.procedures k)) refl) is
 
-  pub finds_gone : {rows : List (Vec Callable Global)} → Finds names rows d → Finds names rows (db.without_procedure place d)
-  finds_gone {rows = rows} is =
-      finds_absent names rows (λ p. record p { kind = None; clauses = [] }) (λ p. refl) d.added d place k at is
-      (λ none. ap kind_of (kept_here (λ p. record p { kind = None; clauses = [] }) (λ p. refl) d.added d place k at) ∙ no_kind (kept_at d k))
+  pub finds_gone : {names : List (List ℕ)} {rows : List (Vec Callable Global)} → Finds names rows d → Finds names rows (db.without_procedure place d)
+  finds_gone {names = names} {rows = rows} is =
+      finds_absent names rows gone (λ p. refl) d.added d place k at is
+      (λ none. ap kind_of (kept_here gone (λ p. refl) d.added d place k at) ∙ no_kind (kept_at d k))
 
-  -- ---- the procedure is declared
-
-  pub database_declared : IsDatabase names d m → IsDatabase names (db.with_kind kind.Dynamic place d) (record m { procedures = with_declared m.procedures k })
-  database_declared is =
-      database_changed (λ p. record p { kind = Some (unwrap_or p.kind kind.Dynamic) }) (λ p. refl) d.added d place k m (record m { procedures = with_declared m.procedures k }) at (omega arith) is.added
+  -- the procedure is declared
+  pub database_declared : {names : List (List ℕ)} → IsDatabase names d m → IsDatabase names (db.with_kind kind.Dynamic place d) (record m { procedures = with_declared m.procedures k })
+  database_declared {names = names} is =
+      database_changed declared (λ p. refl) d.added d place k m (record m { procedures = with_declared m.procedures k }) at (omega arith) is.added
       (λ j apart. with_other (λ cs. cs) Dynamic m.procedures k j apart) (λ p was. was)
       (λ p was. subst (λ (o : Option databases.Procedure). IsProcedure names (Some (unwrap_or p.kind kind.Dynamic)) p.clauses o) (sym (with_same (λ cs. cs) Dynamic m.procedures k)) (procedure_declared names k p.kind p.clauses (procedure_with m.procedures k) was)) is
 
-  pub finds_declared : {rows : List (Vec Callable Global)} (g : Functor) (text : List ℕ) → slice_get names g.name ≡ Some text → k ≡ key text g.arity → callee_at rows g.name g.arity ≡ Some (callee.User place) → Finds names rows d → Finds names rows (db.with_kind kind.Dynamic place d)
-  finds_declared {rows = rows} g text atom named found is =
-      finds_called names rows (λ p. record p { kind = Some (unwrap_or p.kind kind.Dynamic) }) (λ p. refl) d.added d place k at is g text atom named found
+  pub finds_declared : {names : List (List ℕ)} {rows : List (Vec Callable Global)} (g : Functor) (text : List ℕ) → slice_get names g.name ≡ Some text → k ≡ key text g.arity → callee_at rows g.name g.arity ≡ Some (callee.User place) → Finds names rows d → Finds names rows (db.with_kind kind.Dynamic place d)
+  finds_declared {names = names} {rows = rows} g text atom named found is =
+      finds_called names rows declared (λ p. refl) d.added d place k at is g text atom named found
