@@ -5,3 +5,6 @@ pub mod RowLemmas
 pub mod KeptPrograms
 pub mod AdditionLemmas
 pub mod MatchLemmas
+pub mod MatchingLemmas
+pub mod RemovalLemmas
+pub mod GoneLemmas

@@ -1,0 +1,71 @@
+-- What goals come to that remove clauses or a procedure.
+use Rattle.std.proofs.Common.{◌≡◌, ℕ, List, Bool, true, false, Option, Some, None, refl, sym, ap, ◌∙◌, subst, Result, Ok, Err, if◌then◌else◌, not, Vec, Global}
+use Rattle.std.specs.List.{filter}
+use Rattle.std.specs.Result.{IsErrAnd}
+use Rattle.iso_model.specs.Terms.Trees.{Tree}
+use Rattle.iso_model.specs.Terms.TermOf.{term_of}
+use Rattle.iso_model.specs.Search.Databases.{Key, Dynamic, with_clauses, without_procedure}
+use Rattle.iso_model.specs.Search.Errors.{permission_error}
+use Rattle.iso_model.specs.Search.Settlements.{Settled, Refuses, Changes}
+use Rattle.iso_model.specs.Search.Storages.{with_head, is_fixed, clauses_of, with_procedures, head_unifies, largest_head, retractall_key, retractall_named, retractall_changed, retractall_settled, changeable, abolished, abolish_key, abolish_settled, indicated}
+use Rattle.iso_model.specs.Search.Worlds.{World}
+use Rattle.iso_model.specs.declared.pauses.Ball.{Ball}
+use Rattle.iso_db.specs.Databases.{Database}
+use Rattle.iso_lib_core.specs.declared.outcomes.Fault.{Fault}
+use Rattle.iso_lib_core.specs.declared.outcomes.Fault.TheVariants as fault
+use Rattle.iso_lib.specs.Indicators.{IsFunctor, IsIndicated}
+use Rattle.iso_lib.specs.declared.indicators.Functor.{Functor}
+use Rattle.iso_plain_core.specs.declared.callables.Callable.{Callable}
+use Rattle.iso_plain_core.specs.declared.clauses.Clause.{Clause}
+use Rattle.iso_storage.specs.Storing.{IsChanged, HasHead}
+
+-- a fault that is handed on is no success
+pub handed_on : (names : List (List ℕ)) (d : Database Clause) (rows : List (Vec Callable Global)) (w : World) (s : Settled) (e : Fault) (r : Result Unit Fault) → IsErrAnd r (λ x. x ≡ e) → IsChanged names d rows w s (Err e) → IsChanged names d rows w s r
+handed_on names d rows w s e (Ok u) is h = absurd is
+handed_on names d rows w s e (Err x) is h = subst (λ (f : Fault). IsChanged names d rows w s (Err f)) (sym is) h
+
+-- ---- retractall/1
+
+-- the head is that of no procedure
+pub head_refused : (names : List (List ℕ)) (d : Database Clause) (rows : List (Vec Callable Global)) (w : World) (h : Tree) (by : Key) (goes_on : Key → Settled) (e : Fault) → HasHead names h by (Err e) → IsChanged names d rows w (with_head h by goes_on) (Err e)
+head_refused names d rows w h by goes_on (fault.Raise ball) is = is goes_on
+head_refused names d rows w h by goes_on fault.Full is = absurd is
+head_refused names d rows w h by goes_on fault.NoMemory is = tt
+
+module _ (h : Tree) (next : ℕ) (w : World) (k : Key) (headed : (goes_on : Key → Settled) → with_head h retractall_key goes_on ≡ goes_on k) where
+  retractall_is : (b : Bool) → is_fixed w.database.procedures k ≡ b → retractall_settled h next w ≡ (if b then Refuses (permission_error k retractall_key) else retractall_changed h next w k)
+  retractall_is b fixed = headed (λ x. retractall_named h next w x) ∙ ap (λ (x : Bool). if x then Refuses (permission_error k retractall_key) else retractall_changed h next w k) fixed
+
+  pub retractall_refuses : is_fixed w.database.procedures k ≡ true → retractall_settled h next w ≡ Refuses (permission_error k retractall_key)
+  retractall_refuses fixed = retractall_is true fixed
+
+  pub retractall_changes : is_fixed w.database.procedures k ≡ false → retractall_settled h next w ≡ Changes (largest_head (clauses_of w.database.procedures k)) (with_procedures w (with_clauses (filter (λ c. not (head_unifies h next c))) Dynamic w.database.procedures k))
+  retractall_changes free = retractall_is false free
+
+-- ---- abolish/1
+
+-- the indicator names no procedure
+pub indicator_refused : (names : List (List ℕ)) (d : Database Clause) (rows : List (Vec Callable Global)) (t : Tree) (w : World) (e : Fault) → IsIndicated names (indicated t abolish_key) (Err e) → IsChanged names d rows w (abolish_settled t w) (Err e)
+indicator_refused names d rows t w e is = by_asked (indicated t abolish_key) e is where
+  by_asked : (r : Result Key Tree) (e : Fault) → IsIndicated names r (Err e) → IsChanged names d rows w (abolished w (changeable w.database.procedures abolish_key r)) (Err e)
+  by_asked (Ok k) (fault.Raise ball) h = absurd h
+  by_asked (Ok k) fault.Full h = absurd h
+  by_asked (Ok k) fault.NoMemory h = tt
+  by_asked (Err error) (fault.Raise ball) h = h
+  by_asked (Err error) fault.Full h = absurd h
+  by_asked (Err error) fault.NoMemory h = tt
+
+-- the procedure that it names
+pub indicated_key : (names : List (List ℕ)) (r : Result Key Tree) (f : Functor) → IsIndicated names r (Ok f) → (k : Key) × (r ≡ Ok k) × IsFunctor names k f
+indicated_key names (Ok k) f h = (k, refl, h)
+indicated_key names (Err error) f h = absurd h
+
+module _ (t : Tree) (w : World) (k : Key) (named : indicated t abolish_key ≡ Ok k) where
+  abolish_is : (b : Bool) → is_fixed w.database.procedures k ≡ b → abolish_settled t w ≡ abolished w (if b then Err (permission_error k abolish_key) else Ok k)
+  abolish_is b fixed = ap (λ (r : Result Key Tree). abolished w (changeable w.database.procedures abolish_key r)) named ∙ ap (λ (x : Bool). abolished w (if x then Err (permission_error k abolish_key) else Ok k)) fixed
+
+  pub abolish_refuses : is_fixed w.database.procedures k ≡ true → abolish_settled t w ≡ Refuses (permission_error k abolish_key)
+  abolish_refuses fixed = abolish_is true fixed
+
+  pub abolish_changes : is_fixed w.database.procedures k ≡ false → abolish_settled t w ≡ Changes 0 (with_procedures w (without_procedure w.database.procedures k))
+  abolish_changes free = abolish_is false free
