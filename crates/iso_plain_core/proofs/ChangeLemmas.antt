@@ -44,27 +44,40 @@ module _ {old new : List (List ℕ)} (keeps : KeepsTexts old new) where
   pub finds_kept : {rows : List (Vec Callable Global)} {d : Database Clause} → Finds old rows d → Finds new rows d
   finds_kept {rows = rows} is = record { calls = is.calls; indexes = index_kept old new rows is.calls keeps is.indexes; agrees = is.agrees }
 
-module _ {names : List (List ℕ)} {rows : List (Vec Callable Global)} (d : Database Clause) (m : databases.Database) (k : Key) (place : ℕ) (at : place_at d k ≡ Some place) where
+kind_less : (n : ℕ) (o : Option (Procedure Clause)) → kind_of (option_map (db.one_less n) o) ≡ kind_of o
+kind_less n None = refl
+kind_less n (Some p) = refl
+
+procedure_less : (names : List (List ℕ)) (n : ℕ) (x : Option Kind) (ks : List (db.Clause Clause)) (o : Option databases.Procedure) → IsProcedure names x ks o → IsProcedure names x (filter (λ c. not (c.number == n)) ks) (option_map (one_less n) o)
+procedure_less names n None ks None is = ap (filter (λ c. not (c.number == n))) is
+procedure_less names n None ks (Some p) is = is
+procedure_less names n (Some x) ks None is = is
+procedure_less names n (Some x) ks (Some p) is = (is.0, clauses_less (λ a. not (a == n)) is.1)
+
+abbrev gone_of : Procedure Clause → Procedure Clause
+gone_of p = record p { kind = None; clauses = [] }
+
+no_kind : (o : Option (Procedure Clause)) → kind_of (option_map gone_of o) ≡ None
+no_kind None = refl
+no_kind (Some p) = refl
+
+procedure_declared : {names : List (List ℕ)} (k : Key) (x : Option Kind) (ks : List (db.Clause Clause)) (o : Option databases.Procedure) → IsProcedure names x ks o → IsProcedure names (Some (unwrap_or x kind.Dynamic)) ks (Some (grown (λ cs. cs) Dynamic k o))
+procedure_declared {names = names} k None ks None is = (tt, subst (λ (xs : List (db.Clause Clause)). AreClauses names xs []) (sym is) no_clauses)
+procedure_declared k None ks (Some p) is = absurd is
+procedure_declared k (Some x) ks None is = absurd is
+procedure_declared k (Some x) ks (Some p) is = is
+
+module _ {names : List (List ℕ)} (d : Database Clause) (m : databases.Database) (k : Key) (place : ℕ) (at : place_at d k ≡ Some place) where
   -- ---- a clause is removed
-
-  kind_less : (n : ℕ) (o : Option (Procedure Clause)) → kind_of (option_map (db.one_less n) o) ≡ kind_of o
-  kind_less n None = refl
-  kind_less n (Some p) = refl
-
-  procedure_less : (n : ℕ) (x : Option Kind) (ks : List (db.Clause Clause)) (o : Option databases.Procedure) → IsProcedure names x ks o → IsProcedure names x (filter (λ c. not (c.number == n)) ks) (option_map (one_less n) o)
-  procedure_less n None ks None is = ap (filter (λ c. not (c.number == n))) is
-  procedure_less n None ks (Some p) is = is
-  procedure_less n (Some x) ks None is = is
-  procedure_less n (Some x) ks (Some p) is = (is.0, clauses_less (λ a. not (a == n)) is.1)
 
   pub database_less : (n : ℕ) → IsDatabase names d m → IsDatabase names (db.without_clause_at place n d) (record m { procedures = without_clause m.procedures k n })
   database_less n is =
       database_changed (db.one_less n) (λ p. refl) d.added d place k m (record m { procedures = without_clause m.procedures k n }) at (omega arith) is.added
       (λ j apart. less_other m.procedures k j n apart) (λ p was. numbered_less d.added (λ c. not (c.number == n)) p.clauses was)
-      (λ p was. subst (λ (o : Option databases.Procedure). IsProcedure names p.kind (filter (λ c. not (c.number == n)) p.clauses) o) (sym (less_same m.procedures k n)) (procedure_less n p.kind p.clauses (procedure_with m.procedures k) was)) is
+      (λ p was. subst (λ (o : Option databases.Procedure). IsProcedure names p.kind (filter (λ c. not (c.number == n)) p.clauses) o) (sym (less_same m.procedures k n)) (procedure_less names n p.kind p.clauses (procedure_with m.procedures k) was)) is
 
-  pub finds_less : (n : ℕ) → Finds names rows d → Finds names rows (db.without_clause_at place n d)
-  finds_less n is =
+  pub finds_less : {rows : List (Vec Callable Global)} (n : ℕ) → Finds names rows d → Finds names rows (db.without_clause_at place n d)
+  finds_less {rows = rows} n is =
       finds_absent names rows (db.one_less n) (λ p. refl) d.added d place k at is (λ none. ap kind_of (kept_here (db.one_less n) (λ p. refl) d.added d place k at) ∙ kind_less n (kept_at d k) ∙ none)
 
   -- whether it is there
@@ -90,29 +103,19 @@ module _ {names : List (List ℕ)} {rows : List (Vec Callable Global)} (d : Data
       (λ j apart. gone_other m.procedures k j apart) (λ p was. tt)
       (λ p was. subst (λ (o : Option databases.Procedure). IsProcedure names None [] o) (sym (gone_same m.procedures k)) refl) is
 
-  no_kind : (o : Option (Procedure Clause)) → kind_of (option_map (λ p. record p { kind = None; clauses = [] }) o) ≡ None
-  no_kind None = refl
-  no_kind (Some p) = refl
-
-  pub finds_gone : Finds names rows d → Finds names rows (db.without_procedure place d)
-  finds_gone is =
+  pub finds_gone : {rows : List (Vec Callable Global)} → Finds names rows d → Finds names rows (db.without_procedure place d)
+  finds_gone {rows = rows} is =
       finds_absent names rows (λ p. record p { kind = None; clauses = [] }) (λ p. refl) d.added d place k at is
       (λ none. ap kind_of (kept_here (λ p. record p { kind = None; clauses = [] }) (λ p. refl) d.added d place k at) ∙ no_kind (kept_at d k))
 
   -- ---- the procedure is declared
 
-  procedure_declared : (x : Option Kind) (ks : List (db.Clause Clause)) (o : Option databases.Procedure) → IsProcedure names x ks o → IsProcedure names (Some (unwrap_or x kind.Dynamic)) ks (Some (grown (λ cs. cs) Dynamic k o))
-  procedure_declared None ks None is = (tt, subst (λ (xs : List (db.Clause Clause)). AreClauses names xs []) (sym is) no_clauses)
-  procedure_declared None ks (Some p) is = absurd is
-  procedure_declared (Some x) ks None is = absurd is
-  procedure_declared (Some x) ks (Some p) is = is
-
   pub database_declared : IsDatabase names d m → IsDatabase names (db.with_kind kind.Dynamic place d) (record m { procedures = with_declared m.procedures k })
   database_declared is =
       database_changed (λ p. record p { kind = Some (unwrap_or p.kind kind.Dynamic) }) (λ p. refl) d.added d place k m (record m { procedures = with_declared m.procedures k }) at (omega arith) is.added
       (λ j apart. with_other (λ cs. cs) Dynamic m.procedures k j apart) (λ p was. was)
-      (λ p was. subst (λ (o : Option databases.Procedure). IsProcedure names (Some (unwrap_or p.kind kind.Dynamic)) p.clauses o) (sym (with_same (λ cs. cs) Dynamic m.procedures k)) (procedure_declared p.kind p.clauses (procedure_with m.procedures k) was)) is
+      (λ p was. subst (λ (o : Option databases.Procedure). IsProcedure names (Some (unwrap_or p.kind kind.Dynamic)) p.clauses o) (sym (with_same (λ cs. cs) Dynamic m.procedures k)) (procedure_declared k p.kind p.clauses (procedure_with m.procedures k) was)) is
 
-  pub finds_declared : (g : Functor) (text : List ℕ) → slice_get names g.name ≡ Some text → k ≡ key text g.arity → callee_at rows g.name g.arity ≡ Some (callee.User place) → Finds names rows d → Finds names rows (db.with_kind kind.Dynamic place d)
-  finds_declared g text atom named found is =
+  pub finds_declared : {rows : List (Vec Callable Global)} (g : Functor) (text : List ℕ) → slice_get names g.name ≡ Some text → k ≡ key text g.arity → callee_at rows g.name g.arity ≡ Some (callee.User place) → Finds names rows d → Finds names rows (db.with_kind kind.Dynamic place d)
+  finds_declared {rows = rows} g text atom named found is =
       finds_called names rows (λ p. record p { kind = Some (unwrap_or p.kind kind.Dynamic) }) (λ p. refl) d.added d place k at is g text atom named found

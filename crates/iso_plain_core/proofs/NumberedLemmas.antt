@@ -11,7 +11,7 @@ use Rattle.iso_plain_core.specs.Programs.{AreClauses, no_clauses, more_clauses, 
 apart : (a b : ℕ) → (a ≡ b → ⊥) → (a == b) ≡ false
 apart a b other = elim (cases_Bool (a == b)) [
   | inl same ↦ absurd (other (eqb-true a b same))
-  | inr no ↦ no
+  | inr unlike ↦ unlike
 ]
 
 pub numbered_more : {a b : ℕ} (ks : List (db.Clause Clause)) → a ≤ b → AreNumbered a ks → AreNumbered b ks
@@ -30,7 +30,7 @@ has_more : (ks : List (db.Clause Clause)) (k : db.Clause Clause) (n : ℕ) → h
 has_more [] k n none other = rw other refl
 has_more (j ∷ ks) k n none other = elim (cases_Bool (j.number == n)) [
   | inl here ↦ (let e : true ≡ false = rw here at none in absurd (cc e))
-  | inr no ↦ (let rest : has_in ks n ≡ false = rw no at none in rw no (has_more ks k n rest other))
+  | inr unlike ↦ (let rest : has_in ks n ≡ false = rw unlike at none in rw unlike (has_more ks k n rest other))
 ]
 
 pub numbered_end : (a : ℕ) (k : db.Clause Clause) (ks : List (db.Clause Clause)) → k.number ≡ a → AreNumbered a ks → AreNumbered (a + 1) (ks ++ k ∷ [])
@@ -43,9 +43,9 @@ less_has : (keep : db.Clause Clause → Bool) (ks : List (db.Clause Clause)) (n 
 less_has keep [] n none = refl
 less_has keep (k ∷ ks) n none = elim (cases_Bool (k.number == n)) [
   | inl here ↦ (let e : true ≡ false = rw here at none in absurd (cc e))
-  | inr no ↦ (let rest : has_in ks n ≡ false = rw no at none in
+  | inr unlike ↦ (let rest : has_in ks n ≡ false = rw unlike at none in
       elim (cases_Bool (keep k)) [
-        | inl kept ↦ rw (kept, no) (less_has keep ks n rest)
+        | inl kept ↦ rw (kept, unlike) (less_has keep ks n rest)
         | inr gone ↦ rw gone (less_has keep ks n rest)
       ])
 ]

@@ -1,5 +1,6 @@
 -- Clauses that are removed by their numbers, and what the database is then.
-use Rattle.std.proofs.Common.{◌≡◌, ◌==◌, ◌||◌, ◌<◌, ◌≤◌, ◌+◌, ℕ, zero, suc, List, [], ◌∷◌, map, length, drop, get_or, add-one, arith, refl, sym, ap, ◌∙◌, subst, Bool, true, false, not, if◌then◌else◌, Option, Some, None, option_map, unwrap_or, inl, inr, Vec, Global}
+use Rattle.std.proofs.Common.{◌≡◌, ◌==◌, ◌||◌, ◌<◌, ◌≤◌, ◌+◌, ℕ, zero, suc, List, [], ◌∷◌, map, length, drop, get_or, add-one, arith, refl, sym, ap, ◌∙◌, subst, Bool, true, false, not, if◌then◌else◌, Option, Some, None, option_map, unwrap_or, Result, Ok, Err, is_ok, inl, inr, Vec, Global}
+use Rattle.std.specs.Prelude.{OnOk}
 use Rattle.std.specs.List.{filter, list_any, slice_get}
 use Rattle.std.proofs.Math.Seq.{drop-cons}
 use Rattle.std.proofs.lemmas.Bool.{cases_Bool, eqb-true, eq-eqb, or_parts}
@@ -29,6 +30,14 @@ pub long_still : (f : db.Procedure Clause → db.Procedure Clause) (place : ℕ)
 long_still f place [] = refl
 long_still f zero (p ∷ ps) = refl
 long_still f (suc place) (p ∷ ps) = ap suc (long_still f place ps)
+
+-- the procedure was declared
+pub declared_now : {E : Type 0} (place : ℕ) (old new : Database Clause) (r : Result Unit E) → is_ok r ≡ true → OnOk r (new ≡ db.with_kind kind.Dynamic place old) → new ≡ db.with_kind kind.Dynamic place old
+declared_now place old new (Ok u) ok is = is
+declared_now place old new (Err e) ok is = absurd (cc ok)
+
+pub long_declared : (place : ℕ) (d : Database Clause) → length (db.with_kind kind.Dynamic place d).procedures ≡ length d.procedures
+long_declared place d = long_still (λ p. record p { kind = Some (unwrap_or p.kind kind.Dynamic) }) place d.procedures
 
 pub next_removed : (place : ℕ) (ns : List ℕ) (i n : ℕ) (d : Database Clause) → i < length ns → n ≡ get_or ns i n → all_removed place (drop i ns) d ≡ all_removed place (drop (i + 1) ns) (db.without_clause_at place n d)
 next_removed place ns i n d within is =

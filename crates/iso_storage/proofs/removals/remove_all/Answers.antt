@@ -1,0 +1,32 @@
+use Rattle.std.proofs.Common.{◌≡◌, ◌<◌, ◌≤◌, length, refl, sym, ap, ◌∙◌, subst, arith}
+use Rattle.iso_db.specs.Databases.{Database, one_less, with_kind}
+use Rattle.iso_db.specs.Presents.{contents}
+use Rattle.iso_db.specs.declared.kinds.Kind.TheVariants.{Dynamic}
+use Rattle.iso_plain_core.specs.declared.clauses.Clause.{Clause}
+use Rattle.iso_storage.specs.Matching.{all_removed}
+use Rattle.iso_storage.proofs.RemovalLemmas.{declared_now, long_declared, long_still, next_removed, none_removed}
+use Rattle.iso_storage.proofs.removals.remove_all.Goals as goal
+
+pub loop-number-init : goal.loop-number-init
+loop-number-init c =
+    let now = declared_now c.args.place (contents c.args.db.now) (contents c.declare.new.self) c.declare.result (c.declare.ensures.allowed ∙ c.requires.allowed) c.declare.ensures.contents in
+    let long = long_declared c.args.place (contents c.args.db.now) in
+    record {
+      within = rw now (rw long c.requires.place);
+      contents = ap (all_removed c.args.place c.args.numbers.now) now;
+      views = c.declare.ensures.views;
+      clauses = c.declare.ensures.clauses;
+    }
+
+pub loop-number-preserved : goal.loop-number-preserved
+loop-number-preserved c =
+    let before = c.loop-number.invariant in
+    let d = contents c.loop-number.db in
+    let gone = c.remove_from.ensures.contents in
+    let long = long_still (one_less c.number-item.result.now) c.args.place d.procedures in
+    record {
+      within = rw gone (rw long before.within);
+      contents = ap (all_removed c.args.place _) gone ∙ sym (next_removed c.args.place c.args.numbers.now c.loop-number.number-index _ d _ _) ∙ before.contents;
+      views = λ v cs h. c.remove_from.ensures.views v cs (before.views v cs h);
+      clauses = λ n x h. c.remove_from.ensures.clauses n x (before.clauses n x h);
+    }
