@@ -27,10 +27,10 @@ pub record AreMatched (names : List (List ℕ)) (d : Db Clause) (h : Tree) (next
 
 -- the numbers once one more clause was compared
 abbrev pub more_numbers : Bool → ℕ → List ℕ → List ℕ
-more_numbers yes number numbers = if yes then numbers ++ number ∷ [] else numbers
+more_numbers answer number numbers = if answer then numbers ++ number ∷ [] else numbers
 
-next_numbers : (h : Tree) (next : ℕ) (yes : Bool) (c : databases.Clause) (others : List databases.Clause) (number : ℕ) (numbers : List ℕ) → yes ≡ head_unifies h next c → c.number ≡ number
-    → numbers ++ matching_numbers h next (c ∷ others) ≡ more_numbers yes number numbers ++ matching_numbers h next others
+next_numbers : (h : Tree) (next : ℕ) (answer : Bool) (c : databases.Clause) (others : List databases.Clause) (number : ℕ) (numbers : List ℕ) → answer ≡ head_unifies h next c → c.number ≡ number
+    → numbers ++ matching_numbers h next (c ∷ others) ≡ more_numbers answer number numbers ++ matching_numbers h next others
 next_numbers h next true c others number numbers is numbered = rw (← is) (ap (λ (n : ℕ). numbers ++ n ∷ matching_numbers h next others) numbered ∙ sym (append_assoc numbers (number ∷ []) (matching_numbers h next others)))
 next_numbers h next false c others number numbers is numbered = rw (← is) refl
 
@@ -44,14 +44,14 @@ module _ {names : List (List ℕ)} {d : Db Clause} {h : Tree} {next : ℕ} {cs :
   all_matched {numbers = numbers} m none = sym (m.numbers_are ∙ ap (λ (xs : List databases.Clause). numbers ++ matching_numbers h next xs) none ∙ append-nil numbers)
 
   -- one more clause was compared
-  pub one_matched : {view later : View} {numbers : List ℕ} {number : ℕ} (m : AreMatched names d h next cs view numbers) (yes : Bool) (left : AreLeft names d number later m.others) → yes ≡ head_unifies h next left.first
-      → AreMatched names d h next cs later (more_numbers yes number numbers)
-  one_matched {numbers = numbers} {number = number} m yes left is = record {
+  pub one_matched : {view later : View} {numbers : List ℕ} {number : ℕ} (m : AreMatched names d h next cs view numbers) (answer : Bool) (left : AreLeft names d number later m.others) → answer ≡ head_unifies h next left.first
+      → AreMatched names d h next cs later (more_numbers answer number numbers)
+  one_matched {numbers = numbers} {number = number} m answer left is = record {
     kept = left.behind;
     others = left.others;
     gives = left.gives;
     are = left.are;
-    numbers_are = m.numbers_are ∙ ap (λ (xs : List databases.Clause). numbers ++ matching_numbers h next xs) left.is ∙ next_numbers h next yes left.first left.others number numbers is left.numbered;
+    numbers_are = m.numbers_are ∙ ap (λ (xs : List databases.Clause). numbers ++ matching_numbers h next xs) left.is ∙ next_numbers h next answer left.first left.others number numbers is left.numbered;
   }
 
 -- ---- the clauses of a procedure by its place

@@ -81,7 +81,7 @@ none_without n (c ∷ cs) none =
 turned : (a b : ℕ) → (a == b) ≡ false → (b == a) ≡ false
 turned a b apart = elim (cases_Bool (b == a)) [
   | inl same ↦ (let e : true ≡ false = sym (eq-eqb a a refl) ∙ ap (λ (n : ℕ). a == n) (sym (eqb-true b a same)) ∙ apart in absurd (cc e))
-  | inr no ↦ no
+  | inr unlike ↦ unlike
 ]
 
 none_among : (test : databases.Clause → Bool) (n : ℕ) (cs : List databases.Clause) → list_any (λ c. c.number == n) cs ≡ false → is_among (map (λ (c : databases.Clause). c.number) (filter test cs)) n ≡ false
@@ -90,7 +90,7 @@ none_among test n (c ∷ cs) none =
     let parts = or_parts (c.number == n) (list_any (λ c. c.number == n) cs) none in
     elim (cases_Bool (test c)) [
       | inl passes ↦ (let other = turned c.number n parts.0 in rw (passes, other) (none_among test n cs parts.1))
-      | inr no ↦ rw no (none_among test n cs parts.1)
+      | inr fails ↦ rw fails (none_among test n cs parts.1)
     ]
 
 -- without the numbers of those that pass the test, the others are left
@@ -103,8 +103,8 @@ others_left test a (more_clauses {k = k} {c = c} {ks = ks} {cs = cs} number is o
     let self = eq-eqb c.number c.number refl in
     elim (cases_Bool (test c)) [
       | inl passes ↦ rw (passes, self) (ap (without_numbers (map (λ (x : databases.Clause). x.number) (filter test cs))) (none_without c.number cs own) ∙ left)
-      | inr no ↦ (let among = none_among test c.number cs own in
-          rw no (first_without (map (λ (x : databases.Clause). x.number) (filter test cs)) c cs ∙ rw among (ap (λ xs. c ∷ xs) left)))
+      | inr fails ↦ (let among = none_among test c.number cs own in
+          rw fails (first_without (map (λ (x : databases.Clause). x.number) (filter test cs)) c cs ∙ rw among (ap (λ xs. c ∷ xs) left)))
     ]
 
 -- ---- the procedures

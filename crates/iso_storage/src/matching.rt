@@ -4,7 +4,7 @@ ghost use Rattle.iso_model.specs.Search.Databases as databases;
 ghost use Rattle.iso_model.specs.Search.Additions.{most_variables};
 ghost use Rattle.iso_model.specs.Search.Databases.{Key};
 ghost use Rattle.iso_model.specs.Search.Storages.{head_unifies, clauses_of};
-ghost use Rattle.iso_db.specs.Databases as db;
+ghost use Rattle.iso_db.specs.Databases as held;
 ghost use Rattle.iso_db.specs.Presents.{contents, Gives};
 ghost use Rattle.iso_store_core.specs.Presents.{Holds, meaning, KeepsMarks};
 ghost use Rattle.iso_plain_core.specs.declared.clauses.Clause as kept;
@@ -51,10 +51,10 @@ fn matching<S: Store>(
     view: View,
     head: S::Word,
 ) -> Result<Vec<ClauseId>, StoreFault>
-    requires clauses { (ks : List (db.Clause kept.Clause)) × (cs : List databases.Clause) × Gives db.now view ks × AreClauses (S.names store.old) ks cs }
+    requires clauses { (ks : List (held.Clause kept.Clause)) × (cs : List databases.Clause) × Gives db.now view ks × AreClauses (S.names store.old) ks cs }
     requires head { Holds (S.present store.old) head }
     requires room { (S.present store.old).next + most_variables < 2 ^ 63 }
-    ensures matching { (ks : List (db.Clause kept.Clause)) (cs : List databases.Clause) → Gives db.now view ks → AreClauses (S.names store.old) ks cs
+    ensures matching { (ks : List (held.Clause kept.Clause)) (cs : List databases.Clause) → Gives db.now view ks → AreClauses (S.names store.old) ks cs
         → IfOk result (λ ids. ids.items ≡ matching_numbers (meaning (S.present store.old) head) (S.present store.old).next cs) }
     ensures present { OnOk result (S.present store.new ≡ S.present store.old) }
     ensures full { result ≡ Err StoreFault.Full → S.full store.new }

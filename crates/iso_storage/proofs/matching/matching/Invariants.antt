@@ -11,7 +11,7 @@ use Rattle.iso_storage.proofs.matching.matching.Given as goal
 
 abbrev pub invariant-loop-number : goal.invariant-loop-number
 invariant-loop-number g l = record {
-  matched : (ks : List (db.Clause Clause)) (cs : List databases.Clause) → Gives l.db l.view ks → AreClauses (g.S.Store.names l.fn.store) ks cs
+  matched : (ks : List (db.Clause Clause)) (cs : List databases.Clause) → Gives l.db l.fn.view ks → AreClauses (g.S.Store.names l.fn.store) ks cs
       → AreMatched (g.S.Store.names l.fn.store) l.db (meaning (g.S.Store.present l.fn.store) l.head) (g.S.Store.present l.fn.store).next cs l.later l.numbers.items;
   present : g.S.Store.present l.store ≡ g.S.Store.present l.fn.store;
   names : g.S.Store.names l.store ≡ g.S.Store.names l.fn.store;
