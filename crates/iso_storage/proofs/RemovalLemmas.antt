@@ -49,7 +49,7 @@ none_removed place [] i d past = ap (λ (xs : List ℕ). all_removed place xs d)
   drop_none : (i : ℕ) → drop {A = ℕ} i [] ≡ []
   drop_none zero = refl
   drop_none (suc i) = refl
-none_removed place (n ∷ ns) zero d past = omega (arith, past)
+none_removed place (n ∷ ns) zero d past = (let never : ⊥ = omega (arith, past) in absurd never)
 none_removed place (n ∷ ns) (suc i) d past = none_removed place ns i d (omega (arith, past))
 
 -- ---- the clauses
@@ -99,12 +99,15 @@ others_left : {names : List (List ℕ)} (test : databases.Clause → Bool) (a : 
 others_left test a no_clauses numbered = refl
 others_left test a (more_clauses {k = k} {c = c} {ks = ks} {cs = cs} number is others) numbered =
     let own : list_any (λ (x : databases.Clause). x.number == c.number) cs ≡ false = sym (has_same c.number others) ∙ ap (has_in ks) number ∙ numbered.1 in
-    let left = others_left test a others numbered.2 in
-    let self = eq-eqb c.number c.number refl in
+    let ns = map (λ (x : databases.Clause). x.number) (filter test cs) in
+    let left : without_numbers ns cs ≡ filter (λ x. not (test x)) cs = others_left test a others numbered.2 in
+    let gone : without_numbers (c.number ∷ ns) (c ∷ cs) ≡ without_numbers ns (without_number c.number cs) =
+    ap (λ (b : Bool). without_numbers ns (if not b then c ∷ without_number c.number cs else without_number c.number cs)) (eq-eqb c.number c.number refl) in
+    let stays : without_numbers ns (c ∷ cs) ≡ c ∷ without_numbers ns cs =
+    first_without ns c cs ∙ ap (λ (b : Bool). if b then without_numbers ns cs else c ∷ without_numbers ns cs) (none_among test c.number cs own) in
     elim (cases_Bool (test c)) [
-      | inl passes ↦ rw (passes, self) (ap (without_numbers (map (λ (x : databases.Clause). x.number) (filter test cs))) (none_without c.number cs own) ∙ left)
-      | inr fails ↦ (let among = none_among test c.number cs own in
-          rw fails (first_without (map (λ (x : databases.Clause). x.number) (filter test cs)) c cs ∙ rw among (ap (λ xs. c ∷ xs) left)))
+      | inl passes ↦ rw passes (gone ∙ ap (without_numbers ns) (none_without c.number cs own) ∙ left)
+      | inr fails ↦ rw fails (stays ∙ ap (λ xs. c ∷ xs) left)
     ]
 
 -- ---- the procedures
@@ -151,31 +154,32 @@ module _ {names : List (List ℕ)} (k : Key) (place : ℕ) where
   finds_all (n ∷ ns) d m at is = finds_all ns (db.without_clause_at place n d) m (same_place (db.one_less n) (λ p. refl) d.added d place k ∙ at) (finds_less d m k place at n is)
 
 -- a procedure whose clauses pass the test loses them
-rest_grown : {names : List (List ℕ)} (test : databases.Clause → Bool) (a : ℕ) (k : Key) (ns : List ℕ) (x : Option Kind) (ks : List (db.Clause Clause)) (o : Option Procedure) → IsProcedure names x ks o → AreNumbered a ks
+rest_grown : (names : List (List ℕ)) (test : databases.Clause → Bool) (a : ℕ) (k : Key) (ns : List ℕ) (x : Option Kind) (ks : List (db.Clause Clause)) (o : Option Procedure) → IsProcedure names x ks o → AreNumbered a ks
     → ns ≡ map (λ (c : databases.Clause). c.number) (filter test (unwrap_or (option_map (λ p. p.clauses) o) []))
     → all_less ns (grown (λ cs. cs) Dynamic k o) ≡ grown (filter (λ c. not (test c))) Dynamic k o
-rest_grown test a k ns x ks None is numbered those = rw those refl
-rest_grown test a k ns None ks (Some p) is numbered those = absurd is
-rest_grown test a k ns (Some x) ks (Some p) is numbered those = ap (λ xs. record p { clauses = xs }) (ap (λ xs. without_numbers xs p.clauses) those ∙ others_left test a is.1 numbered)
+rest_grown names test a k ns x ks None is numbered those = rw those refl
+rest_grown names test a k ns None ks (Some p) is numbered those = absurd is
+rest_grown names test a k ns (Some x) ks (Some p) is numbered those = ap (λ xs. record p { clauses = xs }) (ap (λ xs. without_numbers xs p.clauses) those ∙ others_left test a is.1 numbered)
+
+-- the procedure at the place was made where it was absent
+abbrev declared_at : ℕ → Database Clause → Database Clause
+declared_at place d = db.with_kind kind.Dynamic place d
+
+declared_place : (d : Database Clause) (k : Key) (place : ℕ) → place_at d k ≡ Some place → place_at (declared_at place d) k ≡ Some place
+declared_place d k place at = same_place (λ p. record p { kind = Some (unwrap_or p.kind kind.Dynamic) }) (λ p. refl) d.added d place k ∙ at
 
 module _ {names : List (List ℕ)} (d : Database Clause) (m : databases.Database) (k : Key) (place : ℕ) (at : place_at d k ≡ Some place) where
-  abbrev declared_at : Database Clause
-  declared_at = db.with_kind kind.Dynamic place d
-
-  declared_place : place_at declared_at k ≡ Some place
-  declared_place = same_place (λ p. record p { kind = Some (unwrap_or p.kind kind.Dynamic) }) (λ p. refl) d.added d place k ∙ at
-
   -- the clauses that pass the test are removed, and the procedure is made where it is absent
   pub database_retracted : (test : databases.Clause → Bool) (ns : List ℕ) → ns ≡ map (λ (c : databases.Clause). c.number) (filter test (clauses_of m.procedures k)) → IsDatabase names d m
-      → IsDatabase names (all_removed place ns declared_at) (record m { procedures = with_clauses (filter (λ c. not (test c))) Dynamic m.procedures k })
+      → IsDatabase names (all_removed place ns (declared_at place d)) (record m { procedures = with_clauses (filter (λ c. not (test c))) Dynamic m.procedures k })
   database_retracted test ns those is =
-      database_same same refl (database_all k place ns declared_at (record m { procedures = with_declared m.procedures k }) declared_place (database_declared d m k place at is)) where
+      database_same same refl (database_all k place ns (declared_at place d) (record m { procedures = with_declared m.procedures k }) (declared_place d k place at) (database_declared d m k place at is)) where
         keep : List databases.Clause → List databases.Clause
         keep = filter (λ c. not (test c))
 
         here : procedure_with (with_clauses keep Dynamic m.procedures k) k ≡ procedure_with (all_without (with_declared m.procedures k) k ns) k
         here = with_same keep Dynamic m.procedures k
-            ∙ ap Some (sym (rest_grown test d.added k ns (kind_of (kept_at d k)) (db.clauses_of (kept_at d k)) (procedure_with m.procedures k) (is.procedures k) (is.numbers k)
+            ∙ ap Some (sym (rest_grown names test d.added k ns (kind_of (kept_at d k)) (db.clauses_of (kept_at d k)) (procedure_with m.procedures k) (is.procedures k) (is.numbers k)
             (those ∙ ap (λ o. map (λ (c : databases.Clause). c.number) (filter test (unwrap_or o []))) (clauses_with m.procedures k))))
             ∙ sym (all_same ns (with_declared m.procedures k) k ∙ ap (option_map (all_less ns)) (with_same (λ cs. cs) Dynamic m.procedures k))
 
@@ -187,8 +191,8 @@ module _ {names : List (List ℕ)} (d : Database Clause) (m : databases.Database
 
   -- it is found
   pub finds_retracted : {rows : List (Vec Callable Global)} (ns : List ℕ) (g : Functor) (text : List ℕ) → slice_get names g.name ≡ Some text → k ≡ key text g.arity → callee_at rows g.name g.arity ≡ Some (callee.User place) → Finds names rows d
-      → Finds names rows (all_removed place ns declared_at)
-  finds_retracted ns g text atom named found is = finds_all k place ns declared_at m declared_place (finds_declared d m k place at g text atom named found is)
+      → Finds names rows (all_removed place ns (declared_at place d))
+  finds_retracted ns g text atom named found is = finds_all k place ns (declared_at place d) m (declared_place d k place at) (finds_declared d m k place at g text atom named found is)
 
 -- a procedure that is absent is taken away
 pub database_absent : {names : List (List ℕ)} (d : Database Clause) (m : databases.Database) (k : Key) → kind_of (kept_at d k) ≡ None → IsDatabase names d m → IsDatabase names d (record m { procedures = without_procedure m.procedures k })

@@ -1,4 +1,4 @@
-use Rattle.std.proofs.Common.{◌≡◌, ◌<◌, ◌≤◌, length, refl, sym, ap, ◌∙◌, subst, arith}
+use Rattle.std.proofs.Common.{◌≡◌, ◌<◌, ◌≤◌, ◌+◌, length, drop, refl, sym, ap, ◌∙◌, subst, arith}
 use Rattle.iso_db.specs.Databases.{Database, one_less, with_kind}
 use Rattle.iso_db.specs.Presents.{contents}
 use Rattle.iso_db.specs.declared.kinds.Kind.TheVariants.{Dynamic}
@@ -10,9 +10,9 @@ use Rattle.iso_storage.proofs.removals.remove_all.Goals as goal
 pub loop-number-init : goal.loop-number-init
 loop-number-init c =
     let now = declared_now c.args.place (contents c.args.db.now) (contents c.declare.new.self) c.declare.result (c.declare.ensures.allowed ∙ c.requires.allowed) c.declare.ensures.contents in
-    let long = long_declared c.args.place (contents c.args.db.now) in
+    let long : length (contents c.declare.new.self).procedures ≡ length (contents c.args.db.now).procedures = ap (λ (d : Database Clause). length d.procedures) now ∙ long_declared c.args.place (contents c.args.db.now) in
     record {
-      within = rw now (rw long c.requires.place);
+      within = omega (arith, long, c.requires.place);
       contents = ap (all_removed c.args.place c.args.numbers.now) now;
       views = c.declare.ensures.views;
       clauses = c.declare.ensures.clauses;
@@ -22,11 +22,14 @@ pub loop-number-preserved : goal.loop-number-preserved
 loop-number-preserved c =
     let before = c.loop-number.invariant in
     let d = contents c.loop-number.db in
+    let n = c.number-item.result in
     let gone = c.remove_from.ensures.contents in
-    let long = long_still (one_less c.number-item.result.now) c.args.place d.procedures in
+    let next = next_removed c.args.place c.args.numbers.now c.loop-number.number-index n d c.loop-number-test.true c.number-item.is in
+    let long : length (contents c.remove_from.new.self).procedures ≡ length d.procedures = ap (λ (x : Database Clause). length x.procedures) gone ∙ long_still (one_less n) c.args.place d.procedures in
+    let within = before.within in
     record {
-      within = rw gone (rw long before.within);
-      contents = ap (all_removed c.args.place _) gone ∙ sym (next_removed c.args.place c.args.numbers.now c.loop-number.number-index _ d _ _) ∙ before.contents;
+      within = omega (arith, long, within);
+      contents = ap (all_removed c.args.place (drop (c.loop-number.number-index + 1) c.args.numbers.now)) gone ∙ sym next ∙ before.contents;
       views = λ v cs h. c.remove_from.ensures.views v cs (before.views v cs h);
-      clauses = λ n x h. c.remove_from.ensures.clauses n x (before.clauses n x h);
+      clauses = λ k x h. c.remove_from.ensures.clauses k x (before.clauses k x h);
     }
