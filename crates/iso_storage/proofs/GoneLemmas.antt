@@ -4,12 +4,14 @@ use Rattle.std.specs.List.{filter}
 use Rattle.std.specs.Result.{IsErrAnd}
 use Rattle.iso_model.specs.Terms.Trees.{Tree}
 use Rattle.iso_model.specs.Terms.TermOf.{term_of}
+use Rattle.iso_model.specs.Search.Databases as databases
 use Rattle.iso_model.specs.Search.Databases.{Key, Dynamic, with_clauses, without_procedure}
 use Rattle.iso_model.specs.Search.Errors.{permission_error}
 use Rattle.iso_model.specs.Search.Settlements.{Settled, Refuses, Changes}
 use Rattle.iso_model.specs.Search.Storages.{with_head, is_fixed, clauses_of, with_procedures, head_unifies, largest_head, retractall_key, retractall_named, retractall_changed, retractall_settled, changeable, abolished, abolish_key, abolish_settled, indicated}
 use Rattle.iso_model.specs.Search.Worlds.{World}
 use Rattle.iso_model.specs.declared.pauses.Ball.{Ball}
+use Rattle.iso_db.specs.Databases as db
 use Rattle.iso_db.specs.Databases.{Database}
 use Rattle.iso_lib_core.specs.declared.outcomes.Fault.{Fault}
 use Rattle.iso_lib_core.specs.declared.outcomes.Fault.TheVariants as fault
@@ -17,7 +19,10 @@ use Rattle.iso_lib.specs.Indicators.{IsFunctor, IsIndicated}
 use Rattle.iso_lib.specs.declared.indicators.Functor.{Functor}
 use Rattle.iso_plain_core.specs.declared.callables.Callable.{Callable}
 use Rattle.iso_plain_core.specs.declared.clauses.Clause.{Clause}
-use Rattle.iso_storage.specs.Storing.{IsChanged, HasHead}
+use Rattle.iso_plain_core.specs.Programs.{place_at, kept_at, kind_of}
+use Rattle.iso_plain_core.proofs.ChangeLemmas.{database_gone, finds_gone}
+use Rattle.iso_storage.specs.Storing.{IsProgram, IsChanged, HasHead}
+use Rattle.iso_storage.proofs.RemovalLemmas.{database_absent}
 
 -- a fault that is handed on is no success
 pub handed_on : (names : List (List ℕ)) (d : Database Clause) (rows : List (Vec Callable Global)) (w : World) (s : Settled) (e : Fault) (r : Result Unit Fault) → IsErrAnd r (λ x. x ≡ e) → IsChanged names d rows w s (Err e) → IsChanged names d rows w s r
@@ -69,3 +74,13 @@ module _ (t : Tree) (w : World) (k : Key) (named : indicated t abolish_key ≡ O
 
   pub abolish_changes : is_fixed w.database.procedures k ≡ false → abolish_settled t w ≡ Changes 0 (with_procedures w (without_procedure w.database.procedures k))
   abolish_changes free = abolish_is false free
+
+-- without its procedure
+pub program_gone : {names : List (List ℕ)} {rows : List (Vec Callable Global)} (d new : Database Clause) (m : databases.Database) (k : Key) (place : ℕ) → place_at d k ≡ Some place → new ≡ db.without_procedure place d → IsProgram names d rows m
+    → IsProgram names new rows (record m { procedures = without_procedure m.procedures k })
+program_gone {names = names} {rows = rows} d new m k place at gone is =
+    subst (λ (x : Database Clause). IsProgram names x rows (record m { procedures = without_procedure m.procedures k })) (sym gone) (record { database = database_gone d m k place at is.database; found = finds_gone d m k place at is.found })
+
+pub program_absent : {names : List (List ℕ)} {rows : List (Vec Callable Global)} (d : Database Clause) (m : databases.Database) (k : Key) → kind_of (kept_at d k) ≡ None → IsProgram names d rows m
+    → IsProgram names d rows (record m { procedures = without_procedure m.procedures k })
+program_absent d m k none is = record { database = database_absent d m k none is.database; found = is.found }

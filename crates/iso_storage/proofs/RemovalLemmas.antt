@@ -31,10 +31,10 @@ long_still f place [] = refl
 long_still f zero (p ∷ ps) = refl
 long_still f (suc place) (p ∷ ps) = ap suc (long_still f place ps)
 
--- the procedure was declared
-pub declared_now : {E : Type 0} (place : ℕ) (old new : Database Clause) (r : Result Unit E) → is_ok r ≡ true → OnOk r (new ≡ db.with_kind kind.Dynamic place old) → new ≡ db.with_kind kind.Dynamic place old
-declared_now place old new (Ok u) ok is = is
-declared_now place old new (Err e) ok is = absurd (cc ok)
+-- what was asked for was done
+pub was_done : {P : Type 0} {E : Type 0} (r : Result Unit E) → is_ok r ≡ true → OnOk r P → P
+was_done (Ok u) ok is = is
+was_done (Err e) ok is = absurd (cc ok)
 
 pub long_declared : (place : ℕ) (d : Database Clause) → length (db.with_kind kind.Dynamic place d).procedures ≡ length d.procedures
 long_declared place d = long_still (λ p. record p { kind = Some (unwrap_or p.kind kind.Dynamic) }) place d.procedures

@@ -118,8 +118,9 @@ pub(crate) fn abolish<S: Store>(
         let ball = errors::static_procedure(alloc, text, arity, "abolish")?;
         return Err(Fault::Raise(ball));
     }
-    if let Some(place) = place_of(callables, Functor { name, arity }) {
-        let _ = db.abolish(place);
-    }
+    let Some(place) = place_of(callables, Functor { name, arity }) else {
+        return Ok(());
+    };
+    let _ = db.abolish(place);
     Ok(())
 }

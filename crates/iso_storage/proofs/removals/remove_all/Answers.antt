@@ -4,12 +4,12 @@ use Rattle.iso_db.specs.Presents.{contents}
 use Rattle.iso_db.specs.declared.kinds.Kind.TheVariants.{Dynamic}
 use Rattle.iso_plain_core.specs.declared.clauses.Clause.{Clause}
 use Rattle.iso_storage.specs.Matching.{all_removed}
-use Rattle.iso_storage.proofs.RemovalLemmas.{declared_now, long_declared, long_still, next_removed, none_removed}
+use Rattle.iso_storage.proofs.RemovalLemmas.{was_done, long_declared, long_still, next_removed, none_removed}
 use Rattle.iso_storage.proofs.removals.remove_all.Goals as goal
 
 pub loop-number-init : goal.loop-number-init
 loop-number-init c =
-    let now = declared_now c.args.place (contents c.args.db.now) (contents c.declare.new.self) c.declare.result (c.declare.ensures.allowed ∙ c.requires.allowed) c.declare.ensures.contents in
+    let now = was_done c.declare.result (c.declare.ensures.allowed ∙ c.requires.allowed) c.declare.ensures.contents in
     let long : length (contents c.declare.new.self).procedures ≡ length (contents c.args.db.now).procedures = ap (λ (d : Database Clause). length d.procedures) now ∙ long_declared c.args.place (contents c.args.db.now) in
     record {
       within = omega (arith, long, c.requires.place);
