@@ -1,11 +1,11 @@
 -- What goals come to that remove clauses or a procedure.
-use Rattle.std.proofs.Common.{◌≡◌, ℕ, List, Bool, true, false, Option, Some, None, refl, sym, ap, ◌∙◌, subst, Result, Ok, Err, if◌then◌else◌, not, Vec, Global}
-use Rattle.std.specs.List.{filter}
+use Rattle.std.proofs.Common.{◌≡◌, ℕ, List, map, Bool, true, false, Option, Some, None, refl, sym, ap, ◌∙◌, subst, Result, Ok, Err, if◌then◌else◌, not, Vec, Global}
+use Rattle.std.specs.List.{filter, slice_get}
 use Rattle.std.specs.Result.{IsErrAnd}
 use Rattle.iso_model.specs.Terms.Trees.{Tree}
 use Rattle.iso_model.specs.Terms.TermOf.{term_of}
 use Rattle.iso_model.specs.Search.Databases as databases
-use Rattle.iso_model.specs.Search.Databases.{Key, Dynamic, with_clauses, without_procedure}
+use Rattle.iso_model.specs.Search.Databases.{Key, key, Dynamic, with_clauses, without_procedure}
 use Rattle.iso_model.specs.Search.Errors.{permission_error}
 use Rattle.iso_model.specs.Search.Settlements.{Settled, Refuses, Changes}
 use Rattle.iso_model.specs.Search.Storages.{with_head, is_fixed, clauses_of, with_procedures, head_unifies, largest_head, retractall_key, retractall_named, retractall_changed, retractall_settled, changeable, abolished, abolish_key, abolish_settled, indicated}
@@ -13,29 +13,22 @@ use Rattle.iso_model.specs.Search.Worlds.{World}
 use Rattle.iso_model.specs.declared.pauses.Ball.{Ball}
 use Rattle.iso_db.specs.Databases as db
 use Rattle.iso_db.specs.Databases.{Database}
+use Rattle.iso_db.specs.declared.kinds.Kind.TheVariants as kind
 use Rattle.iso_lib_core.specs.declared.outcomes.Fault.{Fault}
 use Rattle.iso_lib_core.specs.declared.outcomes.Fault.TheVariants as fault
 use Rattle.iso_lib.specs.Indicators.{IsFunctor, IsIndicated}
 use Rattle.iso_lib.specs.declared.indicators.Functor.{Functor}
 use Rattle.iso_plain_core.specs.declared.callables.Callable.{Callable}
+use Rattle.iso_plain_core.specs.declared.callables.Callee.TheVariants as callee
 use Rattle.iso_plain_core.specs.declared.clauses.Clause.{Clause}
+use Rattle.iso_plain_core.specs.Callables.{callee_at}
 use Rattle.iso_plain_core.specs.Programs.{place_at, kept_at, kind_of}
 use Rattle.iso_plain_core.proofs.ChangeLemmas.{database_gone, finds_gone}
+use Rattle.iso_storage.specs.Matching.{all_removed}
 use Rattle.iso_storage.specs.Storing.{IsProgram, IsChanged, HasHead}
-use Rattle.iso_storage.proofs.RemovalLemmas.{database_absent}
-
--- a fault that is handed on is no success
-pub handed_on : (names : List (List ℕ)) (d : Database Clause) (rows : List (Vec Callable Global)) (w : World) (s : Settled) (e : Fault) (r : Result Unit Fault) → IsErrAnd r (λ x. x ≡ e) → IsChanged names d rows w s (Err e) → IsChanged names d rows w s r
-handed_on names d rows w s e (Ok u) is h = absurd is
-handed_on names d rows w s e (Err x) is h = subst (λ (f : Fault). IsChanged names d rows w s (Err f)) (sym is) h
+use Rattle.iso_storage.proofs.RemovalLemmas.{database_absent, database_retracted, finds_retracted}
 
 -- ---- retractall/1
-
--- the head is that of no procedure
-pub head_refused : (names : List (List ℕ)) (d : Database Clause) (rows : List (Vec Callable Global)) (w : World) (h : Tree) (by : Key) (goes_on : Key → Settled) (e : Fault) → HasHead names h by (Err e) → IsChanged names d rows w (with_head h by goes_on) (Err e)
-head_refused names d rows w h by goes_on (fault.Raise ball) is = is goes_on
-head_refused names d rows w h by goes_on fault.Full is = absurd is
-head_refused names d rows w h by goes_on fault.NoMemory is = tt
 
 module _ (h : Tree) (next : ℕ) (w : World) (k : Key) (headed : (goes_on : Key → Settled) → with_head h retractall_key goes_on ≡ goes_on k) where
   retractall_is : (b : Bool) → is_fixed w.database.procedures k ≡ b → retractall_settled h next w ≡ (if b then Refuses (permission_error k retractall_key) else retractall_changed h next w k)
@@ -49,18 +42,7 @@ module _ (h : Tree) (next : ℕ) (w : World) (k : Key) (headed : (goes_on : Key 
 
 -- ---- abolish/1
 
--- the indicator names no procedure
-pub indicator_refused : (names : List (List ℕ)) (d : Database Clause) (rows : List (Vec Callable Global)) (t : Tree) (w : World) (e : Fault) → IsIndicated names (indicated t abolish_key) (Err e) → IsChanged names d rows w (abolish_settled t w) (Err e)
-indicator_refused names d rows t w e is = by_asked (indicated t abolish_key) e is where
-  by_asked : (r : Result Key Tree) (e : Fault) → IsIndicated names r (Err e) → IsChanged names d rows w (abolished w (changeable w.database.procedures abolish_key r)) (Err e)
-  by_asked (Ok k) (fault.Raise ball) h = absurd h
-  by_asked (Ok k) fault.Full h = absurd h
-  by_asked (Ok k) fault.NoMemory h = tt
-  by_asked (Err error) (fault.Raise ball) h = h
-  by_asked (Err error) fault.Full h = absurd h
-  by_asked (Err error) fault.NoMemory h = tt
-
--- the procedure that it names
+-- the procedure that the indicator names
 pub indicated_key : (names : List (List ℕ)) (r : Result Key Tree) (f : Functor) → IsIndicated names r (Ok f) → (k : Key) × (r ≡ Ok k) × IsFunctor names k f
 indicated_key names (Ok k) f h = (k, refl, h)
 indicated_key names (Err error) f h = absurd h
@@ -84,3 +66,12 @@ program_gone {names = names} {rows = rows} d new m k place at gone is =
 pub program_absent : {names : List (List ℕ)} {rows : List (Vec Callable Global)} (d : Database Clause) (m : databases.Database) (k : Key) → kind_of (kept_at d k) ≡ None → IsProgram names d rows m
     → IsProgram names d rows (record m { procedures = without_procedure m.procedures k })
 program_absent d m k none is = record { database = database_absent d m k none is.database; found = is.found }
+
+-- without the clauses that pass a test
+pub program_retracted : {names : List (List ℕ)} {rows : List (Vec Callable Global)} (d new : Database Clause) (m : databases.Database) (k : Key) (place : ℕ) (test : databases.Clause → Bool) (ns : List ℕ) (g : Functor) (text : List ℕ) → place_at d k ≡ Some place
+    → ns ≡ map (λ (c : databases.Clause). c.number) (filter test (clauses_of m.procedures k)) → new ≡ all_removed place ns (db.with_kind kind.Dynamic place d)
+    → slice_get names g.name ≡ Some text → k ≡ key text g.arity → callee_at rows g.name g.arity ≡ Some (callee.User place) → IsProgram names d rows m
+    → IsProgram names new rows (record m { procedures = with_clauses (filter (λ c. not (test c))) Dynamic m.procedures k })
+program_retracted {names = names} {rows = rows} d new m k place test ns g text at those gone atom named called is =
+    subst (λ (x : Database Clause). IsProgram names x rows (record m { procedures = with_clauses (filter (λ c. not (test c))) Dynamic m.procedures k })) (sym gone)
+    (record { database = database_retracted d m k place at test ns those is.database; found = finds_retracted d m k place at ns g text atom named called is.found })

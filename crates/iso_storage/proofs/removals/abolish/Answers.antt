@@ -14,7 +14,7 @@ use Rattle.iso_storage.proofs.HeadLemmas.{free_alone, user_there, user_within, u
 use Rattle.iso_storage.proofs.KeptPrograms.{permission_raised, changes_fit}
 use Rattle.iso_storage.proofs.RowLemmas.{key_text}
 use Rattle.iso_storage.proofs.RemovalLemmas.{was_done}
-use Rattle.iso_storage.proofs.GoneLemmas.{indicator_refused, handed_on, indicated_key, abolish_refuses, abolish_changes, program_gone, program_absent}
+use Rattle.iso_storage.proofs.GoneLemmas.{indicated_key, abolish_refuses, abolish_changes, program_gone, program_absent}
 use Rattle.iso_storage.proofs.removals.abolish.Goals as goal
 
 pub returns-then-is_fixed-clause-changed : goal.returns-then-is_fixed-clause-changed
