@@ -6,3 +6,6 @@ pub mod KeptPrograms
 pub mod AdditionLemmas
 pub mod MatchLemmas
 pub mod DeclarationLemmas
+pub mod MatchingLemmas
+pub mod RemovalLemmas
+pub mod GoneLemmas

@@ -17,7 +17,7 @@ returns-then-is_fixed g c = record {
   stored = λ w is.
       (let p = g.S.Store.present c.args.store.now in
       let names = g.S.Store.names c.args.store.now in
-      let h = c.in_ok-name.ensures in
+      let h = c.in_ok-name.ensures.head in
       let f = c.in_ok-name.field-0 in
       let same : h.0 ≡ key c.text-text.result.now f.arity = key_text names f h.0 c.text-text.result.now h.2 (text-is names f.name c.text-text.result.now c.text-text.ensures) in
       let named : IsNamed names f c.text-text.result.now = record { each_once = c.shape.ensures.each_once; atom = c.text-text.ensures; few = h.2.few } in
@@ -35,7 +35,7 @@ returns g c = record {
   stored = λ w is.
       (let p = g.S.Store.present c.args.store.now in
       let names = g.S.Store.names c.args.store.now in
-      let h = c.in_ok-name.ensures in
+      let h = c.in_ok-name.ensures.head in
       let f = c.in_ok-name.field-0 in
       let same : h.0 ≡ key c.text-text.result.now f.arity = key_text names f h.0 c.text-text.result.now h.2 (text-is names f.name c.text-text.result.now c.text-text.ensures) in
       let named : IsNamed names f c.text-text.result.now = record { each_once = c.shape.ensures.each_once; atom = c.text-text.ensures; few = h.2.few } in
