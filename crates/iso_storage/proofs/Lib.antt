@@ -9,3 +9,4 @@ pub mod DeclarationLemmas
 pub mod MatchingLemmas
 pub mod RemovalLemmas
 pub mod GoneLemmas
+pub mod StoreLemmas

@@ -86,6 +86,7 @@ pub(crate) fn check<S: Store>(
 ) -> Result<(), Fault>
     requires argument { Holds (S.present store.now) argument }
     ensures checked { (w : World) → IsOnlyChecked w (checked_settled (key by.now 1) (meaning (S.present store.now) argument) w) result }
+    ensures full { result ≢ Err Fault.Full }
 {
     let parts = parts(alloc, store, argument, by)?;
     check_all(alloc, store, parts.as_slice(), by)
