@@ -14,7 +14,7 @@ use Rattle.iso_model.specs.Search.BuiltIns.{built_in}
 use Rattle.iso_model.specs.Search.Databases as databases
 use Rattle.iso_model.specs.Search.Databases.{Key, key, Procedures, with_declared}
 use Rattle.iso_model.specs.Search.Errors.{instantiation_error, permission_error}
-use Rattle.iso_model.specs.Search.Settlements.{Settled, Changes}
+use Rattle.iso_model.specs.Search.Settlements.{Settled}
 use Rattle.iso_model.specs.Search.Storages.{is_fixed, changeable, indicated, indicated_next, all_indicated, declared_parts, declaration, all_declared, declared, only_checked, dynamic_key, dynamic_settled, checked_settled}
 use Rattle.iso_model.specs.Search.Worlds.{World}
 use Rattle.iso_model.specs.declared.pauses.Ball.{Ball}

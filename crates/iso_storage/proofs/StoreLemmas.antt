@@ -1,8 +1,7 @@
 -- What a goal of a row comes to, from what its procedure comes to.
-use Rattle.std.proofs.Common.{◌≡◌, ℕ, List, refl, sym, ap, ◌∙◌, subst, Result, Ok, Err, Vec, Global}
+use Rattle.std.proofs.Common.{◌≡◌, ℕ, List, refl, sym, ◌∙◌, subst, Result, Ok, Err, Vec, Global}
 use Rattle.std.specs.Prelude.{OnErr}
-use Rattle.iso_model.specs.Terms.Trees.{Tree}
-use Rattle.iso_model.specs.Search.Settlements.{Settled, Changes}
+use Rattle.iso_model.specs.Search.Settlements.{Settled}
 use Rattle.iso_model.specs.Search.Worlds.{World}
 use Rattle.iso_db.specs.Presents.{contents}
 use Rattle.iso_db.specs.declared.db.Db.{Db}

@@ -1,5 +1,5 @@
 -- Declarations of procedures.
-use Rattle.std.specs.Prelude.{◌≡◌, ◌<◌, ℕ, List, [], ◌∷◌, length, map, true, false, Option, Some, None, Result, Ok, Err, Vec}
+use Rattle.std.specs.Prelude.{◌≡◌, ◌<◌, ℕ, List, [], ◌∷◌, length, map, true, false, Some, None, Result, Ok, Err, Vec}
 use Rattle.std.specs.List.{All, list_any}
 use Rattle.std.specs.Global.{Global}
 use Rattle.iso_atoms.specs.Texts.{text_at}

@@ -1,5 +1,5 @@
 -- Those so far have their places.
-use Rattle.std.proofs.Common.{◌≡◌, take}
+use Rattle.std.proofs.Common.{take}
 use Rattle.iso_model.specs.Search.Databases as databases
 use Rattle.iso_db.specs.Presents.{contents, KeepsViews, KeepsClauses}
 use Rattle.iso_storage.specs.Storing.{IsProgram}

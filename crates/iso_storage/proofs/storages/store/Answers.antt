@@ -3,7 +3,6 @@ use Rattle.std.specs.Prelude.{OnErr}
 use Rattle.iso_model.specs.Terms.Trees.{Tree}
 use Rattle.iso_model.specs.Terms.Arguments.{argument}
 use Rattle.iso_model.specs.Search.Errors.{key}
-use Rattle.iso_model.specs.Search.Settlements.{Settled}
 use Rattle.iso_model.specs.Search.Storages.{storage_settled, asserta_settled, assertz_settled, clause_settled, retract_settled, retractall_settled, abolish_settled, dynamic_settled, checked_settled}
 use Rattle.iso_model.specs.declared.library.Storage.{Storage}
 use Rattle.iso_db.specs.Presents.{contents}
