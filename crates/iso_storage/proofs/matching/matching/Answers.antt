@@ -1,5 +1,4 @@
-use Rattle.std.proofs.Common.{◌≡◌, true, refl, sym, ap, ◌∙◌, subst}
-use Rattle.iso_store_core.specs.Presents.{meaning}
+use Rattle.std.proofs.Common.{sym, ◌∙◌, subst}
 use Rattle.iso_plain_core.specs.Kept.{IsClause}
 use Rattle.iso_plain_core.specs.declared.clauses.Clause.{Clause}
 use Rattle.iso_storage.proofs.MatchingLemmas.{one_matched}
@@ -24,7 +23,7 @@ loop-number-preserved-in-Continue-branch-2 g c =
           let left = c.in-Some.ensures.left names m.kept m.others m.gives m.are in
           let is : IsClause names c.clause.result.now left.first = subst (λ (k : Clause). IsClause names k left.first) (sym (c.clause.ensures left.kept left.stands)) left.clause in
           let answer = (rw (before.names, before.present) at c.in_ok-matches.ensures.unifies) left.first is in
-          rw c.in_ok-push.ensures.items (one_matched m true left (sym c.if-matches.true ∙ answer)));
+          rw c.in_ok-push.ensures.items (one_matched m left (sym answer ∙ c.if-matches.true)));
       present = c.undo.ensures.back p stood;
       names = c.undo.ensures.names ∙ c.in_ok-matches.ensures.names ∙ before.names;
       stands = c.undo.ensures.stands p stood;
