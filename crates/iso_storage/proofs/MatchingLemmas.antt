@@ -24,18 +24,24 @@ pub record AreMatched (names : List (List ℕ)) (d : Db Clause) (h : Tree) (next
   pub are : AreClauses names kept others
   pub numbers_are : matching_numbers h next cs ≡ numbers ++ matching_numbers h next others
 
--- one more clause was compared, whose head unifies
-pub one_matched : {names : List (List ℕ)} {d : Db Clause} {h : Tree} {next : ℕ} {cs : List databases.Clause} {view later : View} {numbers : List ℕ} {number : ℕ} (m : AreMatched names d h next cs view numbers) (left : AreLeft names d number later m.others)
-    → head_unifies h next left.first ≡ true → AreMatched names d h next cs later (numbers ++ number ∷ [])
-one_matched {h = h} {next = next} {numbers = numbers} {number = number} m left unifies = record {
-  kept = left.behind;
-  others = left.others;
-  gives = left.gives;
-  are = left.are;
-  numbers_are = m.numbers_are ∙ ap (λ (xs : List databases.Clause). numbers ++ matching_numbers h next xs) left.is ∙ taken;
-} where
-  taken : numbers ++ matching_numbers h next (left.first ∷ left.others) ≡ (numbers ++ number ∷ []) ++ matching_numbers h next left.others
-  taken = rw unifies (ap (λ (n : ℕ). numbers ++ n ∷ matching_numbers h next left.others) left.numbered ∙ sym (append_assoc numbers (number ∷ []) (matching_numbers h next left.others)))
+module _ {names : List (List ℕ)} {d : Db Clause} {h : Tree} {next : ℕ} {cs : List databases.Clause} {view later : View} {numbers : List ℕ} {number : ℕ} (m : AreMatched names d h next cs view numbers) (left : AreLeft names d number later m.others) where
+  behind_first : (ns : List ℕ) → numbers ++ matching_numbers h next (left.first ∷ left.others) ≡ ns ++ matching_numbers h next left.others → AreMatched names d h next cs later ns
+  behind_first ns same = record {
+    kept = left.behind;
+    others = left.others;
+    gives = left.gives;
+    are = left.are;
+    numbers_are = m.numbers_are ∙ ap (λ (xs : List databases.Clause). numbers ++ matching_numbers h next xs) left.is ∙ same;
+  }
+
+  -- one more clause was compared, whose head unifies
+  pub one_matched : head_unifies h next left.first ≡ true → AreMatched names d h next cs later (numbers ++ number ∷ [])
+  one_matched unifies =
+      behind_first (numbers ++ number ∷ []) (rw unifies (ap (λ (n : ℕ). numbers ++ n ∷ matching_numbers h next left.others) left.numbered ∙ sym (append_assoc numbers (number ∷ []) (matching_numbers h next left.others))))
+
+  -- and one whose head doesn't
+  pub one_passed : head_unifies h next left.first ≡ false → AreMatched names d h next cs later numbers
+  one_passed differs = behind_first numbers (rw differs refl)
 
 -- ---- the clauses of a procedure by its place
 
