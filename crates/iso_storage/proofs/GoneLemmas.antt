@@ -1,21 +1,16 @@
 -- What goals come to that remove clauses or a procedure.
-use Rattle.std.proofs.Common.{◌≡◌, ℕ, List, map, Bool, true, false, Option, Some, None, refl, sym, ap, ◌∙◌, subst, Result, Ok, Err, if◌then◌else◌, not, Vec, Global}
+use Rattle.std.proofs.Common.{◌≡◌, ℕ, List, map, Bool, true, false, Some, None, refl, sym, ap, ◌∙◌, subst, Result, Ok, Err, if◌then◌else◌, not, Vec, Global}
 use Rattle.std.specs.List.{filter, slice_get}
-use Rattle.std.specs.Result.{IsErrAnd}
 use Rattle.iso_model.specs.Terms.Trees.{Tree}
-use Rattle.iso_model.specs.Terms.TermOf.{term_of}
 use Rattle.iso_model.specs.Search.Databases as databases
 use Rattle.iso_model.specs.Search.Databases.{Key, key, Dynamic, with_clauses, without_procedure}
 use Rattle.iso_model.specs.Search.Errors.{permission_error}
 use Rattle.iso_model.specs.Search.Settlements.{Settled, Refuses, Changes}
 use Rattle.iso_model.specs.Search.Storages.{with_head, is_fixed, clauses_of, with_procedures, head_unifies, largest_head, retractall_key, retractall_named, retractall_changed, retractall_settled, changeable, abolished, abolish_key, abolish_settled, indicated}
 use Rattle.iso_model.specs.Search.Worlds.{World}
-use Rattle.iso_model.specs.declared.pauses.Ball.{Ball}
 use Rattle.iso_db.specs.Databases as db
 use Rattle.iso_db.specs.Databases.{Database}
 use Rattle.iso_db.specs.declared.kinds.Kind.TheVariants as kind
-use Rattle.iso_lib_core.specs.declared.outcomes.Fault.{Fault}
-use Rattle.iso_lib_core.specs.declared.outcomes.Fault.TheVariants as fault
 use Rattle.iso_lib.specs.Indicators.{IsFunctor, IsIndicated}
 use Rattle.iso_lib.specs.declared.indicators.Functor.{Functor}
 use Rattle.iso_plain_core.specs.declared.callables.Callable.{Callable}
@@ -25,7 +20,7 @@ use Rattle.iso_plain_core.specs.Callables.{callee_at}
 use Rattle.iso_plain_core.specs.Programs.{place_at, kept_at, kind_of}
 use Rattle.iso_plain_core.proofs.ChangeLemmas.{database_gone, finds_gone}
 use Rattle.iso_storage.specs.Matching.{all_removed}
-use Rattle.iso_storage.specs.Storing.{IsProgram, IsChanged, HasHead}
+use Rattle.iso_storage.specs.Storing.{IsProgram}
 use Rattle.iso_storage.proofs.RemovalLemmas.{database_absent, database_retracted, finds_retracted}
 
 -- ---- retractall/1

@@ -1,6 +1,5 @@
 -- The clauses of a view, one after another, and the numbers of those whose heads unify.
-use Rattle.std.proofs.Common.{◌≡◌, ℕ, List, [], ◌∷◌, ◌++◌, append_assoc, Bool, true, false, Option, Some, None, is_some, if◌then◌else◌, refl, sym, ap, ◌∙◌, subst, inl, inr}
-use Rattle.std.proofs.lemmas.List.{append-nil}
+use Rattle.std.proofs.Common.{◌≡◌, ℕ, List, [], ◌∷◌, ◌++◌, append_assoc, true, false, Option, Some, None, is_some, refl, sym, ap, ◌∙◌, subst}
 use Rattle.iso_model.specs.Terms.Trees.{Tree}
 use Rattle.iso_model.specs.Search.Databases as databases
 use Rattle.iso_model.specs.Search.Databases.{Key}
@@ -11,7 +10,7 @@ use Rattle.iso_db.specs.Presents.{Gives}
 use Rattle.iso_db.specs.declared.db.Db.{Db}
 use Rattle.iso_db.specs.declared.views.View.{View}
 use Rattle.iso_plain_core.specs.declared.clauses.Clause.{Clause}
-use Rattle.iso_plain_core.specs.Leaving.{AreLeft, NextLeft}
+use Rattle.iso_plain_core.specs.Leaving.{AreLeft}
 use Rattle.iso_plain_core.specs.Programs.{AreClauses, IsDatabase, place_at}
 use Rattle.iso_plain_core.proofs.ProgramLemmas.{kept_there, kind_there}
 use Rattle.iso_storage.specs.Matching.{matching_numbers}
@@ -25,34 +24,24 @@ pub record AreMatched (names : List (List ℕ)) (d : Db Clause) (h : Tree) (next
   pub are : AreClauses names kept others
   pub numbers_are : matching_numbers h next cs ≡ numbers ++ matching_numbers h next others
 
--- the numbers once one more clause was compared
-abbrev pub more_numbers : Bool → ℕ → List ℕ → List ℕ
-more_numbers answer number numbers = if answer then numbers ++ number ∷ [] else numbers
-
-next_numbers : (h : Tree) (next : ℕ) (answer : Bool) (c : databases.Clause) (others : List databases.Clause) (number : ℕ) (numbers : List ℕ) → answer ≡ head_unifies h next c → c.number ≡ number
-    → numbers ++ matching_numbers h next (c ∷ others) ≡ more_numbers answer number numbers ++ matching_numbers h next others
-next_numbers h next true c others number numbers is numbered = rw (← is) (ap (λ (n : ℕ). numbers ++ n ∷ matching_numbers h next others) numbered ∙ sym (append_assoc numbers (number ∷ []) (matching_numbers h next others)))
-next_numbers h next false c others number numbers is numbered = rw (← is) refl
-
-module _ {names : List (List ℕ)} {d : Db Clause} {h : Tree} {next : ℕ} {cs : List databases.Clause} where
-  -- before the first step
-  pub none_matched : {view : View} {ks : List (db.Clause Clause)} → Gives d view ks → AreClauses names ks cs → AreMatched names d h next cs view []
-  none_matched {ks = ks} gives are = record { kept = ks; others = cs; gives = gives; are = are; numbers_are = refl }
-
-  -- behind the last one
-  pub all_matched : {view : View} {numbers : List ℕ} (m : AreMatched names d h next cs view numbers) → m.others ≡ [] → numbers ≡ matching_numbers h next cs
-  all_matched {numbers = numbers} m none = sym (m.numbers_are ∙ ap (λ (xs : List databases.Clause). numbers ++ matching_numbers h next xs) none ∙ append-nil numbers)
-
-  -- one more clause was compared
-  pub one_matched : {view later : View} {numbers : List ℕ} {number : ℕ} (m : AreMatched names d h next cs view numbers) (answer : Bool) (left : AreLeft names d number later m.others) → answer ≡ head_unifies h next left.first
-      → AreMatched names d h next cs later (more_numbers answer number numbers)
-  one_matched {numbers = numbers} {number = number} m answer left is = record {
+module _ {names : List (List ℕ)} {d : Db Clause} {h : Tree} {next : ℕ} {cs : List databases.Clause} {view later : View} {numbers : List ℕ} {number : ℕ} (m : AreMatched names d h next cs view numbers) (left : AreLeft names d number later m.others) where
+  behind_first : (ns : List ℕ) → numbers ++ matching_numbers h next (left.first ∷ left.others) ≡ ns ++ matching_numbers h next left.others → AreMatched names d h next cs later ns
+  behind_first ns same = record {
     kept = left.behind;
     others = left.others;
     gives = left.gives;
     are = left.are;
-    numbers_are = m.numbers_are ∙ ap (λ (xs : List databases.Clause). numbers ++ matching_numbers h next xs) left.is ∙ next_numbers h next answer left.first left.others number numbers is left.numbered;
+    numbers_are = m.numbers_are ∙ ap (λ (xs : List databases.Clause). numbers ++ matching_numbers h next xs) left.is ∙ same;
   }
+
+  -- one more clause was compared, whose head unifies
+  pub one_matched : head_unifies h next left.first ≡ true → AreMatched names d h next cs later (numbers ++ number ∷ [])
+  one_matched unifies =
+      behind_first (numbers ++ number ∷ []) (rw unifies (ap (λ (n : ℕ). numbers ++ n ∷ matching_numbers h next left.others) left.numbered ∙ sym (append_assoc numbers (number ∷ []) (matching_numbers h next left.others))))
+
+  -- and one whose head doesn't
+  pub one_passed : head_unifies h next left.first ≡ false → AreMatched names d h next cs later numbers
+  one_passed differs = behind_first numbers (rw differs refl)
 
 -- ---- the clauses of a procedure by its place
 

@@ -1,5 +1,5 @@
 -- Clauses that are removed by their numbers, and what the database is then.
-use Rattle.std.proofs.Common.{◌≡◌, ◌==◌, ◌||◌, ◌<◌, ◌≤◌, ◌+◌, ℕ, zero, suc, List, [], ◌∷◌, map, length, drop, get_or, add-one, arith, refl, sym, ap, ◌∙◌, subst, Bool, true, false, not, if◌then◌else◌, Option, Some, None, option_map, unwrap_or, Result, Ok, Err, is_ok, inl, inr, Vec, Global}
+use Rattle.std.proofs.Common.{◌≡◌, ◌==◌, ◌<◌, ◌+◌, ℕ, zero, suc, List, [], ◌∷◌, map, length, drop, get_or, add-one, refl, sym, ap, ◌∙◌, subst, Bool, true, false, not, if◌then◌else◌, Option, Some, None, option_map, unwrap_or, Result, Ok, Err, is_ok, inl, inr, Vec, Global}
 use Rattle.std.specs.Prelude.{OnOk}
 use Rattle.std.specs.List.{filter, list_any, slice_get}
 use Rattle.std.proofs.Math.Seq.{drop-cons}
@@ -43,14 +43,6 @@ pub next_removed : (place : ℕ) (ns : List ℕ) (i n : ℕ) (d : Database Claus
 next_removed place ns i n d within is =
     let next : drop i ns ≡ n ∷ drop (i + 1) ns = rw (drop-cons ns i n within, ← is, add-one) refl in
     ap (λ xs. all_removed place xs d) next
-
-pub none_removed : (place : ℕ) (ns : List ℕ) (i : ℕ) (d : Database Clause) → length ns ≤ i → all_removed place (drop i ns) d ≡ d
-none_removed place [] i d past = ap (λ (xs : List ℕ). all_removed place xs d) (drop_none i) where
-  drop_none : (i : ℕ) → drop {A = ℕ} i [] ≡ []
-  drop_none zero = refl
-  drop_none (suc i) = refl
-none_removed place (n ∷ ns) zero d past = (let never : ⊥ = omega (arith, past) in absurd never)
-none_removed place (n ∷ ns) (suc i) d past = none_removed place ns i d (omega (arith, past))
 
 -- ---- the clauses
 

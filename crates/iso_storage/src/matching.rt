@@ -1,5 +1,5 @@
 //! The clauses whose heads unify with a term, while nothing is bound (8.9.5 of the second corrigendum).
-ghost use Rattle.std.specs.Prelude.{◌≡◌, ◌+◌, ◌<◌, ◌≤◌, ◌^◌, ℕ, List, Some, IfOk, OnOk, Err};
+ghost use Rattle.std.specs.Prelude.{◌≡◌, ◌+◌, ◌<◌, ◌^◌, ℕ, List, Some, IfOk, OnOk, Err};
 ghost use Rattle.iso_model.specs.Search.Databases as databases;
 ghost use Rattle.iso_model.specs.Search.Additions.{most_variables};
 ghost use Rattle.iso_model.specs.Search.Databases.{Key};

@@ -1,5 +1,5 @@
 -- The numbers so far are those of the clauses that the view gave, and the mark stands for the store at the start.
-use Rattle.std.proofs.Common.{◌≡◌, ℕ, List}
+use Rattle.std.proofs.Common.{◌≡◌, List}
 use Rattle.iso_model.specs.Search.Databases as databases
 use Rattle.iso_db.specs.Databases as db
 use Rattle.iso_db.specs.Presents.{Gives, remaining}

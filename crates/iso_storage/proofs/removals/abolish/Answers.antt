@@ -1,4 +1,4 @@
-use Rattle.std.proofs.Common.{◌≡◌, ℕ, Option, Some, None, true, false, refl, sym, ap, ◌∙◌}
+use Rattle.std.proofs.Common.{◌≡◌, Some, None, true, false, sym, ap, ◌∙◌}
 use Rattle.iso_model.specs.Search.Databases.{Key, without_procedure}
 use Rattle.iso_model.specs.Search.Errors.{key}
 use Rattle.iso_model.specs.Search.Storages.{is_fixed, indicated, abolish_key, abolish_settled}
@@ -6,10 +6,9 @@ use Rattle.iso_db.specs.Databases.{is_not_static}
 use Rattle.iso_db.specs.Presents.{contents}
 use Rattle.iso_store_core.specs.Presents.{meaning}
 use Rattle.iso_store_core.proofs.AtomLemmas.{text-is}
-use Rattle.iso_plain_core.specs.Callables.{callee_at}
 use Rattle.iso_plain_core.specs.Programs.{place_at, kept_at, kind_of}
 use Rattle.iso_plain_core.proofs.ProgramLemmas.{kind_there}
-use Rattle.iso_storage.specs.Storing.{IsNamed, user_place}
+use Rattle.iso_storage.specs.Storing.{IsNamed}
 use Rattle.iso_storage.proofs.HeadLemmas.{free_alone, user_there, user_within, user_absent}
 use Rattle.iso_storage.proofs.KeptPrograms.{permission_raised, changes_fit}
 use Rattle.iso_storage.proofs.RowLemmas.{key_text}
@@ -52,8 +51,7 @@ returns-in_default-clause-changed g c = λ w is.
     let allowed : is_fixed w.database.procedures (key text f.arity) ≡ false = sym (c.is_fixed.ensures names w.database is named) ∙ c.if-is_fixed.false in
     let absent : kind_of (kept_at d (key text f.arity)) ≡ None =
     user_absent names d c.args.callables.now w.database f text is named (sym c.place_of.ensures ∙ c.in_default.is) (free_alone w.database.procedures (key text f.arity) allowed) in
-    let none : kind_of (kept_at d h.0) ≡ None = ap (λ (k : Key). kind_of (kept_at d k)) same ∙ absent in
-    (
+    let none : kind_of (kept_at d h.0) ≡ None = ap (λ (k : Key). kind_of (kept_at d k)) same ∙ absent in (
       0,
       record w.database { procedures = without_procedure w.database.procedures h.0 },
       abolish_changes t w h.0 h.1 (ap (is_fixed w.database.procedures) same ∙ allowed),
@@ -74,8 +72,7 @@ returns-clause-changed g c = λ w is.
     let allowed : is_fixed w.database.procedures (key text f.arity) ≡ false = sym (c.is_fixed.ensures names w.database is named) ∙ c.if-is_fixed.false in
     let at : place_at d (key text f.arity) ≡ Some place = user_there names d c.args.callables.now w.database f text is named place (sym c.place_of.ensures ∙ c.in-Some.is) in
     let there : place_at d h.0 ≡ Some place = ap (place_at d) same ∙ at in
-    let gone = was_done c.abolish.result (c.abolish.ensures.allowed ∙ ap is_not_static (kind_there d (key text f.arity) place at) ∙ changes_fit (key text f.arity) is allowed) c.abolish.ensures.contents in
-    (
+    let gone = was_done c.abolish.result (c.abolish.ensures.allowed ∙ ap is_not_static (kind_there d (key text f.arity) place at) ∙ changes_fit (key text f.arity) is allowed) c.abolish.ensures.contents in (
       0,
       record w.database { procedures = without_procedure w.database.procedures h.0 },
       abolish_changes t w h.0 h.1 (ap (is_fixed w.database.procedures) same ∙ allowed),

@@ -1,10 +1,10 @@
-use Rattle.std.proofs.Common.{◌≡◌, ℕ, List, Some, true, false, not, refl, sym, ap, ◌∙◌, subst}
+use Rattle.std.proofs.Common.{◌≡◌, ℕ, List, Some, true, false, not, sym, ap, ◌∙◌, subst}
 use Rattle.std.specs.List.{filter}
 use Rattle.iso_model.specs.Search.Databases as databases
 use Rattle.iso_model.specs.Search.Databases.{Dynamic, with_clauses}
 use Rattle.iso_model.specs.Search.Errors.{key}
 use Rattle.iso_model.specs.Search.Storages.{is_fixed, clauses_of, head_unifies, largest_head, retractall_key, retractall_settled}
-use Rattle.iso_db.specs.Databases.{is_not_static, with_kind}
+use Rattle.iso_db.specs.Databases.{is_not_static}
 use Rattle.iso_db.specs.Presents.{contents}
 use Rattle.iso_store_core.specs.Presents.{meaning}
 use Rattle.iso_store_core.proofs.AtomLemmas.{text-is}
@@ -90,8 +90,7 @@ returns-clause-changed g c = λ w is.
     let stood : IsProgram names d rows w.database = record { database = c.in_ok-place.ensures.database names w.database is.database; found = found } in
     let those = c.as_slice-2.ensures.value ∙ c.in_ok-numbers.ensures.matching h.0 w.database at stood.database in
     let m : databases.Database = record w.database { procedures = with_clauses (filter (λ x. not (head_unifies t p.next x))) Dynamic w.database.procedures h.0 } in
-    let after = program_retracted d new w.database h.0 place (head_unifies t p.next) numbers f text at those c.remove_all.ensures.contents c.text-text.ensures same c.in_ok-place.ensures.called stood in
-    (
+    let after = program_retracted d new w.database h.0 place (head_unifies t p.next) numbers f text at those c.remove_all.ensures.contents c.text-text.ensures same c.in_ok-place.ensures.called stood in (
       largest_head (clauses_of w.database.procedures h.0),
       m,
       retractall_changes t p.next w h.0 h.3 free,

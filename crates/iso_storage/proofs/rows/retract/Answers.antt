@@ -4,7 +4,6 @@ use Rattle.iso_model.specs.Search.Additions.{head_of}
 use Rattle.iso_model.specs.Search.Databases.{Key}
 use Rattle.iso_model.specs.Search.Errors.{key, permission_error}
 use Rattle.iso_model.specs.Search.Storages.{Settled, Offers, with_head, is_fixed, clauses_of, retract_key, retract_settled}
-use Rattle.iso_db.specs.Presents.{contents}
 use Rattle.iso_plain_core.specs.Offers.{clause_offer}
 use Rattle.iso_store_core.specs.Presents.{meaning}
 use Rattle.iso_store_core.proofs.AtomLemmas.{text-is}
