@@ -14,6 +14,7 @@ pub mod GatherMoves
 pub mod OfferMoves
 pub mod ShowMoves
 pub mod ShowEnds
+pub mod TakeMoves
 pub mod StoreMoves
 pub mod LocalMoves
 pub mod SameBodies

@@ -1,5 +1,5 @@
 -- Where the frames are full the search has as many alternatives.
-use Rattle.std.proofs.Common.{ℕ, List, refl, ◌∙◌, Result, Ok, Err, Vec, Global}
+use Rattle.std.proofs.Common.{◌≡◌, ℕ, List, [], length, refl, ap, ◌∙◌, arith, Result, Ok, Err, Vec, Global}
 use Rattle.iso_atoms.specs.Texts.{KeepsTexts}
 use Rattle.iso_model.specs.declared.pauses.Pause.{Pause}
 use Rattle.iso_model.specs.declared.pauses.Pause.TheVariants as pause
@@ -8,6 +8,7 @@ use Rattle.iso_plain.proofs.WorldLemmas.{all_texts}
 use Rattle.iso_plain.specs.declared.plain.Move.{Move}
 use Rattle.iso_plain.specs.declared.plain.Move.TheVariants as move
 use Rattle.iso_plain_core.specs.declared.bodies.Node.{Node}
+use Rattle.iso_plain_core.specs.declared.parts.Choice.{Choice}
 use Rattle.iso_plain.specs.Stays.{Stays}
 use Rattle.iso_plain.specs.declared.plain.Plain.{Plain}
 use Rattle.iso_plain.specs.Limits.{WhereFull, MoveFull, ResultFull}
@@ -46,6 +47,15 @@ stays_on names {old = old} {between = between} {new = new} a b = record {
   vocabulary = b.vocabulary ∙ a.vocabulary;
   names_kept = keeps-then (names old.store) (names between.store) (names new.store) a.names_kept b.names_kept;
   within = λ h. b.within (a.within h);
+}
+
+-- the choices were dropped
+pub stays_bare : {S W M : Type 0} (names : S → List (List ℕ)) {old new : Plain S W M} (choices : Vec (Choice W M) Global) → choices.items ≡ [] → Stays names old new → Stays names old (record new { choices = choices })
+stays_bare names choices none b = record {
+  limit = b.limit;
+  vocabulary = b.vocabulary;
+  names_kept = b.names_kept;
+  within = λ h. (let count : length choices.items ≡ 0 = ap length none in omega (arith, count));
 }
 
 -- behind a goal of a built-in, which took a step

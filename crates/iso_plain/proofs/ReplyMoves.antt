@@ -44,7 +44,7 @@ use Rattle.iso_plain_core.specs.Entering.{Adds}
 use Rattle.iso_plain.specs.Catches.{EntersCatch, throwing, catching, calling_inside, catcher_of, recovery_of}
 use Rattle.iso_plain.specs.Gathers.{EntersFindall, FindsAll, finding, template_of, result_of}
 use Rattle.iso_plain.specs.Settles.{AsksAt, WasStopped}
-use Rattle.iso_plain.specs.Shows.{StoresAt}
+use Rattle.iso_plain.specs.Shows.{StoresAt, WasGivenUp}
 use Rattle.iso_plain.specs.Worlds.{IsWorld}
 use Rattle.iso_lib_core.specs.Replies.{IsUnbound, UnifiesCopy}
 use Rattle.iso_plain_core.specs.Replies.{IsReply, IsInside, Places}
@@ -60,7 +60,7 @@ use Rattle.iso_plain.proofs.RunMoves.{failed_engine, at, runs_to, throws, ends_b
 use Rattle.iso_plain_core.proofs.ArityLemmas.{HasArity, built_in_arguments}
 use Rattle.iso_plain_core.proofs.ReplyLemmas.{catch_parts, gather_parts}
 use Rattle.iso_plain.proofs.SameBodies.{around_own, around_steps, around_pushed, same_first, same_inside, same_finding}
-use Rattle.iso_plain.proofs.SearchMoves.{goes, goes_as, stops, stops_here, comes_over}
+use Rattle.iso_plain.proofs.SearchMoves.{goes, goes_as, stops, stops_here, stops_bare, comes_over}
 use Rattle.iso_plain.proofs.SearchSteps.{own_goal}
 use Rattle.iso_plain_core.proofs.StandingLemmas.{choices_length}
 
@@ -767,9 +767,9 @@ module _ {S W M : Type 0} (names : S → List (List ℕ)) (present : S → Prese
       stores_now new (move.Pauses p) was =
           rw was.0 (spent_stands names present stands older limit.Frames new.now new s (ap phase_of was.1) (stops_here names present stands older new o s r.same was.2), ap phase_of was.1)
 
-      pub store_stops : (new : Plain S W M) → WasStopped names present stands older new storing walker_stores → Stopped names present stands older new s
+      pub store_stops : (new : Plain S W M) → WasGivenUp names present stands older new storing → Stopped names present stands older new s
       store_stops new (inl kept) = stops_here names present stands older new o s r.same kept
-      store_stops new (inr kept) = stops names present stands older new o walker_stores s walker_stores.stack r.same stores_to refl kept.0 kept.1
+      store_stops new (inr kept) = stops_bare names present stands older new o s r.same kept
 
       pub store_over : (e.limit ≤ length e.choices.items) × (length walker_stores.stack ≡ suc (length storing.stack)) → ComesOver e.limit s
       store_over full =

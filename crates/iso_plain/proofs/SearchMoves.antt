@@ -1,5 +1,5 @@
 -- A move of the engine's own state is some steps of each state that is the same.
-use Rattle.std.proofs.Common.{◌≡◌, ◌≤◌, ℕ, suc, List, [], length, refl, sym, ◌∙◌, subst, inl, arith}
+use Rattle.std.proofs.Common.{◌≡◌, ◌≤◌, ℕ, suc, List, [], length, refl, sym, ◌∙◌, subst, inl, inr, arith}
 use Rattle.iso_model.specs.Terms.Variables.{variables}
 use Rattle.iso_model.specs.Search.Walker.{State, World, Alternative, Event, Ending, Goes, Gives, Ends, idle, step}
 use Rattle.iso_model.specs.Search.Runs.{Quiet, here, Comes, Finishes, ComesOver}
@@ -73,6 +73,18 @@ module _ {S W M : Type 0} (names : S → List (List ℕ)) (present : S → Prese
         stack = o.stack;
         keeps = subst (λ (w : World). Keeps names present stands older new w o.stack) beside.world keeps;
         alternatives = inl (variables o.query, beside.stack);
+      }
+
+  -- so without alternatives
+  pub stops_bare : (new : Plain S W M) (o s : State) → Same o s → Keeps names present stands older new o.world [] → Stopped names present stands older new s
+  stops_bare new o s same keeps =
+      let beside = same_beside o s same in
+      record {
+        at = s;
+        quiet = here;
+        stack = [];
+        keeps = subst (λ (w : World). Keeps names present stands older new w []) beside.world keeps;
+        alternatives = inr refl;
       }
 
   -- it stopped within a move, with the alternatives that the move goes to

@@ -1,31 +1,28 @@
 -- Clauses that are shown, one after another, and the database that goals change.
-use Rattle.std.proofs.Common.{◌≡◌, ℕ, zero, suc, ◌+◌, ◌*◌, ◌-◌, ◌<◌, ◌≤◌, ◌++◌, ◌==◌, List, [], ◌∷◌, length, map, take, Option, Some, None, Bool, true, false, if◌then◌else◌, refl, ap, ap₂, sym, ◌∙◌, subst, arith, Vec, Global}
-use Rattle.std.specs.List.{slice_get}
+use Rattle.std.proofs.Common.{◌≡◌, ℕ, suc, ◌+◌, ◌*◌, ◌-◌, ◌<◌, ◌≤◌, ◌++◌, List, [], ◌∷◌, length, take, Some, true, refl, ap, ap₂, sym, ◌∙◌, subst, arith, Vec, Global}
 use Rattle.iso_atoms.specs.Texts.{KeepsTexts}
-use Rattle.iso_model.specs.Terms.Trees.{Tree, row}
+use Rattle.iso_model.specs.Terms.Trees.{Tree}
 use Rattle.iso_model.specs.Terms.Variables.{variables}
 use Rattle.iso_model.specs.Search.Databases as databases
 use Rattle.iso_model.specs.Search.Databases.{Key, key_of}
-use Rattle.iso_model.specs.Search.BuiltIns.{built_in}
-use Rattle.iso_model.specs.Search.Walker.{State, World, Member, Alternative, Offered, pushed, with_rights, tried_right, offered}
+use Rattle.iso_model.specs.Search.Walker.{State, Member, Alternative, Offered, pushed, with_rights, tried_right, offered}
 use Rattle.iso_model.specs.Search.Settlements as walker
 use Rattle.iso_store_core.specs.Presents.{Present, KeepsMarks, meaning}
 use Rattle.iso_db.specs.Presents.{remaining}
 use Rattle.iso_db.specs.declared.views.View.{View}
-use Rattle.iso_plain_core.specs.Costs.{body_cost, most, left_cost, rest_cost, choice_cost, choices_cost}
+use Rattle.iso_plain_core.specs.Costs.{body_cost, most, rest_cost, choice_cost, choices_cost}
 use Rattle.iso_plain_core.specs.Leaving.{AreLeft}
 use Rattle.iso_plain_core.specs.Offers.{clause_offer}
 use Rattle.iso_plain_core.specs.Standing.{Chain, HasShown, StandsForChoices, GainsChoice, GoesOn, entered_at, most_numbers, numbers_a_step}
 use Rattle.iso_plain_core.specs.declared.parts.Choice as kept
-use Rattle.iso_plain_core.specs.declared.parts.Left.{Left}
 use Rattle.iso_plain_core.specs.declared.parts.Left.TheVariants as left
 use Rattle.iso_plain_core.specs.declared.parts.Showing.{Showing}
 use Rattle.iso_plain_core.proofs.CostLemmas.{left_step, left_higher, choices_last}
 use Rattle.iso_plain_core.proofs.LeavingLemmas.{left_long}
 use Rattle.iso_plain_core.proofs.StandingLemmas.{choices_push, last_split}
 use Rattle.iso_plain.specs.declared.plain.Plain.{Plain}
-use Rattle.iso_plain.specs.EngineStates.{IsAhead, Keeps, WentBack, links_of, went_back}
-use Rattle.iso_plain.specs.Shows.{Shows, ShowsNext, KeepsShown, shown_row, offers_of}
+use Rattle.iso_plain.specs.EngineStates.{WentBack, links_of, went_back}
+use Rattle.iso_plain.specs.Shows.{Shows, ShowsNext, shown_row, offers_of}
 use Rattle.iso_plain.proofs.AheadLemmas.{ahead_left}
 use Rattle.iso_plain.proofs.ChoiceLemmas.{with_left}
 use Rattle.iso_plain.proofs.OfferMoves.{rights_some, rights_none, rights_keep}
@@ -240,18 +237,6 @@ module _ {S W M : Type 0} (names : S → List (List ℕ)) (present : S → Prese
         let rows : offers_of shown n.key (n.clause ∷ n.others) ≡ rights = cc in
         let keep = rights_keep (shown_row (present e.store) shown) (offers_of shown n.key n.others) (went_back a below s) in
         ap (λ (ms : List Member). tried_right (shown_row (present e.store) shown) (clause_offer shown.removes n.key n.clause) ms left_state) keep.0 ∙ (λ i. offered (lefts i) (rows i) a.list (went_back a below s))
-
-    -- stopped there
-    pub left_kept : (new : Plain S W M) → Keeps names present stands older new left_state.world left_state.stack → KeepsShown names present stands older new shown s a below
-    left_kept new kept =
-        let keep = rights_keep (shown_row (present e.store) shown) (offers_of shown n.key n.others) (went_back a below s) in
-        record {
-          left = shown_row (present e.store) shown;
-          others = offers_of shown n.key n.others;
-          first = clause_offer shown.removes n.key n.clause;
-          is = n.left;
-          keeps = subst (λ (w : World). Keeps names present stands older new w left_state.stack) keep.1 kept;
-        }
 
 -- the first clause was tried, where those behind it are an alternative
 pub first_tried : {W : Type 0} (shown : Showing W) (left other : Tree) (k : Key) (c : databases.Clause) (cs : List databases.Clause) (s : State) → other ≡ left

@@ -53,6 +53,10 @@ module _ {S W M : Type 0} (names : S → List (List ℕ)) (present : S → Prese
   pub keeps_choices : (e : Plain S W M) (choices : Vec (kept.Choice W M) Global) (w : World) (ks : List Alternative) → choices.items ≡ e.choices.items → Keeps names present stands older e w ks → Keeps names present stands older (record e { choices = choices }) w ks
   keeps_choices e choices w ks same k = (k.0, k.1, (k.2.0, rw same k.2.1))
 
+  -- the choices were dropped
+  pub keeps_bare : (e : Plain S W M) (choices : Vec (kept.Choice W M) Global) (w : World) (ks : List Alternative) → choices.items ≡ [] → Keeps names present stands older e w ks → Keeps names present stands older (record e { choices = choices }) w []
+  keeps_bare e choices w ks none k = (k.0, k.1, ([], rw none none_kept))
+
   -- no goal was started
   pub stopped_before : (e : Plain S W M) (s : State) → Keeps names present stands older e s.world [] → Stopped names present stands older e s
   stopped_before e s keeps = record { at = s; quiet = here; stack = []; keeps = keeps; alternatives = inr refl }

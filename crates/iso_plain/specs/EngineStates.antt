@@ -86,7 +86,7 @@ module _ {S W M : Type 0} (names : S → List (List ℕ)) (present : S → Prese
   Keeps e w ks = IsWorld names e w × IsBase (stands e.store) e.base × ((named : List ℕ) × HasChoices e named ks)
 
   -- A spent engine stands for a state from which the search came, without an event, to one that has this world and these alternatives; where a
-  -- goal was not started none is left.
+  -- goal was not started, or a clause was not shown whole, none is left.
   pub record Stopped (e : Plain S W M) (s : State) : Type 0 where
     pub at : State
     pub quiet : Quiet s at

@@ -1,5 +1,5 @@
 -- Goals that read or change the database, as the engine comes to them (ISO/IEC 13211-1:1995, 7.4.2, 8.8, 8.9).
-use Rattle.std.specs.Prelude.{◌≡◌, ℕ, ◌+◌, ◌*◌, ◌≤◌, List, [], ◌∷◌, map, Bool, true, false, Option, Some, None}
+use Rattle.std.specs.Prelude.{◌≡◌, ℕ, ◌+◌, ◌*◌, ◌≤◌, List, [], ◌∷◌, map, Bool, true, false, Option, Some, None, ◌⊎◌}
 use Rattle.iso_model.specs.Terms.Trees.{Tree, row}
 use Rattle.iso_model.specs.Terms.Arguments.{arity}
 use Rattle.iso_model.specs.Terms.Copies.{renamed}
@@ -66,10 +66,6 @@ module _ {S W M : Type 0} (names : S → List (List ℕ)) (present : S → Prese
     pub left : a.left ≡ Offered (shown_row (present e.store) shown) (offers_of shown key (clause ∷ others))
     pub shows : Shows e shown (with_rights (shown_row (present e.store) shown) (offers_of shown key others) a.list (went_back a below s)) key clause others
 
-  -- Stopped at that clause, it keeps the world and the alternatives that stood then.
-  pub record KeepsShown (e : Plain S W M) (shown : Showing W) (s : State) (a : Alternative) (below : List Alternative) : Type 0 where
-    pub left : Tree
-    pub others : List walker.Offer
-    pub first : walker.Offer
-    pub is : a.left ≡ Offered left (first ∷ others)
-    pub keeps : Keeps names present stands older e s.world (with_rights left others a.list (went_back a below s)).stack
+  -- The goal was given up: before a clause was shown the engine has its alternatives, behind that none.
+  abbrev pub WasGivenUp : Plain S W M → State → Type 0
+  WasGivenUp e s = Keeps names present stands older e s.world s.stack ⊎ Keeps names present stands older e s.world []

@@ -23,6 +23,7 @@ impl<S: Store + Drop> Plain<S> {
     ghost use Rattle.iso_plain_core.specs.Standing.{IsAt};
     ghost use Rattle.iso_plain.specs.Stays.{Stays};
     ghost use Rattle.iso_plain.specs.Limits.{ResultMet, ResultFull};
+    ghost use Rattle.iso_plain.specs.declared.plain.Move.TheVariants.{Goes};
     ghost use Rattle.iso_plain_core.specs.declared.parts.Now.TheVariants as now;
     ghost use Rattle.iso_plain_core.specs.declared.parts.Todo.TheVariants as todo;
 
@@ -158,14 +159,7 @@ impl<S: Store + Drop> Plain<S> {
                 self.throw(ball, frame.next);
                 Ok(Move::Goes)
             }
-            Replied::Calls(body) => {
-                self.now = Now::Running(Frame {
-                    todo: Todo::Body(body),
-                    mark: self.choices.len(),
-                    next: frame.next,
-                });
-                Ok(Move::Goes)
-            }
+            Replied::Calls(body) => Ok(self.call_body(body, frame.next)),
             Replied::CallsOnce(body) => self.call_once(body, frame.next),
             Replied::Refutes(body) => self.refute(body, frame.next),
             Replied::Repeats => self.repeat(frame.next),
@@ -179,6 +173,19 @@ impl<S: Store + Drop> Plain<S> {
                 Ok(Move::Pauses(Pause::Halt(status)))
             }
         }
+    }
+
+    /// Goes on with this body, which is opaque to cut (7.8.3), and then with the members from this place on.
+    fn call_body(&mut self, body: usize, next: Option<usize>) -> Move
+        ensures goes { result ≡ Goes }
+        ensures runs { self.new ≡ record self.old { now = now.Running (record { todo = todo.Body body; mark = length self.old.choices.items; next = next }) } }
+    {
+        self.now = Now::Running(Frame {
+            todo: Todo::Body(body),
+            mark: self.choices.len(),
+            next,
+        });
+        Move::Goes
     }
 
     /// Calls a procedure with the attempt's clauses; where no choice may be made any more the engine is spent.

@@ -1,5 +1,5 @@
 //! The engine's moves at goals that read or change the database (7.4.2, 8.8, 8.9).
-ghost use Rattle.std.specs.Prelude.{◌≡◌, ℕ, suc, ◌+◌, ◌<◌, ◌≤◌, IfOk, OnOk, OnErr, Err, List, ◌∷◌, length, Some, None, true, false};
+ghost use Rattle.std.specs.Prelude.{◌≡◌, ℕ, suc, ◌+◌, ◌<◌, ◌≤◌, IfOk, OnOk, OnErr, Err, List, [], ◌∷◌, length, Some, None, true, false};
 ghost use Rattle.iso_model.specs.Terms.Trees.{Tree};
 ghost use Rattle.iso_model.specs.Search.Databases as databases;
 ghost use Rattle.iso_model.specs.Search.Storages.{storage_settled};
@@ -28,8 +28,7 @@ use iso_store_core::{Shape, Store, StoreFault};
 use std::alloc::AllocError;
 
 impl<S: Store + Drop> Plain<S> {
-    ghost use Rattle.iso_plain.specs.Shows.{Shows, HasUnified, IsUserPlace, StoresAt, ShowsNext, KeepsShown, shown_row, offers_of};
-    ghost use Rattle.iso_plain.specs.Settles.{WasStopped};
+    ghost use Rattle.iso_plain.specs.Shows.{Shows, HasUnified, IsUserPlace, StoresAt, ShowsNext, WasGivenUp, shown_row, offers_of};
     ghost use Rattle.iso_plain.specs.EngineStates.{IsEngine, Keeps, WentBack, WasCalled, Falls, cost, weight, phase_of, went_back};
     ghost use Rattle.iso_plain_core.specs.Costs.{choices_cost, now_cost, body_cost, left_cost, most, rest_cost, frame_costs, whole_cost};
     ghost use Rattle.iso_model.specs.Search.Engines.{IsAwake};
@@ -208,13 +207,13 @@ impl<S: Store + Drop> Plain<S> {
     }
 
     /// Unifies the head and the body that are shown with those of the first clause; those behind it are one choice. The errors: the store
-    /// is full, or memory was refused; where no choice may be made any more the engine is spent.
+    /// is full, or memory was refused; then no choices are left. Where no choice may be made any more the engine is spent.
     fn show(&mut self, shown: Showing<S::Word>) -> Result<Move, StoreFault>
         requires { (s : State) × (k : databases.Key) × (c : databases.Clause) × (cs : List databases.Clause) × Shows S.names S.present S.stands S.older self.old shown s k c cs }
         ensures called { (s : State) (k : databases.Key) (c : databases.Clause) (cs : List databases.Clause) → Shows S.names S.present S.stands S.older self.old shown s k c cs
             → IfOk result (λ m. WasCalled S.names S.present S.stands S.older m self.new s (offered (shown_row (S.present self.old.store) shown) (offers_of shown k (c ∷ cs)) s.list s)) }
         ensures kept { (s : State) (k : databases.Key) (c : databases.Clause) (cs : List databases.Clause) → Shows S.names S.present S.stands S.older self.old shown s k c cs
-            → OnErr result (WasStopped S.names S.present S.stands S.older self.new s (with_rights (shown_row (S.present self.old.store) shown) (offers_of shown k cs) s.list s)) }
+            → OnErr result (Keeps S.names S.present S.stands S.older self.new s.world []) }
         ensures falls { (w : ℕ) → choices_cost (frame_costs self.old.frames.items) self.old.choices.items
             + rest_cost (frame_costs self.old.frames.items) shown.rest ≤ w → IfOk result (λ m. Falls m (whole_cost (suc self.old.steps) w) (weight self.new)) }
         ensures frames { (s : State) (k : databases.Key) (c : databases.Clause) (cs : List databases.Clause) → Shows S.names S.present S.stands S.older self.old shown s k c cs
@@ -222,11 +221,21 @@ impl<S: Store + Drop> Plain<S> {
         ensures met { ResultMet S.full result self.new }
         ensures stays { Stays S.names self.old self.new }
     {
-        if !self.push_shown(shown)? {
-            self.now = Now::Spent(Limit::Frames);
-            return Ok(Move::Pauses(Pause::FramesFull));
+        match self.push_shown(shown) {
+            Ok(true) => {}
+            Ok(false) => {
+                self.now = Now::Spent(Limit::Frames);
+                return Ok(Move::Pauses(Pause::FramesFull));
+            }
+            Err(_) => {
+                self.choices.clear();
+                return Err(StoreFault::NoMemory);
+            }
         }
-        self.show_clause(shown)?;
+        if let Err(fault) = self.show_clause(shown) {
+            self.choices.clear();
+            return Err(fault);
+        }
         Ok(Move::Goes)
     }
 
@@ -242,7 +251,7 @@ impl<S: Store + Drop> Plain<S> {
         ensures called { (s : State) → StoresAt S.names S.present S.stands S.older self.old row goal s place
             → IfOk result (λ m. WasCalled S.names S.present S.stands S.older m self.new s (settled (storage_settled row (meaning (S.present self.old.store) goal) s.next s.world) s.list s)) }
         ensures kept { (s : State) → StoresAt S.names S.present S.stands S.older self.old row goal s place
-            → OnErr result (WasStopped S.names S.present S.stands S.older self.new s (settled (storage_settled row (meaning (S.present self.old.store) goal) s.next s.world) s.list s)) }
+            → OnErr result (WasGivenUp S.names S.present S.stands S.older self.new s) }
         ensures falls { (w : ℕ) → choices_cost (frame_costs self.old.frames.items) self.old.choices.items
             + rest_cost (frame_costs self.old.frames.items) place + 1 ≤ w → IfOk result (λ m. Falls m (whole_cost (suc self.old.steps) w) (weight self.new)) }
         ensures frames { (s : State) → StoresAt S.names S.present S.stands S.older self.old row goal s place
@@ -308,7 +317,7 @@ impl<S: Store + Drop> Plain<S> {
     }
 
     /// Unifies a head and a body with those of the first clause that was left at the newest choice; then it goes on, or fails next. The
-    /// errors: the store is full, or memory was refused.
+    /// errors: the store is full, or memory was refused; then no choices are left.
     pub(crate) fn show_next(
         &mut self,
         mark: S::Mark,
@@ -322,7 +331,7 @@ impl<S: Store + Drop> Plain<S> {
             → OnOk result (IsEngine S.names S.present S.stands S.older self.new (offered first rights a.list (went_back a below s))) }
         ensures kept { (c : kept.Choice S.Word S.Mark) (s : State) (a : Alternative) (below : List Alternative) → c.mark ≡ mark → c.left ≡ left.Shown shown
             → WentBack S.names S.present S.stands S.older self.old c s a below
-            → OnErr result (KeepsShown S.names S.present S.stands S.older self.new shown s a below) }
+            → OnErr result (Keeps S.names S.present S.stands S.older self.new s.world []) }
         ensures awake { OnOk result (IsAwake (phase_of self.new.now)) }
         ensures full { result ≡ Err StoreFault.Full → S.full self.new.store }
         ensures steps { self.new.steps ≡ self.old.steps }
@@ -330,6 +339,10 @@ impl<S: Store + Drop> Plain<S> {
         ensures stays { Stays S.names self.old self.new }
     {
         self.leave_shown(mark, shown);
-        self.show_clause(shown)
+        if let Err(fault) = self.show_clause(shown) {
+            self.choices.clear();
+            return Err(fault);
+        }
+        Ok(())
     }
 }

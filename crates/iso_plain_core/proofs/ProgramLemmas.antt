@@ -134,6 +134,15 @@ placed_other d k j apart = by_place (db.place_in d k.name k.arity) refl where
       rw (with_procedure-new d k.name k.arity at)
       (wider_place d k.name k.arity j ∙ ap (λ b. option_or (place_at d j) (if b then Some (length d.procedures) else None)) (other_key k j apart) ∙ or_none (place_at d j))
 
+-- a place that is had stays
+pub placed_stays : (d : Database Clause) (name : List ℕ) (arity : ℕ) (k : Key) (i : ℕ) → place_at d k ≡ Some i → place_at (with_procedure name arity d) k ≡ Some i
+placed_stays d name arity k i had = by_place (db.place_in d name arity) refl where
+  by_place : (o : Option ℕ) → db.place_in d name arity ≡ o → place_at (with_procedure name arity d) k ≡ Some i
+  by_place (Some j) at = rw (with_procedure-known d name arity j at) had
+  by_place None at =
+      rw (with_procedure-new d name arity at)
+      (wider_place d name arity k ∙ ap (λ o. option_or o (if is_key k.name k.arity (keys.key name arity) then Some (length d.procedures) else None)) had)
+
 placed_added : (d : Database Clause) (name : List ℕ) (arity : ℕ) → (with_procedure name arity d).added ≡ d.added
 placed_added d name arity = by_place (db.place_in d name arity) refl where
   by_place : (o : Option ℕ) → db.place_in d name arity ≡ o → (with_procedure name arity d).added ≡ d.added

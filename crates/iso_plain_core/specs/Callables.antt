@@ -62,3 +62,8 @@ pub record Finds (names : List (List ℕ)) (rows : List (Vec Callable Global)) (
   pub calls : Key → Option Callee
   pub indexes : Indexes names rows calls
   pub agrees : (k : Key) → Agrees d k (calls k)
+
+-- Procedures that had places have them still, and what was called is called.
+pub record KeepsPlaces (old new : Database Clause) (rows more : List (Vec Callable Global)) : Type 0 where
+  pub places : (k : Key) (i : ℕ) → place_at old k ≡ Some i → place_at new k ≡ Some i
+  pub calls : (a n : ℕ) (c : Callee) → callee_at rows a n ≡ Some c → callee_at more a n ≡ Some c

@@ -6,7 +6,7 @@ ghost use Rattle.iso_model.specs.Search.Errors.{key};
 ghost use Rattle.iso_db.specs.Databases.{kind_at};
 ghost use Rattle.iso_db.specs.Presents.{contents, KeepsViews, KeepsClauses};
 ghost use Rattle.iso_plain_core.specs.Kept.{IsClause};
-ghost use Rattle.iso_plain_core.specs.Callables.{Finds, callee_at};
+ghost use Rattle.iso_plain_core.specs.Callables.{Finds, KeepsPlaces, callee_at};
 ghost use Rattle.iso_plain_core.specs.Programs.{IsDatabase, place_at, kind_of, kept_at};
 ghost use Rattle.iso_plain_core.specs.Adding.{IsFound, MayCome, came, with_more};
 ghost use Rattle.iso_plain_core.specs.declared.callables.Callee.TheVariants as callee;
@@ -43,6 +43,7 @@ pub fn place(
     ensures within { IfOk result (λ place. place < length (contents db.new).procedures) }
     ensures kind { IfOk result (λ place. kind_at (contents db.new) place ≡ kind_of (kept_at (contents db.old) (key text.now functor.arity))) }
     ensures called { IfOk result (λ place. callee_at callables.new.items functor.name functor.arity ≡ Some (callee.User place)) }
+    ensures stays { KeepsPlaces (contents db.old) (contents db.new) callables.old.items callables.new.items }
     ensures found { (names : List (List ℕ)) → IsFound names functor text.now (contents db.old) callables.old.items → Finds names callables.new.items (contents db.new) }
     ensures database { (names : List (List ℕ)) (m : databases.Database) → IsDatabase names (contents db.old) m → IsDatabase names (contents db.new) m }
     ensures views { KeepsViews db.old db.new }

@@ -120,3 +120,8 @@ UnlessStopped (Err fault.NoMemory) holds = Unit {0}
 abbrev pub UnlessDone : {W : Type 0} → Result (Stored W) Fault → Type 0 → Type 0
 UnlessDone (Ok stored.Done) holds = Unit {0}
 UnlessDone result holds = holds
+
+-- a goal that changed the database is done, or its error is thrown
+abbrev pub done_of : {W : Type 0} → Result Unit Fault → Result (Stored W) Fault
+done_of (Ok _) = Ok stored.Done
+done_of (Err e) = Err e

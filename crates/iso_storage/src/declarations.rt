@@ -1,18 +1,20 @@
 //! `dynamic/1`, `multifile/1` and `discontiguous/1`, as goals and directives (7.4.2.1 to 7.4.2.3).
-ghost use Rattle.std.specs.Prelude.{◌≡◌, ◌≢◌, map, IfOk, OnOk, OnErr, Err, true, false};
+ghost use Rattle.std.specs.Prelude.{◌≡◌, ◌≢◌, ◌<◌, length, map, IfOk, OnErr, Err};
 ghost use Rattle.std.specs.List.{All, list_any};
+ghost use Rattle.iso_atoms.specs.Texts.{EachOnce};
 ghost use Rattle.iso_model.specs.Terms.Types.{is_variable};
-ghost use Rattle.iso_model.specs.declared.pauses.Ball.{Ball};
-ghost use Rattle.iso_lib_core.specs.Replies.{IsError};
-ghost use Rattle.iso_model.specs.Search.Errors.{key, instantiation_error};
-ghost use Rattle.iso_model.specs.Search.Storages.{declared_parts, dynamic_settled, checked_settled, dynamic_key, changeable, indicated, all_indicated};
+ghost use Rattle.iso_model.specs.Search.Errors.{key};
+ghost use Rattle.iso_model.specs.Search.Storages.{dynamic_settled, checked_settled, dynamic_key, changeable, indicated, all_indicated};
 ghost use Rattle.iso_model.specs.Search.Worlds.{World};
 ghost use Rattle.iso_model.specs.Search.Databases as databases;
+ghost use Rattle.iso_db.specs.Databases.{with_kind};
 ghost use Rattle.iso_db.specs.Presents.{contents, KeepsViews, KeepsClauses};
+ghost use Rattle.iso_db.specs.declared.kinds.Kind.TheVariants.{Dynamic};
 ghost use Rattle.iso_store_core.specs.Presents.{Holds, meaning};
 ghost use Rattle.iso_lib.specs.Indicators.{IsIndicated};
+ghost use Rattle.iso_plain_core.specs.Callables.{KeepsPlaces};
 ghost use Rattle.iso_storage.specs.Storing.{IsProgram, IsChanged};
-ghost use Rattle.iso_storage.specs.Declaring.{AreIndicated, IsOnlyChecked};
+ghost use Rattle.iso_storage.specs.Declaring.{AreParts, AreIndicated, AreChecked, IsOnlyChecked, IsUser, IsPlaced, ArePlaced, all_dynamic};
 
 use super::heads::is_fixed;
 use iso_db::Db;
@@ -24,6 +26,20 @@ use iso_plain_core::procedures;
 use iso_store_core::{Shape, Store};
 use std::alloc::{AllocError, Global};
 
+/// Whether one of the words stands for an unbound variable.
+fn has_unbound<S: Store>(store: &S, words: &[S::Word]) -> bool
+    requires { All (λ w. Holds (S.present store.now) w) words.now }
+    ensures unbound { result ≡ list_any is_variable (map (meaning (S.present store.now)) words.now) }
+    ensures each_once { 0 < length words.now → EachOnce (S.names store.now) }
+{
+    for word in words {
+        if let Shape::Var(_) = store.shape(*word) {
+            return true;
+        }
+    }
+    false
+}
+
 /// Words for the indicators that a declaration names. The errors: `instantiation_error` where one of them is unbound, raised by this
 /// procedure of one argument; or memory was refused.
 fn parts<S: Store>(
@@ -33,20 +49,31 @@ fn parts<S: Store>(
     by: &str,
 ) -> Result<Vec<S::Word>, Fault>
     requires argument { Holds (S.present store.now) argument }
-    ensures hold { IfOk result (λ ws. All (λ w. Holds (S.present store.now) w) ws.items) }
-    ensures parts { IfOk result (λ ws. map (meaning (S.present store.now)) ws.items ≡ declared_parts (meaning (S.present store.now) argument)) }
-    ensures bound { OnOk result (list_any is_variable (declared_parts (meaning (S.present store.now) argument)) ≡ false) }
-    ensures full { result ≢ Err Fault.Full }
-    ensures unbound { (ball : Ball) → result ≡ Err (Fault.Raise ball)
-        → (list_any is_variable (declared_parts (meaning (S.present store.now) argument)) ≡ true) × IsError (instantiation_error (key by.now 1)) ball }
+    ensures parts { AreParts (S.present store.now) (key by.now 1) (meaning (S.present store.now) argument) result }
+    ensures each_once { IfOk result (λ ws. 0 < length ws.items → EachOnce (S.names store.now)) }
 {
     let parts = declared_parts(alloc, store, argument)?;
-    for part in parts.as_slice() {
-        if let Shape::Var(_) = store.shape(*part) {
-            return Err(Fault::Raise(errors::instantiation(alloc, by, 1)?));
-        }
+    if has_unbound(store, parts.as_slice()) {
+        return Err(Fault::Raise(errors::instantiation(alloc, by, 1)?));
     }
     Ok(parts)
+}
+
+/// Checks that these are indicators. The errors are those of the first that is none, raised by this procedure of one argument; or memory
+/// was refused.
+fn check_all<S: Store>(
+    alloc: Global,
+    store: &S,
+    indicators: &[S::Word],
+    by: &str,
+) -> Result<(), Fault>
+    requires { All (λ w. Holds (S.present store.now) w) indicators.now }
+    ensures { AreChecked (all_indicated (λ p. indicated p (key by.now 1)) (map (meaning (S.present store.now)) indicators.now)) result }
+{
+    for indicator in indicators {
+        indicated(alloc, store, *indicator, by)?;
+    }
+    Ok(())
 }
 
 /// What a goal of `multifile/1` or `discontiguous/1` comes to, this procedure of one argument: its indicators are checked. The errors are
@@ -59,12 +86,10 @@ pub(crate) fn check<S: Store>(
 ) -> Result<(), Fault>
     requires argument { Holds (S.present store.now) argument }
     ensures checked { (w : World) → IsOnlyChecked w (checked_settled (key by.now 1) (meaning (S.present store.now) argument) w) result }
+    ensures full { result ≢ Err Fault.Full }
 {
     let parts = parts(alloc, store, argument, by)?;
-    for part in parts.as_slice() {
-        indicated(alloc, store, *part, by)?;
-    }
-    Ok(())
+    check_all(alloc, store, parts.as_slice(), by)
 }
 
 /// The procedure that the indicator names, which may be declared as dynamic. The errors are those of an indicator, and
@@ -76,18 +101,19 @@ fn changeable<S: Store>(
     callables: &[Vec<Callable>],
     indicator: S::Word,
 ) -> Result<Functor, Fault>
+    requires each_once { EachOnce (S.names store.now) }
     requires indicator { Holds (S.present store.now) indicator }
     requires program { (m : databases.Database) × IsProgram (S.names store.now) (contents db.now) callables.now m }
-    ensures { (w : World) → IsProgram (S.names store.now) (contents db.now) callables.now w.database
-        → IsIndicated (S.names store.now) (changeable w.database.procedures dynamic_key (indicated (meaning (S.present store.now) indicator) dynamic_key)) result }
+    ensures { (m : databases.Database) → IsProgram (S.names store.now) (contents db.now) callables.now m
+        → IsIndicated (S.names store.now) (changeable m.procedures dynamic_key (indicated (meaning (S.present store.now) indicator) dynamic_key)) result }
 {
-    let functor = indicated(alloc, store, indicator, "dynamic")?;
-    let text = store.text(functor.name);
-    if is_fixed(db, callables, functor, text) {
-        let ball = errors::static_procedure(alloc, text, functor.arity, "dynamic")?;
+    let Functor { name, arity } = indicated(alloc, store, indicator, "dynamic")?;
+    let text = store.text(name);
+    if is_fixed(db, callables, Functor { name, arity }, text) {
+        let ball = errors::static_procedure(alloc, text, arity, "dynamic")?;
         return Err(Fault::Raise(ball));
     }
-    Ok(functor)
+    Ok(Functor { name, arity })
 }
 
 /// The procedures that the indicators name. The errors are those of `changeable` at the first that has one.
@@ -98,16 +124,42 @@ fn all_changeable<S: Store>(
     callables: &[Vec<Callable>],
     indicators: &[S::Word],
 ) -> Result<Vec<Functor>, Fault>
+    requires each_once { 0 < length indicators.now → EachOnce (S.names store.now) }
     requires indicators { All (λ w. Holds (S.present store.now) w) indicators.now }
     requires program { (m : databases.Database) × IsProgram (S.names store.now) (contents db.now) callables.now m }
-    ensures { (w : World) → IsProgram (S.names store.now) (contents db.now) callables.now w.database
-        → AreIndicated (S.names store.now) (all_indicated (λ p. changeable w.database.procedures dynamic_key (indicated p dynamic_key)) (map (meaning (S.present store.now)) indicators.now)) result }
+    ensures { (m : databases.Database) → IsProgram (S.names store.now) (contents db.now) callables.now m
+        → AreIndicated (S.names store.now) (all_indicated (λ p. changeable m.procedures dynamic_key (indicated p dynamic_key)) (map (meaning (S.present store.now)) indicators.now)) result }
 {
     let mut functors = Vec::new(alloc);
     for indicator in indicators {
-        functors.push(changeable(alloc, store, db, callables, *indicator)?)?;
+        let functor = changeable(alloc, store, db, callables, *indicator)?;
+        functors.push(functor)?;
     }
     Ok(functors)
+}
+
+/// The place of this procedure, which is no built-in: the one that it has, or a new one, where it is absent. The error is that memory was
+/// refused.
+fn place_of<S: Store>(
+    alloc: Global,
+    store: &S,
+    db: &mut Db<Clause>,
+    callables: &mut Vec<Vec<Callable>>,
+    functor: Functor,
+) -> Result<usize, AllocError>
+    requires each_once { EachOnce (S.names store.now) }
+    requires user { IsUser (S.names store.now) functor }
+    requires program { (m : databases.Database) × IsProgram (S.names store.now) (contents db.old) callables.old.items m }
+    ensures placed { IfOk result (λ place. IsPlaced (S.names store.now) (contents db.new) callables.new.items functor place) }
+    ensures stays { KeepsPlaces (contents db.old) (contents db.new) callables.old.items callables.new.items }
+    ensures kept { (m : databases.Database) → IsProgram (S.names store.now) (contents db.old) callables.old.items m
+        → IsProgram (S.names store.now) (contents db.new) callables.new.items m }
+    ensures views { KeepsViews db.old db.new }
+    ensures clauses { KeepsClauses db.old db.new }
+{
+    let Functor { name, arity } = functor;
+    let text = store.text(name);
+    procedures::place(alloc, db, callables, Functor { name, arity }, text)
 }
 
 /// The places of these procedures; absent ones get places, and stay absent. The error is that memory was refused.
@@ -117,13 +169,44 @@ fn places<S: Store>(
     db: &mut Db<Clause>,
     callables: &mut Vec<Vec<Callable>>,
     functors: &[Functor],
-) -> Result<Vec<usize>, AllocError> {
+) -> Result<Vec<usize>, AllocError>
+    requires each_once { 0 < length functors.now → EachOnce (S.names store.now) }
+    requires users { All (IsUser (S.names store.now)) functors.now }
+    requires program { (m : databases.Database) × IsProgram (S.names store.now) (contents db.old) callables.old.items m }
+    ensures placed { IfOk result (λ places. ArePlaced (S.names store.now) (contents db.new) callables.new.items functors.now places.items) }
+    ensures kept { (m : databases.Database) → IsProgram (S.names store.now) (contents db.old) callables.old.items m
+        → IsProgram (S.names store.now) (contents db.new) callables.new.items m }
+    ensures views { KeepsViews db.old db.new }
+    ensures clauses { KeepsClauses db.old db.new }
+{
     let mut places = Vec::new(alloc);
     for functor in functors {
-        let text = store.text(functor.name);
-        places.push(procedures::place(alloc, db, callables, *functor, text)?)?;
+        let place = place_of(alloc, store, db, callables, *functor)?;
+        places.push(place)?;
     }
     Ok(places)
+}
+
+/// Declares the procedure at this place as dynamic; a static one stays what it is.
+fn declare_at(db: &mut Db<Clause>, place: usize)
+    requires { place < length (contents db.old).procedures }
+    ensures contents { contents db.new ≡ with_kind Dynamic place (contents db.old) }
+    ensures views { KeepsViews db.old db.new }
+    ensures clauses { KeepsClauses db.old db.new }
+{
+    let _ = db.declare(place);
+}
+
+/// Declares the procedures at these places as dynamic.
+fn declare_all(db: &mut Db<Clause>, places: &[usize])
+    requires { All (λ place. place < length (contents db.old).procedures) places.now }
+    ensures contents { contents db.new ≡ all_dynamic places.now (contents db.old) }
+    ensures views { KeepsViews db.old db.new }
+    ensures clauses { KeepsClauses db.old db.new }
+{
+    for place in places {
+        declare_at(db, *place);
+    }
 }
 
 /// What a goal of `dynamic/1` comes to: the procedures that its indicators name are dynamic from then on. The errors are those of `parts`,
@@ -148,8 +231,6 @@ pub(crate) fn declare<S: Store>(
     let parts = parts(alloc, store, argument, "dynamic")?;
     let functors = all_changeable(alloc, store, db, callables.as_slice(), parts.as_slice())?;
     let places = places(alloc, store, db, callables, functors.as_slice())?;
-    for place in places.as_slice() {
-        let _ = db.declare(*place);
-    }
+    declare_all(db, places.as_slice());
     Ok(())
 }

@@ -1,5 +1,6 @@
 //! Procedures by the heads of their clauses, and which of them goals may neither read nor change (7.5.2, 8.8.1.3, 8.9).
 ghost use Rattle.std.specs.Prelude.{◌≡◌, ◌<◌, ℕ, List, false, not, IfSome};
+ghost use Rattle.iso_atoms.specs.Texts.{EachOnce};
 ghost use Rattle.iso_model.specs.Search.Databases as databases;
 ghost use Rattle.iso_model.specs.Search.Errors.{key};
 ghost use Rattle.iso_model.specs.Search.Storages as table;
@@ -31,7 +32,8 @@ pub(crate) fn procedure_of<S: Store>(
 ) -> Result<Functor, Fault>
     requires head { Holds (S.present store.now) head }
     requires arity { arity < 256 }
-    ensures { HasHead (S.names store.now) (meaning (S.present store.now) head) (key by.now arity) result }
+    ensures head { HasHead (S.names store.now) (meaning (S.present store.now) head) (key by.now arity) result }
+    ensures each_once { EachOnce (S.names store.now) }
 {
     match store.shape(head) {
         Shape::Var(_) => Err(Fault::Raise(errors::instantiation(alloc, by, arity)?)),
@@ -45,7 +47,7 @@ pub(crate) fn procedure_of<S: Store>(
 }
 
 /// The place in the database of the procedure with this name, where it has one.
-fn place_of(callables: &[Vec<Callable>], functor: Functor) -> Option<usize>
+pub(crate) fn place_of(callables: &[Vec<Callable>], functor: Functor) -> Option<usize>
     ensures { result ≡ user_place (callee_at callables.now functor.name functor.arity) }
 {
     match callables::find(callables, functor.name, functor.arity) {

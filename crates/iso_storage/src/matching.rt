@@ -1,19 +1,21 @@
 //! The clauses whose heads unify with a term, while nothing is bound (8.9.5 of the second corrigendum).
-ghost use Rattle.std.specs.Prelude.{◌≡◌, ◌+◌, ◌<◌, ◌≤◌, ◌^◌, ℕ, List, IfOk, OnOk, Err};
+ghost use Rattle.std.specs.Prelude.{◌≡◌, ◌+◌, ◌<◌, ◌^◌, ℕ, List, Some, IfOk, OnOk, Err};
 ghost use Rattle.iso_model.specs.Search.Databases as databases;
 ghost use Rattle.iso_model.specs.Search.Additions.{most_variables};
-ghost use Rattle.iso_model.specs.Search.Storages.{head_unifies};
-ghost use Rattle.iso_db.specs.Databases as db;
-ghost use Rattle.iso_db.specs.Presents.{Gives};
+ghost use Rattle.iso_model.specs.Search.Databases.{Key};
+ghost use Rattle.iso_model.specs.Search.Storages.{head_unifies, clauses_of};
+ghost use Rattle.iso_db.specs.Databases as held;
+ghost use Rattle.iso_db.specs.Presents.{contents, Gives};
 ghost use Rattle.iso_store_core.specs.Presents.{Holds, meaning, KeepsMarks};
 ghost use Rattle.iso_plain_core.specs.declared.clauses.Clause as kept;
 ghost use Rattle.iso_plain_core.specs.Kept.{IsClause};
-ghost use Rattle.iso_plain_core.specs.Programs.{AreClauses};
+ghost use Rattle.iso_plain_core.specs.Programs.{AreClauses, IsDatabase, place_at};
 ghost use Rattle.iso_storage.specs.Matching.{matching_numbers};
 
 use iso_db::{ClauseId, Db, View};
 use iso_plain_core::clauses::Clause;
 use iso_plain_core::entries;
+use iso_plain_core::leaving::next_left;
 use iso_store_core::{Store, StoreFault};
 use std::alloc::Global;
 
@@ -42,17 +44,17 @@ fn unifies<S: Store>(
 
 /// The numbers of the clauses of the view whose heads unify with the term; the store is as it was then. The errors: the store is full, or
 /// memory was refused.
-pub(crate) fn matching<S: Store>(
+fn matching<S: Store>(
     alloc: Global,
     store: &mut S,
     db: &Db<Clause>,
     view: View,
     head: S::Word,
 ) -> Result<Vec<ClauseId>, StoreFault>
-    requires clauses { (ks : List (db.Clause kept.Clause)) × (cs : List databases.Clause) × Gives db.now view ks × AreClauses (S.names store.old) ks cs }
+    requires clauses { (ks : List (held.Clause kept.Clause)) × (cs : List databases.Clause) × Gives db.now view ks × AreClauses (S.names store.old) ks cs }
     requires head { Holds (S.present store.old) head }
     requires room { (S.present store.old).next + most_variables < 2 ^ 63 }
-    ensures matching { (ks : List (db.Clause kept.Clause)) (cs : List databases.Clause) → Gives db.now view ks → AreClauses (S.names store.old) ks cs
+    ensures matching { (ks : List (held.Clause kept.Clause)) (cs : List databases.Clause) → Gives db.now view ks → AreClauses (S.names store.old) ks cs
         → IfOk result (λ ids. ids.items ≡ matching_numbers (meaning (S.present store.old) head) (S.present store.old).next cs) }
     ensures present { OnOk result (S.present store.new ≡ S.present store.old) }
     ensures full { result ≡ Err StoreFault.Full → S.full store.new }
@@ -62,13 +64,38 @@ pub(crate) fn matching<S: Store>(
     let mut numbers = Vec::new(alloc);
     let mut later = view;
     let mark = store.mark();
-    while let Some(id) = db.next_in(&mut later) {
-        let matches = unifies(alloc, store, db.clause(id), head)?;
+    while let Some(number) = next_left(db, &mut later) {
+        let matches = unifies(alloc, store, db.clause(number), head)?;
         store.undo(mark);
         if matches {
-            numbers.push(id)?;
+            numbers.push(number)?;
         }
     }
     store.forget(mark);
     Ok(numbers)
+}
+
+/// The numbers of the clauses of the procedure at this place whose heads unify with the term; there are none where it is absent. The store
+/// is as it was then. The errors: the store is full, or memory was refused.
+pub(crate) fn matching_at<S: Store>(
+    alloc: Global,
+    store: &mut S,
+    db: &Db<Clause>,
+    place: usize,
+    head: S::Word,
+) -> Result<Vec<ClauseId>, StoreFault>
+    requires place { (k : Key) × (m : databases.Database) × (place_at (contents db.now) k ≡ Some place) × IsDatabase (S.names store.old) (contents db.now) m }
+    requires head { Holds (S.present store.old) head }
+    requires room { (S.present store.old).next + most_variables < 2 ^ 63 }
+    ensures matching { (k : Key) (m : databases.Database) → place_at (contents db.now) k ≡ Some place → IsDatabase (S.names store.old) (contents db.now) m
+        → IfOk result (λ ids. ids.items ≡ matching_numbers (meaning (S.present store.old) head) (S.present store.old).next (clauses_of m.procedures k)) }
+    ensures present { OnOk result (S.present store.new ≡ S.present store.old) }
+    ensures full { result ≡ Err StoreFault.Full → S.full store.new }
+    ensures names { S.names store.new ≡ S.names store.old }
+    ensures marks { KeepsMarks (S.stands store.old) (S.stands store.new) }
+{
+    match db.view(place) {
+        Ok(view) => matching(alloc, store, db, view, head),
+        Err(_) => Ok(Vec::new(alloc)),
+    }
 }

@@ -1,26 +1,38 @@
 //! `retractall/1` and `abolish/1`: clauses are removed, or a procedure with all of them (8.9.4, and 8.9.5 of the second corrigendum).
-ghost use Rattle.std.specs.Prelude.{◌≡◌, ◌<◌, ◌+◌, ◌^◌, ◌≢◌, ℕ, List, OnErr, Err};
+ghost use Rattle.std.specs.Prelude.{◌≡◌, ◌<◌, ◌+◌, ◌^◌, ◌≢◌, ℕ, List, length, true, OnErr, Err};
+ghost use Rattle.iso_atoms.specs.Texts.{EachOnce};
 ghost use Rattle.iso_model.specs.Search.Additions.{most_variables};
-ghost use Rattle.iso_model.specs.Search.Storages.{retractall_settled, abolish_settled};
+ghost use Rattle.iso_model.specs.Search.Errors.{key};
+ghost use Rattle.iso_model.specs.Search.Storages.{indicated, retractall_settled, abolish_settled};
 ghost use Rattle.iso_model.specs.Search.Worlds.{World};
 ghost use Rattle.iso_model.specs.Search.Databases as databases;
+ghost use Rattle.iso_db.specs.Databases.{kind_at, with_kind, is_not_static};
 ghost use Rattle.iso_db.specs.Presents.{contents, KeepsViews, KeepsClauses};
+ghost use Rattle.iso_db.specs.declared.kinds.Kind.TheVariants.{Dynamic};
 ghost use Rattle.iso_store_core.specs.Presents.{Holds, meaning, KeepsMarks};
+ghost use Rattle.iso_lib.specs.Indicators.{IsIndicated};
+ghost use Rattle.iso_storage.specs.Matching.{all_removed};
 ghost use Rattle.iso_storage.specs.Storing.{IsProgram, IsChanged, UnlessStopped};
 
-use super::heads::{clauses_of, is_fixed, procedure_of};
-use super::matching::matching;
+use super::heads::{is_fixed, place_of, procedure_of};
+use super::matching::matching_at;
 use iso_db::{ClauseId, Db};
-use iso_lib::indicators::indicated;
+use iso_lib::indicators::{Functor, indicated};
 use iso_lib::{Fault, errors};
-use iso_plain_core::callables::{self, Callable, Callee};
+use iso_plain_core::callables::Callable;
 use iso_plain_core::clauses::Clause;
 use iso_plain_core::procedures;
-use iso_store_core::Store;
+use iso_store_core::{Shape, Store};
 use std::alloc::Global;
 
-/// Removes the clauses with these numbers from the procedure at this place, which becomes dynamic where it is absent.
-fn remove_all(db: &mut Db<Clause>, place: usize, numbers: &[ClauseId]) {
+/// Makes the procedure at this place, which is not static, dynamic where it is absent, and removes the clauses with these numbers from it.
+fn remove_all(db: &mut Db<Clause>, place: usize, numbers: &[ClauseId])
+    requires place { place < length (contents db.old).procedures }
+    requires allowed { is_not_static (kind_at (contents db.old) place) ≡ true }
+    ensures contents { contents db.new ≡ all_removed place numbers.now (with_kind Dynamic place (contents db.old)) }
+    ensures views { KeepsViews db.old db.new }
+    ensures clauses { KeepsClauses db.old db.new }
+{
     let _ = db.declare(place);
     for number in numbers {
         db.remove_from(place, *number);
@@ -51,20 +63,34 @@ pub(crate) fn retractall<S: Store>(
     ensures views { KeepsViews db.old db.new }
     ensures clauses { KeepsClauses db.old db.new }
 {
-    let functor = procedure_of(alloc, store, head, "retractall", 1)?;
-    let text = store.text(functor.name);
-    if is_fixed(db, callables.as_slice(), functor, text) {
-        let ball = errors::static_procedure(alloc, text, functor.arity, "retractall")?;
+    let Functor { name, arity } = procedure_of(alloc, store, head, "retractall", 1)?;
+    let text = store.text(name);
+    if is_fixed(db, callables.as_slice(), Functor { name, arity }, text) {
+        let ball = errors::static_procedure(alloc, text, arity, "retractall")?;
         return Err(Fault::Raise(ball));
     }
-    let place = procedures::place(alloc, db, callables, functor, text)?;
-    let Ok(view) = db.view(place) else {
-        let _ = db.declare(place);
-        return Ok(());
-    };
-    let numbers = matching(alloc, store, db, view, head)?;
+    let place = procedures::place(alloc, db, callables, Functor { name, arity }, text)?;
+    let numbers = matching_at(alloc, store, db, place, head)?;
     remove_all(db, place, numbers.as_slice());
     Ok(())
+}
+
+/// The procedure that the indicator names. The errors are those of an indicator, raised by this procedure of one argument; or memory was
+/// refused.
+fn procedure_named<S: Store>(
+    alloc: Global,
+    store: &S,
+    indicator: S::Word,
+    by: &str,
+) -> Result<Functor, Fault>
+    requires indicator { Holds (S.present store.now) indicator }
+    ensures named { IsIndicated (S.names store.now) (indicated (meaning (S.present store.now) indicator) (key by.now 1)) result }
+    ensures each_once { EachOnce (S.names store.now) }
+{
+    if let Shape::Var(_) = store.shape(indicator) {
+        return Err(Fault::Raise(errors::instantiation(alloc, by, 1)?));
+    }
+    indicated(alloc, store, indicator, by)
 }
 
 /// Removes the procedure that the indicator names, with all its clauses. The errors: those of an indicator, and
@@ -86,14 +112,15 @@ pub(crate) fn abolish<S: Store>(
     ensures views { KeepsViews db.old db.new }
     ensures clauses { KeepsClauses db.old db.new }
 {
-    let functor = indicated(alloc, store, indicator, "abolish")?;
-    let text = store.text(functor.name);
-    if is_fixed(db, callables, functor, text) {
-        let ball = errors::static_procedure(alloc, text, functor.arity, "abolish")?;
+    let Functor { name, arity } = procedure_named(alloc, store, indicator, "abolish")?;
+    let text = store.text(name);
+    if is_fixed(db, callables, Functor { name, arity }, text) {
+        let ball = errors::static_procedure(alloc, text, arity, "abolish")?;
         return Err(Fault::Raise(ball));
     }
-    if let Some(Callee::User(place)) = callables::find(callables, functor.name, functor.arity) {
-        let _ = db.abolish(place);
-    }
+    let Some(place) = place_of(callables, Functor { name, arity }) else {
+        return Ok(());
+    };
+    let _ = db.abolish(place);
     Ok(())
 }

@@ -1,5 +1,5 @@
 //! `clause/2` and `retract/1`: the clauses of a procedure are offered, one after another (8.8.1, 8.9.3).
-ghost use Rattle.std.specs.Prelude.{◌≡◌, ℕ, List, IfOk, IfSome, OnOk, Err};
+ghost use Rattle.std.specs.Prelude.{◌≡◌, ◌≢◌, ℕ, List, IfOk, IfSome, OnOk, Err};
 ghost use Rattle.iso_atoms.specs.Texts.{EachOnce, KeepsTexts};
 ghost use Rattle.iso_model.specs.Terms.Arguments.{arity, argument};
 ghost use Rattle.iso_model.specs.Search.Additions.{head_of, body_of};
@@ -68,6 +68,7 @@ pub(crate) fn clause<S: Store>(
     requires program { (m : databases.Database) × IsProgram (S.names store.now) (contents db.now) callables.now m }
     ensures stored { (w : World) → IsProgram (S.names store.now) (contents db.now) callables.now w.database
         → IsOffered (S.names store.now) (S.present store.now) db.now (clause_settled (argument 0 (meaning (S.present store.now) goal)) (argument 1 (meaning (S.present store.now) goal)) w) result }
+    ensures full { result ≢ Err Fault.Full }
 {
     let (head, body) = (store.arg(goal, 0), store.arg(goal, 1));
     let Functor { name, arity } = procedure_of(alloc, store, head, "clause", 2)?;

@@ -9,7 +9,7 @@ ghost use Rattle.iso_model.specs.Search.Worlds.{World};
 ghost use Rattle.iso_db.specs.Presents.{contents, KeepsViews, KeepsClauses};
 ghost use Rattle.iso_lib_core.specs.Replies.{IsUnbound};
 ghost use Rattle.iso_store_core.specs.Presents.{Holds, meaning, KeepsMarks};
-ghost use Rattle.iso_storage.specs.Storing.{IsProgram, IsStored, UnlessDone, UnlessStopped};
+ghost use Rattle.iso_storage.specs.Storing.{IsProgram, IsStored, UnlessDone, UnlessStopped, done_of};
 
 use super::additions::add;
 use super::declarations::{check, declare};
@@ -34,6 +34,14 @@ pub enum Stored<W> {
     Fails,
     /// Clauses are offered, whose heads and bodies are to be unified with two terms.
     Shows(Showing<W>),
+}
+
+/// A goal that changed the database is done, or its error is raised.
+fn done<W: Copy>(changed: Result<(), Fault>) -> Result<Stored<W>, Fault>
+    ensures { result ≡ done_of changed }
+{
+    changed?;
+    Ok(Stored::Done)
 }
 
 /// What a goal of this row comes to, which has as many arguments. The errors: one is raised, the store is full, or memory was refused. The
@@ -63,15 +71,14 @@ pub fn store<S: Store>(
 {
     let first = store.arg(goal, 0);
     match row {
-        Storage::Clause => return clause(alloc, store, db, callables.as_slice(), goal),
-        Storage::Retract => return retract(alloc, store, db, callables.as_slice(), first),
-        Storage::Asserta => add(alloc, store, db, callables, first, Way::First, "asserta")?,
-        Storage::Assertz => add(alloc, store, db, callables, first, Way::Last, "assertz")?,
-        Storage::Retractall => retractall(alloc, store, db, callables, first)?,
-        Storage::Abolish => abolish(alloc, store, db, callables.as_slice(), first)?,
-        Storage::Dynamic => declare(alloc, store, db, callables, first)?,
-        Storage::Multifile => check(alloc, store, first, "multifile")?,
-        Storage::Discontiguous => check(alloc, store, first, "discontiguous")?,
+        Storage::Clause => clause(alloc, store, db, callables.as_slice(), goal),
+        Storage::Retract => retract(alloc, store, db, callables.as_slice(), first),
+        Storage::Asserta => done(add(alloc, store, db, callables, first, Way::First, "asserta")),
+        Storage::Assertz => done(add(alloc, store, db, callables, first, Way::Last, "assertz")),
+        Storage::Retractall => done(retractall(alloc, store, db, callables, first)),
+        Storage::Abolish => done(abolish(alloc, store, db, callables.as_slice(), first)),
+        Storage::Dynamic => done(declare(alloc, store, db, callables, first)),
+        Storage::Multifile => done(check(alloc, store, first, "multifile")),
+        Storage::Discontiguous => done(check(alloc, store, first, "discontiguous")),
     }
-    Ok(Stored::Done)
 }

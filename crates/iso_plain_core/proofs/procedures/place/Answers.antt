@@ -1,14 +1,15 @@
 -- The place is that of the key, and is found by the atom.
-use Rattle.std.proofs.Common.{◌≡◌, sym, ap, ◌∙◌, Some, None, subst}
+use Rattle.std.proofs.Common.{◌≡◌, ◌==◌, ◌&&◌, ℕ, sym, ap, ◌∙◌, Some, None, subst}
 use Rattle.iso_model.specs.Search.Errors.{key}
 use Rattle.iso_db.specs.Databases.{Database, kind_at, with_procedure}
 use Rattle.iso_db.specs.Presents.{contents}
 use Rattle.iso_plain_core.specs.declared.clauses.Clause.{Clause}
 use Rattle.iso_plain_core.specs.declared.callables.Callee.TheVariants as callee
-use Rattle.iso_plain_core.specs.Callables.{callee_at, Finds}
+use Rattle.std.specs.Option.{option_or}
+use Rattle.iso_plain_core.specs.Callables.{callee_at, Finds, KeepsPlaces, where_holds}
 use Rattle.iso_plain_core.specs.Programs.{IsDatabase, place_at, kept_at, kind_of}
 use Rattle.iso_plain_core.proofs.AddingLemmas.{called_own, found_callee, found_place, finds_placed, finds_new}
-use Rattle.iso_plain_core.proofs.ProgramLemmas.{place_within, placed_kept, database_placed, kind_there}
+use Rattle.iso_plain_core.proofs.ProgramLemmas.{place_within, placed_kept, placed_stays, database_placed, kind_there}
 use Rattle.iso_plain_core.proofs.procedures.place.Goals as goal
 
 pub unreachable-requires : goal.unreachable-requires
@@ -69,3 +70,15 @@ returns-in_ok-insert-in-None-clause-kind c =
     subst (λ (d : Database Clause). kind_at d c.in_ok-place-in-None.place ≡ kind_of (kept_at old named)) (sym placed.contents)
     (kind_there (with_procedure c.args.text.now c.args.functor.arity old) named c.in_ok-place-in-None.place (subst (λ (d : Database Clause). place_at d named ≡ Some c.in_ok-place-in-None.place) placed.contents placed.place)
     ∙ (placed_kept old c.args.text.now c.args.functor.arity named).0)
+
+pub returns-in_err-insert-in-None-clause-stays : goal.returns-in_err-insert-in-None-clause-stays
+returns-in_err-insert-in-None-clause-stays c = record {
+  places = λ k i had. subst (λ (d : Database Clause). place_at d k ≡ Some i) (sym c.in_ok-place-in-None.ensures.contents) (placed_stays (contents c.args.db.now) c.args.text.now c.args.functor.arity k i had);
+  calls = λ a n x had. c.in_err-insert-in-None.ensures.err a n ∙ had;
+}
+
+pub returns-in_ok-insert-in-None-clause-stays : goal.returns-in_ok-insert-in-None-clause-stays
+returns-in_ok-insert-in-None-clause-stays c = record {
+  places = λ k i had. subst (λ (d : Database Clause). place_at d k ≡ Some i) (sym c.in_ok-place-in-None.ensures.contents) (placed_stays (contents c.args.db.now) c.args.text.now c.args.functor.arity k i had);
+  calls = λ a n x had. c.in_ok-insert-in-None.ensures.ok a n ∙ ap (λ o. option_or o (where_holds (a == c.args.functor.name && c.args.functor.arity == n) (callee.User c.in_ok-place-in-None.place))) had;
+}

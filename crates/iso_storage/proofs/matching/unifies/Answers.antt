@@ -1,15 +1,13 @@
-use Rattle.std.proofs.Common.{◌≡◌, ℕ, length, arith, ◌∙◌, refl, sym, ap, subst, ◌≤◌, is_some}
+use Rattle.std.proofs.Common.{◌≡◌, ℕ, length, arith, ◌∙◌, ap, ◌≤◌, is_some}
 use Rattle.iso_model.specs.Terms.Trees.{Tree, Variable}
 use Rattle.iso_model.specs.Terms.Unification.{unifier_of}
 use Rattle.iso_store_core.specs.Presents.{meaning}
 use Rattle.iso_plain_core.specs.Written.{term_in}
 use Rattle.iso_plain_core.proofs.WrittenLemmas.{term_is}
-use Rattle.iso_model.specs.Search.Databases as databases
 use Rattle.iso_model.specs.Terms.Copies.{numbers_from, renamed}
 use Rattle.iso_model.proofs.OnTerms.CopyLemmas.{length-numbers_from}
 use Rattle.iso_plain_core.specs.Standing.{AreVariables}
 use Rattle.iso_plain_core.specs.Entering.{GoalFits}
-use Rattle.iso_plain_core.specs.Kept.{IsClause}
 use Rattle.iso_plain_core.proofs.KeptLemmas.{head_fits}
 use Rattle.iso_plain_core.proofs.PatternLemmas.{variables_hold, made_renamed}
 use Rattle.iso_plain_core.proofs.EnteringLemmas.{variables_length}

@@ -4,7 +4,6 @@ use Rattle.iso_model.specs.Search.Additions.{head_of}
 use Rattle.iso_model.specs.Search.Databases.{Key}
 use Rattle.iso_model.specs.Search.Errors.{key, permission_error}
 use Rattle.iso_model.specs.Search.Storages.{Settled, Offers, with_head, is_fixed, clauses_of, retract_key, retract_settled}
-use Rattle.iso_db.specs.Presents.{contents}
 use Rattle.iso_plain_core.specs.Offers.{clause_offer}
 use Rattle.iso_store_core.specs.Presents.{meaning}
 use Rattle.iso_store_core.proofs.AtomLemmas.{text-is}
@@ -24,7 +23,7 @@ pub is_fixed-requires : goal.is_fixed-requires
 is_fixed-requires g c =
     let names = g.S.Store.names c.clause_parts.new.store in
     let k = c.requires.program in
-    (names, k.0, program_kept c.clause_parts.ensures.names k.1, record { each_once = c.clause_parts.ensures.each_once; atom = c.text-text.ensures; few = c.in_ok-name.ensures.2.few })
+    (names, k.0, program_kept c.clause_parts.ensures.names k.1, record { each_once = c.clause_parts.ensures.each_once; atom = c.text-text.ensures; few = c.in_ok-name.ensures.head.2.few })
 
 pub returns-in_err-ball-clause-kept : goal.returns-in_err-ball-clause-kept
 returns-in_err-ball-clause-kept g c = λ m is. program_kept c.clause_parts.ensures.names is
@@ -39,14 +38,14 @@ pub clauses_of-view-requires : goal.clauses_of-view-requires
 clauses_of-view-requires g c =
     let names = g.S.Store.names c.clause_parts.new.store in
     let k = c.requires.program in
-    (names, k.0, program_kept c.clause_parts.ensures.names k.1, record { each_once = c.clause_parts.ensures.each_once; atom = c.text-text.ensures; few = c.in_ok-name.ensures.2.few })
+    (names, k.0, program_kept c.clause_parts.ensures.names k.1, record { each_once = c.clause_parts.ensures.each_once; atom = c.text-text.ensures; few = c.in_ok-name.ensures.head.2.few })
 
 pub returns-then-is_fixed-clause-offered : goal.returns-then-is_fixed-clause-offered
 returns-then-is_fixed-clause-offered g c = λ w was.
     (let names = g.S.Store.names c.clause_parts.new.store in
     let is = program_kept c.clause_parts.ensures.names was in
     let t = meaning (g.S.Store.present c.args.store.now) c.args.clause in
-    let h = c.in_ok-name.ensures in
+    let h = c.in_ok-name.ensures.head in
     let f = c.in_ok-name.field-0 in
     let same : h.0 ≡ key c.text-text.result.now f.arity = key_text names f h.0 c.text-text.result.now h.2 (text-is names f.name c.text-text.result.now c.text-text.ensures) in
     let named : IsNamed names f c.text-text.result.now = record { each_once = c.clause_parts.ensures.each_once; atom = c.text-text.ensures; few = h.2.few } in
@@ -60,7 +59,7 @@ returns-clause-offered g c = λ w was.
     let q = g.S.Store.present c.clause_parts.new.store in
     let is = program_kept c.clause_parts.ensures.names was in
     let t = meaning (g.S.Store.present c.args.store.now) c.args.clause in
-    let h = c.in_ok-name.ensures in
+    let h = c.in_ok-name.ensures.head in
     let f = c.in_ok-name.field-0 in
     let parts = c.in_ok-head.ensures in
     let same : h.0 ≡ key c.text-text.result.now f.arity = key_text names f h.0 c.text-text.result.now h.2 (text-is names f.name c.text-text.result.now c.text-text.ensures) in

@@ -9,6 +9,7 @@ use Rattle.iso_plain.proofs.FailLemmas.{ends_run, resumes_on, passes_on, repeats
 use Rattle.iso_plain.proofs.ResumeLemmas.{has_members, newest_is}
 use Rattle.iso_plain.proofs.GatherMoves.{found_on, found_stops}
 use Rattle.iso_plain.proofs.OfferMoves.{offers_on, offers_stop}
+use Rattle.iso_plain.proofs.SearchMoves.{stops_bare}
 use Rattle.iso_plain.proofs.plain.Plain.fail.Goals as goal
 
 pub returns-then-is_empty-clause-moves : goal.returns-then-is_empty-clause-moves
@@ -272,6 +273,15 @@ returns-in_ok-show_next-in-Shown-clause-moves g c = λ s r.
     let has = has_members g.S.Store.names g.S.Store.present g.S.Store.stands g.S.Store.older mid b.0 r.own b.1 b.2 b.5 _ tries in
     let e = c.in_ok-show_next-in-Shown.ensures in
     offers_on g.S.Store.names g.S.Store.present g.S.Store.stands g.S.Store.older c.args.self.now c.show_next.new.self s r b.1 b.2 c.requires.failing b.3 _ _ has.is (e.tried b.0 r.own b.1 b.2 _ _ b.4 tries b.5 has.is) e.awake)
+
+pub returns-in_err-show_next-in-Shown-clause-stopped : goal.returns-in_err-show_next-in-Shown-clause-stopped
+returns-in_err-show_next-in-Shown-clause-stopped g c = λ s r.
+    (let b = c.go_back-mark.ensures.back r.own r.engine in
+    let mid = c.go_back-mark.new.self in
+    let many : c.len.result ≡ length mid.choices.items = cc (c.len.ensures, mid.choices.ok.0) in
+    let same = newest_is g.S.Store.names g.S.Store.present g.S.Store.stands g.S.Store.older mid b.0 r.own b.1 b.2 b.5 c.len.result c.index.result.now many c.index.ensures in
+    let tries = ap (λ (x : _). x.left) (sym same) ∙ c.in-Shown.is in
+    behind_error c.from_residual-in_err-show_next-in-Shown.result (stops_bare g.S.Store.names g.S.Store.present g.S.Store.stands g.S.Store.older c.show_next.new.self r.own s r.same (c.in_err-show_next-in-Shown.ensures.kept b.0 r.own b.1 b.2 b.4 tries b.5)))
 
 pub returns-in_ok-show_next-in-Shown-clause-falls : goal.returns-in_ok-show_next-in-Shown-clause-falls
 returns-in_ok-show_next-in-Shown-clause-falls g c =

@@ -1,4 +1,4 @@
-use Rattle.std.proofs.Common.{◌≡◌, ◌-◌, length, ap, refl, subst, arith}
+use Rattle.std.proofs.Common.{◌-◌, length, ap, refl, subst, arith}
 use Rattle.std.proofs.lemmas.Result.{on_err_weaker}
 use Rattle.iso_model.specs.Terms.TermOf.{term_of}
 use Rattle.iso_model.specs.Search.BuiltIns.{reply}
@@ -75,13 +75,12 @@ returns-in-Raises-clause-falls g c =
 pub returns-in-Calls-clause-moves : goal.returns-in-Calls-clause-moves
 returns-in-Calls-clause-moves g c = λ s r.
     (let by = calls_by (g.S.Store.present c.args.self.now.store) (g.S.Store.present c.reply.new.store) c.args.self.now.nodes.items c.reply.new.nodes.items (reply c.args.built_in (meaning (g.S.Store.present c.args.self.now.store) c.args.goal)) c.in-Calls.body (rw c.in-Calls.is at c.in_ok-replied.ensures.replies) in
-    let height : c.len.result ≡ length c.args.self.now.choices.items = cc (c.len.ensures, c.args.self.now.choices.ok.0) in
-    rw height (calls_now g.S.Store.names g.S.Store.present g.S.Store.stands g.S.Store.older c.args.self.now c.reply.new.store c.reply.new.nodes s c.args.frame c.args.place c.args.goal c.requires.now c.requires.there r c.requires.steps c.args.built_in c.requires.built_in c.in_ok-replied.ensures.marks c.in_ok-replied.ensures.names c.in_ok-replied.ensures.nodes by.0 c.in-Calls.body by.2 by.1))
+    rw (c.call_body.ensures.goes, c.call_body.ensures.runs) (calls_now g.S.Store.names g.S.Store.present g.S.Store.stands g.S.Store.older c.args.self.now c.reply.new.store c.reply.new.nodes s c.args.frame c.args.place c.args.goal c.requires.now c.requires.there r c.requires.steps c.args.built_in c.requires.built_in c.in_ok-replied.ensures.marks c.in_ok-replied.ensures.names c.in_ok-replied.ensures.nodes by.0 c.in-Calls.body by.2 by.1))
 
 pub returns-in-Calls-clause-falls : goal.returns-in-Calls-clause-falls
 returns-in-Calls-clause-falls g c =
     let by = calls_by (g.S.Store.present c.args.self.now.store) (g.S.Store.present c.reply.new.store) c.args.self.now.nodes.items c.reply.new.nodes.items (reply c.args.built_in (meaning (g.S.Store.present c.args.self.now.store) c.args.goal)) c.in-Calls.body (rw c.in-Calls.is at c.in_ok-replied.ensures.replies) in
-    calls_falls g.S.Store.names g.S.Store.present g.S.Store.stands g.S.Store.older c.args.self.now c.requires.stands.0 c.args.frame c.args.place c.requires.now c.requires.there.asks c.requires.stands.1 c.requires.steps c.reply.new.store c.reply.new.nodes c.in-Calls.body c.len.result by.2.body by.2.stands
+    rw (c.call_body.ensures.goes, c.call_body.ensures.runs) (calls_falls g.S.Store.names g.S.Store.present g.S.Store.stands g.S.Store.older c.args.self.now c.requires.stands.0 c.args.frame c.args.place c.requires.now c.requires.there.asks c.requires.stands.1 c.requires.steps c.reply.new.store c.reply.new.nodes c.in-Calls.body (length c.args.self.now.choices.items) by.2.body by.2.stands)
 
 -- ---- for its first solution
 
@@ -347,6 +346,9 @@ returns-in-Halts-clause-moves g c = λ s r. (
 )
 
 -- ---- what stays
+
+pub returns-in-Calls-clause-stays : goal.returns-in-Calls-clause-stays
+returns-in-Calls-clause-stays g c = rw c.call_body.ensures.runs (record { limit = refl; vocabulary = refl; names_kept = c.in_ok-replied.ensures.names; within = λ h. h })
 
 pub returns-in-Raises-clause-stays : goal.returns-in-Raises-clause-stays
 returns-in-Raises-clause-stays g c = stays_behind g.S.Store.names c.reply.new.store c.reply.new.nodes (c.args.self.now.steps - 1) c.in_ok-replied.ensures.names c.throw.ensures.stays

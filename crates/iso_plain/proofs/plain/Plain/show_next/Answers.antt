@@ -1,8 +1,11 @@
-use Rattle.std.proofs.Common.{subst}
-use Rattle.std.proofs.lemmas.Result.{on_ok_weaker, on_err_weaker}
-use Rattle.iso_model.specs.Search.Walker.{State}
-use Rattle.iso_plain.specs.EngineStates.{IsEngine}
-use Rattle.iso_plain.proofs.ShowMoves.{left_state, left_tried, left_kept}
+use Rattle.std.proofs.Common.{[], subst}
+use Rattle.iso_model.specs.Search.Walker.{State, World}
+use Rattle.iso_plain.specs.EngineStates.{IsEngine, Keeps, went_back}
+use Rattle.iso_plain.specs.Shows.{shown_row, offers_of}
+use Rattle.iso_plain.proofs.LimitLemmas.{stays_on, stays_bare}
+use Rattle.iso_plain.proofs.OfferMoves.{rights_keep}
+use Rattle.iso_plain.proofs.ShowMoves.{left_state, left_tried}
+use Rattle.iso_plain.proofs.StoppedLemmas.{keeps_bare}
 use Rattle.iso_plain.proofs.plain.Plain.show_next.Goals as goal
 
 pub show_clause-requires : goal.show_clause-requires
@@ -17,13 +20,16 @@ returns-clause-tried g c = λ ch s a below first rights mark tries w is.
     let n = c.leave_shown.ensures.shows ch s a below mark tries w in
     let mid = left_state g.S.Store.names g.S.Store.present g.S.Store.stands g.S.Store.older e c.args.shown s a below n in
     let same = left_tried g.S.Store.names g.S.Store.present g.S.Store.stands g.S.Store.older e c.args.shown s a below n first rights is in
-    on_ok_weaker c.show_clause.result (λ h. subst (λ (y : State). IsEngine g.S.Store.names g.S.Store.present g.S.Store.stands g.S.Store.older c.show_clause.new.self y) same h)
-    (c.show_clause.ensures.tried mid n.key n.clause n.others n.shows))
+    subst (λ (y : State). IsEngine g.S.Store.names g.S.Store.present g.S.Store.stands g.S.Store.older c.show_clause.new.self y) same (c.in_default.ensures.tried mid n.key n.clause n.others n.shows))
 
-pub returns-clause-kept : goal.returns-clause-kept
-returns-clause-kept g c = λ ch s a below mark tries w.
+pub returns-in-Err-clause-kept : goal.returns-in-Err-clause-kept
+returns-in-Err-clause-kept g c = λ ch s a below mark tries w.
     (let e = c.leave_shown.new.self in
     let n = c.leave_shown.ensures.shows ch s a below mark tries w in
     let mid = left_state g.S.Store.names g.S.Store.present g.S.Store.stands g.S.Store.older e c.args.shown s a below n in
-    on_err_weaker c.show_clause.result (λ h. left_kept g.S.Store.names g.S.Store.present g.S.Store.stands g.S.Store.older e c.args.shown s a below n c.show_clause.new.self h)
-    (c.show_clause.ensures.kept mid n.key n.clause n.others n.shows))
+    let kept = keeps_bare g.S.Store.names g.S.Store.present g.S.Store.stands g.S.Store.older c.show_clause.new.self c.clear.new.self mid.world mid.stack c.clear.ensures.items (c.in-Err.ensures.kept mid n.key n.clause n.others n.shows) in
+    let keep = rights_keep (shown_row (g.S.Store.present e.store) c.args.shown) (offers_of c.args.shown n.key n.others) (went_back a below s) in
+    subst (λ (v : World). Keeps g.S.Store.names g.S.Store.present g.S.Store.stands g.S.Store.older (record c.show_clause.new.self { choices = c.clear.new.self }) v []) keep.1 kept)
+
+pub returns-in-Err-clause-stays : goal.returns-in-Err-clause-stays
+returns-in-Err-clause-stays g c = stays_bare g.S.Store.names c.clear.new.self c.clear.ensures.items (stays_on g.S.Store.names c.leave_shown.ensures.stays c.show_clause.ensures.stays)

@@ -1,5 +1,5 @@
-use Rattle.std.proofs.Common.{◌≡◌, ◌∙◌, ◌+◌, ◌*◌, ◌<◌, ◌≤◌, ℕ, suc, length, arith, sym, ap, subst, Ok, Err, IfOk, OnErr, inl}
-use Rattle.iso_model.specs.Search.Databases as databases
+use Rattle.std.proofs.Common.{◌∙◌, ◌+◌, ◌<◌, ℕ, suc, arith, sym, ap, subst, Ok, Err, IfOk, inl, inr}
+use Rattle.std.proofs.lemmas.Result.{on_err_weaker}
 use Rattle.iso_model.specs.Search.Settlements.{Settled}
 use Rattle.iso_model.specs.Search.Storages.{storage_settled}
 use Rattle.iso_model.specs.Search.Walker.{State, settled}
@@ -12,8 +12,6 @@ use Rattle.iso_plain_core.specs.declared.parts.Now.TheVariants as now
 use Rattle.iso_plain_core.proofs.CostLemmas.{behind_cost, whole_paid}
 use Rattle.iso_plain_core.proofs.StandingLemmas.{chain_place}
 use Rattle.iso_plain.specs.EngineStates.{IsEngine, WasCalled, cost}
-use Rattle.iso_plain.specs.Limits.{ResultFull}
-use Rattle.iso_plain.specs.Settles.{WasStopped}
 use Rattle.iso_plain.proofs.FailLemmas.{awake_behind}
 use Rattle.iso_plain.proofs.LimitLemmas.{result_full}
 use Rattle.iso_plain.proofs.LocalMoves.{rest_paid}
@@ -97,6 +95,21 @@ returns-in-Ok-Shows-clause-called g c = λ s h.
     let shows = shows_there g.S.Store.names g.S.Store.present g.S.Store.stands g.S.Store.older e c.args.row c.args.goal s c.args.place h new.store new.db new.callables c.store.ensures.marks c.store.ensures.names c.store.ensures.views c.store.ensures.clauses kept unbound x c.in-Ok-Shows.shown is in
     let same = shows_is g.S.Store.names g.S.Store.present g.S.Store.stands g.S.Store.older e c.args.row c.args.goal s c.args.place h new.store new.db new.callables c.store.ensures.marks c.store.ensures.names c.store.ensures.views c.store.ensures.clauses kept unbound x c.in-Ok-Shows.shown is in
     subst (λ (v : State). IfOk c.show.result (λ m. WasCalled g.S.Store.names g.S.Store.present g.S.Store.stands g.S.Store.older m c.show.new.self s v)) same (c.show.ensures.called s is.key is.are.first is.are.others shows))
+
+pub returns-in-Ok-Shows-clause-kept : goal.returns-in-Ok-Shows-clause-kept
+returns-in-Ok-Shows-clause-kept g c = λ s h.
+    (let e = c.args.self.now in
+    let new = c.store.new in
+    let t = meaning (g.S.Store.present e.store) c.args.goal in
+    let x = storage_settled c.args.row t s.next s.world in
+    let came = c.in-Ok-Shows.is ∙ ap Ok c.in-Ok-Shows.field-0-is in
+    let program : IsProgram (g.S.Store.names e.store) (contents e.db) e.callables.items s.world.database = record { database = h.ahead.world.database_is; found = h.ahead.world.found } in
+    let settles = subst (λ (n : ℕ). IsStored (g.S.Store.names new.store) (g.S.Store.present new.store) new.db new.callables.items s.world (storage_settled c.args.row t n s.world) c.store.result) h.ahead.goes.next (c.store.ensures.stored s.world program) in
+    let is = shows_comes (g.S.Store.names new.store) (g.S.Store.present new.store) new.db new.callables.items s.world x c.store.result c.in-Ok-Shows.shown settles came in
+    let kept = unless_at (IsProgram (g.S.Store.names new.store) (contents new.db) new.callables.items s.world.database) c.store.result _ came (c.store.ensures.kept s.world.database program) in
+    let unbound = stopped_at (IsUnbound (g.S.Store.present e.store) (g.S.Store.present new.store)) c.store.result _ came c.store.ensures.unbound in
+    let shows = shows_there g.S.Store.names g.S.Store.present g.S.Store.stands g.S.Store.older e c.args.row c.args.goal s c.args.place h new.store new.db new.callables c.store.ensures.marks c.store.ensures.names c.store.ensures.views c.store.ensures.clauses kept unbound x c.in-Ok-Shows.shown is in
+    on_err_weaker c.show.result inr (c.show.ensures.kept s is.key is.are.first is.are.others shows))
 
 pub returns-in-Ok-Shows-clause-frames : goal.returns-in-Ok-Shows-clause-frames
 returns-in-Ok-Shows-clause-frames g c = λ s h.

@@ -1,0 +1,123 @@
+-- What a clause that is shown and then removed comes to.
+use Rattle.std.proofs.Common.{◌≡◌, ◌==◌, ℕ, ◌+◌, List, [], ◌∷◌, Option, Some, None, Bool, true, false, if◌then◌else◌, refl, ap, sym, ◌∙◌, subst}
+use Rattle.std.specs.Prelude.{unwrap_or}
+use Rattle.std.specs.List.{list_any}
+use Rattle.iso_model.specs.Terms.Trees.{Tree}
+use Rattle.iso_model.specs.Terms.Substitutions.{Subst}
+use Rattle.iso_model.specs.Search.Databases as databases
+use Rattle.iso_model.specs.Search.Databases.{Key, has_clause}
+use Rattle.iso_model.specs.Search.Settlements.{Reference}
+use Rattle.iso_model.specs.Search.Storages.{clause_cost, removed_clause}
+use Rattle.iso_model.specs.Search.Walker.{State, World, fails, taken, met_right, tried_right, without_removed}
+use Rattle.iso_db.specs.Databases as db
+use Rattle.iso_db.specs.Databases.{Database, has_in}
+use Rattle.iso_db.specs.Presents.{contents, KeepsViews, KeepsClauses}
+use Rattle.iso_db.specs.declared.db.Db.{Db}
+use Rattle.iso_db.specs.declared.views.View.{View}
+use Rattle.iso_store_core.specs.Presents.{Present}
+use Rattle.iso_plain_core.specs.declared.clauses.Clause as kept
+use Rattle.iso_plain_core.specs.declared.parts.Now.{Now}
+use Rattle.iso_plain_core.specs.declared.parts.Now.TheVariants as now
+use Rattle.iso_plain_core.specs.declared.parts.Showing.{Showing}
+use Rattle.iso_plain_core.specs.Callables.{Finds}
+use Rattle.iso_plain_core.specs.Leaving.{AreLeft}
+use Rattle.iso_plain_core.specs.Next.{now_behind}
+use Rattle.iso_plain_core.specs.Offers.{clause_offer}
+use Rattle.iso_plain_core.specs.Programs.{IsDatabase, place_at, kept_at, kind_of}
+use Rattle.iso_plain_core.proofs.ChangeLemmas.{database_less, finds_less, has_at}
+use Rattle.iso_plain_core.proofs.LeavingLemmas.{left_keeps}
+use Rattle.iso_plain_core.proofs.StandingLemmas.{choices_stay}
+use Rattle.iso_plain.specs.declared.plain.Plain.{Plain}
+use Rattle.iso_plain.specs.EngineStates.{IsEngine, IsAhead}
+use Rattle.iso_plain.specs.Shows.{Shows, HasUnified}
+use Rattle.iso_plain.specs.Worlds.{IsWorld}
+use Rattle.iso_plain.proofs.AheadLemmas.{engine_place}
+use Rattle.iso_plain.proofs.CalledLemmas.{none_there}
+
+-- the clause of this number of the procedure with this key
+abbrev reference : Key → ℕ → Option Reference
+reference k number = Some (record { procedure = k; number = number })
+
+-- ---- whether the clause is there
+
+-- the number of a clause that is left first
+pub left_number : {names : List (List ℕ)} {d : Db kept.Clause} {number : ℕ} {later : View} {c : databases.Clause} {cs : List databases.Clause} → AreLeft names d number later (c ∷ cs) → c.number ≡ number
+left_number {c = c} left = (let e = left.is in let same : left.first ≡ c = cc e in ap (λ (x : databases.Clause). x.number) (sym same) ∙ left.numbered)
+
+module _ {S W M : Type 0} (names : S → List (List ℕ)) (present : S → Present W) (stands : S → M → Present W → Type 0) (older : M → M → Type 0) where
+  module _ (e : Plain S W M) (shown : Showing W) (s : State) (k : Key) (c : databases.Clause) (cs : List databases.Clause) (t : Shows names present stands older e shown s k c cs) where
+    -- so says the database at the procedure's place
+    pub there_at : (place : ℕ) (b : Bool) → place_at (contents e.db) k ≡ Some place → has_in (db.clauses_at (contents e.db) place) shown.clause ≡ b → has_clause s.world.database.procedures k c.number ≡ b
+    there_at place b at has =
+        ap (has_clause s.world.database.procedures k) (left_number t.clauses)
+        ∙ sym (has_at (contents e.db) s.world.database k place at shown.clause t.ahead.world.database_is) ∙ has
+
+    -- it was removed before
+    pub take_gone : (r : Tree) → e.now ≡ now.Failing → shown.removes ≡ true → has_clause s.world.database.procedures k c.number ≡ false → IsEngine names present stands older e (tried_right r (clause_offer shown.removes k c) s.list s)
+    take_gone r failing goes none =
+        let a = t.ahead in
+        let one : IsEngine names present stands older (record e { now = now.Failing }) (fails s) =
+        record { world = a.world; steps = a.steps; base = a.base; choices = a.choices; room = a.room; next = ([], refl) } in
+        subst (λ (b : Bool). IsEngine names present stands older e (tried_right r (clause_offer b k c) s.list s)) (sym goes)
+        (subst (λ (n : Now). IsEngine names present stands older (record e { now = n }) (tried_right r (removed_clause k c) s.list s)) (sym failing)
+        (subst (λ (b : Bool). IsEngine names present stands older (record e { now = now.Failing }) (if b then met_right r (removed_clause k c) s.list s else fails s)) (sym none) one))
+
+    pub take_absent : (r : Tree) → e.now ≡ now.Failing → shown.removes ≡ true → kind_of (kept_at (contents e.db) k) ≡ None → IsEngine names present stands older e (tried_right r (clause_offer shown.removes k c) s.list s)
+    take_absent r failing goes absent = take_gone r failing goes (ap (λ o. list_any (λ (x : databases.Clause). x.number == c.number) (unwrap_or o [])) (none_there k t.ahead.world.database_is absent))
+
+  -- ---- it is there
+
+  -- it is not unified
+  pub take_missed : (e : Plain S W M) (r : Tree) (shown : Showing W) (s : State) (k : Key) (c : databases.Clause) → e.now ≡ now.Failing → shown.removes ≡ true → has_clause s.world.database.procedures k c.number ≡ true
+      → HasUnified names present stands older e r shown s c false → IsEngine names present stands older e (tried_right r (clause_offer shown.removes k c) s.list s)
+  take_missed e r shown s k c failing goes there h =
+      let f = h.1 in
+      let x : State = record s { next = s.next + c.variables; built = s.built + clause_cost c } in
+      let one : IsEngine names present stands older (record e { now = now.Failing }) (fails x) =
+      record { world = f.world; steps = f.steps; base = f.base; choices = f.choices; room = f.room; next = ([], refl) } in
+      subst (λ (b : Bool). IsEngine names present stands older e (tried_right r (clause_offer b k c) s.list s)) (sym goes)
+      (subst (λ (n : Now). IsEngine names present stands older (record e { now = n }) (tried_right r (removed_clause k c) s.list s)) (sym failing)
+      (subst (λ (b : Bool). IsEngine names present stands older (record e { now = now.Failing }) (if b then met_right r (removed_clause k c) s.list s else fails s)) (sym there)
+      (subst (λ (o : Option Subst). IsEngine names present stands older (record e { now = now.Failing }) (taken o (reference k c.number) s.list x)) (sym h.0) one)))
+
+  -- it is unified, and removed
+  module _ (e : Plain S W M) (d : Db kept.Clause) (place number : ℕ) (less : contents d ≡ db.without_clause_at place number (contents e.db)) (views : KeepsViews e.db d) (clauses : KeepsClauses e.db d) where
+    -- the engine behind that
+    abbrev behind : Plain S W M
+    behind = record e { db = d }
+
+    world_less : (w : World) (k : Key) → place_at (contents e.db) k ≡ Some place → IsWorld names e w → IsWorld names behind (without_removed (reference k number) w)
+    world_less w k at is = record {
+      database_is = subst (λ (x : Database kept.Clause). IsDatabase (names e.store) x (without_removed (reference k number) w).database) (sym less) (database_less (contents e.db) w.database k place at number is.database_is);
+      found = subst (λ (x : Database kept.Clause). Finds (names e.store) e.callables.items x) (sym less) (finds_less (contents e.db) w.database k place at number is.found);
+      vocabulary_is = is.vocabulary_is;
+      operators_are = is.operators_are;
+      flags_are = is.flags_are;
+    }
+
+    -- the choices stand on
+    ahead_less : (s : State) (k : Key) (rest : Option ℕ) (built : ℕ) → place_at (contents e.db) k ≡ Some place → IsAhead names present stands older e s rest
+        → IsAhead names present stands older behind (record s { built = built; world = without_removed (reference k number) s.world }) rest
+    ahead_less s k rest built at a = record {
+      world = world_less s.world k at a.world;
+      steps = a.steps;
+      base = a.base;
+      choices = choices_stay (left_keeps (names e.store) e.db d views clauses) a.choices;
+      room = a.room;
+      goes = record { subst = a.goes.subst; next = a.goes.next; room = a.goes.room; words = a.goes.words };
+      chain = a.chain;
+    }
+
+    pub take_found : (r : Tree) (shown : Showing W) (s : State) (k : Key) (c : databases.Clause) → c.number ≡ number → place_at (contents e.db) k ≡ Some place → shown.removes ≡ true → has_clause s.world.database.procedures k c.number ≡ true
+        → HasUnified names present stands older e r shown s c true
+        → IsEngine names present stands older (record e { db = d; now = now_behind e.frames.items shown.rest }) (tried_right r (clause_offer shown.removes k c) s.list s)
+    take_found r shown s k c same at goes there h =
+        let x : State = record s { next = s.next + c.variables; built = s.built + clause_cost c } in
+        let y : State = record s { subst = h.0; next = s.next + c.variables; built = s.built + clause_cost c; world = without_removed (reference k number) s.world } in
+        let engine : Plain S W M = record e { db = d; now = now_behind e.frames.items shown.rest } in
+        let ahead : IsAhead names present stands older behind y shown.rest = ahead_less (record s { subst = h.0; next = s.next + c.variables }) k shown.rest (s.built + clause_cost c) at h.2 in
+        let one : IsEngine names present stands older engine (taken (Some h.0) (reference k c.number) s.list x) =
+        subst (λ (n : ℕ). IsEngine names present stands older engine (taken (Some h.0) (reference k n) s.list x)) (sym same) (engine_place names present stands older behind y shown.rest ahead) in
+        subst (λ (b : Bool). IsEngine names present stands older engine (tried_right r (clause_offer b k c) s.list s)) (sym goes)
+        (subst (λ (b : Bool). IsEngine names present stands older engine (if b then met_right r (removed_clause k c) s.list s else fails s)) (sym there)
+        (subst (λ (o : Option Subst). IsEngine names present stands older engine (taken o (reference k c.number) s.list x)) (sym h.1) one))

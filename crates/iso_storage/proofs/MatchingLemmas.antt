@@ -1,0 +1,56 @@
+-- The clauses of a view, one after another, and the numbers of those whose heads unify.
+use Rattle.std.proofs.Common.{◌≡◌, ℕ, List, [], ◌∷◌, ◌++◌, append_assoc, true, false, Option, Some, None, is_some, refl, sym, ap, ◌∙◌, subst}
+use Rattle.iso_model.specs.Terms.Trees.{Tree}
+use Rattle.iso_model.specs.Search.Databases as databases
+use Rattle.iso_model.specs.Search.Databases.{Key}
+use Rattle.iso_model.specs.Search.Storages.{head_unifies, clauses_of}
+use Rattle.iso_db.specs.Databases as db
+use Rattle.iso_db.specs.Databases.{Database}
+use Rattle.iso_db.specs.Presents.{Gives}
+use Rattle.iso_db.specs.declared.db.Db.{Db}
+use Rattle.iso_db.specs.declared.views.View.{View}
+use Rattle.iso_plain_core.specs.declared.clauses.Clause.{Clause}
+use Rattle.iso_plain_core.specs.Leaving.{AreLeft}
+use Rattle.iso_plain_core.specs.Programs.{AreClauses, IsDatabase, place_at}
+use Rattle.iso_plain_core.proofs.ProgramLemmas.{kept_there, kind_there}
+use Rattle.iso_storage.specs.Matching.{matching_numbers}
+use Rattle.iso_storage.proofs.HeadLemmas.{kept_clauses, absent_clauses}
+
+-- Of these clauses the view gives the last ones still; the numbers are those of the ones before them whose heads unify.
+pub record AreMatched (names : List (List ℕ)) (d : Db Clause) (h : Tree) (next : ℕ) (cs : List databases.Clause) (later : View) (numbers : List ℕ) : Type 0 where
+  pub kept : List (db.Clause Clause)
+  pub others : List databases.Clause
+  pub gives : Gives d later kept
+  pub are : AreClauses names kept others
+  pub numbers_are : matching_numbers h next cs ≡ numbers ++ matching_numbers h next others
+
+module _ {names : List (List ℕ)} {d : Db Clause} {h : Tree} {next : ℕ} {cs : List databases.Clause} {view later : View} {numbers : List ℕ} {number : ℕ} (m : AreMatched names d h next cs view numbers) (left : AreLeft names d number later m.others) where
+  behind_first : (ns : List ℕ) → numbers ++ matching_numbers h next (left.first ∷ left.others) ≡ ns ++ matching_numbers h next left.others → AreMatched names d h next cs later ns
+  behind_first ns same = record {
+    kept = left.behind;
+    others = left.others;
+    gives = left.gives;
+    are = left.are;
+    numbers_are = m.numbers_are ∙ ap (λ (xs : List databases.Clause). numbers ++ matching_numbers h next xs) left.is ∙ same;
+  }
+
+  -- one more clause was compared, whose head unifies
+  pub one_matched : head_unifies h next left.first ≡ true → AreMatched names d h next cs later (numbers ++ number ∷ [])
+  one_matched unifies =
+      behind_first (numbers ++ number ∷ []) (rw unifies (ap (λ (n : ℕ). numbers ++ n ∷ matching_numbers h next left.others) left.numbered ∙ sym (append_assoc numbers (number ∷ []) (matching_numbers h next left.others))))
+
+  -- and one whose head doesn't
+  pub one_passed : head_unifies h next left.first ≡ false → AreMatched names d h next cs later numbers
+  one_passed differs = behind_first numbers (rw differs refl)
+
+-- ---- the clauses of a procedure by its place
+
+module _ {names : List (List ℕ)} (d : Database Clause) (m : databases.Database) (k : Key) (place : ℕ) (at : place_at d k ≡ Some place) (is : IsDatabase names d m) where
+  pub clauses_placed : AreClauses names (db.clauses_at d place) (clauses_of m.procedures k)
+  clauses_placed = subst (λ (ks : List (db.Clause Clause)). AreClauses names ks (clauses_of m.procedures k)) (ap db.clauses_of (kept_there d k place at)) (kept_clauses d m k is)
+
+  pub none_placed : is_some (db.kind_at d place) ≡ false → clauses_of m.procedures k ≡ []
+  none_placed none = absent_clauses d m k is (sym (kind_there d k place at) ∙ none_of (db.kind_at d place) none) where
+    none_of : {X : Type 0} (o : Option X) → is_some o ≡ false → o ≡ None
+    none_of None h = refl
+    none_of (Some x) h = absurd (cc h)

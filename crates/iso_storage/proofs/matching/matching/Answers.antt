@@ -1,0 +1,52 @@
+use Rattle.std.proofs.Common.{sym, ◌∙◌, subst}
+use Rattle.iso_plain_core.specs.Kept.{IsClause}
+use Rattle.iso_plain_core.specs.declared.clauses.Clause.{Clause}
+use Rattle.iso_storage.proofs.MatchingLemmas.{one_matched, one_passed}
+use Rattle.iso_storage.proofs.matching.matching.Goals as goal
+
+pub clause-requires : goal.clause-requires
+clause-requires g c =
+    let h = c.requires.clauses in
+    let m = c.loop-number.invariant.matched h.0 h.1 h.2 h.3 in
+    let left = c.in-Some.ensures.left (g.S.Store.names c.args.store.now) m.kept m.others m.gives m.are in
+    (left.kept, left.stands)
+
+pub loop-number-preserved : goal.loop-number-preserved
+loop-number-preserved g c =
+    let names = g.S.Store.names c.args.store.now in
+    let p = g.S.Store.present c.args.store.now in
+    let before = c.loop-number.invariant in
+    let stood = c.in_ok-matches.ensures.marks c.mark-mark.result p before.stands in
+    record {
+      matched = λ ks cs gives are.
+          (let m = before.matched ks cs gives are in
+          let left = c.in-Some.ensures.left names m.kept m.others m.gives m.are in
+          let is : IsClause names c.clause.result.now left.first = subst (λ (k : Clause). IsClause names k left.first) (sym (c.clause.ensures left.kept left.stands)) left.clause in
+          let answer = (rw (before.names, before.present) at c.in_ok-matches.ensures.unifies) left.first is in
+          one_passed m left (sym answer ∙ c.if-matches.false));
+      present = c.undo.ensures.back p stood;
+      names = c.undo.ensures.names ∙ c.in_ok-matches.ensures.names ∙ before.names;
+      stands = c.undo.ensures.stands p stood;
+      older = before.older;
+      marks = λ k q h. c.undo.ensures.marks k q (before.older k q h) (c.in_ok-matches.ensures.marks k q (before.marks k q h));
+    }
+
+pub loop-number-preserved-in-Continue-branch-2 : goal.loop-number-preserved-in-Continue-branch-2
+loop-number-preserved-in-Continue-branch-2 g c =
+    let names = g.S.Store.names c.args.store.now in
+    let p = g.S.Store.present c.args.store.now in
+    let before = c.loop-number.invariant in
+    let stood = c.in_ok-matches.ensures.marks c.mark-mark.result p before.stands in
+    record {
+      matched = λ ks cs gives are.
+          (let m = before.matched ks cs gives are in
+          let left = c.in-Some.ensures.left names m.kept m.others m.gives m.are in
+          let is : IsClause names c.clause.result.now left.first = subst (λ (k : Clause). IsClause names k left.first) (sym (c.clause.ensures left.kept left.stands)) left.clause in
+          let answer = (rw (before.names, before.present) at c.in_ok-matches.ensures.unifies) left.first is in
+          rw c.in_ok-push.ensures.items (one_matched m left (sym answer ∙ c.if-matches.true)));
+      present = c.undo.ensures.back p stood;
+      names = c.undo.ensures.names ∙ c.in_ok-matches.ensures.names ∙ before.names;
+      stands = c.undo.ensures.stands p stood;
+      older = before.older;
+      marks = λ k q h. c.undo.ensures.marks k q (before.older k q h) (c.in_ok-matches.ensures.marks k q (before.marks k q h));
+    }

@@ -1,0 +1,104 @@
+use Rattle.std.proofs.Common.{◌≡◌, ℕ, List, Some, true, false, not, sym, ap, ◌∙◌, subst}
+use Rattle.std.specs.List.{filter}
+use Rattle.iso_model.specs.Search.Databases as databases
+use Rattle.iso_model.specs.Search.Databases.{Dynamic, with_clauses}
+use Rattle.iso_model.specs.Search.Errors.{key}
+use Rattle.iso_model.specs.Search.Storages.{is_fixed, clauses_of, head_unifies, largest_head, retractall_key, retractall_settled}
+use Rattle.iso_db.specs.Databases.{is_not_static}
+use Rattle.iso_db.specs.Presents.{contents}
+use Rattle.iso_store_core.specs.Presents.{meaning}
+use Rattle.iso_store_core.proofs.AtomLemmas.{text-is}
+use Rattle.iso_plain_core.specs.Programs.{place_at}
+use Rattle.iso_storage.specs.Storing.{IsNamed, IsProgram}
+use Rattle.iso_storage.proofs.HeadLemmas.{free_alone}
+use Rattle.iso_storage.proofs.KeptPrograms.{permission_raised, changes_fit, program_lent, found_in, on_err}
+use Rattle.iso_storage.proofs.RowLemmas.{key_text}
+use Rattle.iso_storage.proofs.GoneLemmas.{retractall_refuses, retractall_changes, program_retracted}
+use Rattle.iso_storage.proofs.removals.retractall.Goals as goal
+
+pub returns-then-is_fixed-clause-changed : goal.returns-then-is_fixed-clause-changed
+returns-then-is_fixed-clause-changed g c = λ w is.
+    (let names = g.S.Store.names c.args.store.now in
+    let p = g.S.Store.present c.args.store.now in
+    let t = meaning p c.args.head in
+    let f = c.in_ok-name.field-0 in
+    let text = c.text-text.result.now in
+    let h = c.in_ok-name.ensures.head in
+    let same : h.0 ≡ key text f.arity = key_text names f h.0 text h.2 (text-is names f.name text c.text-text.ensures) in
+    let named : IsNamed names f text = record { each_once = c.in_ok-name.ensures.each_once; atom = c.text-text.ensures; few = h.2.few } in
+    let fixed : is_fixed w.database.procedures h.0 ≡ true = ap (is_fixed w.database.procedures) same ∙ sym (c.is_fixed.ensures names w.database (program_lent c.as_slice.ensures.value (λ a x at. at) is) named) ∙ c.if-is_fixed.true in
+    permission_raised (retractall_settled t p.next w) (key text f.arity) h.0 retractall_key c.in_ok-ball.ball (retractall_refuses t p.next w h.0 h.3 fixed) (sym same) c.in_ok-ball.ensures)
+
+pub place-requires-clause-user : goal.place-requires-clause-user
+place-requires-clause-user g c =
+    let names = g.S.Store.names c.args.store.now in
+    let f = c.in_ok-name.field-0 in
+    let text = c.text-text.result.now in
+    let m = c.requires.program.0 in
+    let named : IsNamed names f text = record { each_once = c.in_ok-name.ensures.each_once; atom = c.text-text.ensures; few = c.in_ok-name.ensures.head.2.few } in
+    let allowed : is_fixed m.procedures (key text f.arity) ≡ false = sym (c.is_fixed.ensures names m (program_lent c.as_slice.ensures.value (λ a x at. at) c.requires.program.1) named) ∙ c.if-is_fixed.false in
+    free_alone m.procedures (key text f.arity) allowed
+
+pub returns-in_err-place-clause-kept : goal.returns-in_err-place-clause-kept
+returns-in_err-place-clause-kept g c = λ m is.
+    (let names = g.S.Store.names c.args.store.now in
+    let found = c.in_err-place.ensures.found names (found_in c.in_ok-name.field-0 c.text-text.result.now is c.in_ok-name.ensures.each_once c.text-text.ensures) in
+    on_err c.from_residual-in_err-place.result _ (record { database = c.in_err-place.ensures.database names m is.database; found = found }))
+
+pub matching_at-requires-clause-place : goal.matching_at-requires-clause-place
+matching_at-requires-clause-place g c =
+    let names = g.S.Store.names c.args.store.now in
+    let m = c.requires.program.0 in
+    (key c.text-text.result.now c.in_ok-name.field-0.arity, m, c.in_ok-place.ensures.place, c.in_ok-place.ensures.database names m c.requires.program.1.database)
+
+pub returns-in_err-numbers-clause-kept : goal.returns-in_err-numbers-clause-kept
+returns-in_err-numbers-clause-kept g c = λ m is.
+    (let names = g.S.Store.names c.args.store.now in
+    let found = c.in_ok-place.ensures.found names (found_in c.in_ok-name.field-0 c.text-text.result.now is c.in_ok-name.ensures.each_once c.text-text.ensures) in
+    let stood : IsProgram names (contents c.place.new.db) c.place.new.callables.items m = record { database = c.in_ok-place.ensures.database names m is.database; found = found } in
+    on_err c.from_residual-in_err-numbers.result _ (subst (λ (ns : List (List ℕ)). IsProgram ns (contents c.place.new.db) c.place.new.callables.items m) (sym c.in_err-numbers.ensures.names) stood))
+
+pub remove_all-requires-clause-allowed : goal.remove_all-requires-clause-allowed
+remove_all-requires-clause-allowed g c =
+    let names = g.S.Store.names c.args.store.now in
+    let f = c.in_ok-name.field-0 in
+    let text = c.text-text.result.now in
+    let m = c.requires.program.0 in
+    let named : IsNamed names f text = record { each_once = c.in_ok-name.ensures.each_once; atom = c.text-text.ensures; few = c.in_ok-name.ensures.head.2.few } in
+    let allowed : is_fixed m.procedures (key text f.arity) ≡ false = sym (c.is_fixed.ensures names m (program_lent c.as_slice.ensures.value (λ a x at. at) c.requires.program.1) named) ∙ c.if-is_fixed.false in
+    ap is_not_static c.in_ok-place.ensures.kind ∙ changes_fit (key text f.arity) c.requires.program.1 allowed
+
+pub returns-clause-changed : goal.returns-clause-changed
+returns-clause-changed g c = λ w is.
+    (let names = g.S.Store.names c.args.store.now in
+    let p = g.S.Store.present c.args.store.now in
+    let t = meaning p c.args.head in
+    let f = c.in_ok-name.field-0 in
+    let text = c.text-text.result.now in
+    let place = c.in_ok-place.place in
+    let d = contents c.place.new.db in
+    let rows = c.place.new.callables.items in
+    let new = contents c.remove_all.new.db in
+    let numbers = c.as_slice-2.result.now in
+    let h = c.in_ok-name.ensures.head in
+    let same : h.0 ≡ key text f.arity = key_text names f h.0 text h.2 (text-is names f.name text c.text-text.ensures) in
+    let named : IsNamed names f text = record { each_once = c.in_ok-name.ensures.each_once; atom = c.text-text.ensures; few = h.2.few } in
+    let allowed : is_fixed w.database.procedures (key text f.arity) ≡ false = sym (c.is_fixed.ensures names w.database (program_lent c.as_slice.ensures.value (λ a x at. at) is) named) ∙ c.if-is_fixed.false in
+    let free : is_fixed w.database.procedures h.0 ≡ false = ap (is_fixed w.database.procedures) same ∙ allowed in
+    let at : place_at d h.0 ≡ Some place = ap (place_at d) same ∙ c.in_ok-place.ensures.place in
+    let found = c.in_ok-place.ensures.found names (found_in f text is c.in_ok-name.ensures.each_once c.text-text.ensures) in
+    let stood : IsProgram names d rows w.database = record { database = c.in_ok-place.ensures.database names w.database is.database; found = found } in
+    let those = c.as_slice-2.ensures.value ∙ c.in_ok-numbers.ensures.matching h.0 w.database at stood.database in
+    let m : databases.Database = record w.database { procedures = with_clauses (filter (λ x. not (head_unifies t p.next x))) Dynamic w.database.procedures h.0 } in
+    let after = program_retracted d new w.database h.0 place (head_unifies t p.next) numbers f text at those c.remove_all.ensures.contents c.text-text.ensures same c.in_ok-place.ensures.called stood in (
+      largest_head (clauses_of w.database.procedures h.0),
+      m,
+      retractall_changes t p.next w h.0 h.3 free,
+      subst (λ (ns : List (List ℕ)). IsProgram ns new rows m) (sym c.in_ok-numbers.ensures.names) after,
+    ))
+
+pub returns-clause-views : goal.returns-clause-views
+returns-clause-views g c = λ v cs h. c.remove_all.ensures.views v cs (c.in_ok-place.ensures.views v cs h)
+
+pub returns-clause-clauses : goal.returns-clause-clauses
+returns-clause-clauses g c = λ n x h. c.remove_all.ensures.clauses n x (c.in_ok-place.ensures.clauses n x h)
