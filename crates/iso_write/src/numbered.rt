@@ -31,7 +31,7 @@ pub(crate) fn variable_letter(number: u64) -> u8
 }
 
 /// The text of the variable of this number. The error is that memory was refused.
-pub(crate) fn variable_text(alloc: Global, number: u64) -> Result<Vec<u8>, AllocError>
+pub(crate) fn numbered_text(alloc: Global, number: u64) -> Result<Vec<u8>, AllocError>
     ensures { IfOk result (λ text. text.items ≡ texts.numbered_variable number) }
 {
     let mut text = Vec::new(alloc);

@@ -11,7 +11,7 @@ ghost use Rattle.iso_write.specs.Tasks.{pieces_of, with_task, task_load, tasks_l
 use super::edges::{Edge, append_piece};
 use super::forms::form_of;
 use super::names::{append_name, is_bare};
-use super::numbered;
+use super::numbered::numbered_text;
 use super::parts::{push_form, push_others, push_placed, push_tail};
 use super::style::Style;
 use super::tasks::{Place, Task};
@@ -65,7 +65,7 @@ fn append_numbered_variable(
     ensures text { IfOk result (λ after. (ps : List pieces.Piece) → out.new.items ++ behind after ps ≡ out.old.items ++ behind edge (pieces.piece (numbered_variable number) ∷ ps)) }
     ensures kept { take (length out.old.items) out.new.items ≡ out.old.items }
 {
-    let text = numbered::variable_text(alloc, number)?;
+    let text = numbered_text(alloc, number)?;
     append_piece(out, edge, text.as_slice())
 }
 
