@@ -1,5 +1,5 @@
 //! Worked terms: what they are written as. All are the contract of a function that does nothing.
-ghost use Rattle.iso_model.specs.Syntax.WorkedTerms.{TextsWithSigns, TextsWithBrackets, TextsWithWords, TextsWithAnOperator, CanonicalTexts, UnquotedTexts};
+ghost use Rattle.iso_model.specs.Syntax.WorkedTerms.{TextsWithSigns, TextsWithBrackets, TextsWithWords, TextsWithAnOperator, CanonicalTexts, UnquotedTexts, TextsOfNumberedVariables};
 
 /// How terms are written.
 pub fn worked_terms()
@@ -15,4 +15,6 @@ pub fn worked_terms()
     ensures canonical_texts { CanonicalTexts }
     // What terms are written as without quotes, three of them with an empty name.
     ensures unquoted_texts { UnquotedTexts }
+    // What `'$VAR'(N)` is written as.
+    ensures texts_of_numbered_variables { TextsOfNumberedVariables }
 {}

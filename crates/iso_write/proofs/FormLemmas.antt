@@ -5,7 +5,7 @@ use Rattle.iso_ops.specs.declared.specifiers.Spec.{Spec}
 use Rattle.iso_ops.specs.declared.specifiers.Kind.{Kind}
 use Rattle.iso_ops.specs.Operators.{Operator, operator, find_op, priority_and_spec}
 use Rattle.iso_model.specs.declared.terms.Term.{Term}
-use Rattle.iso_model.specs.Terms.Trees.{Apply}
+use Rattle.iso_model.specs.Terms.Trees.{Apply, More, End}
 use Rattle.iso_model.specs.Terms.TermOf.{term_of, row_of}
 use Rattle.iso_model.proofs.Syntax.MarkLemmas.{found_name}
 use Rattle.iso_model.specs.Syntax.Operators.{prefix_named, infix_named, postfix_named}
@@ -58,17 +58,17 @@ module _ (style : pieces.Style) (table : List Operator) (seen : List ℕ) where
 
   single_items : (name : List ℕ) (items : List Term) (a : Term) (f : Option Form) (d r : Form) → length items ≡ 1 → a ≡ get_or items 0 a
       → form_written style table seen d ≡ arguments_written style table seen name (map term_of items)
-      → form_or style table seen (arguments_written style table seen name (term_of a ∷ [])) f ≡ pieces.single_written style table seen name (written style table seen (term_of a))
+      → form_or style table seen (arguments_written style table seen name (term_of a ∷ [])) f ≡ written style table seen (Apply name (More (term_of a) End))
       → r ≡ unwrap_or f d → form_written style table seen r ≡ written style table seen (Apply name (row_of items))
   single_items name [] a f d r one first default single is = absurd (omega arith)
   single_items name (x ∷ []) a f d r one first default single is =
-      rw (is) (sym (form_or_is f d) ∙ rw (default, ← first) single ∙ ap (λ (t : Term). pieces.single_written style table seen name (written style table seen (term_of t))) first)
+      rw (is) (sym (form_or_is f d) ∙ rw (default, ← first) single ∙ ap (λ (t : Term). written style table seen (Apply name (More (term_of t) End))) first)
   single_items name (x ∷ y ∷ z) a f d r one first default single is = absurd (omega arith)
 
   -- a compound of one argument
   pub compound_single : (name : List ℕ) (items : List Term) (a : Term) (f : Option Form) (d r : Form) → 1 ≤ length items → length items < 2 → a ≡ get_or items 0 a
       → form_written style table seen d ≡ arguments_written style table seen name (map term_of items)
-      → form_or style table seen (arguments_written style table seen name (term_of a ∷ [])) f ≡ pieces.single_written style table seen name (written style table seen (term_of a))
+      → form_or style table seen (arguments_written style table seen name (term_of a ∷ [])) f ≡ written style table seen (Apply name (More (term_of a) End))
       → r ≡ unwrap_or f d → form_written style table seen r ≡ written style table seen (Apply name (row_of items))
   compound_single name items a f d r low high = single_items name items a f d r (omega arith)
 

@@ -9,7 +9,7 @@ use Rattle.iso_model.specs.declared.terms.Term.TheFolds.{fold_out-Term}
 use Rattle.iso_model.specs.Terms.Trees.{Tree, Variable, Integer, Name, Apply, End, More}
 use Rattle.iso_model.specs.Terms.TermOf.{term_of, term_step}
 use Rattle.iso_model.specs.Syntax.Operators.{prefix_named, infix_named, postfix_named, right_of}
-use Rattle.iso_model.specs.Syntax.Pieces.{Style, Piece, Written, piece, after_space, bracketed, uses_operators, name_bytes, is_symbolic, term_written, single_written, pair_written, single_by, pair_by, infix_pieces, prefix_pieces, postfix_pieces}
+use Rattle.iso_model.specs.Syntax.Pieces.{Style, Piece, Written, piece, after_space, bracketed, uses_operators, name_bytes, is_symbolic, term_written, single_written, pair_written, single_by, numbered_or, variable_number, numbers_variables, pair_by, infix_pieces, prefix_pieces, postfix_pieces}
 use Rattle.iso_model.specs.Syntax.Pieces as pieces
 use Rattle.iso_write.specs.declared.tasks.Place.{Place}
 use Rattle.iso_write.specs.Tasks.{placed, needs_brackets, stands_apart}
@@ -34,6 +34,10 @@ has_either false x y p q = q
 bare_either : (b : Bool) (x y : Written) → has_piece x.bare ≡ true → has_piece y.bare ≡ true → has_piece (if b then x else y).bare ≡ true
 bare_either true x y p q = p
 bare_either false x y p q = q
+
+numbered_has : (o : Option ℕ) (w : Written) → has_piece w.bare ≡ true → has_piece (numbered_or o w).bare ≡ true
+numbered_has None w h = h
+numbered_has (Some n) w h = refl
 
 module _ (style : Style) (table : List Operator) (seen : List ℕ) where
   infix_has : (o : Operator) (l r : Written) → has_piece (infix_pieces style table seen o l r) ≡ true
@@ -63,7 +67,8 @@ module _ (style : Style) (table : List Operator) (seen : List ℕ) where
   bare_has (Name a) is = refl
   bare_has (Apply name (More t End)) is =
       let w = term_written style table seen t in
-      bare_either (uses_operators style) _ _ (bare_either (bytes_eq name (codes "{}")) _ _ refl (single_has (prefix_named table name) (postfix_named table name) name w)) refl
+      let one = bare_either (uses_operators style) _ _ (bare_either (bytes_eq name (codes "{}")) _ _ refl (single_has (prefix_named table name) (postfix_named table name) name w)) refl in
+      numbered_has (if numbers_variables style then variable_number (Apply name (More t End)) else None) (single_written style table seen name w) one
   bare_has (Apply name (More t (More u End))) is =
       bare_either (bytes_eq name (codes ".")) _ _ refl (pair_has (if uses_operators style then infix_named table name else None) name (term_written style table seen t) (term_written style table seen u))
   bare_has (Apply name (More t ts)) is = refl

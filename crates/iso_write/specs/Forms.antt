@@ -6,11 +6,11 @@ use Rattle.iso_ops.specs.Operators as ops
 use Rattle.iso_model.specs.Terms.Trees.{Tree}
 use Rattle.iso_model.specs.Terms.Trees as trees
 use Rattle.iso_model.specs.Terms.TermOf.{term_of}
-use Rattle.iso_model.specs.Syntax.Texts.{variable_text}
+use Rattle.iso_model.specs.Syntax.Texts.{variable_text, numbered_variable}
 use Rattle.iso_model.specs.Syntax.Pieces as pieces
 use Rattle.iso_write.specs.declared.forms.Operator.{Operator}
 use Rattle.iso_write.specs.declared.forms.Form.{Form}
-use Rattle.iso_write.specs.declared.forms.Form.TheVariants.{Variable, Integer, Atom, List as Cell, Braces, Prefix, Infix, Postfix, Compound}
+use Rattle.iso_write.specs.declared.forms.Form.TheVariants.{Variable, NumberedVariable, Integer, Atom, List as Cell, Braces, Prefix, Infix, Postfix, Compound}
 
 abbrev pub operator_of : Operator → ops.Operator
 operator_of o = record { priority = o.priority; spec = o.spec; name = o.name.now }
@@ -27,6 +27,7 @@ module _ (style : pieces.Style) (table : List ops.Operator) (seen : List ℕ) wh
   -- what is written in a form
   abbrev pub form_written : Form → pieces.Written
   form_written (Variable n) = pieces.simple (pieces.piece (variable_text seen n) ∷ [])
+  form_written (NumberedVariable n) = pieces.simple (pieces.piece (numbered_variable n) ∷ [])
   form_written (Integer z) = pieces.simple (pieces.piece (signed_decimal z) ∷ [])
   form_written (Atom name) = pieces.atom_written style table seen name.now
   form_written (Cell first rest) = pieces.list_written style table seen (written (term_of first.now)) (written (term_of rest.now))

@@ -6,7 +6,7 @@ use Rattle.iso_ops.specs.Operators as ops
 use Rattle.iso_model.specs.Terms.Trees.{Tree}
 use Rattle.iso_model.specs.Terms.Trees as trees
 use Rattle.iso_model.specs.Terms.TermOf.{term_of, row_of}
-use Rattle.iso_model.specs.Syntax.Texts.{variable_text}
+use Rattle.iso_model.specs.Syntax.Texts.{variable_text, numbered_variable}
 use Rattle.iso_model.specs.Syntax.Operators.{takes_equal, left_of, right_of}
 use Rattle.iso_model.specs.Syntax.Pieces as pieces
 use Rattle.iso_write.specs.declared.forms.Form.{Form}
@@ -14,7 +14,7 @@ use Rattle.iso_write.specs.declared.forms.Form.TheVariants as form
 use Rattle.iso_write.specs.declared.tasks.Place.{Place}
 use Rattle.iso_write.specs.declared.tasks.Place.TheVariants.{Whole, Left, Right}
 use Rattle.iso_write.specs.declared.tasks.Task.{Task}
-use Rattle.iso_write.specs.declared.tasks.Task.TheVariants.{Mark, Name, Variable, Integer, Gap, Placed, Bare, Tail, Others}
+use Rattle.iso_write.specs.declared.tasks.Task.TheVariants.{Mark, Name, Variable, NumberedVariable, Integer, Gap, Placed, Bare, Tail, Others}
 use Rattle.iso_write.specs.Forms.{operator_of, written}
 
 -- what is written of a term in a place
@@ -41,6 +41,7 @@ module _ (style : pieces.Style) (table : List ops.Operator) (seen : List ℕ) wh
   with_task (Mark text) after = pieces.piece text.now ∷ after
   with_task (Name name) after = pieces.piece (pieces.name_bytes style name.now) ∷ after
   with_task (Variable n) after = pieces.piece (variable_text seen n) ∷ after
+  with_task (NumberedVariable n) after = pieces.piece (numbered_variable n) ∷ after
   with_task (Integer z) after = pieces.piece (signed_decimal z) ∷ after
   with_task Gap after = pieces.after_space after
   with_task (Placed t place) after = placed place (written style table seen (term_of t.now)) ++ after
@@ -67,6 +68,7 @@ load (trees.More t ts) = 8 + load t + load ts
 
 abbrev pub form_load : Form → ℕ
 form_load (form.Variable n) = 2
+form_load (form.NumberedVariable n) = 18
 form_load (form.Integer z) = 2
 form_load (form.Atom name) = 2
 form_load (form.List first rest) = 24 + load (term_of first.now) + load (term_of rest.now)
@@ -80,6 +82,7 @@ abbrev pub task_load : Task → ℕ
 task_load (Mark text) = 1
 task_load (Name name) = 1
 task_load (Variable n) = 1
+task_load (NumberedVariable n) = 1
 task_load (Integer z) = 1
 task_load Gap = 1
 task_load (Placed t place) = 3 + load (term_of t.now)

@@ -1,7 +1,7 @@
 //! What a term is written as: as an operator with its operands, as a list, in braces or in functional notation.
 ghost use Rattle.std.specs.Prelude.{◌≡◌, ℕ, List, [], ◌+◌, ◌∷◌, option_map, IfSome};
 ghost use Rattle.iso_ops.specs.Operators as ops;
-ghost use Rattle.iso_model.specs.Terms.Trees.{Apply};
+ghost use Rattle.iso_model.specs.Terms.Trees.{Apply, More, End};
 ghost use Rattle.iso_model.specs.Terms.TermOf.{term_of, row_of};
 ghost use Rattle.iso_model.specs.Syntax.Pieces as pieces;
 ghost use Rattle.iso_model.specs.Syntax.Operators as model;
@@ -9,6 +9,7 @@ ghost use Rattle.iso_write.specs.Styles.{style_of};
 ghost use Rattle.iso_write.specs.Tasks.{load, form_load};
 ghost use Rattle.iso_write.specs.Forms.{form_operator, form_or, form_written, arguments_written, operator_of, written};
 
+use super::numbered::variable_number;
 use super::style::Style;
 use iso_model::Term;
 use iso_ops::{OpTable, Spec};
@@ -65,6 +66,8 @@ impl Operator<'_> {
 pub(crate) enum Form<'t> {
     /// A variable.
     Variable(u64),
+    /// A numbered variable.
+    NumberedVariable(u64),
     /// An integer.
     Integer(i64),
     /// An atom.
@@ -125,9 +128,12 @@ fn single_form<'t>(
     ops: &OpTable,
 ) -> Option<Form<'t>>
     ensures form { (seen : List ℕ) → form_or (style_of style) ops.now seen (arguments_written (style_of style) ops.now seen name.now (term_of argument.now ∷ [])) result
-        ≡ pieces.single_written (style_of style) ops.now seen name.now (written (style_of style) ops.now seen (term_of argument.now)) }
+        ≡ written (style_of style) ops.now seen (Apply name.now (More (term_of argument.now) End)) }
     ensures load { IfSome result (λ form. form_load form ≡ 16 + load (term_of argument.now)) }
 {
+    if let Some(number) = variable_number(name, argument, style) {
+        return Some(Form::NumberedVariable(number));
+    }
     if !style.uses_operators() {
         return None;
     }

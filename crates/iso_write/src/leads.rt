@@ -12,6 +12,7 @@ ghost use Rattle.iso_write.specs.Leads.{lead, front_lead, front_load, infix_lead
 use super::brackets::has_brackets;
 use super::forms::{Form, Operator, form_of};
 use super::names::{is_bare, is_symbolic};
+use super::numbered::variable_letter;
 use super::style::Style;
 use super::tasks::Place;
 use iso_model::Term;
@@ -86,6 +87,7 @@ fn front_of<'t>(form: Form<'t>, style: Style) -> Front<'t>
 {
     match form {
         Form::Variable(_) => Front::Byte(Some(b'_')),
+        Form::NumberedVariable(number) => Front::Byte(Some(variable_letter(number))),
         Form::Integer(value) => Front::Byte(integer_byte(value)),
         Form::Atom(name) => Front::Byte(name_byte(name, style)),
         Form::List(..) => Front::Byte(Some(b'[')),

@@ -12,6 +12,7 @@ mod edges;
 mod forms;
 mod leads;
 mod names;
+mod numbered;
 mod parts;
 mod style;
 mod tasks;

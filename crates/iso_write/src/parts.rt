@@ -160,6 +160,7 @@ pub(crate) fn push_form<'t>(
 {
     match form {
         Form::Variable(number) => push_all(todo, &[Task::Variable(number)]),
+        Form::NumberedVariable(number) => push_all(todo, &[Task::NumberedVariable(number)]),
         Form::Integer(value) => push_all(todo, &[Task::Integer(value)]),
         Form::Atom(name) => push_all(todo, &[Task::Name(name)]),
         Form::List(first, rest) => {

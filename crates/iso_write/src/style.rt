@@ -6,9 +6,9 @@ ghost use Rattle.iso_write.specs.Styles.{style_of};
 /// How terms are written (8.14.2): as `write`, `writeq` and `write_canonical` do.
 #[derive(Clone, Copy, Debug, PartialEq, Eq)]
 pub enum Style {
-    /// Operators are written as such, and no name is quoted.
+    /// Operators are written as such and numbered variables as letters, and no name is quoted.
     Write,
-    /// Operators are written as such, and a name is quoted where it needs it.
+    /// Operators are written as such and numbered variables as letters, and a name is quoted where it needs it.
     Writeq,
     /// Functional notation and lists, and a name is quoted where it needs it.
     Canonical,
@@ -33,5 +33,12 @@ impl Style {
             Style::Write | Style::Writeq => true,
             Style::Canonical => false,
         }
+    }
+
+    /// Whether `'$VAR'(N)` is written as a numbered variable.
+    pub(crate) fn numbers_variables(self) -> bool
+        ensures { result ≡ pieces.numbers_variables (style_of self) }
+    {
+        matches!(self, Style::Write | Style::Writeq)
     }
 }

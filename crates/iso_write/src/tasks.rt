@@ -24,6 +24,8 @@ pub(crate) enum Task<'t> {
     Name(&'t str),
     /// A variable.
     Variable(u64),
+    /// A numbered variable.
+    NumberedVariable(u64),
     /// An integer.
     Integer(i64),
     /// A space before the next piece.

@@ -2,7 +2,7 @@
 ghost use Rattle.std.specs.Prelude.{◌≡◌, ◌<◌, ◌+◌, ◌∷◌, ◌++◌, ℕ, List, take, length, IfOk, OnOk};
 ghost use Rattle.std.specs.Fmt.{signed_decimal};
 ghost use Rattle.iso_model.specs.Terms.TermOf.{term_of};
-ghost use Rattle.iso_model.specs.Syntax.Texts.{variable_text};
+ghost use Rattle.iso_model.specs.Syntax.Texts.{variable_text, numbered_variable};
 ghost use Rattle.iso_model.specs.Syntax.Pieces as pieces;
 ghost use Rattle.iso_write.specs.Styles.{style_of};
 ghost use Rattle.iso_write.specs.Edges.{behind};
@@ -11,6 +11,7 @@ ghost use Rattle.iso_write.specs.Tasks.{pieces_of, with_task, task_load, tasks_l
 use super::edges::{Edge, append_piece};
 use super::forms::form_of;
 use super::names::{append_name, is_bare};
+use super::numbered::numbered_text;
 use super::parts::{push_form, push_others, push_placed, push_tail};
 use super::style::Style;
 use super::tasks::{Place, Task};
@@ -52,6 +53,20 @@ fn append_variable(
     let place = seen.place(number).unwrap_or(seen.len());
     let text = format!(in alloc; "_{}", place + 1)?;
     append_piece(out, edge, text.as_bytes())
+}
+
+/// Appends a numbered variable.
+fn append_numbered_variable(
+    alloc: Global,
+    out: &mut Vec<u8>,
+    edge: Edge,
+    number: u64,
+) -> Result<Edge, AllocError>
+    ensures text { IfOk result (λ after. (ps : List pieces.Piece) → out.new.items ++ behind after ps ≡ out.old.items ++ behind edge (pieces.piece (numbered_variable number) ∷ ps)) }
+    ensures kept { take (length out.old.items) out.new.items ≡ out.old.items }
+{
+    let text = numbered_text(alloc, number)?;
+    append_piece(out, edge, text.as_slice())
 }
 
 /// Appends an integer.
@@ -96,6 +111,7 @@ fn take_turn<'t>(
         Task::Mark(text) => append_piece(out, edge, text.as_bytes()),
         Task::Name(name) => append_name_piece(alloc, out, edge, name, style),
         Task::Variable(number) => append_variable(alloc, out, edge, number, seen),
+        Task::NumberedVariable(number) => append_numbered_variable(alloc, out, edge, number),
         Task::Integer(value) => append_integer(out, edge, value),
         Task::Gap => Ok(edge.with_gap()),
         Task::Placed(term, place) => {

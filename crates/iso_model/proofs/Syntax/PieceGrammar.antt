@@ -1,6 +1,6 @@
 -- The tokens of what is written of a term are read as that term.
-use Rattle.std.proofs.Common.{◌≡◌, ℕ, ◌+◌, ◌<◌, ◌≤◌, ◌^◌, true, false, ◌&&◌, ◌==◌, nat_le, List, [], ◌∷◌, ◌++◌, length, unwrap_or, position, pos, negsuc, ℤ, refl, sym, ap, ◌∙◌, subst, arith, append-nil}
-use Rattle.std.proofs.lemmas.Bool.{and_parts, false≢true, leb-true, ltb-true, eq-eqb}
+use Rattle.std.proofs.Common.{◌≡◌, ℕ, ◌+◌, ◌<◌, ◌≤◌, ◌^◌, true, false, ◌&&◌, ◌||◌, ◌==◌, nat_le, is_some, List, [], ◌∷◌, ◌++◌, length, unwrap_or, position, pos, negsuc, ℤ, refl, sym, ap, ◌∙◌, subst, arith, append-nil}
+use Rattle.std.proofs.lemmas.Bool.{and_parts, or_parts, false≢true, leb-true, ltb-true, eq-eqb}
 use Rattle.iso_ops.specs.Operators.{Operator, IsOpTable, HasNoBrackets}
 use Rattle.iso_ops.specs.declared.settings.Flags.{Flags}
 use Rattle.iso_model.specs.Terms.Trees.{Tree, Variable, Integer, Name, Apply, End, More, row, count}
@@ -12,8 +12,8 @@ use Rattle.iso_model.specs.Terms.Unification.Listed.{is_in-append, distinct_keep
 use Rattle.iso_model.specs.Syntax.Token.{Shown}
 use Rattle.iso_model.specs.Syntax.Texts.{variable_text}
 use Rattle.iso_model.specs.Syntax.Grammar.{Node, Reads, start_of, number_of}
-use Rattle.iso_model.specs.Syntax.Pieces.{Piece, Writeq, piece, compound_written, at_most, term_written}
-use Rattle.iso_model.specs.Syntax.WritingLaws.{IsWritable, integers_fit, integer_fits}
+use Rattle.iso_model.specs.Syntax.Pieces.{Piece, Writeq, piece, compound_written, variable_number, at_most, term_written}
+use Rattle.iso_model.specs.Syntax.WritingLaws.{IsWritable, integers_fit, integer_fits, has_numbered_variable}
 use Rattle.iso_model.proofs.OnTerms.SortLemmas.{row_of_arguments}
 use Rattle.iso_model.proofs.OnTerms.VariableLemmas.{listed_occurring}
 use Rattle.iso_model.proofs.Syntax.ReadingSound.{left_at}
@@ -22,7 +22,7 @@ use Rattle.iso_model.proofs.Syntax.PieceVariables.{place_kept, IsBeginning, begi
 use Rattle.iso_model.proofs.Syntax.PieceParts.{node, IsPart, place_part, nothing_follows, nothing_ends}
 use Rattle.iso_model.proofs.Syntax.PieceTerms.{count_part, negative_part}
 use Rattle.iso_model.proofs.Syntax.PiecePlaces.{IsPlace, AreArguments, last_argument, more_arguments, compound_part}
-use Rattle.iso_model.proofs.Syntax.PieceWritten.{IsReadable, simple_readable, place_written, atom_readable, single_readable, pair_readable}
+use Rattle.iso_model.proofs.Syntax.PieceWritten.{IsReadable, simple_readable, place_written, atom_readable, single_readable, numbered_readable, pair_readable}
 
 -- The tokens are read as the term with its variables numbered 0, 1, .. by first occurrence.
 pub record AreRead (table : List Operator) (flags : Flags) (t : Tree) (ts : List Shown) : Type 0 where
@@ -38,6 +38,10 @@ few_arguments name ts sort =
 
 second_row : (name : List ℕ) (t ts : Tree) → is_term (Apply name (More t ts)) ≡ true → is_row ts ≡ true
 second_row name t ts sort = (and_parts (is_term t) (is_row ts) (row_of_arguments name (More t ts) sort)).1
+
+-- no argument of a term without numbered variables has one
+no_numbered : (name : List ℕ) (ts : Tree) → has_numbered_variable (Apply name ts) ≡ false → has_numbered_variable ts ≡ false
+no_numbered name ts none = (or_parts (is_some (variable_number (Apply name ts))) (has_numbered_variable ts) none).1
 
 third_row : (name : List ℕ) (t u ts : Tree) → is_term (Apply name (More t (More u ts))) ≡ true → is_row ts ≡ true
 third_row name t u ts sort = (and_parts (is_term u) (is_row ts) (second_row name t (More u ts) sort)).1
@@ -103,57 +107,63 @@ module _ (table : List Operator) (flags : Flags) (good : IsOpTable table) (plain
       rw (← others.is) (simple_readable table flags seen (compound_part table flags name (others.continues (place_written table flags seen 999 first)) (omega (arith, most, others.count))))
 
   mutual
-    term_readable : (t : Tree) (vs : List ℕ) → is_term t ≡ true → integers_fit t ≡ true → IsBeginning (distinct_from vs t) all → Readable t vs
-    term_readable (Variable n) vs sort fits within = variable_readable n vs within
-    term_readable (Integer z) vs sort fits within = integer_readable z vs fits
-    term_readable (Name name) vs sort fits within = atom_readable table flags seen plain name (texts seen few vs)
-    term_readable (Apply name (More t End)) vs sort fits within =
+    term_readable : (t : Tree) (vs : List ℕ) → is_term t ≡ true → integers_fit t ≡ true → has_numbered_variable t ≡ false → IsBeginning (distinct_from vs t) all → Readable t vs
+    term_readable (Variable n) vs sort fits none within = variable_readable n vs within
+    term_readable (Integer z) vs sort fits none within = integer_readable z vs fits
+    term_readable (Name name) vs sort fits none within = atom_readable table flags seen plain name (texts seen few vs)
+    term_readable (Apply name (More t End)) vs sort fits none within =
         let sorts = and_parts (is_term t) true (row_of_arguments name (More t End) sort) in
         let fit = and_parts (integers_fit t) true fits in
-        single_readable table flags seen good plain name (term_readable t vs sorts.0 fit.0 within)
-    term_readable (Apply name (More t (More u End))) vs sort fits within =
+        let no = or_parts (is_some (variable_number (Apply name (More t End)))) (has_numbered_variable (More t End)) none in
+        let other = or_parts (has_numbered_variable t) false no.1 in
+        numbered_readable table flags seen (variable_number (Apply name (More t End))) no.0 (single_readable table flags seen good plain name (term_readable t vs sorts.0 fit.0 other.0 within))
+    term_readable (Apply name (More t (More u End))) vs sort fits none within =
         let sorts = and_parts (is_term t) (is_row (More u End)) (row_of_arguments name (More t (More u End)) sort) in
         let more_sorts = and_parts (is_term u) true sorts.1 in
         let fit = and_parts (integers_fit t) (integers_fit (More u End)) fits in
         let more_fit = and_parts (integers_fit u) true fit.1 in
-        pair_readable table flags seen good plain name (term_readable t vs sorts.0 fit.0 (within_first t u vs within)) (term_readable u (distinct_from vs t) more_sorts.0 more_fit.0 within)
-    term_readable (Apply name (More t (More u (More v ts)))) vs sort fits within =
+        let no = or_parts (has_numbered_variable t) (has_numbered_variable (More u End)) (no_numbered name (More t (More u End)) none) in
+        let other = or_parts (has_numbered_variable u) false no.1 in
+        pair_readable table flags seen good plain name (term_readable t vs sorts.0 fit.0 no.0 (within_first t u vs within)) (term_readable u (distinct_from vs t) more_sorts.0 more_fit.0 other.0 within)
+    term_readable (Apply name (More t (More u (More v ts)))) vs sort fits none within =
         let sorts = and_parts (is_term t) (is_row (More u (More v ts))) (row_of_arguments name (More t (More u (More v ts))) sort) in
         let fit = and_parts (integers_fit t) (integers_fit (More u (More v ts))) fits in
-        arguments_readable name t (More u (More v ts)) vs (omega (arith, few_arguments name (More t (More u (More v ts))) sort)) (term_readable t vs sorts.0 fit.0 (within_first t (More u (More v ts)) vs within)) (row_readable (More u (More v ts)) (distinct_from vs t) sorts.1 fit.1 within)
-    term_readable (Apply name (More t (More u (Variable n)))) vs sort fits within = absurd (false≢true (third_row name t u (Variable n) sort))
-    term_readable (Apply name (More t (More u (Integer z)))) vs sort fits within = absurd (false≢true (third_row name t u (Integer z) sort))
-    term_readable (Apply name (More t (More u (Name a)))) vs sort fits within = absurd (false≢true (third_row name t u (Name a) sort))
-    term_readable (Apply name (More t (More u (Apply f ts)))) vs sort fits within = absurd (false≢true (third_row name t u (Apply f ts) sort))
-    term_readable (Apply name (More t (Variable n))) vs sort fits within = absurd (false≢true (second_row name t (Variable n) sort))
-    term_readable (Apply name (More t (Integer z))) vs sort fits within = absurd (false≢true (second_row name t (Integer z) sort))
-    term_readable (Apply name (More t (Name a))) vs sort fits within = absurd (false≢true (second_row name t (Name a) sort))
-    term_readable (Apply name (More t (Apply f ts))) vs sort fits within = absurd (false≢true (second_row name t (Apply f ts) sort))
-    term_readable (Apply name End) vs sort fits within = absurd (false≢true sort)
-    term_readable (Apply name (Variable n)) vs sort fits within = absurd (false≢true sort)
-    term_readable (Apply name (Integer z)) vs sort fits within = absurd (false≢true sort)
-    term_readable (Apply name (Name a)) vs sort fits within = absurd (false≢true sort)
-    term_readable (Apply name (Apply f ts)) vs sort fits within = absurd (false≢true sort)
-    term_readable End vs sort fits within = absurd (false≢true sort)
-    term_readable (More t ts) vs sort fits within = absurd (false≢true sort)
+        let no = or_parts (has_numbered_variable t) (has_numbered_variable (More u (More v ts))) (no_numbered name (More t (More u (More v ts))) none) in
+        arguments_readable name t (More u (More v ts)) vs (omega (arith, few_arguments name (More t (More u (More v ts))) sort)) (term_readable t vs sorts.0 fit.0 no.0 (within_first t (More u (More v ts)) vs within)) (row_readable (More u (More v ts)) (distinct_from vs t) sorts.1 fit.1 no.1 within)
+    term_readable (Apply name (More t (More u (Variable n)))) vs sort fits none within = absurd (false≢true (third_row name t u (Variable n) sort))
+    term_readable (Apply name (More t (More u (Integer z)))) vs sort fits none within = absurd (false≢true (third_row name t u (Integer z) sort))
+    term_readable (Apply name (More t (More u (Name a)))) vs sort fits none within = absurd (false≢true (third_row name t u (Name a) sort))
+    term_readable (Apply name (More t (More u (Apply f ts)))) vs sort fits none within = absurd (false≢true (third_row name t u (Apply f ts) sort))
+    term_readable (Apply name (More t (Variable n))) vs sort fits none within = absurd (false≢true (second_row name t (Variable n) sort))
+    term_readable (Apply name (More t (Integer z))) vs sort fits none within = absurd (false≢true (second_row name t (Integer z) sort))
+    term_readable (Apply name (More t (Name a))) vs sort fits none within = absurd (false≢true (second_row name t (Name a) sort))
+    term_readable (Apply name (More t (Apply f ts))) vs sort fits none within = absurd (false≢true (second_row name t (Apply f ts) sort))
+    term_readable (Apply name End) vs sort fits none within = absurd (false≢true sort)
+    term_readable (Apply name (Variable n)) vs sort fits none within = absurd (false≢true sort)
+    term_readable (Apply name (Integer z)) vs sort fits none within = absurd (false≢true sort)
+    term_readable (Apply name (Name a)) vs sort fits none within = absurd (false≢true sort)
+    term_readable (Apply name (Apply f ts)) vs sort fits none within = absurd (false≢true sort)
+    term_readable End vs sort fits none within = absurd (false≢true sort)
+    term_readable (More t ts) vs sort fits none within = absurd (false≢true sort)
 
-    row_readable : (ts : Tree) (vs : List ℕ) → is_row ts ≡ true → integers_fit ts ≡ true → IsBeginning (distinct_from vs ts) all → AreReadable ts vs
-    row_readable End vs sort fits within = none_readable vs
-    row_readable (More t ts) vs sort fits within =
+    row_readable : (ts : Tree) (vs : List ℕ) → is_row ts ≡ true → integers_fit ts ≡ true → has_numbered_variable ts ≡ false → IsBeginning (distinct_from vs ts) all → AreReadable ts vs
+    row_readable End vs sort fits none within = none_readable vs
+    row_readable (More t ts) vs sort fits none within =
         let sorts = and_parts (is_term t) (is_row ts) sort in
         let fit = and_parts (integers_fit t) (integers_fit ts) fits in
-        more_readable t ts vs (term_readable t vs sorts.0 fit.0 (within_first t ts vs within)) (row_readable ts (distinct_from vs t) sorts.1 fit.1 within)
-    row_readable (Variable n) vs sort fits within = absurd (false≢true sort)
-    row_readable (Integer z) vs sort fits within = absurd (false≢true sort)
-    row_readable (Name a) vs sort fits within = absurd (false≢true sort)
-    row_readable (Apply f ts) vs sort fits within = absurd (false≢true sort)
+        let no = or_parts (has_numbered_variable t) (has_numbered_variable ts) none in
+        more_readable t ts vs (term_readable t vs sorts.0 fit.0 no.0 (within_first t ts vs within)) (row_readable ts (distinct_from vs t) sorts.1 fit.1 no.1 within)
+    row_readable (Variable n) vs sort fits none within = absurd (false≢true sort)
+    row_readable (Integer z) vs sort fits none within = absurd (false≢true sort)
+    row_readable (Name a) vs sort fits none within = absurd (false≢true sort)
+    row_readable (Apply f ts) vs sort fits none within = absurd (false≢true sort)
 
 pub written_read : (table : List Operator) (flags : Flags) → IsOpTable table → HasNoBrackets table → (seen : List ℕ) (t : Tree) → IsWritable seen t
     → (ts : List Shown) → AreTokens (at_most 1200 (term_written Writeq table seen t)) ts → AreRead table flags t ts
 written_read table flags good plain seen t writable ts tokens =
     let few : length seen < 10 ^ 64 = omega (arith, writable.few) in
     let known = λ (x : ℕ) (h : is_in x (variables t) ≡ true). writable.places x (sym (listed_occurring t x) ∙ h) in
-    let r = term_readable table flags good plain seen few (variables t) known t [] writable.term writable.integers (begins_itself (variables t)) in
+    let r = term_readable table flags good plain seen few (variables t) known t [] writable.term writable.integers writable.numbered (begins_itself (variables t)) in
     let x = (place_written table flags seen 1200 r).reads [] ts (nothing_follows table flags) (nothing_ends table flags) (subst (λ us. AreTokens us ts) (sym (append-nil (at_most 1200 (term_written Writeq table seen t)))) tokens) in
     record {
       node = node (copy_from t 0) x.priority x.height x.is_open;

@@ -1,7 +1,7 @@
 -- What is written of a term, by its shape, from what is written of its parts.
-use Rattle.std.proofs.Common.{◌≡◌, ℕ, ◌≤◌, Bool, true, false, ◌&&◌, nat_lt, if◌then◌else◌, List, [], ◌∷◌, Option, Some, None, codes, inl, inr, refl, sym, ap, ◌∙◌, subst, arith}
+use Rattle.std.proofs.Common.{◌≡◌, ℕ, ◌≤◌, Bool, true, false, ◌&&◌, nat_lt, if◌then◌else◌, List, [], ◌∷◌, Option, Some, None, is_some, codes, inl, inr, refl, sym, ap, ◌∙◌, subst, arith}
 use Rattle.std.specs.Str.{bytes_eq}
-use Rattle.std.proofs.lemmas.Bool.{cases_Bool}
+use Rattle.std.proofs.lemmas.Bool.{cases_Bool, true≢false}
 use Rattle.std.proofs.lemmas.Bool.Decides.{nat_tests}
 use Rattle.std.proofs.lemmas.Slice.Eq.{bytes_eq-Decides}
 use Rattle.iso_ops.specs.declared.specifiers.Kind.TheVariants.{Prefix, Infix, Postfix}
@@ -12,7 +12,7 @@ use Rattle.iso_model.specs.Syntax.Operators.{prefix_named, infix_named, postfix_
 use Rattle.iso_model.specs.Terms.Trees.{Tree, Name, Apply, row}
 use Rattle.iso_model.specs.Syntax.Lists.{nil, curly, dot}
 use Rattle.iso_model.specs.Syntax.Texts.{name_text}
-use Rattle.iso_model.specs.Syntax.Pieces.{Piece, Writeq, Written, piece, simple, made_by, at_most, operand_at, left_operand, bracketed, single_by, single_written, pair_by, pair_written, list_written, atom_written, is_operator_name}
+use Rattle.iso_model.specs.Syntax.Pieces.{Piece, Writeq, Written, piece, simple, made_by, at_most, operand_at, left_operand, bracketed, single_by, single_written, numbered_or, pair_by, pair_written, list_written, atom_written, is_operator_name}
 use Rattle.iso_model.proofs.Syntax.PieceParts.{IsPart}
 use Rattle.iso_model.proofs.Syntax.PieceTerms.{atom_part, nil_part, curly_part}
 use Rattle.iso_model.proofs.Syntax.PiecePlaces.{IsPlace, place_of_part, bracket_part, braces_part, last_argument, more_arguments, compound_part}
@@ -80,6 +80,11 @@ module _ (table : List Operator) (flags : Flags) (seen : List ℕ) where
         | inl is ↦ (let same = (bytes_eq-Decides name (codes "{}")).0 is in rw (is, same) (simple_readable (braces_part table flags (place_written 1200 r))))
         | inr other ↦ rw other (single_by_readable good plain name (prefix_named table name) (postfix_named table name) refl refl r)
       ]
+
+  -- where there is no number
+  pub numbered_readable : (o : Option ℕ) → is_some o ≡ false → {w : Written} {names behind : List (List ℕ)} {t : Tree} → IsReadable w names behind t → IsReadable (numbered_or o w) names behind t
+  numbered_readable None none r = r
+  numbered_readable (Some n) none r = absurd (true≢false none)
 
   -- ---- two arguments
 

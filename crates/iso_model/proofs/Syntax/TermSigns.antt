@@ -1,6 +1,6 @@
 -- The pieces of a term are signs.
-use Rattle.std.proofs.Common.{◌≡◌, ℕ, Bool, true, not, ◌&&◌, ◌||◌, ◌==◌, nat_lt, if◌then◌else◌, List, [], ◌∷◌, ◌++◌, refl, Option, Some, None, codes}
-use Rattle.std.proofs.lemmas.Bool.{cond_both, and_parts}
+use Rattle.std.proofs.Common.{◌≡◌, ℕ, Bool, true, false, not, ◌&&◌, ◌||◌, ◌==◌, nat_lt, if◌then◌else◌, List, [], ◌∷◌, ◌++◌, refl, Option, Some, None, is_some, codes}
+use Rattle.std.proofs.lemmas.Bool.{cond_both, and_parts, or_parts, true≢false}
 use Rattle.std.specs.Str.{bytes_eq}
 use Rattle.std.proofs.lemmas.Slice.Eq.{bytes_eq-Decides}
 use Rattle.iso_ops.specs.Operators.{Operator}
@@ -8,8 +8,8 @@ use Rattle.iso_model.specs.Syntax.Characters.{is_punctuation}
 use Rattle.iso_model.specs.Syntax.Operators.{prefix_named, infix_named, postfix_named, left_of, right_of, takes_equal}
 use Rattle.iso_model.specs.Terms.Trees.{Tree, Variable, Integer, Name, Apply, End, More}
 use Rattle.iso_model.specs.Syntax.Texts.{name_text}
-use Rattle.iso_model.specs.Syntax.Pieces.{Piece, Written, Writeq, piece, after_space, bracketed, at_most, operand_at, left_operand, simple, made_by, is_symbolic, begins_open, begins_digit, operator_bytes, atom_written, compound_written, list_written, infix_pieces, prefix_pieces, postfix_pieces, pair_by, pair_written, single_by, single_written, term_written}
-use Rattle.iso_model.specs.Syntax.WritingLaws.{integers_fit}
+use Rattle.iso_model.specs.Syntax.Pieces.{Piece, Written, Writeq, piece, after_space, bracketed, at_most, operand_at, left_operand, simple, made_by, is_symbolic, begins_open, begins_digit, operator_bytes, atom_written, compound_written, list_written, infix_pieces, prefix_pieces, postfix_pieces, pair_by, pair_written, single_by, single_written, variable_number, numbered_or, term_written}
+use Rattle.iso_model.specs.Syntax.WritingLaws.{integers_fit, has_numbered_variable}
 use Rattle.iso_model.proofs.Syntax.PieceTokens.{Mark, Named, Place, Number, IsSigned, AreSigned, none_left, one_more}
 
 signed-append : (ps qs : List Piece) → AreSigned ps → AreSigned qs → AreSigned (ps ++ qs)
@@ -74,6 +74,11 @@ operator-signed name =
     (λ e. let is : name ≡ codes "," = (bytes_eq-Decides name (codes ",")).0 e in record { sign = Mark 44; sound = refl; text = is })
     (λ _. name_signed name)
 
+-- where there is no number
+numbered-signed : (o : Option ℕ) (w : Written) → is_some o ≡ false → WrittenSigned w → WrittenSigned (numbered_or o w)
+numbered-signed None w none h = h
+numbered-signed (Some n) w none h = absurd (true≢false none)
+
 -- an argument and those behind it
 more-signed : (first rest : Written) → WrittenSigned first → WrittenSigned rest → AreSigned (at_most 999 first ++ rest.others)
 more-signed first rest h g = signed-append (at_most 999 first) rest.others (at_most-signed 999 first h.bare) g.others
@@ -132,28 +137,35 @@ module _ (table : List Operator) (seen : List ℕ) where
       (simple-signed _ (one_more (mark_signed 123 refl) (closed_by 125 refl (at_most 1200 argument) (at_most-signed 1200 argument h))))
       (unary-signed (prefix_named table name) (postfix_named table name) name argument h)
 
-  written-signed : (t : Tree) → integers_fit t ≡ true → WrittenSigned (term_written Writeq table seen t)
-  written-signed (Variable n) h = simple-signed _ (one (record { sign = Place _; sound = refl; text = refl }))
-  written-signed (Integer z) h = simple-signed _ (one (record { sign = Number z; sound = h; text = refl }))
-  written-signed (Name name) h = atom-signed name
-  written-signed (Apply name (More t End)) h = single-signed name _ (written-signed t (and_parts _ _ h).0).bare
-  written-signed (Apply name (More t (More u End))) h =
+  written-signed : (t : Tree) → integers_fit t ≡ true → has_numbered_variable t ≡ false → WrittenSigned (term_written Writeq table seen t)
+  written-signed (Variable n) h g = simple-signed _ (one (record { sign = Place _; sound = refl; text = refl }))
+  written-signed (Integer z) h g = simple-signed _ (one (record { sign = Number z; sound = h; text = refl }))
+  written-signed (Name name) h g = atom-signed name
+  written-signed (Apply name (More t End)) h g =
+      let none = or_parts (is_some (variable_number (Apply name (More t End)))) _ g in
+      let others = or_parts (has_numbered_variable t) _ none.1 in
+      numbered-signed _ _ none.0 (single-signed name _ (written-signed t (and_parts _ _ h).0 others.0).bare)
+  written-signed (Apply name (More t (More u End))) h g =
       let fits = and_parts (integers_fit t) _ h in
       let other = and_parts (integers_fit u) _ fits.1 in
-      pair-signed name _ _ (written-signed t fits.0) (written-signed u other.0)
-  written-signed (Apply name (More t ts)) h =
+      let none = or_parts (has_numbered_variable t) _ (or_parts (is_some (variable_number (Apply name (More t (More u End))))) _ g).1 in
+      let others = or_parts (has_numbered_variable u) _ none.1 in
+      pair-signed name _ _ (written-signed t fits.0 none.0) (written-signed u other.0 others.0)
+  written-signed (Apply name (More t ts)) h g =
       let fits = and_parts (integers_fit t) _ h in
-      compound-signed name _ (more-signed (term_written Writeq table seen t) (term_written Writeq table seen ts) (written-signed t fits.0) (written-signed ts fits.1))
-  written-signed (Apply name ts) h = simple-signed _ (one (name_signed name))
-  written-signed End h = simple-signed [] none_left
-  written-signed (More t ts) h =
+      let none = or_parts (has_numbered_variable t) _ (or_parts (is_some (variable_number (Apply name (More t ts)))) _ g).1 in
+      compound-signed name _ (more-signed (term_written Writeq table seen t) (term_written Writeq table seen ts) (written-signed t fits.0 none.0) (written-signed ts fits.1 none.1))
+  written-signed (Apply name ts) h g = simple-signed _ (one (name_signed name))
+  written-signed End h g = simple-signed [] none_left
+  written-signed (More t ts) h g =
       let fits = and_parts (integers_fit t) _ h in
+      let none = or_parts (has_numbered_variable t) _ g in
       record {
         bare = none_left;
         tail = none_left;
-        others = one_more (mark_signed 44 refl) (more-signed (term_written Writeq table seen t) (term_written Writeq table seen ts) (written-signed t fits.0) (written-signed ts fits.1));
+        others = one_more (mark_signed 44 refl) (more-signed (term_written Writeq table seen t) (term_written Writeq table seen ts) (written-signed t fits.0 none.0) (written-signed ts fits.1 none.1));
       }
 
   -- the pieces of a term are signs
-  pub term_signed : (most : ℕ) (t : Tree) → integers_fit t ≡ true → AreSigned (at_most most (term_written Writeq table seen t))
-  term_signed most t fits = at_most-signed most (term_written Writeq table seen t) (written-signed t fits).bare
+  pub term_signed : (most : ℕ) (t : Tree) → integers_fit t ≡ true → has_numbered_variable t ≡ false → AreSigned (at_most most (term_written Writeq table seen t))
+  term_signed most t fits none = at_most-signed most (term_written Writeq table seen t) (written-signed t fits none).bare

@@ -2,7 +2,7 @@
 use Rattle.std.proofs.Common.{refl}
 use Rattle.std.specs.Fmt.{digits}
 use Rattle.iso_ops.specs.InitialOperators.{initial_entries}
-use Rattle.iso_model.specs.Syntax.WorkedTerms.{TextsWithSigns, TextsWithBrackets, TextsWithWords, TextsWithAnOperator, CanonicalTexts, UnquotedTexts}
+use Rattle.iso_model.specs.Syntax.WorkedTerms.{TextsWithSigns, TextsWithBrackets, TextsWithWords, TextsWithAnOperator, CanonicalTexts, UnquotedTexts, TextsOfNumberedVariables}
 
 pub signs_written : TextsWithSigns
 unfolding initial_entries digits
@@ -27,3 +27,7 @@ canonical_written = (refl, refl, refl, refl)
 pub unquoted_written : UnquotedTexts
 unfolding initial_entries digits
 unquoted_written = (refl, refl, refl, refl)
+
+pub numbered_written : TextsOfNumberedVariables
+unfolding initial_entries digits
+numbered_written = (refl, refl, refl, refl, refl, refl, refl, refl, refl)

@@ -1,6 +1,6 @@
 -- The text of a term in three styles, as the pieces that are written one after the other (ISO/IEC 13211-1:1995, 7.10.5; layout and
 -- brackets are own). Bytes stand as their codes: `(` is 40, `)` 41, a space 32, `'` 39, `-` 45, `_` 95.
-use Rattle.std.specs.Prelude.{ℕ, List, [], ◌∷◌, ◌++◌, Bool, true, false, ◌&&◌, ◌||◌, ◌==◌, not, nat_lt, slice_index, codes, if◌then◌else◌, Option, Some, None, is_some}
+use Rattle.std.specs.Prelude.{ℕ, List, [], ◌∷◌, ◌++◌, Bool, true, false, ◌&&◌, ◌||◌, ◌==◌, not, nat_lt, slice_index, codes, if◌then◌else◌, Option, Some, None, is_some, pos}
 use Rattle.std.specs.Fmt.{signed_decimal}
 use Rattle.std.specs.List.{list_all}
 use Rattle.std.specs.Str.{bytes_eq}
@@ -8,7 +8,7 @@ use Rattle.iso_ops.specs.Operators.{Operator}
 use Rattle.iso_model.specs.Syntax.Characters.{is_digit, is_alphanumeric, is_graphic, space, quote, byte_of}
 use Rattle.iso_model.specs.Syntax.Operators.{prefix_named, infix_named, postfix_named, left_of, right_of, takes_equal, is_right_open}
 use Rattle.iso_model.specs.Terms.Trees.{Tree, Variable, Integer, Name, Apply, End, More}
-use Rattle.iso_model.specs.Syntax.Texts.{is_bare, name_text, variable_text}
+use Rattle.iso_model.specs.Syntax.Texts.{is_bare, name_text, variable_text, numbered_variable}
 
 -- How terms are written (8.14.2): as `write`, `writeq` and `write_canonical` do.
 pub data Style : Type 0 where
@@ -26,6 +26,17 @@ abbrev pub uses_operators : Style → Bool
 uses_operators Write = true
 uses_operators Writeq = true
 uses_operators Canonical = false
+
+-- whether `'$VAR'(N)` is written as a numbered variable
+abbrev pub numbers_variables : Style → Bool
+numbers_variables Write = true
+numbers_variables Writeq = true
+numbers_variables Canonical = false
+
+-- the number N of a term `'$VAR'(N)`, where it is an integer of at least 0
+abbrev pub variable_number : Tree → Option ℕ
+variable_number (Apply name (More (Integer (pos n)) End)) = if bytes_eq name (codes "$VAR") then Some n else None
+variable_number t = None
 
 -- A piece of a text: its bytes, and whether a space stands before it in any case.
 pub record Piece : Type 0 where
@@ -91,6 +102,11 @@ left_operand o w = if w.is_open && (w.priority == o.priority && takes_equal o.sp
 -- a term that no operator made: as a tail it stands behind a bar
 abbrev pub simple : List Piece → Written
 simple ps = record { bare = ps; priority = 0; is_open = false; is_operator = false; tail = piece (codes "|") ∷ (ps ++ piece (codes "]") ∷ []); others = [] }
+
+-- a numbered variable where there is a number, and else this
+abbrev pub numbered_or : Option ℕ → Written → Written
+numbered_or (Some n) other = simple (piece (numbered_variable n) ∷ [])
+numbered_or None other = other
 
 -- a term that this operator made: as a tail it is an argument
 abbrev pub made_by : Operator → List Piece → Written
@@ -198,7 +214,7 @@ module _ (style : Style) (table : List Operator) (seen : List ℕ) where
   term_written (Variable n) = simple (piece (variable_text seen n) ∷ [])
   term_written (Integer z) = simple (piece (signed_decimal z) ∷ [])
   term_written (Name name) = atom_written name
-  term_written (Apply name (More t End)) = single_written name (term_written t)
+  term_written (Apply name (More t End)) = numbered_or (if numbers_variables style then variable_number (Apply name (More t End)) else None) (single_written name (term_written t))
   term_written (Apply name (More t (More u End))) = pair_written name (term_written t) (term_written u)
   term_written (Apply name (More t ts)) = compound_written name (at_most 999 (term_written t) ++ (term_written ts).others)
   term_written (Apply name ts) = simple (piece (name_bytes style name) ∷ [])

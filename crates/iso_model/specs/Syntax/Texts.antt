@@ -1,5 +1,5 @@
--- The text of names, in quotes where they need them, and of variables (ISO/IEC 13211-1:1995, 7.10.5; how variables are named is own).
-use Rattle.std.specs.Prelude.{ℕ, ◌+◌, List, [], ◌∷◌, ◌++◌, Bool, false, ◌&&◌, ◌||◌, ◌==◌, not, nat_lt, codes, if◌then◌else◌, unwrap_or, position, length}
+-- The text of names, in quotes where they need them, and of variables and numbered variables (ISO/IEC 13211-1:1995, 7.10.5; how variables are named is own).
+use Rattle.std.specs.Prelude.{ℕ, ◌+◌, ◌/◌, ◌%◌, List, [], ◌∷◌, ◌++◌, Bool, false, ◌&&◌, ◌||◌, ◌==◌, not, nat_lt, codes, if◌then◌else◌, unwrap_or, position, length}
 use Rattle.std.specs.Fmt.{decimal, digits}
 use Rattle.std.specs.List.{list_all}
 use Rattle.std.specs.Str.{bytes_eq}
@@ -47,3 +47,7 @@ name_text a = if is_bare a then a else quote ∷ (quoted_bytes a ++ quote ∷ []
 -- a variable: `_k`, where it is the k-th of these
 abbrev pub variable_text : List ℕ → ℕ → List ℕ
 variable_text seen n = byte_of (codes "_") ∷ decimal (unwrap_or (position (λ m. m == n) seen) (length seen) + 1)
+
+-- a numbered variable, as `'$VAR'(n)` is written: the capital letter number n mod 26, and n // 26 where that isn't 0
+abbrev pub numbered_variable : ℕ → List ℕ
+numbered_variable n = (byte_of (codes "A") + n % 26) ∷ (if n / 26 == 0 then [] else decimal (n / 26))

@@ -78,3 +78,21 @@ UnquotedTexts =
     × IsUnquotedText (one (codes "-") (one [] (atom (codes "a")))) (codes "- (a)")
     × IsUnquotedText (one (codes "-") (two (codes "^") (atom []) (number 1))) (codes "-^1")
     × IsUnquotedText (one (codes "-") (atom [])) (codes "-")
+
+-- `'$VAR'(N)`
+abbrev pub var : Tree → Tree
+var t = one (codes "$VAR") t
+
+-- Numbered variables (7.10.5): the letters come again with a number from 26 on, whatever operator `$VAR` is; only an integer of at least 0 numbers
+-- one, and the canonical style writes none.
+abbrev pub TextsOfNumberedVariables : Type 0
+TextsOfNumberedVariables =
+    IsText (var (number 0)) (codes "A")
+    × IsText (var (number 25)) (codes "Z")
+    × IsText (var (number 27)) (codes "B1")
+    × IsText (two (codes "rem") (one (codes "-") (var (number 1))) (var (number 260))) (codes "-B rem A10")
+    × IsText (var (Integer (neg_ℤ (pos 1)))) (codes "'$VAR'(-1)")
+    × IsText (var (var (atom (codes "a")))) (codes "'$VAR'('$VAR'(a))")
+    × IsUnquotedText (var (number 51)) (codes "Z1")
+    × IsCanonicalText (var (number 1)) (codes "'$VAR'(1)")
+    × (text_at Writeq (operator 200 Fy (codes "$VAR") ∷ initial_entries) [] 1200 (var (number 2)) ≡ codes "C")

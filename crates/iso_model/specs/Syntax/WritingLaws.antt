@@ -1,5 +1,5 @@
 -- What is written is read again (ISO/IEC 13211-1:1995, 7.10.5): a law of the definitions of text, tokens and grammar alone.
-use Rattle.std.specs.Prelude.{◌≡◌, ℕ, ℤ, pos, negsuc, ◌<◌, ◌≤◌, ◌^◌, length, Bool, true, ◌&&◌, nat_lt, List, [], ◌∷◌, ◌++◌, codes}
+use Rattle.std.specs.Prelude.{◌≡◌, ℕ, ℤ, pos, negsuc, ◌<◌, ◌≤◌, ◌^◌, length, Bool, true, false, ◌&&◌, ◌||◌, nat_lt, is_some, List, [], ◌∷◌, ◌++◌, codes}
 use Rattle.iso_ops.specs.Operators.{Operator, IsOpTable}
 use Rattle.iso_ops.specs.declared.settings.Flags.{Flags}
 use Rattle.iso_model.specs.Terms.Trees.{Tree, Variable, Integer, Name, Apply, End, More}
@@ -10,7 +10,7 @@ use Rattle.iso_model.specs.Syntax.Token.{Shown, EndToken}
 use Rattle.iso_model.specs.Syntax.Tokens.{tokens}
 use Rattle.iso_model.specs.Syntax.Grammar.{Node, Reads, start_of, max_depth, numbered}
 use Rattle.iso_model.specs.Syntax.Clauses.{IsNextClause}
-use Rattle.iso_model.specs.Syntax.Pieces.{Writeq, text_at}
+use Rattle.iso_model.specs.Syntax.Pieces.{Writeq, variable_number, text_at}
 
 -- whether an integer has 64 bits (own limit)
 abbrev pub integer_fits : ℤ → Bool
@@ -26,10 +26,21 @@ integers_fit (Apply f ts) = integers_fit ts
 integers_fit End = true
 integers_fit (More t ts) = integers_fit t && integers_fit ts
 
--- A term whose integers have 64 bits and whose variables have a place among these; there are fewer than 2 ^ 64 of them, as in every vector.
+-- whether a term is or has a part `'$VAR'(N)`, where N is an integer of at least 0
+abbrev pub has_numbered_variable : Tree → Bool
+has_numbered_variable (Variable n) = false
+has_numbered_variable (Integer z) = false
+has_numbered_variable (Name a) = false
+has_numbered_variable (Apply f ts) = is_some (variable_number (Apply f ts)) || has_numbered_variable ts
+has_numbered_variable End = false
+has_numbered_variable (More t ts) = has_numbered_variable t || has_numbered_variable ts
+
+-- A term whose integers have 64 bits, which has no part `'$VAR'(N)`, and whose variables have a place among these; there are fewer than 2 ^ 64 of
+-- them, as in every vector.
 pub record IsWritable (seen : List ℕ) (t : Tree) : Type 0 where
   pub term : is_term t ≡ true
   pub integers : integers_fit t ≡ true
+  pub numbered : has_numbered_variable t ≡ false
   pub places : (x : ℕ) → occurs x t ≡ true → is_in x seen ≡ true
   pub few : length seen < 2 ^ 64
 

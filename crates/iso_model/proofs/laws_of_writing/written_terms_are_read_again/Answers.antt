@@ -11,7 +11,7 @@ pub returns : goal.returns
 returns c = λ table flags good seen t writable.
     let ps = at_most 1200 (term_written Writeq table seen t) in
     let before = shown_pieces 0 [] ps in
-    let signed = term_signed table seen 1200 t writable.integers in
+    let signed = term_signed table seen 1200 t writable.integers writable.numbered in
     let whole = signed_tokens ps signed in
     let read = written_read table flags good good.brackets seen t writable before (record { at = 0; before = []; are = refl }) in
     record {

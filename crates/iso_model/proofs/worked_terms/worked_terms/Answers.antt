@@ -1,5 +1,6 @@
 use Rattle.iso_model.proofs.Syntax.WorkedWriting.{brackets_written}
 use Rattle.iso_model.proofs.Syntax.WorkedWriting.{canonical_written}
+use Rattle.iso_model.proofs.Syntax.WorkedWriting.{numbered_written}
 use Rattle.iso_model.proofs.Syntax.WorkedWriting.{operator_written}
 use Rattle.iso_model.proofs.Syntax.WorkedWriting.{signs_written}
 use Rattle.iso_model.proofs.Syntax.WorkedWriting.{unquoted_written}
@@ -23,3 +24,6 @@ returns-clause-canonical_texts c = canonical_written
 
 pub returns-clause-unquoted_texts : goal.returns-clause-unquoted_texts
 returns-clause-unquoted_texts c = unquoted_written
+
+pub returns-clause-texts_of_numbered_variables : goal.returns-clause-texts_of_numbered_variables
+returns-clause-texts_of_numbered_variables c = numbered_written
