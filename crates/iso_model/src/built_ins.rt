@@ -185,11 +185,7 @@ const ROWS: [Row; 66] = [
     Row("abolish", 1, BuiltIn::Storage(Storage::Abolish)),
     Row("dynamic", 1, BuiltIn::Storage(Storage::Dynamic)),
     Row("multifile", 1, BuiltIn::Storage(Storage::Multifile)),
-    Row(
-        "discontiguous",
-        1,
-        BuiltIn::Storage(Storage::Discontiguous),
-    ),
+    Row("discontiguous", 1, BuiltIn::Storage(Storage::Discontiguous)),
 ];
 
 /// The built-ins, each with its name and arity.

@@ -17,7 +17,14 @@ struct Written {
 fn over_cells(alloc: Global, text: &str, row: &Session) -> Written {
     let mut bytes: Vec<u8> = Vec::new(alloc);
     let queries = row.queries.as_str();
-    let outcome = session(alloc, text, queries, &row.limits(), Choice::Plain, &mut bytes);
+    let outcome = session(
+        alloc,
+        text,
+        queries,
+        &row.limits(),
+        Choice::Plain,
+        &mut bytes,
+    );
     let status = status_of(&outcome);
     Written { bytes, status }
 }
