@@ -54,24 +54,27 @@ module _ {S W M : Type 0} (names : S → List (List ℕ)) (present : S → Prese
         → HasUnified names present stands older (record e { store = store }) here shown s c true
     found few m =
         let a = t.ahead in
-        let space = t.space in
-        (compose s.subst m.unifier, unify_found s.subst here right (subst (λ (x : Tree). Unifier here x m.unifier) right_is m.is),
-        ahead_bound names present stands older e store e.nodes s shown.rest c.variables (compose s.subst m.unifier) a keeps texts (adds_none e.nodes.items) m.words
-        (m.substitution ∙ ap (λ (r : Subst). compose r m.unifier) a.goes.subst) m.next (omega (arith, space, few)))
+        let space = t.space in (
+          compose s.subst m.unifier,
+          unify_found s.subst here right (subst (λ (x : Tree). Unifier here x m.unifier) right_is m.is),
+          ahead_bound names present stands older e store e.nodes s shown.rest c.variables (compose s.subst m.unifier) a keeps texts (adds_none e.nodes.items) m.words
+              (m.substitution ∙ ap (λ (r : Subst). compose r m.unifier) a.goes.subst) m.next (omega (arith, space, few)),
+        )
 
     missed : e.now ≡ now.Failing → NeverEqual here (apply (present e.store).substitution (renamed (present e.store).next (clause_row c)))
         → HasUnified names present stands older (record e { store = store }) here shown s c false
     missed failing never =
-        let a = t.ahead in
-        (unify_none s.subst here right (subst (λ (x : Tree). NeverEqual here x) right_is never),
-        subst (λ (n : Now). IsEngine names present stands older (record e { store = store; now = n }) (fails s)) (sym failing) (record {
-          world = world_on texts a.world;
-          steps = a.steps;
-          base = base_kept (stands e.store) (stands store) e.base keeps a.base;
-          choices = choices_kept texts (λ d p among stood. keeps d.mark p stood) a.choices;
-          room = a.room;
-          next = ([], refl);
-        }))
+        let a = t.ahead in (
+          unify_none s.subst here right (subst (λ (x : Tree). NeverEqual here x) right_is never),
+          subst (λ (n : Now). IsEngine names present stands older (record e { store = store; now = n }) (fails s)) (sym failing) (record {
+            world = world_on texts a.world;
+            steps = a.steps;
+            base = base_kept (stands e.store) (stands store) e.base keeps a.base;
+            choices = choices_kept texts (λ d p among stood. keeps d.mark p stood) a.choices;
+            room = a.room;
+            next = ([], refl);
+          }),
+        )
 
     -- its head and its body were unified with the two terms, or can't be
     pub unified : e.now ≡ now.Failing → c.variables ≤ most_variables → (answer : Bool) → UnifiesClause (present e.store) (present store) (meaning (present e.store) shown.head) (meaning (present e.store) shown.body) c answer

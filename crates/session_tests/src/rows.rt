@@ -37,21 +37,6 @@ pub const PLAIN: Row = Row {
     status: 0,
 };
 
-/// A session that full frames end, with nothing before it.
-pub const FRAMES_FULL: Row = Row {
-    output: "end: frames full\n",
-    status: 3,
-    ..PLAIN
-};
-
-/// A session that a full heap ends, with nothing before it: it has room for 100 cells.
-pub const HEAP_FULL: Row = Row {
-    cells: Some(100),
-    output: "end: heap full\n",
-    status: 3,
-    ..PLAIN
-};
-
 /// The row of this name.
 pub fn row_named(name: &str) -> Option<&'static Row> {
     ROWS.iter().find(|row| row.name == name)

@@ -199,7 +199,7 @@ right_marked left o os rest s marked k =
     let p = with_rights left os rest s in
     elim (is_there o.removes p.world) as (λ x. IsMarked (if x then met_right left o rest p else fails p)) [
       | true ↦ taken_marked (under p.subst (unifier_of left (apply p.subst (renamed p.next o.right)))) o.removes rest (record p { next = p.next + o.variables; built = p.built + o.made })
-        (marked_on (rights_under left os rest s) marked) (rights_stacked left os rest s marked k)
+          (marked_on (rights_under left os rest s) marked) (rights_stacked left os rest s marked k)
       | false ↦ fails_marked p (rights_stacked left os rest s marked k)
     ]
 

@@ -1,0 +1,41 @@
+//! Runs the sessions of files of rows, over both stores, and says of each file how many gave what they must.
+#![tactic(auto)]
+
+mod rows;
+mod runs;
+
+use anyhow::{Context, Result, bail};
+use rows::Table;
+use std::{env, fs};
+
+/// The rows of the file.
+fn read_table(rt: &HostRuntime, path: &str) -> Result<Table> {
+    let text = fs::read_to_string(rt, path)?;
+    let table = toml::from_str(rt.alloc(), text.as_str())?;
+    Ok(table)
+}
+
+/// Runs the sessions of the file, says how many they are, and gives how many were wrong.
+fn run_file(rt: &HostRuntime, path: &str) -> Result<u64> {
+    let table = read_table(rt, path).context(path)?;
+    let mut wrong = 0;
+    for session in &table.session {
+        for fault in runs::faults(rt.alloc(), &table, session)? {
+            println!(rt; "{path}: {}: {fault}", session.name)?;
+            wrong += 1;
+        }
+    }
+    println!(rt; "{path}: {} sessions", table.session.len())?;
+    Ok(wrong)
+}
+
+fn main(rt: HostRuntime) -> Result<()> {
+    let mut wrong = 0;
+    for path in env::args(&rt)?.skip(1) {
+        wrong += run_file(&rt, path.as_str())?;
+    }
+    if wrong > 0 {
+        bail!("{wrong} sessions did not give what they must");
+    }
+    Ok(())
+}
