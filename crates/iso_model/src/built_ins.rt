@@ -189,12 +189,7 @@ const ROWS: [Row; 77] = [
     Row("abolish", 1, BuiltIn::Storage(Storage::Abolish)),
     Row("dynamic", 1, BuiltIn::Storage(Storage::Dynamic)),
     Row("multifile", 1, BuiltIn::Storage(Storage::Multifile)),
-<<<<<<< HEAD
-    Row(
-        "discontiguous",
-        1,
-        BuiltIn::Storage(Storage::Discontiguous),
-    ),
+    Row("discontiguous", 1, BuiltIn::Storage(Storage::Discontiguous)),
     Row("atom_length", 2, BuiltIn::Text(Text::AtomLength)),
     Row("atom_chars", 2, BuiltIn::Text(Text::AtomChars)),
     Row("atom_codes", 2, BuiltIn::Text(Text::AtomCodes)),
@@ -210,9 +205,6 @@ const ROWS: [Row; 77] = [
         1,
         BuiltIn::Output(Output::WriteCanonical),
     ),
-=======
-    Row("discontiguous", 1, BuiltIn::Storage(Storage::Discontiguous)),
->>>>>>> 9203dc2d34e726be404a665f28b0e2494beadaab
 ];
 
 /// The built-ins, each with its name and arity.
