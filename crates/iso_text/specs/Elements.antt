@@ -15,12 +15,12 @@ IsCode (Err error) (Err (fault.Raise ball)) = IsError error ball
 IsCode expected (Err fault.NoMemory) = Unit {0}
 IsCode expected found = ⊥
 
--- This is the text of the elements with these codes, or the error of one of them is raised.
-abbrev pub IsTextOf : Result (List ℕ) Tree → Result (String Global) Fault → Type 0
-IsTextOf (Ok codes) (Ok text) = string_bytes text ≡ encode_utf8_all codes
-IsTextOf (Err error) (Err (fault.Raise ball)) = IsError error ball
-IsTextOf expected (Err fault.NoMemory) = Unit {0}
-IsTextOf expected found = ⊥
+-- This is the text of the characters with these codes, or the error of an element is raised.
+abbrev pub IsText : Result (List ℕ) Tree → Result (String Global) Fault → Type 0
+IsText (Ok codes) (Ok text) = string_bytes text ≡ encode_utf8_all codes
+IsText (Err error) (Err (fault.Raise ball)) = IsError error ball
+IsText expected (Err fault.NoMemory) = Unit {0}
+IsText expected found = ⊥
 
 -- the code of a character, if the integer is one
 abbrev pub scalar_of : ℤ → Option ℕ
