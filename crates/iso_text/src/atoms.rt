@@ -1,10 +1,13 @@
 //! `atom_chars/2` and `atom_codes/2` (8.16.4, 8.16.5), and lists of characters or of their codes.
-ghost use Rattle.std.specs.Prelude.{◌≡◌, ◌≢◌, Err};
+ghost use Rattle.std.specs.Prelude.{◌≡◌, ◌≢◌, Err, map};
+ghost use Rattle.std.specs.List.{All};
 ghost use Rattle.iso_atoms.specs.Texts.{KeepsTexts};
 ghost use Rattle.iso_model.specs.Search.Errors.{key};
+ghost use Rattle.iso_model.specs.Search.Library.{equate};
 ghost use Rattle.iso_model.specs.Search.Replies.{Answer};
+ghost use Rattle.iso_model.specs.Terms.Trees.{Name};
 ghost use Rattle.iso_model.specs.Terms.Arguments.{arity, argument};
-ghost use Rattle.iso_model.specs.Search.AtomTexts.{atom_list_answer, atom_of_list, with_partial_list};
+ghost use Rattle.iso_model.specs.Search.AtomTexts.{atom_list_answer, atom_of_list, with_partial_list, equate_text, elements_codes};
 ghost use Rattle.iso_store_core.specs.Presents.{Holds, meaning, KeepsMarks};
 ghost use Rattle.iso_lib_core.specs.Checks.{GoesOn};
 ghost use Rattle.iso_lib_core.specs.Replies.{IsReply};
@@ -43,6 +46,40 @@ pub(crate) fn see_partial_list<S: Store>(
     Err(Fault::Raise(ball))
 }
 
+/// Unifies the word with the atom of this text. The errors: the store is full, or memory was refused.
+fn equate_atom<S: Store>(store: &mut S, word: S::Word, text: &str) -> Result<Reply, Fault>
+    requires word { Holds (S.present store.old) word }
+    ensures replies { IsReply (S.present store.old) (S.present store.new) (equate (meaning (S.present store.old) word) (Name text.now)) result }
+    ensures full { result ≡ Err Fault.Full → S.full store.new }
+    ensures names { KeepsTexts (S.names store.old) (S.names store.new) }
+    ensures marks { KeepsMarks (S.stands store.old) (S.stands store.new) }
+{
+    let name = store.intern(text)?;
+    let made = store.atom(name)?;
+    Ok(tested(store.unify(word, made)?))
+}
+
+/// Unifies the word with the atom that these elements of a list write. The errors are those of `atom_list`.
+fn equate_read<S: Store>(
+    alloc: Global,
+    store: &mut S,
+    form: Form,
+    word: S::Word,
+    elements: &[S::Word],
+    by: &str,
+) -> Result<Reply, Fault>
+    requires word { Holds (S.present store.old) word }
+    requires elements { All (λ w. Holds (S.present store.old) w) elements.now }
+    ensures replies { IsReply (S.present store.old) (S.present store.new)
+        (equate_text (meaning (S.present store.old) word) (elements_codes (form_of form) (map (meaning (S.present store.old)) elements.now) (key by.now 2))) result }
+    ensures full { result ≡ Err Fault.Full → S.full store.new }
+    ensures names { KeepsTexts (S.names store.old) (S.names store.new) }
+    ensures marks { KeepsMarks (S.stands store.old) (S.stands store.new) }
+{
+    let text = codes_of(alloc, store, form, elements, by)?;
+    equate_atom(store, word, text.as_str())
+}
+
 /// Unifies the word with the atom that the list writes. The errors are those of `atom_list`.
 fn atom_of_list<S: Store>(
     alloc: Global,
@@ -64,10 +101,7 @@ fn atom_of_list<S: Store>(
         return Err(Fault::Raise(errors::instantiation(alloc, by, 2)?));
     }
     let words = elements(alloc, store, list)?.elements;
-    let text = codes_of(alloc, store, form, words.as_slice(), by)?;
-    let name = store.intern(text.as_str())?;
-    let made = store.atom(name)?;
-    Ok(tested(store.unify(word, made)?))
+    equate_read(alloc, store, form, word, words.as_slice(), by)
 }
 
 /// What a goal of `atom_chars/2` or `atom_codes/2` comes to, this procedure. The errors: one is raised, the store is full, or memory was
