@@ -1,5 +1,5 @@
 -- Words for the characters of a text, one by one.
-use Rattle.std.proofs.Common.{◌≡◌, ◌<◌, ◌+◌, ℕ, List, [], ◌∷◌, ◌++◌, map, true, length, chars, encode_utf8, refl, ap, ap₂, sym, ◌∙◌, append_assoc, append-nil}
+use Rattle.std.proofs.Common.{◌≡◌, ℕ, List, [], ◌∷◌, ◌++◌, map, length, chars, encode_utf8, refl, ap, ap₂, sym, ◌∙◌, append_assoc, append-nil}
 use Rattle.std.proofs.lemmas.List.{map-append}
 use Rattle.std.proofs.lemmas.List.Elements.{All-head, All-tail, All-same, All-weaker, All-push}
 use Rattle.std.proofs.lemmas.Str.{chars_past_char, IsUtf8-past_char}

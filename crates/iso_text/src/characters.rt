@@ -27,11 +27,7 @@ fn equate_code<S: Store>(store: &mut S, word: S::Word, character: char) -> Resul
 }
 
 /// Unifies the word with the atom of the character. The errors: the store is full, or memory was refused.
-fn equate_character<S: Store>(
-    store: &mut S,
-    word: S::Word,
-    character: char,
-) -> Result<Reply, Fault>
+fn equate_character<S: Store>(store: &mut S, word: S::Word, character: char) -> Result<Reply, Fault>
     requires word { Holds (S.present store.old) word }
     ensures replies { IsReply (S.present store.old) (S.present store.new) (equate (meaning (S.present store.old) word) (Name (encode_utf8 character))) result }
     ensures full { result ≡ Err Fault.Full → S.full store.new }
@@ -62,7 +58,11 @@ fn equate_coded<S: Store>(
 }
 
 /// What a goal of `char_code/2` comes to. The errors: one is raised, the store is full, or memory was refused.
-pub(crate) fn char_code<S: Store>(alloc: Global, store: &mut S, goal: S::Word) -> Result<Reply, Fault>
+pub(crate) fn char_code<S: Store>(
+    alloc: Global,
+    store: &mut S,
+    goal: S::Word,
+) -> Result<Reply, Fault>
     requires goal { Holds (S.present store.old) goal }
     requires arity { arity (meaning (S.present store.old) goal) ≡ 2 }
     ensures replies { IsReply (S.present store.old) (S.present store.new) (text_answer text.CharCode (meaning (S.present store.old) goal)) result }

@@ -38,8 +38,13 @@ fn see_length<S: Store>(alloc: Global, store: &S, word: S::Word) -> Result<(), F
                 return Ok(());
             }
             let culprit = Term::Int(value);
-            let ball =
-                errors::out_of_domain(alloc, "not_less_than_zero", culprit, "atom_length", 2)?;
+            let ball = errors::out_of_domain(
+                alloc,
+                "not_less_than_zero",
+                culprit,
+                "atom_length",
+                2,
+            )?;
             Err(Fault::Raise(ball))
         }
         Shape::Atom(_) | Shape::Compound(_, _) => {
@@ -69,7 +74,11 @@ fn equate_length<S: Store>(
 }
 
 /// What a goal of `atom_length/2` comes to. The errors: one is raised, the store is full, or memory was refused.
-pub(crate) fn atom_length<S: Store>(alloc: Global, store: &mut S, goal: S::Word) -> Result<Reply, Fault>
+pub(crate) fn atom_length<S: Store>(
+    alloc: Global,
+    store: &mut S,
+    goal: S::Word,
+) -> Result<Reply, Fault>
     requires goal { Holds (S.present store.old) goal }
     requires arity { arity (meaning (S.present store.old) goal) ≡ 2 }
     ensures replies { IsReply (S.present store.old) (S.present store.new) (text_answer text.AtomLength (meaning (S.present store.old) goal)) result }

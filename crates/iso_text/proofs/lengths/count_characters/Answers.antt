@@ -1,4 +1,4 @@
-use Rattle.std.proofs.Common.{◌≡◌, chars, length, sym, ap, ◌∙◌}
+use Rattle.std.proofs.Common.{chars, length, sym, ap, ◌∙◌}
 use Rattle.std.proofs.lemmas.Str.{encodes-chars, Chars-Drains}
 use Rattle.iso_text.proofs.lengths.count_characters.Goals as goal
 

@@ -1,4 +1,4 @@
-use Rattle.std.proofs.Common.{map, List, ℕ, Result}
+use Rattle.std.proofs.Common.{map}
 use Rattle.std.specs.String.{string_bytes}
 use Rattle.iso_model.specs.Search.Errors.{key}
 use Rattle.iso_model.specs.Search.AtomTexts.{elements_codes}

@@ -1,5 +1,4 @@
 -- The words so far, and the characters that are left, are all of them.
-use Rattle.std.proofs.Common.{◌≡◌}
 use Rattle.iso_atoms.specs.Texts.{KeepsTexts}
 use Rattle.iso_model.specs.Search.AtomTexts.{element}
 use Rattle.iso_store_core.specs.Presents.{KeepsNumbers, KeepsMarks}
