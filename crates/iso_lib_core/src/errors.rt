@@ -6,6 +6,7 @@ ghost use Rattle.iso_model.specs.Search.Bodies.{one, two};
 ghost use Rattle.iso_model.specs.Search.Errors.{key};
 ghost use Rattle.iso_model.specs.Search.Errors as errors;
 ghost use Rattle.iso_model.specs.Search.Arithmetic.{not_evaluable};
+ghost use Rattle.iso_model.specs.Search.AtomTexts.{code_error};
 
 use iso_model::{Ball, Term};
 use std::alloc::{AllocError, Global};
@@ -204,4 +205,12 @@ pub fn too_many_arguments(alloc: Global, name: &str, arity: usize) -> Result<Bal
     ensures { IfOk result (λ b. term_of b.term ≡ errors.max_arity_error (key name.now arity)) }
 {
     named(alloc, "representation_error", "max_arity", name, arity)
+}
+
+/// `representation_error(character_code)`, raised by this procedure (7.12.2 f).
+pub fn no_character_code(alloc: Global, name: &str, arity: usize) -> Result<Ball, AllocError>
+    requires { arity < 256 }
+    ensures { IfOk result (λ b. term_of b.term ≡ code_error (key name.now arity)) }
+{
+    named(alloc, "representation_error", "character_code", name, arity)
 }

@@ -1,0 +1,3 @@
+pub mod CharacterLemmas
+pub mod ReadingLemmas
+pub mod SpellingLemmas

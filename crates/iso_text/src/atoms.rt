@@ -1,15 +1,24 @@
 //! `atom_chars/2` and `atom_codes/2` (8.16.4, 8.16.5), and lists of characters or of their codes.
-ghost use Rattle.std.specs.Prelude.{◌≡◌, ◌≤◌, Err};
+ghost use Rattle.std.specs.Prelude.{◌≡◌, ◌≢◌, Err, map};
+ghost use Rattle.std.specs.List.{All};
 ghost use Rattle.iso_atoms.specs.Texts.{KeepsTexts};
 ghost use Rattle.iso_model.specs.Search.Errors.{key};
+ghost use Rattle.iso_model.specs.Search.Library.{equate};
+ghost use Rattle.iso_model.specs.Search.Replies.{Answer};
+ghost use Rattle.iso_model.specs.Terms.Trees.{Name};
 ghost use Rattle.iso_model.specs.Terms.Arguments.{arity, argument};
-ghost use Rattle.iso_model.specs.Search.AtomTexts.{atom_list_answer};
+ghost use Rattle.iso_model.specs.Search.AtomTexts.{atom_list_answer, atom_of_list, with_partial_list, equate_text, elements_codes};
 ghost use Rattle.iso_store_core.specs.Presents.{Holds, meaning, KeepsMarks};
+ghost use Rattle.iso_lib_core.specs.Checks.{GoesOn};
 ghost use Rattle.iso_lib_core.specs.Replies.{IsReply};
 ghost use Rattle.iso_text.specs.Forms.{form_of};
 
-use iso_lib_core::{Fault, Reply};
-use iso_store_core::Store;
+use super::culprits::wrong_type;
+use super::reading::codes_of;
+use super::spelling::equate_spelled;
+use iso_lib_core::lists::{elements, is_partial_list, tail};
+use iso_lib_core::{Fault, Reply, errors, tested};
+use iso_store_core::{Shape, Store};
 use std::alloc::Global;
 
 /// How a text is a list (7.1.4): of characters, which are atoms, or of their codes.
@@ -17,6 +26,82 @@ use std::alloc::Global;
 pub(crate) enum Form {
     Characters,
     Codes,
+}
+
+/// Sees that the word stands for a partial list. The errors: this procedure raises one, or memory was refused.
+pub(crate) fn see_partial_list<S: Store>(
+    alloc: Global,
+    store: &S,
+    word: S::Word,
+    by: &str,
+) -> Result<(), Fault>
+    requires word { Holds (S.present store.now) word }
+    ensures goes_on { GoesOn (S.present store.now) (with_partial_list (meaning (S.present store.now) word) (key by.now 2)) (λ (a : Answer). a) result }
+    ensures full { result ≢ Err Fault.Full }
+{
+    if is_partial_list(store, word) {
+        return Ok(());
+    }
+    let ball = wrong_type(alloc, store, "list", word, by, 2)?;
+    Err(Fault::Raise(ball))
+}
+
+/// Unifies the word with the atom of this text. The errors: the store is full, or memory was refused.
+fn equate_atom<S: Store>(store: &mut S, word: S::Word, text: &str) -> Result<Reply, Fault>
+    requires word { Holds (S.present store.old) word }
+    ensures replies { IsReply (S.present store.old) (S.present store.new) (equate (meaning (S.present store.old) word) (Name text.now)) result }
+    ensures full { result ≡ Err Fault.Full → S.full store.new }
+    ensures names { KeepsTexts (S.names store.old) (S.names store.new) }
+    ensures marks { KeepsMarks (S.stands store.old) (S.stands store.new) }
+{
+    let name = store.intern(text)?;
+    let made = store.atom(name)?;
+    Ok(tested(store.unify(word, made)?))
+}
+
+/// Unifies the word with the atom that these elements of a list write. The errors are those of `atom_list`.
+fn equate_read<S: Store>(
+    alloc: Global,
+    store: &mut S,
+    form: Form,
+    word: S::Word,
+    elements: &[S::Word],
+    by: &str,
+) -> Result<Reply, Fault>
+    requires word { Holds (S.present store.old) word }
+    requires elements { All (λ w. Holds (S.present store.old) w) elements.now }
+    ensures replies { IsReply (S.present store.old) (S.present store.new)
+        (equate_text (meaning (S.present store.old) word) (elements_codes (form_of form) (map (meaning (S.present store.old)) elements.now) (key by.now 2))) result }
+    ensures full { result ≡ Err Fault.Full → S.full store.new }
+    ensures names { KeepsTexts (S.names store.old) (S.names store.new) }
+    ensures marks { KeepsMarks (S.stands store.old) (S.stands store.new) }
+{
+    let text = codes_of(alloc, store, form, elements, by)?;
+    equate_atom(store, word, text.as_str())
+}
+
+/// Unifies the word with the atom that the list writes. The errors are those of `atom_list`.
+fn atom_of_list<S: Store>(
+    alloc: Global,
+    store: &mut S,
+    form: Form,
+    word: S::Word,
+    list: S::Word,
+    by: &str,
+) -> Result<Reply, Fault>
+    requires word { Holds (S.present store.old) word }
+    requires list { Holds (S.present store.old) list }
+    ensures replies { IsReply (S.present store.old) (S.present store.new)
+        (atom_of_list (form_of form) (meaning (S.present store.old) word) (meaning (S.present store.old) list) (key by.now 2)) result }
+    ensures full { result ≡ Err Fault.Full → S.full store.new }
+    ensures names { KeepsTexts (S.names store.old) (S.names store.new) }
+    ensures marks { KeepsMarks (S.stands store.old) (S.stands store.new) }
+{
+    if matches!(store.shape(tail(store, list)), Shape::Var(_)) {
+        return Err(Fault::Raise(errors::instantiation(alloc, by, 2)?));
+    }
+    let words = elements(alloc, store, list)?.elements;
+    equate_read(alloc, store, form, word, words.as_slice(), by)
 }
 
 /// What a goal of `atom_chars/2` or `atom_codes/2` comes to, this procedure. The errors: one is raised, the store is full, or memory was
@@ -36,5 +121,20 @@ pub(crate) fn atom_list<S: Store>(
     ensures names { KeepsTexts (S.names store.old) (S.names store.new) }
     ensures marks { KeepsMarks (S.stands store.old) (S.stands store.new) }
 {
-    Err(Fault::NoMemory)
+    let (atom, list) = (store.arg(goal, 0), store.arg(goal, 1));
+    match store.shape(atom) {
+        Shape::Var(_) => {
+            see_partial_list(alloc, store, list, by)?;
+            atom_of_list(alloc, store, form, atom, list, by)
+        }
+        Shape::Atom(name) => {
+            see_partial_list(alloc, store, list, by)?;
+            let text = String::from_str(alloc, store.text(name))?;
+            equate_spelled(alloc, store, form, list, text.as_str())
+        }
+        Shape::Int(_) | Shape::Compound(_, _) => {
+            let ball = wrong_type(alloc, store, "atom", atom, by, 2)?;
+            Err(Fault::Raise(ball))
+        }
+    }
 }

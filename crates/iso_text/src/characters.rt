@@ -1,18 +1,68 @@
 //! `char_code/2` (8.16.6).
-ghost use Rattle.std.specs.Prelude.{◌≡◌, Err};
+ghost use Rattle.std.specs.Prelude.{◌≡◌, Err, pos, encode_utf8};
 ghost use Rattle.iso_atoms.specs.Texts.{KeepsTexts};
 ghost use Rattle.iso_model.specs.Terms.Arguments.{arity};
-ghost use Rattle.iso_model.specs.Search.AtomTexts.{text_answer};
+ghost use Rattle.iso_model.specs.Terms.Trees.{Integer, Name};
+ghost use Rattle.iso_model.specs.Search.Library.{equate};
+ghost use Rattle.iso_model.specs.Search.AtomTexts.{text_answer, Codes, element_code, character_of, char_code_key};
 ghost use Rattle.iso_model.specs.declared.library.Text.TheVariants as text;
 ghost use Rattle.iso_store_core.specs.Presents.{Holds, meaning, KeepsMarks};
 ghost use Rattle.iso_lib_core.specs.Replies.{IsReply};
 
-use iso_lib_core::{Fault, Reply};
-use iso_store_core::Store;
+use super::elements::{character, character_of_code, make_character, make_code};
+use iso_lib_core::{Fault, Reply, tested};
+use iso_store_core::{Shape, Store};
 use std::alloc::Global;
 
+/// Unifies the word with the code of the character. The errors: the store is full, or memory was refused.
+fn equate_code<S: Store>(store: &mut S, word: S::Word, character: char) -> Result<Reply, Fault>
+    requires word { Holds (S.present store.old) word }
+    ensures replies { IsReply (S.present store.old) (S.present store.new) (equate (meaning (S.present store.old) word) (Integer (pos character))) result }
+    ensures full { result ≡ Err Fault.Full → S.full store.new }
+    ensures names { S.names store.new ≡ S.names store.old }
+    ensures marks { KeepsMarks (S.stands store.old) (S.stands store.new) }
+{
+    let made = make_code(store, character)?;
+    Ok(tested(store.unify(word, made)?))
+}
+
+/// Unifies the word with the atom of the character. The errors: the store is full, or memory was refused.
+fn equate_character<S: Store>(store: &mut S, word: S::Word, character: char) -> Result<Reply, Fault>
+    requires word { Holds (S.present store.old) word }
+    ensures replies { IsReply (S.present store.old) (S.present store.new) (equate (meaning (S.present store.old) word) (Name (encode_utf8 character))) result }
+    ensures full { result ≡ Err Fault.Full → S.full store.new }
+    ensures names { KeepsTexts (S.names store.old) (S.names store.new) }
+    ensures marks { KeepsMarks (S.stands store.old) (S.stands store.new) }
+{
+    let made = make_character(store, character)?;
+    Ok(tested(store.unify(word, made)?))
+}
+
+/// Unifies the word with the atom of the character that has this code. The errors are those of `char_code`.
+fn equate_coded<S: Store>(
+    alloc: Global,
+    store: &mut S,
+    word: S::Word,
+    code: S::Word,
+) -> Result<Reply, Fault>
+    requires word { Holds (S.present store.old) word }
+    requires code { Holds (S.present store.old) code }
+    ensures replies { IsReply (S.present store.old) (S.present store.new)
+        (character_of (meaning (S.present store.old) word) (element_code Codes (meaning (S.present store.old) code) char_code_key)) result }
+    ensures full { result ≡ Err Fault.Full → S.full store.new }
+    ensures names { KeepsTexts (S.names store.old) (S.names store.new) }
+    ensures marks { KeepsMarks (S.stands store.old) (S.stands store.new) }
+{
+    let found = character_of_code(alloc, store, code, "char_code", 2)?;
+    equate_character(store, word, found)
+}
+
 /// What a goal of `char_code/2` comes to. The errors: one is raised, the store is full, or memory was refused.
-pub(crate) fn char_code<S: Store>(alloc: Global, store: &mut S, goal: S::Word) -> Result<Reply, Fault>
+pub(crate) fn char_code<S: Store>(
+    alloc: Global,
+    store: &mut S,
+    goal: S::Word,
+) -> Result<Reply, Fault>
     requires goal { Holds (S.present store.old) goal }
     requires arity { arity (meaning (S.present store.old) goal) ≡ 2 }
     ensures replies { IsReply (S.present store.old) (S.present store.new) (text_answer text.CharCode (meaning (S.present store.old) goal)) result }
@@ -20,5 +70,13 @@ pub(crate) fn char_code<S: Store>(alloc: Global, store: &mut S, goal: S::Word) -
     ensures names { KeepsTexts (S.names store.old) (S.names store.new) }
     ensures marks { KeepsMarks (S.stands store.old) (S.stands store.new) }
 {
-    Err(Fault::NoMemory)
+    let (atom, code) = (store.arg(goal, 0), store.arg(goal, 1));
+    if matches!(store.shape(atom), Shape::Var(_)) {
+        return equate_coded(alloc, store, atom, code);
+    }
+    let found = character(alloc, store, atom, "char_code", 2)?;
+    if matches!(store.shape(code), Shape::Var(_)) {
+        return equate_code(store, code, found);
+    }
+    equate_coded(alloc, store, atom, code)
 }

@@ -1,18 +1,84 @@
 //! `atom_length/2` (8.16.1).
-ghost use Rattle.std.specs.Prelude.{◌≡◌, Err};
+ghost use Rattle.std.specs.Prelude.{◌≡◌, ◌≢◌, ◌<◌, ◌^◌, Err, pos, length, chars};
 ghost use Rattle.iso_atoms.specs.Texts.{KeepsTexts};
 ghost use Rattle.iso_model.specs.Terms.Arguments.{arity};
-ghost use Rattle.iso_model.specs.Search.AtomTexts.{text_answer};
+ghost use Rattle.iso_model.specs.Terms.Trees.{Integer};
+ghost use Rattle.iso_model.specs.Search.Library.{equate};
+ghost use Rattle.iso_model.specs.Search.AtomTexts.{text_answer, length_by};
 ghost use Rattle.iso_model.specs.declared.library.Text.TheVariants as text;
 ghost use Rattle.iso_store_core.specs.Presents.{Holds, meaning, KeepsMarks};
+ghost use Rattle.iso_lib_core.specs.Checks.{GoesOn};
 ghost use Rattle.iso_lib_core.specs.Replies.{IsReply};
 
-use iso_lib_core::{Fault, Reply};
-use iso_store_core::Store;
+use super::culprits::wrong_type;
+use iso_lib_core::{Fault, Reply, errors, tested};
+use iso_model::Term;
+use iso_store_core::{Shape, Store};
 use std::alloc::Global;
 
+/// How many characters the text has.
+fn count_characters(text: &str) -> usize
+    ensures count { result ≡ length (chars text.now) }
+    ensures small { result < 2 ^ 63 }
+{
+    text.chars().count()
+}
+
+/// Sees that the word is unbound or stands for an integer that is not negative. The errors: `atom_length/2` raises one, or memory was
+/// refused.
+fn see_length<S: Store>(alloc: Global, store: &S, word: S::Word) -> Result<(), Fault>
+    requires word { Holds (S.present store.now) word }
+    ensures goes_on { GoesOn (S.present store.now) (λ count. length_by count (meaning (S.present store.now) word)) (λ count. equate (meaning (S.present store.now) word) (Integer (pos count))) result }
+    ensures full { result ≢ Err Fault.Full }
+{
+    match store.shape(word) {
+        Shape::Var(_) => Ok(()),
+        Shape::Int(value) => {
+            if value >= 0 {
+                return Ok(());
+            }
+            let culprit = Term::Int(value);
+            let ball = errors::out_of_domain(
+                alloc,
+                "not_less_than_zero",
+                culprit,
+                "atom_length",
+                2,
+            )?;
+            Err(Fault::Raise(ball))
+        }
+        Shape::Atom(_) | Shape::Compound(_, _) => {
+            let ball = wrong_type(alloc, store, "integer", word, "atom_length", 2)?;
+            Err(Fault::Raise(ball))
+        }
+    }
+}
+
+/// Unifies the word with this number of characters. The errors are those of `atom_length`.
+fn equate_length<S: Store>(
+    alloc: Global,
+    store: &mut S,
+    word: S::Word,
+    count: usize,
+) -> Result<Reply, Fault>
+    requires word { Holds (S.present store.old) word }
+    requires small { count < 2 ^ 63 }
+    ensures replies { IsReply (S.present store.old) (S.present store.new) (length_by count (meaning (S.present store.old) word)) result }
+    ensures full { result ≡ Err Fault.Full → S.full store.new }
+    ensures names { S.names store.new ≡ S.names store.old }
+    ensures marks { KeepsMarks (S.stands store.old) (S.stands store.new) }
+{
+    see_length(alloc, store, word)?;
+    let made = store.int(count as i64)?;
+    Ok(tested(store.unify(word, made)?))
+}
+
 /// What a goal of `atom_length/2` comes to. The errors: one is raised, the store is full, or memory was refused.
-pub(crate) fn atom_length<S: Store>(alloc: Global, store: &mut S, goal: S::Word) -> Result<Reply, Fault>
+pub(crate) fn atom_length<S: Store>(
+    alloc: Global,
+    store: &mut S,
+    goal: S::Word,
+) -> Result<Reply, Fault>
     requires goal { Holds (S.present store.old) goal }
     requires arity { arity (meaning (S.present store.old) goal) ≡ 2 }
     ensures replies { IsReply (S.present store.old) (S.present store.new) (text_answer text.AtomLength (meaning (S.present store.old) goal)) result }
@@ -20,5 +86,16 @@ pub(crate) fn atom_length<S: Store>(alloc: Global, store: &mut S, goal: S::Word)
     ensures names { KeepsTexts (S.names store.old) (S.names store.new) }
     ensures marks { KeepsMarks (S.stands store.old) (S.stands store.new) }
 {
-    Err(Fault::NoMemory)
+    let (atom, length) = (store.arg(goal, 0), store.arg(goal, 1));
+    match store.shape(atom) {
+        Shape::Var(_) => Err(Fault::Raise(errors::instantiation(alloc, "atom_length", 2)?)),
+        Shape::Atom(name) => {
+            let count = count_characters(store.text(name));
+            equate_length(alloc, store, length, count)
+        }
+        Shape::Int(_) | Shape::Compound(_, _) => {
+            let ball = wrong_type(alloc, store, "atom", atom, "atom_length", 2)?;
+            Err(Fault::Raise(ball))
+        }
+    }
 }

@@ -1,0 +1,27 @@
+use Rattle.std.proofs.Common.{◌≡◌, ap, ap₂, sym, subst, ◌∙◌, List, ℕ}
+use Rattle.iso_model.specs.Terms.Trees.{Tree}
+use Rattle.iso_model.specs.Terms.Arguments.{argument}
+use Rattle.iso_model.specs.Search.Errors.{key}
+use Rattle.iso_model.specs.Search.Library.{equate_list}
+use Rattle.iso_model.specs.Search.Replies.{Answer}
+use Rattle.iso_model.specs.Search.AtomTexts.{atom_list_answer, text_elements}
+use Rattle.iso_store_core.specs.Presents.{meaning}
+use Rattle.iso_store_core.proofs.AtomLemmas.{text-is}
+use Rattle.iso_lib_core.specs.Replies.{IsReply}
+use Rattle.iso_text.specs.Forms.{form_of}
+use Rattle.iso_text.proofs.atoms.atom_list.Goals as goal
+
+pub returns-in_ok-text-in-Atom-clause-replies : goal.returns-in_ok-text-in-Atom-clause-replies
+returns-in_ok-text-in-Atom-clause-replies g c =
+    let p = g.S.Store.present c.args.store.now in
+    let q = g.S.Store.present c.equate_spelled.new.store in
+    let names = g.S.Store.names c.args.store.now in
+    let t = meaning p c.args.goal in
+    let form = form_of c.args.form in
+    let k = key c.args.by.now 2 in
+    let list = meaning p c.arg-list.result in
+    let text = text-is names c.in-Atom.name c.text.result.now c.text.ensures ∙ sym c.in_ok-text-in-Atom.ensures.ok ∙ sym c.as_str.ensures.value in
+    let same : atom_list_answer form (argument 0 t) (argument 1 t) k ≡ equate_list list (text_elements form c.as_str.result.now) =
+    ap₂ (λ (a l : Tree). atom_list_answer form a l k) (sym c.arg-atom.ensures.value ∙ c.in-Atom.ensures.shape.1) (sym c.arg-list.ensures.value)
+    ∙ c.in_ok-see_partial_list-in-Atom.ensures.goes_on _ ∙ ap (λ (bytes : List ℕ). equate_list list (text_elements form bytes)) text in
+    subst (λ (a : Answer). IsReply p q a c.equate_spelled.result) (sym same) c.equate_spelled.ensures.replies
