@@ -205,3 +205,19 @@ pub fn too_many_arguments(alloc: Global, name: &str, arity: usize) -> Result<Bal
 {
     named(alloc, "representation_error", "max_arity", name, arity)
 }
+
+/// `representation_error(character_code)`, raised by this procedure (7.12.2 f).
+pub fn no_character_code(alloc: Global, name: &str, arity: usize) -> Result<Ball, AllocError>
+    requires { arity < 256 }
+    ensures { IfOk result (λ b. term_of b.term ≡ errors.raised (one (codes "representation_error") (Name (codes "character_code"))) (key name.now arity)) }
+{
+    named(alloc, "representation_error", "character_code", name, arity)
+}
+
+/// `syntax_error(illegal_number)`, raised by this procedure (8.16.7).
+pub fn illegal_number(alloc: Global, name: &str, arity: usize) -> Result<Ball, AllocError>
+    requires { arity < 256 }
+    ensures { IfOk result (λ b. term_of b.term ≡ errors.raised (one (codes "syntax_error") (Name (codes "illegal_number"))) (key name.now arity)) }
+{
+    named(alloc, "syntax_error", "illegal_number", name, arity)
+}

@@ -6,6 +6,7 @@ mod characters;
 mod lengths;
 mod numbers;
 mod outputs;
+mod reading;
 mod texts;
 
 pub use outputs::output;
