@@ -3,6 +3,7 @@
 
 mod atoms;
 mod characters;
+mod integers;
 mod lengths;
 mod numbers;
 mod outputs;
