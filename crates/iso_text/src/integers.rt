@@ -67,13 +67,21 @@ fn signed(negative: bool, size: u64) -> Option<i64>
     }
 }
 
+/// The integer of this sign whose size the text writes.
+fn integer(negative: bool, text: &str) -> Option<i64>
+    ensures { result ≡ option_and_then (signed negative) (whole_integer text.now) }
+{
+    let size = whole_integer(text)?;
+    signed(negative, size)
+}
+
 /// The number that the text writes without layout.
 fn signed_integer(text: &str) -> Option<i64>
     ensures { result ≡ signed_integer text.now }
 {
     match text.strip_prefix("-") {
-        Some(digits) => signed(true, whole_integer(digits)?),
-        None => signed(false, whole_integer(text)?),
+        Some(digits) => integer(true, digits),
+        None => integer(false, text),
     }
 }
 
