@@ -8,6 +8,7 @@ mod lengths;
 mod numbers;
 mod outputs;
 mod reading;
+mod spelling;
 mod texts;
 
 pub use outputs::output;

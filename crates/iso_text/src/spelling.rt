@@ -1,0 +1,75 @@
+//! The list of a text's characters, or of their codes (7.1.4).
+ghost use Rattle.std.specs.Prelude.{◌≡◌, IfOk, OnOk, Err, map};
+ghost use Rattle.std.specs.List.{All};
+ghost use Rattle.iso_atoms.specs.Texts.{KeepsTexts};
+ghost use Rattle.iso_model.specs.Search.Library.{equate_list};
+ghost use Rattle.iso_model.specs.Search.AtomTexts.{element, text_elements};
+ghost use Rattle.iso_store_core.specs.Presents.{Holds, meaning, Makes, KeepsWords, KeepsNumbers, KeepsMarks};
+ghost use Rattle.iso_lib_core.specs.Replies.{IsReply};
+ghost use Rattle.iso_text.specs.Forms.{form_of};
+
+use super::atoms::Form;
+use iso_lib_core::lists::make_list;
+use iso_lib_core::{Fault, Reply, tested};
+use iso_store_core::{Store, StoreFault};
+use std::alloc::Global;
+
+/// The element for the character. The errors: the store is full, or memory was refused.
+fn element<S: Store>(store: &mut S, form: Form, character: char) -> Result<S::Word, StoreFault>
+    ensures made { IfOk result (λ w. Makes (S.present store.old) (S.present store.new) w (element (form_of form) character)) }
+    ensures numbers { OnOk result (KeepsNumbers (S.present store.old) (S.present store.new)) }
+    ensures full { result ≡ Err StoreFault.Full → S.full store.new }
+    ensures names { KeepsTexts (S.names store.old) (S.names store.new) }
+    ensures marks { KeepsMarks (S.stands store.old) (S.stands store.new) }
+{
+    match form {
+        Form::Characters => {
+            let mut buffer = [0; 4];
+            let name = store.intern(character.encode_utf8(&mut buffer))?;
+            store.atom(name)
+        }
+        Form::Codes => store.int(character as i64),
+    }
+}
+
+/// Words for the elements for the text's characters. The errors: the store is full, or memory was refused.
+fn spelled<S: Store>(
+    alloc: Global,
+    store: &mut S,
+    form: Form,
+    text: &str,
+) -> Result<Vec<S::Word>, StoreFault>
+    ensures words { OnOk result (KeepsWords (S.present store.old) (S.present store.new)) }
+    ensures substitution { OnOk result ((S.present store.new).substitution ≡ (S.present store.old).substitution) }
+    ensures numbers { OnOk result (KeepsNumbers (S.present store.old) (S.present store.new)) }
+    ensures hold { IfOk result (λ ws. All (λ w. Holds (S.present store.new) w) ws.items) }
+    ensures values { IfOk result (λ ws. map (meaning (S.present store.new)) ws.items ≡ text_elements (form_of form) text.now) }
+    ensures full { result ≡ Err StoreFault.Full → S.full store.new }
+    ensures names { KeepsTexts (S.names store.old) (S.names store.new) }
+    ensures marks { KeepsMarks (S.stands store.old) (S.stands store.new) }
+{
+    let mut words = Vec::new(alloc);
+    for character in text.chars() {
+        words.push(element(store, form, character)?)?;
+    }
+    Ok(words)
+}
+
+/// Unifies the word with the list of the text's characters or of their codes. The errors: the store is full, or memory was refused.
+pub(crate) fn unify_spelled<S: Store>(
+    alloc: Global,
+    store: &mut S,
+    form: Form,
+    word: S::Word,
+    text: &str,
+) -> Result<Reply, Fault>
+    requires word { Holds (S.present store.old) word }
+    ensures replies { IsReply (S.present store.old) (S.present store.new) (equate_list (meaning (S.present store.old) word) (text_elements (form_of form) text.now)) result }
+    ensures full { result ≡ Err Fault.Full → S.full store.new }
+    ensures names { KeepsTexts (S.names store.old) (S.names store.new) }
+    ensures marks { KeepsMarks (S.stands store.old) (S.stands store.new) }
+{
+    let words = spelled(alloc, store, form, text)?;
+    let list = make_list(alloc, store, words.as_slice())?;
+    Ok(tested(store.unify(word, list)?))
+}
