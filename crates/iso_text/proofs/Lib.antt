@@ -1,2 +1,4 @@
 pub mod ReadingLemmas
 pub mod IntegerLemmas
+pub mod SpellingLemmas
+pub mod ReplyLemmas

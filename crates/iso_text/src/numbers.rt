@@ -5,7 +5,7 @@ ghost use Rattle.iso_atoms.specs.Texts.{KeepsTexts};
 ghost use Rattle.iso_model.specs.Terms.Types.{is_variable};
 ghost use Rattle.iso_model.specs.Search.Errors.{key};
 ghost use Rattle.iso_model.specs.Terms.Arguments.{arity, argument};
-ghost use Rattle.iso_model.specs.Search.AtomTexts.{elements_codes, number_written, equate_number, number_of_text, number_text, number_list_answer};
+ghost use Rattle.iso_model.specs.Search.AtomTexts.{elements_codes, equate_number, number_of_text, number_text, number_list_answer};
 ghost use Rattle.iso_store_core.specs.Presents.{Holds, meaning, KeepsMarks};
 ghost use Rattle.iso_lib_core.specs.Replies.{IsReply};
 ghost use Rattle.iso_text.specs.Forms.{form_of};
@@ -19,6 +19,14 @@ use iso_lib_core::{Fault, Reply, errors, tested};
 use iso_store_core::{Shape, Store};
 use std::alloc::Global;
 
+/// Whether the term that the word stands for is an unbound variable.
+fn is_unbound<S: Store>(store: &S, word: S::Word) -> bool
+    requires { Holds (S.present store.now) word }
+    ensures { result ≡ is_variable (meaning (S.present store.now) word) }
+{
+    matches!(store.shape(word), Shape::Var(_))
+}
+
 /// Whether one of the words stands for an unbound variable.
 fn has_unbound<S: Store>(store: &S, words: &[S::Word]) -> bool
     requires { All (λ w. Holds (S.present store.now) w) words.now }
@@ -26,7 +34,7 @@ fn has_unbound<S: Store>(store: &S, words: &[S::Word]) -> bool
 {
     let mut place = 0;
     while place < words.len() {
-        if matches!(store.shape(words[place]), Shape::Var(_)) {
+        if is_unbound(store, words[place]) {
             return true;
         }
         place += 1;
@@ -34,25 +42,25 @@ fn has_unbound<S: Store>(store: &S, words: &[S::Word]) -> bool
     false
 }
 
-/// Unifies the word with the number that the text writes. The errors are those of `number_list`.
+/// Unifies the word with the number that a text writes; it is an error where it writes none. The errors are those of `number_list`.
 fn equate_number<S: Store>(
     alloc: Global,
     store: &mut S,
     word: S::Word,
-    text: &str,
+    number: Option<i64>,
     by: &str,
 ) -> Result<Reply, Fault>
     requires word { Holds (S.present store.old) word }
-    ensures replies { IsReply (S.present store.old) (S.present store.new) (equate_number (meaning (S.present store.old) word) (key by.now 2) (number_written text.now)) result }
+    ensures replies { IsReply (S.present store.old) (S.present store.new) (equate_number (meaning (S.present store.old) word) (key by.now 2) number) result }
     ensures full { result ≡ Err Fault.Full → S.full store.new }
     ensures names { KeepsTexts (S.names store.old) (S.names store.new) }
     ensures marks { KeepsMarks (S.stands store.old) (S.stands store.new) }
 {
-    let Some(value) = number_written(text) else {
+    let Some(value) = number else {
         return Err(Fault::Raise(errors::illegal_number(alloc, by, 2)?));
     };
-    let number = store.int(value)?;
-    Ok(tested(store.unify(word, number)?))
+    let made = store.int(value)?;
+    Ok(tested(store.unify(word, made)?))
 }
 
 /// Unifies the word with the number that these elements write. The errors are those of `number_list`.
@@ -73,7 +81,8 @@ fn number_of_list<S: Store>(
     ensures marks { KeepsMarks (S.stands store.old) (S.stands store.new) }
 {
     let text = codes_of(alloc, store, form, words, by)?;
-    equate_number(alloc, store, word, text.as_str(), by)
+    let number = number_written(text.as_str());
+    equate_number(alloc, store, word, number, by)
 }
 
 /// Unifies the list with that of the characters of the number that the word stands for. The errors are those of `number_list`.
