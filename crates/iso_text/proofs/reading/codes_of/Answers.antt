@@ -1,4 +1,4 @@
-use Rattle.std.proofs.Common.{◌≡◌, ◌+◌, [], map, drop, string_bytes, ap, ◌∙◌, arith}
+use Rattle.std.proofs.Common.{◌+◌, map, drop, string_bytes, ap, ◌∙◌, arith}
 use Rattle.iso_model.specs.Search.Errors.{key}
 use Rattle.iso_model.specs.Search.AtomTexts.{element_code, elements_codes}
 use Rattle.iso_store_core.specs.Presents.{meaning}

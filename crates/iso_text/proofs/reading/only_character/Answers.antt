@@ -1,7 +1,4 @@
-use Rattle.std.proofs.Common.{◌≡◌, ◌∷◌, [], sym, ap, ◌∙◌, refl}
-use Rattle.std.specs.Str.{chars}
-use Rattle.std.specs.Str.Iter.{chars_rest}
-use Rattle.std.proofs.lemmas.Str.{IsUtf8-past_char}
+use Rattle.std.proofs.Common.{◌∷◌, sym, ap, ◌∙◌}
 use Rattle.iso_model.specs.Search.AtomTexts.{only_code}
 use Rattle.iso_text.proofs.ReadingLemmas.{next_char, no_char, first_of}
 use Rattle.iso_text.proofs.reading.only_character.Goals as goal
