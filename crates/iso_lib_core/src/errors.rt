@@ -6,7 +6,6 @@ ghost use Rattle.iso_model.specs.Search.Bodies.{one, two};
 ghost use Rattle.iso_model.specs.Search.Errors.{key};
 ghost use Rattle.iso_model.specs.Search.Errors as errors;
 ghost use Rattle.iso_model.specs.Search.Arithmetic.{not_evaluable};
-ghost use Rattle.iso_model.specs.Search.AtomTexts.{code_error};
 
 use iso_model::{Ball, Term};
 use std::alloc::{AllocError, Global};
@@ -210,7 +209,15 @@ pub fn too_many_arguments(alloc: Global, name: &str, arity: usize) -> Result<Bal
 /// `representation_error(character_code)`, raised by this procedure (7.12.2 f).
 pub fn no_character_code(alloc: Global, name: &str, arity: usize) -> Result<Ball, AllocError>
     requires { arity < 256 }
-    ensures { IfOk result (λ b. term_of b.term ≡ code_error (key name.now arity)) }
+    ensures { IfOk result (λ b. term_of b.term ≡ errors.raised (one (codes "representation_error") (Name (codes "character_code"))) (key name.now arity)) }
 {
     named(alloc, "representation_error", "character_code", name, arity)
+}
+
+/// `syntax_error(illegal_number)`, raised by this procedure (8.16.7).
+pub fn illegal_number(alloc: Global, name: &str, arity: usize) -> Result<Ball, AllocError>
+    requires { arity < 256 }
+    ensures { IfOk result (λ b. term_of b.term ≡ errors.raised (one (codes "syntax_error") (Name (codes "illegal_number"))) (key name.now arity)) }
+{
+    named(alloc, "syntax_error", "illegal_number", name, arity)
 }

@@ -9,6 +9,7 @@ mod spelling;
 // the built-ins
 mod atoms;
 mod characters;
+mod integers;
 mod lengths;
 mod numbers;
 mod outputs;

@@ -1,17 +1,113 @@
 //! `number_chars/2` and `number_codes/2` (8.16.7, 8.16.8).
-ghost use Rattle.std.specs.Prelude.{◌≡◌, Err};
+ghost use Rattle.std.specs.Prelude.{◌≡◌, Err, map};
+ghost use Rattle.std.specs.List.{All, list_any};
 ghost use Rattle.iso_atoms.specs.Texts.{KeepsTexts};
+ghost use Rattle.iso_model.specs.Terms.Types.{is_variable};
 ghost use Rattle.iso_model.specs.Search.Errors.{key};
 ghost use Rattle.iso_model.specs.Terms.Arguments.{arity, argument};
-ghost use Rattle.iso_model.specs.Search.AtomTexts.{number_list_answer};
+ghost use Rattle.iso_model.specs.Search.AtomTexts.{elements_codes, equate_number, number_of_text, number_text, number_list_answer};
 ghost use Rattle.iso_store_core.specs.Presents.{Holds, meaning, KeepsMarks};
 ghost use Rattle.iso_lib_core.specs.Replies.{IsReply};
 ghost use Rattle.iso_text.specs.Forms.{form_of};
 
 use super::atoms::Form;
-use iso_lib_core::{Fault, Reply};
-use iso_store_core::Store;
+use super::integers::number_written;
+use super::reading::codes_of;
+use super::spelling::equate_spelled;
+use iso_lib_core::lists::{elements, is_nil, is_partial_list};
+use iso_lib_core::{Fault, Reply, errors, tested};
+use iso_store_core::{Shape, Store};
 use std::alloc::Global;
+
+/// Whether the term that the word stands for is an unbound variable.
+fn is_unbound<S: Store>(store: &S, word: S::Word) -> bool
+    requires { Holds (S.present store.now) word }
+    ensures { result ≡ is_variable (meaning (S.present store.now) word) }
+{
+    matches!(store.shape(word), Shape::Var(_))
+}
+
+/// Whether one of the words stands for an unbound variable.
+fn has_unbound<S: Store>(store: &S, words: &[S::Word]) -> bool
+    requires { All (λ w. Holds (S.present store.now) w) words.now }
+    ensures { result ≡ list_any is_variable (map (meaning (S.present store.now)) words.now) }
+{
+    let mut place = 0;
+    while place < words.len() {
+        if is_unbound(store, words[place]) {
+            return true;
+        }
+        place += 1;
+    }
+    false
+}
+
+/// Unifies the word with the number that a text writes; it is an error where it writes none. The errors are those of `number_list`.
+fn equate_number<S: Store>(
+    alloc: Global,
+    store: &mut S,
+    word: S::Word,
+    number: Option<i64>,
+    by: &str,
+) -> Result<Reply, Fault>
+    requires word { Holds (S.present store.old) word }
+    ensures replies { IsReply (S.present store.old) (S.present store.new) (equate_number (meaning (S.present store.old) word) (key by.now 2) number) result }
+    ensures full { result ≡ Err Fault.Full → S.full store.new }
+    ensures names { KeepsTexts (S.names store.old) (S.names store.new) }
+    ensures marks { KeepsMarks (S.stands store.old) (S.stands store.new) }
+{
+    let Some(value) = number else {
+        return Err(Fault::Raise(errors::illegal_number(alloc, by, 2)?));
+    };
+    let made = store.int(value)?;
+    Ok(tested(store.unify(word, made)?))
+}
+
+/// Unifies the word with the number that these elements write. The errors are those of `number_list`.
+fn number_of_list<S: Store>(
+    alloc: Global,
+    store: &mut S,
+    form: Form,
+    word: S::Word,
+    words: &[S::Word],
+    by: &str,
+) -> Result<Reply, Fault>
+    requires word { Holds (S.present store.old) word }
+    requires words { All (λ w. Holds (S.present store.old) w) words.now }
+    ensures replies { IsReply (S.present store.old) (S.present store.new)
+        (number_of_text (meaning (S.present store.old) word) (key by.now 2) (elements_codes (form_of form) (map (meaning (S.present store.old)) words.now) (key by.now 2))) result }
+    ensures full { result ≡ Err Fault.Full → S.full store.new }
+    ensures names { KeepsTexts (S.names store.old) (S.names store.new) }
+    ensures marks { KeepsMarks (S.stands store.old) (S.stands store.new) }
+{
+    let text = codes_of(alloc, store, form, words, by)?;
+    let number = number_written(text.as_str());
+    equate_number(alloc, store, word, number, by)
+}
+
+/// Unifies the list with that of the characters of the number that the word stands for. The errors are those of `number_list`.
+fn list_of_number<S: Store>(
+    alloc: Global,
+    store: &mut S,
+    form: Form,
+    word: S::Word,
+    list: S::Word,
+    by: &str,
+) -> Result<Reply, Fault>
+    requires word { Holds (S.present store.old) word }
+    requires list { Holds (S.present store.old) list }
+    ensures replies { IsReply (S.present store.old) (S.present store.new)
+        (number_text (form_of form) (meaning (S.present store.old) word) (meaning (S.present store.old) list) (key by.now 2)) result }
+    ensures full { result ≡ Err Fault.Full → S.full store.new }
+    ensures names { KeepsTexts (S.names store.old) (S.names store.new) }
+    ensures marks { KeepsMarks (S.stands store.old) (S.stands store.new) }
+{
+    let Shape::Int(value) = store.shape(word) else {
+        return Err(Fault::Raise(errors::instantiation(alloc, by, 2)?));
+    };
+    let text = value.to_string(alloc)?;
+    equate_spelled(alloc, store, form, list, text.as_str())
+}
 
 /// What a goal of `number_chars/2` or `number_codes/2` comes to, this procedure. The errors: one is raised, the store is full, or memory
 /// was refused.
@@ -30,5 +126,18 @@ pub(crate) fn number_list<S: Store>(
     ensures names { KeepsTexts (S.names store.old) (S.names store.new) }
     ensures marks { KeepsMarks (S.stands store.old) (S.stands store.new) }
 {
-    Err(Fault::NoMemory)
+    let (number, list) = (store.arg(goal, 0), store.arg(goal, 1));
+    if !matches!(store.shape(number), Shape::Var(_) | Shape::Int(_)) {
+        let culprit = store.copy_out(number)?;
+        return Err(Fault::Raise(errors::wrong_type(alloc, "number", culprit, by, 2)?));
+    }
+    if !is_partial_list(store, list) {
+        let culprit = store.copy_out(list)?;
+        return Err(Fault::Raise(errors::wrong_type(alloc, "list", culprit, by, 2)?));
+    }
+    let parts = elements(alloc, store, list)?;
+    if is_nil(store, parts.tail) && !has_unbound(store, parts.elements.as_slice()) {
+        return number_of_list(alloc, store, form, number, parts.elements.as_slice(), by);
+    }
+    list_of_number(alloc, store, form, number, list, by)
 }
