@@ -28,6 +28,7 @@ pub mod ChoiceLemmas
 pub mod FailLemmas
 pub mod EngineMoves
 pub mod RunMoves
+pub mod OutputMoves
 pub mod ReplyMoves
 pub mod LimitLemmas
 pub mod StoppedLemmas

@@ -9,16 +9,19 @@ use Rattle.iso_model.specs.Terms.Copies.{copy_from}
 use Rattle.iso_model.specs.Terms.Sizes.{size}
 use Rattle.iso_model.specs.Terms.Variables.{variable_count}
 use Rattle.iso_model.specs.Search.Bodies.{Body, Run, map_body}
-use Rattle.iso_model.specs.Search.BuiltIns.{Reply, Fails, Succeeds, Equates, EquatesCopy, Raises, Calls, CallsOnce, Refutes, Repeats, Catches, Gathers, Halts, AsksWorld, reply}
+use Rattle.iso_model.specs.Search.BuiltIns.{Reply, Fails, Succeeds, Equates, EquatesCopy, Raises, Calls, CallsOnce, Refutes, Repeats, Catches, Gathers, Halts, AsksWorld, Writes, reply}
 use Rattle.iso_model.specs.declared.built_ins.BuiltIn.{BuiltIn}
 use Rattle.iso_model.specs.declared.built_ins.BuiltIn.TheVariants as built_in
 use Rattle.iso_model.specs.declared.library.Setting.{Setting}
 use Rattle.iso_model.specs.declared.library.Storage.{Storage}
+use Rattle.iso_model.specs.declared.library.Output.{Output}
+use Rattle.iso_model.specs.Search.Outputs.{output_reply}
 use Rattle.iso_model.specs.Search.Settings.{setting_settled}
 use Rattle.iso_model.specs.Search.Storages.{storage_settled}
 use Rattle.iso_model.specs.declared.pauses.Pause.{Pause}
 use Rattle.iso_model.specs.declared.limit.Limit.TheVariants as limit
-use Rattle.iso_model.specs.Search.Walker.{State, World, Goal, CutTo, Fail, Leave, Raise, Goes, AsIs, Again, Gather, Catching, Gathering, Halted, idle, fails, with_goal, pushed, settled, step}
+use Rattle.iso_model.specs.Search.Walker.{State, World, Goal, CutTo, Fail, Leave, Raise, Goes, AsIs, Again, Gather, Catching, Gathering, Halted, Outcome, idle, fails, with_goal, pushed, settled, step}
+use Rattle.iso_model.specs.Search.Walker as walker
 use Rattle.iso_model.specs.Search.Engines.{IsAwake}
 use Rattle.iso_model.specs.Search.Runs.{Finishes, ComesOver}
 use Rattle.iso_model.specs.Search.RunLaws.Sameness.{Around}
@@ -45,6 +48,7 @@ use Rattle.iso_plain.specs.Catches.{EntersCatch, throwing, catching, calling_ins
 use Rattle.iso_plain.specs.Gathers.{EntersFindall, FindsAll, finding, template_of, result_of}
 use Rattle.iso_plain.specs.Settles.{AsksAt, WasStopped}
 use Rattle.iso_plain.specs.Shows.{StoresAt, WasGivenUp}
+use Rattle.iso_plain.specs.Outputs.{WritesAt, HasWritten}
 use Rattle.iso_plain.specs.Worlds.{IsWorld}
 use Rattle.iso_lib_core.specs.Replies.{IsUnbound, UnifiesCopy}
 use Rattle.iso_plain_core.specs.Replies.{IsReply, IsInside, Places}
@@ -56,7 +60,8 @@ use Rattle.iso_plain_core.proofs.EnteringLemmas.{words_same}
 use Rattle.iso_plain.proofs.FailLemmas.{awake_behind}
 use Rattle.iso_plain.proofs.RunLemmas.{AtRun, ahead_step, ahead_more, one_less}
 use Rattle.iso_plain.proofs.OfferMoves.{settled_steps}
-use Rattle.iso_plain.proofs.RunMoves.{failed_engine, at, runs_to, throws, ends_by}
+use Rattle.iso_plain.proofs.OutputMoves.{output_steps, wrote}
+use Rattle.iso_plain.proofs.RunMoves.{failed_engine, at, comes_to, runs_to, throws, ends_by}
 use Rattle.iso_plain_core.proofs.ArityLemmas.{HasArity, built_in_arguments}
 use Rattle.iso_plain_core.proofs.ReplyLemmas.{catch_parts, gather_parts}
 use Rattle.iso_plain.proofs.SameBodies.{around_own, around_steps, around_pushed, same_first, same_inside, same_finding}
@@ -86,6 +91,7 @@ went_on p q old new Repeats h = absurd h
 went_on p q old new (Catches inside catcher recovery) h = absurd h
 went_on p q old new (Halts n) h = absurd h
 went_on p q old new (AsksWorld settles) h = absurd h
+went_on p q old new (Writes bytes) h = absurd h
 
 -- The goal failed.
 pub data Failed {W : Type 0} (p : Present W) : Reply → Type 0 where
@@ -107,6 +113,7 @@ failed_on p q old new Repeats h = absurd h
 failed_on p q old new (Catches inside catcher recovery) h = absurd h
 failed_on p q old new (Halts n) h = absurd h
 failed_on p q old new (AsksWorld settles) h = absurd h
+failed_on p q old new (Writes bytes) h = absurd h
 
 pub raised_by : {W : Type 0} (p q : Present W) (old new : List (Node W)) (x : Reply) (ball : Ball) → IsReply p q old new x (replied.Raises ball) → (x ≡ Raises (term_of ball.term)) × (arities_fit (term_of ball.term) ≡ true) × IsUnbound p q
 raised_by p q old new (Raises error) ball h = (ap Raises (sym h.is), h.fits, h.unbound)
@@ -122,6 +129,7 @@ raised_by p q old new Repeats ball h = absurd h
 raised_by p q old new (Catches inside catcher recovery) ball h = absurd h
 raised_by p q old new (Halts n) ball h = absurd h
 raised_by p q old new (AsksWorld settles) ball h = absurd h
+raised_by p q old new (Writes bytes) ball h = absurd h
 
 pub calls_by : {W : Type 0} (p q : Present W) (old new : List (Node W)) (x : Reply) (place : ℕ) → IsReply p q old new x (replied.Calls place) → (b : Body) × (x ≡ Calls b) × Places p q old new b place
 calls_by p q old new (Calls b) place h = (b, refl, h)
@@ -137,6 +145,7 @@ calls_by p q old new Repeats place h = absurd h
 calls_by p q old new (Catches inside catcher recovery) place h = absurd h
 calls_by p q old new (Halts n) place h = absurd h
 calls_by p q old new (AsksWorld settles) place h = absurd h
+calls_by p q old new (Writes bytes) place h = absurd h
 
 pub once_by : {W : Type 0} (p q : Present W) (old new : List (Node W)) (x : Reply) (place : ℕ) → IsReply p q old new x (replied.CallsOnce place) → (b : Body) × (x ≡ CallsOnce b) × Places p q old new b place
 once_by p q old new (CallsOnce b) place h = (b, refl, h)
@@ -152,6 +161,7 @@ once_by p q old new Repeats place h = absurd h
 once_by p q old new (Catches inside catcher recovery) place h = absurd h
 once_by p q old new (Halts n) place h = absurd h
 once_by p q old new (AsksWorld settles) place h = absurd h
+once_by p q old new (Writes bytes) place h = absurd h
 
 pub refutes_by : {W : Type 0} (p q : Present W) (old new : List (Node W)) (x : Reply) (place : ℕ) → IsReply p q old new x (replied.Refutes place) → (b : Body) × (x ≡ Refutes b) × Places p q old new b place
 refutes_by p q old new (Refutes b) place h = (b, refl, h)
@@ -167,6 +177,7 @@ refutes_by p q old new Repeats place h = absurd h
 refutes_by p q old new (Catches inside catcher recovery) place h = absurd h
 refutes_by p q old new (Halts n) place h = absurd h
 refutes_by p q old new (AsksWorld settles) place h = absurd h
+refutes_by p q old new (Writes bytes) place h = absurd h
 
 pub repeats_by : {W : Type 0} (p q : Present W) (old new : List (Node W)) (x : Reply) → IsReply p q old new x replied.Repeats → (x ≡ Repeats) × (q ≡ p)
 repeats_by p q old new Repeats h = (refl, h.0)
@@ -182,6 +193,7 @@ repeats_by p q old new (Gathers template b result) h = absurd h
 repeats_by p q old new (Catches inside catcher recovery) h = absurd h
 repeats_by p q old new (Halts n) h = absurd h
 repeats_by p q old new (AsksWorld settles) h = absurd h
+repeats_by p q old new (Writes bytes) h = absurd h
 
 pub catches_by : {W : Type 0} (p q : Present W) (old new : List (Node W)) (x : Reply) (placed : Placed) → IsReply p q old new x (replied.Catches placed)
     → (inside : Reply) × (catcher : Tree) × (recovery : Tree) × (x ≡ Catches inside catcher recovery) × IsInside p q old new inside placed
@@ -198,6 +210,7 @@ catches_by p q old new (Gathers template b result) placed h = absurd h
 catches_by p q old new Repeats placed h = absurd h
 catches_by p q old new (Halts n) placed h = absurd h
 catches_by p q old new (AsksWorld settles) placed h = absurd h
+catches_by p q old new (Writes bytes) placed h = absurd h
 
 pub halts_by : {W : Type 0} (p q : Present W) (old new : List (Node W)) (x : Reply) (status : ℕ) → IsReply p q old new x (replied.Halts status) → x ≡ Halts status
 halts_by p q old new (Halts n) status h = ap Halts (sym h)
@@ -211,6 +224,7 @@ halts_by p q old new (CallsOnce b) status h = absurd h
 halts_by p q old new (Refutes b) status h = absurd h
 halts_by p q old new (Gathers template b result) status h = absurd h
 halts_by p q old new (AsksWorld settles) status h = absurd h
+halts_by p q old new (Writes bytes) status h = absurd h
 halts_by p q old new Repeats status h = absurd h
 halts_by p q old new (Catches inside catcher recovery) status h = absurd h
 
@@ -229,6 +243,7 @@ gathers_by p q old new Repeats place h = absurd h
 gathers_by p q old new (Catches inside catcher recovery) place h = absurd h
 gathers_by p q old new (Halts n) place h = absurd h
 gathers_by p q old new (AsksWorld settles) place h = absurd h
+gathers_by p q old new (Writes bytes) place h = absurd h
 
 pub asks_by : {W : Type 0} (p q : Present W) (old new : List (Node W)) (x : Reply) (row : Setting) → IsReply p q old new x (replied.AsksSettings row) → q ≡ p
 asks_by p q old new (AsksWorld settles) row h = h.0
@@ -244,6 +259,7 @@ asks_by p q old new (Gathers template b result) row h = absurd h
 asks_by p q old new Repeats row h = absurd h
 asks_by p q old new (Catches inside catcher recovery) row h = absurd h
 asks_by p q old new (Halts n) row h = absurd h
+asks_by p q old new (Writes bytes) row h = absurd h
 
 pub stores_by : {W : Type 0} (p q : Present W) (old new : List (Node W)) (x : Reply) (row : Storage) → IsReply p q old new x (replied.AsksDatabase row) → q ≡ p
 stores_by p q old new (AsksWorld settles) row h = h.0
@@ -259,6 +275,7 @@ stores_by p q old new (Gathers template b result) row h = absurd h
 stores_by p q old new Repeats row h = absurd h
 stores_by p q old new (Catches inside catcher recovery) row h = absurd h
 stores_by p q old new (Halts n) row h = absurd h
+stores_by p q old new (Writes bytes) row h = absurd h
 
 -- what is inside a catch
 pub inside_calls : {W : Type 0} (p q : Present W) (old new : List (Node W)) (x : Reply) (place : ℕ) → IsInside p q old new x (placed.Body place) → (b : Body) × (x ≡ Calls b) × Places p q old new b place
@@ -275,6 +292,7 @@ inside_calls p q old new Repeats place h = absurd h
 inside_calls p q old new (Catches inside catcher recovery) place h = absurd h
 inside_calls p q old new (Halts n) place h = absurd h
 inside_calls p q old new (AsksWorld settles) place h = absurd h
+inside_calls p q old new (Writes bytes) place h = absurd h
 
 pub inside_raises : {W : Type 0} (p q : Present W) (old new : List (Node W)) (x : Reply) (ball : Ball) → IsInside p q old new x (placed.Raises ball)
     → (x ≡ Raises (term_of ball.term)) × (arities_fit (term_of ball.term) ≡ true) × IsUnbound p q
@@ -291,6 +309,7 @@ inside_raises p q old new Repeats ball h = absurd h
 inside_raises p q old new (Catches inside catcher recovery) ball h = absurd h
 inside_raises p q old new (Halts n) ball h = absurd h
 inside_raises p q old new (AsksWorld settles) ball h = absurd h
+inside_raises p q old new (Writes bytes) ball h = absurd h
 
 -- a body came, and nothing was bound
 pub places_unbound : {W : Type 0} (p q : Present W) (old new : List (Node W)) (b : Body) (place : ℕ) → Places p q old new b place → IsUnbound p q
@@ -776,3 +795,35 @@ module _ {S W M : Type 0} (names : S → List (List ℕ)) (present : S → Prese
           let many = choices_length r.engine.choices in
           let within = full.0 in
           comes_over names present stands older e s r walker_stores e.limit stores_to full.1 (omega (arith, many, within))
+
+    -- ---- it writes
+
+    module _ (row : Output) (of_row : b ≡ built_in.Output row) (same : present store ≡ present e.store) where
+      abbrev pub writing : State
+      writing = behind o.built
+
+      -- the goal's word stands for what it did
+      written_goal : meaning (present store) w ≡ t
+      written_goal = ap (λ (q : Present W). meaning q w) same
+
+      pub writes_at : WritesAt names present stands older mid row w writing f.next
+      writes_at = record {
+        ahead = behind_ahead o.built (subst (λ (q : Present W). KeepsWords (present e.store) q) (sym same) (words_same (present e.store))) (ap (λ (q : Present W). q.substitution) same) (ap (λ (q : Present W). q.next) same);
+        holds = subst (λ (q : Present W). q.holds w ≡ true) (sym same) a.holds;
+        arity_is = ap arity written_goal ∙ subst (λ (x : BuiltIn). HasArity x (arity t)) of_row (built_in_arguments t b is_own);
+      }
+
+      -- what the walker comes to
+      abbrev pub walker_writes : Outcome
+      walker_writes = walker.replied (output_reply row (meaning (present store) w)) writing.list writing
+
+      writes_to : step o ≡ walker_writes
+      writes_to =
+          comes_to names present stands older e s f k w doing there r (walker.replied (output_reply row t) a.behind o) more (own_goal t a.behind o b (output_reply row t) is_own (ap (λ (x : BuiltIn). reply x t) of_row))
+          ∙ (output_steps row t a.behind n o ∙ ap (λ (x : Tree). walker.replied (output_reply row x) a.behind writing) (sym written_goal))
+
+      pub writes_now : (new : Plain S W M) (m : Move) → HasWritten names present stands older m new walker_writes → Moves names present stands older m s new
+      writes_now new m was = wrote names present stands older e new s r m walker_writes writes_to was
+
+      pub write_stops : (new : Plain S W M) → Keeps names present stands older new writing.world writing.stack → Stopped names present stands older new s
+      write_stops new kept = stops_here names present stands older new o s r.same kept

@@ -6,7 +6,7 @@ use Rattle.iso_model.specs.Terms.Trees.{Tree}
 use Rattle.iso_model.specs.Search.Databases as databases
 use Rattle.iso_model.specs.Search.Databases.{Key, clauses_at}
 use Rattle.iso_model.specs.Search.Errors.{existence_error}
-use Rattle.iso_model.specs.Search.Walker.{State, World, Member, Fail, Raise, Alternative, Ending, Goes, Ends, Budget, idle, fails, run_goal, run_value, tried, with_others, step}
+use Rattle.iso_model.specs.Search.Walker.{State, World, Member, Fail, Raise, Alternative, Ending, Outcome, Goes, Ends, Budget, charged, idle, fails, run_goal, run_value, tried, with_others, step}
 use Rattle.iso_model.specs.Search.Engines.{IsAwake}
 use Rattle.iso_model.specs.Search.Runs.{Finishes, ComesOver, here}
 use Rattle.iso_model.proofs.Search.CallLemmas.{clause_keeps}
@@ -33,7 +33,7 @@ use Rattle.iso_plain.proofs.EngineMoves.{spent_stands}
 use Rattle.iso_plain_core.proofs.EnteringLemmas.{adds_none}
 use Rattle.iso_plain.proofs.RunLemmas.{AtRun, at_run, room_less, one_less}
 use Rattle.iso_plain.proofs.SearchMoves.{goes, ends, stops, stops_here, comes_over}
-use Rattle.iso_plain.proofs.SearchSteps.{goal_step, goal_end, budget_step, procedure_goal, unknown_goal, tried_steps, others_keep, one_more}
+use Rattle.iso_plain.proofs.SearchSteps.{goal_comes, goal_step, goal_end, budget_step, procedure_goal, unknown_goal, tried_steps, others_keep, one_more}
 use Rattle.iso_plain_core.proofs.StandingLemmas.{choices_length}
 use Rattle.iso_plain.proofs.StoppedLemmas.{base_kept, choices_on}
 use Rattle.iso_plain.proofs.WorldLemmas.{world_on}
@@ -100,7 +100,12 @@ module _ {S W M : Type 0} (names : S → List (List ℕ)) (present : S → Prese
     spends new none idles rests =
         ends names present stands older new own s Budget r.same (budget_step own at.term f.mark at.behind at.list (r.engine.steps ∙ none)) rests (idles own.world r.engine.world)
 
-    -- what the goal goes to
+    -- what the goal comes to
+    pub comes_to : (x : Outcome) → e.steps ≢ 0 → run_value call at.behind own ≡ x → step own ≡ charged (e.steps - 1) x
+    comes_to x more h =
+        goal_comes own at.term f.mark at.behind (e.steps - 1) x at.list (r.engine.steps ∙ one_less e.steps more) (ap (λ (t : Tree). run_value t at.behind own) at.value ∙ h)
+
+    -- what it goes to
     pub runs_to : (v : State) → e.steps ≢ 0 → run_value call at.behind own ≡ Goes v → step own ≡ Goes (record v { steps = e.steps - 1 })
     runs_to v more h =
         goal_step own at.term f.mark at.behind (e.steps - 1) v at.list (r.engine.steps ∙ one_less e.steps more) (ap (λ (t : Tree). run_value t at.behind own) at.value ∙ h)

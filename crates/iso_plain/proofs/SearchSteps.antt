@@ -115,16 +115,19 @@ cut_back_step s mark rest list = step_is s (CutTo mark ∷ rest) list
 pub budget_step : (s : State) (t : Tree) (mark : ℕ) (rest : List Member) → s.list ≡ Goal (Run t) mark ∷ rest → s.steps ≡ 0 → step s ≡ Ends Budget s.world
 budget_step s t mark rest list none = step_is s (Goal (Run t) mark ∷ rest) list ∙ ap (λ (n : ℕ). paid n s (run_value (apply s.subst t) rest s)) none
 
--- what a goal that takes a step goes to
+-- what a goal that takes a step comes to
+pub goal_comes : (s : State) (t : Tree) (mark : ℕ) (rest : List Member) (n : ℕ) (o : Outcome) → s.list ≡ Goal (Run t) mark ∷ rest → s.steps ≡ suc n → run_value (apply s.subst t) rest s ≡ o → step s ≡ charged n o
+goal_comes s t mark rest n o list left is =
+    step_is s (Goal (Run t) mark ∷ rest) list ∙ (ap (λ (k : ℕ). paid k s (run_value (apply s.subst t) rest s)) left ∙ ap (λ (x : Outcome). charged n x) is)
+
+-- what it goes to
 pub goal_step : (s : State) (t : Tree) (mark : ℕ) (rest : List Member) (n : ℕ) (v : State) → s.list ≡ Goal (Run t) mark ∷ rest → s.steps ≡ suc n → run_value (apply s.subst t) rest s ≡ Goes v
     → step s ≡ Goes (record v { steps = n })
-goal_step s t mark rest n v list left goes =
-    step_is s (Goal (Run t) mark ∷ rest) list ∙ (ap (λ (k : ℕ). paid k s (run_value (apply s.subst t) rest s)) left ∙ ap (λ (o : Outcome). charged n o) goes)
+goal_step s t mark rest n v list left goes = goal_comes s t mark rest n (Goes v) list left goes
 
 -- or that it ends the search
 pub goal_end : (s : State) (t : Tree) (mark : ℕ) (rest : List Member) (n : ℕ) (ending : Ending) (w : World) → s.list ≡ Goal (Run t) mark ∷ rest → s.steps ≡ suc n → run_value (apply s.subst t) rest s ≡ Ends ending w → step s ≡ Ends ending w
-goal_end s t mark rest n ending w list left is =
-    step_is s (Goal (Run t) mark ∷ rest) list ∙ (ap (λ (k : ℕ). paid k s (run_value (apply s.subst t) rest s)) left ∙ ap (λ (o : Outcome). charged n o) is)
+goal_end s t mark rest n ending w list left is = goal_comes s t mark rest n (Ends ending w) list left is
 
 -- ---- what a goal runs
 

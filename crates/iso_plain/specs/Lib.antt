@@ -6,5 +6,6 @@ pub mod Catches
 pub mod Gathers
 pub mod Settles
 pub mod Shows
+pub mod Outputs
 pub mod Starts
 pub mod Called

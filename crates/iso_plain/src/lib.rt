@@ -10,6 +10,7 @@ pub mod ends;
 pub mod gathers;
 mod locals;
 pub mod moves;
+mod outputs;
 pub mod plain;
 pub mod runs;
 mod settles;

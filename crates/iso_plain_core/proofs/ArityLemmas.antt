@@ -7,10 +7,12 @@ use Rattle.iso_model.specs.Search.Databases.{Key, same_key}
 use Rattle.iso_model.specs.Terms.Arguments.{arity}
 use Rattle.iso_model.specs.Search.BuiltIns.{built_ins, built_in_among}
 use Rattle.iso_model.specs.declared.built_ins.BuiltIn.{BuiltIn}
-use Rattle.iso_model.specs.declared.built_ins.BuiltIn.TheVariants.{True, Fail, Call, Once, Not, Repeat, Catch, Throw, Halt, HaltWith, Findall, Library, Setting, Storage}
+use Rattle.iso_model.specs.declared.built_ins.BuiltIn.TheVariants.{True, Fail, Call, Once, Not, Repeat, Catch, Throw, Halt, HaltWith, Findall, Library, Setting, Storage, Text, Output}
 use Rattle.iso_model.specs.Search.Library.{library_arity}
 use Rattle.iso_model.specs.Search.Settings.{setting_arity}
 use Rattle.iso_model.specs.Search.Storages.{storage_arity}
+use Rattle.iso_model.specs.Search.AtomTexts.{text_arity}
+use Rattle.iso_model.specs.Search.Outputs.{output_arity}
 use Rattle.iso_plain_core.specs.GoalKinds.{IsBuiltIn}
 
 pub some_same : {X : Type 0} {x y : X} → Some x ≡ Some y → x ≡ y
@@ -43,6 +45,8 @@ HasArity Findall n = n ≡ 3
 HasArity (Library row) n = n ≡ library_arity row
 HasArity (Setting row) n = n ≡ setting_arity row
 HasArity (Storage row) n = n ≡ storage_arity row
+HasArity (Text row) n = n ≡ text_arity row
+HasArity (Output row) n = n ≡ output_arity row
 
 -- whether a built-in of the table has so many
 abbrev has_arity : BuiltIn → ℕ → Bool
@@ -60,6 +64,8 @@ has_arity Findall n = n == 3
 has_arity (Library row) n = n == library_arity row
 has_arity (Setting row) n = n == setting_arity row
 has_arity (Storage row) n = n == storage_arity row
+has_arity (Text row) n = n == text_arity row
+has_arity (Output row) n = n == output_arity row
 
 arity_is : (b : BuiltIn) (n : ℕ) → has_arity b n ≡ true → HasArity b n
 arity_is True n h = eqb-true n 0 h
@@ -76,6 +82,8 @@ arity_is Findall n h = eqb-true n 3 h
 arity_is (Library row) n h = eqb-true n (library_arity row) h
 arity_is (Setting row) n h = eqb-true n (setting_arity row) h
 arity_is (Storage row) n h = eqb-true n (storage_arity row) h
+arity_is (Text row) n h = eqb-true n (text_arity row) h
+arity_is (Output row) n h = eqb-true n (output_arity row) h
 
 abbrev fit_rows : List (Key × BuiltIn) → Bool
 fit_rows [] = true

@@ -1,15 +1,20 @@
 -- What goals of built-ins come to is the table's reply.
-use Rattle.std.proofs.Common.{◌≡◌, ℕ, List, Bool, true, false, ◌||◌, nat_lt, nat_abs, int_lt, pos, Option, Some, None, refl, ap, sym, ◌∙◌, subst, codes, if◌then◌else◌}
+use Rattle.std.proofs.Common.{◌≡◌, ℕ, List, Bool, true, false, ◌||◌, nat_lt, nat_abs, int_lt, pos, Option, Some, None, Result, Ok, Err, IfOk, refl, ap, sym, ◌∙◌, subst, codes, if◌then◌else◌}
 use Rattle.iso_model.specs.Terms.Trees.{Tree, Variable, Integer, Name, Apply, End, More, arities_fit}
 use Rattle.iso_model.specs.Terms.TermOf.{term_of}
 use Rattle.iso_model.specs.Terms.Arguments.{argument, arity}
 use Rattle.iso_model.specs.Terms.Lists.{is_partial_list}
-use Rattle.iso_model.specs.Search.BuiltIns.{Reply, Fails, Succeeds, Equates, EquatesCopy, Repeats, Raises, Calls, CallsOnce, Refutes, Catches, Gathers, Halts, AsksWorld, converted_reply, goal_reply, called_reply, findall_reply, throw_reply, halt_reply, answered, reply}
+use Rattle.iso_model.specs.Search.BuiltIns.{Reply, Fails, Succeeds, Equates, EquatesCopy, Repeats, Raises, Calls, CallsOnce, Refutes, Catches, Gathers, Halts, AsksWorld, Writes, converted_reply, goal_reply, called_reply, findall_reply, throw_reply, halt_reply, answered, reply}
 use Rattle.iso_model.specs.Search.Library.{library_answer}
 use Rattle.iso_model.specs.Search.Replies.{Answer, Fail, Succeed, Equate, EquateCopy, Raise}
 use Rattle.iso_model.specs.Search.Bodies.{Body, converted}
 use Rattle.iso_lib_core.specs.Replies as library
-use Rattle.iso_lib_core.specs.Replies.{IsDone, IsFailed, IsUnbound}
+use Rattle.iso_lib_core.specs.Replies.{IsUnbound}
+use Rattle.iso_lib_core.specs.declared.outcomes.Reply as library_reply
+use Rattle.iso_lib_core.specs.declared.outcomes.Reply.TheVariants as outcome
+use Rattle.iso_lib_core.specs.declared.outcomes.Fault.{Fault}
+use Rattle.iso_lib_core.specs.declared.outcomes.Fault.TheVariants as fault
+use Rattle.iso_store_core.specs.declared.shapes.StoreFault.TheVariants as store_fault
 use Rattle.iso_model.specs.Search.Errors.{Key, key, domain_error, max_arity_error, type_error}
 use Rattle.iso_model.specs.declared.built_ins.BuiltIn.{BuiltIn}
 use Rattle.iso_model.specs.declared.built_ins.BuiltIn.TheVariants as built_in
@@ -19,6 +24,11 @@ use Rattle.iso_model.specs.Search.Settlements.{Settled}
 use Rattle.iso_model.specs.Search.Settings.{setting_settled}
 use Rattle.iso_model.specs.Search.Storages.{storage_settled}
 use Rattle.iso_model.specs.Search.Worlds.{World}
+use Rattle.iso_model.specs.Search.AtomTexts.{Characters, element_code, text_answer}
+use Rattle.iso_model.specs.Search.Outputs.{put_code, put_char_key, output_reply}
+use Rattle.iso_model.specs.declared.library.Output.{Output}
+use Rattle.iso_model.specs.declared.library.Output.TheVariants.{PutChar, NewLine, Write, Writeq, WriteCanonical}
+use Rattle.iso_ops.specs.Operators.{Operator}
 use Rattle.iso_model.specs.declared.pauses.Ball.{Ball}
 use Rattle.iso_store_core.specs.Presents.{Present}
 use Rattle.iso_plain_core.specs.declared.bodies.Node.{Node}
@@ -27,7 +37,7 @@ use Rattle.iso_plain_core.specs.declared.goals.Placed.TheVariants as placed
 use Rattle.iso_plain_core.specs.declared.replies.Replied.{Replied}
 use Rattle.iso_plain_core.specs.declared.replies.Replied.TheVariants as replied
 use Rattle.iso_plain_core.specs.Entering.{Adds}
-use Rattle.iso_plain_core.specs.Replies.{IsRunAs, IsPlaced, IsReply, IsInside, IsHalt, IsRaising, Asks, called_of}
+use Rattle.iso_plain_core.specs.Replies.{IsRunAs, IsPlaced, IsReply, IsInside, IsHalt, IsRaising, Asks, called_of, replied_of}
 use Rattle.iso_plain_core.proofs.EnteringLemmas.{adds_none, words_same}
 
 module _ {W : Type 0} (p q : Present W) (old new : List (Node W)) (t : Tree) where
@@ -107,6 +117,7 @@ module _ {W : Type 0} (p : Present W) (old : List (Node W)) where
   halt_replied (Raises error) (replied.Halts status) h = absurd h
   halt_replied (Raises error) (replied.AsksSettings row) h = absurd h
   halt_replied (Raises error) (replied.AsksDatabase row) h = absurd h
+  halt_replied (Raises error) (replied.Writes row) h = absurd h
   halt_replied (Halts n) (replied.Halts status) h = h
   halt_replied (Halts n) replied.GoesOn h = absurd h
   halt_replied (Halts n) replied.Fails h = absurd h
@@ -119,6 +130,7 @@ module _ {W : Type 0} (p : Present W) (old : List (Node W)) where
   halt_replied (Halts n) (replied.Gathers place) h = absurd h
   halt_replied (Halts n) (replied.AsksSettings row) h = absurd h
   halt_replied (Halts n) (replied.AsksDatabase row) h = absurd h
+  halt_replied (Halts n) (replied.Writes row) h = absurd h
   halt_replied Fails answer h = absurd h
   halt_replied Succeeds answer h = absurd h
   halt_replied (Equates made a b) answer h = absurd h
@@ -130,28 +142,41 @@ module _ {W : Type 0} (p : Present W) (old : List (Node W)) where
   halt_replied (Catches inside catcher recovery) answer h = absurd h
   halt_replied (Gathers template b result) answer h = absurd h
   halt_replied (AsksWorld settles) answer h = absurd h
+  halt_replied (Writes bytes) answer h = absurd h
 
--- what the library answers
-pub library_replied : {W : Type 0} (p q : Present W) (nodes : List (Node W)) (x : Answer) → IsDone p q x → IsReply p q nodes nodes (answered x) replied.GoesOn
-library_replied p q nodes Succeed h = (h, refl)
-library_replied p q nodes (Equate made a b) h = (h, refl)
-library_replied p q nodes (EquateCopy a b) h = (h, refl)
-library_replied p q nodes Fail h = absurd h
-library_replied p q nodes (Raise error) h = absurd h
+-- what is answered
+pub replied_same : {W : Type 0} (p q : Present W) (nodes : List (Node W)) (x : Answer) (answer : Result library_reply.Reply Fault) → library.IsReply p q x answer → IfOk (replied_of answer) (IsReply p q nodes nodes (answered x))
+replied_same p q nodes Succeed (Ok outcome.Done) h = (h, refl)
+replied_same p q nodes (Equate made a b) (Ok outcome.Done) h = (h, refl)
+replied_same p q nodes (EquateCopy a b) (Ok outcome.Done) h = (h, refl)
+replied_same p q nodes Fail (Ok outcome.Done) h = absurd h
+replied_same p q nodes (Raise error) (Ok outcome.Done) h = absurd h
+replied_same p q nodes Fail (Ok outcome.Fail) h = adds_none nodes
+replied_same p q nodes (Equate made a b) (Ok outcome.Fail) h = (h, adds_none nodes)
+replied_same p q nodes (EquateCopy a b) (Ok outcome.Fail) h = (h, adds_none nodes)
+replied_same p q nodes Succeed (Ok outcome.Fail) h = absurd h
+replied_same p q nodes (Raise error) (Ok outcome.Fail) h = absurd h
+replied_same p q nodes (Raise error) (Err (fault.Raise ball)) h = record { is = h.0.0; fits = h.0.1; unbound = h.1; adds = adds_none nodes }
+replied_same p q nodes Fail (Err (fault.Raise ball)) h = absurd h
+replied_same p q nodes Succeed (Err (fault.Raise ball)) h = absurd h
+replied_same p q nodes (Equate made a b) (Err (fault.Raise ball)) h = absurd h
+replied_same p q nodes (EquateCopy a b) (Err (fault.Raise ball)) h = absurd h
+replied_same p q nodes x (Err fault.Full) h = tt
+replied_same p q nodes x (Err fault.NoMemory) h = tt
 
-pub library_failed : {W : Type 0} (p q : Present W) (nodes : List (Node W)) (x : Answer) → IsFailed p x → IsReply p q nodes nodes (answered x) replied.Fails
-library_failed p q nodes Fail h = adds_none nodes
-library_failed p q nodes (Equate made a b) h = (h, adds_none nodes)
-library_failed p q nodes (EquateCopy a b) h = (h, adds_none nodes)
-library_failed p q nodes Succeed h = absurd h
-library_failed p q nodes (Raise error) h = absurd h
+pub replied_asks : (b : BuiltIn) (answer : Result library_reply.Reply Fault) → IfOk (replied_of answer) (Asks b)
+replied_asks b (Ok outcome.Done) = tt
+replied_asks b (Ok outcome.Fail) = tt
+replied_asks b (Err (fault.Raise ball)) = tt
+replied_asks b (Err fault.Full) = tt
+replied_asks b (Err fault.NoMemory) = tt
 
-pub library_raised : {W : Type 0} (p q : Present W) (nodes : List (Node W)) (x : Answer) (ball : Ball) → library.IsRaised p q x ball → IsReply p q nodes nodes (answered x) (replied.Raises ball)
-library_raised p q nodes (Raise error) ball h = record { is = h.0.0; fits = h.0.1; unbound = h.1; adds = adds_none nodes }
-library_raised p q nodes Fail ball h = absurd h
-library_raised p q nodes Succeed ball h = absurd h
-library_raised p q nodes (Equate made a b) ball h = absurd h
-library_raised p q nodes (EquateCopy a b) ball h = absurd h
+pub replied_full : (answer : Result library_reply.Reply Fault) → replied_of answer ≡ Err store_fault.Full → answer ≡ Err fault.Full
+replied_full (Ok outcome.Done) h = absurd cc
+replied_full (Ok outcome.Fail) h = absurd cc
+replied_full (Err (fault.Raise ball)) h = absurd cc
+replied_full (Err fault.Full) h = refl
+replied_full (Err fault.NoMemory) h = absurd cc
 
 -- ---- which goals are run inside a catch, and which for all of their solutions
 
@@ -202,6 +227,10 @@ module _ (Is : Reply → Type 0) (none_raised : (error : Tree) → Is (Raises er
         partial b true i = none b i
         partial b false i = none_raised _ i
 
+  none_put : (code : Result ℕ Tree) → ((bytes : List Operator → List ℕ) → Is (Writes bytes) → ⊥) → Is (put_code code) → ⊥
+  none_put (Ok code) none h = none _ h
+  none_put (Err error) none h = none_raised _ h
+
 abbrev IsCatches : Reply → Type 0
 IsCatches (Catches inside catcher recovery) = Unit {0}
 IsCatches x = ⊥
@@ -209,17 +238,6 @@ IsCatches x = ⊥
 abbrev IsGathers : Reply → Type 0
 IsGathers (Gathers template b result) = Unit {0}
 IsGathers x = ⊥
-
-abbrev IsAsking : Reply → Type 0
-IsAsking (AsksWorld settles) = Unit {0}
-IsAsking x = ⊥
-
-no_asking_answered : (x : Answer) → IsAsking (answered x) → ⊥
-no_asking_answered Fail h = h
-no_asking_answered Succeed h = h
-no_asking_answered (Equate made a b) h = h
-no_asking_answered (EquateCopy a b) h = h
-no_asking_answered (Raise error) h = h
 
 no_catch_answered : (x : Answer) → IsCatches (answered x) → ⊥
 no_catch_answered Fail h = h
@@ -250,6 +268,12 @@ only_catch built_in.Findall t h = absurd (none_found IsCatches (λ e i. i) (λ n
 only_catch (built_in.Library row) t h = absurd (no_catch_answered (library_answer row t) h)
 only_catch (built_in.Setting row) t h = absurd h
 only_catch (built_in.Storage row) t h = absurd h
+only_catch (built_in.Text row) t h = absurd (no_catch_answered (text_answer row t) h)
+only_catch (built_in.Output PutChar) t h = absurd (none_put IsCatches (λ e i. i) (λ n i. i) (element_code Characters (argument 0 t) put_char_key) (λ bytes i. i) h)
+only_catch (built_in.Output NewLine) t h = absurd h
+only_catch (built_in.Output Write) t h = absurd h
+only_catch (built_in.Output Writeq) t h = absurd h
+only_catch (built_in.Output WriteCanonical) t h = absurd h
 
 only_findall : (b : BuiltIn) (t : Tree) → IsGathers (reply b t) → b ≡ built_in.Findall
 only_findall built_in.True t h = absurd h
@@ -266,6 +290,12 @@ only_findall built_in.Findall t h = refl
 only_findall (built_in.Library row) t h = absurd (no_gatherer_answered (library_answer row t) h)
 only_findall (built_in.Setting row) t h = absurd h
 only_findall (built_in.Storage row) t h = absurd h
+only_findall (built_in.Text row) t h = absurd (no_gatherer_answered (text_answer row t) h)
+only_findall (built_in.Output PutChar) t h = absurd (none_put IsGathers (λ e i. i) (λ n i. i) (element_code Characters (argument 0 t) put_char_key) (λ bytes i. i) h)
+only_findall (built_in.Output NewLine) t h = absurd h
+only_findall (built_in.Output Write) t h = absurd h
+only_findall (built_in.Output Writeq) t h = absurd h
+only_findall (built_in.Output WriteCanonical) t h = absurd h
 
 -- a catch's parts are the goal's arguments
 pub catch_parts : (b : BuiltIn) (t : Tree) (inside : Reply) (catcher recovery : Tree) → reply b t ≡ Catches inside catcher recovery → (b ≡ built_in.Catch) × (catcher ≡ argument 1 t) × (recovery ≡ argument 2 t)
@@ -304,55 +334,6 @@ gather_parts b t template result c is =
     let parts = subst (λ (x : Reply). HasParts t x) there (found_parts t (argument 1 t) (key (codes "findall") 3)) in
     (own, parts.0, parts.1)
 
--- A goal that asks nothing of what outlives a run gets no such answer.
-module _ {W : Type 0} (p q : Present W) (old new : List (Node W)) (b : BuiltIn) where
-  asks_none : (x : Reply) (answer : Replied) → (IsAsking x → ⊥) → IsReply p q old new x answer → Asks b answer
-  asks_none x replied.GoesOn none h = tt
-  asks_none x replied.Fails none h = tt
-  asks_none x (replied.Raises ball) none h = tt
-  asks_none x (replied.Calls place) none h = tt
-  asks_none x (replied.CallsOnce place) none h = tt
-  asks_none x (replied.Refutes place) none h = tt
-  asks_none x replied.Repeats none h = tt
-  asks_none x (replied.Catches placed) none h = tt
-  asks_none x (replied.Gathers place) none h = tt
-  asks_none x (replied.Halts status) none h = tt
-  asks_none Fails (replied.AsksSettings row) none h = absurd h
-  asks_none Succeeds (replied.AsksSettings row) none h = absurd h
-  asks_none (Equates made a b) (replied.AsksSettings row) none h = absurd h
-  asks_none (EquatesCopy a b) (replied.AsksSettings row) none h = absurd h
-  asks_none (Raises error) (replied.AsksSettings row) none h = absurd h
-  asks_none (Calls c) (replied.AsksSettings row) none h = absurd h
-  asks_none (CallsOnce c) (replied.AsksSettings row) none h = absurd h
-  asks_none (Refutes c) (replied.AsksSettings row) none h = absurd h
-  asks_none Repeats (replied.AsksSettings row) none h = absurd h
-  asks_none (Catches inside catcher recovery) (replied.AsksSettings row) none h = absurd h
-  asks_none (Gathers template c result) (replied.AsksSettings row) none h = absurd h
-  asks_none (Halts n) (replied.AsksSettings row) none h = absurd h
-  asks_none (AsksWorld settles) (replied.AsksSettings row) none h = absurd (none tt)
-  asks_none Fails (replied.AsksDatabase row) none h = absurd h
-  asks_none Succeeds (replied.AsksDatabase row) none h = absurd h
-  asks_none (Equates made a b) (replied.AsksDatabase row) none h = absurd h
-  asks_none (EquatesCopy a b) (replied.AsksDatabase row) none h = absurd h
-  asks_none (Raises error) (replied.AsksDatabase row) none h = absurd h
-  asks_none (Calls c) (replied.AsksDatabase row) none h = absurd h
-  asks_none (CallsOnce c) (replied.AsksDatabase row) none h = absurd h
-  asks_none (Refutes c) (replied.AsksDatabase row) none h = absurd h
-  asks_none Repeats (replied.AsksDatabase row) none h = absurd h
-  asks_none (Catches inside catcher recovery) (replied.AsksDatabase row) none h = absurd h
-  asks_none (Gathers template c result) (replied.AsksDatabase row) none h = absurd h
-  asks_none (Halts n) (replied.AsksDatabase row) none h = absurd h
-  asks_none (AsksWorld settles) (replied.AsksDatabase row) none h = absurd (none tt)
-
-  pub halt_asks : (t : Tree) (answer : Replied) → IsReply p q old new (reply built_in.HaltWith t) answer → Asks b answer
-  halt_asks t answer h = asks_none (reply built_in.HaltWith t) answer (none_ended IsAsking (λ e i. i) (λ n i. i) (argument 0 t) (key (codes "halt") 1)) h
-
-  pub findall_asks : (t : Tree) (answer : Replied) → IsReply p q old new (reply built_in.Findall t) answer → Asks b answer
-  findall_asks t answer h = asks_none (reply built_in.Findall t) answer (none_found IsAsking (λ e i. i) (λ n i. i) (argument 0 t) (argument 1 t) (argument 2 t) (key (codes "findall") 3) (λ c i. i)) h
-
-  pub library_asks : (x : Answer) (answer : Replied) → IsReply p q old new (answered x) answer → Asks b answer
-  library_asks x answer h = asks_none (answered x) answer (no_asking_answered x) h
-
 -- what a goal asks is settled by its row
 pub setting_settles : (b : BuiltIn) (t : Tree) (row : Setting) (settles : ℕ → World → Settled) → b ≡ built_in.Setting row → reply b t ≡ AsksWorld settles → settles ≡ (λ n w. setting_settled row t w)
 setting_settles b t row settles own is =
@@ -363,3 +344,31 @@ pub storage_settles : (b : BuiltIn) (t : Tree) (row : Storage) (settles : ℕ �
 storage_settles b t row settles own is =
     let there : AsksWorld (λ n w. storage_settled row t n w) ≡ AsksWorld settles = subst (λ (x : BuiltIn). reply x t ≡ AsksWorld settles) own is in
     cc
+
+-- a goal that writes, or raises its error, did nothing yet
+pub writes_none : {W : Type 0} (p q : Present W) (old new : List (Node W)) (x : Reply) (row : Output) → IsReply p q old new x (replied.Writes row) → (q ≡ p) × (new ≡ old)
+writes_none p q old new (Writes bytes) row h = h
+writes_none p q old new (Raises error) row h = h
+writes_none p q old new Fails row h = absurd h
+writes_none p q old new Succeeds row h = absurd h
+writes_none p q old new (Equates made a b) row h = absurd h
+writes_none p q old new (EquatesCopy a b) row h = absurd h
+writes_none p q old new (Calls b) row h = absurd h
+writes_none p q old new (CallsOnce b) row h = absurd h
+writes_none p q old new (Refutes b) row h = absurd h
+writes_none p q old new Repeats row h = absurd h
+writes_none p q old new (Catches inside catcher recovery) row h = absurd h
+writes_none p q old new (Gathers template b result) row h = absurd h
+writes_none p q old new (Halts n) row h = absurd h
+writes_none p q old new (AsksWorld settles) row h = absurd h
+
+-- what it says is the reply of its row
+pub output_replied : {W : Type 0} (p : Present W) (nodes : List (Node W)) (row : Output) (t : Tree) → IsReply p p nodes nodes (output_reply row t) (replied.Writes row)
+output_replied p nodes PutChar t = by_code (element_code Characters (argument 0 t) put_char_key) where
+  by_code : (code : Result ℕ Tree) → IsReply p p nodes nodes (put_code code) (replied.Writes PutChar)
+  by_code (Ok code) = (refl, refl)
+  by_code (Err error) = (refl, refl)
+output_replied p nodes NewLine t = (refl, refl)
+output_replied p nodes Write t = (refl, refl)
+output_replied p nodes Writeq t = (refl, refl)
+output_replied p nodes WriteCanonical t = (refl, refl)

@@ -1,5 +1,5 @@
 -- What running a goal of a built-in makes of a store and of the nodes, and what comes next.
-use Rattle.std.specs.Prelude.{◌≡◌, ◌+◌, ℕ, List, length, true, nat_lt, if◌then◌else◌}
+use Rattle.std.specs.Prelude.{◌≡◌, ◌+◌, ℕ, List, length, true, nat_lt, if◌then◌else◌, Result, Ok, Err}
 use Rattle.iso_model.specs.Terms.Trees.{Tree, Variable, Name, Apply, arities_fit}
 use Rattle.iso_model.specs.declared.pauses.Ball.{Ball}
 use Rattle.iso_model.specs.Terms.TermOf.{term_of}
@@ -8,12 +8,18 @@ use Rattle.iso_model.specs.Terms.Substitutions.{Subst, apply}
 use Rattle.iso_model.specs.Terms.Copies.{copy_from}
 use Rattle.iso_model.specs.Terms.Unifiers.{Unifier, NeverEqual}
 use Rattle.iso_model.specs.Search.Bodies.{Body, map_body}
-use Rattle.iso_model.specs.Search.BuiltIns.{Reply, Fails, Succeeds, Equates, EquatesCopy, Raises, Calls, CallsOnce, Refutes, Repeats, Catches, Gathers, Halts, AsksWorld, goal_reply}
+use Rattle.iso_model.specs.Search.BuiltIns.{Reply, Fails, Succeeds, Equates, EquatesCopy, Raises, Calls, CallsOnce, Refutes, Repeats, Catches, Gathers, Halts, AsksWorld, Writes, goal_reply}
 use Rattle.iso_model.specs.Search.Errors.{Key, max_arity_error}
 use Rattle.iso_model.specs.declared.built_ins.BuiltIn.{BuiltIn}
 use Rattle.iso_model.specs.declared.built_ins.BuiltIn.TheVariants as built
 use Rattle.iso_store_core.specs.Presents.{Present, Binds, KeepsWords}
+use Rattle.iso_store_core.specs.declared.shapes.StoreFault.{StoreFault}
+use Rattle.iso_store_core.specs.declared.shapes.StoreFault.TheVariants as store_fault
 use Rattle.iso_lib_core.specs.Replies.{IsUnbound, UnifiesCopy}
+use Rattle.iso_lib_core.specs.declared.outcomes.Reply as answered
+use Rattle.iso_lib_core.specs.declared.outcomes.Reply.TheVariants as outcome
+use Rattle.iso_lib_core.specs.declared.outcomes.Fault.{Fault}
+use Rattle.iso_lib_core.specs.declared.outcomes.Fault.TheVariants as fault
 use Rattle.iso_plain_core.specs.declared.bodies.Node.{Node}
 use Rattle.iso_plain_core.specs.declared.goals.Placed.{Placed}
 use Rattle.iso_plain_core.specs.declared.goals.Placed.TheVariants as placed
@@ -109,10 +115,21 @@ IsReply p q old new (Gathers template b result) (replied.Gathers place) = Places
 IsReply p q old new Repeats replied.Repeats = (q ≡ p) × (new ≡ old)
 IsReply p q old new (AsksWorld settles) (replied.AsksSettings row) = (q ≡ p) × (new ≡ old)
 IsReply p q old new (AsksWorld settles) (replied.AsksDatabase row) = (q ≡ p) × (new ≡ old)
+IsReply p q old new (Writes bytes) (replied.Writes row) = (q ≡ p) × (new ≡ old)
+IsReply p q old new (Raises error) (replied.Writes row) = (q ≡ p) × (new ≡ old)
 IsReply p q old new reply answer = ⊥
 
--- Of this built-in: where it asks what outlives a run, it is one of this row.
+-- what a goal comes to that was answered so
+abbrev pub replied_of : Result answered.Reply Fault → Result Replied StoreFault
+replied_of (Ok outcome.Done) = Ok replied.GoesOn
+replied_of (Ok outcome.Fail) = Ok replied.Fails
+replied_of (Err (fault.Raise ball)) = Ok (replied.Raises ball)
+replied_of (Err fault.Full) = Err store_fault.Full
+replied_of (Err fault.NoMemory) = Err store_fault.NoMemory
+
+-- Of this built-in: where it writes, or asks what outlives a run, it is one of this row.
 abbrev pub Asks : BuiltIn → Replied → Type 0
 Asks b (replied.AsksSettings row) = b ≡ built.Setting row
 Asks b (replied.AsksDatabase row) = b ≡ built.Storage row
+Asks b (replied.Writes row) = b ≡ built.Output row
 Asks b answer = Unit {0}

@@ -1,6 +1,7 @@
 //! What goals of the language's own procedures come to (7.8, 8).
 ghost use Rattle.std.specs.Prelude.{◌≡◌, ◌≢◌, ◌<◌, ◌^◌, List, codes, true, IfOk, Err};
 ghost use Rattle.iso_model.specs.Search.Library.{library_answer, library_arity};
+ghost use Rattle.iso_model.specs.Search.AtomTexts.{text_answer, text_arity};
 ghost use Rattle.iso_model.specs.Search.BuiltIns as table;
 ghost use Rattle.iso_model.specs.declared.built_ins.BuiltIn.TheVariants as built_in;
 ghost use Rattle.iso_model.specs.Search.Replies.{answered};
@@ -9,7 +10,7 @@ ghost use Rattle.iso_store_core.specs.Presents.{Holds, meaning, KeepsMarks};
 ghost use Rattle.iso_plain_core.specs.GoalKinds.{IsBuiltIn};
 ghost use Rattle.iso_plain_core.specs.Controls.{AreControls};
 ghost use Rattle.iso_plain_core.specs.Vocabularies.{IsVocabulary};
-ghost use Rattle.iso_plain_core.specs.Replies.{IsReply, IsHalt, Asks};
+ghost use Rattle.iso_plain_core.specs.Replies.{IsReply, IsHalt, Asks, replied_of};
 ghost use Rattle.iso_model.specs.Terms.Trees.{arities_fit};
 ghost use Rattle.iso_model.specs.Terms.TermOf.{term_of};
 ghost use Rattle.iso_model.specs.Terms.Arguments as arguments;
@@ -21,8 +22,9 @@ use super::controls::Controls;
 use super::goals::{Placed, place_argument, place_called};
 use super::vocabulary::Vocabulary;
 use iso_lib::{Fault, Reply, builtin, errors, lists};
-use iso_model::{Ball, BuiltIn, Library, NoMemory, Setting, Storage, Term};
+use iso_model::{Ball, BuiltIn, Library, NoMemory, Output, Setting, Storage, Term, Text};
 use iso_store_core::{Shape, Store, StoreFault};
+use iso_text;
 use std::alloc::Global;
 
 /// What a goal of a built-in comes to.
@@ -52,6 +54,8 @@ pub enum Replied {
     AsksSettings(Setting),
     /// What it comes to rests on the database (8.8, 8.9).
     AsksDatabase(Storage),
+    /// It writes, or an error is raised, and what it writes rests on the operators (8.12.3, 8.14.2).
+    Writes(Output),
 }
 
 /// Runs the goal of this built-in: what it comes to. The errors: the store is full, or memory was refused.
@@ -102,6 +106,8 @@ pub fn reply<S: Store>(
         BuiltIn::Library(row) => library(alloc, store, vocabulary, row, goal),
         BuiltIn::Setting(row) => Ok(Replied::AsksSettings(row)),
         BuiltIn::Storage(row) => Ok(Replied::AsksDatabase(row)),
+        BuiltIn::Text(row) => text(alloc, store, row, goal),
+        BuiltIn::Output(row) => Ok(Replied::Writes(row)),
     }
 }
 
@@ -126,6 +132,7 @@ fn halted<S: Store>(alloc: Global, store: &S, goal: S::Word) -> Result<Replied, 
     requires goal { Holds (S.present store.now) goal }
     requires some { 0 < arguments.arity (meaning (S.present store.now) goal) }
     ensures halts { IfOk result (IsHalt (table.halt_reply (arguments.argument 0 (meaning (S.present store.now) goal)) (key (codes "halt") 1))) }
+    ensures asks { (built_in : BuiltIn) → IfOk result (Asks built_in) }
     ensures full { result ≢ Err StoreFault.Full }
 {
     let argument = store.arg(goal, 0);
@@ -158,6 +165,7 @@ fn findall<S: Store>(
     requires controls { AreControls (S.names store.old) controls.now }
     ensures replies { IfOk result (IsReply (S.present store.old) (S.present store.new) nodes.old.items nodes.new.items
         (table.reply built_in.Findall (meaning (S.present store.old) goal))) }
+    ensures asks { (built_in : BuiltIn) → IfOk result (Asks built_in) }
     ensures nodes { Adds nodes.old.items nodes.new.items }
     ensures full { result ≡ Err StoreFault.Full → S.full store.new }
     ensures names { S.names store.new ≡ S.names store.old }
@@ -189,17 +197,37 @@ fn library<S: Store>(
     requires vocabulary { IsVocabulary (S.names store.old) vocabulary.now }
     ensures replies { (nodes : List (Node S.Word)) → IfOk result (IsReply (S.present store.old) (S.present store.new) nodes nodes
         (answered (library_answer row (meaning (S.present store.old) goal)))) }
+    ensures asks { (built_in : BuiltIn) → IfOk result (Asks built_in) }
     ensures full { result ≡ Err StoreFault.Full → S.full store.new }
     ensures names { KeepsTexts (S.names store.old) (S.names store.new) }
     ensures marks { KeepsMarks (S.stands store.old) (S.stands store.new) }
 {
-    match builtin(alloc, store, &vocabulary.evaluables, row, goal) {
+    answered(builtin(alloc, store, &vocabulary.evaluables, row, goal))
+}
+
+/// What a goal on the characters of atoms or on the text of a number comes to (8.16). The errors: the store is full, or memory was refused.
+fn text<S: Store>(alloc: Global, store: &mut S, row: Text, goal: S::Word) -> Result<Replied, StoreFault>
+    requires goal { Holds (S.present store.old) goal }
+    requires arity { arguments.arity (meaning (S.present store.old) goal) ≡ text_arity row }
+    ensures replies { (nodes : List (Node S.Word)) → IfOk result (IsReply (S.present store.old) (S.present store.new) nodes nodes
+        (answered (text_answer row (meaning (S.present store.old) goal)))) }
+    ensures asks { (built_in : BuiltIn) → IfOk result (Asks built_in) }
+    ensures full { result ≡ Err StoreFault.Full → S.full store.new }
+    ensures names { KeepsTexts (S.names store.old) (S.names store.new) }
+    ensures marks { KeepsMarks (S.stands store.old) (S.stands store.new) }
+{
+    answered(iso_text::builtin(alloc, store, row, goal))
+}
+
+/// What a goal comes to that was answered so. The errors: the store is full, or memory was refused.
+fn answered(answer: Result<Reply, Fault>) -> Result<Replied, StoreFault>
+    ensures { result ≡ replied_of answer }
+{
+    match answer {
         Ok(Reply::Done) => Ok(Replied::GoesOn),
         Ok(Reply::Fail) => Ok(Replied::Fails),
-        Err(fault) => match fault {
-            Fault::Raise(ball) => Ok(Replied::Raises(ball)),
-            Fault::Full => Err(StoreFault::Full),
-            Fault::NoMemory => Err(StoreFault::NoMemory),
-        },
+        Err(Fault::Raise(ball)) => Ok(Replied::Raises(ball)),
+        Err(Fault::Full) => Err(StoreFault::Full),
+        Err(Fault::NoMemory) => Err(StoreFault::NoMemory),
     }
 }

@@ -3,9 +3,8 @@ use Rattle.std.proofs.lemmas.Result.{IfOk-weaker}
 use Rattle.iso_model.specs.Terms.Arguments.{arity}
 use Rattle.iso_store_core.specs.Presents.{meaning}
 use Rattle.iso_plain_core.proofs.ArityLemmas.{built_in_arguments}
-use Rattle.iso_plain_core.proofs.ReplyLemmas.{call_body, call_error, once_body, once_error, not_body, not_error, catch_placed, halt_replied, halt_asks, findall_asks, library_asks}
+use Rattle.iso_plain_core.proofs.ReplyLemmas.{call_body, call_error, once_body, once_error, not_body, not_error, catch_placed, halt_replied, output_replied}
 use Rattle.iso_model.specs.Search.BuiltIns.{reply}
-use Rattle.iso_model.specs.Search.Library.{library_answer}
 use Rattle.iso_model.specs.declared.built_ins.BuiltIn.TheVariants as built_in
 use Rattle.iso_plain_core.proofs.replies.reply.Goals as goal
 
@@ -80,22 +79,24 @@ returns-in-HaltWith-clause-replies g c =
 pub findall-requires-clause-three : goal.findall-requires-clause-three
 findall-requires-clause-three g c = rw c.in-Findall.is at (built_in_arguments (meaning (g.S.Store.present c.args.store.now) c.args.goal) c.args.built_in c.requires.built_in)
 
--- ---- no other goal asks what outlives a run
+pub text-requires-clause-arity : goal.text-requires-clause-arity
+text-requires-clause-arity g c = rw c.in-Text.is at (built_in_arguments (meaning (g.S.Store.present c.args.store.now) c.args.goal) c.args.built_in c.requires.built_in)
+
+pub returns-in-Output-clause-replies : goal.returns-in-Output-clause-replies
+returns-in-Output-clause-replies g c =
+    let p = g.S.Store.present c.args.store.now in
+    rw c.in-Output.is (output_replied p c.args.nodes.now.items c.in-Output.row (meaning p c.args.goal))
+
+-- ---- no other goal writes, or asks what outlives a run
 
 pub returns-in-HaltWith-clause-asks : goal.returns-in-HaltWith-clause-asks
-returns-in-HaltWith-clause-asks g c =
-    let p = g.S.Store.present c.args.store.now in
-    let t = meaning p c.args.goal in
-    let x = reply built_in.HaltWith t in
-    IfOk-weaker c.halted.result _ _ (λ answer h. halt_asks p p c.args.nodes.now.items c.args.nodes.now.items c.args.built_in t answer (halt_replied p c.args.nodes.now.items x answer h)) c.halted.ensures.halts
+returns-in-HaltWith-clause-asks g c = c.halted.ensures.asks c.args.built_in
 
 pub returns-in-Findall-clause-asks : goal.returns-in-Findall-clause-asks
-returns-in-Findall-clause-asks g c =
-    let p = g.S.Store.present c.args.store.now in
-    IfOk-weaker c.findall.result _ _ (λ answer h. findall_asks p (g.S.Store.present c.findall.new.store) c.args.nodes.now.items c.findall.new.nodes.items c.args.built_in (meaning p c.args.goal) answer h) c.findall.ensures.replies
+returns-in-Findall-clause-asks g c = c.findall.ensures.asks c.args.built_in
 
 pub returns-in-Library-clause-asks : goal.returns-in-Library-clause-asks
-returns-in-Library-clause-asks g c =
-    let p = g.S.Store.present c.args.store.now in
-    let x = library_answer c.in-Library.row (meaning p c.args.goal) in
-    IfOk-weaker c.library.result _ _ (λ answer h. library_asks p (g.S.Store.present c.library.new.store) c.args.nodes.now.items c.args.nodes.now.items c.args.built_in x answer h) (c.library.ensures.replies c.args.nodes.now.items)
+returns-in-Library-clause-asks g c = c.library.ensures.asks c.args.built_in
+
+pub returns-in-Text-clause-asks : goal.returns-in-Text-clause-asks
+returns-in-Text-clause-asks g c = c.text.ensures.asks c.args.built_in

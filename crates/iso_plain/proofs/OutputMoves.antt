@@ -1,0 +1,123 @@
+-- Goals that write: their bytes are an event of the search, or it goes on.
+use Rattle.std.proofs.Common.{◌≡◌, ◌≢◌, ℕ, List, [], ◌∷◌, length, Option, Some, None, true, refl, ap, sym, ◌∙◌, arith, Result, Ok, Err, Vec, Global}
+use Rattle.iso_ops.specs.Operators.{Operator}
+use Rattle.iso_model.specs.Terms.Trees.{Tree, arities_fit}
+use Rattle.iso_model.specs.Terms.TermOf.{term_of}
+use Rattle.iso_model.specs.Terms.Arguments.{argument}
+use Rattle.iso_model.specs.Search.AtomTexts.{Characters, element_code}
+use Rattle.iso_model.specs.Search.BuiltIns.{Reply, Raises, Writes}
+use Rattle.iso_model.specs.Search.Outputs.{put_code, put_char_key, output_reply}
+use Rattle.iso_model.specs.Search.Walker.{State, Member, Outcome, Goes, Gives, Wrote, charged, written, replied, step}
+use Rattle.iso_model.specs.Search.Engines.{Midway, IsAwake}
+use Rattle.iso_model.specs.Search.RunLaws.SameRuns.{comes_same}
+use Rattle.iso_model.specs.declared.library.Output.{Output}
+use Rattle.iso_model.specs.declared.library.Output.TheVariants.{PutChar, NewLine, Write, Writeq, WriteCanonical}
+use Rattle.iso_model.specs.declared.pauses.Ball.{Ball}
+use Rattle.iso_model.specs.declared.pauses.Pause.TheVariants as pause
+use Rattle.iso_lib_core.specs.declared.outcomes.Fault.{Fault}
+use Rattle.iso_lib_core.specs.declared.outcomes.Fault.TheVariants as fault
+use Rattle.iso_text.specs.Written.{IsWritten}
+use Rattle.iso_store_core.specs.Presents.{Present, meaning}
+use Rattle.iso_plain_core.specs.declared.parts.Frame.{Frame}
+use Rattle.iso_plain_core.specs.Next.{now_at, now_behind}
+use Rattle.std.specs.List.{slice_get}
+use Rattle.iso_plain.specs.declared.plain.Move.{Move}
+use Rattle.iso_plain.specs.declared.plain.Move.TheVariants as move
+use Rattle.iso_plain.specs.declared.plain.Plain.{Plain}
+use Rattle.iso_plain.specs.Catches.{throwing}
+use Rattle.iso_plain.specs.Outputs.{WritesAt, HasWritten}
+use Rattle.iso_plain.specs.EngineStates.{IsEngine, Represents, StandsFor, Moves, phase_of}
+use Rattle.iso_plain.proofs.AheadLemmas.{engine_place}
+use Rattle.iso_plain.proofs.EngineMoves.{represents_stands}
+use Rattle.iso_plain.proofs.FailLemmas.{awake_behind}
+use Rattle.iso_plain.proofs.SearchMoves.{goes}
+
+-- ---- what goals that write come to
+
+-- the row's bytes by these operators
+pub written_is : (row : Output) (t : Tree) (table : List Operator) (bytes : Vec ℕ Global) → IsWritten (output_reply row t) table (Ok bytes) → (text : List Operator → List ℕ) × (output_reply row t ≡ Writes text) × (bytes.items ≡ text table)
+written_is PutChar t table bytes h = by_code (element_code Characters (argument 0 t) put_char_key) h where
+  by_code : (code : Result ℕ Tree) → IsWritten (put_code code) table (Ok bytes) → (text : List Operator → List ℕ) × (put_code code ≡ Writes text) × (bytes.items ≡ text table)
+  by_code (Ok code) i = (_, refl, i)
+  by_code (Err error) i = absurd i
+written_is NewLine t table bytes h = (_, refl, h)
+written_is Write t table bytes h = (_, refl, h)
+written_is Writeq t table bytes h = (_, refl, h)
+written_is WriteCanonical t table bytes h = (_, refl, h)
+
+-- or its error
+pub raised_is : (row : Output) (t : Tree) (table : List Operator) (ball : Ball) → IsWritten (output_reply row t) table (Err (fault.Raise ball)) → (output_reply row t ≡ Raises (term_of ball.term)) × (arities_fit (term_of ball.term) ≡ true)
+raised_is PutChar t table ball h = by_code (element_code Characters (argument 0 t) put_char_key) h where
+  by_code : (code : Result ℕ Tree) → IsWritten (put_code code) table (Err (fault.Raise ball)) → (put_code code ≡ Raises (term_of ball.term)) × (arities_fit (term_of ball.term) ≡ true)
+  by_code (Ok code) i = absurd i
+  by_code (Err error) i = (ap Raises (sym i.0), i.1)
+raised_is NewLine t table ball h = absurd h
+raised_is Write t table ball h = absurd h
+raised_is Writeq t table ball h = absurd h
+raised_is WriteCanonical t table ball h = absurd h
+
+-- a step that writes, with the steps that are left
+text_steps : (text : List ℕ) (rest : List Member) (n : ℕ) (s : State) → charged n (written text rest s) ≡ written text rest (record s { list = rest; steps = n })
+text_steps [] rest n s = refl
+text_steps (b ∷ bytes) rest n s = refl
+
+pub output_steps : (row : Output) (t : Tree) (rest : List Member) (n : ℕ) (s : State) → charged n (replied (output_reply row t) rest s) ≡ replied (output_reply row t) rest (record s { list = rest; steps = n })
+output_steps PutChar t rest n s = by_code (element_code Characters (argument 0 t) put_char_key) where
+  by_code : (code : Result ℕ Tree) → charged n (replied (put_code code) rest s) ≡ replied (put_code code) rest (record s { list = rest; steps = n })
+  by_code (Ok code) = text_steps _ rest n s
+  by_code (Err error) = refl
+output_steps NewLine t rest n s = refl
+output_steps Write t rest n s = text_steps _ rest n s
+output_steps Writeq t rest n s = text_steps _ rest n s
+output_steps WriteCanonical t rest n s = text_steps _ rest n s
+
+-- no bytes are no event
+written_none : (text : List ℕ) (s : State) → length text ≡ 0 → written text s.list s ≡ Goes s
+written_none [] s h = refl
+written_none (b ∷ bytes) s h = absurd (omega (arith, h))
+
+written_some : (text : List ℕ) (s : State) → length text ≢ 0 → written text s.list s ≡ Gives (Wrote text) s
+written_some [] s h = absurd (h refl)
+written_some (b ∷ bytes) s h = refl
+
+midway_at : (f : Option Frame) → phase_of (now_at f) ≡ Midway
+midway_at None = refl
+midway_at (Some f) = refl
+
+midway_behind : (frames : List Frame) (place : Option ℕ) → phase_of (now_behind frames place) ≡ Midway
+midway_behind frames None = refl
+midway_behind frames (Some i) = midway_at (slice_get frames i)
+
+module _ {S W M : Type 0} (names : S → List (List ℕ)) (present : S → Present W) (stands : S → M → Present W → Type 0) (older : M → M → Type 0) where
+  -- ---- the engine's move
+
+  module _ (e : Plain S W M) (row : Output) (goal : W) (s : State) (place : Option ℕ) (h : WritesAt names present stands older e row goal s place) where
+    abbrev t : Tree
+    t = meaning (present e.store) goal
+
+    outcome : (bytes : Vec ℕ Global) → IsWritten (output_reply row t) e.ops (Ok bytes) → replied (output_reply row t) s.list s ≡ written bytes.items s.list s
+    outcome bytes is =
+        let text = written_is row t e.ops bytes is in
+        ap (λ (x : Reply). replied x s.list s) text.1 ∙ ap (λ (x : List ℕ). written x s.list s) (ap text.0 (sym h.ahead.world.operators_are) ∙ sym text.2)
+
+    pub wrote_none : (bytes : Vec ℕ Global) → IsWritten (output_reply row t) e.ops (Ok bytes) → length bytes.items ≡ 0
+        → HasWritten names present stands older move.Goes (record e { now = now_behind e.frames.items place }) (replied (output_reply row t) s.list s)
+    wrote_none bytes is none = (s, outcome bytes is ∙ written_none bytes.items s none, engine_place names present stands older e s place h.ahead, awake_behind e.frames.items place)
+
+    pub wrote_some : (bytes : Vec ℕ Global) → IsWritten (output_reply row t) e.ops (Ok bytes) → length bytes.items ≢ 0
+        → HasWritten names present stands older (move.Pauses (pause.Output bytes)) (record e { now = now_behind e.frames.items place }) (replied (output_reply row t) s.list s)
+    wrote_some bytes is some = (bytes, s, refl, outcome bytes is ∙ written_some bytes.items s some, engine_place names present stands older e s place h.ahead, midway_behind e.frames.items place)
+
+    pub raised_now : (new : Plain S W M) (ball : Ball) → IsWritten (output_reply row t) e.ops (Err (fault.Raise ball)) → IsEngine names present stands older new (throwing (term_of ball.term) s) → IsAwake (phase_of new.now)
+        → HasWritten names present stands older move.Goes new (replied (output_reply row t) s.list s)
+    raised_now new ball is engine awake = (throwing (term_of ball.term) s, ap (λ (x : Reply). replied x s.list s) (raised_is row t e.ops ball is).0, engine, awake)
+
+  -- what was written is the walker's event
+  pub wrote : (e new : Plain S W M) (s : State) (r : Represents names present stands older e s) (m : Move) (o : Outcome) → step r.own ≡ o → HasWritten names present stands older m new o → Moves names present stands older m s new
+  wrote e new s r move.Goes o h was = goes names present stands older e new s r was.0 (h ∙ was.1) was.2 was.3
+  wrote e new s r (move.Pauses p) o h was =
+      rw was.2 (
+        comes_same r.own was.1 s (Wrote (was.0).items) (StandsFor names present stands older new) (h ∙ was.3)
+        (λ v k. represents_stands names present stands older new.now new v (record { own = was.1; engine = was.4; same = k })) r.same,
+        was.5,
+      )
