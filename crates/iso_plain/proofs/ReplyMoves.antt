@@ -387,6 +387,7 @@ module _ {S W M : Type 0} (names : S → List (List ℕ)) (present : S → Prese
     goes_on (Halts status) is x10 = elim x10 [ ]
     goes_on (Gathers template goal result) is x11 = elim x11 [ ]
     goes_on (AsksWorld settles) is x12 = elim x12 [ ]
+    goes_on (Writes bytes) is x13 = elim x13 [ ]
 
     -- ---- it failed
 
@@ -416,6 +417,7 @@ module _ {S W M : Type 0} (names : S → List (List ℕ)) (present : S → Prese
     fails_now (Halts status) is x10 = elim x10 [ ]
     fails_now (Gathers template goal result) is x11 = elim x11 [ ]
     fails_now (AsksWorld settles) is x12 = elim x12 [ ]
+    fails_now (Writes bytes) is x14 = elim x14 [ ]
 
     -- ---- a ball is thrown
 

@@ -6,6 +6,7 @@ use Rattle.iso_store_core.specs.Presents.{meaning}
 use Rattle.iso_plain_core.specs.declared.goals.Placed.TheVariants as placed
 use Rattle.iso_plain.specs.EngineStates.{Falls, cost, weight, phase_of}
 use Rattle.iso_plain_core.proofs.EnteringLemmas.{adds_none}
+use Rattle.iso_plain_core.proofs.ReplyLemmas.{writes_none}
 use Rattle.iso_plain.proofs.LimitLemmas.{result_full, stays_behind}
 use Rattle.iso_plain.proofs.WorldLemmas.{world_on}
 use Rattle.iso_plain_core.proofs.StandingLemmas.{chain_place}
@@ -14,7 +15,7 @@ use Rattle.iso_plain.proofs.StoppedLemmas.{base_kept, keeps_all, keeps_more}
 use Rattle.iso_plain.proofs.SearchMoves.{stops_here}
 use Rattle.iso_plain.proofs.RunMoves.{at, if_ok_map}
 use Rattle.iso_plain.proofs.RunCosts.{behind_less, step_weight, goes_falls, fails_falls, throws_falls, calls_falls}
-use Rattle.iso_plain.proofs.ReplyMoves.{went_on, failed_on, raised_by, calls_by, once_by, refutes_by, repeats_by, catches_by, halts_by, gathers_by, asks_by, asking, asks_at, settles_now, settle_stops, settle_over, stores_by, storing, stores_at, stores_now, store_stops, store_over, inside_calls, inside_raises, places_unbound, goes_on, fails_now, unbound_ahead, raises_now, halts_now, after, enters_catch, calls_inside_now, call_inside_stops, call_inside_over, throws_inside_now, throw_inside_stops, throw_inside_over, called, called_ahead, calls_now, once_now, once_stops, refutes_now, refute_stops, refute_over, repeating, repeating_ahead, repeats_now, repeat_stops, repeat_over, behind_findall, enters_findall, finds_now, find_stops, find_over}
+use Rattle.iso_plain.proofs.ReplyMoves.{went_on, failed_on, raised_by, calls_by, once_by, refutes_by, repeats_by, catches_by, halts_by, gathers_by, asks_by, asking, asks_at, settles_now, settle_stops, settle_over, stores_by, storing, stores_at, stores_now, store_stops, store_over, writing, writes_at, writes_now, write_stops, inside_calls, inside_raises, places_unbound, goes_on, fails_now, unbound_ahead, raises_now, halts_now, after, enters_catch, calls_inside_now, call_inside_stops, call_inside_over, throws_inside_now, throw_inside_stops, throw_inside_over, called, called_ahead, calls_now, once_now, once_stops, refutes_now, refute_stops, refute_over, repeating, repeating_ahead, repeats_now, repeat_stops, repeat_over, behind_findall, enters_findall, finds_now, find_stops, find_over}
 use Rattle.iso_plain.proofs.plain.Plain.run_built_in.Goals as goal
 
 pub reply-requires-clause-goal : goal.reply-requires-clause-goal
@@ -333,6 +334,36 @@ returns-in-AsksDatabase-clause-frames g c = λ s r.
 
 pub returns-in-AsksDatabase-clause-stays : goal.returns-in-AsksDatabase-clause-stays
 returns-in-AsksDatabase-clause-stays g c = stays_behind g.S.Store.names c.reply.new.store c.reply.new.nodes (c.args.self.now.steps - 1) c.in_ok-replied.ensures.names c.store_goal.ensures.stays
+
+-- ---- it writes
+
+pub write_goal-requires : goal.write_goal-requires
+write_goal-requires g c =
+    let by = (writes_none (g.S.Store.present c.args.self.now.store) (g.S.Store.present c.reply.new.store) c.args.self.now.nodes.items c.reply.new.nodes.items (reply c.args.built_in (meaning (g.S.Store.present c.args.self.now.store) c.args.goal)) c.in-Writes.row (rw c.in-Writes.is at c.in_ok-replied.ensures.replies)).0 in
+    let own = rw c.in-Writes.is at c.in_ok-replied.ensures.asks in
+    (writing g.S.Store.names g.S.Store.present g.S.Store.stands g.S.Store.older c.args.self.now c.reply.new.store c.reply.new.nodes c.requires.stands.0 c.args.frame c.args.place c.args.goal c.requires.now c.requires.there c.requires.stands.1 c.requires.steps c.args.built_in c.requires.built_in c.in_ok-replied.ensures.marks c.in_ok-replied.ensures.names c.in_ok-replied.ensures.nodes c.in-Writes.row own by, writes_at g.S.Store.names g.S.Store.present g.S.Store.stands g.S.Store.older c.args.self.now c.reply.new.store c.reply.new.nodes c.requires.stands.0 c.args.frame c.args.place c.args.goal c.requires.now c.requires.there c.requires.stands.1 c.requires.steps c.args.built_in c.requires.built_in c.in_ok-replied.ensures.marks c.in_ok-replied.ensures.names c.in_ok-replied.ensures.nodes c.in-Writes.row own by)
+
+pub returns-in-Writes-clause-moves : goal.returns-in-Writes-clause-moves
+returns-in-Writes-clause-moves g c = λ s r.
+    (let by = (writes_none (g.S.Store.present c.args.self.now.store) (g.S.Store.present c.reply.new.store) c.args.self.now.nodes.items c.reply.new.nodes.items (reply c.args.built_in (meaning (g.S.Store.present c.args.self.now.store) c.args.goal)) c.in-Writes.row (rw c.in-Writes.is at c.in_ok-replied.ensures.replies)).0 in
+    let own = rw c.in-Writes.is at c.in_ok-replied.ensures.asks in
+    if_ok_map _ _ c.write_goal.result (writes_now g.S.Store.names g.S.Store.present g.S.Store.stands g.S.Store.older c.args.self.now c.reply.new.store c.reply.new.nodes s c.args.frame c.args.place c.args.goal c.requires.now c.requires.there r c.requires.steps c.args.built_in c.requires.built_in c.in_ok-replied.ensures.marks c.in_ok-replied.ensures.names c.in_ok-replied.ensures.nodes c.in-Writes.row own by c.write_goal.new.self) (c.write_goal.ensures.written (writing g.S.Store.names g.S.Store.present g.S.Store.stands g.S.Store.older c.args.self.now c.reply.new.store c.reply.new.nodes s c.args.frame c.args.place c.args.goal c.requires.now c.requires.there r c.requires.steps c.args.built_in c.requires.built_in c.in_ok-replied.ensures.marks c.in_ok-replied.ensures.names c.in_ok-replied.ensures.nodes c.in-Writes.row own by) (writes_at g.S.Store.names g.S.Store.present g.S.Store.stands g.S.Store.older c.args.self.now c.reply.new.store c.reply.new.nodes s c.args.frame c.args.place c.args.goal c.requires.now c.requires.there r c.requires.steps c.args.built_in c.requires.built_in c.in_ok-replied.ensures.marks c.in_ok-replied.ensures.names c.in_ok-replied.ensures.nodes c.in-Writes.row own by)))
+
+pub returns-in-Writes-clause-stopped : goal.returns-in-Writes-clause-stopped
+returns-in-Writes-clause-stopped g c = λ s r.
+    (let by = (writes_none (g.S.Store.present c.args.self.now.store) (g.S.Store.present c.reply.new.store) c.args.self.now.nodes.items c.reply.new.nodes.items (reply c.args.built_in (meaning (g.S.Store.present c.args.self.now.store) c.args.goal)) c.in-Writes.row (rw c.in-Writes.is at c.in_ok-replied.ensures.replies)).0 in
+    let own = rw c.in-Writes.is at c.in_ok-replied.ensures.asks in
+    on_err_weaker c.write_goal.result (write_stops g.S.Store.names g.S.Store.present g.S.Store.stands g.S.Store.older c.args.self.now c.reply.new.store c.reply.new.nodes s c.args.frame c.args.place c.args.goal c.requires.now c.requires.there r c.requires.steps c.args.built_in c.requires.built_in c.in_ok-replied.ensures.marks c.in_ok-replied.ensures.names c.in_ok-replied.ensures.nodes c.in-Writes.row own by c.write_goal.new.self) (c.write_goal.ensures.kept (writing g.S.Store.names g.S.Store.present g.S.Store.stands g.S.Store.older c.args.self.now c.reply.new.store c.reply.new.nodes s c.args.frame c.args.place c.args.goal c.requires.now c.requires.there r c.requires.steps c.args.built_in c.requires.built_in c.in_ok-replied.ensures.marks c.in_ok-replied.ensures.names c.in_ok-replied.ensures.nodes c.in-Writes.row own by) (writes_at g.S.Store.names g.S.Store.present g.S.Store.stands g.S.Store.older c.args.self.now c.reply.new.store c.reply.new.nodes s c.args.frame c.args.place c.args.goal c.requires.now c.requires.there r c.requires.steps c.args.built_in c.requires.built_in c.in_ok-replied.ensures.marks c.in_ok-replied.ensures.names c.in_ok-replied.ensures.nodes c.in-Writes.row own by)))
+
+pub returns-in-Writes-clause-falls : goal.returns-in-Writes-clause-falls
+returns-in-Writes-clause-falls g c =
+    if_ok_map _ _ c.write_goal.result (λ m. subst (λ x. Falls m x (weight c.write_goal.new.self)) (step_weight g.S.Store.names g.S.Store.present g.S.Store.stands g.S.Store.older c.args.self.now c.requires.stands.0 c.args.frame c.args.place c.requires.now c.requires.there.asks c.requires.stands.1 c.requires.steps)) (c.write_goal.ensures.falls (cost c.args.self.now) (behind_less g.S.Store.names g.S.Store.present g.S.Store.stands g.S.Store.older c.args.self.now c.requires.stands.0 c.args.frame c.args.place c.requires.now c.requires.there.asks c.requires.stands.1 c.requires.steps))
+
+pub returns-in-Writes-clause-frames : goal.returns-in-Writes-clause-frames
+returns-in-Writes-clause-frames g c = λ s r. result_full c.write_goal.result (λ h. absurd h) c.write_goal.ensures.frames
+
+pub returns-in-Writes-clause-stays : goal.returns-in-Writes-clause-stays
+returns-in-Writes-clause-stays g c = stays_behind g.S.Store.names c.reply.new.store c.reply.new.nodes (c.args.self.now.steps - 1) c.in_ok-replied.ensures.names c.write_goal.ensures.stays
 
 -- ---- the search is ended
 

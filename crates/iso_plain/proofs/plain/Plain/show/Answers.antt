@@ -1,4 +1,5 @@
-use Rattle.std.proofs.Common.{◌≡◌, ◌∙◌, [], ap, subst, Ok}
+use Rattle.std.proofs.Common.{◌≡◌, ◌∙◌, [], ap, refl, subst, Ok}
+use Rattle.iso_model.specs.Terms.Variables.{variables}
 use Rattle.iso_model.specs.Search.Walker.{State, World, with_rights}
 use Rattle.iso_plain_core.specs.Costs.{rest_cost, frame_costs, choices_cost}
 use Rattle.iso_plain.specs.EngineStates.{IsEngine, Keeps, cost}
@@ -11,6 +12,10 @@ use Rattle.iso_plain.proofs.WeightLemmas.{call_costs, falls_called}
 use Rattle.iso_plain.proofs.plain.Plain.show.Goals as goal
 
 -- ---- no choice was made
+
+pub returns-in-Ok-false-clause-called : goal.returns-in-Ok-false-clause-called
+returns-in-Ok-false-clause-called g c = λ s k x xs t.
+    (refl, refl, rw (c.push_shown.ensures.refused (c.in-Ok-false.is ∙ ap Ok c.in-Ok-false.field-0-test)) (t.ahead.world, t.ahead.base, (variables s.query, t.ahead.choices)))
 
 pub returns-in-Ok-false-clause-frames : goal.returns-in-Ok-false-clause-frames
 returns-in-Ok-false-clause-frames g c = λ s k x xs t. c.push_shown.ensures.over s k x xs t (c.in-Ok-false.is ∙ ap Ok c.in-Ok-false.field-0-test)

@@ -9,6 +9,7 @@ use Rattle.iso_plain_core.proofs.ProgramLemmas.{place_within}
 use Rattle.iso_plain_core.proofs.ResultLemmas.{behind_error}
 use Rattle.iso_plain_core.proofs.StandingLemmas.{chain_place}
 use Rattle.iso_plain.specs.Shows.{HasUnified, IsUserPlace, shown_row}
+use Rattle.iso_plain.proofs.FailLemmas.{awake_behind}
 use Rattle.iso_plain.proofs.TakeMoves.{left_number, there_at, take_absent, take_gone, take_missed, take_found}
 use Rattle.iso_plain.proofs.plain.Plain.take_clause.Goals as goal
 
@@ -57,6 +58,9 @@ returns-then-branch-clause-tried g c = λ s k x xs t.
     rw (c.at-self.ensures, c.as_slice.ensures.value)
     (take_found g.S.Store.names g.S.Store.present g.S.Store.stands g.S.Store.older e c.remove_from.new.self c.in-Some.place c.args.shown.clause c.remove_from.ensures.contents c.remove_from.ensures.views c.remove_from.ensures.clauses
     row c.args.shown s k x (left_number t.clauses) at c.requires.removes there h))
+
+pub returns-then-branch-clause-awake : goal.returns-then-branch-clause-awake
+returns-then-branch-clause-awake g c = rw c.at-self.ensures (awake_behind _ c.args.shown.rest)
 
 pub returns-then-branch-clause-cost : goal.returns-then-branch-clause-cost
 returns-then-branch-clause-cost g c =
