@@ -18,11 +18,11 @@ fn read_table(rt: &HostRuntime, path: &str) -> Result<Table> {
 /// Runs the sessions of the file, says how many they are, and gives how many were wrong.
 fn run_file(rt: &HostRuntime, path: &str) -> Result<u64> {
     let table = read_table(rt, path).context(path)?;
-    let mut wrong = 0;
+    let mut wrong: u64 = 0;
     for session in &table.session {
         for fault in runs::faults(rt.alloc(), &table, session)? {
             println!(rt; "{path}: {}: {fault}", session.name)?;
-            wrong += 1;
+            wrong = wrong.saturating_add(1);
         }
     }
     println!(rt; "{path}: {} sessions", table.session.len())?;
@@ -30,9 +30,9 @@ fn run_file(rt: &HostRuntime, path: &str) -> Result<u64> {
 }
 
 fn main(rt: HostRuntime) -> Result<()> {
-    let mut wrong = 0;
+    let mut wrong: u64 = 0;
     for path in env::args(&rt)?.skip(1) {
-        wrong += run_file(&rt, path.as_str())?;
+        wrong = wrong.saturating_add(run_file(&rt, path.as_str())?);
     }
     if wrong > 0 {
         bail!("{wrong} sessions did not give what they must");
