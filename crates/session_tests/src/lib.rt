@@ -17,10 +17,6 @@ mod sessions;
 #[cfg(test)]
 mod small_cells;
 #[cfg(test)]
-mod term_texts;
-#[cfg(test)]
 mod words;
 #[cfg(test)]
 mod writers;
-#[cfg(test)]
-mod written_terms;
