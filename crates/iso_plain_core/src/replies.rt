@@ -206,7 +206,12 @@ fn library<S: Store>(
 }
 
 /// What a goal on the characters of atoms or on the text of a number comes to (8.16). The errors: the store is full, or memory was refused.
-fn text<S: Store>(alloc: Global, store: &mut S, row: Text, goal: S::Word) -> Result<Replied, StoreFault>
+fn text<S: Store>(
+    alloc: Global,
+    store: &mut S,
+    row: Text,
+    goal: S::Word,
+) -> Result<Replied, StoreFault>
     requires goal { Holds (S.present store.old) goal }
     requires arity { arguments.arity (meaning (S.present store.old) goal) ≡ text_arity row }
     ensures replies { (nodes : List (Node S.Word)) → IfOk result (IsReply (S.present store.old) (S.present store.new) nodes nodes
