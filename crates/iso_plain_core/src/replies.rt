@@ -24,7 +24,6 @@ use super::vocabulary::Vocabulary;
 use iso_lib::{Fault, Reply, builtin, errors, lists};
 use iso_model::{Ball, BuiltIn, Library, NoMemory, Output, Setting, Storage, Term, Text};
 use iso_store_core::{Shape, Store, StoreFault};
-use iso_text;
 use std::alloc::Global;
 
 /// What a goal of a built-in comes to.
