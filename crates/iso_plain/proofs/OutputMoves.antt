@@ -14,7 +14,6 @@ use Rattle.iso_model.specs.declared.library.Output.{Output}
 use Rattle.iso_model.specs.declared.library.Output.TheVariants.{PutChar, NewLine, Write, Writeq, WriteCanonical}
 use Rattle.iso_model.specs.declared.pauses.Ball.{Ball}
 use Rattle.iso_model.specs.declared.pauses.Pause.TheVariants as pause
-use Rattle.iso_lib_core.specs.declared.outcomes.Fault.{Fault}
 use Rattle.iso_lib_core.specs.declared.outcomes.Fault.TheVariants as fault
 use Rattle.iso_text.specs.Written.{IsWritten}
 use Rattle.iso_store_core.specs.Presents.{Present, meaning}
@@ -118,6 +117,6 @@ module _ {S W M : Type 0} (names : S → List (List ℕ)) (present : S → Prese
   wrote e new s r (move.Pauses p) o h was =
       rw was.2 (
         comes_same r.own was.1 s (Wrote (was.0).items) (StandsFor names present stands older new) (h ∙ was.3)
-        (λ v k. represents_stands names present stands older new.now new v (record { own = was.1; engine = was.4; same = k })) r.same,
+            (λ v k. represents_stands names present stands older new.now new v (record { own = was.1; engine = was.4; same = k })) r.same,
         was.5,
       )

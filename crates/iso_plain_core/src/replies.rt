@@ -24,7 +24,6 @@ use super::vocabulary::Vocabulary;
 use iso_lib::{Fault, Reply, builtin, errors, lists};
 use iso_model::{Ball, BuiltIn, Library, NoMemory, Output, Setting, Storage, Term, Text};
 use iso_store_core::{Shape, Store, StoreFault};
-use iso_text;
 use std::alloc::Global;
 
 /// What a goal of a built-in comes to.
@@ -206,7 +205,12 @@ fn library<S: Store>(
 }
 
 /// What a goal on the characters of atoms or on the text of a number comes to (8.16). The errors: the store is full, or memory was refused.
-fn text<S: Store>(alloc: Global, store: &mut S, row: Text, goal: S::Word) -> Result<Replied, StoreFault>
+fn text<S: Store>(
+    alloc: Global,
+    store: &mut S,
+    row: Text,
+    goal: S::Word,
+) -> Result<Replied, StoreFault>
     requires goal { Holds (S.present store.old) goal }
     requires arity { arguments.arity (meaning (S.present store.old) goal) ≡ text_arity row }
     ensures replies { (nodes : List (Node S.Word)) → IfOk result (IsReply (S.present store.old) (S.present store.new) nodes nodes

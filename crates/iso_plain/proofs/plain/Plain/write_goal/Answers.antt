@@ -1,4 +1,4 @@
-use Rattle.std.proofs.Common.{◌<◌, ◌≤◌, ℕ, suc, subst, sym, arith, rules}
+use Rattle.std.proofs.Common.{◌<◌, ℕ, suc, subst, sym, arith, rules}
 use Rattle.iso_plain_core.specs.Costs.{rest_cost, frame_costs, choices_cost, whole_cost}
 use Rattle.iso_plain_core.specs.declared.parts.Now.TheVariants as now
 use Rattle.iso_plain_core.proofs.CostLemmas.{behind_cost, whole_paid}
