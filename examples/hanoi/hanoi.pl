@@ -8,7 +8,7 @@ hanoi(0, _, _, _) :- ! .
 hanoi(N, From, To, Over) :-
     M is N - 1,
     hanoi(M, From, Over, To),
-    writeq(From -> To), nl,
+    writeq((From -> To)), nl,
     hanoi(M, Over, To, From).
 
 % How many moves that takes.
