@@ -5,7 +5,8 @@ use Rattle.std.specs.Result.{result_ok}
 use Rattle.std.proofs.lemmas.Bool.{cases_Bool}
 use Rattle.iso_model.specs.Search.Databases as databases
 use Rattle.iso_model.specs.Search.Databases.{Key, key, Procedures, Static, Dynamic, same_key, kind_at, is_static}
-use Rattle.iso_model.specs.Search.BuiltIns.{built_in, is_built_in}
+use Rattle.iso_model.specs.Search.BuiltIns.{built_in, is_some_built_in, is_control, is_built_in}
+use Rattle.iso_model.specs.declared.built_ins.BuiltIn.{BuiltIn}
 use Rattle.iso_model.specs.Search.Storages.{is_fixed, clauses_of}
 use Rattle.iso_db.specs.Databases as db
 use Rattle.iso_db.specs.Databases.{Database, is_not_static}
@@ -21,7 +22,7 @@ use Rattle.iso_plain_core.specs.declared.clauses.Clause.{Clause}
 use Rattle.iso_plain_core.specs.Adding.{IsFound}
 use Rattle.iso_plain_core.specs.Callables.{callee_at}
 use Rattle.iso_plain_core.specs.Programs.{AreClauses, no_clauses, IsKind, IsProcedure, IsDatabase, procedure_with, place_at, kept_at, kind_of}
-use Rattle.iso_plain_core.proofs.AddingLemmas.{user_alone, called_own, found_callee, found_place, found_absent}
+use Rattle.iso_plain_core.proofs.AddingLemmas.{user_alone, called_user, called_own, called_none, found_callee, found_place, found_nothing, found_absent}
 use Rattle.iso_plain_core.proofs.ProgramLemmas.{place_within, kept_there, kind_there}
 use Rattle.iso_plain_core.proofs.ProcedureLemmas.{clauses_with, kinds_with}
 use Rattle.iso_lib.specs.declared.indicators.Functor.{Functor}
@@ -69,6 +70,10 @@ or_false : (a b : Bool) → a || b ≡ false → a ≡ false
 or_false false b h = refl
 or_false true b h = absurd (cc h)
 
+or_true : (a : Bool) → a || true ≡ true
+or_true false = refl
+or_true true = refl
+
 pub free_user : (ps : Procedures) (k : Key) → is_fixed ps k ≡ false → is_built_in k ≡ false
 free_user ps k h = or_false (is_built_in k) (is_static (kind_at ps k)) h
 
@@ -101,14 +106,41 @@ module _ (names : List (List ℕ)) (d : Database Clause) (rows : List (Vec Calla
     by_callee (Some (callee.BuiltIn b)) at h = absurd (let own = called_own d of_name b (found_callee names f text d rows by_atom (callee.BuiltIn b) at) in let e : None ≡ Some b = sym alone ∙ own in cc e)
     by_callee (Some (callee.User j)) at h = absurd (cc h)
 
-  -- whether it may be read or changed
-  pub fixed_there : (i : ℕ) → user_place (callee_at rows f.name f.arity) ≡ Some i → is_built_in of_name ≡ false → not (is_not_static (db.kind_at d i)) ≡ is_fixed m.procedures of_name
-  fixed_there i h free =
-      sym (ap (λ b. b || is_static (kind_at m.procedures of_name)) free ∙ kept_kind d m of_name is.database (db.kind_at d i) (sym (kind_there d of_name i (user_there i h))))
+  -- where nothing is called there is no built-in
+  found_alone : callee_at rows f.name f.arity ≡ None → built_in of_name ≡ None
+  found_alone at =
+      let none = found_nothing names f text d rows by_atom at in
+      elim (is.found.agrees of_name) [
+        | inl same ↦ (called_none d of_name (sym same ∙ none)).0
+        | inr absent ↦ absent.1
+      ]
 
-  pub fixed_none : user_place (callee_at rows f.name f.arity) ≡ None → is_built_in of_name ≡ false → false ≡ is_fixed m.procedures of_name
-  fixed_none h free =
-      sym (ap (λ b. b || is_static (kind_at m.procedures of_name)) free ∙ kept_kind d m of_name is.database None (user_absent h (user_alone of_name free)))
+  -- whether it may be read or changed: a control construct or a built-in may not
+  pub fixed_control : is_control of_name ≡ true → true ≡ is_fixed m.procedures of_name
+  fixed_control on = sym (ap (λ b. (b || is_some_built_in (built_in of_name)) || is_static (kind_at m.procedures of_name)) on)
+
+  pub fixed_own : (b : BuiltIn) → callee_at rows f.name f.arity ≡ Some (callee.BuiltIn b) → true ≡ is_fixed m.procedures of_name
+  fixed_own b at =
+      let own = called_own d of_name b (found_callee names f text d rows by_atom (callee.BuiltIn b) at) in
+      sym (ap (λ o. (is_control of_name || is_some_built_in o) || is_static (kind_at m.procedures of_name)) own ∙ ap (λ x. x || is_static (kind_at m.procedures of_name)) (or_true (is_control of_name)))
+
+  -- neither a control construct nor a built-in
+  free_here : is_control of_name ≡ false → built_in of_name ≡ None → is_built_in of_name ≡ false
+  free_here off none = ap (λ o. is_control of_name || is_some_built_in o) none ∙ ap (λ b. b || false) off
+
+  pub fixed_there : (i : ℕ) → callee_at rows f.name f.arity ≡ Some (callee.User i) → is_control of_name ≡ false → not (is_not_static (db.kind_at d i)) ≡ is_fixed m.procedures of_name
+  fixed_there i at off =
+      let user = called_user d of_name i (found_callee names f text d rows by_atom (callee.User i) at) in
+      let free = free_here off user.0 in
+      sym (ap (λ b. b || is_static (kind_at m.procedures of_name)) free ∙ kept_kind d m of_name is.database (db.kind_at d i) (sym (kind_there d of_name i user.1)))
+
+  pub place_there : (i : ℕ) → callee_at rows f.name f.arity ≡ Some (callee.User i) → i < length d.procedures
+  place_there i at = place_within d of_name i (found_place names f text d rows by_atom i at)
+
+  pub fixed_none : callee_at rows f.name f.arity ≡ None → is_control of_name ≡ false → false ≡ is_fixed m.procedures of_name
+  fixed_none at off =
+      let free = free_here off (found_alone at) in
+      sym (ap (λ b. b || is_static (kind_at m.procedures of_name)) free ∙ kept_kind d m of_name is.database None (found_absent names f text d rows by_atom at))
 
   -- its clauses
   pub clauses_there : (i : ℕ) → user_place (callee_at rows f.name f.arity) ≡ Some i → AreClauses names (db.clauses_at d i) (clauses_of m.procedures of_name)

@@ -15,7 +15,7 @@ ghost use Rattle.iso_storage.specs.Storing.{IsProgram, HasHead, IsNamed, AreOf, 
 use iso_db::{Db, Kind, View};
 use iso_lib::indicators::Functor;
 use iso_lib::{Fault, errors};
-use iso_model::{Term, is_built_in};
+use iso_model::{Term, is_control};
 use iso_plain_core::callables::{self, Callable, Callee};
 use iso_plain_core::clauses::Clause;
 use iso_store_core::{Shape, Store};
@@ -74,11 +74,12 @@ pub(crate) fn is_fixed(
     ensures { (names : List (List ℕ)) (m : databases.Database) → IsProgram names (contents db.now) callables.now m → IsNamed names functor text.now
         → result ≡ table.is_fixed m.procedures (key text.now functor.arity) }
 {
-    if is_built_in(text, functor.arity) {
+    if is_control(text, functor.arity) {
         return true;
     }
-    match place_of(callables, functor) {
-        Some(place) => is_static(db.kind(place)),
+    match callables::find(callables, functor.name, functor.arity) {
+        Some(Callee::BuiltIn(_)) => true,
+        Some(Callee::User(place)) => is_static(db.kind(place)),
         None => false,
     }
 }
