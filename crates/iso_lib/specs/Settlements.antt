@@ -7,7 +7,7 @@ use Rattle.iso_ops.specs.Operators.{Operator}
 use Rattle.iso_ops.specs.declared.settings.Flags.{Flags}
 use Rattle.iso_model.specs.Terms.Trees.{Tree, Integer, Name, row}
 use Rattle.iso_model.specs.Terms.Arguments.{argument}
-use Rattle.iso_model.specs.Search.Settings.{Settled, Refuses, Changes, Offers, constant_offer, setting_arity}
+use Rattle.iso_model.specs.Search.Settings.{Settled, Changes, Offers, constant_offer, setting_arity}
 use Rattle.iso_model.specs.Search.Worlds.{World}
 use Rattle.iso_model.specs.declared.library.Setting.{Setting}
 use Rattle.iso_model.specs.declared.pauses.Ball.{Ball}
@@ -19,6 +19,7 @@ use Rattle.iso_lib.specs.declared.settings.Offer.{Offer}
 use Rattle.iso_lib.specs.declared.settings.Settled.{Settled as Came}
 use Rattle.iso_lib.specs.declared.settings.Settled.TheVariants as came
 use Rattle.iso_lib_core.specs.Replies.{IsError}
+pub use Rattle.iso_lib_core.specs.Checks.{IsRefused, PassesTo}
 
 -- the term that a constant is
 abbrev pub constant_tree : Constant → Tree
@@ -42,11 +43,6 @@ goal_row setting t = row (arguments_from 0 (setting_arity setting) t)
 abbrev pub with_settings : World → List Operator → Flags → World
 with_settings w ops flags = record w { operators = ops; flags = flags }
 
--- the ball is the error that is thrown
-abbrev pub IsRefused : Settled → Ball → Type 0
-IsRefused (Refuses error) ball = IsError error ball
-IsRefused settled ball = ⊥
-
 -- In the world w the goal of this row, the term t, comes to what is settled: these are the operators and flags behind it.
 abbrev pub IsSettled : World → List Operator → Flags → Setting → Tree → Settled → Result Came Fault → Type 0
 IsSettled w ops flags setting t settled (Ok came.Done) = settled ≡ Changes 0 (with_settings w ops flags)
@@ -64,13 +60,6 @@ OnOffers result holds = Unit {0}
 abbrev pub OffersEach : ℕ → Result Came Fault → Type 0
 OffersEach n (Ok (came.Offers offers)) = All (λ offer. length offer.constants.items ≡ n) offers.items
 OffersEach n result = Unit {0}
-
--- What is checked goes on with what was found, or its error is thrown.
-abbrev pub PassesTo : {A I : Type 0} → (I → Settled) → (A → I → Settled) → Result A Fault → Type 0
-PassesTo {I = I} checked next (Ok a) = (i : I) → checked i ≡ next a i
-PassesTo {I = I} checked next (Err (fault.Raise ball)) = (i : I) → IsRefused (checked i) ball
-PassesTo checked next (Err fault.Full) = ⊥
-PassesTo checked next (Err fault.NoMemory) = Unit {0}
 
 -- These are the operators once names are set, or this error is thrown.
 abbrev pub AreSet : Result (List Operator) Tree → List Operator → Result Unit Fault → Type 0

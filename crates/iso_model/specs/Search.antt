@@ -13,6 +13,7 @@ pub mod Table
 pub mod Additions
 pub mod Settings
 pub mod Storages
+pub mod AtomParts
 pub mod Outputs
 pub mod BuiltIns
 pub mod Rows

@@ -4,7 +4,9 @@ ghost use Rattle.iso_model.specs.Search.Keys.{key};
 ghost use Rattle.iso_model.specs.Search.BuiltIns as table;
 ghost use Rattle.iso_model.specs.Search.Rows.{entries_of};
 
-use super::library::{Comparison, Library, OrderTest, Output, Setting, Storage, Text, TypeTest};
+use super::library::{
+    AtomPart, Comparison, Library, OrderTest, Output, Setting, Storage, Text, TypeTest,
+};
 
 /// A procedure of the language itself (7.8, 8).
 #[derive(Clone, Copy, Debug, PartialEq, Eq)]
@@ -41,13 +43,15 @@ pub enum BuiltIn {
     Text(Text),
     /// One that writes (8.12.3, 8.14.2).
     Output(Output),
+    /// One that joins atoms or takes them apart (8.16.2, 8.16.3).
+    AtomPart(AtomPart),
 }
 
 /// The name and the arity of a built-in.
 #[derive(Clone, Copy)]
 pub struct Row(pub &'static str, pub usize, pub BuiltIn);
 
-const ROWS: [Row; 77] = [
+const ROWS: [Row; 79] = [
     Row("true", 0, BuiltIn::True),
     Row("fail", 0, BuiltIn::Fail),
     Row("false", 0, BuiltIn::Fail),
@@ -196,6 +200,8 @@ const ROWS: [Row; 77] = [
     Row("char_code", 2, BuiltIn::Text(Text::CharCode)),
     Row("number_chars", 2, BuiltIn::Text(Text::NumberChars)),
     Row("number_codes", 2, BuiltIn::Text(Text::NumberCodes)),
+    Row("atom_concat", 3, BuiltIn::AtomPart(AtomPart::Concat)),
+    Row("sub_atom", 5, BuiltIn::AtomPart(AtomPart::Sub)),
     Row("put_char", 1, BuiltIn::Output(Output::PutChar)),
     Row("nl", 0, BuiltIn::Output(Output::NewLine)),
     Row("write", 1, BuiltIn::Output(Output::Write)),

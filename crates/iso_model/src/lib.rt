@@ -25,7 +25,9 @@ pub mod worked_texts;
 
 pub use built_ins::{BuiltIn, Row, built_in, built_in_rows, is_built_in, is_control};
 pub use engines::Engine;
-pub use library::{Comparison, Library, OrderTest, Output, Setting, Storage, Text, TypeTest};
+pub use library::{
+    AtomPart, Comparison, Library, OrderTest, Output, Setting, Storage, Text, TypeTest,
+};
 pub use limit::{Limit, Limits};
 pub use numbering::Numbering;
 pub use pauses::{AddFault, Ball, Ending, Indicator, Pause, Program, StartFault};

@@ -89,6 +89,15 @@ pub enum Text {
     NumberCodes,
 }
 
+/// A built-in that joins atoms or takes them apart (8.16.2, 8.16.3); it may have several solutions.
+#[derive(Clone, Copy, Debug, PartialEq, Eq)]
+pub enum AtomPart {
+    /// `atom_concat/3`: two atoms and the one that they are joined to (8.16.2).
+    Concat,
+    /// `sub_atom/5`: a part of an atom, with how many characters stand before it, in it and behind it (8.16.3).
+    Sub,
+}
+
 /// A built-in that writes (8.12.3, 8.14.2).
 #[derive(Clone, Copy, Debug, PartialEq, Eq)]
 pub enum Output {

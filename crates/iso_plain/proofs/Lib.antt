@@ -12,6 +12,7 @@ pub mod CutMoves
 pub mod CatchMoves
 pub mod GatherMoves
 pub mod OfferMoves
+pub mod PartMoves
 pub mod ShowMoves
 pub mod ShowEnds
 pub mod TakeMoves

@@ -1,16 +1,17 @@
 -- Goals that read or change operators and flags, and rows that their arguments are unified with.
 use Rattle.iso_plain_core.specs.Leaving.{AreLeft}
-use Rattle.std.proofs.Common.{◌≡◌, ℕ, zero, suc, ◌+◌, ◌*◌, ◌-◌, ◌<◌, ◌≤◌, ◌++◌, ◌==◌, List, [], ◌∷◌, length, map, reverse, take, slice_set, Option, Some, None, Bool, true, false, if◌then◌else◌, refl, ap, ap₂, sym, ◌∙◌, subst, arith, Vec, Global}
+use Rattle.std.proofs.Common.{◌≡◌, ℕ, zero, suc, ◌+◌, ◌*◌, ◌-◌, ◌<◌, ◌≤◌, ◌++◌, ◌==◌, List, [], ◌∷◌, length, map, reverse, take, drop, chars, pos, slice_set, Option, Some, None, Bool, true, false, if◌then◌else◌, refl, ap, ap₂, sym, ◌∙◌, subst, arith, Vec, Global}
 use Rattle.std.specs.Prelude.{Result, Ok, Err, OnErr}
-use Rattle.std.specs.List.{slice_get}
-use Rattle.std.proofs.lemmas.List.{reverse-append, reverse-reverse, length-reverse}
+use Rattle.std.specs.List.{slice_get, All}
+use Rattle.std.specs.Str.{encode_utf8_all}
+use Rattle.std.proofs.lemmas.List.{reverse-reverse, length-map, length-append, length-reverse, get_or-reverse}
 use Rattle.iso_atoms.specs.Texts.{KeepsTexts}
 use Rattle.iso_ops.specs.Operators.{Operator}
 use Rattle.iso_ops.specs.declared.settings.Flags.{Flags}
 use Rattle.std.specs.String.{string_bytes}
-use Rattle.iso_model.specs.Terms.Trees.{Tree, Integer, Name, More, row, arities_fit}
+use Rattle.iso_model.specs.Terms.Trees.{Tree, Integer, Name, More, End, row, arities_fit}
 use Rattle.iso_model.specs.Terms.TermOf.{term_of}
-use Rattle.iso_model.specs.Terms.Arguments.{arity}
+use Rattle.iso_model.specs.Terms.Arguments.{arity, argument}
 use Rattle.iso_model.specs.Terms.Variables.{variables}
 use Rattle.iso_model.specs.Terms.Substitutions.{Subst, apply, compose}
 use Rattle.iso_model.specs.Terms.Unifiers.{Unifier, NeverEqual}
@@ -19,7 +20,7 @@ use Rattle.iso_model.specs.Search.Settings.{Settled, Refuses, Changes, Offers, s
 use Rattle.iso_model.specs.Search.Walker.{State, World, Member, Alternative, Offered, Goes, fails, under, equated, pushed, with_rights, met_right, is_there, tried_right, offered, settled, step}
 use Rattle.iso_model.specs.Search.Walker as search
 use Rattle.iso_model.specs.Search.Settlements as walker
-use Rattle.iso_model.specs.Search.Settlements.{Reference}
+use Rattle.iso_model.specs.Search.Settlements.{Reference, constant_offer}
 use Rattle.iso_model.specs.Terms.Copies.{renamed}
 use Rattle.iso_model.specs.declared.library.Setting.{Setting}
 use Rattle.iso_model.specs.declared.pauses.Ball.{Ball}
@@ -33,7 +34,15 @@ use Rattle.iso_lib.specs.declared.settings.Settled.{Settled as Came}
 use Rattle.iso_lib.specs.declared.settings.Settled.TheVariants as came
 use Rattle.iso_lib_core.specs.declared.outcomes.Fault.{Fault}
 use Rattle.iso_lib_core.specs.declared.outcomes.Fault.TheVariants as fault
-use Rattle.iso_plain_core.specs.Offers.{goal_arguments, constants_offer, rights_of, TakesOffer}
+use Rattle.iso_text.specs.Parts.{part_row, text_of, longer, each_longer, each_of, part_behind, IsOf, AreOf}
+use Rattle.iso_text.specs.declared.parts.Part.{Part}
+use Rattle.iso_text.specs.declared.parts.Part.TheVariants as part
+use Rattle.iso_text.specs.declared.parts.Parts.{Parts}
+use Rattle.iso_plain_core.specs.Offers.{goal_arguments, row_tree, row_offer, rows_in, rights_of, IsRow, AreRows, TakesOffer}
+use Rattle.iso_plain_core.specs.declared.offers.Offers as kept_rows
+use Rattle.iso_plain_core.specs.declared.offers.Offers.TheVariants as rows
+use Rattle.iso_plain_core.specs.declared.offers.Row.{Row}
+use Rattle.iso_plain_core.specs.declared.offers.Row.TheVariants as offered_row
 use Rattle.iso_plain_core.specs.declared.parts.Left.{Left}
 use Rattle.iso_plain_core.specs.declared.parts.Left.TheVariants as left
 use Rattle.iso_plain_core.specs.declared.parts.Choice as kept
@@ -75,21 +84,33 @@ row_renamed n [] = refl
 row_renamed n (constant.Int z ∷ cs) = ap (More (Integer z)) (row_renamed n cs)
 row_renamed n (constant.Atom a ∷ cs) = ap (More (Name (string_bytes a))) (row_renamed n cs)
 
-same_right : (f : Subst) (n : ℕ) (offer : Offer) → apply f (renamed n (offer_tree offer)) ≡ offer_tree offer
-same_right f n offer = ap (apply f) (row_renamed n offer.constants.items) ∙ row_applied f offer.constants.items
+same_name : (f : Subst) (n : ℕ) (t : Tree) (a : List ℕ) → t ≡ Name a → apply f (renamed n t) ≡ t
+same_name f n t a is = subst (λ (x : Tree). apply f (renamed n x) ≡ x) (sym is) refl
+
+same_part : (f : Subst) (n : ℕ) (t : Tree) (p : Part) → IsOf t p → apply f (renamed n (part_row t p)) ≡ part_row t p
+same_part f n t part.Joined h =
+    ap₂ (λ (x y : Tree). More x (More y (More (Name (text_of (argument 0 t) ++ text_of (argument 1 t))) End))) (same_name f n (argument 0 t) (h.1).0 (h.1).1) (same_name f n (argument 1 t) (h.2).0 (h.2).1)
+same_part f n t (part.Split place) h =
+    ap (λ (x : Tree). More (Name (take place (text_of (argument 2 t)))) (More (Name (drop place (text_of (argument 2 t)))) (More x End))) (same_name f n (argument 2 t) (h.1).0 (h.1).1)
+same_part f n t (part.Sub sub) h =
+    ap (λ (x : Tree). More x (row (Integer (pos sub.before) ∷ Integer (pos sub.length) ∷ Integer (pos sub.behind) ∷ Name (encode_utf8_all (take sub.length (chars (drop sub.start (text_of (argument 0 t)))))) ∷ []))) (same_name f n (argument 0 t) (h.1).0 (h.1).1)
+
+same_right : (f : Subst) (n : ℕ) (t : Tree) (r : Row) → IsRow t r → apply f (renamed n (row_tree t r)) ≡ row_tree t r
+same_right f n t (offered_row.Constants offer) h = ap (apply f) (row_renamed n offer.constants.items) ∙ row_applied f offer.constants.items
+same_right f n t (offered_row.Part p) h = same_part f n t p h
 
 taken_is : (o : Option Subst) (rest : List Member) (s : State) → search.taken o None rest s ≡ equated o rest s
 taken_is None rest s = refl
 taken_is (Some u) rest s = refl
 
 -- such a row is unified as it is, and nothing is removed
-pub constants_right : (made : ℕ) (left : Tree) (offer : Offer) (rest : List Member) (s : State)
-    → tried_right left (constants_offer made offer) rest s ≡ equated (under s.subst (unifier_of left (offer_tree offer))) rest (record s { built = s.built + made })
-constants_right made left offer rest s =
+row_right : (made : ℕ) (left t : Tree) (r : Row) → IsRow t r → (rest : List Member) (s : State)
+    → tried_right left (row_offer made t r) rest s ≡ equated (under s.subst (unifier_of left (row_tree t r))) rest (record s { built = s.built + made })
+row_right made left t r of rest s =
     let none : s.next + 0 ≡ s.next = omega arith in
-    ap (λ (t : Tree). search.taken (under s.subst (unifier_of left t)) None rest (record s { next = s.next + 0; built = s.built + made })) (same_right s.subst s.next offer)
-    ∙ (ap (λ (n : ℕ). search.taken (under s.subst (unifier_of left (offer_tree offer))) None rest (record s { next = n; built = s.built + made })) none
-    ∙ taken_is (under s.subst (unifier_of left (offer_tree offer))) rest (record s { built = s.built + made }))
+    ap (λ (x : Tree). search.taken (under s.subst (unifier_of left x)) None rest (record s { next = s.next + 0; built = s.built + made })) (same_right s.subst s.next t r of)
+    ∙ (ap (λ (n : ℕ). search.taken (under s.subst (unifier_of left (row_tree t r))) None rest (record s { next = n; built = s.built + made })) none
+    ∙ taken_is (under s.subst (unifier_of left (row_tree t r))) rest (record s { built = s.built + made }))
 
 -- ---- steps, as the search takes them
 
@@ -118,12 +139,12 @@ equated_keeps : (o : Option Subst) (rest : List Member) (s : State) → ((equate
 equated_keeps None rest s = (refl, refl)
 equated_keeps (Some u) rest s = (refl, refl)
 
--- the unification of one row of constants keeps the alternatives and the world
-pub right_keeps : (made : ℕ) (left : Tree) (offer : Offer) (rest : List Member) (s : State)
-    → ((tried_right left (constants_offer made offer) rest s).stack ≡ s.stack) × ((tried_right left (constants_offer made offer) rest s).world ≡ s.world)
-right_keeps made left offer rest s =
-    let is = constants_right made left offer rest s in
-    let keep = equated_keeps (under s.subst (unifier_of left (offer_tree offer))) rest (record s { built = s.built + made }) in
+-- the unification of one row keeps the alternatives and the world
+right_keeps : (made : ℕ) (left t : Tree) (r : Row) → IsRow t r → (rest : List Member) (s : State)
+    → ((tried_right left (row_offer made t r) rest s).stack ≡ s.stack) × ((tried_right left (row_offer made t r) rest s).world ≡ s.world)
+right_keeps made left t r of rest s =
+    let is = row_right made left t r of rest s in
+    let keep = equated_keeps (under s.subst (unifier_of left (row_tree t r))) rest (record s { built = s.built + made }) in
     (ap (λ (x : State). x.stack) is ∙ keep.0, ap (λ (x : State). x.world) is ∙ keep.1)
 
 -- what the rows that are left change of a state
@@ -141,42 +162,78 @@ rights_none left (o ∷ os) rest s none = absurd (omega (arith, none))
 
 -- ---- rows that are kept
 
-pub rights_count : (made : ℕ) (offers : List Offer) → length (rights_of made offers) ≡ length offers
-rights_count made offers = many (reverse offers) ∙ length-reverse offers where
-  many : (xs : List Offer) → length (map (constants_offer made) xs) ≡ length xs
-  many [] = refl
-  many (x ∷ xs) = ap suc (many xs)
+pub rights_count : (made : ℕ) (t : Tree) (offers : kept_rows.Offers) → length (rights_of made t offers) ≡ length (rows_in offers)
+rights_count made t offers = length-map (rows_in offers) (row_offer made t)
 
--- the last of them is the first
-pub rights_first : (made : ℕ) (offers others : List Offer) (offer : Offer) → offers ≡ others ++ offer ∷ [] → rights_of made offers ≡ constants_offer made offer ∷ rights_of made others
-rights_first made offers others offer are = ap (λ (xs : List Offer). map (constants_offer made) xs) (ap reverse are ∙ reverse-append others (offer ∷ []))
+-- the first of them
+pub rights_first : (made : ℕ) (t : Tree) (offers others : kept_rows.Offers) (r : Row) → rows_in offers ≡ r ∷ rows_in others → rights_of made t offers ≡ row_offer made t r ∷ rights_of made t others
+rights_first made t offers others r are = ap (map (row_offer made t)) are
 
-pub rights_turned : (made : ℕ) (offers : List Offer) → rights_of made (reverse offers) ≡ map (constants_offer made) offers
-rights_turned made offers = ap (λ (xs : List Offer). map (constants_offer made) xs) (reverse-reverse offers)
+-- how many are kept
+abbrev pub kept_count : kept_rows.Offers → ℕ
+kept_count (rows.Constants kept) = length kept.items
+kept_count (rows.Parts kept) = length kept.items
 
--- so of rows that were turned round
-pub first_right : (made : ℕ) (offers turned others : List Offer) (first : Offer) → turned ≡ reverse offers → turned ≡ others ++ first ∷ [] → map (constants_offer made) offers ≡ constants_offer made first ∷ rights_of made others
-first_right made offers turned others first is are =
-    sym (rights_turned made offers) ∙ rights_first made (reverse offers) others first (sym is ∙ are)
+pub kept_few : (offers : kept_rows.Offers) → kept_count offers < 18446744073709551616
+kept_few (rows.Constants kept) = let many = kept.ok.0 in let within = kept.ok.1 in let small = kept.small in omega (arith, many, within, small)
+kept_few (rows.Parts kept) = let many = kept.ok.0 in let within = kept.ok.1 in let small = kept.small in omega (arith, many, within, small)
+
+-- no more of them than are counted
+each_count : (p : Part) (n : ℕ) → length (each_longer p n) ≡ suc n
+each_count p zero = refl
+each_count p (suc n) = ap suc (each_count (longer p) n)
+
+all_count : (t : Tree) (rs : List Parts) → All (AreOf t) rs → length (each_of rs) ≤ 9223372036854775808 * length rs
+all_count t [] all = omega arith
+all_count t (ps ∷ others) all =
+    let of : AreOf t ps = all 0 ps (omega arith) in
+    let here = each_count ps.first ps.more in
+    let few : ps.more < 9223372036854775808 = more_few ps.first ps.more of.0 of.1 in
+    let there = all_count t others (λ k d h. all (suc k) d (omega (arith, h))) in
+    let both = length-append (each_longer ps.first ps.more) (each_of others) in
+    omega (arith, here, few, there, both) where
+      more_few : (p : Part) (n : ℕ) → IsOf t p → n ≤ part_behind p → n < 9223372036854775808
+      more_few (part.Sub s) n h less = let small : s.before + s.length + s.behind < 9223372036854775808 = h.2 in omega (arith, small, less)
+      more_few part.Joined n h less = omega (arith, less)
+      more_few (part.Split place) n h less = omega (arith, less)
+
+-- in the other order
+all_reverse : {X : Type 0} (P : X → Type 0) (xs : List X) → All P xs → All P (reverse xs)
+all_reverse P xs all k d h =
+    let many = length-reverse xs in
+    let within : k < length xs = omega (arith, many, h) in
+    subst P (sym (get_or-reverse xs k d within)) (all (length xs - 1 - k) d (omega (arith, within)))
+
+-- so many at most
+pub rows_few : (t : Tree) (offers : kept_rows.Offers) → AreRows t offers → kept_count offers < 18446744073709551616 → length (rows_in offers) < 340282366920938463463374607431768211456
+rows_few t (rows.Constants kept) each small =
+    let all = length-map (reverse kept.items) offered_row.Constants in
+    let turned = length-reverse kept.items in
+    omega (arith, all, turned, small)
+rows_few t (rows.Parts kept) each small =
+    let all = length-map (each_of (reverse kept.items)) offered_row.Part in
+    let turned = length-reverse kept.items in
+    let few = all_count t (reverse kept.items) (all_reverse (AreOf t) kept.items each) in
+    omega (arith, all, turned, few, small)
 
 -- the first one was tried
-pub offered_is : (made : ℕ) (left other : Tree) (first : Offer) (rights others : List walker.Offer) (s : State) → other ≡ left → rights ≡ constants_offer made first ∷ others
-    → tried_right other (constants_offer made first) (with_rights left others s.list s).list (with_rights left others s.list s) ≡ offered left rights s.list s
-offered_is made left other first rights others s same is =
+pub offered_is : (made : ℕ) (left other t : Tree) (r : Row) (rights others : List walker.Offer) (s : State) → other ≡ left → rights ≡ row_offer made t r ∷ others
+    → tried_right other (row_offer made t r) (with_rights left others s.list s).list (with_rights left others s.list s) ≡ offered left rights s.list s
+offered_is made left other t r rights others s same is =
     let mid = with_rights left others s.list s in
-    ap₂ (λ (t : Tree) (ms : List Member). tried_right t (constants_offer made first) ms mid) same (rights_keep left others s).0 ∙ ap (λ (os : List walker.Offer). offered left os s.list s) (sym is)
+    ap₂ (λ (x : Tree) (ms : List Member). tried_right x (row_offer made t r) ms mid) same (rights_keep left others s).0 ∙ ap (λ (os : List walker.Offer). offered left os s.list s) (sym is)
 
 -- one alternative more stands where others are left
-pub offered_stack : (made : ℕ) (left : Tree) (first : Offer) (rights others : List walker.Offer) (s : State) → rights ≡ constants_offer made first ∷ others → 0 < length others → length (offered left rights s.list s).stack ≡ suc (length s.stack)
-offered_stack made left first rights others s is some =
-    let keep = right_keeps made left first s.list (with_rights left others s.list s) in
+pub offered_stack : (made : ℕ) (left t : Tree) (r : Row) → IsRow t r → (rights others : List walker.Offer) (s : State) → rights ≡ row_offer made t r ∷ others → 0 < length others → length (offered left rights s.list s).stack ≡ suc (length s.stack)
+offered_stack made left t r of rights others s is some =
+    let keep = right_keeps made left t r of s.list (with_rights left others s.list s) in
     ap (λ (os : List walker.Offer). length (offered left os s.list s).stack) is ∙ (ap length keep.0 ∙ ap (λ (x : State). length x.stack) (rights_some left others s.list s some))
 
 -- the alternatives and the world there
-pub offered_keeps : (made : ℕ) (left : Tree) (first : Offer) (rights others : List walker.Offer) (s : State) → rights ≡ constants_offer made first ∷ others
+pub offered_keeps : (made : ℕ) (left t : Tree) (r : Row) → IsRow t r → (rights others : List walker.Offer) (s : State) → rights ≡ row_offer made t r ∷ others
     → ((offered left rights s.list s).stack ≡ (with_rights left others s.list s).stack) × ((offered left rights s.list s).world ≡ s.world)
-offered_keeps made left first rights others s is =
-    let keep = right_keeps made left first s.list (with_rights left others s.list s) in
+offered_keeps made left t r of rights others s is =
+    let keep = right_keeps made left t r of s.list (with_rights left others s.list s) in
     let stays = rights_keep left others s in
     (ap (λ (os : List walker.Offer). (offered left os s.list s).stack) is ∙ keep.0, ap (λ (os : List walker.Offer). (offered left os s.list s).world) is ∙ (keep.1 ∙ stays.1))
 
@@ -189,6 +246,10 @@ some_pair a b c d h =
 
 pub done_is : (w : World) (ops : List Operator) (flags : Flags) (row : Setting) (t : Tree) (x : Settled) (r : Result Came Fault) → IsSettled w ops flags row t x r → r ≡ Ok came.Done → x ≡ Changes 0 (with_settings w ops flags)
 done_is w ops flags row t x r h is = subst (λ (y : Result Came Fault). IsSettled w ops flags row t x y) is h
+
+-- so much is made for a row of constants
+abbrev constants_offer : ℕ → Offer → walker.Offer
+constants_offer made offer = constant_offer made (offer_tree offer)
 
 pub offers_is : (w : World) (ops : List Operator) (flags : Flags) (row : Setting) (t : Tree) (x : Settled) (r : Result Came Fault) (offers : Vec Offer Global) → IsSettled w ops flags row t x r → r ≡ Ok (came.Offers offers)
     → x ≡ Offers (goal_row row t) (map (constants_offer (2 * setting_arity row)) offers.items)
@@ -213,10 +274,18 @@ on_offers {A = A} r offers h is = subst (λ (y : Result Came Fault). OnOffers y 
 pub on_error : {A : Type 0} (r : Result Came Fault) (f : Fault) → OnErr r A → r ≡ Err f → A
 on_error {A = A} r f h is = subst (λ (y : Result Came Fault). OnErr y A) is h
 
-pub settled_offers : (x : Settled) (setting : Setting) (t : Tree) (offers : List Offer) (s : State) → x ≡ Offers (goal_row setting t) (map (constants_offer (2 * setting_arity setting)) offers) → arity t ≡ setting_arity setting
-    → offered (goal_arguments t) (map (constants_offer (2 * setting_arity setting)) offers) s.list s ≡ settled x s.list s
-settled_offers x setting t offers s is many =
-    ap (λ (n : ℕ). offered (row (arguments_from 0 n t)) (map (constants_offer (2 * setting_arity setting)) offers) s.list s) many ∙ ap (λ (y : Settled). settled y s.list s) (sym is)
+-- rows of constants, turned round
+turned_rows : (made : ℕ) (t : Tree) (offers : List Offer) (kept : Vec Offer Global) → kept.items ≡ reverse offers → rights_of made t (rows.Constants kept) ≡ map (constants_offer made) offers
+turned_rows made t offers kept is = ap (λ (xs : List Offer). map (row_offer made t) (map offered_row.Constants xs)) (ap reverse is ∙ reverse-reverse offers) ∙ each offers where
+  each : (xs : List Offer) → map (row_offer made t) (map offered_row.Constants xs) ≡ map (constants_offer made) xs
+  each [] = refl
+  each (x ∷ xs) = ap (λ (ys : List walker.Offer). constants_offer made x ∷ ys) (each xs)
+
+pub settled_offers : (x : Settled) (setting : Setting) (t : Tree) (offers : List Offer) (kept : Vec Offer Global) (s : State) → kept.items ≡ reverse offers → x ≡ Offers (goal_row setting t) (map (constants_offer (2 * setting_arity setting)) offers) → arity t ≡ setting_arity setting
+    → offered (goal_arguments t) (rights_of (2 * setting_arity setting) t (rows.Constants kept)) s.list s ≡ settled x s.list s
+settled_offers x setting t offers kept s turned is many =
+    ap (λ (rs : List walker.Offer). offered (goal_arguments t) rs s.list s) (turned_rows (2 * setting_arity setting) t offers kept turned)
+    ∙ (ap (λ (n : ℕ). offered (row (arguments_from 0 n t)) (map (constants_offer (2 * setting_arity setting)) offers) s.list s) many ∙ ap (λ (y : Settled). settled y s.list s) (sym is))
 
 -- ---- what a unification came to
 
@@ -229,13 +298,13 @@ was_never p q a b answer is h = rw is at h
 module _ {S W M : Type 0} (names : S → List (List ℕ)) (present : S → Present W) (stands : S → M → Present W → Type 0) (older : M → M → Type 0) where
   -- ---- a row is unified with the goal's arguments
 
-  module _ (e : Plain S W M) (goal : W) (s : State) (place : Option ℕ) (h : MeetsRow names present stands older e goal s place) (made : ℕ) (left : Tree) (offer : Offer)
+  module _ (e : Plain S W M) (goal : W) (s : State) (place : Option ℕ) (h : MeetsRow names present stands older e goal s place) (made : ℕ) (left t : Tree) (r : Row) (of : IsRow t r)
       (store : S) (keeps : KeepsMarks (stands e.store) (stands store)) (texts : KeepsTexts (names e.store) (names store)) where
     abbrev right : Tree
-    right = offer_tree offer
+    right = row_tree t r
 
     pub row_found : (u : Subst) → Unifier left right u → Binds (present e.store) (present store) u
-        → IsEngine names present stands older (record e { store = store; now = now_behind e.frames.items place }) (tried_right left (constants_offer made offer) s.list s)
+        → IsEngine names present stands older (record e { store = store; now = now_behind e.frames.items place }) (tried_right left (row_offer made t r) s.list s)
     row_found u unifier binds =
         let a = h.ahead in
         let room = a.goes.room in
@@ -255,13 +324,13 @@ module _ {S W M : Type 0} (names : S → List (List ℕ)) (present : S → Prese
           goes = record { subst = ahead.goes.subst; next = ahead.goes.next; room = ahead.goes.room; words = ahead.goes.words };
           chain = ahead.chain;
         } in
-        let is = constants_right made left offer s.list s ∙ ap (λ (o : Option Subst). equated o s.list (record s { built = s.built + made })) (unify_found s.subst left right unifier) in
+        let is = row_right made left t r of s.list s ∙ ap (λ (o : Option Subst). equated o s.list (record s { built = s.built + made })) (unify_found s.subst left right unifier) in
         subst (λ (y : State). IsEngine names present stands older (record e { store = store; now = now_behind e.frames.items place }) y) (sym is) (engine_place names present stands older (record e { store = store }) x place counted)
 
-    pub row_missed : NeverEqual left right → IsEngine names present stands older (record e { store = store; now = now.Failing }) (tried_right left (constants_offer made offer) s.list s)
+    pub row_missed : NeverEqual left right → IsEngine names present stands older (record e { store = store; now = now.Failing }) (tried_right left (row_offer made t r) s.list s)
     row_missed never =
         let a = h.ahead in
-        let is = constants_right made left offer s.list s ∙ ap (λ (o : Option Subst). equated o s.list (record s { built = s.built + made })) (unify_none s.subst left right never) in
+        let is = row_right made left t r of s.list s ∙ ap (λ (o : Option Subst). equated o s.list (record s { built = s.built + made })) (unify_none s.subst left right never) in
         subst (λ (y : State). IsEngine names present stands older (record e { store = store; now = now.Failing }) y) (sym is) (record {
           world = world_on texts a.world;
           steps = a.steps;
@@ -273,26 +342,29 @@ module _ {S W M : Type 0} (names : S → List (List ℕ)) (present : S → Prese
 
   -- ---- the rows behind the first are kept
 
-  module _ (e : Plain S W M) (goal : W) (s : State) (place : Option ℕ) (h : MeetsRow names present stands older e goal s place) (made : ℕ) (offers : Vec Offer Global) where
+  module _ (e : Plain S W M) (goal : W) (s : State) (place : Option ℕ) (h : MeetsRow names present stands older e goal s place) (made : ℕ) (offers : kept_rows.Offers) (each : AreRows (meaning (present e.store) goal) offers) where
     abbrev arguments : Tree
     arguments = goal_arguments (meaning (present e.store) goal)
 
-    -- none is left
-    pub pushed_none : length offers.items ≡ 0 → MeetsRow names present stands older e goal (with_rights arguments (rights_of made offers.items) s.list s) place
-    pushed_none none =
-        let many = rights_count made offers.items in
-        subst (λ (x : State). MeetsRow names present stands older e goal x place) (sym (rights_none arguments (rights_of made offers.items) s.list s (omega (arith, many, none)))) h
+    abbrev rights : List walker.Offer
+    rights = rights_of made (meaning (present e.store) goal) offers
 
-    pub pushed_some : (store : S) (choices : Vec (kept.Choice W M) Global) → 0 < length offers.items → present store ≡ present e.store → KeepsMarks (stands e.store) (stands store) → KeepsTexts (names e.store) (names store)
+    -- none is left
+    pub pushed_none : length (rows_in offers) ≡ 0 → MeetsRow names present stands older e goal (with_rights arguments rights s.list s) place
+    pushed_none none =
+        let many = rights_count made (meaning (present e.store) goal) offers in
+        subst (λ (x : State). MeetsRow names present stands older e goal x place) (sym (rights_none arguments rights s.list s (omega (arith, many, none)))) h
+
+    pub pushed_some : (store : S) (choices : Vec (kept.Choice W M) Global) → 0 < length (rows_in offers) → present store ≡ present e.store → KeepsMarks (stands e.store) (stands store) → KeepsTexts (names e.store) (names store)
         → GainsChoice (stands e.store) (stands store) older (present e.store) (length e.nodes.items) (length e.frames.items) (left.Offered goal place offers) e.choices.items choices.items
-        → MeetsRow names present stands older (record e { store = store; choices = choices }) goal (with_rights arguments (rights_of made offers.items) s.list s) place
+        → MeetsRow names present stands older (record e { store = store; choices = choices }) goal (with_rights arguments rights s.list s) place
     pushed_some store choices some same keeps texts gains =
         let a = h.ahead in
-        let many = rights_count made offers.items in
-        let l = Offered arguments (rights_of made offers.items) in
-        let has : HasOffered (AreLeft (names e.store) e.db) e.query.items (variables s.query) (present e.store) (links_of e) goal place offers.items (record { list = s.list; subst = s.subst; next = s.next; built = s.built; left = l }) =
-        record { holds = h.holds; on = record { subst_is = a.goes.subst; next_is = a.goes.next; chain = a.chain; words = a.goes.words }; made = made; is = refl; some = some } in
-        subst (λ (x : State). MeetsRow names present stands older (record e { store = store; choices = choices }) goal x place) (sym (rights_some arguments (rights_of made offers.items) s.list s (omega (arith, many, some)))) (record {
+        let many = rights_count made (meaning (present e.store) goal) offers in
+        let l = Offered arguments rights in
+        let has : HasOffered (AreLeft (names e.store) e.db) e.query.items (variables s.query) (present e.store) (links_of e) goal place offers (record { list = s.list; subst = s.subst; next = s.next; built = s.built; left = l }) =
+        record { holds = h.holds; on = record { subst_is = a.goes.subst; next_is = a.goes.next; chain = a.chain; words = a.goes.words }; made = made; is = refl; each = each; some = some } in
+        subst (λ (x : State). MeetsRow names present stands older (record e { store = store; choices = choices }) goal x place) (sym (rights_some arguments rights s.list s (omega (arith, many, some)))) (record {
           ahead = ahead_left names present stands older e s place store choices (left.Offered goal place offers) l a has h.space same keeps texts gains;
           space = h.space;
           holds = subst (λ (p : Present W). p.holds goal ≡ true) (sym same) h.holds;
@@ -300,12 +372,15 @@ module _ {S W M : Type 0} (names : S → List (List ℕ)) (present : S → Prese
 
   -- ---- the first row is taken from those of the newest choice
 
-  module _ (e : Plain S W M) (c : kept.Choice W M) (s : State) (a : Alternative) (below : List Alternative) (w : WentBack names present stands older e c s a below) (goal : W) (place : Option ℕ) (offers : Vec Offer Global) (is : c.left ≡ left.Offered goal place offers) where
-    pub offered_there : HasOffered (AreLeft (names e.store) e.db) e.query.items (variables s.query) (present e.store) (links_of e) goal place offers.items a
+  module _ (e : Plain S W M) (c : kept.Choice W M) (s : State) (a : Alternative) (below : List Alternative) (w : WentBack names present stands older e c s a below) (goal : W) (place : Option ℕ) (offers : kept_rows.Offers) (is : c.left ≡ left.Offered goal place offers) where
+    pub offered_there : HasOffered (AreLeft (names e.store) e.db) e.query.items (variables s.query) (present e.store) (links_of e) goal place offers a
     offered_there = has_members names present stands older e c s a below w (left.Offered goal place offers) is
 
+    abbrev here : Tree
+    here = meaning (present e.store) goal
+
     abbrev rows_of : Tree
-    rows_of = goal_arguments (meaning (present e.store) goal)
+    rows_of = goal_arguments here
 
     -- room for one more
     next_space : a.next + numbers_a_step * (e.steps + 1) ≤ most_numbers
@@ -319,21 +394,26 @@ module _ {S W M : Type 0} (names : S → List (List ℕ)) (present : S → Prese
         record { subst = h.on.subst_is; next = h.on.next_is; room = omega (arith, room, all); words = h.on.words }
 
     -- The first row was taken at the choice, which has these others left.
-    pub record Taken (new : List (kept.Choice W M)) (offer : Offer) (is_last : Bool) : Type 0 where
-      pub others : Vec Offer Global
-      pub are : offers.items ≡ others.items ++ offer ∷ []
-      pub last : is_last ≡ (length others.items == 0)
+    pub record Taken (new : List (kept.Choice W M)) (r : Row) (is_last : Bool) : Type 0 where
+      pub others : kept_rows.Offers
+      pub are : rows_in offers ≡ r ∷ rows_in others
+      pub each : AreRows here others
+      pub of : IsRow here r
+      pub last : is_last ≡ (length (rows_in others) == 0)
       pub made : new ≡ take (length e.choices.items - 1) e.choices.items ++ with_left c (left.Offered goal place others) ∷ []
 
-    pub taken : (n : ℕ) (new : List (kept.Choice W M)) (result : Option (Offer × Bool)) (offer : Offer) (is_last : Bool) → n ≡ length e.choices.items → 0 < length e.choices.items
-        → TakesOffer c goal place offers (n - 1) e.choices.items new result → result ≡ Some (offer, is_last) → Taken new offer is_last
-    taken n new result offer is_last many some t came =
-        let same = some_pair t.offer offer (length t.others.items == 0) is_last (sym t.is ∙ came) in
+    pub taken : (n : ℕ) (new : List (kept.Choice W M)) (result : Option (Row × Bool)) (r : Row) (is_last : Bool) → n ≡ length e.choices.items → 0 < length e.choices.items
+        → TakesOffer c goal place offers (n - 1) e.choices.items new result → result ≡ Some (r, is_last) → Taken new r is_last
+    taken n new result r is_last many some t came =
+        let same = some_pair t.row r (length (rows_in t.others) == 0) is_last (sym t.is ∙ came) in
         let one = same.0 in
         let last = same.1 in
+        let stay = t.each here offered_there.each in
         record {
           others = t.others;
-          are = t.are ∙ ap (λ (x : Offer). t.others.items ++ x ∷ []) one;
+          are = t.are ∙ ap (λ (x : Row). x ∷ rows_in t.others) one;
+          each = stay.0;
+          of = subst (IsRow here) one stay.1;
           last = sym last;
           made = t.changed ∙ (ap (λ (k : ℕ). slice_set e.choices.items (k - 1) (with_left c (left.Offered goal place t.others))) many
               ∙ last_set e.choices.items (length e.choices.items - 1) (with_left c (left.Offered goal place t.others)) (omega (arith, some)));
@@ -366,18 +446,18 @@ module _ {S W M : Type 0} (names : S → List (List ℕ)) (present : S → Prese
         let last = length_last (take (length e.choices.items - 1) e.choices.items) d in
         omega (arith, long, all, last)
 
-    module _ (offer : Offer) (others : Vec Offer Global) (are : offers.items ≡ others.items ++ offer ∷ []) where
+    module _ (r : Row) (others : kept_rows.Offers) (are : rows_in offers ≡ r ∷ rows_in others) (each : AreRows here others) (of : IsRow here r) where
       -- others are left
-      pub next_some : (choices : Vec (kept.Choice W M) Global) → 0 < length others.items → choices.items ≡ take (length e.choices.items - 1) e.choices.items ++ with_left c (left.Offered goal place others) ∷ []
-          → MeetsNext names present stands older (record e { choices = choices }) goal place s a below offer
+      pub next_some : (choices : Vec (kept.Choice W M) Global) → 0 < length (rows_in others) → choices.items ≡ take (length e.choices.items - 1) e.choices.items ++ with_left c (left.Offered goal place others) ∷ []
+          → MeetsNext names present stands older (record e { choices = choices }) goal place s a below r
       next_some choices some made =
           let h = offered_there in
-          let many = rights_count h.made others.items in
+          let many = rights_count h.made here others in
           let back = went_back a below s in
-          let l = Offered rows_of (rights_of h.made others.items) in
+          let l = Offered rows_of (rights_of h.made here others) in
           let b : Alternative = record { list = a.list; subst = a.subst; next = a.next; built = a.built; left = l } in
-          let has : HasOffered (AreLeft (names e.store) e.db) e.query.items (variables s.query) (present e.store) (links_of e) goal place others.items b =
-          record { holds = h.holds; on = record { subst_is = h.on.subst_is; next_is = h.on.next_is; chain = h.on.chain; words = h.on.words }; made = h.made; is = refl; some = some } in
+          let has : HasOffered (AreLeft (names e.store) e.db) e.query.items (variables s.query) (present e.store) (links_of e) goal place others b =
+          record { holds = h.holds; on = record { subst_is = h.on.subst_is; next_is = h.on.next_is; chain = h.on.chain; words = h.on.words }; made = h.made; is = refl; each = each; some = some } in
           let room = w.room.0 in
           let goes = going in
           let pushed_row : MeetsRow names present stands older (record e { choices = choices }) goal (pushed a.list l back) place = record {
@@ -396,18 +476,19 @@ module _ {S W M : Type 0} (names : S → List (List ℕ)) (present : S → Prese
           } in
           record {
             made = h.made;
-            others = rights_of h.made others.items;
-            left = h.is ∙ ap (Offered rows_of) (rights_first h.made offers.items others.items offer are);
-            meets = subst (λ (x : State). MeetsRow names present stands older (record e { choices = choices }) goal x place) (sym (rights_some rows_of (rights_of h.made others.items) a.list back (omega (arith, many, some)))) pushed_row;
+            others = rights_of h.made here others;
+            of = of;
+            left = h.is ∙ ap (Offered rows_of) (rights_first h.made here offers others r are);
+            meets = subst (λ (x : State). MeetsRow names present stands older (record e { choices = choices }) goal x place) (sym (rights_some rows_of (rights_of h.made here others) a.list back (omega (arith, many, some)))) pushed_row;
           }
 
       -- it was the last one, and the choice is gone
-      pub next_last : (store : S) (choices : Vec (kept.Choice W M) Global) → length others.items ≡ 0 → present store ≡ present e.store → ((m : M) (p : Present W) → older m c.mark → stands e.store m p → stands store m p) → KeepsTexts (names e.store) (names store)
-          → choices.items ≡ take (length e.choices.items - 1) e.choices.items → MeetsNext names present stands older (record e { store = store; choices = choices }) goal place s a below offer
+      pub next_last : (store : S) (choices : Vec (kept.Choice W M) Global) → length (rows_in others) ≡ 0 → present store ≡ present e.store → ((m : M) (p : Present W) → older m c.mark → stands e.store m p → stands store m p) → KeepsTexts (names e.store) (names store)
+          → choices.items ≡ take (length e.choices.items - 1) e.choices.items → MeetsNext names present stands older (record e { store = store; choices = choices }) goal place s a below r
       next_last store choices none same marks texts made =
           let h = offered_there in
           let b = w.base in
-          let many = rights_count h.made others.items in
+          let many = rights_count h.made here others in
           let back = went_back a below s in
           let goal_same : meaning (present e.store) goal ≡ meaning (present store) goal = ap (λ (p : Present W). meaning p goal) (sym same) in
           let row : MeetsRow names present stands older (record e { store = store; choices = choices }) goal back place = record {
@@ -426,10 +507,11 @@ module _ {S W M : Type 0} (names : S → List (List ℕ)) (present : S → Prese
           } in
           record {
             made = h.made;
-            others = rights_of h.made others.items;
-            left = h.is ∙ (ap (Offered rows_of) (rights_first h.made offers.items others.items offer are) ∙ ap (λ (t : Tree). Offered (goal_arguments t) (constants_offer h.made offer ∷ rights_of h.made others.items)) goal_same);
+            others = rights_of h.made here others;
+            of = subst (λ (t : Tree). IsRow t r) goal_same of;
+            left = h.is ∙ (ap (Offered rows_of) (rights_first h.made here offers others r are) ∙ ap (λ (t : Tree). Offered (goal_arguments t) (row_offer h.made t r ∷ rights_of h.made here others)) goal_same);
             meets = subst (λ (x : State). MeetsRow names present stands older (record e { store = store; choices = choices }) goal x place)
-                (sym (rights_none (goal_arguments (meaning (present store) goal)) (rights_of h.made others.items) a.list back (omega (arith, many, none)))) row;
+                (sym (rights_none (goal_arguments (meaning (present store) goal)) (rights_of h.made here others) a.list back (omega (arith, many, none)))) row;
           }
 
       -- ---- what falls
@@ -438,9 +520,9 @@ module _ {S W M : Type 0} (names : S → List (List ℕ)) (present : S → Prese
       next_choices some = last_split e.choices.items (length e.choices.items - 1) c w.newest (omega (arith, some))
 
       old_cost : (costs : List ℕ) → 0 < length e.choices.items
-          → choices_cost costs e.choices.items ≡ choices_cost costs (take (length e.choices.items - 1) e.choices.items) + left_cost (suc (length others.items)) (rest_cost costs place)
+          → choices_cost costs e.choices.items ≡ choices_cost costs (take (length e.choices.items - 1) e.choices.items) + left_cost (suc (length (rows_in others))) (rest_cost costs place)
       old_cost costs some =
-          let many : length offers.items ≡ suc (length others.items) = (let all = ap length are in let long = length_last others.items offer in omega (arith, all, long)) in
+          let many : length (rows_in offers) ≡ suc (length (rows_in others)) = ap length are in
           ap (choices_cost costs) (next_choices some)
           ∙ (choices_last costs (take (length e.choices.items - 1) e.choices.items) c
           ∙ (ap (λ (l : Left W). choices_cost costs (take (length e.choices.items - 1) e.choices.items) + choice_cost costs l) is
@@ -451,7 +533,7 @@ module _ {S W M : Type 0} (names : S → List (List ℕ)) (present : S → Prese
       some_cost costs choices some made =
           let old = old_cost costs some in
           let new = ap (choices_cost costs) made ∙ choices_last costs (take (length e.choices.items - 1) e.choices.items) (with_left c (left.Offered goal place others)) in
-          let one = left_step (length others.items) (rest_cost costs place) in
+          let one = left_step (length (rows_in others)) (rest_cost costs place) in
           omega (arith, old, new, one)
 
       pub last_cost : (costs : List ℕ) (choices : List (kept.Choice W M)) → 0 < length e.choices.items → choices ≡ take (length e.choices.items - 1) e.choices.items
@@ -459,28 +541,28 @@ module _ {S W M : Type 0} (names : S → List (List ℕ)) (present : S → Prese
       last_cost costs choices some made =
           let old = old_cost costs some in
           let new = ap (choices_cost costs) made in
-          let one = left_step (length others.items) (rest_cost costs place) in
+          let one = left_step (length (rows_in others)) (rest_cost costs place) in
           omega (arith, old, new, one)
 
   -- ---- what the first row that was left comes to
 
-  module _ (e : Plain S W M) (goal : W) (place : Option ℕ) (s : State) (a : Alternative) (below : List Alternative) (offer : Offer) (h : MeetsNext names present stands older e goal place s a below offer) (first : Tree) (rights : List walker.Offer)
+  module _ (e : Plain S W M) (goal : W) (place : Option ℕ) (s : State) (a : Alternative) (below : List Alternative) (r : Row) (h : MeetsNext names present stands older e goal place s a below r) (first : Tree) (rights : List walker.Offer)
       (left : a.left ≡ Offered first rights) where
     abbrev mid : State
     mid = with_rights (goal_arguments (meaning (present e.store) goal)) h.others a.list (went_back a below s)
 
     -- the rows that were left
-    pub next_is : tried_right (goal_arguments (meaning (present e.store) goal)) (constants_offer h.made offer) mid.list mid ≡ offered first rights a.list (went_back a below s)
+    pub next_is : tried_right (goal_arguments (meaning (present e.store) goal)) (row_offer h.made (meaning (present e.store) goal) r) mid.list mid ≡ offered first rights a.list (went_back a below s)
     next_is =
-        let both : Offered (goal_arguments (meaning (present e.store) goal)) (constants_offer h.made offer ∷ h.others) ≡ Offered first rights = sym h.left ∙ left in
+        let both : Offered (goal_arguments (meaning (present e.store) goal)) (row_offer h.made (meaning (present e.store) goal) r ∷ h.others) ≡ Offered first rights = sym h.left ∙ left in
         let lefts : goal_arguments (meaning (present e.store) goal) ≡ first = cc in
-        let rows : constants_offer h.made offer ∷ h.others ≡ rights = cc in
+        let rows : row_offer h.made (meaning (present e.store) goal) r ∷ h.others ≡ rights = cc in
         let keep = rights_keep (goal_arguments (meaning (present e.store) goal)) h.others (went_back a below s) in
-        ap (λ (ms : List Member). tried_right (goal_arguments (meaning (present e.store) goal)) (constants_offer h.made offer) ms mid) keep.0 ∙ (λ i. offered (lefts i) (rows i) a.list (went_back a below s))
+        ap (λ (ms : List Member). tried_right (goal_arguments (meaning (present e.store) goal)) (row_offer h.made (meaning (present e.store) goal) r) ms mid) keep.0 ∙ (λ i. offered (lefts i) (rows i) a.list (went_back a below s))
 
     pub next_keeps : ((offered first rights a.list (went_back a below s)).stack ≡ mid.stack) × ((offered first rights a.list (went_back a below s)).world ≡ s.world) × (mid.world ≡ s.world)
     next_keeps =
-        let k = right_keeps h.made (goal_arguments (meaning (present e.store) goal)) offer mid.list mid in
+        let k = right_keeps h.made (goal_arguments (meaning (present e.store) goal)) (meaning (present e.store) goal) r h.of mid.list mid in
         let m = rights_keep (goal_arguments (meaning (present e.store) goal)) h.others (went_back a below s) in
         (ap (λ (x : State). x.stack) (sym next_is) ∙ k.0, ap (λ (x : State). x.world) (sym next_is) ∙ (k.1 ∙ m.1), m.1)
 

@@ -16,7 +16,7 @@ use Rattle.iso_model.specs.declared.library.Setting.{Setting}
 use Rattle.iso_model.specs.declared.library.Storage.{Storage}
 use Rattle.iso_model.specs.declared.library.Output.{Output}
 use Rattle.iso_model.specs.Search.Outputs.{output_reply}
-use Rattle.iso_model.specs.Search.Settings.{setting_settled}
+use Rattle.iso_model.specs.Search.Settings.{Settled, setting_settled}
 use Rattle.iso_model.specs.Search.Storages.{storage_settled}
 use Rattle.iso_model.specs.declared.pauses.Pause.{Pause}
 use Rattle.iso_model.specs.declared.limit.Limit.TheVariants as limit
@@ -46,7 +46,9 @@ use Rattle.iso_plain_core.specs.GoalKinds.{IsBuiltIn}
 use Rattle.iso_plain_core.specs.Entering.{Adds}
 use Rattle.iso_plain.specs.Catches.{EntersCatch, throwing, catching, calling_inside, catcher_of, recovery_of}
 use Rattle.iso_plain.specs.Gathers.{EntersFindall, FindsAll, finding, template_of, result_of}
-use Rattle.iso_plain.specs.Settles.{AsksAt, WasStopped}
+use Rattle.iso_plain.specs.Settles.{MeetsRow, AsksAt, PartsAt, WasStopped}
+use Rattle.iso_model.specs.declared.library.AtomPart.{AtomPart}
+use Rattle.iso_model.specs.Search.AtomParts.{parts_settled}
 use Rattle.iso_plain.specs.Shows.{StoresAt, WasGivenUp}
 use Rattle.iso_plain.specs.Outputs.{WritesAt, HasWritten}
 use Rattle.iso_plain.specs.Worlds.{IsWorld}
@@ -260,6 +262,22 @@ asks_by p q old new Repeats row h = absurd h
 asks_by p q old new (Catches inside catcher recovery) row h = absurd h
 asks_by p q old new (Halts n) row h = absurd h
 asks_by p q old new (Writes bytes) row h = absurd h
+
+pub parts_by : {W : Type 0} (p q : Present W) (old new : List (Node W)) (x : Reply) (row : AtomPart) → IsReply p q old new x (replied.TakesApart row) → q ≡ p
+parts_by p q old new (AsksWorld settles) row h = h.0
+parts_by p q old new Fails row h = absurd h
+parts_by p q old new Succeeds row h = absurd h
+parts_by p q old new (Equates made a b) row h = absurd h
+parts_by p q old new (EquatesCopy a b) row h = absurd h
+parts_by p q old new (Raises error) row h = absurd h
+parts_by p q old new (Calls b) row h = absurd h
+parts_by p q old new (CallsOnce b) row h = absurd h
+parts_by p q old new (Refutes b) row h = absurd h
+parts_by p q old new (Gathers template b result) row h = absurd h
+parts_by p q old new Repeats row h = absurd h
+parts_by p q old new (Catches inside catcher recovery) row h = absurd h
+parts_by p q old new (Halts n) row h = absurd h
+parts_by p q old new (Writes bytes) row h = absurd h
 
 pub stores_by : {W : Type 0} (p q : Present W) (old new : List (Node W)) (x : Reply) (row : Storage) → IsReply p q old new x (replied.AsksDatabase row) → q ≡ p
 stores_by p q old new (AsksWorld settles) row h = h.0
@@ -706,52 +724,96 @@ module _ {S W M : Type 0} (names : S → List (List ℕ)) (present : S → Prese
           let many = choices_length r.engine.choices in
           comes_over names present stands older e s r walker_finds e.limit finds_to refl (omega (arith, many, full))
 
-    -- ---- what it comes to rests on the operators and the flags
+    -- ---- it asks what is settled in the world as it is
 
-    module _ (row : Setting) (of_row : b ≡ built_in.Setting row) (same : present store ≡ present e.store) where
-      abbrev pub asking : State
-      asking = behind o.built
+    module _ (x : Tree → World → Settled) (asks_is : reply b t ≡ AsksWorld (λ k v. x t v)) (same : present store ≡ present e.store) where
+      abbrev asker : State
+      asker = behind o.built
 
       -- the goal's word stands for what it did
       asked_goal : meaning (present store) w ≡ t
       asked_goal = ap (λ (q : Present W). meaning q w) same
 
-      asks_is : reply b t ≡ AsksWorld (λ k v. setting_settled row t v)
-      asks_is = ap (λ (x : BuiltIn). reply x t) of_row
+      asked_meets : MeetsRow names present stands older mid w asker f.next
+      asked_meets = record {
+        ahead = behind_ahead o.built (subst (λ (q : Present W). KeepsWords (present e.store) q) (sym same) (words_same (present e.store))) (ap (λ (q : Present W). q.substitution) same) (ap (λ (q : Present W). q.next) same);
+        space = (let room = a.ahead.goes.room in let all = a.ahead.steps in let one = one_less e.steps more in omega (arith, room, all, one));
+        holds = subst (λ (q : Present W). q.holds w ≡ true) (sym same) a.holds;
+      }
+
+      -- the state that the walker comes to
+      abbrev walker_asks : State
+      walker_asks = settled (x (meaning (present store) w) asker.world) asker.list asker
+
+      asks_to : step o ≡ Goes walker_asks
+      asks_to =
+          runs_to names present stands older e s f k w doing there r (settled (x t o.world) a.behind o) more (own_goal t a.behind o b (AsksWorld (λ k v. x t v)) is_own asks_is)
+          ∙ (ap Goes (settled_steps (x t o.world) a.behind n o) ∙ ap (λ (y : Tree). Goes (settled (x y o.world) a.behind asker)) (sym asked_goal))
+
+      asked_now : (new : Plain S W M) (m : Move) → WasCalled names present stands older m new asker walker_asks → Moves names present stands older m s new
+      asked_now new move.Goes was = goes names present stands older e new s r walker_asks asks_to was.0 was.1
+      asked_now new (move.Pauses p) was =
+          rw was.0 (spent_stands names present stands older limit.Frames new.now new s (ap phase_of was.1) (stops_here names present stands older new o s r.same was.2), ap phase_of was.1)
+
+      asked_stops : (new : Plain S W M) → WasStopped names present stands older new asker walker_asks → Stopped names present stands older new s
+      asked_stops new (inl kept) = stops_here names present stands older new o s r.same kept
+      asked_stops new (inr kept) = stops names present stands older new o walker_asks s walker_asks.stack r.same asks_to refl kept.0 kept.1
+
+      asked_over : (e.limit ≤ length e.choices.items) × (length walker_asks.stack ≡ suc (length asker.stack)) → ComesOver e.limit s
+      asked_over full =
+          let many = choices_length r.engine.choices in
+          let within = full.0 in
+          comes_over names present stands older e s r walker_asks e.limit asks_to full.1 (omega (arith, many, within))
+
+    -- ---- what it comes to rests on the operators and the flags
+
+    module _ (row : Setting) (of_row : b ≡ built_in.Setting row) (same : present store ≡ present e.store) where
+      abbrev pub asking : State
+      asking = asker (setting_settled row) (ap (λ (x : BuiltIn). reply x t) of_row) same
 
       pub asks_at : AsksAt names present stands older mid row w asking f.next
       asks_at = record {
-        meets = record {
-          ahead = behind_ahead o.built (subst (λ (q : Present W). KeepsWords (present e.store) q) (sym same) (words_same (present e.store))) (ap (λ (q : Present W). q.substitution) same) (ap (λ (q : Present W). q.next) same);
-          space = (let room = a.ahead.goes.room in let all = a.ahead.steps in let one = one_less e.steps more in omega (arith, room, all, one));
-          holds = subst (λ (q : Present W). q.holds w ≡ true) (sym same) a.holds;
-        };
-        arity_is = ap arity asked_goal ∙ subst (λ (x : BuiltIn). HasArity x (arity t)) of_row (built_in_arguments t b is_own);
+        meets = asked_meets (setting_settled row) (ap (λ (x : BuiltIn). reply x t) of_row) same;
+        arity_is = ap (λ (q : Present W). arity (meaning q w)) same ∙ subst (λ (x : BuiltIn). HasArity x (arity t)) of_row (built_in_arguments t b is_own);
       }
 
       -- the state that the walker comes to
       abbrev pub walker_settles : State
       walker_settles = settled (setting_settled row (meaning (present store) w) asking.world) asking.list asking
 
-      settles_to : step o ≡ Goes walker_settles
-      settles_to =
-          runs_to names present stands older e s f k w doing there r (settled (setting_settled row t o.world) a.behind o) more (own_goal t a.behind o b (AsksWorld (λ k v. setting_settled row t v)) is_own asks_is)
-          ∙ (ap Goes (settled_steps (setting_settled row t o.world) a.behind n o) ∙ ap (λ (x : Tree). Goes (settled (setting_settled row x o.world) a.behind asking)) (sym asked_goal))
-
       pub settles_now : (new : Plain S W M) (m : Move) → WasCalled names present stands older m new asking walker_settles → Moves names present stands older m s new
-      settles_now new move.Goes was = goes names present stands older e new s r walker_settles settles_to was.0 was.1
-      settles_now new (move.Pauses p) was =
-          rw was.0 (spent_stands names present stands older limit.Frames new.now new s (ap phase_of was.1) (stops_here names present stands older new o s r.same was.2), ap phase_of was.1)
+      settles_now = asked_now (setting_settled row) (ap (λ (x : BuiltIn). reply x t) of_row) same
 
       pub settle_stops : (new : Plain S W M) → WasStopped names present stands older new asking walker_settles → Stopped names present stands older new s
-      settle_stops new (inl kept) = stops_here names present stands older new o s r.same kept
-      settle_stops new (inr kept) = stops names present stands older new o walker_settles s walker_settles.stack r.same settles_to refl kept.0 kept.1
+      settle_stops = asked_stops (setting_settled row) (ap (λ (x : BuiltIn). reply x t) of_row) same
 
       pub settle_over : (e.limit ≤ length e.choices.items) × (length walker_settles.stack ≡ suc (length asking.stack)) → ComesOver e.limit s
-      settle_over full =
-          let many = choices_length r.engine.choices in
-          let within = full.0 in
-          comes_over names present stands older e s r walker_settles e.limit settles_to full.1 (omega (arith, many, within))
+      settle_over = asked_over (setting_settled row) (ap (λ (x : BuiltIn). reply x t) of_row) same
+
+    -- ---- it takes atoms apart
+
+    module _ (row : AtomPart) (of_row : b ≡ built_in.AtomPart row) (same : present store ≡ present e.store) where
+      abbrev pub parting : State
+      parting = asker (λ y v. parts_settled row y) (ap (λ (x : BuiltIn). reply x t) of_row) same
+
+      pub parts_at : PartsAt names present stands older mid row w parting f.next
+      parts_at = record {
+        meets = asked_meets (λ y v. parts_settled row y) (ap (λ (x : BuiltIn). reply x t) of_row) same;
+        arity_is = ap (λ (q : Present W). arity (meaning q w)) same ∙ subst (λ (x : BuiltIn). HasArity x (arity t)) of_row (built_in_arguments t b is_own);
+      }
+
+      -- the state that the walker comes to
+      abbrev pub walker_parts : State
+      walker_parts = settled (parts_settled row (meaning (present store) w)) parting.list parting
+
+      pub parts_now : (new : Plain S W M) (m : Move) → WasCalled names present stands older m new parting walker_parts → Moves names present stands older m s new
+      parts_now = asked_now (λ y v. parts_settled row y) (ap (λ (x : BuiltIn). reply x t) of_row) same
+
+      pub part_stops : (new : Plain S W M) → WasStopped names present stands older new parting walker_parts → Stopped names present stands older new s
+      part_stops = asked_stops (λ y v. parts_settled row y) (ap (λ (x : BuiltIn). reply x t) of_row) same
+
+      pub part_over : (e.limit ≤ length e.choices.items) × (length walker_parts.stack ≡ suc (length parting.stack)) → ComesOver e.limit s
+      part_over = asked_over (λ y v. parts_settled row y) (ap (λ (x : BuiltIn). reply x t) of_row) same
 
     -- ---- what it comes to rests on the database
 

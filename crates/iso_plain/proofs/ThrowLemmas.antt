@@ -125,7 +125,7 @@ module _ {W M : Type 0} {leaves : Leaving} {query : List W} {named : List ℕ} w
     by_left (left.AsIs place) e has = passes AsIs has.is refl
     by_left (left.Again place) e has = passes Again has.is refl
     by_left (left.Gathering result place g) e has = passes (Gathering (meaning at.present result) (copies_of g) g.variables) has.is refl
-    by_left (left.Offered goal place offers) e has = passes (Offered (goal_arguments (meaning at.present goal)) (rights_of has.made offers.items)) has.is refl
+    by_left (left.Offered goal place offers) e has = passes (Offered (goal_arguments (meaning at.present goal)) (rights_of has.made (meaning at.present goal) offers)) has.is refl
     by_left (left.Shown shown) e has = passes (Offered (row (meaning at.present shown.head ∷ meaning at.present shown.body ∷ [])) (map (clause_offer shown.removes has.key) has.clauses)) has.is refl
     by_left (left.Clauses attempt) e has = passes (Clauses has.call has.clauses) has.left refl
 

@@ -1,13 +1,15 @@
--- Goals that read or change operators and flags, as the engine comes to them (ISO/IEC 13211-1:1995, 8.14.3, 8.14.4, 8.17.1, 8.17.2).
+-- Goals whose arguments are unified with rows, as the engine comes to them (ISO/IEC 13211-1:1995, 8.14.3, 8.14.4, 8.16.2, 8.16.3, 8.17.1, 8.17.2).
 use Rattle.std.specs.Prelude.{◌≡◌, ◌+◌, ◌*◌, ◌≤◌, ℕ, List, ◌∷◌, true, Option, ◌⊎◌}
 use Rattle.iso_model.specs.Terms.Arguments.{arity}
 use Rattle.iso_model.specs.Search.Settings.{setting_arity}
 use Rattle.iso_model.specs.Search.Walker.{State, Alternative, Offered, with_rights}
 use Rattle.iso_model.specs.declared.library.Setting.{Setting}
+use Rattle.iso_model.specs.Search.AtomParts.{part_arity}
+use Rattle.iso_model.specs.declared.library.AtomPart.{AtomPart}
 use Rattle.iso_store_core.specs.Presents.{Present, meaning}
-use Rattle.iso_lib.specs.declared.settings.Offer.{Offer}
+use Rattle.iso_plain_core.specs.declared.offers.Row.{Row}
 use Rattle.iso_model.specs.Search.Settlements as walker
-use Rattle.iso_plain_core.specs.Offers.{goal_arguments, constants_offer}
+use Rattle.iso_plain_core.specs.Offers.{goal_arguments, row_offer, IsRow}
 use Rattle.iso_plain_core.specs.Standing.{most_numbers, numbers_a_step}
 use Rattle.iso_plain.specs.declared.plain.Plain.{Plain}
 use Rattle.iso_plain.specs.EngineStates.{IsAhead, Keeps, went_back}
@@ -24,11 +26,17 @@ module _ {S W M : Type 0} (names : S → List (List ℕ)) (present : S → Prese
     pub meets : MeetsRow e goal s place
     pub arity_is : arity (meaning (present e.store) goal) ≡ setting_arity row
 
+  -- so where it is a goal of this row, which takes atoms apart
+  pub record PartsAt (e : Plain S W M) (row : AtomPart) (goal : W) (s : State) (place : Option ℕ) : Type 0 where
+    pub meets : MeetsRow e goal s place
+    pub arity_is : arity (meaning (present e.store) goal) ≡ part_arity row
+
   -- The engine, in this state, is about to unify the arguments of this goal with the first row that was left at its newest alternative.
-  pub record MeetsNext (e : Plain S W M) (goal : W) (place : Option ℕ) (s : State) (a : Alternative) (below : List Alternative) (offer : Offer) : Type 0 where
+  pub record MeetsNext (e : Plain S W M) (goal : W) (place : Option ℕ) (s : State) (a : Alternative) (below : List Alternative) (row : Row) : Type 0 where
     pub made : ℕ
     pub others : List walker.Offer
-    pub left : a.left ≡ Offered (goal_arguments (meaning (present e.store) goal)) (constants_offer made offer ∷ others)
+    pub left : a.left ≡ Offered (goal_arguments (meaning (present e.store) goal)) (row_offer made (meaning (present e.store) goal) row ∷ others)
+    pub of : IsRow (meaning (present e.store) goal) row
     pub meets : MeetsRow e goal (with_rights (goal_arguments (meaning (present e.store) goal)) others a.list (went_back a below s)) place
 
   -- The goal was refused: before it came to anything, or with the rows behind the first as an alternative.

@@ -11,6 +11,7 @@ pub mod gathers;
 mod locals;
 pub mod moves;
 mod outputs;
+mod part_goals;
 pub mod plain;
 pub mod runs;
 mod settles;

@@ -168,6 +168,7 @@ impl<S: Store + Drop> Plain<S> {
             Replied::Gathers(body) => self.find_all(body, goal, frame.next),
             Replied::AsksSettings(row) => self.settle(row, goal, frame.next),
             Replied::AsksDatabase(row) => self.store_goal(row, goal, frame.next),
+            Replied::TakesApart(row) => self.part_goal(row, goal, frame.next),
             Replied::Writes(row) => self.write_goal(row, goal, frame.next),
             Replied::Halts(status) => {
                 self.clear();

@@ -1,20 +1,19 @@
-//! The engine's moves at goals that read or change operators and flags (8.14.3, 8.14.4, 8.17.1, 8.17.2).
-ghost use Rattle.std.specs.Prelude.{◌≡◌, ℕ, suc, ◌+◌, ◌<◌, ◌≤◌, IfOk, OnOk, OnErr, Ok, Err, List, map, length, Option, Vec, true, false};
-ghost use Rattle.std.specs.Global.{Global};
+//! The engine's moves at goals that read or change operators and flags (8.14.3, 8.14.4, 8.17.1, 8.17.2), and at rows that their arguments are unified with.
+ghost use Rattle.std.specs.Prelude.{◌≡◌, ℕ, suc, ◌+◌, ◌<◌, ◌≤◌, IfOk, OnOk, OnErr, Ok, Err, List, length, Option, true, false};
 ghost use Rattle.iso_model.specs.Terms.Trees.{Tree};
 ghost use Rattle.iso_model.specs.Search.Settings.{setting_settled};
 ghost use Rattle.iso_model.specs.Search.Settlements as settlements;
 ghost use Rattle.iso_model.specs.Search.Walker as walker;
 ghost use Rattle.iso_model.specs.Search.Walker.{State, Alternative, with_rights, tried_right, offered, settled};
 ghost use Rattle.iso_store_core.specs.Presents.{meaning};
-ghost use Rattle.iso_lib.specs.declared.settings.Offer as rows;
-ghost use Rattle.iso_plain_core.specs.Offers.{goal_arguments, constants_offer, rights_of};
+ghost use Rattle.iso_plain_core.specs.declared.offers.Offers as rows;
+ghost use Rattle.iso_plain_core.specs.Offers.{goal_arguments, row_offer, rows_in, rights_of, IsRow, AreRows};
 ghost use Rattle.iso_plain_core.specs.declared.parts.Choice as kept;
 
 use super::plain::{Move, Plain};
-use iso_lib::{Fault, Offer, Settled, settle};
+use iso_lib::{Fault, Settled, settle};
 use iso_model::{Limit, Pause, Setting};
-use iso_plain_core::offers::unify_offer;
+use iso_plain_core::offers::{self, Offers, Row};
 use iso_plain_core::parts::{Left, Now, at, keep_choice, take_offer};
 use iso_store_core::{Store, StoreFault};
 use std::alloc::AllocError;
@@ -33,12 +32,13 @@ impl<S: Store + Drop> Plain<S> {
     fn unify_row(
         &mut self,
         goal: S::Word,
-        offer: &Offer,
+        row: &Row,
         place: Option<usize>,
     ) -> Result<(), StoreFault>
-        requires { (s : State) × MeetsRow S.names S.present S.stands S.older self.old goal s place }
+        requires meets { (s : State) × MeetsRow S.names S.present S.stands S.older self.old goal s place }
+        requires row { IsRow (meaning (S.present self.old.store) goal) row.now }
         ensures tried { (s : State) (made : ℕ) → MeetsRow S.names S.present S.stands S.older self.old goal s place
-            → OnOk result (IsEngine S.names S.present S.stands S.older self.new (tried_right (goal_arguments (meaning (S.present self.old.store) goal)) (constants_offer made offer.now) s.list s)) }
+            → OnOk result (IsEngine S.names S.present S.stands S.older self.new (tried_right (goal_arguments (meaning (S.present self.old.store) goal)) (row_offer made (meaning (S.present self.old.store) goal) row.now) s.list s)) }
         ensures kept { (s : State) → MeetsRow S.names S.present S.stands S.older self.old goal s place → OnErr result (Keeps S.names S.present S.stands S.older self.new s.world s.stack) }
         ensures awake { OnOk result (IsAwake (phase_of self.new.now)) }
         ensures full { result ≡ Err StoreFault.Full → S.full self.new.store }
@@ -48,7 +48,7 @@ impl<S: Store + Drop> Plain<S> {
         ensures cost { OnOk result (now_cost (frame_costs self.old.frames.items) self.new.now ≤ body_cost most (rest_cost (frame_costs self.old.frames.items) place)) }
         ensures stays { Stays S.names self.old self.new }
     {
-        if !unify_offer(&mut self.store, goal, offer)? {
+        if !offers::unify_row(self.alloc, &mut self.store, goal, row)? {
             self.now = Now::Failing;
             return Ok(());
         }
@@ -62,15 +62,16 @@ impl<S: Store + Drop> Plain<S> {
         &mut self,
         goal: S::Word,
         place: Option<usize>,
-        offers: Vec<Offer>,
+        offers: Offers,
     ) -> Result<bool, AllocError>
-        requires { (s : State) × MeetsRow S.names S.present S.stands S.older self.old goal s place }
+        requires meets { (s : State) × MeetsRow S.names S.present S.stands S.older self.old goal s place }
+        requires rows { AreRows (meaning (S.present self.old.store) goal) offers }
         ensures meets { (s : State) (made : ℕ) → MeetsRow S.names S.present S.stands S.older self.old goal s place → result ≡ Ok true
-            → MeetsRow S.names S.present S.stands S.older self.new goal (with_rights (goal_arguments (meaning (S.present self.old.store) goal)) (rights_of made offers.items) s.list s) place }
+            → MeetsRow S.names S.present S.stands S.older self.new goal (with_rights (goal_arguments (meaning (S.present self.old.store) goal)) (rights_of made (meaning (S.present self.old.store) goal) offers) s.list s) place }
         ensures present { result ≡ Ok true → S.present self.new.store ≡ S.present self.old.store }
         ensures kept { (s : State) → MeetsRow S.names S.present S.stands S.older self.old goal s place → OnErr result (Keeps S.names S.present S.stands S.older self.new s.world s.stack) }
         ensures refused { result ≡ Ok false → self.new ≡ self.old }
-        ensures over { result ≡ Ok false → (self.old.limit ≤ length self.old.choices.items) × (0 < length offers.items) }
+        ensures over { result ≡ Ok false → (self.old.limit ≤ length self.old.choices.items) × (0 < length (rows_in offers)) }
         ensures steps { self.new.steps ≡ self.old.steps }
         ensures frames { self.new.frames ≡ self.old.frames }
         ensures costs { choices_cost (frame_costs self.old.frames.items) self.new.choices.items
@@ -95,27 +96,27 @@ impl<S: Store + Drop> Plain<S> {
 
     /// Unifies the arguments of the goal with the first of the rows; those behind it are one choice. The errors: the store is full, or
     /// memory was refused; where no choice may be made any more the engine is spent.
-    fn offer(
+    pub(crate) fn offer(
         &mut self,
         goal: S::Word,
         place: Option<usize>,
-        mut offers: Vec<Offer>,
+        mut offers: Offers,
     ) -> Result<Move, StoreFault>
-        requires { (s : State) × MeetsRow S.names S.present S.stands S.older self.old goal s place }
+        requires meets { (s : State) × MeetsRow S.names S.present S.stands S.older self.old goal s place }
+        requires rows { AreRows (meaning (S.present self.old.store) goal) offers }
         ensures called { (s : State) (made : ℕ) → MeetsRow S.names S.present S.stands S.older self.old goal s place
-            → IfOk result (λ m. WasCalled S.names S.present S.stands S.older m self.new s (offered (goal_arguments (meaning (S.present self.old.store) goal)) (map (constants_offer made) offers.items) s.list s)) }
+            → IfOk result (λ m. WasCalled S.names S.present S.stands S.older m self.new s (offered (goal_arguments (meaning (S.present self.old.store) goal)) (rights_of made (meaning (S.present self.old.store) goal) offers) s.list s)) }
         ensures kept { (s : State) (made : ℕ) → MeetsRow S.names S.present S.stands S.older self.old goal s place
-            → OnErr result (WasStopped S.names S.present S.stands S.older self.new s (offered (goal_arguments (meaning (S.present self.old.store) goal)) (map (constants_offer made) offers.items) s.list s)) }
+            → OnErr result (WasStopped S.names S.present S.stands S.older self.new s (offered (goal_arguments (meaning (S.present self.old.store) goal)) (rights_of made (meaning (S.present self.old.store) goal) offers) s.list s)) }
         ensures falls { (w : ℕ) → choices_cost (frame_costs self.old.frames.items) self.old.choices.items
             + rest_cost (frame_costs self.old.frames.items) place ≤ w → IfOk result (λ m. Falls m (whole_cost (suc self.old.steps) w) (weight self.new)) }
         ensures frames { (s : State) (made : ℕ) → MeetsRow S.names S.present S.stands S.older self.old goal s place
             → ResultFull ((self.old.limit ≤ length self.old.choices.items)
-            × (length (offered (goal_arguments (meaning (S.present self.old.store) goal)) (map (constants_offer made) offers.items) s.list s).stack ≡ suc (length s.stack))) result }
+            × (length (offered (goal_arguments (meaning (S.present self.old.store) goal)) (rights_of made (meaning (S.present self.old.store) goal) offers) s.list s).stack ≡ suc (length s.stack))) result }
         ensures met { ResultMet S.full result self.new }
         ensures stays { Stays S.names self.old self.new }
     {
-        offers.reverse();
-        let Some(first) = offers.pop() else {
+        let Some(first) = offers.take() else {
             self.now = Now::Failing;
             return Ok(Move::Goes);
         };
@@ -160,7 +161,10 @@ impl<S: Store + Drop> Plain<S> {
                 self.now = at(self.frames.as_slice(), place);
                 Ok(Move::Goes)
             }
-            Ok(Settled::Offers(offers)) => self.offer(goal, place, offers),
+            Ok(Settled::Offers(mut offers)) => {
+                offers.reverse();
+                self.offer(goal, place, Offers::Constants(offers))
+            }
             Err(Fault::Raise(ball)) => {
                 self.throw(ball, place);
                 Ok(Move::Goes)
@@ -171,13 +175,13 @@ impl<S: Store + Drop> Plain<S> {
     }
 
     /// Takes the first row from those of the newest choice, which goes with its last one.
-    fn next_offer(&mut self, mark: S::Mark) -> Offer
+    fn next_offer(&mut self, mark: S::Mark) -> Row
         requires some { 0 < length self.old.choices.items }
-        requires back { (c : kept.Choice S.Word S.Mark) × (goal : S.Word) × (place : Option ℕ) × (offers : Vec rows.Offer Global) × (s : State) × (a : Alternative) × (below : List Alternative) × (c.mark ≡ mark)
+        requires back { (c : kept.Choice S.Word S.Mark) × (goal : S.Word) × (place : Option ℕ) × (offers : rows.Offers) × (s : State) × (a : Alternative) × (below : List Alternative) × (c.mark ≡ mark)
             × (c.left ≡ left.Offered goal place offers) × WentBack S.names S.present S.stands S.older self.old c s a below }
-        ensures meets { (c : kept.Choice S.Word S.Mark) (goal : S.Word) (place : Option ℕ) (offers : Vec rows.Offer Global) (s : State) (a : Alternative) (below : List Alternative) → c.mark ≡ mark
+        ensures meets { (c : kept.Choice S.Word S.Mark) (goal : S.Word) (place : Option ℕ) (offers : rows.Offers) (s : State) (a : Alternative) (below : List Alternative) → c.mark ≡ mark
             → c.left ≡ left.Offered goal place offers → WentBack S.names S.present S.stands S.older self.old c s a below → MeetsNext S.names S.present S.stands S.older self.new goal place s a below result }
-        ensures costs { (c : kept.Choice S.Word S.Mark) (goal : S.Word) (place : Option ℕ) (offers : Vec rows.Offer Global) (s : State) (a : Alternative) (below : List Alternative) → c.mark ≡ mark
+        ensures costs { (c : kept.Choice S.Word S.Mark) (goal : S.Word) (place : Option ℕ) (offers : rows.Offers) (s : State) (a : Alternative) (below : List Alternative) → c.mark ≡ mark
             → c.left ≡ left.Offered goal place offers → WentBack S.names S.present S.stands S.older self.old c s a below
             → choices_cost (frame_costs self.old.frames.items) self.new.choices.items + (body_cost most (rest_cost (frame_costs self.old.frames.items) place) + 1)
             ≤ choices_cost (frame_costs self.old.frames.items) self.old.choices.items }
@@ -186,14 +190,14 @@ impl<S: Store + Drop> Plain<S> {
         ensures stays { Stays S.names self.old self.new }
     {
         let newest = self.choices.len() - 1;
-        let Some((offer, is_last)) = take_offer(&mut self.choices, newest) else {
+        let Some((row, is_last)) = take_offer(&mut self.choices, newest) else {
             unreachable!();
         };
         if is_last {
             self.choices.truncate(newest);
             self.store.forget(mark);
         }
-        offer
+        row
     }
 
     /// Unifies the arguments of this goal with the first of the rows that were left at the newest choice; then it goes on with the members
@@ -205,12 +209,12 @@ impl<S: Store + Drop> Plain<S> {
         place: Option<usize>,
     ) -> Result<(), StoreFault>
         requires some { 0 < length self.old.choices.items }
-        requires back { (c : kept.Choice S.Word S.Mark) × (offers : Vec rows.Offer Global) × (s : State) × (a : Alternative) × (below : List Alternative) × (c.mark ≡ mark)
+        requires back { (c : kept.Choice S.Word S.Mark) × (offers : rows.Offers) × (s : State) × (a : Alternative) × (below : List Alternative) × (c.mark ≡ mark)
             × (c.left ≡ left.Offered goal place offers) × WentBack S.names S.present S.stands S.older self.old c s a below }
-        ensures tried { (c : kept.Choice S.Word S.Mark) (offers : Vec rows.Offer Global) (s : State) (a : Alternative) (below : List Alternative) (first : Tree) (rights : List settlements.Offer) → c.mark ≡ mark
+        ensures tried { (c : kept.Choice S.Word S.Mark) (offers : rows.Offers) (s : State) (a : Alternative) (below : List Alternative) (first : Tree) (rights : List settlements.Offer) → c.mark ≡ mark
             → c.left ≡ left.Offered goal place offers → WentBack S.names S.present S.stands S.older self.old c s a below → a.left ≡ walker.Offered first rights
             → OnOk result (IsEngine S.names S.present S.stands S.older self.new (offered first rights a.list (went_back a below s))) }
-        ensures kept { (c : kept.Choice S.Word S.Mark) (offers : Vec rows.Offer Global) (s : State) (a : Alternative) (below : List Alternative) (first : Tree) (rights : List settlements.Offer) → c.mark ≡ mark
+        ensures kept { (c : kept.Choice S.Word S.Mark) (offers : rows.Offers) (s : State) (a : Alternative) (below : List Alternative) (first : Tree) (rights : List settlements.Offer) → c.mark ≡ mark
             → c.left ≡ left.Offered goal place offers → WentBack S.names S.present S.stands S.older self.old c s a below → a.left ≡ walker.Offered first rights
             → OnErr result (((offered first rights a.list (went_back a below s)).world ≡ s.world)
             × Keeps S.names S.present S.stands S.older self.new s.world (offered first rights a.list (went_back a below s)).stack) }
@@ -220,7 +224,7 @@ impl<S: Store + Drop> Plain<S> {
         ensures costs { OnOk result (cost self.new < choices_cost (frame_costs self.old.frames.items) self.old.choices.items) }
         ensures stays { Stays S.names self.old self.new }
     {
-        let offer = self.next_offer(mark);
-        self.unify_row(goal, &offer, place)
+        let row = self.next_offer(mark);
+        self.unify_row(goal, &row, place)
     }
 }

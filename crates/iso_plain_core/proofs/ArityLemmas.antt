@@ -7,12 +7,13 @@ use Rattle.iso_model.specs.Search.Databases.{Key, same_key}
 use Rattle.iso_model.specs.Terms.Arguments.{arity}
 use Rattle.iso_model.specs.Search.BuiltIns.{built_ins, built_in_among}
 use Rattle.iso_model.specs.declared.built_ins.BuiltIn.{BuiltIn}
-use Rattle.iso_model.specs.declared.built_ins.BuiltIn.TheVariants.{True, Fail, Call, Once, Not, Repeat, Catch, Throw, Halt, HaltWith, Findall, Library, Setting, Storage, Text, Output}
+use Rattle.iso_model.specs.declared.built_ins.BuiltIn.TheVariants.{True, Fail, Call, Once, Not, Repeat, Catch, Throw, Halt, HaltWith, Findall, Library, Setting, Storage, Text, Output, AtomPart}
 use Rattle.iso_model.specs.Search.Library.{library_arity}
 use Rattle.iso_model.specs.Search.Settings.{setting_arity}
 use Rattle.iso_model.specs.Search.Storages.{storage_arity}
 use Rattle.iso_model.specs.Search.AtomTexts.{text_arity}
 use Rattle.iso_model.specs.Search.Outputs.{output_arity}
+use Rattle.iso_model.specs.Search.AtomParts.{part_arity}
 use Rattle.iso_plain_core.specs.GoalKinds.{IsBuiltIn}
 
 pub some_same : {X : Type 0} {x y : X} → Some x ≡ Some y → x ≡ y
@@ -47,6 +48,7 @@ HasArity (Setting row) n = n ≡ setting_arity row
 HasArity (Storage row) n = n ≡ storage_arity row
 HasArity (Text row) n = n ≡ text_arity row
 HasArity (Output row) n = n ≡ output_arity row
+HasArity (AtomPart row) n = n ≡ part_arity row
 
 -- whether a built-in of the table has so many
 abbrev has_arity : BuiltIn → ℕ → Bool
@@ -66,6 +68,7 @@ has_arity (Setting row) n = n == setting_arity row
 has_arity (Storage row) n = n == storage_arity row
 has_arity (Text row) n = n == text_arity row
 has_arity (Output row) n = n == output_arity row
+has_arity (AtomPart row) n = n == part_arity row
 
 arity_is : (b : BuiltIn) (n : ℕ) → has_arity b n ≡ true → HasArity b n
 arity_is True n h = eqb-true n 0 h
@@ -84,6 +87,7 @@ arity_is (Setting row) n h = eqb-true n (setting_arity row) h
 arity_is (Storage row) n h = eqb-true n (storage_arity row) h
 arity_is (Text row) n h = eqb-true n (text_arity row) h
 arity_is (Output row) n h = eqb-true n (output_arity row) h
+arity_is (AtomPart row) n h = eqb-true n (part_arity row) h
 
 abbrev fit_rows : List (Key × BuiltIn) → Bool
 fit_rows [] = true

@@ -12,6 +12,7 @@ use Rattle.iso_store_core.specs.Presents.{Present}
 use Rattle.iso_plain_core.specs.Standing.{Links, IsBefore, Chain, ends, leads, HasLeft, StandsForChoices, links_at, none_kept, one_kept}
 use Rattle.iso_db.specs.Presents.{remaining}
 use Rattle.iso_plain_core.specs.Leaving.{Leaving}
+use Rattle.iso_plain_core.specs.Offers.{rows_in}
 use Rattle.iso_plain_core.specs.Costs.{choice_cost, choices_cost, now_cost, body_cost, most, left_cost, whole_cost, todo_cost, frame_cost, costs_behind, frame_costs, place_cost}
 use Rattle.iso_plain_core.specs.Next.{IsPlace, now_at, now_behind}
 use Rattle.iso_plain_core.proofs.StandingLemmas.{chain_place}
@@ -54,14 +55,14 @@ cost_parts (suc k) i j l r first second third =
     let d = cost_higher k l r (omega (arith, third)) in
     omega (arith, a, b, c, d)
 
-pub below_most : (n : ℕ) → n < 18446744073709551616 → n ≤ most
+pub below_most : (n : ℕ) → n < 340282366920938463463374607431768211456 → n ≤ most
 unfolding most
 below_most n less = omega (arith, less)
 
 -- a place of nodes
 pub below_words : (n : ℕ) → n < 18446744073709551616 → n < most
 unfolding most
-below_words n less = less
+below_words n less = omega (arith, less)
 
 pub some_most : 0 < most
 unfolding most
@@ -205,7 +206,7 @@ left_place leaves query named p links a more (left.AsIs place) h = ap suc (more_
 left_place leaves query named p links a more (left.Again place) h = ap suc (more_cost links.frames more place (chain_place place h.on.chain))
 left_place leaves query named p links a more (left.Catching goal place) h = ap (left_cost 1) (more_cost links.frames more place (chain_place place h.on.chain))
 left_place leaves query named p links a more (left.Gathering result place gathered) h = ap suc (more_cost links.frames more place (chain_place place h.on.chain))
-left_place leaves query named p links a more (left.Offered goal place offers) h = ap (left_cost (length offers.items)) (more_cost links.frames more place (chain_place place h.on.chain))
+left_place leaves query named p links a more (left.Offered goal place offers) h = ap (left_cost (length (rows_in offers))) (more_cost links.frames more place (chain_place place h.on.chain))
 left_place leaves query named p links a more (left.Shown shown) h = ap (left_cost (suc (remaining shown.later))) (more_cost links.frames more shown.rest (chain_place shown.rest h.on.chain))
 left_place leaves query named p links a more (left.Clauses attempt) h =
     ap (left_cost (suc (remaining attempt.later))) (more_cost links.frames more attempt.rest (chain_place attempt.rest h.at.on.chain))

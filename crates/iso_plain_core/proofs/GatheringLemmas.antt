@@ -166,7 +166,7 @@ module _ (f : walker.Left → walker.Left) (R : Gathered → Gathered → Type 0
         (record { holds = has.holds; three = has.three; on = has.on; is = ap f has.is ∙ k.catching _ _ })
     left_changed (left.Offered goal place offers) m h has =
         subst (λ (x : Left W). HasLeft leaves query named p links x (record a { left = f a.left })) (sym h)
-        (record { holds = has.holds; on = has.on; made = has.made; is = ap f has.is ∙ k.offered _ _; some = has.some })
+        (record { holds = has.holds; on = has.on; made = has.made; is = ap f has.is ∙ k.offered _ _; each = has.each; some = has.some })
     left_changed (left.Shown shown) m h has =
         subst (λ (x : Left W). HasLeft leaves query named p links x (record a { left = f a.left })) (sym h)
         (record { head = has.head; body = has.body; on = has.on; key = has.key; key_is = has.key_is; user = has.user; clauses = has.clauses; is = ap f has.is ∙ k.offered _ _; are = has.are })

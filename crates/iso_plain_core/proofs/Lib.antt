@@ -22,6 +22,7 @@ pub mod ReplyLemmas
 pub mod SolutionLemmas
 pub mod GatheringLemmas
 pub mod OfferLemmas
+pub mod PartRows
 pub mod ResultLemmas
 pub mod ControlNames
 pub mod CallableLemmas

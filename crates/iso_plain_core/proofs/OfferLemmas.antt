@@ -1,5 +1,5 @@
--- A goal's arguments are unified with constants, one after the other.
-use Rattle.std.proofs.Common.{◌≡◌, ◌<◌, ◌≤◌, ℕ, zero, suc, ◌+◌, ◌-◌, ◌==◌, List, [], ◌∷◌, length, take, drop, map, get_or, Bool, true, false, Ok, Err, IfOk, refl, sym, ap, ap₂, subst, ◌∙◌, arith}
+-- A goal's arguments are unified with constants, one after the other; and the rows that are left.
+use Rattle.std.proofs.Common.{◌≡◌, ◌<◌, ◌≤◌, ℕ, zero, suc, ◌+◌, ◌-◌, ◌==◌, List, [], ◌∷◌, length, take, drop, map, reverse, get_or, Bool, true, false, Ok, Err, IfOk, refl, sym, ap, ap₂, subst, ◌∙◌, arith}
 use Rattle.std.specs.Prelude.{Result}
 use Rattle.iso_store_core.specs.declared.shapes.StoreFault.{StoreFault}
 use Rattle.iso_model.specs.Terms.Trees.{Tree, Variable, Integer, Name, Apply, End, More, row, count}
@@ -12,6 +12,12 @@ use Rattle.iso_store_core.specs.Presents.{Present, Binds, IsUnification, KeepsNu
 use Rattle.iso_lib.specs.declared.settings.Constant.{Constant}
 use Rattle.iso_lib.specs.declared.settings.Constant.TheVariants as constant
 use Rattle.iso_lib.specs.Settlements.{constant_tree, arguments_from}
+use Rattle.std.proofs.lemmas.List.{length-append, length-map, length-reverse}
+use Rattle.iso_lib.specs.declared.settings.Offer.{Offer}
+use Rattle.iso_text.specs.Parts.{each_longer, each_of, parts_in}
+use Rattle.iso_text.specs.declared.parts.Part.{Part}
+use Rattle.iso_text.specs.declared.parts.Parts.{Parts}
+use Rattle.iso_plain_core.specs.declared.offers.Row.TheVariants as offered
 use Rattle.iso_plain_core.proofs.GatheringLemmas.{eqb-false-at}
 
 -- ---- substitutions
@@ -190,3 +196,27 @@ module _ {W : Type 0} (p m q : Present W) where
       (subst (λ (k : ℕ). IsUnification m q (row (arguments_from (total - k) k (meaning m goal))) (row (map constant_tree cs)) answer) less
       (subst (λ (ds : List Constant). IsUnification m q (row (arguments_from (total - (suc n - 1)) (suc n - 1) (meaning m goal))) (row (map constant_tree ds)) answer) (rest_is c cs) second)) in
       unified_next p m q goal w (total - suc n) n c cs answer there value (omega (arith, few, within)) (subst (λ (y : Constant). IsUnification p m (meaning p w) (constant_tree y) true) at first) one
+
+-- ---- rows that are left
+
+longer_some : (p : Part) (n : ℕ) → 0 < length (each_longer p n)
+longer_some p zero = omega arith
+longer_some p (suc n) = omega arith
+
+each_some : (ps : Parts) (others : List Parts) → 0 < length (each_of (ps ∷ others))
+each_some ps others =
+    let some = longer_some ps.first ps.more in
+    let all = length-append (each_longer ps.first ps.more) (each_of others) in
+    omega (arith, some, all)
+
+each_empty : (rs : List Parts) → (length rs == 0) ≡ (length (each_of rs) == 0)
+each_empty [] = refl
+each_empty (ps ∷ others) =
+    let some = each_some ps others in
+    eqb-false-at (length (ps ∷ others)) 0 (λ e. omega (arith, e)) ∙ sym (eqb-false-at (length (each_of (ps ∷ others))) 0 (λ e. omega (arith, e, some)))
+
+pub parts_empty : (kept : List Parts) → (length kept == 0) ≡ (length (map offered.Part (parts_in kept)) == 0)
+parts_empty kept = ap (λ n. n == 0) (sym (length-reverse kept)) ∙ (each_empty (reverse kept) ∙ ap (λ n. n == 0) (sym (length-map (parts_in kept) offered.Part)))
+
+pub constants_empty : (kept : List Offer) → (length kept == 0) ≡ (length (map offered.Constants (reverse kept)) == 0)
+constants_empty kept = ap (λ n. n == 0) (sym (length-reverse kept) ∙ sym (length-map (reverse kept) offered.Constants))

@@ -20,9 +20,11 @@ use Rattle.iso_model.specs.declared.built_ins.BuiltIn.{BuiltIn}
 use Rattle.iso_model.specs.declared.built_ins.BuiltIn.TheVariants as built_in
 use Rattle.iso_model.specs.declared.library.Setting.{Setting}
 use Rattle.iso_model.specs.declared.library.Storage.{Storage}
+use Rattle.iso_model.specs.declared.library.AtomPart.{AtomPart}
 use Rattle.iso_model.specs.Search.Settlements.{Settled}
 use Rattle.iso_model.specs.Search.Settings.{setting_settled}
 use Rattle.iso_model.specs.Search.Storages.{storage_settled}
+use Rattle.iso_model.specs.Search.AtomParts.{parts_settled}
 use Rattle.iso_model.specs.Search.Worlds.{World}
 use Rattle.iso_model.specs.Search.AtomTexts.{Characters, element_code, text_answer}
 use Rattle.iso_model.specs.Search.Outputs.{put_code, put_char_key, output_reply}
@@ -117,6 +119,7 @@ module _ {W : Type 0} (p : Present W) (old : List (Node W)) where
   halt_replied (Raises error) (replied.Halts status) h = absurd h
   halt_replied (Raises error) (replied.AsksSettings row) h = absurd h
   halt_replied (Raises error) (replied.AsksDatabase row) h = absurd h
+  halt_replied (Raises error) (replied.TakesApart row) h = absurd h
   halt_replied (Raises error) (replied.Writes row) h = absurd h
   halt_replied (Halts n) (replied.Halts status) h = h
   halt_replied (Halts n) replied.GoesOn h = absurd h
@@ -130,6 +133,7 @@ module _ {W : Type 0} (p : Present W) (old : List (Node W)) where
   halt_replied (Halts n) (replied.Gathers place) h = absurd h
   halt_replied (Halts n) (replied.AsksSettings row) h = absurd h
   halt_replied (Halts n) (replied.AsksDatabase row) h = absurd h
+  halt_replied (Halts n) (replied.TakesApart row) h = absurd h
   halt_replied (Halts n) (replied.Writes row) h = absurd h
   halt_replied Fails answer h = absurd h
   halt_replied Succeeds answer h = absurd h
@@ -268,6 +272,7 @@ only_catch built_in.Findall t h = absurd (none_found IsCatches (λ e i. i) (λ n
 only_catch (built_in.Library row) t h = absurd (no_catch_answered (library_answer row t) h)
 only_catch (built_in.Setting row) t h = absurd h
 only_catch (built_in.Storage row) t h = absurd h
+only_catch (built_in.AtomPart row) t h = absurd h
 only_catch (built_in.Text row) t h = absurd (no_catch_answered (text_answer row t) h)
 only_catch (built_in.Output PutChar) t h = absurd (none_put IsCatches (λ e i. i) (λ n i. i) (element_code Characters (argument 0 t) put_char_key) (λ bytes i. i) h)
 only_catch (built_in.Output NewLine) t h = absurd h
@@ -290,6 +295,7 @@ only_findall built_in.Findall t h = refl
 only_findall (built_in.Library row) t h = absurd (no_gatherer_answered (library_answer row t) h)
 only_findall (built_in.Setting row) t h = absurd h
 only_findall (built_in.Storage row) t h = absurd h
+only_findall (built_in.AtomPart row) t h = absurd h
 only_findall (built_in.Text row) t h = absurd (no_gatherer_answered (text_answer row t) h)
 only_findall (built_in.Output PutChar) t h = absurd (none_put IsGathers (λ e i. i) (λ n i. i) (element_code Characters (argument 0 t) put_char_key) (λ bytes i. i) h)
 only_findall (built_in.Output NewLine) t h = absurd h
@@ -343,6 +349,11 @@ setting_settles b t row settles own is =
 pub storage_settles : (b : BuiltIn) (t : Tree) (row : Storage) (settles : ℕ → World → Settled) → b ≡ built_in.Storage row → reply b t ≡ AsksWorld settles → settles ≡ (λ n w. storage_settled row t n w)
 storage_settles b t row settles own is =
     let there : AsksWorld (λ n w. storage_settled row t n w) ≡ AsksWorld settles = subst (λ (x : BuiltIn). reply x t ≡ AsksWorld settles) own is in
+    cc
+
+pub parts_settle : (b : BuiltIn) (t : Tree) (row : AtomPart) (settles : ℕ → World → Settled) → b ≡ built_in.AtomPart row → reply b t ≡ AsksWorld settles → settles ≡ (λ n w. parts_settled row t)
+parts_settle b t row settles own is =
+    let there : AsksWorld (λ n w. parts_settled row t) ≡ AsksWorld settles = subst (λ (x : BuiltIn). reply x t ≡ AsksWorld settles) own is in
     cc
 
 -- a goal that writes, or raises its error, did nothing yet

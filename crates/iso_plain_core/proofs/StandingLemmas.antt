@@ -123,6 +123,11 @@ item_is [] i c x at is = absurd (cc)
 item_is (y ∷ ys) zero c x at is = cc
 item_is (y ∷ ys) (suc i) c x at is = item_is ys i c x at is
 
+pub item_there : {X : Type 0} (xs : List X) (i : ℕ) (x : X) → i < length xs → x ≡ get_or xs i x → slice_get xs i ≡ Some x
+item_there [] i x within is = absurd (omega (arith, within))
+item_there (y ∷ ys) zero x within is = ap Some (sym is)
+item_there (y ∷ ys) (suc i) x within is = item_there ys i x (omega (arith, within)) is
+
 pub last_split : {X : Type 0} (xs : List X) (i : ℕ) (c : X) → slice_get xs i ≡ Some c → i + 1 ≡ length xs → xs ≡ take i xs ++ c ∷ []
 last_split [] i c at all = absurd (cc)
 last_split (x ∷ []) zero c at all = (let same : x ≡ c = cc in ap (λ (y : _). y ∷ []) same)
@@ -176,7 +181,7 @@ left_stays query named p links a keeps (left.AsIs place) has = record { on = has
 left_stays query named p links a keeps (left.Again place) has = record { on = has.on; is = has.is }
 left_stays query named p links a keeps (left.Catching goal place) has = record { holds = has.holds; three = has.three; on = has.on; is = has.is }
 left_stays query named p links a keeps (left.Gathering result place gathered) has = record { holds = has.holds; on = has.on; is = has.is; fits = has.fits }
-left_stays query named p links a keeps (left.Offered goal place offers) has = record { holds = has.holds; on = has.on; made = has.made; is = has.is; some = has.some }
+left_stays query named p links a keeps (left.Offered goal place offers) has = record { holds = has.holds; on = has.on; made = has.made; is = has.is; each = has.each; some = has.some }
 left_stays query named p links a keeps (left.Shown shown) has = record { head = has.head; body = has.body; on = has.on; key = has.key; key_is = has.key_is; user = has.user; clauses = has.clauses; is = has.is; are = keeps shown.clause shown.later has.clauses has.are }
 left_stays query named p links a keeps (left.Clauses attempt) has = record { call = has.call; clauses = has.clauses; at = has.at; left = has.left; are = keeps attempt.clause attempt.later has.clauses has.are }
 

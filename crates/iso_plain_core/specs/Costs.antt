@@ -5,6 +5,7 @@ use Rattle.iso_plain_core.specs.declared.parts.Todo.{Todo}
 use Rattle.iso_plain_core.specs.declared.parts.Todo.TheVariants as todo
 use Rattle.iso_plain_core.specs.declared.parts.Frame.{Frame}
 use Rattle.iso_db.specs.Presents.{remaining}
+use Rattle.iso_plain_core.specs.Offers.{rows_in}
 use Rattle.iso_plain_core.specs.declared.parts.Left.{Left}
 use Rattle.iso_plain_core.specs.declared.parts.Left.TheVariants as left
 use Rattle.iso_plain_core.specs.declared.parts.Choice as kept
@@ -17,9 +18,9 @@ unfoldable pub body_cost : ℕ → ℕ → ℕ
 body_cost zero rest = suc rest
 body_cost (suc k) rest = body_cost k (body_cost k rest + 2) + (body_cost k rest + 2)
 
--- more than the places of any nodes, and than the clauses of any procedure
+-- more than the places of any nodes, than the clauses of any procedure and than the parts of any atom
 unfoldable pub most : ℕ
-most = 18446744073709551616
+most = 340282366920938463463374607431768211456
 
 -- so many clauses that are left to be tried, where this is to be done behind the call
 unfoldable pub left_cost : ℕ → ℕ → ℕ
@@ -68,7 +69,7 @@ choice_cost costs (left.AsIs place) = suc (rest_cost costs place)
 choice_cost costs (left.Again place) = suc (rest_cost costs place)
 choice_cost costs (left.Catching goal place) = left_cost 1 (rest_cost costs place)
 choice_cost costs (left.Gathering result place gathered) = suc (rest_cost costs place)
-choice_cost costs (left.Offered goal place offers) = left_cost (length offers.items) (rest_cost costs place)
+choice_cost costs (left.Offered goal place offers) = left_cost (length (rows_in offers)) (rest_cost costs place)
 choice_cost costs (left.Shown shown) = left_cost (suc (remaining shown.later)) (rest_cost costs shown.rest)
 choice_cost costs (left.Clauses attempt) = left_cost (suc (remaining attempt.later)) (rest_cost costs attempt.rest)
 

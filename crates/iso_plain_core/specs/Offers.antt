@@ -1,14 +1,18 @@
--- Rows of terms that are offered: constants that a goal's arguments are unified with, and heads and bodies of clauses.
-use Rattle.std.specs.Prelude.{◌≡◌, ℕ, ◌==◌, List, [], ◌∷◌, ◌++◌, map, reverse, length, slice_set, Bool, true, false, Option, Some, Vec}
-use Rattle.std.specs.Global.{Global}
+-- Rows of terms that are offered: constants and parts of atoms that a goal's arguments are unified with, and heads and bodies of clauses.
+use Rattle.std.specs.Prelude.{◌≡◌, ℕ, ◌==◌, List, [], ◌∷◌, map, reverse, length, slice_set, Bool, true, false, Option, Some}
+use Rattle.std.specs.List.{All}
 use Rattle.iso_model.specs.Terms.Trees.{Tree, row}
 use Rattle.iso_model.specs.Terms.Arguments.{arity}
 use Rattle.iso_model.specs.Search.Databases.{Clause, Key}
 use Rattle.iso_model.specs.Search.Settlements as walker
 use Rattle.iso_model.specs.Search.Settlements.{constant_offer}
 use Rattle.iso_model.specs.Search.Storages.{shown_clause, removed_clause}
-use Rattle.iso_lib.specs.declared.settings.Offer.{Offer}
+use Rattle.iso_text.specs.Parts.{part_row, parts_in, IsOf, AreOf}
 use Rattle.iso_lib.specs.Settlements.{offer_tree, arguments_from}
+use Rattle.iso_plain_core.specs.declared.offers.Row.{Row}
+use Rattle.iso_plain_core.specs.declared.offers.Row.TheVariants as offered
+use Rattle.iso_plain_core.specs.declared.offers.Offers.{Offers}
+use Rattle.iso_plain_core.specs.declared.offers.Offers.TheVariants as rows
 use Rattle.iso_plain_core.specs.declared.parts.Left.TheVariants as left
 use Rattle.iso_plain_core.specs.declared.parts.Choice as kept
 
@@ -16,13 +20,31 @@ use Rattle.iso_plain_core.specs.declared.parts.Choice as kept
 abbrev pub goal_arguments : Tree → Tree
 goal_arguments t = row (arguments_from 0 (arity t) t)
 
--- a row of constants, for which so much is made
-abbrev pub constants_offer : ℕ → Offer → walker.Offer
-constants_offer made offer = constant_offer made (offer_tree offer)
+-- the row of terms that the arguments of this goal are unified with
+abbrev pub row_tree : Tree → Row → Tree
+row_tree t (offered.Constants offer) = offer_tree offer
+row_tree t (offered.Part part) = part_row t part
 
--- the rows, of which the last is tried first
-abbrev pub rights_of : ℕ → List Offer → List walker.Offer
-rights_of made offers = map (constants_offer made) (reverse offers)
+-- so much is made for it
+abbrev pub row_offer : ℕ → Tree → Row → walker.Offer
+row_offer made t row = constant_offer made (row_tree t row)
+
+-- the rows that are left, in the order in which they are tried
+abbrev pub rows_in : Offers → List Row
+rows_in (rows.Constants kept) = map offered.Constants (reverse kept.items)
+rows_in (rows.Parts kept) = map offered.Part (parts_in kept.items)
+
+abbrev pub rights_of : ℕ → Tree → Offers → List walker.Offer
+rights_of made t offers = map (row_offer made t) (rows_in offers)
+
+-- parts of atoms are those of this goal's
+abbrev pub IsRow : Tree → Row → Type 0
+IsRow t (offered.Constants offer) = Unit {0}
+IsRow t (offered.Part part) = IsOf t part
+
+abbrev pub AreRows : Tree → Offers → Type 0
+AreRows t (rows.Constants kept) = Unit {0}
+AreRows t (rows.Parts kept) = All (AreOf t) kept.items
 
 -- a clause of the procedure with this key, which is removed where it is taken, or stays
 abbrev pub clause_offer : Bool → Key → Clause → walker.Offer
@@ -30,9 +52,10 @@ clause_offer true k c = removed_clause k c
 clause_offer false k c = shown_clause c
 
 -- The first row was taken at the choice at this place, at which this goal's arguments are to be unified with rows; and whether it was the last one.
-pub record TakesOffer {W M : Type 0} (c : kept.Choice W M) (goal : W) (rest : Option ℕ) (offers : Vec Offer Global) (place : ℕ) (old new : List (kept.Choice W M)) (result : Option (Offer × Bool)) : Type 0 where
-  pub offer : Offer
-  pub others : Vec Offer Global
-  pub is : result ≡ Some (offer, length others.items == 0)
-  pub are : offers.items ≡ others.items ++ offer ∷ []
+pub record TakesOffer {W M : Type 0} (c : kept.Choice W M) (goal : W) (rest : Option ℕ) (offers : Offers) (place : ℕ) (old new : List (kept.Choice W M)) (result : Option (Row × Bool)) : Type 0 where
+  pub row : Row
+  pub others : Offers
+  pub is : result ≡ Some (row, length (rows_in others) == 0)
+  pub are : rows_in offers ≡ row ∷ rows_in others
+  pub each : (t : Tree) → AreRows t offers → AreRows t others × IsRow t row
   pub changed : new ≡ slice_set old place (record c { left = left.Offered goal rest others })

@@ -115,6 +115,7 @@ IsReply p q old new (Gathers template b result) (replied.Gathers place) = Places
 IsReply p q old new Repeats replied.Repeats = (q ≡ p) × (new ≡ old)
 IsReply p q old new (AsksWorld settles) (replied.AsksSettings row) = (q ≡ p) × (new ≡ old)
 IsReply p q old new (AsksWorld settles) (replied.AsksDatabase row) = (q ≡ p) × (new ≡ old)
+IsReply p q old new (AsksWorld settles) (replied.TakesApart row) = (q ≡ p) × (new ≡ old)
 IsReply p q old new (Writes bytes) (replied.Writes row) = (q ≡ p) × (new ≡ old)
 IsReply p q old new (Raises error) (replied.Writes row) = (q ≡ p) × (new ≡ old)
 IsReply p q old new reply answer = ⊥
@@ -127,9 +128,10 @@ replied_of (Err (fault.Raise ball)) = Ok (replied.Raises ball)
 replied_of (Err fault.Full) = Err store_fault.Full
 replied_of (Err fault.NoMemory) = Err store_fault.NoMemory
 
--- Of this built-in: where it writes, or asks what outlives a run, it is one of this row.
+-- Of this built-in: where it writes, takes atoms apart or asks what outlives a run, it is one of this row.
 abbrev pub Asks : BuiltIn → Replied → Type 0
 Asks b (replied.AsksSettings row) = b ≡ built.Setting row
 Asks b (replied.AsksDatabase row) = b ≡ built.Storage row
+Asks b (replied.TakesApart row) = b ≡ built.AtomPart row
 Asks b (replied.Writes row) = b ≡ built.Output row
 Asks b answer = Unit {0}

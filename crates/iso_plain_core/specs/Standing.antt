@@ -15,8 +15,8 @@ use Rattle.iso_store_core.specs.Presents.{Present, meaning}
 use Rattle.iso_plain_core.specs.Nodes.{At, IsTree}
 use Rattle.iso_plain_core.specs.Leaving.{Leaving}
 use Rattle.iso_plain_core.specs.Solutions.{copies_of}
-use Rattle.iso_plain_core.specs.Offers.{goal_arguments, rights_of, clause_offer}
-use Rattle.iso_lib.specs.declared.settings.Offer.{Offer}
+use Rattle.iso_plain_core.specs.Offers.{goal_arguments, rows_in, rights_of, AreRows, clause_offer}
+use Rattle.iso_plain_core.specs.declared.offers.Offers.{Offers}
 use Rattle.iso_plain_core.specs.declared.solutions.Gathered.{Gathered}
 use Rattle.iso_plain_core.specs.declared.bodies.Node.{Node}
 use Rattle.iso_plain_core.specs.declared.bodies.Node.TheVariants as node
@@ -140,13 +140,14 @@ module _ {W : Type 0} (leaves : Leaving) (query : List W) (named : List ℕ) whe
     pub is : a.left ≡ Gathering (meaning p result) (copies_of gathered) gathered.variables
     pub fits : arities_fit (list_of (copies_of gathered)) ≡ true
 
-  -- At the alternative the arguments of this goal are to be unified with these rows, the last of them first, before the members from this place on.
-  pub record HasOffered (p : Present W) (links : Links W) (goal : W) (place : Option ℕ) (offers : List Offer) (a : Alternative) : Type 0 where
+  -- At the alternative the arguments of this goal are to be unified with these rows, before the members from this place on.
+  pub record HasOffered (p : Present W) (links : Links W) (goal : W) (place : Option ℕ) (offers : Offers) (a : Alternative) : Type 0 where
     pub holds : p.holds goal ≡ true
     pub on : OnList p links query named place a.list a.subst a.next
     pub made : ℕ
-    pub is : a.left ≡ Offered (goal_arguments (meaning p goal)) (rights_of made offers)
-    pub some : 0 < length offers
+    pub is : a.left ≡ Offered (goal_arguments (meaning p goal)) (rights_of made (meaning p goal) offers)
+    pub each : AreRows (meaning p goal) offers
+    pub some : 0 < length (rows_in offers)
 
   -- At the alternative the heads and bodies of these clauses are to be unified with two terms, before the members from this place on. They are of a user
   -- procedure, with the key of the first term.
@@ -168,7 +169,7 @@ module _ {W : Type 0} (leaves : Leaving) (query : List W) (named : List ℕ) whe
   HasLeft p links (left.Again place) a = HasMembers p links place Again a
   HasLeft p links (left.Catching goal place) a = HasCatch p links goal place a
   HasLeft p links (left.Gathering result place gathered) a = HasGathered p links result place gathered a
-  HasLeft p links (left.Offered goal place offers) a = HasOffered p links goal place offers.items a
+  HasLeft p links (left.Offered goal place offers) a = HasOffered p links goal place offers a
   HasLeft p links (left.Shown shown) a = HasShown p links shown a
 
 -- Choices are made of an engine's marks (whether a mark stands for a store, and which is older), its mark for the empty store, which clauses are left by

@@ -15,6 +15,7 @@ mod firsts;
 pub mod goals;
 pub mod leaving;
 pub mod offers;
+mod part_rows;
 pub mod parts;
 pub mod replies;
 pub mod solutions;

@@ -1,22 +1,23 @@
 //! The engine's parts: the members of the list of goals, and choices.
 ghost use Rattle.std.specs.Prelude.{◌≡◌, ℕ, ◌+◌, ◌<◌, ◌≤◌, ◌++◌, ◌∷◌, [], IfOk, OnOk, OnErr, length, slice_get, Option, Some, Vec};
 ghost use Rattle.std.specs.Global.{Global};
-ghost use Rattle.iso_lib.specs.declared.settings.Offer.{Offer};
 ghost use Rattle.iso_atoms.specs.Texts.{KeepsTexts};
 ghost use Rattle.iso_store_core.specs.Presents.{KeepsMarks};
 ghost use Rattle.iso_plain_core.specs.Next.{IsPlace, now_behind, now_entered};
 ghost use Rattle.iso_plain_core.specs.Standing.{GainsChoice};
 ghost use Rattle.iso_plain_core.specs.Solutions.{Gains};
 ghost use Rattle.iso_plain_core.specs.Gathering.{ChangesAt, SameCopies};
-ghost use Rattle.iso_plain_core.specs.Offers.{TakesOffer};
+ghost use Rattle.iso_model.specs.Terms.Trees.{Tree};
+ghost use Rattle.iso_plain_core.specs.Offers.{TakesOffer, AreRows, rows_in};
+ghost use Rattle.iso_plain_core.specs.declared.offers.Offers as kept_rows;
 ghost use Rattle.iso_plain_core.specs.declared.parts.Left.TheVariants as left;
 ghost use Rattle.iso_plain_core.specs.declared.parts.Choice as kept;
 ghost use Rattle.iso_model.specs.Terms.TermOf.{term_of};
 
 use super::entries::Entered;
+use super::offers::{Offers, Row};
 use super::solutions::Gathered;
 use iso_db::{ClauseId, View};
-use iso_lib::Offer;
 use iso_model::{Limit, NoMemory, Term};
 use iso_store_core::Store;
 use std::alloc::{AllocError, Global};
@@ -81,8 +82,8 @@ pub enum Left<W> {
     Catching(W, Option<usize>),
     /// To unify this word, the result of a findall/3, with the list of what was gathered, before the members from this place on (8.10.1).
     Gathering(W, Option<usize>, Gathered),
-    /// To unify the arguments of this goal with rows of constants, the last of them first, before the members from this place on.
-    Offered(W, Option<usize>, Vec<Offer>),
+    /// To unify the arguments of this goal with rows, before the members from this place on.
+    Offered(W, Option<usize>, Offers),
     /// The heads and bodies of the clauses from this one on.
     Shown(Showing<W>),
 }
@@ -201,15 +202,17 @@ pub fn gather<W, M>(
 }
 
 /// Takes the row that comes first at the choice at this place, where it has rows; and whether it was the last one.
-pub fn take_offer<W, M>(choices: &mut Vec<Choice<W, M>>, place: usize) -> Option<(Offer, bool)>
-    requires { place < length choices.old.items }
-    ensures { (c : kept.Choice W M) (goal : W) (rest : Option ℕ) (offers : Vec Offer Global) → slice_get choices.old.items place ≡ Some c → c.left ≡ left.Offered goal rest offers
-        → 0 < length offers.items → TakesOffer c goal rest offers place choices.old.items choices.new.items result }
+pub fn take_offer<W, M>(choices: &mut Vec<Choice<W, M>>, place: usize) -> Option<(Row, bool)>
+    requires there { place < length choices.old.items }
+    requires each { (c : kept.Choice W M) (goal : W) (rest : Option ℕ) (offers : kept_rows.Offers) → slice_get choices.old.items place ≡ Some c → c.left ≡ left.Offered goal rest offers
+        → (t : Tree) × AreRows t offers }
+    ensures { (c : kept.Choice W M) (goal : W) (rest : Option ℕ) (offers : kept_rows.Offers) → slice_get choices.old.items place ≡ Some c → c.left ≡ left.Offered goal rest offers
+        → 0 < length (rows_in offers) → TakesOffer c goal rest offers place choices.old.items choices.new.items result }
 {
     match &mut choices[place].left {
         Left::Offered(_, _, offers) => {
-            let offer = offers.pop()?;
-            Some((offer, offers.is_empty()))
+            let row = offers.take()?;
+            Some((row, offers.is_empty()))
         }
         _ => None,
     }

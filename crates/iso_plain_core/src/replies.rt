@@ -22,7 +22,9 @@ use super::controls::Controls;
 use super::goals::{Placed, place_argument, place_called};
 use super::vocabulary::Vocabulary;
 use iso_lib::{Fault, Reply, builtin, errors, lists};
-use iso_model::{Ball, BuiltIn, Library, NoMemory, Output, Setting, Storage, Term, Text};
+use iso_model::{
+    AtomPart, Ball, BuiltIn, Library, NoMemory, Output, Setting, Storage, Term, Text,
+};
 use iso_store_core::{Shape, Store, StoreFault};
 use std::alloc::Global;
 
@@ -53,6 +55,8 @@ pub enum Replied {
     AsksSettings(Setting),
     /// What it comes to rests on the database (8.8, 8.9).
     AsksDatabase(Storage),
+    /// Its arguments are unified with parts of atoms, or an error is raised (8.16.2, 8.16.3).
+    TakesApart(AtomPart),
     /// It writes, or an error is raised, and what it writes rests on the operators (8.12.3, 8.14.2).
     Writes(Output),
 }
@@ -105,6 +109,7 @@ pub fn reply<S: Store>(
         BuiltIn::Library(row) => library(alloc, store, vocabulary, row, goal),
         BuiltIn::Setting(row) => Ok(Replied::AsksSettings(row)),
         BuiltIn::Storage(row) => Ok(Replied::AsksDatabase(row)),
+        BuiltIn::AtomPart(row) => Ok(Replied::TakesApart(row)),
         BuiltIn::Text(row) => text(alloc, store, row, goal),
         BuiltIn::Output(row) => Ok(Replied::Writes(row)),
     }

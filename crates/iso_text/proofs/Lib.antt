@@ -3,3 +3,12 @@ pub mod ReadingLemmas
 pub mod SpellingLemmas
 pub mod IntegerLemmas
 pub mod ReplyLemmas
+pub mod PartLemmas
+pub mod PlaceLemmas
+pub mod SplitLemmas
+pub mod ConcatLemmas
+pub mod BeginLemmas
+pub mod SuitLemmas
+pub mod RangeLemmas
+pub mod SubLemmas
+pub mod AskedLemmas

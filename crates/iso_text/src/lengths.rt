@@ -17,7 +17,7 @@ use iso_store_core::{Shape, Store};
 use std::alloc::Global;
 
 /// How many characters the text has.
-fn count_characters(text: &str) -> usize
+pub(crate) fn count_characters(text: &str) -> usize
     ensures count { result ≡ length (chars text.now) }
     ensures small { result < 2 ^ 63 }
 {

@@ -1,7 +1,8 @@
 //! Built-ins on the characters of atoms and on the texts of numbers, and built-ins that write (ISO/IEC 13211-1:1995, 8.12.3, 8.14.2, 8.16), over any store of terms.
 #![tactic(auto)]
 
-// errors, the elements of lists, and texts as lists
+// errors, checks of arguments, the elements of lists, and texts as lists
+mod checks;
 mod culprits;
 mod elements;
 mod reading;
@@ -14,6 +15,12 @@ mod lengths;
 mod numbers;
 mod outputs;
 mod texts;
+// the parts of atoms
+mod concat;
+pub mod parts;
+mod splits;
+mod sub;
+mod sub_atoms;
 
 pub use outputs::output;
 pub use texts::builtin;

@@ -20,7 +20,7 @@ use iso_store_core::{Shape, Store};
 use std::alloc::Global;
 
 /// Whether the term that the word stands for is an unbound variable.
-fn is_unbound<S: Store>(store: &S, word: S::Word) -> bool
+pub(crate) fn is_unbound<S: Store>(store: &S, word: S::Word) -> bool
     requires { Holds (S.present store.now) word }
     ensures { result ≡ is_variable (meaning (S.present store.now) word) }
 {

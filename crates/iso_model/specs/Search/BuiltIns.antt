@@ -7,12 +7,13 @@ use Rattle.iso_model.specs.Search.AtomTexts.{text_answer}
 use Rattle.iso_model.specs.Search.Settings.{setting_settled}
 use Rattle.iso_model.specs.Search.Storages.{storage_settled}
 use Rattle.iso_model.specs.Search.Outputs.{output_reply}
+use Rattle.iso_model.specs.Search.AtomParts.{parts_settled}
 use Rattle.iso_model.specs.Terms.Arguments.{argument, arguments, arity, others, with_arguments}
 use Rattle.iso_model.specs.Terms.Lists.{is_partial_list}
 use Rattle.iso_model.specs.Search.Bodies.{Body, converted}
 use Rattle.iso_model.specs.Search.Errors.{instantiation_error, type_error_callable, type_error, domain_error, max_arity_error}
 use Rattle.iso_model.specs.declared.built_ins.BuiltIn.{BuiltIn}
-use Rattle.iso_model.specs.declared.built_ins.BuiltIn.TheVariants.{True, Fail, Call, Once, Not, Repeat, Catch, Throw, Halt, HaltWith, Findall, Library, Setting, Storage, Text, Output}
+use Rattle.iso_model.specs.declared.built_ins.BuiltIn.TheVariants.{True, Fail, Call, Once, Not, Repeat, Catch, Throw, Halt, HaltWith, Findall, Library, Setting, Storage, Text, Output, AtomPart}
 pub use Rattle.iso_model.specs.Search.Table.{built_ins, built_in_among, built_in, is_some_built_in, is_control, is_built_in}
 pub use Rattle.iso_model.specs.Search.Replies.{Reply, Fails, Succeeds, Equates, EquatesCopy, Raises, Calls, CallsOnce, Refutes, Repeats, Catches, Gathers, Halts, AsksWorld, Writes, answered}
 
@@ -64,3 +65,4 @@ reply (Setting row) t = AsksWorld (λ n w. setting_settled row t w)
 reply (Storage row) t = AsksWorld (λ n w. storage_settled row t n w)
 reply (Text row) t = answered (text_answer row t)
 reply (Output row) t = output_reply row t
+reply (AtomPart row) t = AsksWorld (λ n w. parts_settled row t)

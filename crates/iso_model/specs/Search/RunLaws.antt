@@ -10,6 +10,7 @@ pub mod LibraryValues
 pub mod SettingValues
 pub mod StorageValues
 pub mod TextValues
+pub mod PartValues
 pub mod Values
 pub mod Sameness
 pub mod SameSteps

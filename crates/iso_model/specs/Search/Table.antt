@@ -2,12 +2,13 @@
 use Rattle.std.specs.Prelude.{List, [], ◌∷◌, Bool, true, false, ◌||◌, Option, Some, None, codes, if◌then◌else◌}
 use Rattle.iso_model.specs.Search.Keys.{Key, key, same_key}
 use Rattle.iso_model.specs.declared.built_ins.BuiltIn.{BuiltIn}
-use Rattle.iso_model.specs.declared.built_ins.BuiltIn.TheVariants.{True, Fail, Call, Once, Not, Repeat, Catch, Throw, Halt, HaltWith, Findall, Library, Setting, Storage, Text, Output}
+use Rattle.iso_model.specs.declared.built_ins.BuiltIn.TheVariants.{True, Fail, Call, Once, Not, Repeat, Catch, Throw, Halt, HaltWith, Findall, Library, Setting, Storage, Text, Output, AtomPart}
 use Rattle.iso_model.specs.declared.library.Library.TheVariants as library
 use Rattle.iso_model.specs.declared.library.Setting.TheVariants as setting
 use Rattle.iso_model.specs.declared.library.Storage.TheVariants as storage
 use Rattle.iso_model.specs.declared.library.Text.TheVariants as text
 use Rattle.iso_model.specs.declared.library.Output.TheVariants as output
+use Rattle.iso_model.specs.declared.library.AtomPart.TheVariants as part
 use Rattle.iso_model.specs.declared.library.Comparison.TheVariants as comparison
 use Rattle.iso_model.specs.declared.library.OrderTest.TheVariants as order
 use Rattle.iso_model.specs.declared.library.TypeTest.TheVariants as test
@@ -49,6 +50,7 @@ built_ins =
     ∷ (key (codes "atom_length") 2, Text text.AtomLength) ∷ (key (codes "atom_chars") 2, Text text.AtomChars)
     ∷ (key (codes "atom_codes") 2, Text text.AtomCodes) ∷ (key (codes "char_code") 2, Text text.CharCode)
     ∷ (key (codes "number_chars") 2, Text text.NumberChars) ∷ (key (codes "number_codes") 2, Text text.NumberCodes)
+    ∷ (key (codes "atom_concat") 3, AtomPart part.Concat) ∷ (key (codes "sub_atom") 5, AtomPart part.Sub)
     ∷ (key (codes "put_char") 1, Output output.PutChar) ∷ (key (codes "nl") 0, Output output.NewLine)
     ∷ (key (codes "write") 1, Output output.Write) ∷ (key (codes "writeq") 1, Output output.Writeq)
     ∷ (key (codes "write_canonical") 1, Output output.WriteCanonical) ∷ []

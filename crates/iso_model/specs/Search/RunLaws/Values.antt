@@ -21,6 +21,7 @@ use Rattle.iso_model.specs.Search.RunLaws.LibraryValues.{IsOwnAnswer, library_ow
 use Rattle.iso_model.specs.Search.RunLaws.SettingValues.{IsOwnSettled, settings_own}
 use Rattle.iso_model.specs.Search.RunLaws.StorageValues.{storages_own}
 use Rattle.iso_model.specs.Search.RunLaws.TextValues.{texts_own}
+use Rattle.iso_model.specs.Search.RunLaws.PartValues.{parts_own}
 use Rattle.iso_model.specs.declared.built_ins.BuiltIn.{BuiltIn}
 use Rattle.iso_model.specs.declared.built_ins.BuiltIn.TheVariants as built_in
 pub use Rattle.iso_model.specs.Search.RunLaws.TermValues.{IsValue, AreValues, IsTwice, value_is, twice_on, argument_value, arguments_value, others_value, with_value}
@@ -209,3 +210,4 @@ reply_own r (built_in.Setting row) v own = λ n w. settings_own r row v w own
 reply_own r (built_in.Storage row) v own = λ n w. storages_own r row v n w own
 reply_own r (built_in.Text row) v own = answered_own r (text_answer row v) (texts_own r row v own)
 reply_own r (built_in.Output row) v own = output_own r row v
+reply_own r (built_in.AtomPart row) v own = λ n w. parts_own r row v own

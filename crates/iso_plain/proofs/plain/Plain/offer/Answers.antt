@@ -1,12 +1,12 @@
-use Rattle.std.proofs.Common.{◌≡◌, ◌+◌, map, arith, sym, ap, subst, Ok, inr}
-use Rattle.iso_model.specs.Search.Walker.{State, World, with_rights}
+use Rattle.std.proofs.Common.{◌≡◌, ◌+◌, arith, sym, ap, subst, Ok, inr}
+use Rattle.iso_model.specs.Search.Walker.{State, World, with_rights, tried_right}
 use Rattle.iso_store_core.specs.Presents.{meaning}
-use Rattle.iso_plain_core.specs.Offers.{goal_arguments, constants_offer, rights_of}
+use Rattle.iso_plain_core.specs.Offers.{goal_arguments, row_offer, rights_of, IsRow}
 use Rattle.iso_plain_core.specs.Costs.{rest_cost, frame_costs, choices_cost}
 use Rattle.iso_plain_core.proofs.CostLemmas.{whole_paid}
 use Rattle.iso_plain_core.proofs.ResultLemmas.{behind_error}
 use Rattle.iso_plain.specs.EngineStates.{IsEngine, Keeps, cost}
-use Rattle.iso_plain.proofs.OfferMoves.{first_right, rights_keep, offered_is, offered_keeps}
+use Rattle.iso_plain.proofs.OfferMoves.{rights_count, offered_stack, rights_first, rights_keep, offered_is, offered_keeps}
 use Rattle.iso_plain.proofs.WeightLemmas.{call_costs, falls_called}
 use Rattle.iso_plain.proofs.plain.Plain.offer.Goals as goal
 
@@ -15,20 +15,46 @@ returns-in_default-clause-falls g c = λ w less.
     (let e = c.args.self.now in
     whole_paid e.steps w (choices_cost (frame_costs e.frames.items) e.choices.items + 0) (omega (arith, less)))
 
-pub unify_row-requires : goal.unify_row-requires
-unify_row-requires g c =
+pub push_offers-requires-clause-rows : goal.push_offers-requires-clause-rows
+push_offers-requires-clause-rows g c =
     let e = c.args.self.now in
-    let s = c.requires.0 in
-    (with_rights (goal_arguments (meaning (g.S.Store.present e.store) c.args.goal)) (rights_of 0 c.pop.new.self.items) s.list s, c.in_ok-push_offers.ensures.meets s 0 c.requires.1 (ap Ok c.if-not-branch.false))
+    (c.in-Some.ensures.each (meaning (g.S.Store.present e.store) c.args.goal) c.requires.rows).0
+
+pub returns-then-not-branch-clause-frames : goal.returns-then-not-branch-clause-frames
+returns-then-not-branch-clause-frames g c = λ s made h.
+    (let e = c.args.self.now in
+    let t = meaning (g.S.Store.present e.store) c.args.goal in
+    let others = rights_of made t c.take.new.self in
+    let of = (c.in-Some.ensures.each t c.requires.rows).1 in
+    let is = rights_first made t c.args.offers c.take.new.self c.in-Some.first c.in-Some.ensures.some in
+    let over = c.in_ok-push_offers.ensures.over (ap Ok c.if-not-branch.true) in
+    let left = over.1 in
+    let many = rights_count made t c.take.new.self in
+    (over.0, offered_stack made (goal_arguments t) t c.in-Some.first of (rights_of made t c.args.offers) others s is (omega (arith, left, many))))
+
+pub unify_row-requires-clause-meets : goal.unify_row-requires-clause-meets
+unify_row-requires-clause-meets g c =
+    let e = c.args.self.now in
+    let s = c.requires.meets.0 in
+    (with_rights (goal_arguments (meaning (g.S.Store.present e.store) c.args.goal)) (rights_of 0 (meaning (g.S.Store.present e.store) c.args.goal) c.take.new.self) s.list s, c.in_ok-push_offers.ensures.meets s 0 c.requires.meets.1 (ap Ok c.if-not-branch.false))
+
+pub unify_row-requires-clause-row : goal.unify_row-requires-clause-row
+unify_row-requires-clause-row g c =
+    let e = c.args.self.now in
+    let present = c.in_ok-push_offers.ensures.present (ap Ok c.if-not-branch.false) in
+    subst (λ (q : _). IsRow (meaning q c.args.goal) c.in-Some.first) (sym present) (c.in-Some.ensures.each (meaning (g.S.Store.present e.store) c.args.goal) c.requires.rows).1
 
 pub returns-in_err-unify_row-clause-kept : goal.returns-in_err-unify_row-clause-kept
 returns-in_err-unify_row-clause-kept g c = λ s made h.
     (let e = c.args.self.now in
     let left = goal_arguments (meaning (g.S.Store.present e.store) c.args.goal) in
-    let others = rights_of made c.pop.new.self.items in
+    let t = meaning (g.S.Store.present e.store) c.args.goal in
+    let others = rights_of made t c.take.new.self in
+    let rights = rights_of made t c.args.offers in
+    let of = (c.in-Some.ensures.each t c.requires.rows).1 in
     let mid = with_rights left others s.list s in
-    let is = first_right made c.args.offers.items c.reverse.new.self.items c.pop.new.self.items c.in-Some.first c.reverse.ensures.items c.in-Some.ensures.items in
-    let keep = offered_keeps made left c.in-Some.first (map (constants_offer made) c.args.offers.items) others s is in
+    let is = rights_first made t c.args.offers c.take.new.self c.in-Some.first c.in-Some.ensures.some in
+    let keep = offered_keeps made left t c.in-Some.first of rights others s is in
     let meets = c.in_ok-push_offers.ensures.meets s made h (ap Ok c.if-not-branch.false) in
     let kept = c.in_err-unify_row.ensures.kept mid meets in
     let new = c.unify_row.new.self in
@@ -43,15 +69,20 @@ pub returns-clause-called : goal.returns-clause-called
 returns-clause-called g c = λ s made h.
     (let e = c.args.self.now in
     let left = goal_arguments (meaning (g.S.Store.present e.store) c.args.goal) in
-    let others = rights_of made c.pop.new.self.items in
+    let t = meaning (g.S.Store.present e.store) c.args.goal in
+    let others = rights_of made t c.take.new.self in
+    let rights = rights_of made t c.args.offers in
+    let of = (c.in-Some.ensures.each t c.requires.rows).1 in
     let mid = with_rights left others s.list s in
-    let is = first_right made c.args.offers.items c.reverse.new.self.items c.pop.new.self.items c.in-Some.first c.reverse.ensures.items c.in-Some.ensures.items in
+    let is = rights_first made t c.args.offers c.take.new.self c.in-Some.first c.in-Some.ensures.some in
     let meets = c.in_ok-push_offers.ensures.meets s made h (ap Ok c.if-not-branch.false) in
     let present = c.in_ok-push_offers.ensures.present (ap Ok c.if-not-branch.false) in
     let other = goal_arguments (meaning (g.S.Store.present c.push_offers.new.self.store) c.args.goal) in
     let same : other ≡ left = ap (λ (q : _). goal_arguments (meaning q c.args.goal)) present in
-    let there = offered_is made left other c.in-Some.first (map (constants_offer made) c.args.offers.items) others s same is in
-    (subst (λ (y : State). IsEngine g.S.Store.names g.S.Store.present g.S.Store.stands g.S.Store.older c.unify_row.new.self y) there (c.in_ok-unify_row.ensures.tried mid made meets), c.in_ok-unify_row.ensures.awake))
+    let there = offered_is made left other t c.in-Some.first rights others s same is in
+    let tried : IsEngine g.S.Store.names g.S.Store.present g.S.Store.stands g.S.Store.older c.unify_row.new.self (tried_right other (row_offer made t c.in-Some.first) mid.list mid) =
+        subst (λ (q : _). IsEngine g.S.Store.names g.S.Store.present g.S.Store.stands g.S.Store.older c.unify_row.new.self (tried_right other (row_offer made (meaning q c.args.goal) c.in-Some.first) mid.list mid)) present (c.in_ok-unify_row.ensures.tried mid made meets) in
+    (subst (λ (y : State). IsEngine g.S.Store.names g.S.Store.present g.S.Store.stands g.S.Store.older c.unify_row.new.self y) there tried, c.in_ok-unify_row.ensures.awake))
 
 pub returns-clause-falls : goal.returns-clause-falls
 returns-clause-falls g c = λ w less.

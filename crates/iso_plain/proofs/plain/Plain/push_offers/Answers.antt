@@ -6,7 +6,9 @@ use Rattle.iso_plain_core.proofs.ResultLemmas.{behind_error}
 use Rattle.iso_plain.proofs.AheadLemmas.{keeps_ahead}
 use Rattle.iso_plain.proofs.ControlCosts.{gained_cost}
 use Rattle.iso_plain.proofs.StoppedLemmas.{keeps_store, keeps_choices}
-use Rattle.iso_plain.proofs.OfferMoves.{pushed_some, positive}
+use Rattle.iso_store_core.specs.Presents.{meaning}
+use Rattle.iso_plain_core.specs.Offers.{rows_in}
+use Rattle.iso_plain.proofs.OfferMoves.{pushed_some, positive, rows_few, kept_few}
 use Rattle.iso_plain.proofs.plain.Plain.push_offers.Goals as goal
 
 pub returns-in_err-keep_choice-clause-kept : goal.returns-in_err-keep_choice-clause-kept
@@ -20,8 +22,8 @@ returns-clause-meets g c = λ s made h done.
     (let e = c.args.self.now in
     let nodes : c.len-2.result ≡ length e.nodes.items = cc (c.len-2.ensures, e.nodes.ok.0) in
     let frames : c.len-3.result ≡ length e.frames.items = cc (c.len-3.ensures, e.frames.ok.0) in
-    let some = positive (length c.args.offers.items) (λ none. eqb-false _ 0 (sym c.is_empty.ensures ∙ c.if-is_empty.false) (c.args.offers.ok.0 ∙ none)) in
-    pushed_some g.S.Store.names g.S.Store.present g.S.Store.stands g.S.Store.older e c.args.goal s c.args.place h made c.args.offers c.keep_choice.new.store c.keep_choice.new.choices some c.in_ok-keep_choice.ensures.present c.in_ok-keep_choice.ensures.marks
+    let some = positive (length (rows_in c.args.offers)) (λ none. eqb-false _ 0 (sym c.is_empty.ensures ∙ c.if-is_empty.false) none) in
+    pushed_some g.S.Store.names g.S.Store.present g.S.Store.stands g.S.Store.older e c.args.goal s c.args.place h made c.args.offers c.requires.rows c.keep_choice.new.store c.keep_choice.new.choices some c.in_ok-keep_choice.ensures.present c.in_ok-keep_choice.ensures.marks
     c.in_ok-keep_choice.ensures.names (rw (nodes, frames) at c.in_ok-keep_choice.ensures.gains))
 
 pub returns-clause-costs : goal.returns-clause-costs
@@ -29,8 +31,6 @@ returns-clause-costs g c =
     let e = c.args.self.now in
     let costs = frame_costs e.frames.items in
     let gained = gained_cost costs c.in_ok-keep_choice.ensures.gains in
-    let many = c.args.offers.ok.0 in
-    let within = c.args.offers.ok.1 in
-    let small = c.args.offers.small in
-    let later = left_higher most (length c.args.offers.items) (rest_cost costs c.args.place) (below_most (length c.args.offers.items) (omega (arith, many, within, small))) in
+    let few = rows_few (meaning (g.S.Store.present e.store) c.args.goal) c.args.offers c.requires.rows (kept_few c.args.offers) in
+    let later = left_higher most (length (rows_in c.args.offers)) (rest_cost costs c.args.place) (below_most (length (rows_in c.args.offers)) few) in
     omega (arith, gained, later)

@@ -15,7 +15,7 @@ use Rattle.iso_plain.proofs.StoppedLemmas.{base_kept, keeps_all, keeps_more}
 use Rattle.iso_plain.proofs.SearchMoves.{stops_here}
 use Rattle.iso_plain.proofs.RunMoves.{at, if_ok_map}
 use Rattle.iso_plain.proofs.RunCosts.{behind_less, step_weight, goes_falls, fails_falls, throws_falls, calls_falls}
-use Rattle.iso_plain.proofs.ReplyMoves.{went_on, failed_on, raised_by, calls_by, once_by, refutes_by, repeats_by, catches_by, halts_by, gathers_by, asks_by, asking, asks_at, settles_now, settle_stops, settle_over, stores_by, storing, stores_at, stores_now, store_stops, store_over, writing, writes_at, writes_now, write_stops, inside_calls, inside_raises, places_unbound, goes_on, fails_now, unbound_ahead, raises_now, halts_now, after, enters_catch, calls_inside_now, call_inside_stops, call_inside_over, throws_inside_now, throw_inside_stops, throw_inside_over, called, called_ahead, calls_now, once_now, once_stops, refutes_now, refute_stops, refute_over, repeating, repeating_ahead, repeats_now, repeat_stops, repeat_over, behind_findall, enters_findall, finds_now, find_stops, find_over}
+use Rattle.iso_plain.proofs.ReplyMoves.{went_on, failed_on, raised_by, calls_by, once_by, refutes_by, repeats_by, catches_by, halts_by, gathers_by, asks_by, asking, asks_at, settles_now, settle_stops, settle_over, stores_by, storing, stores_at, stores_now, store_stops, store_over, writing, writes_at, writes_now, write_stops, inside_calls, inside_raises, places_unbound, goes_on, fails_now, unbound_ahead, raises_now, halts_now, after, enters_catch, calls_inside_now, call_inside_stops, call_inside_over, throws_inside_now, throw_inside_stops, throw_inside_over, called, called_ahead, calls_now, once_now, once_stops, refutes_now, refute_stops, refute_over, repeating, repeating_ahead, repeats_now, repeat_stops, repeat_over, behind_findall, enters_findall, finds_now, find_stops, find_over, parts_by, parting, parts_at, parts_now, part_stops, part_over}
 use Rattle.iso_plain.proofs.plain.Plain.run_built_in.Goals as goal
 
 pub reply-requires-clause-goal : goal.reply-requires-clause-goal
@@ -301,6 +301,39 @@ returns-in-AsksSettings-clause-frames g c = λ s r.
 
 pub returns-in-AsksSettings-clause-stays : goal.returns-in-AsksSettings-clause-stays
 returns-in-AsksSettings-clause-stays g c = stays_behind g.S.Store.names c.reply.new.store c.reply.new.nodes (c.args.self.now.steps - 1) c.in_ok-replied.ensures.names c.settle.ensures.stays
+
+-- ---- it takes atoms apart
+
+pub part_goal-requires : goal.part_goal-requires
+part_goal-requires g c =
+    let by = parts_by (g.S.Store.present c.args.self.now.store) (g.S.Store.present c.reply.new.store) c.args.self.now.nodes.items c.reply.new.nodes.items (reply c.args.built_in (meaning (g.S.Store.present c.args.self.now.store) c.args.goal)) c.in-TakesApart.row (rw c.in-TakesApart.is at c.in_ok-replied.ensures.replies) in
+    let own = rw c.in-TakesApart.is at c.in_ok-replied.ensures.asks in
+    (parting g.S.Store.names g.S.Store.present g.S.Store.stands g.S.Store.older c.args.self.now c.reply.new.store c.reply.new.nodes c.requires.stands.0 c.args.frame c.args.place c.args.goal c.requires.now c.requires.there c.requires.stands.1 c.requires.steps c.args.built_in c.requires.built_in c.in_ok-replied.ensures.marks c.in_ok-replied.ensures.names c.in_ok-replied.ensures.nodes c.in-TakesApart.row own by, parts_at g.S.Store.names g.S.Store.present g.S.Store.stands g.S.Store.older c.args.self.now c.reply.new.store c.reply.new.nodes c.requires.stands.0 c.args.frame c.args.place c.args.goal c.requires.now c.requires.there c.requires.stands.1 c.requires.steps c.args.built_in c.requires.built_in c.in_ok-replied.ensures.marks c.in_ok-replied.ensures.names c.in_ok-replied.ensures.nodes c.in-TakesApart.row own by)
+
+pub returns-in-TakesApart-clause-moves : goal.returns-in-TakesApart-clause-moves
+returns-in-TakesApart-clause-moves g c = λ s r.
+    (let by = parts_by (g.S.Store.present c.args.self.now.store) (g.S.Store.present c.reply.new.store) c.args.self.now.nodes.items c.reply.new.nodes.items (reply c.args.built_in (meaning (g.S.Store.present c.args.self.now.store) c.args.goal)) c.in-TakesApart.row (rw c.in-TakesApart.is at c.in_ok-replied.ensures.replies) in
+    let own = rw c.in-TakesApart.is at c.in_ok-replied.ensures.asks in
+    if_ok_map _ _ c.part_goal.result (parts_now g.S.Store.names g.S.Store.present g.S.Store.stands g.S.Store.older c.args.self.now c.reply.new.store c.reply.new.nodes s c.args.frame c.args.place c.args.goal c.requires.now c.requires.there r c.requires.steps c.args.built_in c.requires.built_in c.in_ok-replied.ensures.marks c.in_ok-replied.ensures.names c.in_ok-replied.ensures.nodes c.in-TakesApart.row own by c.part_goal.new.self) (c.part_goal.ensures.called (parting g.S.Store.names g.S.Store.present g.S.Store.stands g.S.Store.older c.args.self.now c.reply.new.store c.reply.new.nodes s c.args.frame c.args.place c.args.goal c.requires.now c.requires.there r c.requires.steps c.args.built_in c.requires.built_in c.in_ok-replied.ensures.marks c.in_ok-replied.ensures.names c.in_ok-replied.ensures.nodes c.in-TakesApart.row own by) (parts_at g.S.Store.names g.S.Store.present g.S.Store.stands g.S.Store.older c.args.self.now c.reply.new.store c.reply.new.nodes s c.args.frame c.args.place c.args.goal c.requires.now c.requires.there r c.requires.steps c.args.built_in c.requires.built_in c.in_ok-replied.ensures.marks c.in_ok-replied.ensures.names c.in_ok-replied.ensures.nodes c.in-TakesApart.row own by)))
+
+pub returns-in-TakesApart-clause-stopped : goal.returns-in-TakesApart-clause-stopped
+returns-in-TakesApart-clause-stopped g c = λ s r.
+    (let by = parts_by (g.S.Store.present c.args.self.now.store) (g.S.Store.present c.reply.new.store) c.args.self.now.nodes.items c.reply.new.nodes.items (reply c.args.built_in (meaning (g.S.Store.present c.args.self.now.store) c.args.goal)) c.in-TakesApart.row (rw c.in-TakesApart.is at c.in_ok-replied.ensures.replies) in
+    let own = rw c.in-TakesApart.is at c.in_ok-replied.ensures.asks in
+    on_err_weaker c.part_goal.result (part_stops g.S.Store.names g.S.Store.present g.S.Store.stands g.S.Store.older c.args.self.now c.reply.new.store c.reply.new.nodes s c.args.frame c.args.place c.args.goal c.requires.now c.requires.there r c.requires.steps c.args.built_in c.requires.built_in c.in_ok-replied.ensures.marks c.in_ok-replied.ensures.names c.in_ok-replied.ensures.nodes c.in-TakesApart.row own by c.part_goal.new.self) (c.part_goal.ensures.kept (parting g.S.Store.names g.S.Store.present g.S.Store.stands g.S.Store.older c.args.self.now c.reply.new.store c.reply.new.nodes s c.args.frame c.args.place c.args.goal c.requires.now c.requires.there r c.requires.steps c.args.built_in c.requires.built_in c.in_ok-replied.ensures.marks c.in_ok-replied.ensures.names c.in_ok-replied.ensures.nodes c.in-TakesApart.row own by) (parts_at g.S.Store.names g.S.Store.present g.S.Store.stands g.S.Store.older c.args.self.now c.reply.new.store c.reply.new.nodes s c.args.frame c.args.place c.args.goal c.requires.now c.requires.there r c.requires.steps c.args.built_in c.requires.built_in c.in_ok-replied.ensures.marks c.in_ok-replied.ensures.names c.in_ok-replied.ensures.nodes c.in-TakesApart.row own by)))
+
+pub returns-in-TakesApart-clause-falls : goal.returns-in-TakesApart-clause-falls
+returns-in-TakesApart-clause-falls g c =
+    if_ok_map _ _ c.part_goal.result (λ m. subst (λ x. Falls m x (weight c.part_goal.new.self)) (step_weight g.S.Store.names g.S.Store.present g.S.Store.stands g.S.Store.older c.args.self.now c.requires.stands.0 c.args.frame c.args.place c.requires.now c.requires.there.asks c.requires.stands.1 c.requires.steps)) (c.part_goal.ensures.falls (cost c.args.self.now) (behind_less g.S.Store.names g.S.Store.present g.S.Store.stands g.S.Store.older c.args.self.now c.requires.stands.0 c.args.frame c.args.place c.requires.now c.requires.there.asks c.requires.stands.1 c.requires.steps))
+
+pub returns-in-TakesApart-clause-frames : goal.returns-in-TakesApart-clause-frames
+returns-in-TakesApart-clause-frames g c = λ s r.
+    (let by = parts_by (g.S.Store.present c.args.self.now.store) (g.S.Store.present c.reply.new.store) c.args.self.now.nodes.items c.reply.new.nodes.items (reply c.args.built_in (meaning (g.S.Store.present c.args.self.now.store) c.args.goal)) c.in-TakesApart.row (rw c.in-TakesApart.is at c.in_ok-replied.ensures.replies) in
+    let own = rw c.in-TakesApart.is at c.in_ok-replied.ensures.asks in
+    result_full c.part_goal.result (part_over g.S.Store.names g.S.Store.present g.S.Store.stands g.S.Store.older c.args.self.now c.reply.new.store c.reply.new.nodes s c.args.frame c.args.place c.args.goal c.requires.now c.requires.there r c.requires.steps c.args.built_in c.requires.built_in c.in_ok-replied.ensures.marks c.in_ok-replied.ensures.names c.in_ok-replied.ensures.nodes c.in-TakesApart.row own by) (c.part_goal.ensures.frames (parting g.S.Store.names g.S.Store.present g.S.Store.stands g.S.Store.older c.args.self.now c.reply.new.store c.reply.new.nodes s c.args.frame c.args.place c.args.goal c.requires.now c.requires.there r c.requires.steps c.args.built_in c.requires.built_in c.in_ok-replied.ensures.marks c.in_ok-replied.ensures.names c.in_ok-replied.ensures.nodes c.in-TakesApart.row own by) (parts_at g.S.Store.names g.S.Store.present g.S.Store.stands g.S.Store.older c.args.self.now c.reply.new.store c.reply.new.nodes s c.args.frame c.args.place c.args.goal c.requires.now c.requires.there r c.requires.steps c.args.built_in c.requires.built_in c.in_ok-replied.ensures.marks c.in_ok-replied.ensures.names c.in_ok-replied.ensures.nodes c.in-TakesApart.row own by)))
+
+pub returns-in-TakesApart-clause-stays : goal.returns-in-TakesApart-clause-stays
+returns-in-TakesApart-clause-stays g c = stays_behind g.S.Store.names c.reply.new.store c.reply.new.nodes (c.args.self.now.steps - 1) c.in_ok-replied.ensures.names c.part_goal.ensures.stays
 
 -- ---- what it comes to rests on the database
 

@@ -52,7 +52,7 @@ returns-in-Ok-Offers-clause-called g c = λ s h.
     let is = offers_is s.world c.settle.new.ops c.settle.new.flags c.args.row t x c.settle.result c.in-Ok-Offers.offers (c.settle.ensures.settled s.world (sym a.world.operators_are) (sym a.world.flags_are)) came in
     let meets = same_settings g.S.Store.names g.S.Store.present g.S.Store.stands g.S.Store.older e c.args.goal s c.args.place h.meets c.settle.new.ops c.settle.new.flags
     (on_offers c.settle.result c.in-Ok-Offers.offers c.settle.ensures.operators_stay came) (on_offers c.settle.result c.in-Ok-Offers.offers c.settle.ensures.flags_stay came) in
-    subst (λ (v : State). IfOk c.offer.result (λ m. WasCalled g.S.Store.names g.S.Store.present g.S.Store.stands g.S.Store.older m c.offer.new.self s v)) (settled_offers x c.args.row t c.in-Ok-Offers.offers.items s is h.arity_is)
+    subst (λ (v : State). IfOk c.offer.result (λ m. WasCalled g.S.Store.names g.S.Store.present g.S.Store.stands g.S.Store.older m c.offer.new.self s v)) (settled_offers x c.args.row t c.in-Ok-Offers.offers.items c.reverse.new.self s c.reverse.ensures.items is h.arity_is)
     (c.offer.ensures.called s (2 * setting_arity c.args.row) meets))
 
 pub returns-in-Ok-Offers-clause-kept : goal.returns-in-Ok-Offers-clause-kept
@@ -65,7 +65,7 @@ returns-in-Ok-Offers-clause-kept g c = λ s h.
     let is = offers_is s.world c.settle.new.ops c.settle.new.flags c.args.row t x c.settle.result c.in-Ok-Offers.offers (c.settle.ensures.settled s.world (sym a.world.operators_are) (sym a.world.flags_are)) came in
     let meets = same_settings g.S.Store.names g.S.Store.present g.S.Store.stands g.S.Store.older e c.args.goal s c.args.place h.meets c.settle.new.ops c.settle.new.flags
     (on_offers c.settle.result c.in-Ok-Offers.offers c.settle.ensures.operators_stay came) (on_offers c.settle.result c.in-Ok-Offers.offers c.settle.ensures.flags_stay came) in
-    subst (λ (v : State). OnErr c.offer.result (WasStopped g.S.Store.names g.S.Store.present g.S.Store.stands g.S.Store.older c.offer.new.self s v)) (settled_offers x c.args.row t c.in-Ok-Offers.offers.items s is h.arity_is)
+    subst (λ (v : State). OnErr c.offer.result (WasStopped g.S.Store.names g.S.Store.present g.S.Store.stands g.S.Store.older c.offer.new.self s v)) (settled_offers x c.args.row t c.in-Ok-Offers.offers.items c.reverse.new.self s c.reverse.ensures.items is h.arity_is)
     (c.offer.ensures.kept s (2 * setting_arity c.args.row) meets))
 
 pub returns-in-Ok-Offers-clause-frames : goal.returns-in-Ok-Offers-clause-frames
@@ -78,7 +78,7 @@ returns-in-Ok-Offers-clause-frames g c = λ s h.
     let is = offers_is s.world c.settle.new.ops c.settle.new.flags c.args.row t x c.settle.result c.in-Ok-Offers.offers (c.settle.ensures.settled s.world (sym a.world.operators_are) (sym a.world.flags_are)) came in
     let meets = same_settings g.S.Store.names g.S.Store.present g.S.Store.stands g.S.Store.older e c.args.goal s c.args.place h.meets c.settle.new.ops c.settle.new.flags
     (on_offers c.settle.result c.in-Ok-Offers.offers c.settle.ensures.operators_stay came) (on_offers c.settle.result c.in-Ok-Offers.offers c.settle.ensures.flags_stay came) in
-    subst (λ (v : State). ResultFull ((e.limit ≤ length e.choices.items) × (length v.stack ≡ suc (length s.stack))) c.offer.result) (settled_offers x c.args.row t c.in-Ok-Offers.offers.items s is h.arity_is)
+    subst (λ (v : State). ResultFull ((e.limit ≤ length e.choices.items) × (length v.stack ≡ suc (length s.stack))) c.offer.result) (settled_offers x c.args.row t c.in-Ok-Offers.offers.items c.reverse.new.self s c.reverse.ensures.items is h.arity_is)
     (c.offer.ensures.frames s (2 * setting_arity c.args.row) meets))
 
 pub returns-in-Err-Raise-clause-called : goal.returns-in-Err-Raise-clause-called

@@ -7,27 +7,32 @@ use Rattle.iso_plain.specs.EngineStates.{IsEngine, Keeps, went_back}
 use Rattle.iso_plain.proofs.OfferMoves.{next_is, next_keeps}
 use Rattle.iso_plain.proofs.plain.Plain.try_next.Goals as goal
 
-pub unify_row-requires : goal.unify_row-requires
-unify_row-requires g c =
+pub unify_row-requires-clause-meets : goal.unify_row-requires-clause-meets
+unify_row-requires-clause-meets g c =
     let b = c.requires.back in
-    let n = c.next_offer-offer.ensures.meets b.0 c.args.goal c.args.place b.1 b.2 b.3 b.4 b.5 b.6 b.7 in
-    let e = c.next_offer-offer.new.self in
+    let n = c.next_offer-row.ensures.meets b.0 c.args.goal c.args.place b.1 b.2 b.3 b.4 b.5 b.6 b.7 in
+    let e = c.next_offer-row.new.self in
     (with_rights (goal_arguments (meaning (g.S.Store.present e.store) c.args.goal)) n.others (b.3).list (went_back b.3 b.4 b.2), n.meets)
+
+pub unify_row-requires-clause-row : goal.unify_row-requires-clause-row
+unify_row-requires-clause-row g c =
+    let b = c.requires.back in
+    (c.next_offer-row.ensures.meets b.0 c.args.goal c.args.place b.1 b.2 b.3 b.4 b.5 b.6 b.7).of
 
 pub returns-clause-tried : goal.returns-clause-tried
 returns-clause-tried g c = λ ch offers s a below first rights mark tries w is.
-    (let n = c.next_offer-offer.ensures.meets ch c.args.goal c.args.place offers s a below mark tries w in
-    let e = c.next_offer-offer.new.self in
+    (let n = c.next_offer-row.ensures.meets ch c.args.goal c.args.place offers s a below mark tries w in
+    let e = c.next_offer-row.new.self in
     let mid = with_rights (goal_arguments (meaning (g.S.Store.present e.store) c.args.goal)) n.others a.list (went_back a below s) in
-    let same = next_is g.S.Store.names g.S.Store.present g.S.Store.stands g.S.Store.older e c.args.goal c.args.place s a below c.next_offer-offer.result n first rights is in
+    let same = next_is g.S.Store.names g.S.Store.present g.S.Store.stands g.S.Store.older e c.args.goal c.args.place s a below c.next_offer-row.result n first rights is in
     on_ok_weaker c.unify_row.result (λ k. subst (λ (y : State). IsEngine g.S.Store.names g.S.Store.present g.S.Store.stands g.S.Store.older c.unify_row.new.self y) same k) (c.unify_row.ensures.tried mid n.made n.meets))
 
 pub returns-clause-kept : goal.returns-clause-kept
 returns-clause-kept g c = λ ch offers s a below first rights mark tries w is.
-    (let n = c.next_offer-offer.ensures.meets ch c.args.goal c.args.place offers s a below mark tries w in
-    let e = c.next_offer-offer.new.self in
+    (let n = c.next_offer-row.ensures.meets ch c.args.goal c.args.place offers s a below mark tries w in
+    let e = c.next_offer-row.new.self in
     let mid = with_rights (goal_arguments (meaning (g.S.Store.present e.store) c.args.goal)) n.others a.list (went_back a below s) in
-    let keep = next_keeps g.S.Store.names g.S.Store.present g.S.Store.stands g.S.Store.older e c.args.goal c.args.place s a below c.next_offer-offer.result n first rights is in
+    let keep = next_keeps g.S.Store.names g.S.Store.present g.S.Store.stands g.S.Store.older e c.args.goal c.args.place s a below c.next_offer-row.result n first rights is in
     on_err_weaker c.unify_row.result (λ k. (
       keep.1,
       subst (λ (xs : _). Keeps g.S.Store.names g.S.Store.present g.S.Store.stands g.S.Store.older c.unify_row.new.self s.world xs) (sym keep.0) (subst (λ (v : World). Keeps g.S.Store.names g.S.Store.present g.S.Store.stands g.S.Store.older c.unify_row.new.self v mid.stack) keep.2 k),

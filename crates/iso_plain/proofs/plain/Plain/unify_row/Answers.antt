@@ -1,7 +1,6 @@
 use Rattle.std.proofs.Common.{arith}
-use Rattle.iso_lib.specs.Settlements.{offer_tree}
 use Rattle.iso_store_core.specs.Presents.{meaning}
-use Rattle.iso_plain_core.specs.Offers.{goal_arguments}
+use Rattle.iso_plain_core.specs.Offers.{goal_arguments, row_tree}
 use Rattle.iso_plain_core.specs.Costs.{rest_cost, frame_costs}
 use Rattle.iso_plain_core.proofs.CostLemmas.{behind_cost, cost_above}
 use Rattle.iso_plain_core.specs.Costs.{most}
@@ -12,35 +11,37 @@ use Rattle.iso_plain.proofs.StoppedLemmas.{keeps_store}
 use Rattle.iso_plain.proofs.OfferMoves.{was_unified, was_never, row_found, row_missed}
 use Rattle.iso_plain.proofs.plain.Plain.unify_row.Goals as goal
 
-pub returns-in_err-unify_offer-clause-kept : goal.returns-in_err-unify_offer-clause-kept
-returns-in_err-unify_offer-clause-kept g c = λ s h.
+pub returns-in_err-unify_row-clause-kept : goal.returns-in_err-unify_row-clause-kept
+returns-in_err-unify_row-clause-kept g c = λ s h.
     (let e = c.args.self.now in
-    behind_error c.from_residual.result (keeps_store g.S.Store.names g.S.Store.present g.S.Store.stands g.S.Store.older e c.unify_offer.new.store s.world s.stack (keeps_ahead g.S.Store.names g.S.Store.present g.S.Store.stands g.S.Store.older e s c.args.place h.ahead)
-    c.in_err-unify_offer.ensures.marks c.in_err-unify_offer.ensures.names))
+    behind_error c.from_residual.result (keeps_store g.S.Store.names g.S.Store.present g.S.Store.stands g.S.Store.older e c.unify_row.new.store s.world s.stack (keeps_ahead g.S.Store.names g.S.Store.present g.S.Store.stands g.S.Store.older e s c.args.place h.ahead)
+    c.in_err-unify_row.ensures.marks c.in_err-unify_row.ensures.names))
 
 pub returns-then-not-branch-clause-tried : goal.returns-then-not-branch-clause-tried
 returns-then-not-branch-clause-tried g c = λ s made h.
     (let e = c.args.self.now in
     let left = goal_arguments (meaning (g.S.Store.present e.store) c.args.goal) in
-    let right = offer_tree c.args.offer.now in
-    row_missed g.S.Store.names g.S.Store.present g.S.Store.stands g.S.Store.older e c.args.goal s c.args.place h made left c.args.offer.now c.unify_offer.new.store c.in_ok-unify_offer.ensures.marks c.in_ok-unify_offer.ensures.names
-    (was_never (g.S.Store.present e.store) (g.S.Store.present c.unify_offer.new.store) left right c.in_ok-unify_offer.field-0 c.if-not-branch.true c.in_ok-unify_offer.ensures.unified))
+    let t = meaning (g.S.Store.present e.store) c.args.goal in
+    let right = row_tree t c.args.row.now in
+    row_missed g.S.Store.names g.S.Store.present g.S.Store.stands g.S.Store.older e c.args.goal s c.args.place h made left t c.args.row.now c.requires.row c.unify_row.new.store c.in_ok-unify_row.ensures.marks c.in_ok-unify_row.ensures.names
+    (was_never (g.S.Store.present e.store) (g.S.Store.present c.unify_row.new.store) left right c.in_ok-unify_row.field-0 c.if-not-branch.true c.in_ok-unify_row.ensures.unified))
 
 pub at-self-requires : goal.at-self-requires
-at-self-requires g c = rw c.as_slice.ensures.value (chain_place c.args.place c.requires.1.ahead.chain)
+at-self-requires g c = rw c.as_slice.ensures.value (chain_place c.args.place c.requires.meets.1.ahead.chain)
 
 pub returns-clause-tried : goal.returns-clause-tried
 returns-clause-tried g c = λ s made h.
     (let e = c.args.self.now in
     let left = goal_arguments (meaning (g.S.Store.present e.store) c.args.goal) in
-    let right = offer_tree c.args.offer.now in
-    let found = was_unified (g.S.Store.present e.store) (g.S.Store.present c.unify_offer.new.store) left right c.in_ok-unify_offer.field-0 c.if-not-branch.false c.in_ok-unify_offer.ensures.unified in
+    let t = meaning (g.S.Store.present e.store) c.args.goal in
+    let right = row_tree t c.args.row.now in
+    let found = was_unified (g.S.Store.present e.store) (g.S.Store.present c.unify_row.new.store) left right c.in_ok-unify_row.field-0 c.if-not-branch.false c.in_ok-unify_row.ensures.unified in
     rw (c.at-self.ensures, c.as_slice.ensures.value)
-    (row_found g.S.Store.names g.S.Store.present g.S.Store.stands g.S.Store.older e c.args.goal s c.args.place h made left c.args.offer.now c.unify_offer.new.store c.in_ok-unify_offer.ensures.marks c.in_ok-unify_offer.ensures.names found.0 found.1 found.2))
+    (row_found g.S.Store.names g.S.Store.present g.S.Store.stands g.S.Store.older e c.args.goal s c.args.place h made left t c.args.row.now c.requires.row c.unify_row.new.store c.in_ok-unify_row.ensures.marks c.in_ok-unify_row.ensures.names found.0 found.1 found.2))
 
 pub returns-clause-cost : goal.returns-clause-cost
 returns-clause-cost g c =
     let costs = frame_costs c.args.self.now.frames.items in
-    let there = behind_cost c.args.place c.requires.1.ahead.chain in
+    let there = behind_cost c.args.place c.requires.meets.1.ahead.chain in
     let up = cost_above most (rest_cost costs c.args.place) in
     rw (c.at-self.ensures, c.as_slice.ensures.value) (omega (arith, there, up))

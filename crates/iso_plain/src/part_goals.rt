@@ -1,0 +1,52 @@
+//! The engine's moves at goals that join atoms and take them apart (8.16.2, 8.16.3).
+ghost use Rattle.std.specs.Prelude.{◌≡◌, ℕ, suc, ◌+◌, ◌≤◌, IfOk, OnErr, length};
+ghost use Rattle.iso_model.specs.Search.AtomParts.{parts_settled};
+ghost use Rattle.iso_model.specs.Search.Walker.{State, settled};
+ghost use Rattle.iso_store_core.specs.Presents.{meaning};
+
+use super::plain::{Move, Plain};
+use iso_lib::Fault;
+use iso_model::AtomPart;
+use iso_plain_core::offers::Offers;
+use iso_store_core::{Store, StoreFault};
+use iso_text::parts::parted;
+
+impl<S: Store + Drop> Plain<S> {
+    ghost use Rattle.iso_plain.specs.Settles.{PartsAt, WasStopped};
+    ghost use Rattle.iso_plain.specs.EngineStates.{WasCalled, Falls, weight};
+    ghost use Rattle.iso_plain_core.specs.Costs.{choices_cost, rest_cost, frame_costs, whole_cost};
+    ghost use Rattle.iso_plain.specs.Stays.{Stays};
+    ghost use Rattle.iso_plain.specs.Limits.{ResultMet, ResultFull};
+
+    /// Runs the goal of this row, before the members from this place on. The errors: the store is full, or memory was refused; where no
+    /// choice may be made any more the engine is spent.
+    pub(crate) fn part_goal(
+        &mut self,
+        row: AtomPart,
+        goal: S::Word,
+        place: Option<usize>,
+    ) -> Result<Move, StoreFault>
+        requires { (s : State) × PartsAt S.names S.present S.stands S.older self.old row goal s place }
+        ensures called { (s : State) → PartsAt S.names S.present S.stands S.older self.old row goal s place
+            → IfOk result (λ m. WasCalled S.names S.present S.stands S.older m self.new s (settled (parts_settled row (meaning (S.present self.old.store) goal)) s.list s)) }
+        ensures kept { (s : State) → PartsAt S.names S.present S.stands S.older self.old row goal s place
+            → OnErr result (WasStopped S.names S.present S.stands S.older self.new s (settled (parts_settled row (meaning (S.present self.old.store) goal)) s.list s)) }
+        ensures falls { (w : ℕ) → choices_cost (frame_costs self.old.frames.items) self.old.choices.items
+            + rest_cost (frame_costs self.old.frames.items) place + 1 ≤ w → IfOk result (λ m. Falls m (whole_cost (suc self.old.steps) w) (weight self.new)) }
+        ensures frames { (s : State) → PartsAt S.names S.present S.stands S.older self.old row goal s place
+            → ResultFull ((self.old.limit ≤ length self.old.choices.items)
+            × (length (settled (parts_settled row (meaning (S.present self.old.store) goal)) s.list s).stack ≡ suc (length s.stack))) result }
+        ensures met { ResultMet S.full result self.new }
+        ensures stays { Stays S.names self.old self.new }
+    {
+        match parted(self.alloc, &self.store, row, goal) {
+            Ok(parts) => self.offer(goal, place, Offers::Parts(parts)),
+            Err(Fault::Raise(ball)) => {
+                self.throw(ball, place);
+                Ok(Move::Goes)
+            }
+            Err(Fault::Full) => Err(StoreFault::Full),
+            Err(Fault::NoMemory) => Err(StoreFault::NoMemory),
+        }
+    }
+}

@@ -1,0 +1,148 @@
+//! Rows of parts of atoms, as they are unified with the arguments of goals of `atom_concat/3` and `sub_atom/5` (8.16.2, 8.16.3).
+ghost use Rattle.std.specs.Prelude.{◌≡◌, ◌++◌, take, drop, chars, false, IfOk, Err};
+ghost use Rattle.std.specs.Str.{encode_utf8_all};
+ghost use Rattle.std.specs.String.{string_bytes};
+ghost use Rattle.iso_atoms.specs.Texts.{KeepsTexts};
+ghost use Rattle.iso_model.specs.Terms.Trees.{Name};
+ghost use Rattle.iso_model.specs.Terms.Arguments.{argument};
+ghost use Rattle.iso_model.specs.Terms.Unifiers.{NeverEqual};
+ghost use Rattle.iso_store_core.specs.Presents.{Holds, meaning, IsUnification, KeepsMarks};
+ghost use Rattle.iso_text.specs.Parts.{part_row, text_of, IsOf};
+ghost use Rattle.iso_text.specs.declared.parts.Part.TheVariants as part;
+ghost use Rattle.iso_plain_core.specs.Offers.{goal_arguments};
+
+use super::offers::unify_last;
+use iso_lib::Constant;
+use iso_store_core::{Shape, Store, StoreFault};
+use iso_text::parts::{Part, SubAtom};
+use std::alloc::{AllocError, Global};
+
+/// The text of the atom that the word stands for; no text where it stands for another term.
+fn text_of<S: Store>(store: &S, word: S::Word) -> &str
+    requires { Holds (S.present store.now) word }
+    ensures { result.now ≡ text_of (meaning (S.present store.now) word) }
+{
+    match store.shape(word) {
+        Shape::Atom(name) => store.text(name),
+        Shape::Var(_) | Shape::Int(_) | Shape::Compound(_, _) => "",
+    }
+}
+
+/// Whether the word may unify with the atom of this text: it stands for no other atom.
+fn may_be<S: Store>(store: &S, word: S::Word, text: &str) -> bool
+    requires { Holds (S.present store.now) word }
+    ensures { result ≡ false → NeverEqual (meaning (S.present store.now) word) (Name text.now) }
+{
+    match store.shape(word) {
+        Shape::Atom(name) => store.text(name) == text,
+        Shape::Var(_) | Shape::Int(_) | Shape::Compound(_, _) => true,
+    }
+}
+
+/// The texts of the goal's first two arguments, one behind the other. The error is that memory was refused.
+fn joined<S: Store>(alloc: Global, store: &S, goal: S::Word) -> Result<String, AllocError>
+    requires goal { Holds (S.present store.now) goal }
+    requires row { IsOf (meaning (S.present store.now) goal) part.Joined }
+    ensures { IfOk result (λ whole. string_bytes whole ≡ text_of (argument 0 (meaning (S.present store.now) goal)) ++ text_of (argument 1 (meaning (S.present store.now) goal))) }
+{
+    let mut whole = String::from_str(alloc, text_of(store, store.arg(goal, 0)))?;
+    whole.push_str(text_of(store, store.arg(goal, 1)))?;
+    Ok(whole)
+}
+
+/// The first characters of the text, so many of them. The error is that memory was refused.
+fn first_characters(alloc: Global, text: &str, count: usize) -> Result<String, AllocError>
+    ensures { IfOk result (λ first. string_bytes first ≡ encode_utf8_all (take count (chars text.now))) }
+{
+    text.chars().take(count).collect(alloc)
+}
+
+/// Whether the goal's third argument unifies with what its first two are joined to. The errors are those of `unify_part`.
+fn unify_joined<S: Store>(
+    alloc: Global,
+    store: &mut S,
+    goal: S::Word,
+) -> Result<bool, StoreFault>
+    requires goal { Holds (S.present store.old) goal }
+    requires row { IsOf (meaning (S.present store.old) goal) part.Joined }
+    ensures unified { IfOk result (IsUnification (S.present store.old) (S.present store.new) (goal_arguments (meaning (S.present store.old) goal)) (part_row (meaning (S.present store.old) goal) part.Joined)) }
+    ensures full { result ≡ Err StoreFault.Full → S.full store.new }
+    ensures names { KeepsTexts (S.names store.old) (S.names store.new) }
+    ensures marks { KeepsMarks (S.stands store.old) (S.stands store.new) }
+{
+    let row = [Constant::Atom(joined(alloc, store, goal)?)];
+    unify_last(store, goal, 3, 1, &row)
+}
+
+/// Whether the goal's first two arguments unify with the parts of the third before the byte at this place and from there on. The errors are
+/// those of `unify_part`.
+fn unify_split<S: Store>(
+    alloc: Global,
+    store: &mut S,
+    goal: S::Word,
+    place: usize,
+) -> Result<bool, StoreFault>
+    requires goal { Holds (S.present store.old) goal }
+    requires row { IsOf (meaning (S.present store.old) goal) (part.Split place) }
+    ensures unified { IfOk result (IsUnification (S.present store.old) (S.present store.new) (goal_arguments (meaning (S.present store.old) goal)) (part_row (meaning (S.present store.old) goal) (part.Split place))) }
+    ensures full { result ≡ Err StoreFault.Full → S.full store.new }
+    ensures names { KeepsTexts (S.names store.old) (S.names store.new) }
+    ensures marks { KeepsMarks (S.stands store.old) (S.stands store.new) }
+{
+    let (first, second) = text_of(store, store.arg(goal, 2)).split_at(place);
+    if !may_be(store, store.arg(goal, 0), first) || !may_be(store, store.arg(goal, 1), second) {
+        return Ok(false);
+    }
+    let row = [
+        Constant::Atom(String::from_str(alloc, first)?),
+        Constant::Atom(String::from_str(alloc, second)?),
+    ];
+    unify_last(store, goal, 2, 2, &row)
+}
+
+/// Whether the goal's last four arguments unify with the part of the first, with its place, its length and what stands behind it. The
+/// errors are those of `unify_part`.
+fn unify_sub<S: Store>(
+    alloc: Global,
+    store: &mut S,
+    goal: S::Word,
+    sub: SubAtom,
+) -> Result<bool, StoreFault>
+    requires goal { Holds (S.present store.old) goal }
+    requires row { IsOf (meaning (S.present store.old) goal) (part.Sub sub) }
+    ensures unified { IfOk result (IsUnification (S.present store.old) (S.present store.new) (goal_arguments (meaning (S.present store.old) goal)) (part_row (meaning (S.present store.old) goal) (part.Sub sub))) }
+    ensures full { result ≡ Err StoreFault.Full → S.full store.new }
+    ensures names { KeepsTexts (S.names store.old) (S.names store.new) }
+    ensures marks { KeepsMarks (S.stands store.old) (S.stands store.new) }
+{
+    let text = text_of(store, store.arg(goal, 0));
+    let row = [
+        Constant::Int(sub.before as i64),
+        Constant::Int(sub.length as i64),
+        Constant::Int(sub.behind as i64),
+        Constant::Atom(first_characters(alloc, &text[sub.start..], sub.length)?),
+    ];
+    unify_last(store, goal, 5, 4, &row)
+}
+
+/// Whether the arguments of the goal unify with the row of this part; then their unifier is bound. The errors: the store is full, or
+/// memory was refused.
+pub(crate) fn unify_part<S: Store>(
+    alloc: Global,
+    store: &mut S,
+    goal: S::Word,
+    part: Part,
+) -> Result<bool, StoreFault>
+    requires goal { Holds (S.present store.old) goal }
+    requires row { IsOf (meaning (S.present store.old) goal) part }
+    ensures unified { IfOk result (IsUnification (S.present store.old) (S.present store.new) (goal_arguments (meaning (S.present store.old) goal)) (part_row (meaning (S.present store.old) goal) part)) }
+    ensures full { result ≡ Err StoreFault.Full → S.full store.new }
+    ensures names { KeepsTexts (S.names store.old) (S.names store.new) }
+    ensures marks { KeepsMarks (S.stands store.old) (S.stands store.new) }
+{
+    match part {
+        Part::Joined => unify_joined(alloc, store, goal),
+        Part::Split(place) => unify_split(alloc, store, goal, place),
+        Part::Sub(sub) => unify_sub(alloc, store, goal, sub),
+    }
+}
