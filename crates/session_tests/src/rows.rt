@@ -39,8 +39,47 @@ pub const PLAIN: Row = Row {
 
 /// The row of this name.
 pub fn row_named(name: &str) -> Option<&'static Row> {
-    ROWS.iter().find(|row| row.name == name)
+    match MIXED.iter().find(|row| row.name == name) {
+        Some(row) => Some(row),
+        None => ROWS.iter().find(|row| row.name == name),
+    }
 }
+
+/// Facts, outputs before the lines of errors and answers, and clauses that are added between answers. Each output is followed by a line.
+pub const MIXED: &[Row] = &[
+    Row {
+        name: "facts in order, with repetitions",
+        text: "p(1). p(2). p(1).\n",
+        queries: "p(X).",
+        output: "answer 1: X = 1\nanswer 2: X = 2\nanswer 3: X = 1\nend: no more\n",
+        ..PLAIN
+    },
+    Row {
+        name: "an output before an error",
+        queries: "call((write(3), X)).",
+        output: "3\nend: error error(instantiation_error,call/1)\n",
+        ..PLAIN
+    },
+    Row {
+        name: "clauses that are added between answers",
+        text: ":- dynamic q/1. q(1). q(2).\n",
+        queries: "q(X), Y is X + 10, assertz(q(Y)). findall(X, q(X), L).",
+        output: "answer 1: X = 1, Y = 11\nanswer 2: X = 2, Y = 12\nend: no more\nanswer 1: X = _1, L = [1,2,11,12]\nend: no more\n",
+        ..PLAIN
+    },
+    Row {
+        name: "an output before an answer",
+        queries: "X = (a:- b,c;d->e), write_canonical(X).",
+        output: ":-(a,;(','(b,c),->(d,e)))\nanswer 1: X = (a:-b,c;d->e)\nend: no more\n",
+        ..PLAIN
+    },
+    Row {
+        name: "outputs of two queries",
+        queries: "writeq(f(A,B,A)). writeq('$VAR'(27)). X = 'don''t', atom_length(X, N).",
+        output: "f(_1,_2,_1)\nanswer 1: A = _1, B = _2\nend: no more\nB1\nanswer 1: true\nend: no more\nanswer 1: X = 'don\\'t', N = 5\nend: no more\n",
+        ..PLAIN
+    },
+];
 
 /// Sessions over definite clauses.
 pub const ROWS: &[Row] = &[
@@ -52,16 +91,6 @@ pub const ROWS: &[Row] = &[
         cells: None,
         frames: None,
         output: "",
-        status: 0,
-    },
-    Row {
-        name: "facts in order, with repetitions",
-        text: "p(1). p(2). p(1).\n",
-        queries: "p(X).",
-        budget: None,
-        cells: None,
-        frames: None,
-        output: "answer 1: X = 1\nanswer 2: X = 2\nanswer 3: X = 1\nend: no more\n",
         status: 0,
     },
     Row {

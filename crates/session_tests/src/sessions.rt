@@ -1,5 +1,5 @@
 //! Each row through a session with the plain engine, over either store.
-use super::rows::{ROWS, Row};
+use super::rows::{MIXED, ROWS, Row};
 use iso_model::{Limits, NoMemory};
 use iso_plain::plain::Plain;
 use iso_session::{Choice, session, session_on, status_of};
@@ -63,5 +63,6 @@ pub fn give_their_output(rt: &impl Abort, alloc: Global, rows: &[Row]) -> Result
 
 #[test]
 fn rows_give_their_output(rt: HostRuntime) -> Result<(), Fail> {
+    give_their_output(&rt, rt.alloc(), MIXED)?;
     give_their_output(&rt, rt.alloc(), ROWS)
 }

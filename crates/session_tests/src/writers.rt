@@ -1,9 +1,10 @@
 //! Writers that fail, that take little, and that take nothing.
-use iso_model::Limits;
+use super::rows::{MIXED, Row};
 use iso_session::{Choice, Fault, session, status_of};
 use std::alloc::Global;
 use std::io;
 use std::io::ErrorKind;
+use std::process::Abort;
 use std::test::Fail;
 
 /// A writer that takes at most so many bytes a call, and fails (or takes nothing) once its room is used up.
@@ -33,14 +34,8 @@ impl io::Write for Sink {
     }
 }
 
-const TEXT: &str = "p(1). p(2). p(1).\n";
-
-const QUERIES: &str = "p(X).";
-
-const OUTPUT: &str = "answer 1: X = 1\nanswer 2: X = 2\nanswer 3: X = 1\nend: no more\n";
-
-/// The bytes that this writer has, and the status, after a session.
-fn written(alloc: Global, step: usize, room: usize, fails: bool) -> (Vec<u8>, u8) {
+/// The bytes that this writer has, and the status, after the row's session.
+fn written(alloc: Global, row: &Row, step: usize, room: usize, fails: bool) -> (Vec<u8>, u8) {
     let mut sink = Sink {
         bytes: Vec::new(alloc),
         step,
@@ -49,9 +44,9 @@ fn written(alloc: Global, step: usize, room: usize, fails: bool) -> (Vec<u8>, u8
     };
     let outcome = session(
         alloc,
-        TEXT,
-        QUERIES,
-        &Limits::DEFAULT,
+        row.text,
+        row.queries,
+        &row.limits(),
         Choice::Plain,
         &mut sink,
     );
@@ -59,43 +54,65 @@ fn written(alloc: Global, step: usize, room: usize, fails: bool) -> (Vec<u8>, u8
     (sink.bytes, status)
 }
 
-#[test]
-fn a_failed_write_leaves_a_beginning(rt: HostRuntime) -> Result<(), Fail> {
-    let whole = OUTPUT.as_bytes();
+/// That a session whose writer has no room for all of its bytes writes as many as there is room for, and ends with status 4: for each
+/// room, where the writer takes so many bytes a call.
+fn expect_beginnings(rt: &impl Abort, alloc: Global, row: &Row, step: usize) {
+    let name = row.name;
+    let whole = row.output.as_bytes();
     for room in 0..whole.len() {
         for fails in [true, false] {
-            let (bytes, status) = written(rt.alloc(), 7, room, fails);
-            assert_eq!(rt; status, 4);
-            assert!(rt; bytes.as_slice() == &whole[..room]);
+            let (bytes, status) = written(alloc, row, step, room, fails);
+            assert_eq!(rt; status, 4, "{name}");
+            assert_eq!(rt; bytes.as_slice(), &whole[..room], "{name}");
         }
+    }
+}
+
+#[test]
+fn a_failed_write_leaves_a_beginning(rt: HostRuntime) -> Result<(), Fail> {
+    for row in MIXED {
+        expect_beginnings(&rt, rt.alloc(), row, 7);
+    }
+    Ok(())
+}
+
+#[test]
+fn a_failed_write_of_a_byte_leaves_a_beginning(rt: HostRuntime) -> Result<(), Fail> {
+    for row in MIXED {
+        expect_beginnings(&rt, rt.alloc(), row, 1);
     }
     Ok(())
 }
 
 #[test]
 fn a_writer_that_takes_a_byte_a_call_gets_all(rt: HostRuntime) -> Result<(), Fail> {
-    let (bytes, status) = written(rt.alloc(), 1, usize::MAX, true);
-    assert_eq!(rt; status, 0);
-    assert!(rt; bytes.as_slice() == OUTPUT.as_bytes());
+    for row in MIXED {
+        let name = row.name;
+        let (bytes, status) = written(rt.alloc(), row, 1, usize::MAX, true);
+        assert_eq!(rt; status, 0, "{name}");
+        assert_eq!(rt; bytes.as_slice(), row.output.as_bytes(), "{name}");
+    }
     Ok(())
 }
 
 #[test]
 fn the_fault_says_so(rt: HostRuntime) -> Result<(), Fail> {
-    let mut sink = Sink {
-        bytes: Vec::new(rt.alloc()),
-        step: 1,
-        room: 0,
-        fails: true,
-    };
-    let outcome = session(
-        rt.alloc(),
-        TEXT,
-        QUERIES,
-        &Limits::DEFAULT,
-        Choice::Plain,
-        &mut sink,
-    );
-    assert!(rt; matches!(&outcome, Err(Fault::Output)));
+    for row in MIXED {
+        let mut sink = Sink {
+            bytes: Vec::new(rt.alloc()),
+            step: 1,
+            room: 0,
+            fails: true,
+        };
+        let outcome = session(
+            rt.alloc(),
+            row.text,
+            row.queries,
+            &row.limits(),
+            Choice::Plain,
+            &mut sink,
+        );
+        assert!(rt; matches!(&outcome, Err(Fault::Output)));
+    }
     Ok(())
 }
