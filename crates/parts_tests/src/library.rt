@@ -102,367 +102,40 @@ fn outcome_of(
     outcome(rt, alloc, &mut store, row, goal)
 }
 
-/// Checks the outcome of each goal.
-fn expect_outcomes(
-    rt: &impl Abort,
-    alloc: Global,
-    rows: &[(Library, &str, &str)],
-) -> Result<(), Fail> {
-    for (row, text, wanted) in rows {
-        let term = read_term(alloc, text)?;
-        let found = outcome_of(rt, alloc, 100, *row, &term)?;
-        assert_eq!(rt; found.as_str(), *wanted, "of {text:?}");
-    }
-    Ok(())
-}
-
-/// Terms that are unified, or that don't unify.
-static EQUATIONS: [(Library, &str, &str); 12] = [
+/// Goals of built-ins of each kind, and what comes of them. More of them are sessions, as data of `session_rows`.
+static GOALS: [(Library, &str, &str); 17] = [
     (
         Library::Unify,
         "f(X, b) = f(a, Y).",
         "done =(f(a,b),f(a,b))",
     ),
-    (Library::Unify, "f(X, Y) = X.", "fails =(f(_0,_1),_0)"),
-    (Library::Unify, "1 = 1.", "done =(1,1)"),
-    (Library::Unify, "X = X.", "done =(_0,_0)"),
-    (
-        Library::Unify,
-        "f(X, b) = f(a, c).",
-        "fails =(f(_0,b),f(a,c))",
-    ),
-    (Library::Differ, "a \\= b.", "done \\=(a,b)"),
-    (
-        Library::Differ,
-        "f(X, b) \\= f(a, c).",
-        "done \\=(f(_0,b),f(a,c))",
-    ),
-    (Library::Differ, "X \\= f(X).", "done \\=(_0,f(_0))"),
-    (Library::Differ, "X \\= a.", "fails \\=(_0,a)"),
     (Library::Differ, "X \\= Y.", "fails \\=(_0,_1)"),
-    (Library::Differ, "f(a) \\= f(a).", "fails \\=(f(a),f(a))"),
-    (
-        Library::Differ,
-        "f(X, Y, X) \\= f(a, Z, b).",
-        "done \\=(f(_0,_1,_0),f(a,_2,b))",
-    ),
-];
-
-/// Types of terms.
-static TYPES: [(Library, &str, &str); 30] = [
-    (Library::Test(TypeTest::Var), "var(X).", "done var(_0)"),
-    (Library::Test(TypeTest::Var), "var(a).", "fails var(a)"),
-    (
-        Library::Test(TypeTest::Nonvar),
-        "nonvar(1).",
-        "done nonvar(1)",
-    ),
-    (
-        Library::Test(TypeTest::Nonvar),
-        "nonvar(X).",
-        "fails nonvar(_0)",
-    ),
-    (Library::Test(TypeTest::Atom), "atom([]).", "done atom([])"),
-    (Library::Test(TypeTest::Atom), "atom(1).", "fails atom(1)"),
-    (
-        Library::Test(TypeTest::Atom),
-        "atom(f(a)).",
-        "fails atom(f(a))",
-    ),
-    (
-        Library::Test(TypeTest::Integer),
-        "integer(-1).",
-        "done integer(-1)",
-    ),
-    (
-        Library::Test(TypeTest::Integer),
-        "integer(a).",
-        "fails integer(a)",
-    ),
     (
         Library::Test(TypeTest::Integer),
         "integer(X).",
         "fails integer(_0)",
     ),
     (
-        Library::Test(TypeTest::Float),
-        "float(1).",
-        "fails float(1)",
-    ),
-    (
-        Library::Test(TypeTest::Float),
-        "float(X).",
-        "fails float(_0)",
-    ),
-    (
-        Library::Test(TypeTest::Number),
-        "number(1).",
-        "done number(1)",
-    ),
-    (
-        Library::Test(TypeTest::Number),
-        "number(a).",
-        "fails number(a)",
-    ),
-    (
-        Library::Test(TypeTest::Atomic),
-        "atomic(a).",
-        "done atomic(a)",
-    ),
-    (
-        Library::Test(TypeTest::Atomic),
-        "atomic(1).",
-        "done atomic(1)",
-    ),
-    (
-        Library::Test(TypeTest::Atomic),
-        "atomic(f(a)).",
-        "fails atomic(f(a))",
-    ),
-    (
-        Library::Test(TypeTest::Atomic),
-        "atomic(X).",
-        "fails atomic(_0)",
-    ),
-    (
         Library::Test(TypeTest::Compound),
         "compound([1]).",
         "done compound('.'(1,[]))",
     ),
-    (
-        Library::Test(TypeTest::Compound),
-        "compound([]).",
-        "fails compound([])",
-    ),
-    (
-        Library::Test(TypeTest::Compound),
-        "compound(X).",
-        "fails compound(_0)",
-    ),
-    (
-        Library::Test(TypeTest::Callable),
-        "callable(a).",
-        "done callable(a)",
-    ),
-    (
-        Library::Test(TypeTest::Callable),
-        "callable(f(1)).",
-        "done callable(f(1))",
-    ),
-    (
-        Library::Test(TypeTest::Callable),
-        "callable(1).",
-        "fails callable(1)",
-    ),
-    (
-        Library::Test(TypeTest::Callable),
-        "callable(X).",
-        "fails callable(_0)",
-    ),
-    (
-        Library::Test(TypeTest::Ground),
-        "ground(1).",
-        "done ground(1)",
-    ),
-    (
-        Library::Test(TypeTest::Ground),
-        "ground(f(a, g(b))).",
-        "done ground(f(a,g(b)))",
-    ),
-    (
-        Library::Test(TypeTest::Ground),
-        "ground(f(a, g(X))).",
-        "fails ground(f(a,g(_0)))",
-    ),
-    (
-        Library::Test(TypeTest::Ground),
-        "ground(X).",
-        "fails ground(_0)",
-    ),
-    (
-        Library::Test(TypeTest::Ground),
-        "ground(a).",
-        "done ground(a)",
-    ),
-];
-
-/// Values that are unified with the left argument.
-static VALUES: [(Library, &str, &str); 13] = [
     (Library::Is, "X is 1 + 2.", "done is(3,+(1,2))"),
-    (Library::Is, "3 is 1 + 2.", "done is(3,+(1,2))"),
-    (Library::Is, "4 is 1 + 2.", "fails is(4,+(1,2))"),
-    (Library::Is, "f(X) is 1.", "fails is(f(_0),1)"),
-    (Library::Is, "1 + 2 is 1 + 2.", "fails is(+(1,2),+(1,2))"),
-    (
-        Library::Is,
-        "X is X + 1.",
-        "error(instantiation_error,/(is,2)) is(_0,+(_0,1))",
-    ),
-    (
-        Library::Is,
-        "X is foo.",
-        "error(type_error(evaluable,/(foo,0)),/(is,2)) is(_0,foo)",
-    ),
-    (
-        Library::Is,
-        "f(X, Y) is foo(1, X, 3).",
-        "error(type_error(evaluable,/(foo,3)),/(is,2)) is(f(_0,_1),foo(1,_0,3))",
-    ),
-    (
-        Library::Is,
-        "X is 1 // 0.",
-        "error(evaluation_error(zero_divisor),/(is,2)) is(_0,//(1,0))",
-    ),
-    (
-        Library::Is,
-        "X is 9223372036854775807 + 1.",
-        "error(evaluation_error(int_overflow),/(is,2)) is(_0,+(9223372036854775807,1))",
-    ),
-    (
-        Library::Is,
-        "X is 7 / 2.",
-        "error(evaluation_error(undefined),/(is,2)) is(_0,/(7,2))",
-    ),
-    (
-        Library::Is,
-        "X is 2 ^ -1.",
-        "error(type_error(float,2),/(is,2)) is(_0,^(2,-1))",
-    ),
-    (
-        Library::Is,
-        "a is X.",
-        "error(instantiation_error,/(is,2)) is(a,_0)",
-    ),
-];
-
-/// Values that are compared, and of two errors the left one.
-static COMPARISONS: [(Library, &str, &str); 20] = [
     (
         Library::Compare(Comparison::Equal),
         "1 + 1 =:= 2.",
         "done =:=(+(1,1),2)",
     ),
     (
-        Library::Compare(Comparison::Equal),
-        "1 =:= 2.",
-        "fails =:=(1,2)",
-    ),
-    (
-        Library::Compare(Comparison::Unequal),
-        "1 =\\= 2.",
-        "done =\\=(1,2)",
-    ),
-    (
-        Library::Compare(Comparison::Unequal),
-        "2 =\\= 1 + 1.",
-        "fails =\\=(2,+(1,1))",
-    ),
-    (
-        Library::Compare(Comparison::Less),
-        "-2 < -1.",
-        "done <(-2,-1)",
-    ),
-    (Library::Compare(Comparison::Less), "2 < 2.", "fails <(2,2)"),
-    (Library::Compare(Comparison::Less), "3 < 2.", "fails <(3,2)"),
-    (
-        Library::Compare(Comparison::AtMost),
-        "2 =< 2.",
-        "done =<(2,2)",
-    ),
-    (
-        Library::Compare(Comparison::AtMost),
-        "1 =< 2.",
-        "done =<(1,2)",
-    ),
-    (
-        Library::Compare(Comparison::AtMost),
-        "3 =< 2.",
-        "fails =<(3,2)",
-    ),
-    (
-        Library::Compare(Comparison::Greater),
-        "3 > 2.",
-        "done >(3,2)",
-    ),
-    (
-        Library::Compare(Comparison::Greater),
-        "2 > 2.",
-        "fails >(2,2)",
-    ),
-    (
-        Library::Compare(Comparison::Greater),
-        "1 > 2.",
-        "fails >(1,2)",
-    ),
-    (
-        Library::Compare(Comparison::AtLeast),
-        "2 >= 2.",
-        "done >=(2,2)",
-    ),
-    (
-        Library::Compare(Comparison::AtLeast),
-        "3 >= 2.",
-        "done >=(3,2)",
-    ),
-    (
-        Library::Compare(Comparison::AtLeast),
-        "1 >= 2.",
-        "fails >=(1,2)",
-    ),
-    (
-        Library::Compare(Comparison::Equal),
-        "X =:= 1 / 0.",
-        "error(instantiation_error,/(=:=,2)) =:=(_0,/(1,0))",
-    ),
-    (
-        Library::Compare(Comparison::Less),
-        "1 / 0 < X.",
-        "error(evaluation_error(zero_divisor),/(<,2)) <(/(1,0),_0)",
-    ),
-    (
-        Library::Compare(Comparison::Unequal),
-        "1 =\\= f(X).",
-        "error(type_error(evaluable,/(f,1)),/(=\\=,2)) =\\=(1,f(_0))",
-    ),
-    (
         Library::Compare(Comparison::AtLeast),
         "1 >= a.",
         "error(type_error(evaluable,/(a,0)),/(>=,2)) >=(1,a)",
     ),
-];
-
-/// Parts of terms, and terms of their parts.
-static PARTS: [(Library, &str, &str); 14] = [
     (Library::Arg, "arg(2, f(a, X), b).", "done arg(2,f(a,b),b)"),
-    (
-        Library::Arg,
-        "arg(3, f(a, X), b).",
-        "fails arg(3,f(a,_0),b)",
-    ),
-    (
-        Library::Arg,
-        "arg(1, a, X).",
-        "error(type_error(compound,a),/(arg,3)) arg(1,a,_0)",
-    ),
     (
         Library::CopyTerm,
         "copy_term(f(X, Y, X), C).",
         "done copy_term(f(_0,_1,_0),f(_3,_4,_3))",
-    ),
-    (
-        Library::CopyTerm,
-        "copy_term(f(X), f(a, b)).",
-        "fails copy_term(f(_0),f(a,b))",
-    ),
-    (
-        Library::Functor,
-        "functor(f(a, b), N, A).",
-        "done functor(f(a,b),f,2)",
-    ),
-    (
-        Library::Functor,
-        "functor(T, f, 2).",
-        "done functor(f(_1,_2),f,2)",
     ),
     (
         Library::Functor,
@@ -471,47 +144,13 @@ static PARTS: [(Library, &str, &str); 14] = [
     ),
     (
         Library::Univ,
-        "f(a) =.. L.",
-        "done =..(f(a),'.'(f,'.'(a,[])))",
-    ),
-    (
-        Library::Univ,
         "T =.. [f, X].",
         "done =..(f(_1),'.'(f,'.'(_1,[])))",
-    ),
-    (
-        Library::Univ,
-        "T =.. [f, X|Y].",
-        "error(instantiation_error,/(=..,2)) =..(_0,'.'(f,'.'(_1,_2)))",
-    ),
-    (
-        Library::TermVariables,
-        "term_variables(f(X, Y, X), L).",
-        "done term_variables(f(_0,_1,_0),'.'(_0,'.'(_1,[])))",
     ),
     (
         Library::TermVariables,
         "term_variables(f(X, Y), [L]).",
         "fails term_variables(f(_0,_1),'.'(_2,[]))",
-    ),
-    (
-        Library::TermVariables,
-        "term_variables(X, a).",
-        "error(type_error(list,a),/(term_variables,2)) term_variables(_0,a)",
-    ),
-];
-
-/// The order of terms, and lists in order.
-static ORDERS: [(Library, &str, &str); 15] = [
-    (
-        Library::Order(OrderTest::Identical),
-        "f(X) == f(X).",
-        "done ==(f(_0),f(_0))",
-    ),
-    (
-        Library::Order(OrderTest::NotIdentical),
-        "X \\== Y.",
-        "done \\==(_0,_1)",
     ),
     (
         Library::Order(OrderTest::Before),
@@ -524,26 +163,6 @@ static ORDERS: [(Library, &str, &str); 15] = [
         "fails @=<(b,a)",
     ),
     (
-        Library::Order(OrderTest::After),
-        "f(a) @> b.",
-        "done @>(f(a),b)",
-    ),
-    (
-        Library::Order(OrderTest::NotBefore),
-        "a @>= a.",
-        "done @>=(a,a)",
-    ),
-    (
-        Library::CompareTerms,
-        "compare(O, a, b).",
-        "done compare(<,a,b)",
-    ),
-    (
-        Library::CompareTerms,
-        "compare(>, a, b).",
-        "fails compare(>,a,b)",
-    ),
-    (
         Library::CompareTerms,
         "compare(x, a, b).",
         "error(domain_error(order,x),/(compare,3)) compare(x,a,b)",
@@ -554,60 +173,21 @@ static ORDERS: [(Library, &str, &str); 15] = [
         "done sort('.'(b,'.'(_0,'.'(b,[]))),'.'(_0,'.'(b,[])))",
     ),
     (
-        Library::Sort,
-        "sort([a], [b]).",
-        "fails sort('.'(a,[]),'.'(b,[]))",
-    ),
-    (
-        Library::Sort,
-        "sort([a|T], L).",
-        "error(instantiation_error,/(sort,2)) sort('.'(a,_0),_1)",
-    ),
-    (
-        Library::Keysort,
-        "keysort([b-1, a-2, b-0], L).",
-        "done keysort('.'(-(b,1),'.'(-(a,2),'.'(-(b,0),[]))),'.'(-(a,2),'.'(-(b,1),'.'(-(b,0),[]))))",
-    ),
-    (
         Library::Keysort,
         "keysort([a-1, X], L).",
         "error(instantiation_error,/(keysort,2)) keysort('.'(-(a,1),'.'(_0,[])),_1)",
     ),
-    (
-        Library::Keysort,
-        "keysort([a], L).",
-        "error(type_error(pair,a),/(keysort,2)) keysort('.'(a,[]),_0)",
-    ),
 ];
 
 #[test]
-fn puts_terms_in_order(rt: HostRuntime) -> Result<(), Fail> {
-    expect_outcomes(&rt, rt.alloc(), &ORDERS)
-}
-
-#[test]
-fn unifies_terms(rt: HostRuntime) -> Result<(), Fail> {
-    expect_outcomes(&rt, rt.alloc(), &EQUATIONS)
-}
-
-#[test]
-fn finds_parts(rt: HostRuntime) -> Result<(), Fail> {
-    expect_outcomes(&rt, rt.alloc(), &PARTS)
-}
-
-#[test]
-fn tests_types(rt: HostRuntime) -> Result<(), Fail> {
-    expect_outcomes(&rt, rt.alloc(), &TYPES)
-}
-
-#[test]
-fn finds_values(rt: HostRuntime) -> Result<(), Fail> {
-    expect_outcomes(&rt, rt.alloc(), &VALUES)
-}
-
-#[test]
-fn compares_values(rt: HostRuntime) -> Result<(), Fail> {
-    expect_outcomes(&rt, rt.alloc(), &COMPARISONS)
+fn runs_goals(rt: HostRuntime) -> Result<(), Fail> {
+    let alloc = rt.alloc();
+    for (row, text, wanted) in &GOALS {
+        let term = read_term(alloc, text)?;
+        let found = outcome_of(&rt, alloc, 100, *row, &term)?;
+        assert_eq!(rt; found.as_str(), *wanted, "of {text:?}");
+    }
+    Ok(())
 }
 
 /// The goal `X Name 1 Operation 0`, for which the reader isn't called.

@@ -1,8 +1,5 @@
 //! Texts read as clauses, against the tables of `read_texts`.
-use super::read_texts::{
-    ATOMS, BRACKETS, COMPOUNDS, DOUBLE_AS_ATOMS, DOUBLE_AS_CHARACTERS, ENDS, INFIX, LISTS,
-    LITERALS, OPERATIONS, OWN_OPERATORS, PREFIX, QUOTED, SIMPLE,
-};
+use super::read_texts::{ENDS, OWN_OPERATORS, TERMS};
 use super::texts::write_term;
 use iso_ops::{Flags, OpFault, OpTable};
 use iso_read::{Read, read_clause};
@@ -81,22 +78,8 @@ fn check_all(
 fn a_text_has_its_clauses(rt: HostRuntime) -> Result<(), Fail> {
     let alloc = rt.alloc();
     let profile = initial(alloc)?;
-    check_all(&rt, alloc, &profile, &SIMPLE)?;
-    check_all(&rt, alloc, &profile, &COMPOUNDS)?;
-    check_all(&rt, alloc, &profile, &OPERATIONS)?;
+    check_all(&rt, alloc, &profile, &TERMS)?;
     check_all(&rt, alloc, &profile, &ENDS)?;
-    Ok(())
-}
-
-#[test]
-fn operators_take_their_operands(rt: HostRuntime) -> Result<(), Fail> {
-    let alloc = rt.alloc();
-    let profile = initial(alloc)?;
-    check_all(&rt, alloc, &profile, &INFIX)?;
-    check_all(&rt, alloc, &profile, &BRACKETS)?;
-    check_all(&rt, alloc, &profile, &PREFIX)?;
-    check_all(&rt, alloc, &profile, &ATOMS)?;
-    check_all(&rt, alloc, &profile, &LITERALS)?;
     Ok(())
 }
 
@@ -122,23 +105,21 @@ fn a_text_is_read_by_the_operators_that_stand(rt: HostRuntime) -> Result<(), Fai
     )?;
     assert!(rt; add_operators(&mut profile.ops).is_ok());
     check_all(&rt, alloc, &profile, &OWN_OPERATORS)?;
-    check_all(&rt, alloc, &profile, &PREFIX)?;
     assert!(rt; profile.ops.add_op(0, "fy", "-").is_ok());
     check(&rt, alloc, &profile, "- a. -1. - .", &["Syntax", "-1", "-"])?;
     Ok(())
 }
 
 #[test]
-fn lists_braces_and_quoted_items(rt: HostRuntime) -> Result<(), Fail> {
+fn double_quoted_items_are_read_by_their_flag(rt: HostRuntime) -> Result<(), Fail> {
     let alloc = rt.alloc();
     let mut profile = initial(alloc)?;
-    check_all(&rt, alloc, &profile, &LISTS)?;
-    check_all(&rt, alloc, &profile, &QUOTED)?;
+    let text = "\"É1\".";
+    check(&rt, alloc, &profile, text, &["'.'(201,'.'(49,[]))"])?;
     assert!(rt; profile.flags.set("double_quotes", "chars"));
-    check_all(&rt, alloc, &profile, &DOUBLE_AS_CHARACTERS)?;
+    check(&rt, alloc, &profile, text, &["'.'('É','.'('1',[]))"])?;
     assert!(rt; profile.flags.set("double_quotes", "atom"));
-    check_all(&rt, alloc, &profile, &DOUBLE_AS_ATOMS)?;
-    Ok(())
+    check(&rt, alloc, &profile, text, &["'É1'"])
 }
 
 /// This text so many times.

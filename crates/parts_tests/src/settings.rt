@@ -119,206 +119,30 @@ fn outcome(
     shown(alloc, settled(rt, alloc, &store, row, goal, ops, flags))
 }
 
-/// Checks what each of these goals comes to that isn't done: the operators and the flags stay.
-fn expect_unchanged(
-    rt: &impl Abort,
-    alloc: Global,
-    rows: &[(Setting, &str, &str)],
-) -> Result<(), Fail> {
-    let mut ops = OpTable::initial(alloc)?;
-    let mut flags = Flags::initial();
-    let before = settings(alloc, &ops, &flags)?;
-    for (row, text, wanted) in rows {
-        let found = outcome(rt, alloc, *row, text, &mut ops, &mut flags)?;
-        assert_eq!(rt; found.as_str(), *wanted, "of {text:?}");
-        let after = settings(alloc, &ops, &flags)?;
-        assert_eq!(rt; after.as_str(), before.as_str(), "of {text:?}");
-    }
-    Ok(())
-}
-
-/// Runs these goals, which are done, in turn: behind each the operators of these names, and the flags.
-fn expect_done(
-    rt: &impl Abort,
-    alloc: Global,
-    rows: &[(Setting, &str, &str, &str)],
-) -> Result<(), Fail> {
-    let mut ops = OpTable::initial(alloc)?;
-    let mut flags = Flags::initial();
-    for (row, text, names, wanted) in rows {
-        let found = outcome(rt, alloc, *row, text, &mut ops, &mut flags)?;
-        assert_eq!(rt; found.as_str(), "done", "of {text:?}");
-        let after = chosen(alloc, &ops, &flags, names)?;
-        assert_eq!(rt; after.as_str(), *wanted, "of {text:?}");
-    }
-    Ok(())
-}
-
-/// Names that become operators, or are none any more.
-static OPERATORS: [(Setting, &str, &str, &str); 10] = [
-    (
-        Setting::Op,
-        "op(200, xfx, foo).",
-        "foo bar",
-        "45, 200 xfx foo, Codes Error",
-    ),
+/// Goals that are done, with the operators of these names, and the flags, behind each. More goals are sessions, as data of `session_rows`.
+static DONE: [(Setting, &str, &str, &str); 3] = [
     (
         Setting::Op,
         "op(1200, fy, [foo, bar]).",
         "foo bar",
-        "47, 200 xfx foo, 1200 fy foo, 1200 fy bar, Codes Error",
-    ),
-    (
-        Setting::Op,
-        "op(0, fx, foo).",
-        "foo bar",
-        "46, 200 xfx foo, 1200 fy bar, Codes Error",
-    ),
-    (
-        Setting::Op,
-        "op(0, xf, foo).",
-        "foo bar",
-        "46, 200 xfx foo, 1200 fy bar, Codes Error",
-    ),
-    (
-        Setting::Op,
-        "op(1, yfx, [foo, bar, foo]).",
-        "foo bar",
-        "47, 1 yfx foo, 1200 fy bar, 1 yfx bar, Codes Error",
-    ),
-    (
-        Setting::Op,
-        "op(300, xfx, mod).",
-        "* mod <<",
-        "47, 400 yfx *, 300 xfx mod, 400 yfx <<, Codes Error",
+        "46, 1200 fy foo, 1200 fy bar, Codes Error",
     ),
     (
         Setting::Op,
         "op(0, xfy, [mod, *]).",
         "* mod <<",
-        "45, 400 yfx <<, Codes Error",
+        "44, 400 yfx <<, Codes Error",
     ),
-    (
-        Setting::Op,
-        "op(300, xf, mod).",
-        "mod",
-        "46, 300 xf mod, Codes Error",
-    ),
-    (
-        Setting::Op,
-        "op(300, xf, []).",
-        "mod",
-        "46, 300 xf mod, Codes Error",
-    ),
-    (Setting::Op, "op(0, xfx, []).", "", "46, Codes Error"),
-];
-
-/// Flags that are set.
-static FLAGS: [(Setting, &str, &str, &str); 5] = [
     (
         Setting::SetFlag,
         "set_prolog_flag(unknown, fail).",
         "",
         "44, Codes Fail",
     ),
-    (
-        Setting::SetFlag,
-        "set_prolog_flag(double_quotes, atom).",
-        "",
-        "44, Atom Fail",
-    ),
-    (
-        Setting::SetFlag,
-        "set_prolog_flag(double_quotes, chars).",
-        "",
-        "44, Chars Fail",
-    ),
-    (
-        Setting::SetFlag,
-        "set_prolog_flag(unknown, error).",
-        "",
-        "44, Chars Error",
-    ),
-    (
-        Setting::SetFlag,
-        "set_prolog_flag(double_quotes, codes).",
-        "",
-        "44, Codes Error",
-    ),
 ];
 
-/// Errors of `op/3`, each before those that are looked for later.
-static OPERATOR_ERRORS: [(Setting, &str, &str); 24] = [
-    (
-        Setting::Op,
-        "op(P, xfx, foo).",
-        "error(instantiation_error,/(op,3))",
-    ),
-    (
-        Setting::Op,
-        "op(a, S, foo).",
-        "error(instantiation_error,/(op,3))",
-    ),
-    (
-        Setting::Op,
-        "op(a, 1, N).",
-        "error(instantiation_error,/(op,3))",
-    ),
-    (
-        Setting::Op,
-        "op(a, 1, [foo|T]).",
-        "error(instantiation_error,/(op,3))",
-    ),
-    (
-        Setting::Op,
-        "op(a, 1, [1, N|2]).",
-        "error(instantiation_error,/(op,3))",
-    ),
-    (
-        Setting::Op,
-        "op(a, 1, 2).",
-        "error(type_error(integer,a),/(op,3))",
-    ),
-    (
-        Setting::Op,
-        "op(1 + 1, 1, 2).",
-        "error(type_error(integer,+(1,1)),/(op,3))",
-    ),
-    (
-        Setting::Op,
-        "op(1201, 1, 2).",
-        "error(domain_error(operator_priority,1201),/(op,3))",
-    ),
-    (
-        Setting::Op,
-        "op(-1, xxx, 2).",
-        "error(domain_error(operator_priority,-1),/(op,3))",
-    ),
-    (
-        Setting::Op,
-        "op(200, 1, 2).",
-        "error(type_error(atom,1),/(op,3))",
-    ),
-    (
-        Setting::Op,
-        "op(200, f(a), 2).",
-        "error(type_error(atom,f(a)),/(op,3))",
-    ),
-    (
-        Setting::Op,
-        "op(200, xxx, 2).",
-        "error(domain_error(operator_specifier,xxx),/(op,3))",
-    ),
-    (
-        Setting::Op,
-        "op(200, xfx, 2).",
-        "error(type_error(list,2),/(op,3))",
-    ),
-    (
-        Setting::Op,
-        "op(200, xfx, f(a)).",
-        "error(type_error(list,f(a)),/(op,3))",
-    ),
+/// Goals that change nothing, each with its error, or the flags with their values.
+static UNCHANGED: [(Setting, &str, &str); 5] = [
     (
         Setting::Op,
         "op(200, xfx, [1|foo]).",
@@ -326,160 +150,18 @@ static OPERATOR_ERRORS: [(Setting, &str, &str); 24] = [
     ),
     (
         Setting::Op,
-        "op(200, xfx, [foo, 1]).",
-        "error(type_error(atom,1),/(op,3))",
-    ),
-    (
-        Setting::Op,
-        "op(200, xfx, [',', f(a)]).",
-        "error(type_error(atom,f(a)),/(op,3))",
-    ),
-    (
-        Setting::Op,
-        "op(200, xfx, ',').",
-        "error(permission_error(modify,operator,','),/(op,3))",
-    ),
-    (
-        Setting::Op,
-        "op(0, xfy, [foo, ',', '|']).",
-        "error(permission_error(modify,operator,','),/(op,3))",
-    ),
-    (
-        Setting::Op,
         "op(200, xfx, [foo, '|', ',']).",
         "error(permission_error(create,operator,'|'),/(op,3))",
-    ),
-    (
-        Setting::Op,
-        "op(200, xfx, [[]]).",
-        "error(permission_error(create,operator,[]),/(op,3))",
-    ),
-    (
-        Setting::Op,
-        "op(0, xfx, {}).",
-        "error(permission_error(create,operator,{}),/(op,3))",
-    ),
-    (
-        Setting::Op,
-        "op(200, xf, [foo, mod]).",
-        "error(permission_error(create,operator,mod),/(op,3))",
-    ),
-    (
-        Setting::Op,
-        "op(200, yf, mod).",
-        "error(permission_error(create,operator,mod),/(op,3))",
-    ),
-];
-
-/// Errors of `current_op/3`.
-static CURRENT_OPERATOR_ERRORS: [(Setting, &str, &str); 7] = [
-    (
-        Setting::CurrentOp,
-        "current_op(1201, 1, 1).",
-        "error(domain_error(operator_priority,1201),/(current_op,3))",
-    ),
-    (
-        Setting::CurrentOp,
-        "current_op(-1, 1, 1).",
-        "error(domain_error(operator_priority,-1),/(current_op,3))",
-    ),
-    (
-        Setting::CurrentOp,
-        "current_op(a, T, N).",
-        "error(domain_error(operator_priority,a),/(current_op,3))",
-    ),
-    (
-        Setting::CurrentOp,
-        "current_op(1200, xxx, 1).",
-        "error(domain_error(operator_specifier,xxx),/(current_op,3))",
-    ),
-    (
-        Setting::CurrentOp,
-        "current_op(P, 1, N).",
-        "error(domain_error(operator_specifier,1),/(current_op,3))",
-    ),
-    (
-        Setting::CurrentOp,
-        "current_op(0, yf, 1).",
-        "error(type_error(atom,1),/(current_op,3))",
     ),
     (
         Setting::CurrentOp,
         "current_op(P, T, f(N)).",
         "error(type_error(atom,f(_2)),/(current_op,3))",
     ),
-];
-
-/// Errors of both built-ins for flags.
-static FLAG_ERRORS: [(Setting, &str, &str); 11] = [
-    (
-        Setting::SetFlag,
-        "set_prolog_flag(F, fail).",
-        "error(instantiation_error,/(set_prolog_flag,2))",
-    ),
-    (
-        Setting::SetFlag,
-        "set_prolog_flag(1, V).",
-        "error(instantiation_error,/(set_prolog_flag,2))",
-    ),
-    (
-        Setting::SetFlag,
-        "set_prolog_flag(1, fail).",
-        "error(type_error(atom,1),/(set_prolog_flag,2))",
-    ),
-    (
-        Setting::SetFlag,
-        "set_prolog_flag(f(a), fail).",
-        "error(type_error(atom,f(a)),/(set_prolog_flag,2))",
-    ),
-    (
-        Setting::SetFlag,
-        "set_prolog_flag(foo, 1).",
-        "error(domain_error(prolog_flag,foo),/(set_prolog_flag,2))",
-    ),
-    (
-        Setting::SetFlag,
-        "set_prolog_flag(bounded, true).",
-        "error(permission_error(modify,flag,bounded),/(set_prolog_flag,2))",
-    ),
-    (
-        Setting::SetFlag,
-        "set_prolog_flag(max_arity, f(1)).",
-        "error(permission_error(modify,flag,max_arity),/(set_prolog_flag,2))",
-    ),
-    (
-        Setting::SetFlag,
-        "set_prolog_flag(unknown, warning).",
-        "error(domain_error(flag_value,+(unknown,warning)),/(set_prolog_flag,2))",
-    ),
     (
         Setting::SetFlag,
         "set_prolog_flag(double_quotes, f(X)).",
         "error(domain_error(flag_value,+(double_quotes,f(_0))),/(set_prolog_flag,2))",
-    ),
-    (
-        Setting::CurrentFlag,
-        "current_prolog_flag(1, V).",
-        "error(type_error(atom,1),/(current_prolog_flag,2))",
-    ),
-    (
-        Setting::CurrentFlag,
-        "current_prolog_flag(foo, V).",
-        "error(domain_error(prolog_flag,foo),/(current_prolog_flag,2))",
-    ),
-];
-
-/// Each flag with its value, whatever the goal's arguments are.
-static FLAG_ROWS: [(Setting, &str, &str); 3] = [
-    (
-        Setting::CurrentFlag,
-        "current_prolog_flag(F, V).",
-        "offers 7, bounded true, max_integer 9223372036854775807, min_integer -9223372036854775808, integer_rounding_function toward_zero, max_arity 255, double_quotes codes, unknown error",
-    ),
-    (
-        Setting::CurrentFlag,
-        "current_prolog_flag(max_arity, f(x)).",
-        "offers 7, bounded true, max_integer 9223372036854775807, min_integer -9223372036854775808, integer_rounding_function toward_zero, max_arity 255, double_quotes codes, unknown error",
     ),
     (
         Setting::CurrentFlag,
@@ -489,29 +171,32 @@ static FLAG_ROWS: [(Setting, &str, &str); 3] = [
 ];
 
 #[test]
-fn operators_are_set(rt: HostRuntime) -> Result<(), Fail> {
-    expect_done(&rt, rt.alloc(), &OPERATORS)
+fn goals_are_done(rt: HostRuntime) -> Result<(), Fail> {
+    let alloc = rt.alloc();
+    let mut ops = OpTable::initial(alloc)?;
+    let mut flags = Flags::initial();
+    for (row, text, names, wanted) in &DONE {
+        let found = outcome(&rt, alloc, *row, text, &mut ops, &mut flags)?;
+        assert_eq!(rt; found.as_str(), "done", "of {text:?}");
+        let after = chosen(alloc, &ops, &flags, names)?;
+        assert_eq!(rt; after.as_str(), *wanted, "of {text:?}");
+    }
+    Ok(())
 }
 
 #[test]
-fn operators_are_refused(rt: HostRuntime) -> Result<(), Fail> {
-    expect_unchanged(&rt, rt.alloc(), &OPERATOR_ERRORS)?;
-    expect_unchanged(&rt, rt.alloc(), &CURRENT_OPERATOR_ERRORS)
-}
-
-#[test]
-fn flags_are_set(rt: HostRuntime) -> Result<(), Fail> {
-    expect_done(&rt, rt.alloc(), &FLAGS)
-}
-
-#[test]
-fn flags_are_refused(rt: HostRuntime) -> Result<(), Fail> {
-    expect_unchanged(&rt, rt.alloc(), &FLAG_ERRORS)
-}
-
-#[test]
-fn flags_are_offered(rt: HostRuntime) -> Result<(), Fail> {
-    expect_unchanged(&rt, rt.alloc(), &FLAG_ROWS)
+fn goals_that_change_nothing(rt: HostRuntime) -> Result<(), Fail> {
+    let alloc = rt.alloc();
+    let mut ops = OpTable::initial(alloc)?;
+    let mut flags = Flags::initial();
+    let before = settings(alloc, &ops, &flags)?;
+    for (row, text, wanted) in &UNCHANGED {
+        let found = outcome(&rt, alloc, *row, text, &mut ops, &mut flags)?;
+        assert_eq!(rt; found.as_str(), *wanted, "of {text:?}");
+        let after = settings(alloc, &ops, &flags)?;
+        assert_eq!(rt; after.as_str(), before.as_str(), "of {text:?}");
+    }
+    Ok(())
 }
 
 /// What `current_op/3` offers is the table.
