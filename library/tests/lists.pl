@@ -1,0 +1,2 @@
+% library: lists.pl
+colours([red, green, blue]).
