@@ -31,8 +31,8 @@ module _ {W : Type 0} (p q : Present W) (t : Tree) (answer : Bool) where
       let right = row (at 0 ∷ at 1 ∷ Name whole ∷ []) in
       let all : IsUnification p q (row (arguments_from 0 3 t)) right answer =
       unified_as p q (row (at 2 ∷ [])) (row (Name whole ∷ [])) (row (arguments_from 0 3 t)) right answer
-          (λ s e. ap (λ (x : Tree). More (apply s (at 0)) (More (apply s (at 1)) x)) e)
-          (λ s e. cc) h in
+      (λ s e. ap (λ (x : Tree). More (apply s (at 0)) (More (apply s (at 1)) x)) e)
+      (λ s e. cc) h in
       subst (λ (n : ℕ). IsUnification p q (row (arguments_from 0 n t)) (part_row t part.Joined) answer) (sym three)
       (subst (λ (w : List ℕ). IsUnification p q (row (arguments_from 0 3 t)) (row (at 0 ∷ at 1 ∷ Name w ∷ [])) answer) is all)
 
@@ -42,8 +42,8 @@ module _ {W : Type 0} (p q : Present W) (t : Tree) (answer : Bool) where
       let right = row (Name first ∷ Name second ∷ at 2 ∷ []) in
       let all : IsUnification p q (row (arguments_from 0 3 t)) right answer =
       unified_as p q (row (at 0 ∷ at 1 ∷ [])) (row (Name first ∷ Name second ∷ [])) (row (arguments_from 0 3 t)) right answer
-          (λ s e. (let x : apply s (at 0) ≡ Name first = cc in let y : apply s (at 1) ≡ Name second = cc in ap₂ (λ (u v : Tree). More u (More v (More (apply s (at 2)) End))) x y))
-          (λ s e. (let x : apply s (at 0) ≡ Name first = cc in let y : apply s (at 1) ≡ Name second = cc in ap₂ (λ (u v : Tree). More u (More v End)) x y)) h in
+      (λ s e. (let x : apply s (at 0) ≡ Name first = cc in let y : apply s (at 1) ≡ Name second = cc in ap₂ (λ (u v : Tree). More u (More v (More (apply s (at 2)) End))) x y))
+      (λ s e. (let x : apply s (at 0) ≡ Name first = cc in let y : apply s (at 1) ≡ Name second = cc in ap₂ (λ (u v : Tree). More u (More v End)) x y)) h in
       subst (λ (n : ℕ). IsUnification p q (row (arguments_from 0 n t)) (part_row t (part.Split place)) answer) (sym three)
       (subst (λ (v : List ℕ). IsUnification p q (row (arguments_from 0 3 t)) (row (Name (take place (text_of (at 2))) ∷ Name v ∷ at 2 ∷ [])) answer) other
       (subst (λ (u : List ℕ). IsUnification p q (row (arguments_from 0 3 t)) (row (Name u ∷ Name second ∷ at 2 ∷ [])) answer) one all))
@@ -55,8 +55,8 @@ module _ {W : Type 0} (p q : Present W) (t : Tree) (answer : Bool) where
       let right = row (at 0 ∷ Integer (pos s.before) ∷ Integer (pos s.length) ∷ Integer (pos s.behind) ∷ Name text ∷ []) in
       let all : IsUnification p q (row (arguments_from 0 5 t)) right answer =
       unified_as p q (row (at 1 ∷ at 2 ∷ at 3 ∷ at 4 ∷ [])) (row (Integer (pos s.before) ∷ Integer (pos s.length) ∷ Integer (pos s.behind) ∷ Name text ∷ [])) (row (arguments_from 0 5 t)) right answer
-          (λ r e. ap (More (apply r (at 0))) e)
-          (λ r e. cc) h in
+      (λ r e. ap (More (apply r (at 0))) e)
+      (λ r e. cc) h in
       subst (λ (n : ℕ). IsUnification p q (row (arguments_from 0 n t)) (part_row t (part.Sub s)) answer) (sym five)
       (subst (λ (w : List ℕ). IsUnification p q (row (arguments_from 0 5 t)) (row (at 0 ∷ Integer (pos s.before) ∷ Integer (pos s.length) ∷ Integer (pos s.behind) ∷ Name w ∷ [])) answer) is all)
 

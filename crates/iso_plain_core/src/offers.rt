@@ -122,11 +122,7 @@ pub(crate) fn unify_last<S: Store>(
 
 /// Whether the arguments of the goal unify with these constants; then their unifier is bound. The errors: the store is full, or memory was
 /// refused.
-fn unify_offer<S: Store>(
-    store: &mut S,
-    goal: S::Word,
-    offer: &Offer,
-) -> Result<bool, StoreFault>
+fn unify_offer<S: Store>(store: &mut S, goal: S::Word, offer: &Offer) -> Result<bool, StoreFault>
     requires goal { Holds (S.present store.old) goal }
     ensures unified { IfOk result (IsUnification (S.present store.old) (S.present store.new) (goal_arguments (meaning (S.present store.old) goal)) (offer_tree offer.now)) }
     ensures full { result ≡ Err StoreFault.Full → S.full store.new }

@@ -58,11 +58,7 @@ fn first_characters(alloc: Global, text: &str, count: usize) -> Result<String, A
 }
 
 /// Whether the goal's third argument unifies with what its first two are joined to. The errors are those of `unify_part`.
-fn unify_joined<S: Store>(
-    alloc: Global,
-    store: &mut S,
-    goal: S::Word,
-) -> Result<bool, StoreFault>
+fn unify_joined<S: Store>(alloc: Global, store: &mut S, goal: S::Word) -> Result<bool, StoreFault>
     requires goal { Holds (S.present store.old) goal }
     requires row { IsOf (meaning (S.present store.old) goal) part.Joined }
     ensures unified { IfOk result (IsUnification (S.present store.old) (S.present store.new) (goal_arguments (meaning (S.present store.old) goal)) (part_row (meaning (S.present store.old) goal) part.Joined)) }

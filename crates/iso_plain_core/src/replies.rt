@@ -22,9 +22,7 @@ use super::controls::Controls;
 use super::goals::{Placed, place_argument, place_called};
 use super::vocabulary::Vocabulary;
 use iso_lib::{Fault, Reply, builtin, errors, lists};
-use iso_model::{
-    AtomPart, Ball, BuiltIn, Library, NoMemory, Output, Setting, Storage, Term, Text,
-};
+use iso_model::{AtomPart, Ball, BuiltIn, Library, NoMemory, Output, Setting, Storage, Term, Text};
 use iso_store_core::{Shape, Store, StoreFault};
 use std::alloc::Global;
 

@@ -81,7 +81,7 @@ returns-clause-called g c = λ s made h.
     let same : other ≡ left = ap (λ (q : _). goal_arguments (meaning q c.args.goal)) present in
     let there = offered_is made left other t c.in-Some.first rights others s same is in
     let tried : IsEngine g.S.Store.names g.S.Store.present g.S.Store.stands g.S.Store.older c.unify_row.new.self (tried_right other (row_offer made t c.in-Some.first) mid.list mid) =
-        subst (λ (q : _). IsEngine g.S.Store.names g.S.Store.present g.S.Store.stands g.S.Store.older c.unify_row.new.self (tried_right other (row_offer made (meaning q c.args.goal) c.in-Some.first) mid.list mid)) present (c.in_ok-unify_row.ensures.tried mid made meets) in
+    subst (λ (q : _). IsEngine g.S.Store.names g.S.Store.present g.S.Store.stands g.S.Store.older c.unify_row.new.self (tried_right other (row_offer made (meaning q c.args.goal) c.in-Some.first) mid.list mid)) present (c.in_ok-unify_row.ensures.tried mid made meets) in
     (subst (λ (y : State). IsEngine g.S.Store.names g.S.Store.present g.S.Store.stands g.S.Store.older c.unify_row.new.self y) there tried, c.in_ok-unify_row.ensures.awake))
 
 pub returns-clause-falls : goal.returns-clause-falls
