@@ -4,7 +4,7 @@ use Rattle.std.proofs.Common.{◌≡◌, ℕ, zero, suc, ◌+◌, ◌*◌, ◌-�
 use Rattle.std.specs.Prelude.{Result, Ok, Err, OnErr}
 use Rattle.std.specs.List.{slice_get, All}
 use Rattle.std.specs.Str.{encode_utf8_all}
-use Rattle.std.proofs.lemmas.List.{reverse-reverse, length-map, length-append, length-reverse, get_or-reverse}
+use Rattle.std.proofs.lemmas.List.{reverse-reverse, length-map, length-append, length-reverse}
 use Rattle.iso_atoms.specs.Texts.{KeepsTexts}
 use Rattle.iso_ops.specs.Operators.{Operator}
 use Rattle.iso_ops.specs.declared.settings.Flags.{Flags}
@@ -34,7 +34,7 @@ use Rattle.iso_lib.specs.declared.settings.Settled.{Settled as Came}
 use Rattle.iso_lib.specs.declared.settings.Settled.TheVariants as came
 use Rattle.iso_lib_core.specs.declared.outcomes.Fault.{Fault}
 use Rattle.iso_lib_core.specs.declared.outcomes.Fault.TheVariants as fault
-use Rattle.iso_text.specs.Parts.{part_row, text_of, longer, each_longer, each_of, part_behind, IsOf, AreOf}
+use Rattle.iso_text.specs.Parts.{part_row, text_of, each_longer, each_of, part_behind, IsOf, AreOf}
 use Rattle.iso_text.specs.declared.parts.Part.{Part}
 use Rattle.iso_text.specs.declared.parts.Part.TheVariants as part
 use Rattle.iso_text.specs.declared.parts.Parts.{Parts}
@@ -51,6 +51,8 @@ use Rattle.iso_plain_core.specs.Next.{now_behind}
 use Rattle.iso_plain_core.specs.Costs.{body_cost, left_cost, most, rest_cost, choice_cost, choices_cost}
 use Rattle.iso_plain_core.specs.Standing.{Chain, HasOffered, StandsForChoices, GainsChoice, GoesOn, entered_at, most_numbers, numbers_a_step}
 use Rattle.iso_plain_core.proofs.CostLemmas.{left_step, choices_last}
+use Rattle.iso_plain_core.proofs.OfferLemmas.{each_count}
+use Rattle.iso_text.proofs.SubLemmas.{all_reversed}
 use Rattle.iso_plain_core.proofs.EnteringLemmas.{adds_none}
 use Rattle.iso_plain_core.proofs.StandingLemmas.{choices_push, last_split, length_last, front_is, some_same}
 use Rattle.iso_plain.specs.declared.plain.Plain.{Plain}
@@ -179,10 +181,6 @@ kept_few (rows.Constants kept) = let many = kept.ok.0 in let within = kept.ok.1 
 kept_few (rows.Parts kept) = let many = kept.ok.0 in let within = kept.ok.1 in let small = kept.small in omega (arith, many, within, small)
 
 -- no more of them than are counted
-each_count : (p : Part) (n : ℕ) → length (each_longer p n) ≡ suc n
-each_count p zero = refl
-each_count p (suc n) = ap suc (each_count (longer p) n)
-
 all_count : (t : Tree) (rs : List Parts) → All (AreOf t) rs → length (each_of rs) ≤ 9223372036854775808 * length rs
 all_count t [] all = omega arith
 all_count t (ps ∷ others) all =
@@ -197,13 +195,6 @@ all_count t (ps ∷ others) all =
       more_few part.Joined n h less = omega (arith, less)
       more_few (part.Split place) n h less = omega (arith, less)
 
--- in the other order
-all_reverse : {X : Type 0} (P : X → Type 0) (xs : List X) → All P xs → All P (reverse xs)
-all_reverse P xs all k d h =
-    let many = length-reverse xs in
-    let within : k < length xs = omega (arith, many, h) in
-    subst P (sym (get_or-reverse xs k d within)) (all (length xs - 1 - k) d (omega (arith, within)))
-
 -- so many at most
 pub rows_few : (t : Tree) (offers : kept_rows.Offers) → AreRows t offers → kept_count offers < 18446744073709551616 → length (rows_in offers) < 340282366920938463463374607431768211456
 rows_few t (rows.Constants kept) each small =
@@ -213,7 +204,7 @@ rows_few t (rows.Constants kept) each small =
 rows_few t (rows.Parts kept) each small =
     let all = length-map (each_of (reverse kept.items)) offered_row.Part in
     let turned = length-reverse kept.items in
-    let few = all_count t (reverse kept.items) (all_reverse (AreOf t) kept.items each) in
+    let few = all_count t (reverse kept.items) (all_reversed (AreOf t) kept.items each) in
     omega (arith, all, turned, few, small)
 
 -- the first one was tried

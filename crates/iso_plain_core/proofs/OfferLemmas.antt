@@ -14,7 +14,7 @@ use Rattle.iso_lib.specs.declared.settings.Constant.TheVariants as constant
 use Rattle.iso_lib.specs.Settlements.{constant_tree, arguments_from}
 use Rattle.std.proofs.lemmas.List.{length-append, length-map, length-reverse}
 use Rattle.iso_lib.specs.declared.settings.Offer.{Offer}
-use Rattle.iso_text.specs.Parts.{each_longer, each_of, parts_in}
+use Rattle.iso_text.specs.Parts.{longer, each_longer, each_of, parts_in}
 use Rattle.iso_text.specs.declared.parts.Part.{Part}
 use Rattle.iso_text.specs.declared.parts.Parts.{Parts}
 use Rattle.iso_plain_core.specs.declared.offers.Row.TheVariants as offered
@@ -199,13 +199,13 @@ module _ {W : Type 0} (p m q : Present W) where
 
 -- ---- rows that are left
 
-longer_some : (p : Part) (n : ℕ) → 0 < length (each_longer p n)
-longer_some p zero = omega arith
-longer_some p (suc n) = omega arith
+pub each_count : (p : Part) (n : ℕ) → length (each_longer p n) ≡ suc n
+each_count p zero = refl
+each_count p (suc n) = ap suc (each_count (longer p) n)
 
 each_some : (ps : Parts) (others : List Parts) → 0 < length (each_of (ps ∷ others))
 each_some ps others =
-    let some = longer_some ps.first ps.more in
+    let some = each_count ps.first ps.more in
     let all = length-append (each_longer ps.first ps.more) (each_of others) in
     omega (arith, some, all)
 

@@ -143,7 +143,7 @@ sub_step text count start rest asked wanted kept more place after here small so_
     (at_place asked wanted (chars after) place record { before = count; start = start; rest = length (chars text) - count } kept-is.0 (λ i. record { before = before-is i; start = start-is i; rest = rest-is i }) kept-is.2) in
     sub_go_on text count start rest asked wanted kept more kept-is.0 here small so_far kept-is.1 are
 
-all_reversed : {X : Type 0} (P : X → Type 0) (xs : List X) → All P xs → All P (reverse xs)
+pub all_reversed : {X : Type 0} (P : X → Type 0) (xs : List X) → All P xs → All P (reverse xs)
 all_reversed P [] all = All-nil P
 all_reversed P (x ∷ xs) all =
     rw (reverse-append (x ∷ []) xs) (All-append P (reverse xs) (x ∷ []) (all_reversed P xs (All-tail P x xs all)) (All-cons P x [] (All-head P x xs all) (All-nil P)))
