@@ -16,7 +16,7 @@ use Rattle.clap.proofs.WalkLemmas.{first_value-rows}
 use Rattle.iso_session_core.specs.declared.words.Words.{Words}
 use Rattle.iso_session_core.specs.declared.words.WordsFault.{WordsFault}
 use Rattle.iso_session_core.specs.declared.words.WordsFault.TheVariants as fault
-use Rattle.iso_session_core.specs.Words.{Values, program, given, is_number, FieldsSay, WordsSay, refused, misused, fault_by}
+use Rattle.iso_session_core.specs.Words.{Values, program, given, is_number, FieldsSay, WordsSay, Stands, refused, misused}
 
 abbrev IsDecimal : List ℕ → Type 0
 IsDecimal text = list_all is_digit text ≡ true
@@ -67,15 +67,15 @@ asked_same values other r h f = let same : values ≡ other = λ i name. h name 
 said : (words : List Text) (r : Result Words WordsFault) → fault_of program words ≡ [] → FieldsSay (given words) r → WordsSay words r
 said words (Ok w) none f = (none, f)
 said words (Err fault.Help) none f = absurd f
-said words (Err fault.Usage) none f = misused none f
+said words (Err (fault.Usage line)) none f = misused none f
 said words (Err fault.NoMemory) none f = tt
 
-refused_by : (words : List Text) (k : ErrorKind) → (k ≡ kind.OutOfMemory) ⊎ IsAmong k (fault_of program words) → WordsSay words (Err (fault_by k))
-refused_by words kind.DisplayHelp (inl h) = cc
-refused_by words kind.DisplayHelp (inr h) = h
-refused_by words kind.OutOfMemory h = tt
-refused_by words k (inl h) = cc
-refused_by words k (inr h) = refused {kind = k} (λ e. cc) h
+refused_by : (words : List Text) (k : ErrorKind) (f : WordsFault) → (k ≡ kind.OutOfMemory) ⊎ IsAmong k (fault_of program words) → Stands k f → WordsSay words (Err f)
+refused_by words k fault.Help (inl memory) help = cc
+refused_by words k fault.Help (inr among) help = subst (λ x. IsAmong x (fault_of program words)) help among
+refused_by words k (fault.Usage line) (inl memory) other = absurd (other.1 memory)
+refused_by words k (fault.Usage line) (inr among) other = refused {kind = k} other.0 among
+refused_by words k fault.NoMemory h other = tt
 
 -- `clap` took the words
 pub words_taken : (a : App) (words : List Text) (m : ArgMatches) (r : Result Words WordsFault) → a ≡ program → HasMatchesOf a words m
@@ -86,8 +86,8 @@ words_taken a words m r is has none fields =
     said words r (sym (ap (λ x. fault_of x words) is) ∙ none (ap is_simple_and_free is ∙ program_is_free)) values
 
 -- it refused them
-pub words_refused : (a : App) (words : List Text) (e : Error) (f : WordsFault) → a ≡ program → (is_simple_and_free a ≡ true → HasKind (fault_of a words) e) → f ≡ fault_by (kind_of e)
+pub words_refused : (a : App) (words : List Text) (e : Error) (f : WordsFault) → a ≡ program → (is_simple_and_free a ≡ true → HasKind (fault_of a words) e) → Stands (kind_of e) f
     → WordsSay words (Err f)
-words_refused a words e f is kinds same =
+words_refused a words e f is kinds stands =
     let has = subst (λ x. HasKind (fault_of x words) e) is (kinds (ap is_simple_and_free is ∙ program_is_free)) in
-    rw same (refused_by words (kind_of e) has)
+    refused_by words (kind_of e) f has stands

@@ -5,3 +5,4 @@ pub mod Directed
 pub mod Consoles
 pub mod Statuses
 pub mod Words
+pub mod Files

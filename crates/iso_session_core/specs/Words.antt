@@ -88,7 +88,7 @@ pub data AreMisused (values : Values) : Type 0 where
 abbrev pub FieldsSay : Values → Result Words WordsFault → Type 0
 FieldsSay values (Ok w) = AreAsked values w
 FieldsSay values (Err fault.Help) = ⊥
-FieldsSay values (Err fault.Usage) = AreMisused values
+FieldsSay values (Err (fault.Usage line)) = AreMisused values
 FieldsSay values (Err fault.NoMemory) = Unit {0}
 
 -- the words are no use of the program: `clap` takes them not, for another reason than a wish for help, or some field can't be had
@@ -100,11 +100,17 @@ pub data IsMisuse (words : List Text) : Type 0 where
 abbrev pub WordsSay : List Text → Result Words WordsFault → Type 0
 WordsSay words (Ok w) = (fault_of program words ≡ []) × AreAsked (given words) w
 WordsSay words (Err fault.Help) = IsAmong DisplayHelp (fault_of program words)
-WordsSay words (Err fault.Usage) = IsMisuse words
+WordsSay words (Err (fault.Usage line)) = IsMisuse words
 WordsSay words (Err fault.NoMemory) = Unit {0}
 
--- a fault of `clap`'s
-abbrev pub fault_by : ErrorKind → WordsFault
-fault_by DisplayHelp = fault.Help
-fault_by OutOfMemory = fault.NoMemory
-fault_by other = fault.Usage
+-- a fault that stands for one of `clap`'s: help for help alone, and no misuse where memory was refused; memory for the line may be refused too
+abbrev pub Stands : ErrorKind → WordsFault → Type 0
+Stands kind fault.Help = kind ≡ DisplayHelp
+Stands kind (fault.Usage line) = (kind ≢ DisplayHelp) × (kind ≢ OutOfMemory)
+Stands kind fault.NoMemory = kind ≢ DisplayHelp
+
+-- a fault of a value: it is a misuse only where this holds
+abbrev pub Refuses : Type 0 → WordsFault → Type 0
+Refuses P fault.Help = ⊥
+Refuses P (fault.Usage line) = P
+Refuses P fault.NoMemory = Unit {0}

@@ -16,7 +16,7 @@ mod statuses;
 mod terms;
 pub mod words;
 
-pub use files::{TextFault, read_text};
+pub use files::{Obstacle, TextFault, read_text};
 pub use sessions::{refused_session, session_on};
 pub use statuses::{Choice, Ended, Fault, status_of};
 pub use words::{Words, WordsFault, read_words};

@@ -23,14 +23,14 @@ pub struct Words {
 }
 
 /// Why the words were not taken.
-#[derive(Clone, Copy, Debug, PartialEq, Eq, thiserror::Error)]
+#[derive(Debug, Drop, thiserror::Error)]
 pub enum WordsFault {
     /// Help was asked for; the status is 0.
     #[error("help was asked for")]
     Help,
-    /// The words are no use of the program; the status is 2.
-    #[error("the words are no use of the program")]
-    Usage,
+    /// The words are no use of the program; the status is 2. The line names the wrong word and what it should be.
+    #[error("{0}")]
+    Usage(String),
     /// Memory was refused; the status is 3.
     #[error("no memory")]
     NoMemory,
@@ -78,14 +78,48 @@ fn command<'a>(alloc: Global) -> Result<Command<'a>, AllocError>
         .arg(file)
 }
 
+/// The usage fault with this line, or NoMemory where memory for the line was refused.
+fn usage(line: Result<String, AllocError>) -> WordsFault
+    ensures { MatchResult line (λ text. result ≡ Usage text) (λ _. result ≡ NoMemory) }
+{
+    match line {
+        Ok(line) => WordsFault::Usage(line),
+        Err(_) => WordsFault::NoMemory,
+    }
+}
+
+/// The lines of the text as one, with a space between two.
+fn one_line(alloc: Global, text: &str) -> Result<String, AllocError> {
+    let mut line = String::new(alloc);
+    for part in text.lines() {
+        if !line.is_empty() {
+            line.push_str(" ")?;
+        }
+        line.push_str(part.trim())?;
+    }
+    Ok(line)
+}
+
+/// What an error of `clap` says of the words: its text behind the title, up to the first empty line.
+fn said_by(alloc: Global, error: &Error) -> Result<String, AllocError> {
+    let text = error.to_string(alloc)?;
+    let text = text.as_str();
+    let text = text.strip_prefix("error: ").unwrap_or(text);
+    let said = match text.split_once("\n\n") {
+        Some((said, _)) => said,
+        None => text,
+    };
+    one_line(alloc, said)
+}
+
 /// What an error of `clap` is here.
-fn fault_by(error: &Error) -> WordsFault
-    ensures { result ≡ asked.fault_by (kind_of error.now) }
+fn fault_by(alloc: Global, error: &Error) -> WordsFault
+    ensures { asked.Stands (kind_of error.now) result }
 {
     match error.kind() {
         ErrorKind::DisplayHelp => WordsFault::Help,
         ErrorKind::OutOfMemory => WordsFault::NoMemory,
-        _ => WordsFault::Usage,
+        _ => usage(said_by(alloc, error)),
     }
 }
 
@@ -107,55 +141,99 @@ fn decimal(text: &str) -> Option<u32>
     text.parse().ok()
 }
 
-/// The decimal number of an option's value, which is from `least` to `most`, or the default where the option isn't given.
-fn number(value: Option<&str>, default: u32, least: u32, most: u32) -> Result<u32, WordsFault>
+/// The line for a value that an option doesn't take: the option, what it takes, and the value.
+fn refusal(alloc: Global, name: &str, takes: &str, value: &str) -> Result<String, AllocError> {
+    let value = if value.is_empty() {
+        "an empty word"
+    } else {
+        value
+    };
+    let line = format!(in alloc; "--{name} takes {takes}, not {value}")?;
+    one_line(alloc, line.as_str())
+}
+
+/// The line for a value that is no number from `least` to `most`.
+fn range_refusal(
+    alloc: Global,
+    name: &str,
+    value: &str,
+    least: u32,
+    most: u32,
+) -> Result<String, AllocError> {
+    let takes = format!(in alloc; "a number from {least} to {most}")?;
+    refusal(alloc, name, takes.as_str(), value)
+}
+
+/// The decimal number of the value of the option of this name, which is from `least` to `most`, or the default where the
+/// option isn't given. Usage where the value is no such number, NoMemory where memory for the line that says so was refused.
+fn number(
+    alloc: Global,
+    name: &str,
+    value: Option<&str>,
+    default: u32,
+    least: u32,
+    most: u32,
+) -> Result<u32, WordsFault>
     ensures { MatchResult result
         (λ n. asked.number_in default least most (option_map (λ text. text.now) value.entry) ≡ Some n)
-        (λ fault. (fault ≡ Usage) × (asked.number_in default least most (option_map (λ text. text.now) value.entry) ≡ None)) }
+        (λ fault. asked.Refuses (asked.number_in default least most (option_map (λ text. text.now) value.entry) ≡ None) fault) }
 {
     let Some(text) = value else {
         return Ok(default);
     };
     match decimal(text) {
         Some(number) if least <= number && number <= most => Ok(number),
-        _ => Err(WordsFault::Usage),
+        _ => Err(usage(range_refusal(alloc, name, text, least, most))),
     }
 }
 
-/// The engine of this name; the default is the plain one.
-fn engine(value: Option<&str>) -> Result<Choice, WordsFault>
+/// The engine of this name; the default is the plain one. Usage where there is no such engine, NoMemory where memory for
+/// the line that says so was refused.
+fn engine(alloc: Global, value: Option<&str>) -> Result<Choice, WordsFault>
     ensures { MatchResult result
         (λ choice. asked.engine_named (option_map (λ name. name.now) value.entry) ≡ Some choice)
-        (λ fault. (fault ≡ Usage) × (asked.engine_named (option_map (λ name. name.now) value.entry) ≡ None)) }
+        (λ fault. asked.Refuses (asked.engine_named (option_map (λ name. name.now) value.entry) ≡ None) fault) }
 {
     match value {
         None => Ok(Choice::Plain),
         Some("plain") => Ok(Choice::Plain),
-        Some(_) => Err(WordsFault::Usage),
+        Some(name) => Err(usage(refusal(alloc, "engine", "plain", name))),
     }
 }
 
-/// What is asked for, of the options' values. Usage where one is missing or not in its range.
+/// What is asked for, of the options' values. Usage where one is missing or not in its range, NoMemory where memory was
+/// refused.
 fn fields<'a>(alloc: Global, matches: &ArgMatches<'a>) -> Result<Words, WordsFault>
     ensures { asked.FieldsSay (first_value (found_of matches.now)) result }
 {
     let standard = Limits::DEFAULT;
-    let budget = number(matches.get_str("budget"), standard.budget, 0, u32::MAX)?;
+    let budget = number(
+        alloc,
+        "budget",
+        matches.get_str("budget"),
+        standard.budget,
+        0,
+        u32::MAX,
+    )?;
     let cells = number(
+        alloc,
+        "cells",
         matches.get_str("cells"),
         standard.cells,
         1,
         Limits::MOST_CELLS,
     )?;
     let frames = number(
+        alloc,
+        "frames",
         matches.get_str("frames"),
         standard.frames,
         1,
         Limits::MOST_FRAMES,
     )?;
-    let choice = engine(matches.get_str("engine"))?;
+    let choice = engine(alloc, matches.get_str("engine"))?;
     let Some(file) = matches.get_str("FILE") else {
-        return Err(WordsFault::Usage);
+        return Err(usage(String::from_str(alloc, "FILE is missing")));
     };
     let file = String::from_str(alloc, file)?;
     Ok(Words {
@@ -171,13 +249,13 @@ fn fields<'a>(alloc: Global, matches: &ArgMatches<'a>) -> Result<Words, WordsFau
 
 /// Reads the words behind the program's name. Help where `--help` comes before a fault; Usage where a word is no option
 /// and no single FILE, where an option is given twice or without its value, or where a value is no decimal number in
-/// its range; NoMemory where memory was refused.
+/// its range, with a line that names the wrong word; NoMemory where memory was refused, for that line too.
 pub fn read_words<'a>(alloc: Global, words: &'a [&'a str]) -> Result<Words, WordsFault>
     ensures { asked.WordsSay (map (λ word. word.now) words.entry.now) result }
 {
     let command = command(alloc)?;
     match command.try_get_matches_from(words) {
         Ok(matches) => fields(alloc, &matches),
-        Err(error) => Err(fault_by(&error)),
+        Err(error) => Err(fault_by(alloc, &error)),
     }
 }

@@ -4,8 +4,6 @@
 
 mod cells;
 mod copies;
-#[cfg(test)]
-mod counting;
 mod duplicates;
 mod flat_cells;
 mod heap;
@@ -24,8 +22,6 @@ mod patterns;
 mod plans;
 mod reaches;
 mod scratch;
-#[cfg(test)]
-mod tests;
 mod unify;
 mod variables;
 

@@ -1,11 +1,13 @@
-//! Sessions of which an allocation is refused. A test can't refuse one itself; this refuses each of the first 1,000 of each test in turn:
+//! Sessions, words and texts of which an allocation is refused. A test can't refuse one itself; this refuses each of the first 1,000 of each test in turn:
 //!
 //!     ulimit -s unlimited; for n in $(seq 1000); do rt try --test --fail-alloc $n -- refusals; done
 //!
 //! Every test passes for every number: the writer takes no memory, so what is refused is refused to the session. The two sessions of
 //! `operators_and_lists` make 975 allocations, each other test 600 at most.
 use super::rows::{Row, row_named};
-use iso_session::{Choice, session, status_of};
+use iso_session::{
+    Choice, Obstacle, TextFault, WordsFault, read_text, read_words, session, status_of,
+};
 use std::alloc::Global;
 use std::io;
 use std::test::Fail;
@@ -67,6 +69,47 @@ fn ends_rightly(alloc: Global, name: &str) -> bool {
     );
     let written = &slate.bytes[..slate.length.min(ROOM)];
     is_right(written, status_of(&outcome), row)
+}
+
+/// Whether these words are a usage fault with this whole line, or no memory.
+fn is_refused(alloc: Global, words: &[&str], line: &str) -> bool {
+    match read_words(alloc, words) {
+        Err(WordsFault::Usage(said)) => said.as_str() == line,
+        Err(WordsFault::NoMemory) => true,
+        _ => false,
+    }
+}
+
+#[test]
+fn a_wrong_number(rt: HostRuntime) -> Result<(), Fail> {
+    let line = "--cells takes a number from 1 to 268435456, not 0";
+    assert!(rt; is_refused(rt.alloc(), &["--cells", "0", "x.pl"], line));
+    Ok(())
+}
+
+#[test]
+fn a_wrong_engine(rt: HostRuntime) -> Result<(), Fail> {
+    let line = "--engine takes plain, not wam";
+    assert!(rt; is_refused(rt.alloc(), &["--engine", "wam", "x.pl"], line));
+    Ok(())
+}
+
+#[test]
+fn an_unknown_word(rt: HostRuntime) -> Result<(), Fail> {
+    let line = "unexpected argument '--other' found";
+    assert!(rt; is_refused(rt.alloc(), &["--other", "x.pl"], line));
+    Ok(())
+}
+
+#[test]
+fn a_text_that_is_not_utf8(rt: HostRuntime) -> Result<(), Fail> {
+    let mut bytes = b"p(\xff).".as_slice();
+    let fault = read_text(rt.alloc(), &mut bytes).err();
+    assert!(rt;
+        fault == Some(TextFault::NoMemory)
+            || fault == Some(TextFault::Unreadable(Obstacle::NotUtf8(2)))
+    );
+    Ok(())
 }
 
 #[test]
