@@ -45,13 +45,7 @@ impl<S: Store + Drop> Plain<S> {
         ensures stays { Stays S.names self.old self.new }
     {
         let clause = self.db.clause(attempt.clause);
-        let entered = entries::enter(
-            self.alloc,
-            &mut self.store,
-            &mut self.nodes,
-            clause,
-            attempt.goal,
-        )?;
+        let entered = entries::enter(&mut self.store, &mut self.nodes, clause, attempt.goal)?;
         self.now = behind(self.frames.as_slice(), entered, mark, attempt.rest);
         Ok(())
     }

@@ -38,12 +38,15 @@ pub struct Plain<S: Store> {
     pub(crate) nodes: Vec<Node<S::Word>>,
     /// The members of lists of goals, one behind the other.
     pub(crate) frames: Vec<Frame>,
+    /// The alternatives that stand, the newest last.
     pub(crate) choices: Vec<Choice<S::Word, S::Mark>>,
     /// How many alternatives may stand at once.
     pub(crate) limit: u32,
+    /// How many steps the query may still make.
     pub(crate) steps: u32,
+    /// What comes next.
     pub(crate) now: Now,
-    /// The ball that is to be raised, where the query can't be converted.
+    /// A ball that was thrown, until it is taken: by what catches it, or by the end of the query.
     pub(crate) raised: Option<Ball>,
     /// The words of the query's variables 0, 1, ..
     pub(crate) query: Vec<S::Word>,

@@ -5,6 +5,7 @@ pub mod WrittenLemmas
 pub mod PatternLemmas
 pub mod PlaceLemmas
 pub mod EnteringLemmas
+pub mod HeadLemmas
 pub mod NumberLemmas
 pub mod ClauseLemmas
 pub mod RenamingLemmas

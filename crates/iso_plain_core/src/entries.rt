@@ -116,7 +116,6 @@ pub enum Entered {
 /// Enters the clause for the goal (7.7.10): its head is unified with the goal, and its body's parts are appended. The errors: the
 /// store is full, or memory was refused.
 pub fn enter<S: Store>(
-    alloc: Global,
     store: &mut S,
     nodes: &mut Vec<Node<S::Word>>,
     clause: &Clause,
@@ -136,11 +135,9 @@ pub fn enter<S: Store>(
     if misses(store, &clause.head, goal) {
         return Ok(Entered::Missed);
     }
-    let variables = new_variables(alloc, store, clause.variables)?;
-    let head = instantiate(store, &clause.head, variables.as_slice())?;
-    if !store.unify(goal, head)? {
+    let Some(variables) = store.unify_head(&clause.head, goal, clause.variables)? else {
         return Ok(Entered::Missed);
-    }
+    };
     let parts = clause.parts.as_slice();
     copy_parts(store, nodes, parts, variables.as_slice())?;
     if parts.is_empty() {

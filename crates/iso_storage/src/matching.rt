@@ -36,6 +36,7 @@ fn unifies<S: Store>(
     ensures names { S.names store.new ≡ S.names store.old }
     ensures marks { KeepsMarks (S.stands store.old) (S.stands store.new) }
 {
+    // Reserves none: it says that no number from the next one on is taken.
     let _next = store.reserve(0);
     let variables = entries::new_variables(alloc, store, clause.variables)?;
     let other = entries::instantiate(store, &clause.head, variables.as_slice())?;

@@ -23,7 +23,7 @@ never-arity a b f g ts us left right first second differ t e =
     differ (sym (count-apply t ts row.2) ∙ ap arity same ∙ count-apply t us other.2)
 
 -- atoms of one name are one atom
-one-atom : (names : List (List ℕ)) (f g : ℕ) → EachOnce names → f < length names → g < length names → text_at names f ≡ text_at names g → f ≡ g
+pub one-atom : (names : List (List ℕ)) (f g : ℕ) → EachOnce names → f < length names → g < length names → text_at names f ≡ text_at names g → f ≡ g
 one-atom names f g once here there same =
     once.one_place f g (text_at names f) (slice_get-get_or names f [] here) (slice_get-get_or names g [] there ∙ ap Some (sym same))
 

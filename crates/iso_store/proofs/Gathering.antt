@@ -44,6 +44,9 @@ gathers-more {W} {p} {q} {r} {ws} {ts} {w} {t} so made = record {
 pub numbers-then : {W : Type 0} {p q r : Present W} → KeepsNumbers p q → KeepsNumbers q r → KeepsNumbers p r
 numbers-then first second = record { next = second.next ∙ first.next; taken = λ n. second.taken n ∙ first.taken n }
 
+pub grows-none : {W : Type 0} (p : Present W) → Grows p p 0
+grows-none p = record { cells = omega arith; keeps = omega arith; limit = refl; within = λ h. h }
+
 pub grows-on : {W : Type 0} {p q r : Present W} {m n : ℕ} (k : ℕ) → Grows p q m → Grows q r n → m + n ≤ k → Grows p r k
 grows-on k first second within = record {
   cells = let a = first.cells in let b = second.cells in omega arith;

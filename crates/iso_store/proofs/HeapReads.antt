@@ -59,12 +59,11 @@ pub argument_cell : (o : Option Cell) → is_argument o ≡ true → (c : Cell) 
 argument_cell None h = absurd (false≢true h)
 argument_cell (Some c) h = (c, refl)
 
-pub variable_is : (o : Option HeapWord) (a : ℕ) → variable_of o ≡ Some a → o ≡ Some (Var a)
-variable_is None a h = absurd (cc)
-variable_is (Some (Var b)) a h = let same : b ≡ a = cc in ap (λ k. Some (Var k)) same
-variable_is (Some (Structure p)) a h = absurd (cc)
-variable_is (Some (Int z)) a h = absurd (cc)
-variable_is (Some (Atom x)) a h = absurd (cc)
+pub leaf_ends : (cs : List Cell) (w : HeapWord) → ((a : ℕ) → w ≡ Var a → ⊥) → next_word cs w ≡ None
+leaf_ends cs (Var a) h = absurd (h a refl)
+leaf_ends cs (Structure p) h = refl
+leaf_ends cs (Int z) h = refl
+leaf_ends cs (Atom x) h = refl
 
 -- where these are the names of the atoms
 module _ (names : List (List ℕ)) (cs : List Cell) (next : ℕ) (heap : IsHeap names cs next) where

@@ -40,7 +40,7 @@ module _ {W : Type 0} {p q : Present W} (ws us : List W) (w : W) (hold : All (λ
       rw more (subst (Gathers p q (take m ws ++ w ∷ [])) terms (gathers-more before made))
 
 -- ---- what one part makes of the terms before it
-arities-append : (ts us : List Tree) → arities_fit (row (ts ++ us)) ≡ (arities_fit (row ts) && arities_fit (row us))
+pub arities-append : (ts us : List Tree) → arities_fit (row (ts ++ us)) ≡ (arities_fit (row ts) && arities_fit (row us))
 arities-append [] us = refl
 arities-append (t ∷ ts) us = ap (λ b. arities_fit t && b) (arities-append ts us) ∙ and-assoc (arities_fit t) (arities_fit (row ts)) (arities_fit (row us))
   where
@@ -48,7 +48,7 @@ arities-append (t ∷ ts) us = ap (λ b. arities_fit t && b) (arities-append ts 
     and-assoc true b c = refl
     and-assoc false b c = refl
 
-occurs-append : (x : ℕ) (ts us : List Tree) → occurs x (row (ts ++ us)) ≡ (occurs x (row ts) || occurs x (row us))
+pub occurs-append : (x : ℕ) (ts us : List Tree) → occurs x (row (ts ++ us)) ≡ (occurs x (row ts) || occurs x (row us))
 occurs-append x [] us = refl
 occurs-append x (t ∷ ts) us = ap (λ b. occurs x t || b) (occurs-append x ts us) ∙ or-assoc (occurs x t) (occurs x (row ts)) (occurs x (row us))
   where
@@ -152,7 +152,7 @@ module _ (names : List (List ℕ)) where
   part-ready (Compound a n) ts count h places = let parts = gathered-fits (text_at names a) n ts h in (parts.1, parts.2)
 
   -- ---- and what several make of them
-  after-fits : (ks : List Part) (ts : List Tree) → arities_fit (row (after_parts names ks ts)) ≡ true → arities_fit (row ts) ≡ true
+  pub after-fits : (ks : List Part) (ts : List Tree) → arities_fit (row (after_parts names ks ts)) ≡ true → arities_fit (row ts) ≡ true
   after-fits [] ts h = h
   after-fits (k ∷ ks) ts h = part-fits k ts (after-fits ks (with_step (part_step names Variable k) ts) h)
 
@@ -197,10 +197,10 @@ module _ (names : List (List ℕ)) where
       pub all-parts : (i : ℕ) → length ks ≤ i → so_far i ≡ t ∷ []
       all-parts i past = ap (λ js. after_parts names js []) (take_all i ks past) ∙ whole.term
 
-      fits-so-far : (i : ℕ) → arities_fit t ≡ true → arities_fit (row (so_far i)) ≡ true
+      pub fits-so-far : (i : ℕ) → arities_fit t ≡ true → arities_fit (row (so_far i)) ≡ true
       fits-so-far i fits = after-fits (drop i ks) (so_far i) (ap (λ ts. arities_fit (row ts)) (others i) ∙ ap (λ b. b && true) fits)
 
-      places-so-far : (i count : ℕ) → HasPlaces count t → HasPlaces count (row (so_far i))
+      pub places-so-far : (i count : ℕ) → HasPlaces count t → HasPlaces count (row (so_far i))
       places-so-far i count places x o =
           elim (or_cases (occurs x t) false (sym (ap (λ ts. occurs x (row ts)) (others i)) ∙ after-occurs (drop i ks) (so_far i) x o)) [
             | inl here ↦ places x here

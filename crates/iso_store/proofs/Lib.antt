@@ -45,3 +45,14 @@ pub mod HeapCompounds
 pub mod HeapBuilding
 pub mod HeapBuilt
 mod FlatLemmas
+pub mod StartLemmas
+pub mod ReadingLemmas
+pub mod HeadCells
+pub mod ReadOn
+pub mod ReadShapes
+pub mod PartShows
+pub mod ReadHeads
+pub mod WordLemmas
+pub mod UnifiedLater
+pub mod UnifiedThese
+pub mod HeadMet

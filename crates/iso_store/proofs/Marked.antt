@@ -1,5 +1,5 @@
 -- What a mark brings back is the same after each change of the store.
-use Rattle.std.proofs.Common.{◌≡◌, ℕ, zero, suc, ◌≤◌, List, [], ◌∷◌, ◌++◌, length, take, drop, set, refl, ap, sym, ◌∙◌, arith, length-append, length-set, length-take, Some, None}
+use Rattle.std.proofs.Common.{◌≡◌, ℕ, Bool, true, false, if◌then◌else◌, zero, suc, ◌≤◌, List, [], ◌∷◌, ◌++◌, length, take, drop, set, refl, ap, sym, ◌∙◌, arith, length-append, length-set, length-take, Some, None}
 use Rattle.std.specs.List.{slice_get}
 use Rattle.std.proofs.lemmas.List.{drop-append-le, take-append-le, take-take, take-append-drop, drop_all, take_all}
 use Rattle.iso_store.specs.declared.nodes.Node.{Node}
@@ -58,6 +58,11 @@ module _ (names : List (List ℕ)) where
   pushed-keeps limit cs es c m p h =
       let same : restored (cs ++ c ∷ []) es m ≡ restored cs es m = ap (reset (drop m.trail es)) (take-append-le m.nodes cs (c ∷ []) h.nodes_top) in
       stands-same limit _ _ _ _ m p same refl (let k = h.nodes_top in omega (arith, length-append cs (c ∷ []))) h.trail_top h
+
+  -- a node more, or none
+  pub pushed-either : (limit : ℕ) (cs : List Node) (es : List ℕ) (c : Node) (pushed : Bool) → KeepsNodesMarks names limit cs es (if pushed then cs ++ c ∷ [] else cs) es
+  pushed-either limit cs es c true m p h = pushed-keeps limit cs es c m p h
+  pushed-either limit cs es c false m p h = h
 
   pub undone-stands : (limit : ℕ) (cs : List Node) (es : List ℕ) (k m : NodesMark) (p : Present ℕ) → IsOlder k m → m.nodes ≤ length cs → m.trail ≤ length es → StandsFor names limit cs es k p → StandsFor names limit (restored cs es m) (take m.trail es) k p
   undone-stands limit cs es k m p older nodes trail h =

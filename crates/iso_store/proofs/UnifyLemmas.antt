@@ -24,10 +24,10 @@ use Rattle.iso_store.proofs.Bound.{binds-meaning, binds-none}
 use Rattle.iso_store.proofs.ArgumentLemmas.{row_of_term, row-listed, length-listed, arguments-more, arguments-last}
 use Rattle.iso_store.proofs.LeftLemmas.{equal-both, equal-parts, left-none, left-solved, left-opened}
 
-All-front : {X : Type 0} (P : X → Type 0) (xs : List X) (x : X) → All P (xs ++ x ∷ []) → All P xs
+pub All-front : {X : Type 0} (P : X → Type 0) (xs : List X) (x : X) → All P (xs ++ x ∷ []) → All P xs
 All-front P xs x all = (All-pop P (xs ++ x ∷ []) xs (Some x) refl all).0
 
-All-last : {X : Type 0} (P : X → Type 0) (xs : List X) (x : X) → All P (xs ++ x ∷ []) → P x
+pub All-last : {X : Type 0} (P : X → Type 0) (xs : List X) (x : X) → All P (xs ++ x ∷ []) → P x
 All-last P xs x all = (All-pop P (xs ++ x ∷ []) xs (Some x) refl all).1
 
 -- ---- compounds

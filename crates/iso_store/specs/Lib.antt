@@ -28,3 +28,4 @@ pub mod HeapProps
 pub mod HeapRoom
 pub mod HeapBuilds
 pub mod FlatCells
+pub mod Reading

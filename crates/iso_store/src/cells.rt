@@ -6,7 +6,7 @@ ghost use Rattle.iso_model.specs.Terms.Trees.{Tree, Integer, Name, Apply, Variab
 ghost use Rattle.iso_model.specs.Terms.Sorts.{is_term};
 ghost use Rattle.iso_model.specs.Terms.Variables.{occurs};
 ghost use Rattle.iso_model.specs.Terms.Substitutions.{apply, single};
-ghost use Rattle.iso_store_core.specs.Presents.{Present, Holds, meaning, KeepsWords, Makes, KeepsNumbers, TakesNumber, MovesOn, Grows, Binds, KeepsMarks};
+ghost use Rattle.iso_store_core.specs.Presents.{Present, Holds, meaning, KeepsWords, Makes, KeepsNumbers, TakesNumber, MovesOn, Grows, Binds, KeepsMarks, Untouched};
 ghost use Rattle.iso_store_core.specs.Arguments.{arity, argument};
 ghost use Rattle.iso_store_core.specs.Shapes.{IsShape};
 ghost use Rattle.iso_store.specs.Meetings.{IsYounger};
@@ -91,7 +91,7 @@ pub(crate) trait Cells {
     fn alloc(&self) -> Global;
 
     /// Exchanges the notes and lists that the store keeps for these.
-    fn swap_kept(&mut self, kept: &mut Kept<Self::Word>)
+    fn swap_kept(&mut self, kept: &mut Option<Box<Kept<Self::Word>>>)
         ensures present { present self.new ≡ present self.old }
         ensures full { full self.old → full self.new }
         ensures names { names self.new ≡ names self.old }
@@ -174,4 +174,7 @@ pub(crate) trait Cells {
         ensures full { result ≡ Err StoreFault.Full → full self.new }
         ensures names { names self.new ≡ names self.old }
         ensures marks { KeepsMarks (stands self.old) (stands self.new) };
+
+    // a number that no variable has stands for itself and is in no term that a word stands for
+    ghost untouched: { (s : Self) (n : ℕ) → (present s).taken n ≡ false → Untouched (present s) n };
 }

@@ -14,7 +14,7 @@ use super::cells::Cells;
 use super::copies::variables_from;
 use super::instances::make_part;
 use super::plans::{MOST_VARIABLES, plan};
-use super::scratch::Kept;
+use super::scratch::{Kept, keep, take_kept};
 use super::variables::variables_with;
 use iso_store_core::{Part, StoreFault};
 use std::alloc::Global;
@@ -128,10 +128,9 @@ pub(crate) fn duplicate<C: Cells>(
     ensures names { C.names store.new ≡ C.names store.old }
     ensures marks { KeepsMarks (C.stands store.old) (C.stands store.new) }
 {
-    let mut kept = Kept::new(alloc);
-    store.swap_kept(&mut kept);
+    let mut kept = take_kept(store)?;
     let planned = plan_copy(alloc, &*store, word, &mut kept);
-    store.swap_kept(&mut kept);
+    keep(store, kept);
     let planned = planned?;
     let first = store.reserve(planned.variables as u64);
     let known = variables_from(alloc, store, first, planned.variables)?;

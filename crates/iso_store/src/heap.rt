@@ -17,6 +17,7 @@ use super::cells::Cells;
 use super::copies::copy_out;
 use super::duplicates::duplicate;
 use super::flat_cells::CellArea;
+use super::heads::unify_head;
 use super::heap_builds::build_in_place;
 use super::heap_cells::{Cell, HeapMark, HeapWord};
 use super::heap_marks::unwind;
@@ -49,7 +50,8 @@ pub struct Heap {
     newest: usize,
     /// No binding leads from a cell before its target to a target behind this place.
     forward: usize,
-    kept: Kept<HeapWord>,
+    /// What calls keep from one to the next, but while one has it.
+    kept: Option<Box<Kept<HeapWord>>>,
     /// The words of a term that is made, which is empty between calls.
     words: Vec<HeapWord>,
     ghost is_heap: { IsHeap (take named atoms) area.low next } by { Prim.hlevel (props, IsBefore-prop, Settles-prop) },
@@ -90,7 +92,7 @@ fn word_of(cell: Cell, place: usize) -> HeapWord
 }
 
 impl Heap {
-    /// An empty store of at most `cells` cells, those of the trail among them.
+    /// An empty store of at most `cells` cells, those of the trail among them. The error is that memory was refused.
     pub fn new(alloc: Global, cells: u32) -> Result<Heap, NoMemory>
         ensures { IfOk result (λ s. ⟦<Heap as Store>⟧.present s ≡ empty_heap cells) }
     {
@@ -103,7 +105,7 @@ impl Heap {
             area,
             newest: 0,
             forward: 0,
-            kept: Kept::new(alloc),
+            kept: Some(Box::new(alloc, Kept::new(alloc))?),
             words: Vec::new(alloc),
         })
     }
@@ -180,17 +182,6 @@ impl Heap {
         }
     }
 
-    /// The place of the variable that the variable of this cell is bound to.
-    fn next_variable(&self, place: usize) -> Option<usize>
-        requires { place < length self.now.area.low }
-        ensures { result ≡ variable_of (next_word self.now.area.low (HeapWord.Var place)) }
-    {
-        match self.bound_to(place)? {
-            HeapWord::Var(next) => Some(next),
-            _ => None,
-        }
-    }
-
     /// The end of the bindings that the word begins.
     fn walked(&self, word: HeapWord) -> HeapWord
         requires { is_word (take self.now.named self.now.atoms) self.now.area.low word ≡ true }
@@ -203,12 +194,14 @@ impl Heap {
             return word;
         };
         let mut at = first;
-        while let Some(next) = self.next_variable(at) {
+        loop {
+            let Some(target) = self.bound_to(at) else {
+                return HeapWord::Var(at);
+            };
+            let HeapWord::Var(next) = target else {
+                return target;
+            };
             at = next;
-        }
-        match self.bound_to(at) {
-            Some(target) => target,
-            None => HeapWord::Var(at),
         }
     }
 }
@@ -304,7 +297,7 @@ impl Cells for Heap {
         self.alloc
     }
 
-    fn swap_kept(&mut self, kept: &mut Kept<HeapWord>) {
+    fn swap_kept(&mut self, kept: &mut Option<Box<Kept<HeapWord>>>) {
         mem::swap(&mut self.kept, kept);
     }
 
@@ -346,6 +339,8 @@ impl Cells for Heap {
         let place = self.push(Cell::Unbound(number))?;
         Ok(HeapWord::Var(place))
     }
+
+    ghost untouched = { λ s n none. heap-untouched (take s.named s.atoms) s.area.low s.next s.is_heap s.area.capacity n none };
 }
 
 impl Store for Heap {
@@ -429,6 +424,15 @@ impl Store for Heap {
 
     fn unify(&mut self, first: HeapWord, second: HeapWord) -> Result<bool, StoreFault> {
         unify(self, first, second)
+    }
+
+    fn unify_head(
+        &mut self,
+        head: &Pattern,
+        goal: HeapWord,
+        count: usize,
+    ) -> Result<Option<Vec<HeapWord>>, StoreFault> {
+        unify_head(self, head, goal, count)
     }
 
     fn compare(&mut self, one: HeapWord, other: HeapWord) -> Result<Ordering, NoMemory> {

@@ -79,31 +79,55 @@ pub(crate) fn make_part<C: Cells>(
     }
 }
 
-/// The term of the pattern, with the word at its place for each variable, and this list for the words of its parts.
+/// The term of the parts, with the word at its place for each variable, and this list for the words of its parts.
 fn make_parts<C: Cells>(
     store: &mut C,
-    pattern: &Pattern,
+    parts: &[Part],
     variables: &[C::Word],
     words: &mut Vec<C::Word>,
 ) -> Result<C::Word, StoreFault>
-    requires pattern { (t : Tree) × IsPattern (C.names store.old) pattern.now.parts.items t × (arities_fit t ≡ true) × HasPlaces (length variables.now) t }
+    requires pattern { (t : Tree) × IsPattern (C.names store.old) parts.now t × (arities_fit t ≡ true) × HasPlaces (length variables.now) t }
     requires variables { All (λ w. Holds (C.present store.old) w) variables.now }
-    ensures made { (t : Tree) → IsPattern (C.names store.old) pattern.now.parts.items t
+    ensures made { (t : Tree) → IsPattern (C.names store.old) parts.now t
         → IfOk result (λ w. Makes (C.present store.old) (C.present store.new) w (apply (at_places (map (C.present store.old).term variables.now)) t)) }
     ensures numbers { OnOk result (KeepsNumbers (C.present store.old) (C.present store.new)) }
-    ensures cells { (t : Tree) → IsPattern (C.names store.old) pattern.now.parts.items t → Grows (C.present store.old) (C.present store.new) (cells_of C.atomic C.width t) }
+    ensures cells { (t : Tree) → IsPattern (C.names store.old) parts.now t → Grows (C.present store.old) (C.present store.new) (cells_of C.atomic C.width t) }
     ensures full { result ≡ Err StoreFault.Full → C.full store.new }
     ensures names { C.names store.new ≡ C.names store.old }
     ensures marks { KeepsMarks (C.stands store.old) (C.stands store.new) }
 {
     words.clear();
-    for part in &pattern.parts {
+    for part in parts {
         make_part(store, *part, variables, words)?;
     }
     let Some(word) = words.pop() else {
         unreachable!()
     };
     Ok(word)
+}
+
+/// The term of the parts, with the word at its place for each variable.
+pub(crate) fn instantiate_parts<C: Cells>(
+    alloc: Global,
+    store: &mut C,
+    parts: &[Part],
+    variables: &[C::Word],
+) -> Result<C::Word, StoreFault>
+    requires pattern { (t : Tree) × IsPattern (C.names store.old) parts.now t × (arities_fit t ≡ true) × HasPlaces (length variables.now) t }
+    requires variables { All (λ w. Holds (C.present store.old) w) variables.now }
+    ensures made { (t : Tree) → IsPattern (C.names store.old) parts.now t
+        → IfOk result (λ w. Makes (C.present store.old) (C.present store.new) w (apply (at_places (map (C.present store.old).term variables.now)) t)) }
+    ensures numbers { OnOk result (KeepsNumbers (C.present store.old) (C.present store.new)) }
+    ensures cells { (t : Tree) → IsPattern (C.names store.old) parts.now t → Grows (C.present store.old) (C.present store.new) (cells_of C.atomic C.width t) }
+    ensures full { result ≡ Err StoreFault.Full → C.full store.new }
+    ensures names { C.names store.new ≡ C.names store.old }
+    ensures marks { KeepsMarks (C.stands store.old) (C.stands store.new) }
+{
+    let mut words = Vec::new(alloc);
+    store.swap_words(&mut words);
+    let made = make_parts(store, parts, variables, &mut words);
+    store.swap_words(&mut words);
+    made
 }
 
 /// The term of the pattern, with the word at its place for each variable.
@@ -123,9 +147,5 @@ pub(crate) fn instantiate<C: Cells>(
     ensures names { C.names store.new ≡ C.names store.old }
     ensures marks { KeepsMarks (C.stands store.old) (C.stands store.new) }
 {
-    let mut words = Vec::new(alloc);
-    store.swap_words(&mut words);
-    let made = make_parts(store, pattern, variables, &mut words);
-    store.swap_words(&mut words);
-    made
+    instantiate_parts(alloc, store, pattern.parts.as_slice(), variables)
 }

@@ -12,6 +12,7 @@ ghost use Rattle.iso_store.specs.NodeNumbers.{nodes-untouched};
 use super::cells::Cells;
 use super::copies::{build, copy_out};
 use super::duplicates::duplicate;
+use super::heads::unify_head;
 use super::instances::instantiate;
 use super::marks::{NodesMark, unwind};
 use super::order::compare;
@@ -50,7 +51,8 @@ pub struct Nodes {
     trail: Vec<usize>,
     /// No binding leads from a place before its target to a target behind this place.
     forward: usize,
-    kept: Kept<usize>,
+    /// What calls keep from one to the next, but while one has it.
+    kept: Option<Box<Kept<usize>>>,
     /// The words of a term that is made, which is empty between calls.
     words: Vec<usize>,
     ghost is_store: { IsStore atoms nodes.items trail.items next },
@@ -59,7 +61,7 @@ pub struct Nodes {
 }
 
 impl Nodes {
-    /// An empty store of at most `limit` nodes.
+    /// An empty store of at most `limit` nodes. The error is that memory was refused.
     pub fn new(alloc: Global, limit: u32) -> Result<Nodes, NoMemory>
         ensures { IfOk result (λ s. ⟦<Nodes as Store>⟧.present s ≡ empty limit) }
     {
@@ -71,7 +73,7 @@ impl Nodes {
             nodes: Vec::new(alloc),
             trail: Vec::new(alloc),
             forward: 0,
-            kept: Kept::new(alloc),
+            kept: Some(Box::new(alloc, Kept::new(alloc))?),
             words: Vec::new(alloc),
         })
     }
@@ -192,7 +194,7 @@ impl Cells for Nodes {
         self.alloc
     }
 
-    fn swap_kept(&mut self, kept: &mut Kept<usize>) {
+    fn swap_kept(&mut self, kept: &mut Option<Box<Kept<usize>>>) {
         mem::swap(&mut self.kept, kept);
     }
 
@@ -232,6 +234,8 @@ impl Cells for Nodes {
     fn variable(&mut self, number: u64) -> Result<usize, StoreFault> {
         self.push(Node::Var(number, None))
     }
+
+    ghost untouched = { λ s n none. nodes-untouched s.atoms s.nodes.items s.trail.items s.next s.is_store s.limit n none };
 }
 
 impl Store for Nodes {
@@ -310,6 +314,15 @@ impl Store for Nodes {
 
     fn unify(&mut self, first: usize, second: usize) -> Result<bool, StoreFault> {
         unify(self, first, second)
+    }
+
+    fn unify_head(
+        &mut self,
+        head: &Pattern,
+        goal: usize,
+        count: usize,
+    ) -> Result<Option<Vec<usize>>, StoreFault> {
+        unify_head(self, head, goal, count)
     }
 
     fn compare(&mut self, one: usize, other: usize) -> Result<Ordering, NoMemory> {

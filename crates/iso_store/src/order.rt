@@ -16,7 +16,7 @@ ghost use Rattle.iso_store.specs.Comparing.{IsComparison, order_left};
 use super::cells::Cells;
 use super::joins::join;
 use super::notes::Notes;
-use super::scratch::Kept;
+use super::scratch::{keep, take_kept};
 use super::unify::{Task, leave_arguments};
 use iso_atoms::Atom;
 use iso_model::NoMemory;
@@ -230,9 +230,15 @@ pub(crate) fn compare<C: Cells>(
     ensures names { C.names store.new ≡ C.names store.old }
     ensures marks { KeepsMarks (C.stands store.old) (C.stands store.new) }
 {
-    let mut kept = Kept::new(store.alloc());
-    store.swap_kept(&mut kept);
-    let answer = compare_with(store, one, other, &mut kept.scratch.joined, &mut kept.tasks);
-    store.swap_kept(&mut kept);
+    let mut kept = take_kept(store)?;
+    let inside = &mut *kept;
+    let answer = compare_with(
+        store,
+        one,
+        other,
+        &mut inside.scratch.joined,
+        &mut inside.tasks,
+    );
+    keep(store, kept);
     answer
 }

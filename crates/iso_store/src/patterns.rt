@@ -1,5 +1,5 @@
 //! Terms written out for a store: their names as atoms and their variables as places.
-ghost use Rattle.std.specs.Prelude.{◌≡◌, ℕ, ◌+◌, ◌<◌, ◌∷◌, [], ◌++◌, IfOk, OnOk, map};
+ghost use Rattle.std.specs.Prelude.{◌≡◌, ℕ, ◌+◌, ◌<◌, ◌∷◌, [], ◌++◌, IfOk, OnOk, length, map, reverse, true};
 ghost use Rattle.std.specs.List.{All};
 ghost use Rattle.iso_atoms.specs.Texts.{KeepsTexts};
 ghost use Rattle.iso_model.specs.Terms.Trees.{Variable, row};
@@ -8,6 +8,7 @@ ghost use Rattle.iso_model.specs.Terms.Sizes.{size};
 ghost use Rattle.iso_model.specs.Terms.Building.{with_steps};
 ghost use Rattle.iso_model.specs.Terms.Substitutions.{apply};
 ghost use Rattle.iso_store_core.specs.Presents.{KeepsMarks};
+ghost use Rattle.iso_store_core.specs.Exact.{are_exact};
 ghost use Rattle.iso_store_core.specs.Patterns.{IsNamed, IsPattern, part_step};
 ghost use Rattle.iso_store.specs.Writing.{placed_by, terms_left};
 
@@ -55,6 +56,7 @@ fn write_next<'t, C: Cells>(
 ) -> Result<(), NoMemory>
     requires named { All (IsNamed (C.names store.old)) parts.old.items }
     ensures named { OnOk result (All (IsNamed (C.names store.new)) parts.new.items) }
+    ensures exact { are_exact (reverse parts.old.items) (length left.old.items + 1) ≡ true → OnOk result (are_exact (reverse parts.new.items) (length left.new.items) ≡ true) }
     ensures written { OnOk result (with_steps (map (part_step (C.names store.new) Variable) parts.new.items) (map (apply (placed_by places.entry)) (terms_left left.new.items))
         ≡ with_steps (map (part_step (C.names store.old) Variable) parts.old.items) (map (apply (placed_by places.entry)) (terms_left left.old.items ++ term_of term.now ∷ []))) }
     ensures load { OnOk result (size (row (terms_left left.new.items)) < size (term_of term.now) + size (row (terms_left left.old.items))) }

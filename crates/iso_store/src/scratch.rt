@@ -1,7 +1,13 @@
 //! What calls of a store need for their work, and that it keeps from one to the next.
+ghost use Rattle.std.specs.Prelude.{◌≡◌};
+ghost use Rattle.iso_store_core.specs.Presents.{KeepsMarks};
+
+use super::cells::Cells;
 use super::notes::Notes;
 use super::occurs::Task as Search;
+use super::reading::Reading;
 use super::unify::Task;
+use iso_model::NoMemory;
 use std::alloc::Global;
 
 /// What unifying notes of the places of a store.
@@ -24,6 +30,7 @@ pub(crate) struct Kept<W: Copy> {
     pub(crate) tasks: Vec<Task<W>>,
     /// For the place of a term that is known to a plan of a copy, its place among these.
     pub(crate) known: Notes<usize>,
+    pub(crate) reading: Reading<W>,
 }
 
 impl<W: Copy> Kept<W> {
@@ -37,6 +44,36 @@ impl<W: Copy> Kept<W> {
             },
             tasks: Vec::new(alloc),
             known: Notes::new(alloc),
+            reading: Reading {
+                values: Vec::new(alloc),
+                later: Vec::new(alloc),
+                left: Vec::new(alloc),
+            },
         }
     }
+}
+
+/// Takes the notes and lists out of the store; new ones, where it keeps none. The error is that memory was refused for these.
+pub(crate) fn take_kept<C: Cells>(store: &mut C) -> Result<Box<Kept<C::Word>>, NoMemory>
+    ensures present { C.present store.new ≡ C.present store.old }
+    ensures names { C.names store.new ≡ C.names store.old }
+    ensures marks { KeepsMarks (C.stands store.old) (C.stands store.new) }
+{
+    let mut kept = None;
+    store.swap_kept(&mut kept);
+    match kept {
+        Some(kept) => Ok(kept),
+        None => Ok(Box::new(store.alloc(), Kept::new(store.alloc()))?),
+    }
+}
+
+/// Gives the store these notes and lists to keep.
+pub(crate) fn keep<C: Cells>(store: &mut C, kept: Box<Kept<C::Word>>)
+    ensures present { C.present store.new ≡ C.present store.old }
+    ensures full { C.full store.old → C.full store.new }
+    ensures names { C.names store.new ≡ C.names store.old }
+    ensures marks { KeepsMarks (C.stands store.old) (C.stands store.new) }
+{
+    let mut kept = Some(kept);
+    store.swap_kept(&mut kept);
 }

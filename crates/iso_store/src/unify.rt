@@ -17,7 +17,7 @@ use super::joins::{are_at_one_place, end_of_joins, join};
 use super::meetings::{Meeting, meet};
 use super::notes::Notes;
 use super::occurs::occurs;
-use super::scratch::{Kept, Scratch};
+use super::scratch::{Scratch, keep, take_kept};
 use iso_model::NoMemory;
 use iso_store_core::StoreFault;
 
@@ -214,7 +214,7 @@ fn do_task<C: Cells>(
 
 /// Whether what the words stand for can be made equal, which then is bound, with these notes, and this list for what is left to
 /// do.
-fn unify_with<C: Cells>(
+pub(crate) fn unify_with<C: Cells>(
     store: &mut C,
     one: C::Word,
     other: C::Word,
@@ -256,9 +256,9 @@ pub(crate) fn unify<C: Cells>(
     ensures names { C.names store.new ≡ C.names store.old }
     ensures marks { KeepsMarks (C.stands store.old) (C.stands store.new) }
 {
-    let mut kept = Kept::new(store.alloc());
-    store.swap_kept(&mut kept);
-    let answer = unify_with(store, first, second, &mut kept.scratch, &mut kept.tasks);
-    store.swap_kept(&mut kept);
+    let mut kept = take_kept(store)?;
+    let inside = &mut *kept;
+    let answer = unify_with(store, first, second, &mut inside.scratch, &mut inside.tasks);
+    keep(store, kept);
     answer
 }

@@ -3,3 +3,5 @@ pub mod Arguments
 pub mod Shapes
 pub mod Copying
 pub mod Patterns
+pub mod Exact
+pub mod Heads

@@ -1,4 +1,7 @@
 //! Terms written out for a store: their names as atoms and their variables as places.
+ghost use Rattle.std.specs.Prelude.{◌≡◌, true};
+ghost use Rattle.iso_store_core.specs.Exact.{are_exact};
+
 use iso_atoms::Atom;
 
 /// A part of a term.
@@ -18,4 +21,5 @@ pub enum Part {
 #[derive(Debug, Drop)]
 pub struct Pattern {
     pub parts: Vec<Part>,
+    ghost exact: { are_exact parts.items 0 ≡ true },
 }

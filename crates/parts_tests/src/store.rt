@@ -7,14 +7,16 @@
 //! Each test then passes, or fails with the text `error: AllocError`, `error: AllocFailed { .. }`, `error: NoMemory` or
 //! `error: "no memory"`, and none fails in an assertion. The last time all pass but those of long lists and of shared parts, which make
 //! more allocations, as those of `nodes` and `heap` that build lists do. Long lists need the deep stack under `rt try`.
-ghost use Rattle.std.specs.Prelude.{◌≡◌, ◌<◌, ◌+◌, ◌^◌, ◌∷◌, [], ℕ, IfOk, OnOk, length, true, false};
+ghost use Rattle.std.specs.Prelude.{◌≡◌, ◌<◌, ◌+◌, ◌^◌, ◌∷◌, [], ℕ, IfOk, IfSome, OnOk, length, true, false};
 ghost use Rattle.std.specs.List.{All};
 ghost use Rattle.iso_model.specs.Terms.Trees.{arities_fit};
 ghost use Rattle.iso_model.specs.Terms.TermOf.{term_of};
 ghost use Rattle.iso_store_core.specs.Presents.{Holds, KeepsWords};
 ghost use Rattle.iso_store_core.specs.Patterns.{HasPlaces};
 
-use super::store_terms::{circular, compound, equation, list, pattern_term, variable_list};
+use super::store_terms::{
+    circular, compound, equation, head_term, list, pattern_term, variable_list,
+};
 use iso_model::{Term, well_formed};
 use iso_store::{Heap, Nodes, Shape, Store, StoreFault};
 use std::alloc::Global;
@@ -306,6 +308,86 @@ fn makes_instances(rt: HostRuntime) -> Result<(), Fail> {
     expect_two_instances(&rt, alloc, &mut nodes)?;
     let mut heap = Heap::new(alloc, 1 + 2 * 8)?;
     expect_two_instances(&rt, alloc, &mut heap)
+}
+
+/// Three words.
+fn triple<W: Copy>(alloc: Global, first: W, second: W, third: W) -> Result<Vec<W>, Fail>
+    ensures { IfOk result (λ v. v.items ≡ first ∷ second ∷ third ∷ []) }
+{
+    let mut words = pair(alloc, first, second)?;
+    if words.push(third).is_err() {
+        return Err(Fail::from("no memory"));
+    }
+    Ok(words)
+}
+
+/// Words for the two variables of the term, once it is written out and unified as a head with the goal; none where it can't be.
+fn head_words<S: Store>(
+    store: &mut S,
+    head: &Term,
+    goal: S::Word,
+) -> Result<Option<Vec<S::Word>>, StoreFault>
+    requires fits { arities_fit (term_of head.now) ≡ true }
+    requires places { HasPlaces 2 (term_of head.now) }
+    requires goal { Holds (S.present store.old) goal }
+    requires next { (S.present store.old).next < 2 ^ 62 }
+    ensures words { IfOk result (λ found. IfSome found (λ ws. All (λ w. Holds (S.present store.new) w) ws.items)) }
+    ensures goal { IfOk result (λ found. IfSome found (λ ws. Holds (S.present store.new) goal)) }
+{
+    let pattern = store.pattern(head)?;
+    store.unify_head(&pattern, goal, 2)
+}
+
+/// That p(1, V, W) becomes p(1, 1, g(Y)) where it is unified with the head p(X, X, g(Y)), with words for X and Y.
+fn expect_head_met<S: Store>(rt: &impl Abort, alloc: Global, store: &mut S) -> Result<(), Fail>
+    requires next { (S.present store.old).next ≡ 0 }
+{
+    let functor = store.intern("p")?;
+    let one = store.int(1)?;
+    let second = store.fresh()?;
+    let third = store.fresh()?;
+    let words = triple(alloc, one, second, third)?;
+    let goal = store.compound(functor, words.as_slice())?;
+    let Some(met) = head_words(store, &head_term(alloc)?, goal)? else {
+        panic!(rt; "the head was missed");
+    };
+    assert_eq!(rt; met.len(), 2usize);
+    expect_shown(rt, alloc, &*store, met[0], "Int(1)")?;
+    expect_shown(rt, alloc, &*store, met[1], "Var(3)")?;
+    expect_shown(
+        rt,
+        alloc,
+        &*store,
+        goal,
+        "Compound(\"p\", [Int(1), Int(1), Compound(\"g\", [Var(3)])])",
+    )
+}
+
+/// That p(1, 2, V) is not unified with it.
+fn expect_head_missed<S: Store>(rt: &impl Abort, alloc: Global, store: &mut S) -> Result<(), Fail>
+    requires next { (S.present store.old).next ≡ 0 }
+{
+    let functor = store.intern("p")?;
+    let one = store.int(1)?;
+    let two = store.int(2)?;
+    let third = store.fresh()?;
+    let words = triple(alloc, one, two, third)?;
+    let goal = store.compound(functor, words.as_slice())?;
+    assert!(rt; head_words(store, &head_term(alloc)?, goal)?.is_none());
+    Ok(())
+}
+
+#[test]
+fn unifies_heads(rt: HostRuntime) -> Result<(), Fail> {
+    let alloc = rt.alloc();
+    let mut nodes = Nodes::new(alloc, 12)?;
+    expect_head_met(&rt, alloc, &mut nodes)?;
+    let mut nodes = Nodes::new(alloc, 12)?;
+    expect_head_missed(&rt, alloc, &mut nodes)?;
+    let mut heap = Heap::new(alloc, 12)?;
+    expect_head_met(&rt, alloc, &mut heap)?;
+    let mut heap = Heap::new(alloc, 12)?;
+    expect_head_missed(&rt, alloc, &mut heap)
 }
 
 /// That each variable is listed once, in the order of first occurrence, as long as it is unbound.

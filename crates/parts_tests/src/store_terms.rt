@@ -70,3 +70,13 @@ pub(crate) fn pattern_term(alloc: Global) -> Result<Term, AllocError>
     let arguments = vec![in alloc; Term::Var(0), inner, Term::Var(0), Term::Int(7), atom]?;
     Ok(Term::Compound(String::from_str(alloc, "f")?, arguments))
 }
+
+/// p(X, X, g(Y)), where X and Y have the places 0 and 1
+pub(crate) fn head_term(alloc: Global) -> Result<Term, AllocError>
+    ensures fits { IfOk result (λ t. arities_fit (term_of t) ≡ true) }
+    ensures places { IfOk result (λ t. HasPlaces 2 (term_of t)) }
+{
+    let inner = Term::Compound(String::from_str(alloc, "g")?, vec![in alloc; Term::Var(1)]?);
+    let arguments = vec![in alloc; Term::Var(0), Term::Var(0), inner]?;
+    Ok(Term::Compound(String::from_str(alloc, "p")?, arguments))
+}

@@ -11,10 +11,10 @@ make_part-requires-clause-ready g c =
     let names = g.C.Cells.names c.args.store.now in
     let variables = c.args.variables.now in
     let s = at_places (map (g.C.Cells.present c.args.store.now).term variables) in
-    let ks = c.deref-part-items.result.now in
+    let ks = c.args.parts.now in
     let i = c.loop-part.part-index in
     let part = c.part-item.result in
-    let whole = subst (λ js. IsPattern names js c.requires.pattern.0) (sym c.deref-part-items.ensures.value) c.requires.pattern.1 in
+    let whole = c.requires.pattern.1 in
     let count = gathers-count s (so_far names ks i) c.loop-part.invariant.gathers in
     subst (λ n. IsReady (length variables) n part) (sym count)
     (part-is-ready names ks c.requires.pattern.0 whole i part (length variables) c.loop-part-test.true c.part-item.is c.requires.pattern.2 c.requires.pattern.3)
@@ -23,10 +23,10 @@ pub returns-in_err-make_part-clause-cells : goal.returns-in_err-make_part-clause
 returns-in_err-make_part-clause-cells g c t pattern =
     let names = g.C.Cells.names c.args.store.now in
     let s = at_places (map (g.C.Cells.present c.args.store.now).term c.args.variables.now) in
-    let ks = c.deref-part-items.result.now in
+    let ks = c.args.parts.now in
     let i = c.loop-part.part-index in
     let part = c.part-item.result in
-    let whole = subst (λ js. IsPattern names js t) (sym c.deref-part-items.ensures.value) pattern in
+    let whole = pattern in
     let count = gathers-count s (so_far names ks i) c.loop-part.invariant.gathers in
     let same = ap (λ n. part_cells g.C.Cells.atomic g.C.Cells.width n part) count in
     let within = cells-more names ks t whole g.C.Cells.atomic g.C.Cells.width i part c.loop-part-test.true c.part-item.is in
@@ -37,7 +37,7 @@ loop-part-preserved g c =
     let p = g.C.Cells.present c.args.store.now in
     let names = g.C.Cells.names c.args.store.now in
     let s = at_places (map p.term c.args.variables.now) in
-    let ks = c.deref-part-items.result.now in
+    let ks = c.args.parts.now in
     let i = c.loop-part.part-index in
     let part = c.part-item.result in
     let so = c.loop-part.invariant in
@@ -60,8 +60,8 @@ returns-clause-made g c t pattern =
     let p = g.C.Cells.present c.args.store.now in
     let names = g.C.Cells.names c.args.store.now in
     let s = at_places (map p.term c.args.variables.now) in
-    let ks = c.deref-part-items.result.now in
-    let whole = subst (λ js. IsPattern names js t) (sym c.deref-part-items.ensures.value) pattern in
+    let ks = c.args.parts.now in
+    let whole = pattern in
     let all = all-parts names ks t whole c.loop-part.part-index c.loop-part-test.false in
     let gathered = rw (c.in-Some.ensures.items, all) at c.loop-part.invariant.gathers in
     gathers-one c.pop.new.self.items c.in-Some.word (apply s t) gathered

@@ -10,9 +10,9 @@ use Rattle.iso_store.proofs.instances.make_parts.Given as goal
 abbrev pub invariant-loop-part : goal.invariant-loop-part
 invariant-loop-part g l = record {
   gathers : Gathers (g.C.Cells.present l.fn.store) (g.C.Cells.present l.store) l.words.items
-      (map (apply (at_places (map (g.C.Cells.present l.fn.store).term l.variables))) (after_parts (g.C.Cells.names l.fn.store) (take l.part-index l.part-items) []));
+      (map (apply (at_places (map (g.C.Cells.present l.fn.store).term l.variables))) (after_parts (g.C.Cells.names l.fn.store) (take l.part-index l.parts) []));
   numbers : KeepsNumbers (g.C.Cells.present l.fn.store) (g.C.Cells.present l.store);
-  cells : Grows (g.C.Cells.present l.fn.store) (g.C.Cells.present l.store) (cells_of g.C.Cells.atomic g.C.Cells.width (row (after_parts (g.C.Cells.names l.fn.store) (take l.part-index l.part-items) [])));
+  cells : Grows (g.C.Cells.present l.fn.store) (g.C.Cells.present l.store) (cells_of g.C.Cells.atomic g.C.Cells.width (row (after_parts (g.C.Cells.names l.fn.store) (take l.part-index l.parts) [])));
   names : g.C.Cells.names l.store ≡ g.C.Cells.names l.fn.store;
   marks : KeepsMarks (g.C.Cells.stands l.fn.store) (g.C.Cells.stands l.store);
 }

@@ -1,4 +1,4 @@
-use Rattle.std.proofs.Common.{rules, ◌≡◌, [], map, ap, sym, ◌∙◌, arith}
+use Rattle.std.proofs.Common.{rules, ◌≡◌, [], ◌∷◌, length, map, ap, sym, ◌∙◌, arith, length-append}
 use Rattle.iso_model.specs.Terms.Trees.{Variable}
 use Rattle.iso_model.specs.Terms.Building.{with_steps}
 use Rattle.iso_model.specs.Terms.Substitutions.{apply}
@@ -20,8 +20,10 @@ loop-next-preserved g c =
     let names = g.C.Cells.names c.loop-next.store in
     let popped = left-push c.pop.new.self.items c.loop-next.left.items c.in-Some.next c.in-Some.ensures.items in
     let so = c.loop-next.invariant in
+    let many = ap length c.in-Some.ensures.items ∙ length-append c.pop.new.self.items (c.in-Some.next ∷ []) in
     record {
       named = c.in_ok-write_next.ensures.named;
+      exact = c.in_ok-write_next.ensures.exact (rw many at so.exact);
       steps = c.in_ok-write_next.ensures.written ∙ sym (ap (λ ts. with_steps (map (part_step names Variable) c.loop-next.parts.items) (map (apply s) ts)) popped) ∙ so.steps;
       present = c.write_next.ensures.present ∙ so.present;
       names = keeps-then _ _ _ so.names c.write_next.ensures.names;

@@ -1,5 +1,5 @@
 -- The parts so far make the whole of what is left to be written.
-use Rattle.std.proofs.Common.{◌≡◌, map, [], ◌∷◌}
+use Rattle.std.proofs.Common.{◌≡◌, map, [], ◌∷◌, length, reverse, true}
 use Rattle.std.specs.List.{All}
 use Rattle.iso_atoms.specs.Texts.{KeepsTexts}
 use Rattle.iso_model.specs.Terms.Trees.{Variable, row}
@@ -8,6 +8,7 @@ use Rattle.iso_model.specs.Terms.Sizes.{size}
 use Rattle.iso_model.specs.Terms.Building.{with_steps}
 use Rattle.iso_model.specs.Terms.Substitutions.{apply}
 use Rattle.iso_store_core.specs.Presents.{KeepsMarks}
+use Rattle.iso_store_core.specs.Exact.{are_exact}
 use Rattle.iso_store_core.specs.Patterns.{IsNamed, part_step}
 use Rattle.iso_store.specs.Writing.{placed_by, terms_left}
 use Rattle.iso_store.proofs.patterns.written.Given as goal
@@ -15,6 +16,7 @@ use Rattle.iso_store.proofs.patterns.written.Given as goal
 abbrev pub invariant-loop-next : goal.invariant-loop-next
 invariant-loop-next g l = record {
   named : All (IsNamed (g.C.Cells.names l.store)) l.parts.items;
+  exact : are_exact (reverse l.parts.items) (length l.left.items) ≡ true;
   steps : with_steps (map (part_step (g.C.Cells.names l.store) Variable) l.parts.items) (map (apply (placed_by l.places)) (terms_left l.left.items)) ≡ apply (placed_by l.places) (term_of l.fn.term) ∷ [];
   present : g.C.Cells.present l.store ≡ g.C.Cells.present l.fn.store;
   names : KeepsTexts (g.C.Cells.names l.fn.store) (g.C.Cells.names l.store);

@@ -6,11 +6,11 @@ use Rattle.iso_store.specs.HeapTerms.{made_term, heap_substitution}
 use Rattle.iso_store.specs.HeapStores.{is_word, word_rank}
 use Rattle.iso_store.proofs.heap.Heap.walked.Given as goal
 
-abbrev pub invariant-loop-next : goal.invariant-loop-next
-invariant-loop-next l = record {
+abbrev pub invariant-loop-target : goal.invariant-loop-target
+invariant-loop-target l = record {
   holds : is_word (take l.self.named l.self.atoms) l.self.area.low (Var l.at) ≡ true;
   same : apply (heap_substitution (take l.self.named l.self.atoms) l.self.area.low) (made_term (take l.self.named l.self.atoms) l.self.area.low (Var l.at)) ≡ apply (heap_substitution (take l.self.named l.self.atoms) l.self.area.low) (made_term (take l.self.named l.self.atoms) l.self.area.low l.fn.word);
 }
 
-abbrev pub decreases-loop-next : goal.decreases-loop-next
-decreases-loop-next l = word_rank l.self.area.low (Var l.at)
+abbrev pub decreases-loop-target : goal.decreases-loop-target
+decreases-loop-target l = word_rank l.self.area.low (Var l.at)

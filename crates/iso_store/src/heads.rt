@@ -1,0 +1,185 @@
+//! The head of a clause unified with a goal as it is read (7.7.10): what stands for a part of the goal is not made.
+ghost use Rattle.std.specs.Prelude.{◌≡◌, ℕ, ◌+◌, ◌<◌, ◌≤◌, ◌^◌, IfOk, MatchBool, Some, length, map, option_map, true, false};
+ghost use Rattle.std.specs.List.{All, slice_get};
+ghost use Rattle.iso_model.specs.Terms.Trees.{Tree, arities_fit};
+ghost use Rattle.iso_model.specs.Terms.Substitutions.{Subst, apply};
+ghost use Rattle.iso_store_core.specs.Copying.{cells_of};
+ghost use Rattle.iso_store_core.specs.Presents.{Holds, meaning, IsUnification, Grows, KeepsMarks};
+ghost use Rattle.iso_store_core.specs.Patterns.{IsPattern, HasPlaces, at_places};
+ghost use Rattle.iso_store_core.specs.Heads.{IsHeadMet};
+ghost use Rattle.iso_store.specs.Reading.{term_between, later_cells, IsLater, GetsWord, HasWords, MakesThese, UnifiesThese};
+
+use super::cells::Cells;
+use super::instances::instantiate_parts;
+use super::reading::{Later, begin, read_head};
+use super::scratch::{Kept, Scratch, keep, take_kept};
+use super::unify::{Task, unify_with};
+use iso_store_core::{Pattern, StoreFault};
+
+/// The word for the variable of this number, which comes, bound to its value where it has one.
+fn word_for<C: Cells>(
+    store: &mut C,
+    number: u64,
+    value: Option<C::Word>,
+) -> Result<C::Word, StoreFault>
+    requires number { number < (C.present store.old).next }
+    requires free { (n : ℕ) → number ≤ n → (C.present store.old).taken n ≡ false }
+    requires held { (w : C.Word) → value ≡ Some w → Holds (C.present store.old) w }
+    ensures word { IfOk result (GetsWord (C.present store.old) (C.present store.new) number value) }
+    ensures cells { Grows (C.present store.old) (C.present store.new) 1 }
+    ensures full { result ≡ Err StoreFault.Full → C.full store.new }
+    ensures names { C.names store.new ≡ C.names store.old }
+    ensures marks { KeepsMarks (C.stands store.old) (C.stands store.new) }
+{
+    let variable = store.variable(number)?;
+    if let Some(word) = value {
+        store.bind(number, variable, word)?;
+    }
+    Ok(variable)
+}
+
+/// Words for the variables of a clause, which come, numbered from `first` on and bound to their values.
+fn words_for<C: Cells>(
+    store: &mut C,
+    first: u64,
+    values: &[Option<C::Word>],
+) -> Result<Vec<C::Word>, StoreFault>
+    requires numbers { first + length values.now ≤ (C.present store.old).next }
+    requires few { first + length values.now < 2 ^ 64 }
+    requires free { (n : ℕ) → first ≤ n → (C.present store.old).taken n ≡ false }
+    requires held { (x : ℕ) (w : C.Word) → slice_get values.now x ≡ Some (Some w) → Holds (C.present store.old) w }
+    ensures words { IfOk result (λ ws. HasWords (C.present store.old) (C.present store.new) first values.now ws.items) }
+    ensures cells { Grows (C.present store.old) (C.present store.new) (length values.now) }
+    ensures full { result ≡ Err StoreFault.Full → C.full store.new }
+    ensures names { C.names store.new ≡ C.names store.old }
+    ensures marks { KeepsMarks (C.stands store.old) (C.stands store.new) }
+{
+    let mut words = Vec::new(store.alloc());
+    let mut index = 0;
+    while index < values.len() {
+        let word = word_for(store, first + index as u64, values[index])?;
+        words.push(word)?;
+        index += 1;
+    }
+    Ok(words)
+}
+
+/// Whether what was left for later can be unified with its word, which then is bound, with these words for the variables.
+fn unify_part<C: Cells>(
+    store: &mut C,
+    head: &Pattern,
+    part: Later<C::Word>,
+    words: &[C::Word],
+    scratch: &mut Scratch<C::Word>,
+    tasks: &mut Vec<Task<C::Word>>,
+) -> Result<bool, StoreFault>
+    requires later { IsLater (C.present store.old) (C.names store.old) head.now.parts.items (length words.now) part }
+    requires words { All (λ w. Holds (C.present store.old) w) words.now }
+    ensures unified { IfOk result (IsUnification (C.present store.old) (C.present store.new) (meaning (C.present store.old) part.word)
+        (apply (at_places (map (meaning (C.present store.old)) words.now)) (term_between (C.names store.old) head.now.parts.items part.from part.past))) }
+    ensures cells { Grows (C.present store.old) (C.present store.new) (cells_of C.atomic C.width (term_between (C.names store.old) head.now.parts.items part.from part.past)) }
+    ensures full { result ≡ Err StoreFault.Full → C.full store.new }
+    ensures names { C.names store.new ≡ C.names store.old }
+    ensures marks { KeepsMarks (C.stands store.old) (C.stands store.new) }
+{
+    let parts = &head.parts[part.from..part.past];
+    let made = instantiate_parts(store.alloc(), store, parts, words)?;
+    unify_with(store, part.word, made, scratch, tasks)
+}
+
+/// Whether all that was left for later can be unified with its words, which then is bound.
+fn unify_later<C: Cells>(
+    store: &mut C,
+    head: &Pattern,
+    later: &[Later<C::Word>],
+    words: &[C::Word],
+    scratch: &mut Scratch<C::Word>,
+    tasks: &mut Vec<Task<C::Word>>,
+) -> Result<bool, StoreFault>
+    requires later { All (IsLater (C.present store.old) (C.names store.old) head.now.parts.items (length words.now)) later.now }
+    requires words { All (λ w. Holds (C.present store.old) w) words.now }
+    ensures unified { IfOk result (λ answer. MatchBool answer
+        (UnifiesThese (C.present store.old) (C.present store.new) (C.names store.old) head.now.parts.items words.now later.now)
+        ((t : Subst) → MakesThese (C.present store.old) (C.names store.old) head.now.parts.items words.now t later.now → ⊥)) }
+    ensures cells { Grows (C.present store.old) (C.present store.new) (later_cells (C.names store.old) head.now.parts.items C.atomic C.width later.now) }
+    ensures full { result ≡ Err StoreFault.Full → C.full store.new }
+    ensures names { C.names store.new ≡ C.names store.old }
+    ensures marks { KeepsMarks (C.stands store.old) (C.stands store.new) }
+{
+    for part in later {
+        if !unify_part(store, head, *part, words, scratch, tasks)? {
+            return Ok(false);
+        }
+    }
+    Ok(true)
+}
+
+/// Unifies the goal with the head, with these notes and lists; what it gives is that of `unify_head`.
+fn unify_head_with<C: Cells>(
+    store: &mut C,
+    head: &Pattern,
+    goal: C::Word,
+    count: usize,
+    kept: &mut Kept<C::Word>,
+) -> Result<Option<Vec<C::Word>>, StoreFault>
+    requires goal { Holds (C.present store.old) goal }
+    requires head { (t : Tree) × IsPattern (C.names store.old) head.now.parts.items t × (arities_fit t ≡ true) × HasPlaces count t }
+    requires next { (C.present store.old).next + count < 2 ^ 63 }
+    ensures met { (t : Tree) → IsPattern (C.names store.old) head.now.parts.items t
+        → IfOk result (λ found. IsHeadMet (C.present store.old) (C.present store.new) goal t count (option_map (λ ws. ws.items) found)) }
+    ensures cells { (t : Tree) → IsPattern (C.names store.old) head.now.parts.items t → Grows (C.present store.old) (C.present store.new) (count + cells_of C.atomic C.width t) }
+    ensures full { result ≡ Err StoreFault.Full → C.full store.new }
+    ensures names { C.names store.new ≡ C.names store.old }
+    ensures marks { KeepsMarks (C.stands store.old) (C.stands store.new) }
+{
+    let first = store.reserve(count as u64);
+    let reading = &mut kept.reading;
+    begin(reading, count)?;
+    if !read_head(
+        store,
+        head,
+        goal,
+        &mut reading.values,
+        &mut reading.later,
+        &mut reading.left,
+    )? {
+        return Ok(None);
+    }
+    let words = words_for(store, first, reading.values.as_slice())?;
+    let later = reading.later.as_slice();
+    if !unify_later(
+        store,
+        head,
+        later,
+        words.as_slice(),
+        &mut kept.scratch,
+        &mut kept.tasks,
+    )? {
+        return Ok(None);
+    }
+    Ok(Some(words))
+}
+
+/// Unifies the goal with the head of a clause, whose pattern this is, read part by part: words for the variables of the clause,
+/// so many, which get the next numbers; none where nothing makes the two equal.
+pub(crate) fn unify_head<C: Cells>(
+    store: &mut C,
+    head: &Pattern,
+    goal: C::Word,
+    count: usize,
+) -> Result<Option<Vec<C::Word>>, StoreFault>
+    requires goal { Holds (C.present store.old) goal }
+    requires head { (t : Tree) × IsPattern (C.names store.old) head.now.parts.items t × (arities_fit t ≡ true) × HasPlaces count t }
+    requires next { (C.present store.old).next + count < 2 ^ 63 }
+    ensures met { (t : Tree) → IsPattern (C.names store.old) head.now.parts.items t
+        → IfOk result (λ found. IsHeadMet (C.present store.old) (C.present store.new) goal t count (option_map (λ ws. ws.items) found)) }
+    ensures cells { (t : Tree) → IsPattern (C.names store.old) head.now.parts.items t → Grows (C.present store.old) (C.present store.new) (count + cells_of C.atomic C.width t) }
+    ensures full { result ≡ Err StoreFault.Full → C.full store.new }
+    ensures names { C.names store.new ≡ C.names store.old }
+    ensures marks { KeepsMarks (C.stands store.old) (C.stands store.new) }
+{
+    let mut kept = take_kept(store)?;
+    let met = unify_head_with(store, head, goal, count, &mut kept);
+    keep(store, kept);
+    met
+}
