@@ -1,5 +1,5 @@
 """Sessions of the program, and the rules that the output of each must keep (docs/LANGUAGE.md, "What a session writes" and "Statuses")."""
-import os, re, subprocess
+import os, re, subprocess, tomllib
 
 TOP = os.path.dirname(os.path.dirname(os.path.abspath(__file__)))
 PROLOG = os.environ.get("PROLOG", os.path.join(TOP, "prolog"))
@@ -57,3 +57,25 @@ def broken(text, queries, writes, status, out, err):
     if limit is not None:
         return None if status == 3 else "a limit with another status"
     return None if status == 0 else "a status without its line"
+
+
+def rows_of(name):
+    """The sessions of a file of crates/session_rows/data, but those with a limit of 0, which is no word of the program."""
+    with open(os.path.join(TOP, "crates", "session_rows", "data", name), "rb") as file:
+        data = tomllib.load(file)
+    for row in data["session"]:
+        if row.get("cells") == 0 or row.get("frames") == 0:
+            continue
+        yield {"text": data.get("text", ""), "queries": "", "output": "", "status": 0, **row}
+
+
+def options_of(row):
+    return [word for name in ("budget", "cells", "frames") if name in row for word in ("--" + name, str(row[name]))]
+
+
+def is_beginning(out, end, whole):
+    """What was written, but for its last line, which is this end, is a beginning of the whole; where it ends within a line a newline stands before that line."""
+    if not out.endswith(end):
+        return False
+    begun = out[: -len(end)]
+    return whole.startswith(begun) or (begun.endswith(b"\n") and whole.startswith(begun[:-1]))
