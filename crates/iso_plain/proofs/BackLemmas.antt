@@ -18,7 +18,6 @@ use Rattle.iso_plain.proofs.WorldLemmas.{world_on, left_on, choices_kept}
 use Rattle.iso_plain_core.proofs.CostLemmas.{choices_last, choices_on_more, left_place}
 use Rattle.std.proofs.lemmas.List.{take-append-drop}
 use Rattle.std.proofs.lemmas.Option.{slice_get_within}
-use Rattle.iso_model.specs.Search.Databases.{Clause}
 
 pub get_at : {X : Type 0} (xs : List X) (i : ℕ) (x : X) → i < length xs → x ≡ get_or xs i x → slice_get xs i ≡ Some x
 get_at [] i x within is = absurd (omega arith)

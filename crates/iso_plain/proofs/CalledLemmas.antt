@@ -1,5 +1,5 @@
 -- What a goal calls, by its name and arity.
-use Rattle.std.proofs.Common.{◌≡◌, ℕ, List, [], ◌∷◌, Some, None, Option, option_map, is_some, true, false, refl, ap, sym, ◌∙◌, subst, inl, inr, ◌⊎◌, IfOk, Result, Ok, Err, Vec, Global}
+use Rattle.std.proofs.Common.{◌≡◌, ℕ, List, Some, None, Option, option_map, is_some, true, false, refl, ap, sym, ◌∙◌, subst, inl, inr, IfOk, Result, Ok, Err, Vec, Global}
 use Rattle.std.specs.List.{slice_get}
 use Rattle.std.specs.Option.{option_and_then}
 use Rattle.iso_atoms.specs.Texts.{EachOnce, text_at}

@@ -11,7 +11,7 @@ use Rattle.iso_plain.specs.declared.plain.Plain.{Plain}
 use Rattle.iso_plain_core.specs.declared.parts.Left.{Left}
 use Rattle.iso_plain_core.specs.declared.parts.Left.TheVariants as left
 use Rattle.iso_plain_core.specs.declared.parts.Attempt.{Attempt}
-use Rattle.iso_plain_core.specs.Costs.{body_cost, most, left_cost, rest_cost, choice_cost, choices_cost}
+use Rattle.iso_plain_core.specs.Costs.{body_cost, most, rest_cost, choice_cost, choices_cost}
 use Rattle.iso_plain_core.specs.Standing.{AtGoal, HasClauses, HasLeft, StandsForChoices, numbers_a_step, most_numbers, entered_at}
 use Rattle.iso_plain.specs.EngineStates.{Calls, WentBack, Retries, links_of, went_back}
 use Rattle.iso_db.specs.Presents.{remaining}

@@ -117,13 +117,17 @@ module _ {S W M : Type 0} (names : S → List (List ℕ)) (present : S → Prese
           next = next;
         }
 
+    pub passed_engine : NeverEqual call (apply s.subst (renamed s.next c.head)) → IsEngine names present stands older (onward e store nodes now.Failing) (tried_clause call c mark behind s)
+    passed_engine never =
+        let is = clause_missed call c mark behind s never in
+        subst (λ (v : State). IsEngine names present stands older (onward e store nodes now.Failing) v) (sym is) (with_next now.Failing _ refl refl refl refl ([], refl))
+
     pub missed_engine : NeverEqual (apply p.substitution (p.term attempt.goal)) (apply p.substitution (renamed p.next (term_in (names e.store) k.head))) → IsEngine names present stands older (onward e store nodes now.Failing) (tried_clause call c mark behind s)
     missed_engine never =
         let at = (t.calls).at in
         let P : Tree → Subst → ℕ → Tree → Type 0 = λ a r n h. NeverEqual a (apply r (renamed n h)) in
         let none : P call s.subst s.next c.head = rw (at.value, ← at.on.subst_is, ← at.on.next_is, ← head_is) never in
-        let is = clause_missed call c mark behind s none in
-        subst (λ (v : State). IsEngine names present stands older (onward e store nodes now.Failing) v) (sym is) (with_next now.Failing _ refl refl refl refl ([], refl))
+        passed_engine none
 
     -- where members are still to be run
     goes_on : (m : Meets p q (p.term attempt.goal) (term_in (names e.store) k.head) k.variables) (list : List Member)

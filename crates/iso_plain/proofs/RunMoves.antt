@@ -6,9 +6,9 @@ use Rattle.iso_model.specs.Terms.Trees.{Tree}
 use Rattle.iso_model.specs.Search.Databases as databases
 use Rattle.iso_model.specs.Search.Databases.{Key, clauses_at}
 use Rattle.iso_model.specs.Search.Errors.{existence_error}
-use Rattle.iso_model.specs.Search.Walker.{State, World, Member, Fail, Raise, Alternative, Ending, Outcome, Goes, Ends, Budget, charged, idle, fails, run_goal, run_value, tried, with_others, step}
+use Rattle.iso_model.specs.Search.Walker.{State, World, Member, Fail, Raise, Ending, Outcome, Goes, Ends, Budget, charged, idle, fails, run_goal, run_value, tried, with_others, step}
 use Rattle.iso_model.specs.Search.Engines.{IsAwake}
-use Rattle.iso_model.specs.Search.Runs.{Finishes, ComesOver, here}
+use Rattle.iso_model.specs.Search.Runs.{Quiet, Finishes, ComesOver, here}
 use Rattle.iso_model.proofs.Search.CallLemmas.{clause_keeps}
 use Rattle.iso_model.specs.declared.limit.Limit.TheVariants as limit
 use Rattle.iso_store_core.specs.Presents.{Present, KeepsMarks, meaning}
@@ -32,7 +32,7 @@ use Rattle.iso_plain.proofs.AheadLemmas.{at_frame, fail_of}
 use Rattle.iso_plain.proofs.EngineMoves.{spent_stands}
 use Rattle.iso_plain_core.proofs.EnteringLemmas.{adds_none}
 use Rattle.iso_plain.proofs.RunLemmas.{AtRun, at_run, room_less, one_less}
-use Rattle.iso_plain.proofs.SearchMoves.{goes, ends, stops, stops_here, comes_over}
+use Rattle.iso_plain.proofs.SearchMoves.{goes, goes_far, ends, stops_far, stops_here, comes_over}
 use Rattle.iso_plain.proofs.SearchSteps.{goal_comes, goal_step, goal_end, budget_step, procedure_goal, unknown_goal, tried_steps, others_keep, one_more}
 use Rattle.iso_plain_core.proofs.StandingLemmas.{choices_length}
 use Rattle.iso_plain.proofs.StoppedLemmas.{base_kept, choices_on}
@@ -41,11 +41,6 @@ use Rattle.iso_plain.proofs.WorldLemmas.{world_on}
 pub if_ok_map : {T E : Type 0} (P Q : T → Type 0) (result : Result T E) → ((t : T) → P t → Q t) → IfOk result P → IfOk result Q
 if_ok_map P Q (Ok t) f h = f t h
 if_ok_map P Q (Err e) f h = tt
-
--- with other steps a choice is the same
-others_stack : (call : Tree) (cs : List databases.Clause) (rest : List Member) (s : State) (k : ℕ) → (with_others call cs rest (record s { steps = k })).stack ≡ (with_others call cs rest s).stack
-others_stack call [] rest s k = refl
-others_stack call (c ∷ cs) rest s k = refl
 
 module _ {S W M : Type 0} (names : S → List (List ℕ)) (present : S → Present W) (stands : S → M → Present W → Type 0) (older : M → M → Type 0) where
   -- A frame asks for failure.
@@ -151,24 +146,30 @@ module _ {S W M : Type 0} (names : S → List (List ℕ)) (present : S → Prese
       there_stack : (record (tried call (c ∷ cs) at.behind own) { steps = e.steps - 1 }).stack ≡ (with_others call cs at.behind own).stack
       there_stack = (clause_keeps call c (length own.stack) at.behind (with_others call cs at.behind own)).0
 
-      there_world : (record (tried call (c ∷ cs) at.behind own) { steps = e.steps - 1 }).world ≡ own.world
-      there_world = (clause_keeps call c (length own.stack) at.behind (with_others call cs at.behind own)).1 ∙ (others_keep call cs at.behind own).0
+      abbrev pub less : State
+      less = record own { steps = e.steps - 1 }
 
-      -- what the call comes to
-      pub called_on : (new : Plain S W M) (m : Move) → WasCalled names present stands older m new (record own { steps = e.steps - 1 }) (tried call (c ∷ cs) at.behind (record own { steps = e.steps - 1 })) → Moves names present stands older m s new
-      called_on new move.Goes was =
-          goes names present stands older e new s r (record (tried call (c ∷ cs) at.behind own) { steps = e.steps - 1 }) calls_to (subst (λ (v : State). IsEngine names present stands older new v) (tried_steps call c cs at.behind own (e.steps - 1)) was.0) was.1
-      called_on new (move.Pauses p) was =
-          rw was.0 (spent_stands names present stands older limit.Frames new.now new s (ap phase_of was.1) (stops_here names present stands older new own s r.same was.2), ap phase_of was.1)
+      calls_here : record (tried call (c ∷ cs) at.behind own) { steps = e.steps - 1 } ≡ tried call (c ∷ cs) at.behind less
+      calls_here = sym (tried_steps call c cs at.behind own (e.steps - 1))
 
-      -- the call was refused
-      pub refused_on : (new : Plain S W M) → WasRefused names present stands older new (record own { steps = e.steps - 1 }) (with_others call cs at.behind (record own { steps = e.steps - 1 })) → Stopped names present stands older new s
-      refused_on new (inl keeps) = stops_here names present stands older new own s r.same keeps
-      refused_on new (inr keeps) =
-          let world = (others_keep call cs at.behind (record own { steps = e.steps - 1 })).0 in
-          let stack = others_stack call cs at.behind own (e.steps - 1) in
-          stops names present stands older new own (record (tried call (c ∷ cs) at.behind own) { steps = e.steps - 1 }) s (with_others call cs at.behind own).stack r.same calls_to there_stack there_world
-          (subst (λ (xs : List Alternative). Keeps names present stands older new own.world xs) stack (subst (λ (v : World). Keeps names present stands older new v (with_others call cs at.behind (record own { steps = e.steps - 1 })).stack) world keeps))
+      -- what the call comes to, from a state in which the first clauses were passed over
+      module _ (d : databases.Clause) (ds : List databases.Clause) (quiet : Quiet (tried call (c ∷ cs) at.behind less) (tried call (d ∷ ds) at.behind less)) where
+        on : Quiet (record (tried call (c ∷ cs) at.behind own) { steps = e.steps - 1 }) (tried call (d ∷ ds) at.behind less)
+        on = subst (λ (v : State). Quiet v (tried call (d ∷ ds) at.behind less)) (sym calls_here) quiet
+
+        pub called_on : (new : Plain S W M) (m : Move) → WasCalled names present stands older m new less (tried call (d ∷ ds) at.behind less) → Moves names present stands older m s new
+        called_on new move.Goes was = goes_far names present stands older e new s r (record (tried call (c ∷ cs) at.behind own) { steps = e.steps - 1 }) (tried call (d ∷ ds) at.behind less) calls_to on was.0 was.1
+        called_on new (move.Pauses p) was =
+            rw was.0 (spent_stands names present stands older limit.Frames new.now new s (ap phase_of was.1) (stops_here names present stands older new own s r.same was.2), ap phase_of was.1)
+
+        -- the call was refused
+        pub refused_on : (new : Plain S W M) → WasRefused names present stands older new less (with_others call ds at.behind less) → Stopped names present stands older new s
+        refused_on new (inl keeps) = stops_here names present stands older new own s r.same keeps
+        refused_on new (inr keeps) =
+            let kept = clause_keeps call d (length own.stack) at.behind (with_others call ds at.behind less) in
+            let world = (others_keep call ds at.behind less).0 in
+            stops_far names present stands older new own (record (tried call (c ∷ cs) at.behind own) { steps = e.steps - 1 }) (tried call (d ∷ ds) at.behind less) s (with_others call ds at.behind less).stack r.same calls_to on kept.0 (kept.1 ∙ world)
+            (subst (λ (v : World). Keeps names present stands older new v (with_others call ds at.behind less).stack) world keeps)
 
       -- a call that may make no choice any more: the search comes to more alternatives than there may be
       pub over : e.limit ≤ length e.choices.items → 0 < length cs → ComesOver e.limit s

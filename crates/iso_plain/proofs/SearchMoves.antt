@@ -2,7 +2,7 @@
 use Rattle.std.proofs.Common.{◌≡◌, ◌≤◌, ℕ, suc, List, [], length, refl, sym, ◌∙◌, subst, inl, inr, arith}
 use Rattle.iso_model.specs.Terms.Variables.{variables}
 use Rattle.iso_model.specs.Search.Walker.{State, World, Alternative, Event, Ending, Goes, Gives, Ends, idle, step}
-use Rattle.iso_model.specs.Search.Runs.{Quiet, here, Comes, Finishes, ComesOver}
+use Rattle.iso_model.specs.Search.Runs.{Quiet, here, onward, Comes, Finishes, ComesOver}
 use Rattle.iso_model.specs.Search.Engines.{IsAwake}
 use Rattle.iso_model.specs.Search.RunLaws.{quiet_trans}
 use Rattle.iso_model.specs.Search.RunLaws.Sameness.{Same, failing, SameStack, no_alternative}
@@ -20,13 +20,27 @@ use Rattle.iso_plain.specs.EngineStates.{IsEngine, Represents, Keeps, Stopped, S
 pub same_idle : (w : World) → Same (idle w) (idle w)
 same_idle w = failing [] [] refl refl (record { stack = no_alternative; world = refl; steps = refl })
 
+-- what comes behind some steps, from a state that is the same
+quiet_same : (u v s : State) → Quiet u v → Same u s → (t : State) × Quiet s t × Same v t
+quiet_same u v s here same = (s, here, same)
+quiet_same u v s (onward {t = t} quiet h) same =
+    let k = quiet_same u t s quiet same in
+    let j = onward_same t v k.0 h k.2 in
+    (j.0, quiet_trans k.1 j.1, j.2)
+
 module _ {S W M : Type 0} (names : S → List (List ℕ)) (present : S → Present W) (stands : S → M → Present W → Type 0) (older : M → M → Type 0) where
+  -- some steps, to a state that the engine is
+  pub goes_far : (e new : Plain S W M) (s : State) (r : Represents names present stands older e s) (v u : State) → step r.own ≡ Goes v → Quiet v u → IsEngine names present stands older new u → IsAwake (phase_of new.now)
+      → Moves names present stands older move.Goes s new
+  goes_far e new s r v u h quiet is awake =
+      let k = onward_same r.own v s h r.same in
+      let j = quiet_same v u k.0 quiet k.2 in
+      (j.0, quiet_trans k.1 j.1, record { own = u; engine = is; same = j.2 }, awake)
+
   -- a move goes on
   pub goes : (e new : Plain S W M) (s : State) (r : Represents names present stands older e s) (v : State) → step r.own ≡ Goes v → IsEngine names present stands older new v → IsAwake (phase_of new.now)
       → Moves names present stands older move.Goes s new
-  goes e new s r v h is awake =
-      let k = onward_same r.own v s h r.same in
-      (k.0, k.1, record { own = v; engine = is; same = k.2 }, awake)
+  goes e new s r v h is awake = goes_far e new s r v v h here is awake
 
   -- the engine's own goals have the values of those that the step goes to
   pub goes_as : (e new : Plain S W M) (s : State) (r : Represents names present stands older e s) (v u : State) → step r.own ≡ Goes v → Same u v → IsEngine names present stands older new u → IsAwake (phase_of new.now)
@@ -87,18 +101,24 @@ module _ {S W M : Type 0} (names : S → List (List ℕ)) (present : S → Prese
         alternatives = inr refl;
       }
 
-  -- it stopped within a move, with the alternatives that the move goes to
-  pub stops : (new : Plain S W M) (o v s : State) (stack : List Alternative) → Same o s → step o ≡ Goes v → v.stack ≡ stack → v.world ≡ o.world → Keeps names present stands older new o.world stack → Stopped names present stands older new s
-  stops new o v s stack same h stacked world keeps =
+  -- it stopped within a move, some steps on, with the alternatives of the state there
+  pub stops_far : (new : Plain S W M) (o v u s : State) (stack : List Alternative) → Same o s → step o ≡ Goes v → Quiet v u → u.stack ≡ stack → u.world ≡ o.world → Keeps names present stands older new o.world stack
+      → Stopped names present stands older new s
+  stops_far new o v u s stack same h quiet stacked world keeps =
       let k = onward_same o v s h same in
-      let beside = same_beside v k.0 k.2 in
+      let j = quiet_same v u k.0 quiet k.2 in
+      let beside = same_beside u j.0 j.2 in
       record {
-        at = k.0;
-        quiet = k.1;
+        at = j.0;
+        quiet = quiet_trans k.1 j.1;
         stack = stack;
         keeps = subst (λ (w : World). Keeps names present stands older new w stack) (sym world ∙ beside.world) keeps;
-        alternatives = inl (variables v.query, subst (λ (xs : List Alternative). SameStack (variables v.query) (variables (k.0).query) xs (k.0).stack) stacked beside.stack);
+        alternatives = inl (variables u.query, subst (λ (xs : List Alternative). SameStack (variables u.query) (variables (j.0).query) xs (j.0).stack) stacked beside.stack);
       }
+
+  -- it stopped within a move, with the alternatives that the move goes to
+  pub stops : (new : Plain S W M) (o v s : State) (stack : List Alternative) → Same o s → step o ≡ Goes v → v.stack ≡ stack → v.world ≡ o.world → Keeps names present stands older new o.world stack → Stopped names present stands older new s
+  stops new o v s stack same h stacked world keeps = stops_far new o v v s stack same h here stacked world keeps
 
   -- behind steps without an event
   pub stopped_behind : (e : Plain S W M) (s t : State) → Quiet s t → Stopped names present stands older e t → Stopped names present stands older e s

@@ -4,6 +4,7 @@ use Rattle.iso_ops.specs.declared.settings.Unknown.{Unknown}
 use Rattle.iso_model.specs.Terms.Trees.{Tree}
 use Rattle.iso_model.specs.Terms.Substitutions.{Subst, apply}
 use Rattle.iso_model.specs.Terms.Unification.{unifier_of}
+use Rattle.iso_model.specs.Terms.Unifiers.{NeverEqual}
 use Rattle.iso_model.specs.Terms.Copies.{renamed}
 use Rattle.iso_model.specs.Search.Bodies.{Body, Cut, Run, And, Or, If, Choose}
 use Rattle.iso_model.specs.Search.Databases.{Clause, Key, clauses_at}
@@ -11,6 +12,7 @@ use Rattle.iso_model.specs.Search.BuiltIns.{Reply, reply}
 use Rattle.iso_model.specs.Search.Settlements.{Offer}
 use Rattle.iso_model.specs.declared.built_ins.BuiltIn.{BuiltIn}
 use Rattle.iso_model.specs.Search.Walker.{State, World, Ending, Member, Goal, CutTo, Fail, Leave, Raise, Meet, Alternative, Left, AsIs, Again, Clauses, Catching, Gather, Gathering, Offered, offered, gathered_at, pushed, cut_back, Outcome, Goes, Gives, Ends, Answered, NoMore, Budget, charged, paid, fails, values, under, entered, with_others, tried, retried, backtracked, unknown_called, called, replied, selected, run_goal, run_value, thrown, meets, clause_size, step_list, step}
+use Rattle.iso_model.proofs.Search.CallLemmas.{clause_missed}
 use Rattle.iso_plain_core.specs.GoalKinds.{IsBuiltIn, IsUser}
 use Rattle.iso_plain.specs.EngineStates.{went_back}
 use Rattle.iso_plain.specs.Gathers.{found}
@@ -159,6 +161,27 @@ tried_steps call c [] rest s k =
 tried_steps call c (d ∷ ds) rest s k =
     let p = with_others call (d ∷ ds) rest s in
     entered_steps (under p.subst (unifier_of call (apply p.subst (renamed p.next c.head)))) c p.next (length s.stack) rest (record p { next = p.next + c.variables; built = p.built + clause_size c }) k
+
+-- whatever the list was
+entered_list : (o : Option Subst) (c : Clause) (n mark : ℕ) (rest : List Member) (s : State) (ms : List Member) → entered o c n mark rest (record s { list = ms }) ≡ entered o c n mark rest s
+entered_list None c n mark rest s ms = refl
+entered_list (Some u) c n mark rest s ms = refl
+
+tried_list : (call : Tree) (c : Clause) (cs : List Clause) (rest : List Member) (s : State) (ms : List Member) → tried call (c ∷ cs) rest (record s { list = ms }) ≡ tried call (c ∷ cs) rest s
+tried_list call c [] rest s ms =
+    entered_list (under s.subst (unifier_of call (apply s.subst (renamed s.next c.head)))) c s.next (length s.stack) rest (record s { next = s.next + c.variables; built = s.built + clause_size c }) ms
+tried_list call c (d ∷ ds) rest s ms =
+    let p = with_others call (d ∷ ds) rest s in
+    entered_list (under p.subst (unifier_of call (apply p.subst (renamed p.next c.head)))) c p.next (length s.stack) rest (record p { next = p.next + c.variables; built = p.built + clause_size c }) ms
+
+-- where the first clause doesn't meet the call the others are tried, as they were without it
+pub miss_step : (call : Tree) (c d : Clause) (ds : List Clause) (rest : List Member) (s : State) → NeverEqual call (apply s.subst (renamed s.next c.head)) → step (tried call (c ∷ d ∷ ds) rest s) ≡ Goes (tried call (d ∷ ds) rest s)
+miss_step call c d ds rest s never =
+    let p = with_others call (d ∷ ds) rest s in
+    let failed : State = record p { list = Fail ∷ []; next = s.next + c.variables; built = s.built + clause_size c } in
+    let a : Alternative = record { list = rest; subst = s.subst; next = s.next; built = s.built; left = Clauses call (d ∷ ds) } in
+    let is : tried call (c ∷ d ∷ ds) rest s ≡ failed = clause_missed call c (length s.stack) rest p never in
+    ap step is ∙ (retry_step failed [] a s.stack call (d ∷ ds) refl refl refl ∙ ap (λ (v : State). Goes v) (tried_list call d ds rest s rest))
 
 -- a choice leaves the world, the substitution, the next number, the query and the steps
 pub others_keep : (call : Tree) (cs : List Clause) (rest : List Member) (s : State)

@@ -13,7 +13,7 @@ use Rattle.iso_model.specs.declared.terms.Term.{Term}
 use Rattle.iso_model.specs.Search.Bodies.{Body, Cut, Run, And, Or, If, Choose, converted, map_body, two}
 use Rattle.iso_model.proofs.OnTerms.VariableLemmas.{listed_occurring}
 use Rattle.iso_model.proofs.OnTerms.CopyLemmas.{in_numbers_from}
-use Rattle.iso_model.specs.Search.Databases.{Clause, Static, at_end}
+use Rattle.iso_model.specs.Search.Databases.{Static, at_end}
 use Rattle.iso_model.specs.Search.Errors.{key, type_error_callable}
 use Rattle.iso_store_core.specs.Presents.{Present, KeepsMarks}
 use Rattle.iso_plain_core.specs.declared.parts.Choice as kept

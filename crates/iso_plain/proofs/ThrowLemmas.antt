@@ -6,7 +6,6 @@ use Rattle.std.proofs.Math.Nat.{eq-or-lt_of_le}
 use Rattle.std.proofs.lemmas.Bool.{eqb-true, cases_Bool, eq-eqb}
 use Rattle.std.proofs.lemmas.Option.{slice_get_within}
 use Rattle.iso_model.specs.Terms.Trees.{Tree, row}
-use Rattle.iso_model.specs.Search.Databases.{Clause}
 use Rattle.iso_model.specs.Search.Walker.{State, Alternative, Left, AsIs, Again, Clauses, Catching, Gathering, Offered, Outcome, caught_at, caught, shortened}
 use Rattle.iso_store_core.specs.Presents.{Present, meaning}
 use Rattle.iso_plain_core.specs.Solutions.{copies_of}

@@ -1,24 +1,20 @@
 -- What outlives a run stays what it is where names come.
-use Rattle.std.proofs.Common.{◌≡◌, ℕ, List, Option, Some, None, subst, sym, Vec, Global}
+use Rattle.std.proofs.Common.{◌≡◌, ℕ, List, subst, sym, Vec, Global}
 use Rattle.iso_atoms.specs.Texts.{KeepsTexts}
 use Rattle.iso_ops.specs.Operators.{Operator}
 use Rattle.iso_ops.specs.declared.settings.Flags.{Flags}
-use Rattle.iso_model.specs.Search.Databases as databases
 use Rattle.iso_model.specs.Search.Walker.{World, Alternative}
 use Rattle.iso_plain_core.specs.declared.callables.Callable.{Callable}
 use Rattle.iso_plain_core.specs.declared.clauses.Clause.{Clause}
 use Rattle.iso_plain_core.specs.declared.vocabulary.Vocabulary.{Vocabulary}
 use Rattle.iso_plain_core.specs.Vocabularies.{IsVocabulary}
-use Rattle.iso_plain_core.specs.Callables.{Finds}
 use Rattle.iso_plain_core.specs.Leaving.{AreLeft, KeepsLeft}
 use Rattle.iso_plain_core.specs.Standing.{Among, Links, StandsForChoices}
 use Rattle.iso_plain_core.specs.declared.parts.Choice as kept
 use Rattle.iso_plain_core.proofs.StandingLemmas.{choices_keep, choices_stay}
 use Rattle.iso_store_core.specs.Presents.{Present}
-use Rattle.iso_db.specs.Databases as db
 use Rattle.iso_db.specs.Databases.{Database}
 use Rattle.iso_db.specs.declared.db.Db.{Db}
-use Rattle.iso_db.specs.declared.kinds.Kind.{Kind}
 use Rattle.iso_plain.specs.Worlds.{KeepsWorld}
 use Rattle.iso_plain_core.proofs.ChangeLemmas.{clauses_kept, database_kept, finds_kept}
 use Rattle.iso_arith.proofs.EvaluableLemmas.{evaluables_kept}

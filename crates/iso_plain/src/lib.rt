@@ -12,6 +12,7 @@ mod locals;
 pub mod moves;
 mod outputs;
 mod part_goals;
+mod passing;
 pub mod plain;
 pub mod runs;
 mod settles;

@@ -239,7 +239,7 @@ impl<S: Store + Drop> Plain<S> {
             }
             Left::Clauses(attempt) => {
                 let below = self.leave_choice(mark, attempt);
-                self.enter(attempt, below)?;
+                self.enter_later(attempt, below)?;
                 Ok(Move::Goes)
             }
         }

@@ -106,12 +106,13 @@ impl<S: Store + Drop> Plain<S> {
             }
             Called::User(clause, later) => {
                 self.steps -= 1;
-                self.call_first(Attempt {
+                let attempt = self.passed(Attempt {
                     clause,
                     later,
                     goal,
                     rest: frame.next,
-                })
+                });
+                self.call_first(attempt)
             }
         }
     }

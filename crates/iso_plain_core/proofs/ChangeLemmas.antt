@@ -1,5 +1,5 @@
 -- Clauses and procedures that are taken away or declared: what is kept stays the database of the language. And names that come.
-use Rattle.std.proofs.Common.{◌≡◌, ◌==◌, ℕ, List, [], ◌∷◌, refl, sym, ap, ◌∙◌, subst, arith, Bool, not, Option, Some, None, option_map, unwrap_or, Vec, Global}
+use Rattle.std.proofs.Common.{◌≡◌, ◌==◌, ℕ, List, [], refl, sym, ap, ◌∙◌, subst, arith, not, Option, Some, None, option_map, unwrap_or, Vec, Global}
 use Rattle.std.specs.List.{filter, list_any, slice_get}
 use Rattle.iso_atoms.specs.Texts.{KeepsTexts}
 use Rattle.iso_model.specs.Search.Databases as databases

@@ -1,5 +1,5 @@
 -- Rows of parts of atoms are unified with those arguments that are not the atom itself.
-use Rattle.std.proofs.Common.{◌≡◌, ℕ, ◌+◌, ◌<◌, List, [], ◌∷◌, ◌++◌, take, drop, chars, pos, Bool, true, false, Some, refl, sym, ap, ap₂, subst, ◌∙◌, arith}
+use Rattle.std.proofs.Common.{◌≡◌, ℕ, List, [], ◌∷◌, ◌++◌, take, drop, chars, pos, Bool, true, false, Some, sym, ap, ap₂, subst, ◌∙◌}
 use Rattle.std.specs.Str.{encode_utf8_all, bytes_eq}
 use Rattle.std.specs.List.{slice_get}
 use Rattle.std.proofs.lemmas.Slice.Eq.{bytes_eq-Decides}
@@ -8,7 +8,7 @@ use Rattle.iso_store_core.proofs.AtomLemmas.{text-is}
 use Rattle.iso_model.specs.Terms.Trees.{Tree, Integer, Name, End, More, row}
 use Rattle.iso_model.specs.Terms.Arguments.{arity, argument}
 use Rattle.iso_model.specs.Terms.Substitutions.{Subst, apply}
-use Rattle.iso_model.specs.Terms.Unifiers.{Unifier, NeverEqual}
+use Rattle.iso_model.specs.Terms.Unifiers.{NeverEqual}
 use Rattle.iso_store_core.specs.Presents.{Present, IsUnification}
 use Rattle.iso_lib.specs.Settlements.{arguments_from}
 use Rattle.iso_text.specs.Parts.{part_row, text_of}

@@ -1,6 +1,5 @@
 -- The procedures of the language, by their keys.
-use Rattle.std.proofs.Common.{◌≡◌, ◌==◌, ℕ, List, [], ◌∷◌, refl, sym, ap, ◌∙◌, Bool, true, false, not, true≢false, Option, Some, None, option_map, inl, inr}
-use Rattle.std.specs.List.{filter}
+use Rattle.std.proofs.Common.{◌≡◌, ℕ, List, [], ◌∷◌, refl, ap, ◌∙◌, true, false, Option, Some, None, option_map, inl, inr}
 use Rattle.std.proofs.lemmas.Bool.{cases_Bool}
 use Rattle.iso_model.specs.Search.Databases.{Key, Procedures, Procedure, Clause, Kind, same_key, clauses_at, kind_at, with_clauses, without_procedure, without_clause, without_number}
 use Rattle.iso_plain_core.specs.Programs.{procedure_with}

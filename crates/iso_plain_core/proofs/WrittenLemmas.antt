@@ -17,6 +17,7 @@ use Rattle.iso_plain_core.specs.declared.bodies.Node.TheVariants as node
 use Rattle.iso_plain_core.specs.declared.clauses.Checked.{Checked}
 use Rattle.iso_plain_core.specs.declared.clauses.Clause.{Clause}
 use Rattle.iso_plain_core.specs.Nodes.{IsTree, EndsWith, ArePartsOf, IsAlike, AreAlike, EachGoal, IsTermOf}
+use Rattle.iso_plain_core.specs.Firsts.{IsFirstOf}
 use Rattle.iso_plain_core.specs.Written.{IsPatternOf, IsWritten, IsWrittenFor, term_in}
 use Rattle.iso_plain_core.specs.Kept.{IsTemplate, IsCheckedGoal, IsChecked, IsKeptGoal, IsClause}
 use Rattle.iso_plain_core.proofs.NodeLemmas.{alike_length, alike_push, alike_so, any_goal, tree_alike, map_none, each_goal, tree_keep}
@@ -57,6 +58,7 @@ module _ (old new : List (List ℕ)) (keeps : KeepsTexts old new) where
   pub clause_kept : (kept : Clause) (c : databases.Clause) → IsClause old kept c → IsClause new kept c
   clause_kept kept c is = record {
     head = written_kept kept.head c.head is.head;
+    first = is.first;
     parts = parts_kept kept.parts.items c.body is.parts;
     variables = is.variables;
     few = is.few;
@@ -112,9 +114,10 @@ module _ (names : List (List ℕ)) where
 
   -- a clause is written
   pub clause_written : (checked : Checked) (kept : Clause) (c : databases.Clause) → IsWrittenFor names checked.head kept.head → AreAlike (IsWrittenFor names) checked.parts.items kept.parts.items → kept.variables ≡ checked.variables
-      → IsChecked checked c → IsClause names kept c
-  clause_written checked kept c head parts count is = record {
+      → IsFirstOf kept.first kept.head → IsChecked checked c → IsClause names kept c
+  clause_written checked kept c head parts count first is = record {
     head = subst (λ (t : Tree). IsPatternOf names kept.head t) is.head head;
+    first = first;
     parts = written_parts checked.parts.items kept.parts.items c.body parts is.parts;
     variables = count ∙ is.variables;
     few = is.few;

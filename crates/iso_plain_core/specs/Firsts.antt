@@ -1,9 +1,14 @@
 -- What the outermost parts of patterns show of terms.
-use Rattle.std.specs.Prelude.{◌≡◌, ◌≢◌, ℕ, ◌+◌, ◌<◌, List, ◌∷◌, length}
-use Rattle.iso_atoms.specs.Texts.{text_at}
-use Rattle.iso_model.specs.Terms.Trees.{Tree, Variable, Integer, Name, Apply, More, row}
+use Rattle.std.specs.Prelude.{◌≡◌, ◌≢◌, ℕ, ◌+◌, ◌<◌, List, ◌∷◌, length, Option, IfSome, true}
+use Rattle.iso_atoms.specs.Texts.{text_at, EachOnce}
+use Rattle.iso_model.specs.Terms.Trees.{Tree, Variable, Integer, Name, Apply, More, row, count}
+use Rattle.iso_model.specs.Terms.Sorts.{is_term}
+use Rattle.iso_store_core.specs.Arguments.{argument}
+use Rattle.iso_store_core.specs.Shapes.{IsShape}
 use Rattle.iso_store_core.specs.declared.patterns.Part.{Part}
 use Rattle.iso_store_core.specs.declared.patterns.Part.TheVariants.{Variable as Place, Integer as Number, Atom, Compound}
+use Rattle.iso_store_core.specs.declared.patterns.Pattern.{Pattern}
+use Rattle.iso_store_core.specs.Patterns.{IsPattern}
 use Rattle.iso_store_core.specs.declared.shapes.Shape.{Shape}
 use Rattle.iso_store_core.specs.declared.shapes.Shape.TheVariants as shape
 
@@ -21,6 +26,20 @@ pub record HasFirst (names : List (List ℕ)) (k : Part) (t : Tree) : Type 0 whe
   pub others : Tree
   pub is : t ≡ Apply name (More first others)
   pub top : IsTop names k first
+
+-- A compound whose first argument has this shape, where these are the names of the atoms.
+pub record ShowsFirst (names : List (List ℕ)) (shape : Shape) (t : Tree) : Type 0 where
+  pub name : List ℕ
+  pub arguments : Tree
+  pub is : t ≡ Apply name arguments
+  pub some : 0 < count arguments
+  pub shows : IsShape names shape (argument 0 t)
+  pub term : is_term (argument 0 t) ≡ true
+  pub once : EachOnce names
+
+-- the part, where there is one, is the outermost one of the first argument of what the pattern is written for, whatever the atoms' names are
+abbrev pub IsFirstOf : Option Part → Pattern → Type 0
+IsFirstOf first head = (names : List (List ℕ)) (t : Tree) → IsPattern names head.parts.items t → IfSome first (λ k. HasFirst names k t)
 
 -- of so many terms the part leaves the first ones, so many, as they are
 abbrev pub Leaves : Part → ℕ → ℕ → Type 0

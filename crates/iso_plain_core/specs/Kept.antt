@@ -19,6 +19,7 @@ use Rattle.iso_prep.specs.Preparations.{Preparation, clause_preparation}
 use Rattle.iso_store_core.specs.declared.patterns.Pattern.{Pattern}
 use Rattle.iso_plain_core.specs.declared.clauses.Checked.{Checked}
 use Rattle.iso_plain_core.specs.declared.clauses.Clause.{Clause}
+use Rattle.iso_plain_core.specs.Firsts.{IsFirstOf}
 use Rattle.iso_plain_core.specs.Written.{IsPatternOf, IsWritten, term_in}
 use Rattle.iso_plain_core.specs.Nodes.{ArePartsOf, EachGoal, IsTermOf}
 
@@ -54,6 +55,7 @@ pub record IsKeptGoal (names : List (List ℕ)) (n : ℕ) (g : Pattern) : Type 0
 -- The engine keeps the clause of the database so.
 pub record IsClause (names : List (List ℕ)) (kept : Clause) (c : databases.Clause) : Type 0 where
   pub head : IsPatternOf names kept.head c.head
+  pub first : IsFirstOf kept.first kept.head
   pub parts : ArePartsOf (IsPatternOf names) kept.parts.items c.body
   pub variables : kept.variables ≡ c.variables
   pub few : c.variables ≤ most_variables

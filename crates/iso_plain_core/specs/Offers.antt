@@ -1,5 +1,5 @@
 -- Rows of terms that are offered: constants and parts of atoms that a goal's arguments are unified with, and heads and bodies of clauses.
-use Rattle.std.specs.Prelude.{◌≡◌, ℕ, ◌==◌, List, [], ◌∷◌, map, reverse, length, slice_set, Bool, true, false, Option, Some}
+use Rattle.std.specs.Prelude.{◌≡◌, ℕ, ◌==◌, List, ◌∷◌, map, reverse, length, slice_set, Bool, true, false, Option, Some}
 use Rattle.std.specs.List.{All}
 use Rattle.iso_model.specs.Terms.Trees.{Tree, row}
 use Rattle.iso_model.specs.Terms.Arguments.{arity}

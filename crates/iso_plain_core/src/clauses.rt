@@ -12,7 +12,7 @@ use super::bodies::{self, Node};
 use iso_lib::errors;
 use iso_model::{AddFault, Term, copied, is_built_in};
 use iso_prep::{Fault, Prepared};
-use iso_store_core::Pattern;
+use iso_store_core::{Part, Pattern};
 use std::alloc::{AllocError, Global};
 
 /// A clause that was checked and converted: its variables are numbered 0, 1, .. by first occurrence, and a body `true` has no parts.
@@ -28,6 +28,8 @@ pub struct Checked {
 #[derive(Drop)]
 pub struct Clause {
     pub head: Pattern,
+    /// The outermost part of the head's first argument, where it has any.
+    pub first: Option<Part>,
     pub parts: Vec<Node<Pattern>>,
     pub variables: usize,
 }

@@ -12,7 +12,6 @@ ghost use Rattle.iso_plain_core.specs.Entering.{Enters, Extends, GoalFits, Parts
 
 use super::bodies::Node;
 use super::clauses::Clause;
-use super::firsts::misses;
 use iso_store_core::{Pattern, Store, StoreFault};
 use std::alloc::Global;
 
@@ -132,9 +131,6 @@ pub fn enter<S: Store>(
     ensures names { S.names store.new ≡ S.names store.old }
     ensures marks { KeepsMarks (S.stands store.old) (S.stands store.new) }
 {
-    if misses(store, &clause.head, goal) {
-        return Ok(Entered::Missed);
-    }
     let Some(variables) = store.unify_head(&clause.head, goal, clause.variables)? else {
         return Ok(Entered::Missed);
     };

@@ -5,9 +5,10 @@ ghost use Rattle.iso_model.specs.Terms.Substitutions.{Subst, apply};
 ghost use Rattle.iso_model.specs.Terms.Unifiers.{NeverEqual};
 ghost use Rattle.iso_store_core.specs.Presents.{Holds, meaning};
 ghost use Rattle.iso_store_core.specs.Patterns.{IsPattern};
-ghost use Rattle.iso_plain_core.specs.Firsts.{HasFirst, Leaves, Differs};
+ghost use Rattle.iso_plain_core.specs.Firsts.{HasFirst, ShowsFirst, IsFirstOf, Leaves, Differs};
 
-use iso_store_core::{Part, Pattern, Shape, Store};
+use super::clauses::Clause;
+use iso_store_core::{Part, Shape, Store};
 
 /// How many of so many terms the part leaves as they are; none where it takes more than there are.
 fn left_by(part: Part, count: usize) -> Option<usize>
@@ -25,7 +26,7 @@ fn left_by(part: Part, count: usize) -> Option<usize>
 }
 
 /// The outermost part of the first argument of the compound that has these parts. None says nothing.
-fn first_part(parts: &[Part]) -> Option<Part>
+pub(crate) fn first_part(parts: &[Part]) -> Option<Part>
     ensures { (names : List (List ℕ)) (t : Tree) → IsPattern names parts.now t → IfSome result (λ k. HasFirst names k t) }
 {
     let mut first = 0;
@@ -71,20 +72,28 @@ fn clash(shape: Shape, part: Part) -> bool
     }
 }
 
-/// Whether the first arguments of the head and of the goal show that nothing makes the two equal. False says nothing.
-pub(crate) fn misses<S: Store>(store: &S, head: &Pattern, goal: S::Word) -> bool
+/// The shape of the goal's first argument, where it has any.
+pub fn first_shape<S: Store>(store: &S, goal: S::Word) -> Option<Shape>
     requires { Holds (S.present store.now) goal }
-    ensures { (t : Tree) (s : Subst) → result ≡ true → IsPattern (S.names store.now) head.now.parts.items t
-        → NeverEqual (meaning (S.present store.now) goal) (apply s t) }
+    ensures { IfSome result (λ shape. ShowsFirst (S.names store.now) shape (meaning (S.present store.now) goal)) }
 {
     let Shape::Compound(_, count) = store.shape(goal) else {
-        return false;
+        return None;
     };
     if count == 0 {
-        return false;
+        return None;
     }
-    let Some(part) = first_part(head.parts.as_slice()) else {
+    Some(store.shape(store.arg(goal, 0)))
+}
+
+/// Whether nothing makes the clause's head and a goal whose first argument has this shape equal. False says nothing.
+pub fn misses(clause: &Clause, shape: Shape) -> bool
+    requires { IsFirstOf clause.now.first clause.now.head }
+    ensures { (names : List (List ℕ)) (a t : Tree) (s : Subst) → result ≡ true → ShowsFirst names shape a → IsPattern names clause.now.head.parts.items t
+        → NeverEqual a (apply s t) }
+{
+    let Some(part) = clause.first else {
         return false;
     };
-    clash(store.shape(store.arg(goal, 0)), part)
+    clash(shape, part)
 }

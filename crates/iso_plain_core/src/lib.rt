@@ -11,7 +11,7 @@ pub mod writing;
 pub mod controls;
 pub mod conversion;
 pub mod entries;
-mod firsts;
+pub mod firsts;
 pub mod goals;
 pub mod leaving;
 pub mod offers;

@@ -10,6 +10,7 @@ ghost use Rattle.iso_plain_core.specs.Kept.{AreTemplates, IsChecked, IsKeptGoal,
 
 use super::bodies::{self, Node};
 use super::clauses::{Checked, Clause};
+use super::firsts::first_part;
 use iso_model::{NoMemory, Term};
 use iso_prep::Prepared;
 use iso_store_core::{Pattern, Store};
@@ -81,8 +82,10 @@ pub fn written_clause<S: Store>(
 {
     let head = store.pattern(&checked.head)?;
     let parts = written_parts(alloc, store, checked.parts.as_slice())?;
+    let first = first_part(head.parts.as_slice());
     Ok(Clause {
         head,
+        first,
         parts,
         variables: checked.variables,
     })

@@ -1,20 +1,12 @@
-use Rattle.std.proofs.Common.{◌≡◌, length, arith, ◌∙◌, ap, sym}
+use Rattle.std.proofs.Common.{◌≡◌, length, arith}
 use Rattle.iso_model.specs.Terms.Copies.{numbers_from}
 use Rattle.iso_plain_core.specs.Standing.{AreVariables}
-use Rattle.iso_plain_core.specs.Entering.{GoalFits, PartsFit}
+use Rattle.iso_plain_core.specs.Entering.{PartsFit}
 use Rattle.iso_plain_core.specs.Written.{term_in}
-use Rattle.iso_plain_core.proofs.PatternLemmas.{variables_hold, copies_renamed}
+use Rattle.iso_plain_core.proofs.PatternLemmas.{copies_renamed}
 use Rattle.iso_plain_core.proofs.EnteringLemmas.{no_parts, some_parts, copies_some}
 use Rattle.iso_plain_core.proofs.HeadLemmas.{head_words, head_found, meets_behind}
-use Rattle.iso_plain_core.proofs.FirstLemmas.{misses_renamed}
 use Rattle.iso_plain_core.proofs.entries.enter.Goals as goal
-
--- the first arguments show that the head is never equal to the goal
-pub returns-then-misses-clause-enters : goal.returns-then-misses-clause-enters
-returns-then-misses-clause-enters g c =
-    let p = g.S.Store.present c.args.store.now in
-    let head = term_in (g.S.Store.names c.args.store.now) c.args.clause.now.head in
-    misses_renamed p c.args.goal head (λ s. c.misses.ensures head s c.if-misses.true c.requires.head_fits.written)
 
 pub unify_head-requires-clause-head : goal.unify_head-requires-clause-head
 unify_head-requires-clause-head g c =

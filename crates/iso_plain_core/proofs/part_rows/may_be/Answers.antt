@@ -1,4 +1,3 @@
-use Rattle.std.proofs.Common.{sym}
 use Rattle.iso_store_core.specs.Presents.{meaning}
 use Rattle.iso_plain_core.proofs.PartRows.{other_atom}
 use Rattle.iso_plain_core.proofs.part_rows.may_be.Goals as goal

@@ -1,6 +1,4 @@
-use Rattle.std.proofs.Common.{◌≡◌, ◌∙◌, ◌<◌, ℕ, ◌==◌, sym, ap, subst, arith, Bool, Some, length, slice_set}
-use Rattle.std.specs.List.{slice_get}
-use Rattle.iso_model.specs.Terms.Trees.{Tree}
+use Rattle.std.proofs.Common.{◌≡◌, ◌∙◌, sym, ap, subst, arith, Bool, Some, length, slice_set}
 use Rattle.iso_plain_core.specs.Offers.{AreRows, rows_in}
 use Rattle.iso_plain_core.specs.declared.parts.Left.TheVariants as left
 use Rattle.iso_plain_core.proofs.StandingLemmas.{item_is, item_there}

@@ -1,12 +1,12 @@
 -- The place is that of the key, and is found by the atom.
-use Rattle.std.proofs.Common.{◌≡◌, ◌==◌, ◌&&◌, ℕ, sym, ap, ◌∙◌, Some, None, subst}
+use Rattle.std.proofs.Common.{◌≡◌, ◌==◌, ◌&&◌, sym, ap, ◌∙◌, Some, None, subst}
 use Rattle.iso_model.specs.Search.Errors.{key}
 use Rattle.iso_db.specs.Databases.{Database, kind_at, with_procedure}
 use Rattle.iso_db.specs.Presents.{contents}
 use Rattle.iso_plain_core.specs.declared.clauses.Clause.{Clause}
 use Rattle.iso_plain_core.specs.declared.callables.Callee.TheVariants as callee
 use Rattle.std.specs.Option.{option_or}
-use Rattle.iso_plain_core.specs.Callables.{callee_at, Finds, KeepsPlaces, where_holds}
+use Rattle.iso_plain_core.specs.Callables.{callee_at, Finds, where_holds}
 use Rattle.iso_plain_core.specs.Programs.{IsDatabase, place_at, kept_at, kind_of}
 use Rattle.iso_plain_core.proofs.AddingLemmas.{called_own, found_callee, found_place, finds_placed, finds_new}
 use Rattle.iso_plain_core.proofs.ProgramLemmas.{place_within, placed_kept, placed_stays, database_placed, kind_there}

@@ -114,8 +114,8 @@ returns-in-Catching-clause-falls g c =
 
 -- ---- clauses that it kept
 
-pub enter-requires : goal.enter-requires
-enter-requires g c =
+pub enter_later-requires : goal.enter_later-requires
+enter_later-requires g c =
     let r = c.requires.represents.1 in
     let b = c.go_back-mark.ensures.back r.own r.engine in
     let mid = c.go_back-mark.new.self in
@@ -135,8 +135,8 @@ leave_choice-below-requires-clause-back g c =
     let tries = ap (λ (x : _). x.left) (sym same) ∙ c.in-Clauses.is in
     (b.0, r.own, b.1, b.2, b.4, tries, b.5)
 
-pub returns-in_ok-enter-in-Clauses-clause-moves : goal.returns-in_ok-enter-in-Clauses-clause-moves
-returns-in_ok-enter-in-Clauses-clause-moves g c = λ s r.
+pub returns-in_ok-enter_later-in-Clauses-clause-moves : goal.returns-in_ok-enter_later-in-Clauses-clause-moves
+returns-in_ok-enter_later-in-Clauses-clause-moves g c = λ s r.
     (let b = c.go_back-mark.ensures.back r.own r.engine in
     let mid = c.go_back-mark.new.self in
     let many : c.len.result ≡ length mid.choices.items = cc (c.len.ensures, mid.choices.ok.0) in
@@ -144,11 +144,11 @@ returns-in_ok-enter-in-Clauses-clause-moves g c = λ s r.
     let tries = ap (λ (x : _). x.left) (sym same) ∙ c.in-Clauses.is in
     let t = c.leave_choice-below.ensures.calls b.0 r.own b.1 b.2 b.4 tries b.5 in
     let height : c.leave_choice-below.result ≡ length b.2 = (let n = c.leave_choice-below.ensures.below in let kept_all = ap (λ v. length v.items) c.go_back-mark.ensures.choices in let number = choices_length r.engine.choices in let all = ap length b.3 in omega (arith, n, kept_all, number, all)) in
-    tries_on g.S.Store.names g.S.Store.present g.S.Store.stands g.S.Store.older c.args.self.now c.enter.new.self c.in-Clauses.attempt s r b.1 b.2 c.leave_choice-below.new.self c.leave_choice-below.result c.requires.failing b.3 t height
-    (c.in_ok-enter-in-Clauses.ensures.tried (with_others t.call t.others (b.1).list (went_back b.1 b.2 r.own)) t.call t.clause t.others (b.1).list t.calls) c.in_ok-enter-in-Clauses.ensures.awake)
+    tries_on g.S.Store.names g.S.Store.present g.S.Store.stands g.S.Store.older c.args.self.now c.enter_later.new.self c.in-Clauses.attempt s r b.1 b.2 c.leave_choice-below.new.self c.leave_choice-below.result c.requires.failing b.3 t height
+    (c.in_ok-enter_later-in-Clauses.ensures.tried (with_others t.call t.others (b.1).list (went_back b.1 b.2 r.own)) t.call t.clause t.others (b.1).list t.calls) c.in_ok-enter_later-in-Clauses.ensures.awake)
 
-pub returns-in_err-enter-in-Clauses-clause-stopped : goal.returns-in_err-enter-in-Clauses-clause-stopped
-returns-in_err-enter-in-Clauses-clause-stopped g c = λ s r.
+pub returns-in_err-enter_later-in-Clauses-clause-stopped : goal.returns-in_err-enter_later-in-Clauses-clause-stopped
+returns-in_err-enter_later-in-Clauses-clause-stopped g c = λ s r.
     (let b = c.go_back-mark.ensures.back r.own r.engine in
     let mid = c.go_back-mark.new.self in
     let many : c.len.result ≡ length mid.choices.items = cc (c.len.ensures, mid.choices.ok.0) in
@@ -156,18 +156,18 @@ returns-in_err-enter-in-Clauses-clause-stopped g c = λ s r.
     let tries = ap (λ (x : _). x.left) (sym same) ∙ c.in-Clauses.is in
     let t = c.leave_choice-below.ensures.calls b.0 r.own b.1 b.2 b.4 tries b.5 in
     let height : c.leave_choice-below.result ≡ length b.2 = (let n = c.leave_choice-below.ensures.below in let kept_all = ap (λ v. length v.items) c.go_back-mark.ensures.choices in let number = choices_length r.engine.choices in let all = ap length b.3 in omega (arith, n, kept_all, number, all)) in
-    behind_error c.from_residual-in_err-enter-in-Clauses.result (stops_on g.S.Store.names g.S.Store.present g.S.Store.stands g.S.Store.older c.args.self.now c.enter.new.self c.in-Clauses.attempt s r b.1 b.2 c.leave_choice-below.new.self c.leave_choice-below.result c.requires.failing b.3 t height
-    (c.in_err-enter-in-Clauses.ensures.kept (with_others t.call t.others (b.1).list (went_back b.1 b.2 r.own)) t.call t.clause t.others (b.1).list t.calls)))
+    behind_error c.from_residual-in_err-enter_later-in-Clauses.result (stops_on g.S.Store.names g.S.Store.present g.S.Store.stands g.S.Store.older c.args.self.now c.enter_later.new.self c.in-Clauses.attempt s r b.1 b.2 c.leave_choice-below.new.self c.leave_choice-below.result c.requires.failing b.3 t height
+    (c.in_err-enter_later-in-Clauses.ensures.kept (with_others t.call t.others (b.1).list (went_back b.1 b.2 r.own)) t.call t.clause t.others (b.1).list t.calls)))
 
-pub returns-in_ok-enter-in-Clauses-clause-falls : goal.returns-in_ok-enter-in-Clauses-clause-falls
-returns-in_ok-enter-in-Clauses-clause-falls g c =
+pub returns-in_ok-enter_later-in-Clauses-clause-falls : goal.returns-in_ok-enter_later-in-Clauses-clause-falls
+returns-in_ok-enter_later-in-Clauses-clause-falls g c =
     let back = c.go_back-mark.ensures in
     let mid = c.go_back-mark.new.self in
     let leave = c.leave_choice-below.ensures in
-    let on = c.in_ok-enter-in-Clauses.ensures in
+    let on = c.in_ok-enter_later-in-Clauses.ensures in
     let all = back_cost c.args.self.now mid back.choices back.costs in
-    let less = entered_cost mid c.leave_choice-below.new.self c.enter.new.self c.in-Clauses.attempt.rest leave.frames on.frames on.choices leave.costs on.cost in
-    falls_less c.args.self.now c.enter.new.self (on.steps ∙ (leave.steps ∙ back.steps)) (omega (arith, all, less))
+    let less = entered_cost mid c.leave_choice-below.new.self c.enter_later.new.self c.in-Clauses.attempt.rest leave.frames on.frames on.choices leave.costs on.cost in
+    falls_less c.args.self.now c.enter_later.new.self (on.steps ∙ (leave.steps ∙ back.steps)) (omega (arith, all, less))
 
 -- ---- what a findall/3 has gathered
 

@@ -1,4 +1,4 @@
-use Rattle.std.proofs.Common.{◌≡◌, ◌∙◌, ◌<◌, ◌≤◌, ℕ, suc, length, arith, sym, ap, subst, Ok, Err, IfOk, OnErr}
+use Rattle.std.proofs.Common.{◌≡◌, ◌∙◌, ◌<◌, ◌≤◌, ℕ, suc, length, arith, sym, ap, subst, Err, IfOk, OnErr}
 use Rattle.iso_model.specs.Search.AtomParts.{parts_settled}
 use Rattle.iso_model.specs.Search.Settlements.{Settled}
 use Rattle.iso_model.specs.Search.Walker.{State, settled}

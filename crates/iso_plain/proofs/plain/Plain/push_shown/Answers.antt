@@ -1,9 +1,9 @@
-use Rattle.std.proofs.Common.{◌≡◌, ◌+◌, length, arith, ap, subst, sym, ◌∙◌}
+use Rattle.std.proofs.Common.{◌≡◌, length, arith, subst}
 use Rattle.iso_model.specs.Terms.Variables.{variables}
 use Rattle.iso_plain_core.specs.Leaving.{AreLeft, NextLeft}
-use Rattle.iso_plain_core.proofs.LeavingLemmas.{left_behind, left_long}
+use Rattle.iso_plain_core.proofs.LeavingLemmas.{left_behind}
 use Rattle.iso_plain_core.proofs.ResultLemmas.{behind_error}
-use Rattle.iso_plain_core.specs.Costs.{choices_cost, rest_cost, frame_costs}
+use Rattle.iso_plain_core.specs.Costs.{rest_cost, frame_costs}
 use Rattle.iso_db.specs.Presents.{remaining}
 use Rattle.iso_plain.proofs.CallLemmas.{later_cost}
 use Rattle.iso_plain.proofs.ControlCosts.{gained_cost}

@@ -1,4 +1,4 @@
-use Rattle.std.proofs.Common.{arith, subst, Bool, true, false}
+use Rattle.std.proofs.Common.{arith, subst, Bool}
 use Rattle.iso_plain_core.specs.Costs.{most, rest_cost, frame_costs}
 use Rattle.iso_plain_core.proofs.CostLemmas.{behind_cost, cost_above}
 use Rattle.iso_plain_core.proofs.ResultLemmas.{behind_error}

@@ -66,44 +66,59 @@ returns-in-Unknown-clause-falls g c =
 
 -- ---- a procedure
 
-pub call_first-requires : goal.call_first-requires
-call_first-requires g c =
+pub passed-attempt-requires : goal.passed-attempt-requires
+passed-attempt-requires g c =
     let e = c.args.self.now in
     let r = c.requires.stands.1 in
-    let a = at g.S.Store.names g.S.Store.present g.S.Store.stands g.S.Store.older c.args.self.now c.requires.stands.0 c.args.frame c.args.place c.args.goal c.requires.now c.requires.there c.requires.stands.1 in
+    let a = at g.S.Store.names g.S.Store.present g.S.Store.stands g.S.Store.older e c.requires.stands.0 c.args.frame c.args.place c.args.goal c.requires.now c.requires.there c.requires.stands.1 in
     let what = c.in_ok-called.ensures r.own.world r.engine.world in
     let user = rw c.in-User.is at what in
     let calls = calls_engine g.S.Store.names g.S.Store.present g.S.Store.stands g.S.Store.older e r.own c.args.frame c.args.goal c.in-User.clause c.in-User.later (e.steps - 1) user.first user.others a (one_less e.steps c.if-self-eq0.false) user.left in
     (record r.own { steps = e.steps - 1 }, meaning (g.S.Store.present e.store) c.args.goal, user.first, user.others, a.behind, calls)
 
-pub returns-in-User-clause-moves : goal.returns-in-User-clause-moves
-returns-in-User-clause-moves g c = λ s r.
-    (let e = c.args.self.now in
-    let a = at g.S.Store.names g.S.Store.present g.S.Store.stands g.S.Store.older c.args.self.now s c.args.frame c.args.place c.args.goal c.requires.now c.requires.there r in
+pub call_first-requires : goal.call_first-requires
+call_first-requires g c =
+    let e = c.args.self.now in
+    let r = c.requires.stands.1 in
+    let a = at g.S.Store.names g.S.Store.present g.S.Store.stands g.S.Store.older e c.requires.stands.0 c.args.frame c.args.place c.args.goal c.requires.now c.requires.there c.requires.stands.1 in
     let what = c.in_ok-called.ensures r.own.world r.engine.world in
     let user = rw c.in-User.is at what in
     let calls = calls_engine g.S.Store.names g.S.Store.present g.S.Store.stands g.S.Store.older e r.own c.args.frame c.args.goal c.in-User.clause c.in-User.later (e.steps - 1) user.first user.others a (one_less e.steps c.if-self-eq0.false) user.left in
-    if_ok_map _ _ c.call_first.result (called_on g.S.Store.names g.S.Store.present g.S.Store.stands g.S.Store.older c.args.self.now s c.args.frame c.args.place c.args.goal c.requires.now c.requires.there r c.if-self-eq0.false user.key user.first user.others user.user user.found c.call_first.new.self) (c.call_first.ensures.called _ _ user.first user.others a.behind calls))
+    let passes = c.passed-attempt.ensures.passes (record r.own { steps = e.steps - 1 }) (meaning (g.S.Store.present e.store) c.args.goal) user.first user.others a.behind calls in
+    (record r.own { steps = e.steps - 1 }, meaning (g.S.Store.present e.store) c.args.goal, passes.clause, passes.others, a.behind, passes.calls)
+
+pub returns-in-User-clause-moves : goal.returns-in-User-clause-moves
+returns-in-User-clause-moves g c = λ s r.
+    (let e = c.args.self.now in
+    let a = at g.S.Store.names g.S.Store.present g.S.Store.stands g.S.Store.older e s c.args.frame c.args.place c.args.goal c.requires.now c.requires.there r in
+    let what = c.in_ok-called.ensures r.own.world r.engine.world in
+    let user = rw c.in-User.is at what in
+    let calls = calls_engine g.S.Store.names g.S.Store.present g.S.Store.stands g.S.Store.older e r.own c.args.frame c.args.goal c.in-User.clause c.in-User.later (e.steps - 1) user.first user.others a (one_less e.steps c.if-self-eq0.false) user.left in
+    let passes = c.passed-attempt.ensures.passes (record r.own { steps = e.steps - 1 }) (meaning (g.S.Store.present e.store) c.args.goal) user.first user.others a.behind calls in
+    if_ok_map _ _ c.call_first.result (called_on g.S.Store.names g.S.Store.present g.S.Store.stands g.S.Store.older e s c.args.frame c.args.place c.args.goal c.requires.now c.requires.there r c.if-self-eq0.false user.key user.first user.others user.user user.found passes.clause passes.others passes.quiet c.call_first.new.self) (c.call_first.ensures.called _ _ passes.clause passes.others a.behind passes.calls))
 
 pub returns-in-User-clause-frames : goal.returns-in-User-clause-frames
 returns-in-User-clause-frames g c = λ s r.
     (let e = c.args.self.now in
-    let a = at g.S.Store.names g.S.Store.present g.S.Store.stands g.S.Store.older c.args.self.now s c.args.frame c.args.place c.args.goal c.requires.now c.requires.there r in
+    let a = at g.S.Store.names g.S.Store.present g.S.Store.stands g.S.Store.older e s c.args.frame c.args.place c.args.goal c.requires.now c.requires.there r in
     let what = c.in_ok-called.ensures r.own.world r.engine.world in
     let user = rw c.in-User.is at what in
     let calls = calls_engine g.S.Store.names g.S.Store.present g.S.Store.stands g.S.Store.older e r.own c.args.frame c.args.goal c.in-User.clause c.in-User.later (e.steps - 1) user.first user.others a (one_less e.steps c.if-self-eq0.false) user.left in
-    result_full c.call_first.result (λ h. over g.S.Store.names g.S.Store.present g.S.Store.stands g.S.Store.older c.args.self.now s c.args.frame c.args.place c.args.goal c.requires.now c.requires.there r c.if-self-eq0.false user.key user.first user.others user.user user.found h.0 h.1) (c.call_first.ensures.frames _ _ user.first user.others a.behind calls))
+    let passes = c.passed-attempt.ensures.passes (record r.own { steps = e.steps - 1 }) (meaning (g.S.Store.present e.store) c.args.goal) user.first user.others a.behind calls in
+    let fewer = passes.fewer in
+    result_full c.call_first.result (λ h. (let some = h.1 in over g.S.Store.names g.S.Store.present g.S.Store.stands g.S.Store.older e s c.args.frame c.args.place c.args.goal c.requires.now c.requires.there r c.if-self-eq0.false user.key user.first user.others user.user user.found h.0 (omega (arith, fewer, some)))) (c.call_first.ensures.frames _ _ passes.clause passes.others a.behind passes.calls))
 
 pub returns-in-User-clause-stopped : goal.returns-in-User-clause-stopped
 returns-in-User-clause-stopped g c = λ s r.
     (let e = c.args.self.now in
-    let a = at g.S.Store.names g.S.Store.present g.S.Store.stands g.S.Store.older c.args.self.now s c.args.frame c.args.place c.args.goal c.requires.now c.requires.there r in
+    let a = at g.S.Store.names g.S.Store.present g.S.Store.stands g.S.Store.older e s c.args.frame c.args.place c.args.goal c.requires.now c.requires.there r in
     let what = c.in_ok-called.ensures r.own.world r.engine.world in
     let user = rw c.in-User.is at what in
     let calls = calls_engine g.S.Store.names g.S.Store.present g.S.Store.stands g.S.Store.older e r.own c.args.frame c.args.goal c.in-User.clause c.in-User.later (e.steps - 1) user.first user.others a (one_less e.steps c.if-self-eq0.false) user.left in
-    on_err_weaker c.call_first.result (λ was. refused_on g.S.Store.names g.S.Store.present g.S.Store.stands g.S.Store.older c.args.self.now s c.args.frame c.args.place c.args.goal c.requires.now c.requires.there r c.if-self-eq0.false user.key user.first user.others user.user user.found c.call_first.new.self was) (c.call_first.ensures.kept _ _ user.first user.others a.behind calls))
+    let passes = c.passed-attempt.ensures.passes (record r.own { steps = e.steps - 1 }) (meaning (g.S.Store.present e.store) c.args.goal) user.first user.others a.behind calls in
+    on_err_weaker c.call_first.result (refused_on g.S.Store.names g.S.Store.present g.S.Store.stands g.S.Store.older e s c.args.frame c.args.place c.args.goal c.requires.now c.requires.there r c.if-self-eq0.false user.key user.first user.others user.user user.found passes.clause passes.others passes.quiet c.call_first.new.self) (c.call_first.ensures.kept _ _ passes.clause passes.others a.behind passes.calls))
 
 pub returns-in-User-clause-falls : goal.returns-in-User-clause-falls
 returns-in-User-clause-falls g c =
     let less = behind_less g.S.Store.names g.S.Store.present g.S.Store.stands g.S.Store.older c.args.self.now c.requires.stands.0 c.args.frame c.args.place c.requires.now c.requires.there.asks c.requires.stands.1 c.if-self-eq0.false in
-    if_ok_map _ _ c.call_first.result (λ m. subst (λ x. Falls m x (weight c.call_first.new.self)) (step_weight g.S.Store.names g.S.Store.present g.S.Store.stands g.S.Store.older c.args.self.now c.requires.stands.0 c.args.frame c.args.place c.requires.now c.requires.there.asks c.requires.stands.1 c.if-self-eq0.false)) (c.call_first.ensures.falls (cost c.args.self.now) (omega (arith, less)))
+    if_ok_map _ _ c.call_first.result (λ m. subst (λ x. Falls m x (weight c.call_first.new.self)) (step_weight g.S.Store.names g.S.Store.present g.S.Store.stands g.S.Store.older c.args.self.now c.requires.stands.0 c.args.frame c.args.place c.requires.now c.requires.there.asks c.requires.stands.1 c.if-self-eq0.false)) (c.call_first.ensures.falls (cost c.args.self.now) (rw c.passed-attempt.ensures.rest (omega (arith, less))))
