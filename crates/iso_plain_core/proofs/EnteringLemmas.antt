@@ -2,14 +2,13 @@
 use Rattle.std.proofs.Common.{◌≡◌, ℕ, zero, suc, ◌+◌, ◌-◌, List, [], ◌∷◌, ◌++◌, Bool, true, false, ◌<◌, ◌≤◌, length, take, drop, get_or, add-one, append_assoc, append-nil, length-append, ◌==◌, refl, ap, sym, ◌∙◌, subst, arith}
 use Rattle.std.proofs.Math.Seq.{drop-cons, take-suc}
 use Rattle.iso_store_core.specs.declared.patterns.Pattern.{Pattern}
-use Rattle.iso_model.specs.Terms.Trees.{Tree, Variable, count}
+use Rattle.iso_model.specs.Terms.Trees.{Tree, Variable}
 use Rattle.iso_model.specs.Search.Bodies.{Body, map_body}
-use Rattle.iso_model.specs.Terms.Substitutions.{Subst, apply, compose}
-use Rattle.iso_model.specs.Terms.Unifiers.{Unifier, NeverEqual}
-use Rattle.iso_model.specs.Terms.Copies.{numbers_from, renamed}
-use Rattle.iso_store_core.specs.Presents.{Present, meaning, IsUnification, Binds, KeepsWords, Makes, MovesOn, KeepsNumbers}
+use Rattle.iso_model.specs.Terms.Substitutions.{Subst, apply}
+use Rattle.iso_model.specs.Terms.Copies.{numbers_from}
+use Rattle.iso_store_core.specs.Presents.{Present, KeepsWords, Makes, MovesOn}
 use Rattle.iso_plain_core.specs.Standing.{AreVariables, no_word, one_word, IsGoalWord, IsBody}
-use Rattle.iso_plain_core.specs.Entering.{Extends, Adds, IsMade, Copies, CopiesPart, Meets, GoalFits, PartsFit}
+use Rattle.iso_plain_core.specs.Entering.{Extends, Adds, IsMade, Copies, CopiesPart, GoalFits, PartsFit}
 use Rattle.iso_plain_core.specs.Nodes.{EndsWith, IfGoal, AreAlike, EachGoal}
 use Rattle.iso_plain_core.specs.Written.{IsPatternOf}
 use Rattle.iso_plain_core.specs.Kept.{IsKeptGoal}
@@ -71,43 +70,6 @@ adds_push old new x h = (h.0 ++ x ∷ [], ap (λ (xs : List _). xs ++ x ∷ []) 
 pub variables_length : {W : Type 0} {p : Present W} {ws : List W} {ns : List ℕ} → AreVariables p ws ns → length ws ≡ length ns
 variables_length no_word = refl
 variables_length (one_word holds named others) = ap suc (variables_length others)
-
--- ---- a clause is entered
-
--- the call and the head, as they are unified
-pub met : {W : Type 0} {p q r : Present W} {call head : W} {t : Tree} {n : ℕ} (P : Tree → Tree → Type 0) → Extends p q n → Makes q r head t → p.holds call ≡ true
-    → P (meaning r call) (meaning r head) → P (apply p.substitution (p.term call)) (apply p.substitution t)
-met {p = p} {q = q} {r = r} {call = call} {head = head} {t = t} P e m held h =
-    let same : r.substitution ≡ p.substitution = m.substitution ∙ e.substitution in
-    let call_is : r.term call ≡ p.term call = m.words.terms call (e.words.stand call held) ∙ e.words.terms call held in
-    subst (λ (x : Tree). P (apply p.substitution (p.term call)) (apply p.substitution x)) m.term
-    (subst (λ (x : Tree). P (apply p.substitution x) (apply p.substitution (r.term head))) call_is
-    (subst (λ (s : Subst). P (apply s (r.term call)) (apply s (r.term head))) same h))
-
--- the head is never equal to the call
-pub enters_none : {W : Type 0} {p q r : Present W} {call head : W} {t : Tree} {n : ℕ} (s : Present W) (answer : Bool) → Extends p q n → Makes q r head t → p.holds call ≡ true
-    → answer ≡ false → IsUnification r s (meaning r call) (meaning r head) answer → NeverEqual (apply p.substitution (p.term call)) (apply p.substitution t)
-enters_none {p = p} {r = r} {call = call} {head = head} {t = t} s answer e m held negative h =
-    met (λ a b. NeverEqual a b) e m held (subst (λ (x : Bool). IsUnification r s (meaning r call) (meaning r head) x) negative h)
-
--- what an answer says that there is a unifier
-pub unifier_there : {W : Type 0} (p q : Present W) (a b : Tree) (answer : Bool) → answer ≡ true → IsUnification p q a b answer → (u : Subst) × Unifier a b u × Binds p q u
-unifier_there p q a b answer positive h = subst (λ (x : Bool). IsUnification p q a b x) positive h
-
--- The head has a unifier with the call, and words come behind it.
-pub meets : {W : Type 0} {p q r s v : Present W} {call : W} (head : W) (t : Tree) {count : ℕ} → Extends p q count → Makes q r head (renamed p.next t) → KeepsNumbers q r → p.holds call ≡ true
-    → ((u : Subst) × Unifier (meaning r call) (meaning r head) u × Binds r s u) → Extends s v 0 → Meets p v (p.term call) t count
-meets {p = p} {q = q} {r = r} {s = s} {v = v} head t {count = count} e m k held h x =
-    let u = h.0 in
-    let b = h.2 in
-    let same : r.substitution ≡ p.substitution = m.substitution ∙ e.substitution in
-    record {
-      unifier = u;
-      is = met (λ a b. Unifier a b u) e m held h.1;
-      substitution = x.substitution ∙ (b.substitution ∙ ap (λ (y : Subst). compose y u) same);
-      next = (let n1 = x.next in let n2 = b.numbers.next in let n3 = k.next in let n4 = e.next in omega arith);
-      words = words_on (words_on e.words (words_on m.words b.words)) x.words;
-    }
 
 -- ---- parts are copied
 

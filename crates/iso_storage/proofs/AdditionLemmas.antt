@@ -1,5 +1,5 @@
 -- Clauses that goals add: the errors, and where they come to.
-use Rattle.std.proofs.Common.{◌≡◌, ◌<◌, nat_lt, ◌+◌, ◌&&◌, ◌||◌, ℕ, List, Bool, true, false, Option, Some, None, codes, refl, sym, ap, ◌∙◌, subst, inl, inr, if◌then◌else◌, Ok, Err, Result, Vec, Global}
+use Rattle.std.proofs.Common.{◌≡◌, ◌<◌, nat_lt, ◌&&◌, ◌||◌, ℕ, List, Bool, true, false, Option, Some, None, codes, refl, sym, ap, ◌∙◌, inl, inr, if◌then◌else◌, Ok, Err, Result, Vec, Global}
 use Rattle.std.specs.Result.{IsErrAnd}
 use Rattle.std.specs.Str.{bytes_eq}
 use Rattle.std.proofs.lemmas.Bool.{cases_Bool, and_parts, or_parts}
@@ -13,8 +13,8 @@ use Rattle.iso_model.specs.Search.Databases as databases
 use Rattle.iso_model.specs.Search.Databases.{Key, key_of, Dynamic, is_static, kind_at}
 use Rattle.iso_model.specs.Search.BuiltIns.{is_built_in}
 use Rattle.iso_model.specs.Search.Errors.{permission_error}
-use Rattle.iso_model.specs.Search.Additions.{Check, Fits, Faulty, NotUser, NotCallable, UnboundHead, TooManyVariables, head_of, body_of, checked, prepared, prepared_head, prepared_body, prepared_small, user_checked, fault_error, clause_of, most_variables, with_added, asserted, addition_by, dynamic_checked}
-use Rattle.iso_model.specs.Search.Settlements.{Settled, Refuses, Changes}
+use Rattle.iso_model.specs.Search.Additions.{Check, Fits, Faulty, NotUser, TooManyVariables, head_of, body_of, checked, prepared_head, prepared_body, prepared_small, user_checked, fault_error, clause_of, most_variables, with_added, asserted, addition_by, dynamic_checked}
+use Rattle.iso_model.specs.Search.Settlements.{Refuses, Changes}
 use Rattle.iso_model.specs.Search.Storages.{addition_settled, is_fixed}
 use Rattle.iso_model.specs.Search.Worlds.{World}
 use Rattle.iso_model.specs.declared.pauses.Ball.{Ball}

@@ -1,8 +1,7 @@
 -- The procedure of a head, as it is found by an atom and as it is in the database.
-use Rattle.std.proofs.Common.{◌≡◌, ◌<◌, ℕ, List, [], ◌∷◌, length, refl, sym, ap, ◌∙◌, subst, Bool, true, false, not, ◌||◌, Option, Some, None, option_map, unwrap_or, is_some, is_ok, inl, inr, Vec, Global, Result, Ok, Err}
+use Rattle.std.proofs.Common.{◌≡◌, ◌<◌, ℕ, List, [], length, refl, sym, ap, ◌∙◌, subst, Bool, true, false, not, ◌||◌, Option, Some, None, option_map, unwrap_or, is_some, is_ok, inl, inr, Vec, Global, Result, Ok, Err}
 use Rattle.std.specs.Prelude.{IfOk}
 use Rattle.std.specs.Result.{result_ok}
-use Rattle.std.proofs.lemmas.Bool.{cases_Bool}
 use Rattle.iso_model.specs.Search.Databases as databases
 use Rattle.iso_model.specs.Search.Databases.{Key, key, Procedures, Static, Dynamic, same_key, kind_at, is_static}
 use Rattle.iso_model.specs.Search.BuiltIns.{built_in, is_some_built_in, is_control, is_built_in}

@@ -1,9 +1,9 @@
 -- The database stays what it is where names come, and which procedures are fixed.
-use Rattle.std.proofs.Common.{◌≡◌, [], ◌∷◌, ◌<◌, ℕ, List, Bool, true, false, Option, Some, None, option_map, refl, sym, ap, ◌∙◌, subst, inl, inr, Vec, Global, Result, Ok, Err}
+use Rattle.std.proofs.Common.{◌≡◌, ℕ, List, true, false, Option, Some, None, option_map, refl, sym, ap, ◌∙◌, subst, Vec, Global, Result, Ok, Err}
 use Rattle.std.specs.Prelude.{OnErr}
 use Rattle.std.specs.Result.{IsErrAnd}
 use Rattle.std.specs.List.{slice_get}
-use Rattle.std.proofs.lemmas.Bool.{cases_Bool, or_parts}
+use Rattle.std.proofs.lemmas.Bool.{or_parts}
 use Rattle.iso_atoms.specs.Texts.{KeepsTexts, EachOnce}
 use Rattle.iso_model.specs.Search.Databases as databases
 use Rattle.iso_model.specs.Search.Databases.{Key, key, Procedures, same_key, is_static}
@@ -17,8 +17,7 @@ use Rattle.iso_lib.specs.declared.indicators.Functor.{Functor}
 use Rattle.iso_plain_core.specs.declared.callables.Callable.{Callable}
 use Rattle.iso_plain_core.specs.declared.clauses.Clause.{Clause}
 use Rattle.iso_plain_core.specs.Adding.{IsFound}
-use Rattle.iso_plain_core.specs.Callables.{Finds}
-use Rattle.iso_plain_core.specs.Programs.{AreClauses, no_clauses, more_clauses, IsKind, IsProcedure, IsDatabase, procedure_with, kept_at, kind_of}
+use Rattle.iso_plain_core.specs.Programs.{IsKind, IsProcedure, procedure_with, kept_at, kind_of}
 use Rattle.iso_plain_core.proofs.ChangeLemmas.{database_kept, finds_kept}
 use Rattle.iso_plain_core.proofs.ProcedureLemmas.{kinds_with}
 use Rattle.iso_model.specs.Terms.TermOf.{term_of}

@@ -14,7 +14,6 @@ ghost use Rattle.iso_storage.specs.Matching.{matching_numbers};
 
 use iso_db::{ClauseId, Db, View};
 use iso_plain_core::clauses::Clause;
-use iso_plain_core::entries;
 use iso_plain_core::leaving::next_left;
 use iso_store_core::{Store, StoreFault};
 use std::alloc::Global;
@@ -22,7 +21,6 @@ use std::alloc::Global;
 /// Whether the head of the clause, with new variables, unifies with the term; it leaves open what is bound. The errors: the store is
 /// full, or memory was refused.
 fn unifies<S: Store>(
-    alloc: Global,
     store: &mut S,
     clause: &Clause,
     head: S::Word,
@@ -38,9 +36,8 @@ fn unifies<S: Store>(
 {
     // Reserves none: it says that no number from the next one on is taken.
     let _next = store.reserve(0);
-    let variables = entries::new_variables(alloc, store, clause.variables)?;
-    let other = entries::instantiate(store, &clause.head, variables.as_slice())?;
-    store.unify(head, other)
+    let met = store.unify_head(&clause.head, head, clause.variables)?;
+    Ok(met.is_some())
 }
 
 /// The numbers of the clauses of the view whose heads unify with the term; the store is as it was then. The errors: the store is full, or
@@ -66,7 +63,7 @@ fn matching<S: Store>(
     let mut later = view;
     let mark = store.mark();
     while let Some(number) = next_left(db, &mut later) {
-        let matches = unifies(alloc, store, db.clause(number), head)?;
+        let matches = unifies(store, db.clause(number), head)?;
         store.undo(mark);
         if matches {
             numbers.push(number)?;

@@ -166,11 +166,9 @@ pub fn unify_clause<S: Store>(
     ensures names { KeepsTexts (S.names store.old) (S.names store.new) }
     ensures marks { KeepsMarks (S.stands store.old) (S.stands store.new) }
 {
-    let variables = entries::new_variables(alloc, store, clause.variables)?;
-    let shown_head = entries::instantiate(store, &clause.head, variables.as_slice())?;
-    if !store.unify(head, shown_head)? {
+    let Some(variables) = store.unify_head(&clause.head, head, clause.variables)? else {
         return Ok(false);
-    }
+    };
     let parts = clause.parts.as_slice();
     let shown_body = body_word(alloc, store, controls, parts, variables.as_slice())?;
     store.unify(body, shown_body)

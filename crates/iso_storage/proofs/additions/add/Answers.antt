@@ -1,4 +1,3 @@
-use Rattle.std.proofs.Common.{◌≡◌}
 use Rattle.iso_model.specs.Search.Errors.{key}
 use Rattle.iso_db.specs.Presents.{contents}
 use Rattle.iso_store_core.specs.Presents.{meaning}

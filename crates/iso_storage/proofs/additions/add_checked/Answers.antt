@@ -1,23 +1,16 @@
-use Rattle.std.proofs.Common.{◌≡◌, ℕ, List, refl, sym, ap, ◌∙◌, subst}
-use Rattle.iso_model.specs.Terms.Trees.{Tree}
+use Rattle.std.proofs.Common.{refl, sym, ap, ◌∙◌, subst}
 use Rattle.iso_model.specs.Search.Additions.{asserted, clause_of, with_added}
 use Rattle.iso_model.specs.Search.Databases as databases
 use Rattle.iso_model.specs.Search.Databases.{Key, Dynamic}
 use Rattle.iso_model.specs.Search.BuiltIns.{is_built_in}
-use Rattle.iso_model.specs.Search.Errors.{key, permission_error}
-use Rattle.iso_model.specs.Search.Settlements.{Settled, Refuses}
+use Rattle.iso_model.specs.Search.Errors.{key}
 use Rattle.iso_model.specs.Search.Storages.{addition_settled, is_fixed}
-use Rattle.iso_model.specs.Search.Worlds.{World}
-use Rattle.iso_store_core.proofs.AtomLemmas.{keeps-then}
 use Rattle.iso_db.specs.Presents.{contents}
-use Rattle.iso_lib.specs.Settlements.{IsRefused}
-use Rattle.iso_lib.specs.declared.indicators.Functor.{Functor}
 use Rattle.iso_plain_core.specs.Adding.{with_more}
-use Rattle.iso_plain_core.specs.Kept.{IsAddition}
 use Rattle.iso_plain_core.specs.Programs.{IsDatabase}
 use Rattle.iso_plain_core.proofs.AddingLemmas.{user_alone}
 use Rattle.iso_plain_core.proofs.WrittenLemmas.{clause_kept}
-use Rattle.iso_storage.specs.Storing.{IsProgram, IsChanged, IsNamed, place_of}
+use Rattle.iso_storage.specs.Storing.{IsNamed, place_of}
 use Rattle.iso_storage.proofs.AdditionLemmas.{addition_refused, addition_comes, way_more, may_come, checked_key, checked_few}
 use Rattle.iso_storage.proofs.KeptPrograms.{permission_raised, program_kept, program_lent, found_in, changes_fit, no_memory, on_err}
 use Rattle.iso_storage.proofs.additions.add_checked.Goals as goal

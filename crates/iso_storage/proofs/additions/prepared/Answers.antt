@@ -1,4 +1,4 @@
-use Rattle.std.proofs.Common.{◌≡◌, ap, ◌∙◌, sym, subst, Result, Err}
+use Rattle.std.proofs.Common.{◌≡◌, ap, ◌∙◌, subst, Result, Err}
 use Rattle.iso_model.specs.declared.pauses.AddFault.{AddFault}
 use Rattle.iso_model.specs.declared.pauses.AddFault.TheVariants as add
 use Rattle.iso_plain_core.specs.Kept.{Prepares}
