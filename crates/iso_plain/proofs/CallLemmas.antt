@@ -43,7 +43,7 @@ pub entered_least : {W : Type 0} (names : List (List ℕ)) (p q : Present W) (ol
 entered_least names p q old nodes call clause frames mark rest behind entered.Missed h = omega arith
 entered_least names p q old nodes call clause frames mark rest behind entered.Fact h = (let up = cost_above most (place_cost frames rest) in omega (arith, behind, up))
 entered_least names p q old nodes call clause frames mark rest behind (entered.Body place) h =
-    let end = h.2 in
+    let end = h.last in
     let many = nodes.ok.0 in
     let within = nodes.ok.1 in
     let small = nodes.small in

@@ -12,6 +12,7 @@ use Rattle.iso_model.specs.Terms.Copies.{renamed}
 use Rattle.iso_model.specs.Search.Bodies.{Body, Cut, Run, And, Or, If, Choose, map_body, is_true}
 use Rattle.iso_model.specs.Search.Databases as databases
 use Rattle.iso_model.specs.Search.Walker.{State, Member, Goal, tried_clause, before, clause_size}
+use Rattle.iso_model.specs.Search.RunLaws.Sameness.{SameList, flat}
 use Rattle.iso_model.proofs.Search.CallLemmas.{clause_found, clause_missed}
 use Rattle.iso_store_core.specs.Presents.{Present, KeepsMarks}
 use Rattle.iso_plain_core.specs.Nodes.{EndsWith, ArePartsOf}
@@ -26,16 +27,18 @@ use Rattle.iso_plain_core.specs.declared.parts.Todo.TheVariants as todo
 use Rattle.iso_plain_core.specs.declared.parts.Now.{Now}
 use Rattle.iso_plain_core.specs.declared.parts.Now.TheVariants as now
 use Rattle.iso_plain.specs.declared.plain.Plain.{Plain}
-use Rattle.iso_plain_core.specs.Standing.{Links, IsBody, a_body, GoesOn, DoesNext}
+use Rattle.iso_plain_core.specs.Standing.{Links, First, IsBody, a_body, GoesOn, DoesNext}
 use Rattle.iso_plain_core.specs.Kept.{IsClause}
-use Rattle.iso_plain_core.specs.Entering.{Enters, Meets, Copies, Adds, renaming_from}
+use Rattle.iso_plain_core.specs.Entering.{Enters, Meets, Brings, HasValues, Adds, renaming_from}
 use Rattle.iso_plain_core.specs.Next.{now_behind, now_entered}
-use Rattle.iso_plain.specs.EngineStates.{IsEngine, Calls, links_of}
+use Rattle.iso_plain.specs.EngineStates.{IsEngine, StandsAs, SameUnder, Calls, links_of}
 use Rattle.iso_plain_core.proofs.StandingLemmas.{AddsLinks, chain_more, variables_more, next_behind}
 use Rattle.iso_plain_core.proofs.EnteringLemmas.{adds_none, placed_body}
 use Rattle.iso_plain.proofs.StoppedLemmas.{base_kept, choices_on}
 use Rattle.iso_plain.proofs.WorldLemmas.{world_on}
 use Rattle.iso_plain_core.proofs.WrittenLemmas.{term_is}
+use Rattle.iso_plain.proofs.SearchMoves.{stands_itself}
+use Rattle.iso_plain.proofs.ValueLemmas.{same_values, same_under, same_in_front, body_under}
 
 -- the members that a clause brings: its body where it isn't `true`
 before_fact : (b : Body) (mark : ℕ) (rest : List Member) → is_true b ≡ true → before b mark rest ≡ rest
@@ -76,9 +79,9 @@ body_untrue Stands n parts b h some =
     ]
 
 module _ {S W M : Type 0} (names : S → List (List ℕ)) (present : S → Present W) (stands : S → M → Present W → Type 0) (older : M → M → Type 0) where
-  -- the engine with another store, other nodes and something else to do next
-  abbrev pub onward : Plain S W M → S → Vec (Node W) Global → Now → Plain S W M
-  onward e store nodes doing = record e { store = store; nodes = nodes; now = doing }
+  -- the engine with another store, other nodes and words, and something else to do next
+  abbrev pub onward : Plain S W M → S → Vec (Node W) Global → Vec W Global → Now → Plain S W M
+  onward e store nodes words doing = record e { store = store; nodes = nodes; words = words; now = doing }
 
   -- The engine tried the clause, and these are the store and the nodes now.
   pub record Tried (e : Plain S W M) (attempt : Attempt W) (s : State) (call : Tree) (c : databases.Clause) (cs : List databases.Clause) (behind : List Member) (store : S) (nodes : Vec (Node W) Global) (k : Clause) : Type 0 where
@@ -88,7 +91,7 @@ module _ {S W M : Type 0} (names : S → List (List ℕ)) (present : S → Prese
     pub adds : Adds e.nodes.items nodes.items
     pub is : IsClause (names e.store) k c
 
-  module _ (e : Plain S W M) (attempt : Attempt W) (s : State) (call : Tree) (c : databases.Clause) (cs : List databases.Clause) (behind : List Member) (store : S) (nodes : Vec (Node W) Global) (k : Clause) (mark : ℕ)
+  module _ (e : Plain S W M) (attempt : Attempt W) (s : State) (call : Tree) (c : databases.Clause) (cs : List databases.Clause) (behind : List Member) (store : S) (nodes : Vec (Node W) Global) (words : Vec W Global) (k : Clause) (mark : ℕ)
       (t : Tried e attempt s call c cs behind store nodes k) where
     abbrev p : Present W
     p = present e.store
@@ -104,7 +107,7 @@ module _ {S W M : Type 0} (names : S → List (List ℕ)) (present : S → Prese
 
     -- the parts that don't depend on what comes next
     with_next : (doing : Now) (v : State) → v.world ≡ s.world → v.steps ≡ s.steps → v.stack ≡ s.stack → v.query ≡ s.query
-        → DoesNext q links e.query.items doing (option_map (λ b. term_of b.term) e.raised) v → IsEngine names present stands older (onward e store nodes doing) v
+        → DoesNext q links e.query.items doing (option_map (λ b. term_of b.term) e.raised) v → IsEngine names present stands older (onward e store nodes words doing) v
     with_next doing v world steps stack query next =
         let h = t.calls in
         let w = h.world in
@@ -117,29 +120,18 @@ module _ {S W M : Type 0} (names : S → List (List ℕ)) (present : S → Prese
           next = next;
         }
 
-    pub passed_engine : NeverEqual call (apply s.subst (renamed s.next c.head)) → IsEngine names present stands older (onward e store nodes now.Failing) (tried_clause call c mark behind s)
+    pub passed_engine : NeverEqual call (apply s.subst (renamed s.next c.head)) → StandsAs names present stands older (onward e store nodes words now.Failing) (tried_clause call c mark behind s)
     passed_engine never =
         let is = clause_missed call c mark behind s never in
-        subst (λ (v : State). IsEngine names present stands older (onward e store nodes now.Failing) v) (sym is) (with_next now.Failing _ refl refl refl refl ([], refl))
+        subst (λ (v : State). StandsAs names present stands older (onward e store nodes words now.Failing) v) (sym is)
+        (stands_itself names present stands older (onward e store nodes words now.Failing) _ (with_next now.Failing _ refl refl refl refl ([], refl)))
 
-    pub missed_engine : NeverEqual (apply p.substitution (p.term attempt.goal)) (apply p.substitution (renamed p.next (term_in (names e.store) k.head))) → IsEngine names present stands older (onward e store nodes now.Failing) (tried_clause call c mark behind s)
+    pub missed_engine : NeverEqual (apply p.substitution (p.term attempt.goal)) (apply p.substitution (renamed p.next (term_in (names e.store) k.head))) → StandsAs names present stands older (onward e store nodes words now.Failing) (tried_clause call c mark behind s)
     missed_engine never =
         let at = (t.calls).at in
         let P : Tree → Subst → ℕ → Tree → Type 0 = λ a r n h. NeverEqual a (apply r (renamed n h)) in
         let none : P call s.subst s.next c.head = rw (at.value, ← at.on.subst_is, ← at.on.next_is, ← head_is) never in
         passed_engine none
-
-    -- where members are still to be run
-    goes_on : (m : Meets p q (p.term attempt.goal) (term_in (names e.store) k.head) k.variables) (list : List Member)
-        → GoesOn q e.query.items (record s { list = list; subst = compose s.subst m.unifier; next = s.next + c.variables; built = s.built + clause_size c })
-    goes_on m list =
-        let at = (t.calls).at in
-        record {
-          subst = m.substitution ∙ ap (λ (r : Subst). compose r m.unifier) at.on.subst_is;
-          next = (let a = at.on.next_is in let b = t.is.variables in let d = m.next in omega (arith, a, b, d));
-          room = (let few = t.is.few in let space = (t.calls).space in let steps = (t.calls).steps in omega (arith, few, space, steps));
-          words = variables_more m.words at.on.words;
-        }
 
     unifies : (m : Meets p q (p.term attempt.goal) (term_in (names e.store) k.head) k.variables) → Unifier call (apply s.subst (renamed s.next c.head)) m.unifier
     unifies m =
@@ -151,32 +143,77 @@ module _ {S W M : Type 0} (names : S → List (List ℕ)) (present : S → Prese
     links_add : AddsLinks (links_of e) links
     links_add = record { nodes = t.adds; frames = adds_none e.frames.items }
 
-    pub fact_engine : Meets p q (p.term attempt.goal) (term_in (names e.store) k.head) k.variables → k.parts.items ≡ []
-        → IsEngine names present stands older (onward e store nodes (now_behind e.frames.items attempt.rest)) (tried_clause call c mark behind s)
-    fact_engine m none =
-        let fact = before_fact (map_body (renaming_from s.next) c.body) mark behind (fact_true (IsPatternOf (names e.store)) s.next k.parts.items c.body t.is.parts none) in
-        let v : State = record s { list = before (map_body (renaming_from s.next) c.body) mark behind; subst = compose s.subst m.unifier; next = s.next + c.variables; built = s.built + clause_size c } in
-        let next : DoesNext q links e.query.items (now_behind e.frames.items attempt.rest) (option_map (λ b. term_of b.term) e.raised) v =
-        next_behind q links e.query.items (option_map (λ b. term_of b.term) e.raised) v attempt.rest behind fact (chain_more links links_add m.words (t.calls).at.on.chain) (goes_on m v.list) in
-        subst (λ (x : State). IsEngine names present stands older (onward e store nodes (now_behind e.frames.items attempt.rest)) x) (sym (clause_found call c mark behind s m.unifier (unifies m)))
-        (with_next (now_behind e.frames.items attempt.rest) v refl refl refl refl next)
+    -- the head was unified with the call
+    module _ (m : Meets p q (p.term attempt.goal) (term_in (names e.store) k.head) k.variables) where
+      abbrev new_body : Body
+      new_body = map_body (renaming_from s.next) c.body
 
-    pub body_engine : (place : ℕ) → Meets p q (p.term attempt.goal) (term_in (names e.store) k.head) k.variables → Copies (names e.store) q (renaming_from p.next) e.nodes.items nodes.items k.parts.items → place + 1 ≡ length nodes.items → 0 < length k.parts.items
-        → IsEngine names present stands older (onward e store nodes (now.Running (record { todo = todo.Body place; mark = mark; next = attempt.rest }))) (tried_clause call c mark behind s)
-    body_engine place m copies end some =
-        let b = map_body (renaming_from s.next) c.body in
+      -- the state of the search
+      abbrev there : State
+      there = record s { list = before new_body mark behind; subst = compose s.subst m.unifier; next = s.next + c.variables; built = s.built + clause_size c }
+
+      found : tried_clause call c mark behind s ≡ there
+      found = clause_found call c mark behind s m.unifier (unifies m)
+
+      next_is : q.next ≡ s.next + c.variables
+      next_is = (let a = (t.calls).at.on.next_is in let b = t.is.variables in let d = m.next in omega (arith, a, b, d))
+
+      bound : compose p.substitution m.unifier ≡ compose s.subst m.unifier
+      bound = ap (λ (r : Subst). compose r m.unifier) (t.calls).at.on.subst_is
+
+      -- what is behind has its values
+      behind_values : SameUnder q.substitution (compose s.subst m.unifier) (record there { list = behind })
+      behind_values =
+          let on = (t.calls).at.on in
+          same_values (subst (λ (r : Subst). HasValues p q r) bound m.values) (links_of e) attempt.rest e.query.items (record there { list = behind }) next_is on.chain on.words
+
+      -- the engine's own state, where members are still to be run
+      goes_on : (list : List Member) → GoesOn q e.query.items (record there { list = list; subst = q.substitution })
+      goes_on list = record {
+        subst = refl;
+        next = next_is;
+        room = (let few = t.is.few in let space = (t.calls).space in let steps = (t.calls).steps in omega (arith, few, space, steps));
+        words = variables_more m.values.words (t.calls).at.on.words;
+      }
+
+      pub fact_engine : k.parts.items ≡ [] → StandsAs names present stands older (onward e store nodes words (now_behind e.frames.items attempt.rest)) (tried_clause call c mark behind s)
+      fact_engine none =
+          let fact = before_fact new_body mark behind (fact_true (IsPatternOf (names e.store)) s.next k.parts.items c.body t.is.parts none) in
+          let own : State = record there { subst = q.substitution } in
+          let raised = option_map (λ b. term_of b.term) e.raised in
+          let engine = with_next (now_behind e.frames.items attempt.rest) own refl refl refl refl
+              (next_behind q links e.query.items raised own attempt.rest behind fact (chain_more links links_add m.values.words (t.calls).at.on.chain) (goes_on own.list)) in
+          let h = behind_values in
+          let under : SameUnder q.substitution there.subst there = record {
+            goals = subst (λ (ms : List Member). SameList q.substitution there.subst (flat ms) (flat ms)) (sym fact) h.goals;
+            shown = h.shown;
+            beyond = h.beyond;
+            twice = h.twice;
+          } in
+          subst (λ (x : State). StandsAs names present stands older (onward e store nodes words (now_behind e.frames.items attempt.rest)) x) (sym found)
+          (record { own = own; engine = engine; same = same_under q.substitution there under })
+
+    pub body_engine : (place : ℕ) → Brings (names e.store) p q e.nodes.items nodes.items (p.term attempt.goal) k place
+        → StandsAs names present stands older (onward e store nodes words (now.Running (record { todo = todo.Body place; mark = mark; next = attempt.rest }))) (tried_clause call c mark behind s)
+    body_engine place h =
+        let m = h.meets in
+        let v = there m in
+        let b = map_body h.terms c.body in
         let f : Frame = record { todo = todo.Body place; mark = mark; next = attempt.rest } in
-        let body = body_untrue (IsPatternOf (names e.store)) s.next k.parts.items c.body t.is.parts some in
-        let v : State = record s { list = before b mark behind; subst = compose s.subst m.unifier; next = s.next + c.variables; built = s.built + clause_size c } in
-        let at : IsBody q nodes.items place (map_body (renaming_from p.next) c.body) = placed_body (names e.store) q (renaming_from p.next) c.variables e.nodes.items nodes.items k.parts.items c.body place body.1 t.is.goal_templates copies end in
-        let here : IsBody q nodes.items place b = subst (λ (n : ℕ). IsBody q nodes.items place (map_body (renaming_from n) c.body)) (t.calls).at.on.next_is at in
-        let next : DoesNext q links e.query.items (now.Running f) (option_map (λ b. term_of b.term) e.raised) v =
-        (record { member = Goal b mark; behind = behind; is = before_body b mark behind body.0; stands = a_body refl here; chain = chain_more links links_add m.words (t.calls).at.on.chain }, goes_on m v.list) in
-        subst (λ (x : State). IsEngine names present stands older (onward e store nodes (now.Running f)) x) (sym (clause_found call c mark behind s m.unifier (unifies m))) (with_next (now.Running f) v refl refl refl refl next)
+        let body = body_untrue (IsPatternOf (names e.store)) s.next k.parts.items c.body t.is.parts h.some in
+        let at : IsBody q nodes.items place b = placed_body (names e.store) q h.terms c.variables e.nodes.items nodes.items k.parts.items c.body place body.1 t.is.goal_templates h.copies h.last in
+        let own : State = record v { list = Goal b mark ∷ behind; subst = q.substitution } in
+        let first : First q links f own.list = record { member = Goal b mark; behind = behind; is = refl; stands = a_body refl at; chain = chain_more links links_add m.values.words (t.calls).at.on.chain } in
+        let engine = with_next (now.Running f) own refl refl refl refl (first, goes_on m own.list) in
+        let values : (n : ℕ) → apply q.substitution (h.terms n) ≡ apply v.subst (renaming_from s.next n) = λ n.
+            h.values n ∙ ap (λ (i : ℕ). compose p.substitution m.unifier (i + n)) (t.calls).at.on.next_is ∙ ap (λ (r : Subst). r (s.next + n)) (bound m) in
+        let value = body_under q.substitution h.terms v.subst (renaming_from s.next) values c.body in
+        subst (λ (x : State). StandsAs names present stands older (onward e store nodes words (now.Running f)) x) (sym (found m))
+        (record { own = own; engine = engine; same = same_in_front q.substitution v b (new_body m) mark behind (before_body (new_body m) mark behind body.0) value (behind_values m) })
 
     -- what an entry comes to
     pub tried_engine : (entered : Entered) → Enters (names e.store) p q e.nodes.items nodes.items (p.term attempt.goal) k entered
-        → IsEngine names present stands older (onward e store nodes (now_entered e.frames.items entered mark attempt.rest)) (tried_clause call c mark behind s)
+        → StandsAs names present stands older (onward e store nodes words (now_entered e.frames.items entered mark attempt.rest)) (tried_clause call c mark behind s)
     tried_engine entered.Missed never = missed_engine never
     tried_engine entered.Fact h = fact_engine h.0 h.1
-    tried_engine (entered.Body place) h = body_engine place h.0 h.1 h.2 h.3
+    tried_engine (entered.Body place) h = body_engine place h

@@ -20,10 +20,10 @@ use Rattle.iso_plain.specs.declared.plain.Plain.{Plain}
 use Rattle.iso_plain_core.specs.Standing.{DoesNext}
 use Rattle.iso_plain.specs.Worlds.{IsWorld}
 use Rattle.iso_plain_core.specs.Next.{now_at, now_behind, now_entered}
-use Rattle.iso_plain.specs.EngineStates.{IsEngine, Represents, Keeps, Stopped, Retries, Moves, went_back, phase_of, links_of}
+use Rattle.iso_plain.specs.EngineStates.{IsEngine, StandsAs, Represents, Keeps, Stopped, Retries, Moves, went_back, phase_of, links_of}
 use Rattle.iso_plain_core.proofs.StandingLemmas.{no_choices}
 use Rattle.iso_plain.proofs.SearchSteps.{retry_step, resume_step, pass_step, again_step, spent_step, last_step, others_keep}
-use Rattle.iso_plain.proofs.SearchMoves.{goes, ends, stops}
+use Rattle.iso_plain.proofs.SearchMoves.{goes, goes_alike, ends, stops}
 
 awake_at : (f : Option Frame) → IsAwake (phase_of (now_at f))
 awake_at None = tt
@@ -90,11 +90,11 @@ module _ {S W M : Type 0} (names : S → List (List ℕ)) (present : S → Prese
     there = with_others t.call t.others a.list (went_back a below r.own)
 
     -- the clause at the newest choice was tried
-    pub tries_on : IsEngine names present stands older new (tried_clause t.call t.clause mark a.list there) → IsAwake (phase_of new.now) → Moves names present stands older move.Goes s new
+    pub tries_on : StandsAs names present stands older new (tried_clause t.call t.clause mark a.list there) → IsAwake (phase_of new.now) → Moves names present stands older move.Goes s new
     tries_on engine awake =
         let first = failing e r.own is r.engine in
-        goes names present stands older e new s r (tried t.call (t.clause ∷ t.others) a.list (went_back a below r.own)) (retry_step r.own first.0 a below t.call (t.clause ∷ t.others) first.1 stack t.left)
-        (subst (λ (n : ℕ). IsEngine names present stands older new (tried_clause t.call t.clause n a.list there)) height engine) awake
+        goes_alike names present stands older e new s r (tried t.call (t.clause ∷ t.others) a.list (went_back a below r.own)) (retry_step r.own first.0 a below t.call (t.clause ∷ t.others) first.1 stack t.left)
+        (subst (λ (n : ℕ). StandsAs names present stands older new (tried_clause t.call t.clause n a.list there)) height engine) awake
 
     -- it was refused
     pub stops_on : Keeps names present stands older new there.world there.stack → Stopped names present stands older new s

@@ -2,6 +2,7 @@ pub mod SearchSteps
 pub mod SearchMoves
 pub mod WeightLemmas
 pub mod WorldLemmas
+pub mod ValueLemmas
 pub mod EngineLemmas
 pub mod BackLemmas
 pub mod StartLemmas

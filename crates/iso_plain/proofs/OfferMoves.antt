@@ -58,14 +58,14 @@ use Rattle.iso_plain_core.proofs.StandingLemmas.{choices_push, last_split, lengt
 use Rattle.iso_plain.specs.declared.plain.Plain.{Plain}
 use Rattle.iso_model.specs.Search.Engines.{IsAwake}
 use Rattle.iso_plain.specs.declared.plain.Move.TheVariants as move
-use Rattle.iso_plain.specs.EngineStates.{IsEngine, IsAhead, Represents, WentBack, Keeps, Stopped, Moves, links_of, phase_of, went_back}
+use Rattle.iso_plain.specs.EngineStates.{IsEngine, StandsAs, IsAhead, Represents, WentBack, Keeps, Stopped, Moves, links_of, phase_of, went_back}
 use Rattle.iso_plain.specs.Settles.{MeetsRow, MeetsNext}
 use Rattle.iso_plain.proofs.AheadLemmas.{ahead_left, engine_place}
 use Rattle.iso_plain.proofs.ChoiceLemmas.{with_left, last_set}
 use Rattle.iso_plain.proofs.FailLemmas.{failing}
 use Rattle.iso_plain.proofs.MeetLemmas.{ahead_bound}
 use Rattle.iso_plain.proofs.ResumeLemmas.{has_members}
-use Rattle.iso_plain.proofs.SearchMoves.{goes, stops}
+use Rattle.iso_plain.proofs.SearchMoves.{goes_alike, stops}
 use Rattle.iso_plain.proofs.SearchSteps.{offer_step}
 use Rattle.iso_plain.proofs.StoppedLemmas.{base_kept}
 use Rattle.iso_plain.proofs.WorldLemmas.{world_on, choices_kept}
@@ -592,8 +592,8 @@ module _ {S W M : Type 0} (names : S → List (List ℕ)) (present : S → Prese
         let first = failing names present stands older e r.own doing r.engine in
         offer_step r.own first.0 a below left rights first.1 stack is
 
-    pub offers_on : IsEngine names present stands older new (offered left rights a.list (went_back a below r.own)) → IsAwake (phase_of new.now) → Moves names present stands older move.Goes s new
-    offers_on engine awake = goes names present stands older e new s r (offered left rights a.list (went_back a below r.own)) offers_to engine awake
+    pub offers_on : StandsAs names present stands older new (offered left rights a.list (went_back a below r.own)) → IsAwake (phase_of new.now) → Moves names present stands older move.Goes s new
+    offers_on engine awake = goes_alike names present stands older e new s r (offered left rights a.list (went_back a below r.own)) offers_to engine awake
 
     pub offers_stop : ((offered left rights a.list (went_back a below r.own)).world ≡ r.own.world) × Keeps names present stands older new r.own.world (offered left rights a.list (went_back a below r.own)).stack → Stopped names present stands older new s
     offers_stop kept =

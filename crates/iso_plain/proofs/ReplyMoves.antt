@@ -55,7 +55,7 @@ use Rattle.iso_plain.specs.Worlds.{IsWorld}
 use Rattle.iso_lib_core.specs.Replies.{IsUnbound, UnifiesCopy}
 use Rattle.iso_plain_core.specs.Replies.{IsReply, IsInside, Places}
 use Rattle.iso_plain_core.specs.Standing.{IsAt, a_body}
-use Rattle.iso_plain.specs.EngineStates.{IsEngine, IsAhead, Represents, StandsFor, Stopped, Keeps, WasCalled, WasRefused, Moves, calling_once, refuting, phase_of}
+use Rattle.iso_plain.specs.EngineStates.{IsEngine, IsAhead, Represents, StandsFor, Stopped, Keeps, WasCalled, WasTried, WasRefused, Moves, calling_once, refuting, phase_of}
 use Rattle.iso_plain.proofs.AheadLemmas.{engine_frame, engine_place}
 use Rattle.iso_plain.proofs.EngineMoves.{spent_stands}
 use Rattle.iso_plain_core.proofs.EnteringLemmas.{words_same}
@@ -67,7 +67,7 @@ use Rattle.iso_plain.proofs.RunMoves.{failed_engine, at, comes_to, runs_to, thro
 use Rattle.iso_plain_core.proofs.ArityLemmas.{HasArity, built_in_arguments}
 use Rattle.iso_plain_core.proofs.ReplyLemmas.{catch_parts, gather_parts}
 use Rattle.iso_plain.proofs.SameBodies.{around_own, around_steps, around_pushed, same_first, same_inside, same_finding}
-use Rattle.iso_plain.proofs.SearchMoves.{goes, goes_as, stops, stops_here, stops_bare, comes_over}
+use Rattle.iso_plain.proofs.SearchMoves.{goes, goes_as, goes_alike, stops, stops_here, stops_bare, comes_over}
 use Rattle.iso_plain.proofs.SearchSteps.{own_goal}
 use Rattle.iso_plain_core.proofs.StandingLemmas.{choices_length}
 
@@ -845,8 +845,8 @@ module _ {S W M : Type 0} (names : S → List (List ℕ)) (present : S → Prese
           runs_to names present stands older e s f k w doing there r (settled (storage_settled row t o.next o.world) a.behind o) more (own_goal t a.behind o b (AsksWorld (λ k v. storage_settled row t k v)) is_own stores_is)
           ∙ (ap Goes (settled_steps (storage_settled row t o.next o.world) a.behind n o) ∙ ap (λ (x : Tree). Goes (settled (storage_settled row x o.next o.world) a.behind storing)) (sym stored_goal))
 
-      pub stores_now : (new : Plain S W M) (m : Move) → WasCalled names present stands older m new storing walker_stores → Moves names present stands older m s new
-      stores_now new move.Goes was = goes names present stands older e new s r walker_stores stores_to was.0 was.1
+      pub stores_now : (new : Plain S W M) (m : Move) → WasTried names present stands older m new storing walker_stores → Moves names present stands older m s new
+      stores_now new move.Goes was = goes_alike names present stands older e new s r walker_stores stores_to was.0 was.1
       stores_now new (move.Pauses p) was =
           rw was.0 (spent_stands names present stands older limit.Frames new.now new s (ap phase_of was.1) (stops_here names present stands older new o s r.same was.2), ap phase_of was.1)
 

@@ -1,5 +1,5 @@
 -- What running a goal comes to.
-use Rattle.std.proofs.Common.{◌≡◌, ◌≢◌, ◌<◌, ◌≤◌, ◌-◌, ℕ, suc, List, [], ◌∷◌, Option, None, Some, length, refl, ap, sym, ◌∙◌, subst, arith, inl, inr, ◌⊎◌, Result, Ok, Err, IfOk, Vec, Global}
+use Rattle.std.proofs.Common.{◌≡◌, ◌≢◌, ◌<◌, ◌≤◌, ◌-◌, ℕ, suc, List, [], ◌∷◌, Option, None, Some, length, refl, ap, sym, ◌∙◌, subst, arith, inl, inr, ◌⊎◌, Vec, Global}
 use Rattle.iso_ops.specs.declared.settings.Unknown.TheVariants as on_unknown
 use Rattle.iso_atoms.specs.Texts.{KeepsTexts}
 use Rattle.iso_model.specs.Terms.Trees.{Tree}
@@ -26,7 +26,7 @@ use Rattle.iso_plain.specs.Catches.{throwing}
 use Rattle.iso_plain_core.specs.Entering.{Adds}
 use Rattle.iso_plain.specs.Worlds.{IsWorld}
 use Rattle.iso_plain_core.specs.Standing.{IsAt, HaveRoom}
-use Rattle.iso_plain.specs.EngineStates.{IsEngine, Represents, StandsFor, Keeps, Stopped, WasCalled, WasRefused, Moves, phase_of}
+use Rattle.iso_plain.specs.EngineStates.{IsEngine, Represents, StandsFor, Keeps, Stopped, WasTried, WasRefused, Moves, phase_of}
 use Rattle.iso_model.specs.Terms.Variables.{variables}
 use Rattle.iso_plain.proofs.AheadLemmas.{at_frame, fail_of}
 use Rattle.iso_plain.proofs.EngineMoves.{spent_stands}
@@ -37,10 +37,6 @@ use Rattle.iso_plain.proofs.SearchSteps.{goal_comes, goal_step, goal_end, budget
 use Rattle.iso_plain_core.proofs.StandingLemmas.{choices_length}
 use Rattle.iso_plain.proofs.StoppedLemmas.{base_kept, choices_on}
 use Rattle.iso_plain.proofs.WorldLemmas.{world_on}
-
-pub if_ok_map : {T E : Type 0} (P Q : T → Type 0) (result : Result T E) → ((t : T) → P t → Q t) → IfOk result P → IfOk result Q
-if_ok_map P Q (Ok t) f h = f t h
-if_ok_map P Q (Err e) f h = tt
 
 module _ {S W M : Type 0} (names : S → List (List ℕ)) (present : S → Present W) (stands : S → M → Present W → Type 0) (older : M → M → Type 0) where
   -- A frame asks for failure.
@@ -157,7 +153,7 @@ module _ {S W M : Type 0} (names : S → List (List ℕ)) (present : S → Prese
         on : Quiet (record (tried call (c ∷ cs) at.behind own) { steps = e.steps - 1 }) (tried call (d ∷ ds) at.behind less)
         on = subst (λ (v : State). Quiet v (tried call (d ∷ ds) at.behind less)) (sym calls_here) quiet
 
-        pub called_on : (new : Plain S W M) (m : Move) → WasCalled names present stands older m new less (tried call (d ∷ ds) at.behind less) → Moves names present stands older m s new
+        pub called_on : (new : Plain S W M) (m : Move) → WasTried names present stands older m new less (tried call (d ∷ ds) at.behind less) → Moves names present stands older m s new
         called_on new move.Goes was = goes_far names present stands older e new s r (record (tried call (c ∷ cs) at.behind own) { steps = e.steps - 1 }) (tried call (d ∷ ds) at.behind less) calls_to on was.0 was.1
         called_on new (move.Pauses p) was =
             rw was.0 (spent_stands names present stands older limit.Frames new.now new s (ap phase_of was.1) (stops_here names present stands older new own s r.same was.2), ap phase_of was.1)

@@ -8,13 +8,13 @@ use Rattle.iso_model.specs.Search.RunLaws.{quiet_trans}
 use Rattle.iso_model.specs.Search.RunLaws.Sameness.{Same, failing, SameStack, no_alternative}
 use Rattle.iso_model.specs.Search.RunLaws.SameRuns.{onward_same, comes_same, finishes_same}
 use Rattle.iso_model.specs.Search.RunLaws.SameSteps.{stack_length}
-use Rattle.iso_model.specs.Search.RunLaws.SameLaws.{same_beside, same_on}
+use Rattle.iso_model.specs.Search.RunLaws.SameLaws.{same_back, same_beside, same_on}
 use Rattle.iso_store_core.specs.Presents.{Present}
 use Rattle.iso_plain_core.specs.declared.parts.Now.{Now}
 use Rattle.iso_plain_core.specs.declared.parts.Now.TheVariants as now
 use Rattle.iso_plain.specs.declared.plain.Move.TheVariants as move
 use Rattle.iso_plain.specs.declared.plain.Plain.{Plain}
-use Rattle.iso_plain.specs.EngineStates.{IsEngine, Represents, Keeps, Stopped, StandsBy, StandsFor, Moves, phase_of}
+use Rattle.iso_plain.specs.EngineStates.{IsEngine, StandsAs, Represents, Keeps, Stopped, StandsBy, StandsFor, Moves, phase_of}
 
 -- a state in which no goal was started is the same as itself
 pub same_idle : (w : World) → Same (idle w) (idle w)
@@ -29,18 +29,28 @@ quiet_same u v s (onward {t = t} quiet h) same =
     (j.0, quiet_trans k.1 j.1, j.2)
 
 module _ {S W M : Type 0} (names : S → List (List ℕ)) (present : S → Present W) (stands : S → M → Present W → Type 0) (older : M → M → Type 0) where
-  -- some steps, to a state that the engine is
-  pub goes_far : (e new : Plain S W M) (s : State) (r : Represents names present stands older e s) (v u : State) → step r.own ≡ Goes v → Quiet v u → IsEngine names present stands older new u → IsAwake (phase_of new.now)
+  -- the engine is the state itself
+  pub stands_itself : (e : Plain S W M) (s : State) → IsEngine names present stands older e s → StandsAs names present stands older e s
+  stands_itself e s is = record { own = s; engine = is; same = λ same. same }
+
+  -- some steps, to a state that the engine is, or one that is the same
+  pub goes_far : (e new : Plain S W M) (s : State) (r : Represents names present stands older e s) (v u : State) → step r.own ≡ Goes v → Quiet v u → StandsAs names present stands older new u → IsAwake (phase_of new.now)
       → Moves names present stands older move.Goes s new
   goes_far e new s r v u h quiet is awake =
       let k = onward_same r.own v s h r.same in
       let j = quiet_same v u k.0 quiet k.2 in
-      (j.0, quiet_trans k.1 j.1, record { own = u; engine = is; same = j.2 }, awake)
+      let itself = same_on u j.0 u j.2 (same_back u j.0 j.2) in
+      (j.0, quiet_trans k.1 j.1, record { own = is.own; engine = is.engine; same = same_on is.own u j.0 (is.same itself) j.2 }, awake)
+
+  -- a move goes on to a state that is the same
+  pub goes_alike : (e new : Plain S W M) (s : State) (r : Represents names present stands older e s) (v : State) → step r.own ≡ Goes v → StandsAs names present stands older new v → IsAwake (phase_of new.now)
+      → Moves names present stands older move.Goes s new
+  goes_alike e new s r v h is awake = goes_far e new s r v v h here is awake
 
   -- a move goes on
   pub goes : (e new : Plain S W M) (s : State) (r : Represents names present stands older e s) (v : State) → step r.own ≡ Goes v → IsEngine names present stands older new v → IsAwake (phase_of new.now)
       → Moves names present stands older move.Goes s new
-  goes e new s r v h is awake = goes_far e new s r v v h here is awake
+  goes e new s r v h is awake = goes_alike e new s r v h (stands_itself new v is) awake
 
   -- the engine's own goals have the values of those that the step goes to
   pub goes_as : (e new : Plain S W M) (s : State) (r : Represents names present stands older e s) (v u : State) → step r.own ≡ Goes v → Same u v → IsEngine names present stands older new u → IsAwake (phase_of new.now)

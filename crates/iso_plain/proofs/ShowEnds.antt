@@ -18,6 +18,7 @@ use Rattle.iso_model.specs.Search.Walker.{State, fails, under, taken, tried_righ
 use Rattle.iso_model.proofs.Search.CallLemmas.{unify_found, unify_none}
 use Rattle.iso_store_core.specs.Presents.{Present, KeepsMarks, meaning}
 use Rattle.iso_storage.specs.Shown.{MeetsClause, UnifiesClause}
+use Rattle.iso_plain_core.specs.Entering.{HasValues}
 use Rattle.iso_plain_core.specs.Next.{now_behind}
 use Rattle.iso_plain_core.specs.Offers.{clause_offer}
 use Rattle.iso_plain_core.specs.declared.parts.Now.{Now}
@@ -25,11 +26,13 @@ use Rattle.iso_plain_core.specs.declared.parts.Now.TheVariants as now
 use Rattle.iso_plain_core.specs.declared.parts.Showing.{Showing}
 use Rattle.iso_plain_core.proofs.EnteringLemmas.{adds_none}
 use Rattle.iso_plain.specs.declared.plain.Plain.{Plain}
-use Rattle.iso_plain.specs.EngineStates.{IsEngine, IsAhead}
+use Rattle.iso_plain.specs.EngineStates.{IsEngine, StandsAs, SameUnder, IsAhead, links_of}
 use Rattle.iso_plain.specs.Shows.{Shows, HasUnified, IsUserPlace, shown_row}
 use Rattle.iso_plain.proofs.AheadLemmas.{engine_place}
 use Rattle.iso_plain.proofs.MeetLemmas.{ahead_bound}
+use Rattle.iso_plain.proofs.SearchMoves.{stands_itself}
 use Rattle.iso_plain.proofs.StoppedLemmas.{base_kept}
+use Rattle.iso_plain.proofs.ValueLemmas.{same_values, same_under}
 use Rattle.iso_plain.proofs.WorldLemmas.{world_on, choices_kept}
 
 -- what holds anyway
@@ -54,11 +57,16 @@ module _ {S W M : Type 0} (names : S → List (List ℕ)) (present : S → Prese
         → HasUnified names present stands older (record e { store = store }) here shown s c true
     found few m =
         let a = t.ahead in
-        let space = t.space in (
-          compose s.subst m.unifier,
+        let space = t.space in
+        let u = compose s.subst m.unifier in
+        let own = (present store).substitution in
+        let values : HasValues (present e.store) (present store) u = subst (λ (r : Subst). HasValues (present e.store) (present store) (compose r m.unifier)) a.goes.subst m.values in
+        let next : (present store).next ≡ s.next + c.variables = m.next ∙ ap (λ (n : ℕ). n + c.variables) a.goes.next in (
+          u,
           unify_found s.subst here right (subst (λ (x : Tree). Unifier here x m.unifier) right_is m.is),
-          ahead_bound names present stands older e store e.nodes s shown.rest c.variables (compose s.subst m.unifier) a keeps texts (adds_none e.nodes.items) m.words
-              (m.substitution ∙ ap (λ (r : Subst). compose r m.unifier) a.goes.subst) m.next (omega (arith, space, few)),
+          own,
+          ahead_bound names present stands older e store e.nodes s shown.rest c.variables own a keeps texts (adds_none e.nodes.items) values.words refl m.next (omega (arith, space, few)),
+          same_values values (links_of e) shown.rest e.query.items (record s { next = s.next + c.variables }) next a.chain a.goes.words,
         )
 
     missed : e.now ≡ now.Failing → NeverEqual here (apply (present e.store).substitution (renamed (present e.store).next (clause_row c)))
@@ -101,11 +109,13 @@ module _ {S W M : Type 0} (names : S → List (List ℕ)) (present : S → Prese
 
   -- the search goes on behind it
   pub read_found : (e : Plain S W M) (r : Tree) (shown : Showing W) (s : State) (k : Key) (c : databases.Clause) → shown.removes ≡ false → HasUnified names present stands older e r shown s c true
-      → IsEngine names present stands older (record e { now = now_behind e.frames.items shown.rest }) (tried_right r (clause_offer shown.removes k c) s.list s)
+      → StandsAs names present stands older (record e { now = now_behind e.frames.items shown.rest }) (tried_right r (clause_offer shown.removes k c) s.list s)
   read_found e r shown s k c stays h =
-      let a = h.2 in
+      let a = h.3 in
       let x : State = record s { subst = h.0; next = s.next + c.variables; built = s.built + clause_cost c } in
-      let counted : IsAhead names present stands older e x shown.rest = record {
+      let own : State = record x { subst = h.2 } in
+      let engine : Plain S W M = record e { now = now_behind e.frames.items shown.rest } in
+      let counted : IsAhead names present stands older e own shown.rest = record {
         world = a.world;
         steps = a.steps;
         base = a.base;
@@ -114,21 +124,24 @@ module _ {S W M : Type 0} (names : S → List (List ℕ)) (present : S → Prese
         goes = record { subst = a.goes.subst; next = a.goes.next; room = a.goes.room; words = a.goes.words };
         chain = a.chain;
       } in
+      let alike : SameUnder h.2 x.subst x = record { goals = h.4.goals; shown = h.4.shown; beyond = h.4.beyond; twice = h.4.twice } in
+      let one : StandsAs names present stands older engine x = record { own = own; engine = engine_place names present stands older e own shown.rest counted; same = same_under h.2 x alike } in
       let is : taken (under s.subst (unifier_of r (apply s.subst (renamed s.next (clause_row c))))) None s.list (record s { next = s.next + c.variables; built = s.built + clause_cost c }) ≡ x =
       ap (λ (o : Option Subst). taken o None s.list (record s { next = s.next + c.variables; built = s.built + clause_cost c })) h.1 in
-      subst (λ (b : Bool). IsEngine names present stands older (record e { now = now_behind e.frames.items shown.rest }) (tried_right r (clause_offer b k c) s.list s)) (sym stays)
-      (subst (λ (y : State). IsEngine names present stands older (record e { now = now_behind e.frames.items shown.rest }) y) (sym is) (engine_place names present stands older e x shown.rest counted))
+      subst (λ (b : Bool). StandsAs names present stands older engine (tried_right r (clause_offer b k c) s.list s)) (sym stays)
+      (subst (λ (y : State). StandsAs names present stands older engine y) (sym is) one)
 
   -- it fails
   pub read_missed : (e : Plain S W M) (r : Tree) (shown : Showing W) (s : State) (k : Key) (c : databases.Clause) → e.now ≡ now.Failing → shown.removes ≡ false → HasUnified names present stands older e r shown s c false
-      → IsEngine names present stands older e (tried_right r (clause_offer shown.removes k c) s.list s)
+      → StandsAs names present stands older e (tried_right r (clause_offer shown.removes k c) s.list s)
   read_missed e r shown s k c failing stays h =
       let f = h.1 in
       let one : IsEngine names present stands older (record e { now = now.Failing }) (fails (record s { next = s.next + c.variables; built = s.built + clause_cost c })) =
       record { world = f.world; steps = f.steps; base = f.base; choices = f.choices; room = f.room; next = ([], refl) } in
-      subst (λ (b : Bool). IsEngine names present stands older e (tried_right r (clause_offer b k c) s.list s)) (sym stays)
+      stands_itself names present stands older e (tried_right r (clause_offer shown.removes k c) s.list s)
+      (subst (λ (b : Bool). IsEngine names present stands older e (tried_right r (clause_offer b k c) s.list s)) (sym stays)
       (subst (λ (n : Now). IsEngine names present stands older (record e { now = n }) (tried_right r (shown_clause c) s.list s)) (sym failing)
-      (subst (λ (o : Option Subst). IsEngine names present stands older (record e { now = now.Failing }) (taken o None s.list (record s { next = s.next + c.variables; built = s.built + clause_cost c }))) (sym h.0) one))
+      (subst (λ (o : Option Subst). IsEngine names present stands older (record e { now = now.Failing }) (taken o None s.list (record s { next = s.next + c.variables; built = s.built + clause_cost c }))) (sym h.0) one)))
 
 -- what is found under the key of a term
 pub place_by : (d : Database kept.Clause) (text : List ℕ) (n : ℕ) (t : Tree) (k : Key) (place : Option ℕ) → key_of t ≡ Some (key text n) → key_of t ≡ Some k → built_in k ≡ None

@@ -28,11 +28,13 @@ use Rattle.iso_plain_core.proofs.ChangeLemmas.{database_less, finds_less, has_at
 use Rattle.iso_plain_core.proofs.LeavingLemmas.{left_keeps}
 use Rattle.iso_plain_core.proofs.StandingLemmas.{choices_stay}
 use Rattle.iso_plain.specs.declared.plain.Plain.{Plain}
-use Rattle.iso_plain.specs.EngineStates.{IsEngine, IsAhead}
+use Rattle.iso_plain.specs.EngineStates.{IsEngine, StandsAs, SameUnder, IsAhead}
 use Rattle.iso_plain.specs.Shows.{Shows, HasUnified}
 use Rattle.iso_plain.specs.Worlds.{IsWorld}
 use Rattle.iso_plain.proofs.AheadLemmas.{engine_place}
 use Rattle.iso_plain.proofs.CalledLemmas.{none_there}
+use Rattle.iso_plain.proofs.SearchMoves.{stands_itself}
+use Rattle.iso_plain.proofs.ValueLemmas.{same_under}
 
 -- the clause of this number of the procedure with this key
 abbrev reference : Key → ℕ → Option Reference
@@ -53,32 +55,34 @@ module _ {S W M : Type 0} (names : S → List (List ℕ)) (present : S → Prese
         ∙ sym (has_at (contents e.db) s.world.database k place at shown.clause t.ahead.world.database_is) ∙ has
 
     -- it was removed before
-    pub take_gone : (r : Tree) → e.now ≡ now.Failing → shown.removes ≡ true → has_clause s.world.database.procedures k c.number ≡ false → IsEngine names present stands older e (tried_right r (clause_offer shown.removes k c) s.list s)
+    pub take_gone : (r : Tree) → e.now ≡ now.Failing → shown.removes ≡ true → has_clause s.world.database.procedures k c.number ≡ false → StandsAs names present stands older e (tried_right r (clause_offer shown.removes k c) s.list s)
     take_gone r failing goes none =
         let a = t.ahead in
         let one : IsEngine names present stands older (record e { now = now.Failing }) (fails s) =
         record { world = a.world; steps = a.steps; base = a.base; choices = a.choices; room = a.room; next = ([], refl) } in
-        subst (λ (b : Bool). IsEngine names present stands older e (tried_right r (clause_offer b k c) s.list s)) (sym goes)
+        stands_itself names present stands older e (tried_right r (clause_offer shown.removes k c) s.list s)
+        (subst (λ (b : Bool). IsEngine names present stands older e (tried_right r (clause_offer b k c) s.list s)) (sym goes)
         (subst (λ (n : Now). IsEngine names present stands older (record e { now = n }) (tried_right r (removed_clause k c) s.list s)) (sym failing)
-        (subst (λ (b : Bool). IsEngine names present stands older (record e { now = now.Failing }) (if b then met_right r (removed_clause k c) s.list s else fails s)) (sym none) one))
+        (subst (λ (b : Bool). IsEngine names present stands older (record e { now = now.Failing }) (if b then met_right r (removed_clause k c) s.list s else fails s)) (sym none) one)))
 
-    pub take_absent : (r : Tree) → e.now ≡ now.Failing → shown.removes ≡ true → kind_of (kept_at (contents e.db) k) ≡ None → IsEngine names present stands older e (tried_right r (clause_offer shown.removes k c) s.list s)
+    pub take_absent : (r : Tree) → e.now ≡ now.Failing → shown.removes ≡ true → kind_of (kept_at (contents e.db) k) ≡ None → StandsAs names present stands older e (tried_right r (clause_offer shown.removes k c) s.list s)
     take_absent r failing goes absent = take_gone r failing goes (ap (λ o. list_any (λ (x : databases.Clause). x.number == c.number) (unwrap_or o [])) (none_there k t.ahead.world.database_is absent))
 
   -- ---- it is there
 
   -- it is not unified
   pub take_missed : (e : Plain S W M) (r : Tree) (shown : Showing W) (s : State) (k : Key) (c : databases.Clause) → e.now ≡ now.Failing → shown.removes ≡ true → has_clause s.world.database.procedures k c.number ≡ true
-      → HasUnified names present stands older e r shown s c false → IsEngine names present stands older e (tried_right r (clause_offer shown.removes k c) s.list s)
+      → HasUnified names present stands older e r shown s c false → StandsAs names present stands older e (tried_right r (clause_offer shown.removes k c) s.list s)
   take_missed e r shown s k c failing goes there h =
       let f = h.1 in
       let x : State = record s { next = s.next + c.variables; built = s.built + clause_cost c } in
       let one : IsEngine names present stands older (record e { now = now.Failing }) (fails x) =
       record { world = f.world; steps = f.steps; base = f.base; choices = f.choices; room = f.room; next = ([], refl) } in
-      subst (λ (b : Bool). IsEngine names present stands older e (tried_right r (clause_offer b k c) s.list s)) (sym goes)
+      stands_itself names present stands older e (tried_right r (clause_offer shown.removes k c) s.list s)
+      (subst (λ (b : Bool). IsEngine names present stands older e (tried_right r (clause_offer b k c) s.list s)) (sym goes)
       (subst (λ (n : Now). IsEngine names present stands older (record e { now = n }) (tried_right r (removed_clause k c) s.list s)) (sym failing)
       (subst (λ (b : Bool). IsEngine names present stands older (record e { now = now.Failing }) (if b then met_right r (removed_clause k c) s.list s else fails s)) (sym there)
-      (subst (λ (o : Option Subst). IsEngine names present stands older (record e { now = now.Failing }) (taken o (reference k c.number) s.list x)) (sym h.0) one)))
+      (subst (λ (o : Option Subst). IsEngine names present stands older (record e { now = now.Failing }) (taken o (reference k c.number) s.list x)) (sym h.0) one))))
 
   -- it is unified, and removed
   module _ (e : Plain S W M) (d : Db kept.Clause) (place number : ℕ) (less : contents d ≡ db.without_clause_at place number (contents e.db)) (views : KeepsViews e.db d) (clauses : KeepsClauses e.db d) where
@@ -110,14 +114,17 @@ module _ {S W M : Type 0} (names : S → List (List ℕ)) (present : S → Prese
 
     pub take_found : (r : Tree) (shown : Showing W) (s : State) (k : Key) (c : databases.Clause) → c.number ≡ number → place_at (contents e.db) k ≡ Some place → shown.removes ≡ true → has_clause s.world.database.procedures k c.number ≡ true
         → HasUnified names present stands older e r shown s c true
-        → IsEngine names present stands older (record e { db = d; now = now_behind e.frames.items shown.rest }) (tried_right r (clause_offer shown.removes k c) s.list s)
+        → StandsAs names present stands older (record e { db = d; now = now_behind e.frames.items shown.rest }) (tried_right r (clause_offer shown.removes k c) s.list s)
     take_found r shown s k c same at goes there h =
         let x : State = record s { next = s.next + c.variables; built = s.built + clause_cost c } in
         let y : State = record s { subst = h.0; next = s.next + c.variables; built = s.built + clause_cost c; world = without_removed (reference k number) s.world } in
+        let own : State = record y { subst = h.2 } in
         let engine : Plain S W M = record e { db = d; now = now_behind e.frames.items shown.rest } in
-        let ahead : IsAhead names present stands older behind y shown.rest = ahead_less (record s { subst = h.0; next = s.next + c.variables }) k shown.rest (s.built + clause_cost c) at h.2 in
-        let one : IsEngine names present stands older engine (taken (Some h.0) (reference k c.number) s.list x) =
-        subst (λ (n : ℕ). IsEngine names present stands older engine (taken (Some h.0) (reference k n) s.list x)) (sym same) (engine_place names present stands older behind y shown.rest ahead) in
-        subst (λ (b : Bool). IsEngine names present stands older engine (tried_right r (clause_offer b k c) s.list s)) (sym goes)
-        (subst (λ (b : Bool). IsEngine names present stands older engine (if b then met_right r (removed_clause k c) s.list s else fails s)) (sym there)
-        (subst (λ (o : Option Subst). IsEngine names present stands older engine (taken o (reference k c.number) s.list x)) (sym h.1) one))
+        let ahead : IsAhead names present stands older behind own shown.rest = ahead_less (record s { subst = h.2; next = s.next + c.variables }) k shown.rest (s.built + clause_cost c) at h.3 in
+        let alike : SameUnder h.2 y.subst y = record { goals = h.4.goals; shown = h.4.shown; beyond = h.4.beyond; twice = h.4.twice } in
+        let is : StandsAs names present stands older engine y = record { own = own; engine = engine_place names present stands older behind own shown.rest ahead; same = same_under h.2 y alike } in
+        let one : StandsAs names present stands older engine (taken (Some h.0) (reference k c.number) s.list x) =
+        subst (λ (n : ℕ). StandsAs names present stands older engine (taken (Some h.0) (reference k n) s.list x)) (sym same) is in
+        subst (λ (b : Bool). StandsAs names present stands older engine (tried_right r (clause_offer b k c) s.list s)) (sym goes)
+        (subst (λ (b : Bool). StandsAs names present stands older engine (if b then met_right r (removed_clause k c) s.list s else fails s)) (sym there)
+        (subst (λ (o : Option Subst). StandsAs names present stands older engine (taken o (reference k c.number) s.list x)) (sym h.1) one))

@@ -1,9 +1,11 @@
 -- Which states of the search the engine stands for, what its moves come to, and by what they fall.
-use Rattle.std.specs.Prelude.{◌≡◌, ℕ, suc, ◌+◌, ◌*◌, ◌-◌, ◌<◌, ◌≤◌, List, [], ◌∷◌, length, take, Option, Some, option_map, ◌⊎◌}
+use Rattle.std.specs.Prelude.{◌≡◌, ℕ, suc, ◌+◌, ◌*◌, ◌-◌, ◌<◌, ◌≤◌, List, [], ◌∷◌, length, map, take, Option, Some, option_map, ◌⊎◌}
 use Rattle.std.specs.List.{slice_get}
 use Rattle.iso_model.specs.Terms.Trees.{Tree, Variable}
 use Rattle.iso_model.specs.Terms.Variables.{variables}
-use Rattle.iso_model.specs.Search.RunLaws.Sameness.{Same, SameStack}
+use Rattle.iso_model.specs.Terms.Substitutions.{Subst}
+use Rattle.iso_model.specs.Search.RunLaws.Sameness.{Same, SameList, SameStack, flat}
+use Rattle.iso_model.specs.Search.RunLaws.TermValues.{IsTwice}
 use Rattle.iso_model.specs.Terms.TermOf.{term_of}
 use Rattle.iso_model.specs.Search.Databases.{Clause}
 use Rattle.iso_model.specs.Search.Walker.{State, World, Alternative, Member, Goal, CutTo, Fail, AsIs, Clauses, pushed, with_others, tried}
@@ -57,6 +59,13 @@ phase_of (now.Spent limit) = engines.Spent limit
 abbrev pub links_of : {S W M : Type 0} → Plain S W M → Links W
 links_of e = record { nodes = e.nodes.items; frames = e.frames.items }
 
+-- Under the two substitutions the goals of the state and the variables of its query have the same values, and so have the numbers that aren't used.
+pub record SameUnder (own u : Subst) (s : State) : Type 0 where
+  pub goals : SameList own u (flat s.list) (flat s.list)
+  pub shown : map own (variables s.query) ≡ map u (variables s.query)
+  pub beyond : (n : ℕ) → s.next ≤ n → own n ≡ u n
+  pub twice : IsTwice own
+
 module _ {S W M : Type 0} (names : S → List (List ℕ)) (present : S → Present W) (stands : S → M → Present W → Type 0) (older : M → M → Type 0) where
   -- the clauses that are left by a number and a view
   abbrev pub leaves_of : Plain S W M → Leaving
@@ -80,6 +89,12 @@ module _ {S W M : Type 0} (names : S → List (List ℕ)) (present : S → Prese
     pub own : State
     pub engine : IsEngine e own
     pub same : Same own s
+
+  -- The engine is a state that is the same as this one, where this one is the same as itself.
+  pub record StandsAs (e : Plain S W M) (s : State) : Type 0 where
+    pub own : State
+    pub engine : IsEngine e own
+    pub same : Same s s → Same own s
 
   -- Of an engine that was stopped within a move its world and its choices are left, each with what it brings back.
   abbrev pub Keeps : Plain S W M → World → List Alternative → Type 0
@@ -171,6 +186,11 @@ module _ {S W M : Type 0} (names : S → List (List ℕ)) (present : S → Prese
   abbrev pub WasCalled : Move → Plain S W M → State → State → Type 0
   WasCalled move.Goes e s t = IsEngine e t × IsAwake (phase_of e.now)
   WasCalled (move.Pauses p) e s t = (p ≡ pause.FramesFull) × (e.now ≡ now.Spent limit.Frames) × Keeps e s.world s.stack
+
+  -- what trying clauses comes to, alike: the engine is a state that is the same
+  abbrev pub WasTried : Move → Plain S W M → State → State → Type 0
+  WasTried move.Goes e s t = StandsAs e t × IsAwake (phase_of e.now)
+  WasTried (move.Pauses p) e s t = WasCalled (move.Pauses p) e s t
 
 -- ---- what falls
 

@@ -19,7 +19,7 @@ use Rattle.iso_plain_core.specs.declared.clauses.Clause as kept
 use Rattle.iso_plain_core.specs.Standing.{most_numbers, numbers_a_step}
 use Rattle.iso_plain_core.specs.declared.parts.Showing.{Showing}
 use Rattle.iso_plain.specs.declared.plain.Plain.{Plain}
-use Rattle.iso_plain.specs.EngineStates.{IsEngine, IsAhead, Keeps, leaves_of, went_back}
+use Rattle.iso_plain.specs.EngineStates.{IsEngine, SameUnder, IsAhead, Keeps, leaves_of, went_back}
 
 -- the head and the body that clauses are to be unified with
 abbrev pub shown_row : {W : Type 0} → Present W → Showing W → Tree
@@ -46,9 +46,11 @@ module _ {S W M : Type 0} (names : S → List (List ℕ)) (present : S → Prese
     pub user : built_in k ≡ None
     pub clauses : leaves_of names present stands older e shown.clause shown.later (c ∷ cs)
 
-  -- The head and the body, this row of two terms, were unified with those of the clause, or can't be; then the engine, which fails next, is in that state.
+  -- The head and the body, this row of two terms, were unified with those of the clause: the engine's substitution gives what is ahead the same values as
+  -- their unifier. Or they can't be; then the engine, which fails next, is in that state.
   abbrev pub HasUnified : Plain S W M → Tree → Showing W → State → Clause → Bool → Type 0
-  HasUnified e r shown s c true = (u : Subst) × (under s.subst (unifier_of r (apply s.subst (renamed s.next (clause_row c)))) ≡ Some u) × IsAhead names present stands older e (record s { subst = u; next = s.next + c.variables }) shown.rest
+  HasUnified e r shown s c true = (u : Subst) × (under s.subst (unifier_of r (apply s.subst (renamed s.next (clause_row c)))) ≡ Some u) × (own : Subst) × IsAhead names present stands older e (record s { subst = own; next = s.next + c.variables }) shown.rest
+      × SameUnder own u (record s { next = s.next + c.variables })
   HasUnified e r shown s c false = (under s.subst (unifier_of r (apply s.subst (renamed s.next (clause_row c)))) ≡ None) × IsEngine names present stands older e (fails s)
 
   -- The engine, in this state, is about to run this goal of this row, with its members from this place of the frames on behind it.

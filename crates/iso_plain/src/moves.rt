@@ -18,7 +18,7 @@ use iso_store_core::{Store, StoreFault};
 use std::alloc::AllocError;
 
 impl<S: Store + Drop> Plain<S> {
-    ghost use Rattle.iso_plain.specs.EngineStates.{IsBase, IsEngine, leaves_of, Represents, Keeps, Stopped, Calls, WentBack, Moves, Falls, Retries, WasRefused, cost, weight, phase_of};
+    ghost use Rattle.iso_plain.specs.EngineStates.{IsBase, IsEngine, StandsAs, leaves_of, Represents, Keeps, Stopped, Calls, WentBack, Moves, Falls, Retries, WasRefused, cost, weight, phase_of};
     ghost use Rattle.iso_plain_core.specs.Costs.{choices_cost, now_cost, body_cost, left_cost, most, rest_cost, frame_costs};
     ghost use Rattle.iso_plain.specs.Stays.{Stays};
     ghost use Rattle.iso_model.specs.Search.Engines.{IsAwake};
@@ -32,7 +32,7 @@ impl<S: Store + Drop> Plain<S> {
             × Calls S.names S.present S.stands S.older self.old attempt s call c cs behind }
         ensures tried { (s : State) (call : Tree) (c : databases.Clause) (cs : List databases.Clause) (behind : List Member)
             → Calls S.names S.present S.stands S.older self.old attempt s call c cs behind
-            → OnOk result (IsEngine S.names S.present S.stands S.older self.new (tried_clause call c mark behind s)) }
+            → OnOk result (StandsAs S.names S.present S.stands S.older self.new (tried_clause call c mark behind s)) }
         ensures kept { (s : State) (call : Tree) (c : databases.Clause) (cs : List databases.Clause) (behind : List Member)
             → Calls S.names S.present S.stands S.older self.old attempt s call c cs behind
             → OnErr result (Keeps S.names S.present S.stands S.older self.new s.world s.stack) }
@@ -45,7 +45,13 @@ impl<S: Store + Drop> Plain<S> {
         ensures stays { Stays S.names self.old self.new }
     {
         let clause = self.db.clause(attempt.clause);
-        let entered = entries::enter(&mut self.store, &mut self.nodes, clause, attempt.goal)?;
+        let entered = entries::enter(
+            &mut self.store,
+            &mut self.nodes,
+            &mut self.words,
+            clause,
+            attempt.goal,
+        )?;
         self.now = behind(self.frames.as_slice(), entered, mark, attempt.rest);
         Ok(())
     }
@@ -284,7 +290,7 @@ impl<S: Store + Drop> Plain<S> {
             × Calls S.names S.present S.stands S.older self.old attempt s call c cs behind }
         ensures tried { (s : State) (call : Tree) (c : databases.Clause) (cs : List databases.Clause) (behind : List Member)
             → Calls S.names S.present S.stands S.older self.old attempt s call c cs behind → result ≡ Ok true
-            → IsEngine S.names S.present S.stands S.older self.new (tried call (c ∷ cs) behind s) }
+            → StandsAs S.names S.present S.stands S.older self.new (tried call (c ∷ cs) behind s) }
         ensures kept { (s : State) (call : Tree) (c : databases.Clause) (cs : List databases.Clause) (behind : List Member)
             → Calls S.names S.present S.stands S.older self.old attempt s call c cs behind
             → OnErr result (WasRefused S.names S.present S.stands S.older self.new s (with_others call cs behind s)) }

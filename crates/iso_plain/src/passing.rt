@@ -14,7 +14,7 @@ use iso_plain_core::parts::{Attempt, Now};
 use iso_store_core::{Store, StoreFault};
 
 impl<S: Store + Drop> Plain<S> {
-    ghost use Rattle.iso_plain.specs.EngineStates.{Calls, Passes, IsEngine, Keeps, phase_of};
+    ghost use Rattle.iso_plain.specs.EngineStates.{Calls, Passes, StandsAs, Keeps, phase_of};
     ghost use Rattle.iso_plain_core.specs.Costs.{now_cost, body_cost, most, rest_cost, frame_costs};
     ghost use Rattle.iso_plain.specs.Stays.{Stays};
     ghost use Rattle.iso_model.specs.Search.Engines.{IsAwake};
@@ -76,7 +76,7 @@ impl<S: Store + Drop> Plain<S> {
             × Calls S.names S.present S.stands S.older self.old attempt s call c cs behind }
         ensures tried { (s : State) (call : Tree) (c : databases.Clause) (cs : List databases.Clause) (behind : List Member)
             → Calls S.names S.present S.stands S.older self.old attempt s call c cs behind
-            → OnOk result (IsEngine S.names S.present S.stands S.older self.new (tried_clause call c mark behind s)) }
+            → OnOk result (StandsAs S.names S.present S.stands S.older self.new (tried_clause call c mark behind s)) }
         ensures kept { (s : State) (call : Tree) (c : databases.Clause) (cs : List databases.Clause) (behind : List Member)
             → Calls S.names S.present S.stands S.older self.old attempt s call c cs behind
             → OnErr result (Keeps S.names S.present S.stands S.older self.new s.world s.stack) }

@@ -18,7 +18,7 @@ use iso_plain_core::replies::{self, Replied};
 use iso_store_core::{Store, StoreFault};
 
 impl<S: Store + Drop> Plain<S> {
-    ghost use Rattle.iso_plain.specs.EngineStates.{Represents, Stopped, WasRefused, Moves, Falls, Calls, WasCalled, cost, weight};
+    ghost use Rattle.iso_plain.specs.EngineStates.{Represents, Stopped, WasRefused, Moves, Falls, Calls, WasTried, cost, weight};
     ghost use Rattle.iso_plain_core.specs.Costs.{choices_cost, rest_cost, frame_costs, whole_cost};
     ghost use Rattle.iso_plain_core.specs.Standing.{IsAt};
     ghost use Rattle.iso_plain.specs.Stays.{Stays};
@@ -197,7 +197,7 @@ impl<S: Store + Drop> Plain<S> {
             × Calls S.names S.present S.stands S.older self.old attempt s call c cs behind }
         ensures called { (s : State) (call : Tree) (c : databases.Clause) (cs : List databases.Clause) (behind : List Member)
             → Calls S.names S.present S.stands S.older self.old attempt s call c cs behind
-            → IfOk result (λ m. WasCalled S.names S.present S.stands S.older m self.new s (tried call (c ∷ cs) behind s)) }
+            → IfOk result (λ m. WasTried S.names S.present S.stands S.older m self.new s (tried call (c ∷ cs) behind s)) }
         ensures kept { (s : State) (call : Tree) (c : databases.Clause) (cs : List databases.Clause) (behind : List Member)
             → Calls S.names S.present S.stands S.older self.old attempt s call c cs behind
             → OnErr result (WasRefused S.names S.present S.stands S.older self.new s (with_others call cs behind s)) }

@@ -61,6 +61,7 @@ impl<S: Store + Drop> Plain<S> {
             now: Now::Idle,
             raised: None,
             query: Vec::new(alloc),
+            words: Vec::new(alloc),
             base,
         })
     }

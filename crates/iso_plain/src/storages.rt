@@ -29,7 +29,7 @@ use std::alloc::AllocError;
 
 impl<S: Store + Drop> Plain<S> {
     ghost use Rattle.iso_plain.specs.Shows.{Shows, HasUnified, IsUserPlace, StoresAt, ShowsNext, WasGivenUp, shown_row, offers_of};
-    ghost use Rattle.iso_plain.specs.EngineStates.{IsEngine, Keeps, WentBack, WasCalled, Falls, cost, weight, phase_of, went_back};
+    ghost use Rattle.iso_plain.specs.EngineStates.{StandsAs, Keeps, WentBack, WasTried, Falls, cost, weight, phase_of, went_back};
     ghost use Rattle.iso_plain_core.specs.Costs.{choices_cost, now_cost, body_cost, left_cost, most, rest_cost, frame_costs, whole_cost};
     ghost use Rattle.iso_model.specs.Search.Engines.{IsAwake};
     ghost use Rattle.iso_plain.specs.Stays.{Stays};
@@ -95,7 +95,7 @@ impl<S: Store + Drop> Plain<S> {
         requires failing { self.old.now ≡ now.Failing }
         requires stays { shown.removes ≡ false }
         ensures tried { (s : State) (k : databases.Key) (c : databases.Clause) (cs : List databases.Clause) → Shows S.names S.present S.stands S.older self.old shown s k c cs
-            → OnOk result (IsEngine S.names S.present S.stands S.older self.new (tried_right (shown_row (S.present self.old.store) shown) (clause_offer shown.removes k c) s.list s)) }
+            → OnOk result (StandsAs S.names S.present S.stands S.older self.new (tried_right (shown_row (S.present self.old.store) shown) (clause_offer shown.removes k c) s.list s)) }
         ensures kept { (s : State) (k : databases.Key) (c : databases.Clause) (cs : List databases.Clause) → Shows S.names S.present S.stands S.older self.old shown s k c cs
             → OnErr result (Keeps S.names S.present S.stands S.older self.new s.world s.stack) }
         ensures awake { OnOk result (IsAwake (phase_of self.new.now)) }
@@ -119,7 +119,7 @@ impl<S: Store + Drop> Plain<S> {
         requires failing { self.old.now ≡ now.Failing }
         requires removes { shown.removes ≡ true }
         ensures tried { (s : State) (k : databases.Key) (c : databases.Clause) (cs : List databases.Clause) → Shows S.names S.present S.stands S.older self.old shown s k c cs
-            → OnOk result (IsEngine S.names S.present S.stands S.older self.new (tried_right (shown_row (S.present self.old.store) shown) (clause_offer shown.removes k c) s.list s)) }
+            → OnOk result (StandsAs S.names S.present S.stands S.older self.new (tried_right (shown_row (S.present self.old.store) shown) (clause_offer shown.removes k c) s.list s)) }
         ensures kept { (s : State) (k : databases.Key) (c : databases.Clause) (cs : List databases.Clause) → Shows S.names S.present S.stands S.older self.old shown s k c cs
             → OnErr result (Keeps S.names S.present S.stands S.older self.new s.world s.stack) }
         ensures awake { OnOk result (IsAwake (phase_of self.new.now)) }
@@ -148,7 +148,7 @@ impl<S: Store + Drop> Plain<S> {
     fn show_clause(&mut self, shown: Showing<S::Word>) -> Result<(), StoreFault>
         requires { (s : State) × (k : databases.Key) × (c : databases.Clause) × (cs : List databases.Clause) × Shows S.names S.present S.stands S.older self.old shown s k c cs }
         ensures tried { (s : State) (k : databases.Key) (c : databases.Clause) (cs : List databases.Clause) → Shows S.names S.present S.stands S.older self.old shown s k c cs
-            → OnOk result (IsEngine S.names S.present S.stands S.older self.new (tried_right (shown_row (S.present self.old.store) shown) (clause_offer shown.removes k c) s.list s)) }
+            → OnOk result (StandsAs S.names S.present S.stands S.older self.new (tried_right (shown_row (S.present self.old.store) shown) (clause_offer shown.removes k c) s.list s)) }
         ensures kept { (s : State) (k : databases.Key) (c : databases.Clause) (cs : List databases.Clause) → Shows S.names S.present S.stands S.older self.old shown s k c cs
             → OnErr result (Keeps S.names S.present S.stands S.older self.new s.world s.stack) }
         ensures awake { OnOk result (IsAwake (phase_of self.new.now)) }
@@ -211,7 +211,7 @@ impl<S: Store + Drop> Plain<S> {
     fn show(&mut self, shown: Showing<S::Word>) -> Result<Move, StoreFault>
         requires { (s : State) × (k : databases.Key) × (c : databases.Clause) × (cs : List databases.Clause) × Shows S.names S.present S.stands S.older self.old shown s k c cs }
         ensures called { (s : State) (k : databases.Key) (c : databases.Clause) (cs : List databases.Clause) → Shows S.names S.present S.stands S.older self.old shown s k c cs
-            → IfOk result (λ m. WasCalled S.names S.present S.stands S.older m self.new s (offered (shown_row (S.present self.old.store) shown) (offers_of shown k (c ∷ cs)) s.list s)) }
+            → IfOk result (λ m. WasTried S.names S.present S.stands S.older m self.new s (offered (shown_row (S.present self.old.store) shown) (offers_of shown k (c ∷ cs)) s.list s)) }
         ensures kept { (s : State) (k : databases.Key) (c : databases.Clause) (cs : List databases.Clause) → Shows S.names S.present S.stands S.older self.old shown s k c cs
             → OnErr result (Keeps S.names S.present S.stands S.older self.new s.world []) }
         ensures falls { (w : ℕ) → choices_cost (frame_costs self.old.frames.items) self.old.choices.items
@@ -249,7 +249,7 @@ impl<S: Store + Drop> Plain<S> {
     ) -> Result<Move, StoreFault>
         requires { (s : State) × StoresAt S.names S.present S.stands S.older self.old row goal s place }
         ensures called { (s : State) → StoresAt S.names S.present S.stands S.older self.old row goal s place
-            → IfOk result (λ m. WasCalled S.names S.present S.stands S.older m self.new s (settled (storage_settled row (meaning (S.present self.old.store) goal) s.next s.world) s.list s)) }
+            → IfOk result (λ m. WasTried S.names S.present S.stands S.older m self.new s (settled (storage_settled row (meaning (S.present self.old.store) goal) s.next s.world) s.list s)) }
         ensures kept { (s : State) → StoresAt S.names S.present S.stands S.older self.old row goal s place
             → OnErr result (WasGivenUp S.names S.present S.stands S.older self.new s) }
         ensures falls { (w : ℕ) → choices_cost (frame_costs self.old.frames.items) self.old.choices.items
@@ -328,7 +328,7 @@ impl<S: Store + Drop> Plain<S> {
             × WentBack S.names S.present S.stands S.older self.old c s a below }
         ensures tried { (c : kept.Choice S.Word S.Mark) (s : State) (a : Alternative) (below : List Alternative) (first : Tree) (rights : List settlements.Offer) → c.mark ≡ mark → c.left ≡ left.Shown shown
             → WentBack S.names S.present S.stands S.older self.old c s a below → a.left ≡ walker.Offered first rights
-            → OnOk result (IsEngine S.names S.present S.stands S.older self.new (offered first rights a.list (went_back a below s))) }
+            → OnOk result (StandsAs S.names S.present S.stands S.older self.new (offered first rights a.list (went_back a below s))) }
         ensures kept { (c : kept.Choice S.Word S.Mark) (s : State) (a : Alternative) (below : List Alternative) → c.mark ≡ mark → c.left ≡ left.Shown shown
             → WentBack S.names S.present S.stands S.older self.old c s a below
             → OnErr result (Keeps S.names S.present S.stands S.older self.new s.world []) }

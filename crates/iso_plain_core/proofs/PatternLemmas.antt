@@ -1,5 +1,5 @@
 -- Terms made in the store, with words for their variables.
-use Rattle.std.proofs.Common.{◌≡◌, ℕ, zero, suc, ◌+◌, ◌<◌, List, [], ◌∷◌, length, map, refl, ap, ap₂, ◌∙◌, subst, arith}
+use Rattle.std.proofs.Common.{◌≡◌, ℕ, zero, suc, ◌+◌, ◌<◌, List, [], ◌∷◌, length, map, refl, ap, ap₂, ◌∙◌, arith}
 use Rattle.std.specs.List.{All}
 use Rattle.std.proofs.lemmas.List.Elements.{All-nil, All-cons}
 use Rattle.iso_model.specs.Terms.Trees.{Tree, Variable}
@@ -7,7 +7,7 @@ use Rattle.iso_store_core.specs.declared.patterns.Pattern.{Pattern}
 use Rattle.iso_model.specs.Terms.Substitutions.{apply}
 use Rattle.iso_model.specs.Terms.Copies.{renamed, numbers_from}
 use Rattle.iso_model.specs.Terms.Unification.Applied.{apply_same}
-use Rattle.iso_store_core.specs.Presents.{Present, Holds, KeepsWords, Makes}
+use Rattle.iso_store_core.specs.Presents.{Present, Holds, KeepsWords}
 use Rattle.iso_store_core.specs.Patterns.{HasPlaces, at_places}
 use Rattle.iso_plain_core.specs.declared.bodies.Node.{Node}
 use Rattle.iso_plain_core.specs.Written.{term_in}
@@ -43,12 +43,7 @@ pub variables_hold : {W : Type 0} {p : Present W} (ws : List W) {ns : List ℕ} 
 variables_hold {p = p} [] no_word = All-nil (λ w. Holds p w)
 variables_hold {p = p} (w ∷ ws) (one_word holds is others) = All-cons (λ w. Holds p w) w ws holds (variables_hold ws others)
 
--- a term made with them is renamed
-pub made_renamed : {W : Type 0} {p q : Present W} (ws : List W) (first : ℕ) (w : W) (t : Tree) → AreVariables p ws (numbers_from first (length ws)) → HasPlaces (length ws) t → Makes p q w (apply (word_terms p ws) t)
-    → Makes p q w (renamed first t)
-made_renamed {p = p} {q = q} ws first w t h below made = subst (λ u. Makes p q w u) (renamed_as ws first t h below) made
-
--- and so are parts copied with them
+-- parts copied with them are renamed
 pub copies_renamed : {names : List (List ℕ)} {W : Type 0} {p q : Present W} (ws : List W) (first : ℕ) (old new : List (Node W)) (parts : List (Node Pattern)) → AreVariables p ws (numbers_from first (length ws)) → PartsFit names (length ws) parts
     → Copies names q (word_terms p ws) old new parts → Copies names q (renaming_from first) old new parts
 copies_renamed {names = names} {p = p} {q = q} ws first old new parts h fits copies =

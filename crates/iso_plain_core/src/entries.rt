@@ -112,11 +112,12 @@ pub enum Entered {
     Body(usize),
 }
 
-/// Enters the clause for the goal (7.7.10): its head is unified with the goal, and its body's parts are appended. The errors: the
-/// store is full, or memory was refused.
+/// Enters the clause for the goal (7.7.10): its head is unified with the goal, and its body's parts are appended. The list is for the
+/// words of the clause's variables, and loses what it had. The errors: the store is full, or memory was refused.
 pub fn enter<S: Store>(
     store: &mut S,
     nodes: &mut Vec<Node<S::Word>>,
+    words: &mut Vec<S::Word>,
     clause: &Clause,
     goal: S::Word,
 ) -> Result<Entered, StoreFault>
@@ -131,11 +132,11 @@ pub fn enter<S: Store>(
     ensures names { S.names store.new ≡ S.names store.old }
     ensures marks { KeepsMarks (S.stands store.old) (S.stands store.new) }
 {
-    let Some(variables) = store.unify_head(&clause.head, goal, clause.variables)? else {
+    if !store.unify_head(&clause.head, goal, clause.variables, words)? {
         return Ok(Entered::Missed);
-    };
+    }
     let parts = clause.parts.as_slice();
-    copy_parts(store, nodes, parts, variables.as_slice())?;
+    copy_parts(store, nodes, parts, words.as_slice())?;
     if parts.is_empty() {
         return Ok(Entered::Fact);
     }

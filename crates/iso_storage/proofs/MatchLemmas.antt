@@ -1,5 +1,5 @@
 -- A head unifies with a term, where its variables are new.
-use Rattle.std.proofs.Common.{◌≡◌, ◌+◌, ◌≤◌, ℕ, List, Bool, true, false, Option, Some, None, is_some, option_map, refl, ap, ◌∙◌, subst, arith}
+use Rattle.std.proofs.Common.{◌≡◌, ◌+◌, ◌≤◌, ℕ, List, Bool, true, false, Option, Some, None, is_some, refl, ap, ◌∙◌, subst, arith}
 use Rattle.std.specs.Prelude.{MatchBool}
 use Rattle.iso_model.specs.Terms.Trees.{Tree, Variable}
 use Rattle.iso_model.specs.Terms.Substitutions.{Subst, apply, compose}
@@ -29,11 +29,11 @@ renamed_alone s first t alone =
     ∙ apply_same (compose (λ x. Variable (first + x)) s) (λ x. Variable (first + x)) t (λ x o. alone (first + x) (omega arith))
 
 -- what unifying a goal with the head says of the two
-pub met_answer : {W V : Type 0} (items : V → List W) (p q : Present W) (call : W) (t : Tree) (count : ℕ) (found : Option V) → ((n : ℕ) → p.next ≤ n → p.substitution n ≡ Variable n) → IsHeadMet p q call t count (option_map items found)
-    → is_some found ≡ is_some (unifier_of (meaning p call) (renamed p.next t))
-met_answer items p q call t count (Some ws) alone h =
+pub met_answer : {W : Type 0} (p q : Present W) (call : W) (t : Tree) (count : ℕ) (ws : List W) (answer : Bool) → ((n : ℕ) → p.next ≤ n → p.substitution n ≡ Variable n) → IsHeadMet p q call t count ws answer
+    → answer ≡ is_some (unifier_of (meaning p call) (renamed p.next t))
+met_answer p q call t count ws true alone h =
     answer_is (meaning p call) (renamed p.next t) true (subst (λ (x : Tree). Answers true (meaning p call) x) (renamed_alone p.substitution p.next t alone) (h.unifier, h.is))
-met_answer items p q call t count None alone h =
+met_answer p q call t count ws false alone h =
     answer_is (meaning p call) (renamed p.next t) false (subst (λ (x : Tree). Answers false (meaning p call) x) (renamed_alone p.substitution p.next t alone) h)
 
 -- where no number was reserved

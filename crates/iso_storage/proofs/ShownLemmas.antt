@@ -9,15 +9,16 @@ use Rattle.iso_model.specs.Terms.Unifiers.{Unifier, NeverEqual}
 use Rattle.iso_model.specs.Terms.Copies.{renamed}
 use Rattle.iso_model.specs.Terms.Unification.Applied.{apply_apply, apply_none}
 use Rattle.iso_model.specs.Terms.Unification.Composed.{unifier_more, unifier_same, never_first, never_rest}
+use Rattle.iso_model.specs.Search.RunLaws.TermValues.{IsTwice, value_is, twice_on}
 use Rattle.iso_model.specs.Search.Bodies.{Body, body_term, two}
 use Rattle.iso_model.specs.Search.Databases as databases
 use Rattle.iso_model.specs.Search.Storages.{clause_row}
 use Rattle.iso_store_core.specs.Patterns.{HasPlaces}
-use Rattle.iso_store_core.specs.Presents.{Present, meaning, Makes, KeepsNumbers, IsUnification}
+use Rattle.iso_store_core.specs.Presents.{Present, meaning, Makes, KeepsWords, KeepsNumbers, Binds, IsUnification}
 use Rattle.iso_store_core.specs.declared.patterns.Pattern.{Pattern}
 use Rattle.iso_plain_core.specs.declared.bodies.Node.{Node}
 use Rattle.iso_plain_core.specs.declared.bodies.Node.TheVariants as node
-use Rattle.iso_plain_core.specs.Entering.{Meets}
+use Rattle.iso_plain_core.specs.Entering.{Meets, HasValues}
 use Rattle.iso_plain_core.specs.Kept.{IsKeptGoal}
 use Rattle.iso_plain_core.specs.Nodes.{IsTree, runs, cuts, joins, branches, commits, chooses, ArePartsOf, IfGoal, EachGoal}
 use Rattle.iso_plain_core.specs.Written.{IsPatternOf}
@@ -66,22 +67,46 @@ module _ {W : Type 0} (p s t v : Present W) (head body shown : W) (c : databases
   pub never_heads : NeverEqual (apply p.substitution (p.term head)) (apply p.substitution (renamed p.next c.head)) → NeverEqual (row (meaning p head ∷ meaning p body ∷ [])) (apply p.substitution (renamed p.next (clause_row c)))
   never_heads h = never_first (meaning p head) (apply p.substitution (renamed p.next c.head)) (More (meaning p body) End) (More (apply p.substitution (renamed p.next (body_term c.body))) End) h
 
+  -- the value of the clause's body, made with terms for its variables that have their values
+  pub shown_value : (u terms : Subst) → Makes s t shown (apply terms (body_term c.body)) → ((k : ℕ) → apply s.substitution (terms k) ≡ compose p.substitution u (p.next + k))
+      → meaning t shown ≡ apply u (apply p.substitution (renamed p.next (body_term c.body)))
+  shown_value u terms made values =
+      let b = body_term c.body in
+      let new : Subst = λ k. Variable (p.next + k) in
+      ap₂ apply made.substitution made.term ∙ apply_apply terms s.substitution b ∙ ap (λ (x : Subst). apply x b) (λ i. λ k. values k i)
+      ∙ sym (apply_apply new (compose p.substitution u) b) ∙ sym (apply_apply p.substitution u (renamed p.next b))
+
   -- bodies, once the heads were unified
-  pub bodies_unified : {E : Type 0} (n : ℕ) (r : Result Bool E) → Meets p s (p.term head) c.head n → n ≡ c.variables → p.holds body ≡ true → Makes s t shown (renamed p.next (body_term c.body)) → KeepsNumbers s t
-      → IfOk r (IsUnification t v (meaning t body) (meaning t shown)) → IfOk r (UnifiesClause p v (meaning p head) (meaning p body) c)
-  bodies_unified n (Err e) met count held made numbers h = tt
-  bodies_unified n (Ok answer) met count held made numbers h = by_answer answer h where
-    u : Subst
+  module _ (n : ℕ) (met : Meets p s (p.term head) c.head n) (count : n ≡ c.variables) (held : p.holds body ≡ true) (words : KeepsWords s t) (bound : t.substitution ≡ s.substitution) (numbers : KeepsNumbers s t)
+      (right : meaning t shown ≡ apply met.unifier (apply p.substitution (renamed p.next (body_term c.body)))) where
+    abbrev u : Subst
     u = met.unifier
 
-    same : t.substitution ≡ compose p.substitution u
-    same = made.substitution ∙ met.substitution
+    -- a word that stood has its value
+    value : (w : W) → p.holds w ≡ true → meaning t w ≡ apply (compose p.substitution u) (p.term w)
+    value w h = ap₂ apply bound (words.terms w (met.values.words.stand w h)) ∙ met.values.means w h
 
     left : meaning t body ≡ apply u (meaning p body)
-    left = ap₂ apply same (made.words.terms body (met.words.stand body held) ∙ met.words.terms body held) ∙ sym (apply_apply p.substitution u (p.term body))
+    left = value body held ∙ sym (apply_apply p.substitution u (p.term body))
 
-    right : meaning t shown ≡ apply u (apply p.substitution (renamed p.next (body_term c.body)))
-    right = ap₂ apply same made.term ∙ sym (apply_apply p.substitution u (renamed p.next (body_term c.body)))
+    twice : IsTwice t.substitution
+    twice = subst IsTwice (sym bound) met.values.twice
+
+    unified_values : (x : Subst) → Unifier (meaning t body) (meaning t shown) x → Binds t v x → HasValues p v (compose p.substitution (compose u x))
+    unified_values x is binds =
+        let same : compose (compose p.substitution u) x ≡ compose p.substitution (compose u x) = λ i. λ k. apply_apply u x (p.substitution k) i in
+        record {
+          words = words_on met.values.words (words_on words binds.words);
+          means = λ w h.
+              let there = words.stand w (met.values.words.stand w h) in
+              ap₂ apply binds.substitution (binds.words.terms w there) ∙ sym (apply_apply t.substitution x (t.term w)) ∙ ap (apply x) (value w h)
+              ∙ apply_apply (compose p.substitution u) x (p.term w) ∙ ap (λ (y : Subst). apply y (p.term w)) same;
+          beyond = λ k above.
+              let next : v.next ≡ s.next = binds.numbers.next ∙ numbers.next in
+              ap (λ (y : Subst). y k) binds.substitution ∙ ap (λ (y : Subst). apply x (y k)) bound ∙ ap (apply x) (met.values.beyond k (omega (arith, next, above)))
+              ∙ ap (λ (y : Subst). y k) same;
+          twice = subst IsTwice (sym binds.substitution) (twice_on t.substitution x (meaning t body) (meaning t shown) twice (value_is t.substitution (t.term body) twice) (value_is t.substitution (t.term shown) twice) is);
+        }
 
     by_answer : (a : Bool) → IsUnification t v (meaning t body) (meaning t shown) a → UnifiesClause p v (meaning p head) (meaning p body) c a
     by_answer true h =
@@ -90,11 +115,14 @@ module _ {W : Type 0} (p s t v : Present W) (head body shown : W) (c : databases
         record {
           unifier = compose u h.0;
           is = unifier_more met.is (unifier_last there);
-          substitution = h.2.substitution ∙ ap (λ (x : Subst). compose x h.0) same ∙ (λ i. λ k. apply_apply u h.0 (p.substitution k) i);
+          values = unified_values h.0 h.1 h.2;
           next = h.2.numbers.next ∙ numbers.next ∙ met.next ∙ ap (λ k. p.next + k) count;
-          words = words_on met.words (words_on made.words h.2.words);
         }
     by_answer false h =
         let there : NeverEqual (apply u (meaning p body)) (apply u (apply p.substitution (renamed p.next (body_term c.body)))) =
         subst (λ (x : Tree). NeverEqual x (apply u (apply p.substitution (renamed p.next (body_term c.body))))) left (subst (λ (x : Tree). NeverEqual (meaning t body) x) right h) in
         never_rest (More (meaning p body) End) (More (apply p.substitution (renamed p.next (body_term c.body))) End) met.is (never_first (apply u (meaning p body)) (apply u (apply p.substitution (renamed p.next (body_term c.body)))) End End there)
+
+    pub bodies_unified : {E : Type 0} (r : Result Bool E) → IfOk r (IsUnification t v (meaning t body) (meaning t shown)) → IfOk r (UnifiesClause p v (meaning p head) (meaning p body) c)
+    bodies_unified (Err e) h = tt
+    bodies_unified (Ok answer) h = by_answer answer h

@@ -8,8 +8,9 @@ use Rattle.iso_model.specs.Terms.Copies.{renamed}
 use Rattle.iso_model.specs.Search.Bodies.{Body, body_term}
 use Rattle.iso_model.specs.Search.Databases.{Clause}
 use Rattle.iso_model.specs.Search.Storages.{clause_row}
-use Rattle.iso_store_core.specs.Presents.{Present, KeepsWords}
+use Rattle.iso_store_core.specs.Presents.{Present}
 use Rattle.iso_store_core.specs.declared.patterns.Pattern.{Pattern}
+use Rattle.iso_plain_core.specs.Entering.{HasValues}
 use Rattle.iso_plain_core.specs.Nodes.{IsTree}
 use Rattle.iso_plain_core.specs.Written.{IsPatternOf}
 use Rattle.iso_plain_core.specs.declared.bodies.Node.{Node}
@@ -23,13 +24,12 @@ abbrev pub ArePartWords : {W : Type 0} → List (List ℕ) → Present W → Sub
 ArePartWords names q s parts place [] = Unit {0}
 ArePartWords names q s parts place (w ∷ ws) = IsPartWord names q s parts place w × ArePartWords names q s parts (place + 1) ws
 
--- The head and the body of the clause, with new variables, were unified with these two terms.
+-- The head and the body of the clause, with new variables, were unified with these two terms, and the words have their values under the unifier.
 pub record MeetsClause {W : Type 0} (p q : Present W) (h b : Tree) (c : Clause) : Type 0 where
   pub unifier : Subst
   pub is : Unifier (row (h ∷ b ∷ [])) (apply p.substitution (renamed p.next (clause_row c))) unifier
-  pub substitution : q.substitution ≡ compose p.substitution unifier
+  pub values : HasValues p q (compose p.substitution unifier)
   pub next : q.next ≡ p.next + c.variables
-  pub words : KeepsWords p q
 
 -- they were, or can't be
 abbrev pub UnifiesClause : {W : Type 0} → Present W → Present W → Tree → Tree → Clause → Bool → Type 0

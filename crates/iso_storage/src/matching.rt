@@ -18,9 +18,14 @@ use iso_plain_core::leaving::next_left;
 use iso_store_core::{Store, StoreFault};
 use std::alloc::Global;
 
-/// Whether the head of the clause, with new variables, unifies with the term; it leaves open what is bound. The errors: the store is
-/// full, or memory was refused.
-fn unifies<S: Store>(store: &mut S, clause: &Clause, head: S::Word) -> Result<bool, StoreFault>
+/// Whether the head of the clause, with new variables, unifies with the term; it leaves open what is bound, and what the list has. The
+/// errors: the store is full, or memory was refused.
+fn unifies<S: Store>(
+    store: &mut S,
+    clause: &Clause,
+    head: S::Word,
+    words: &mut Vec<S::Word>,
+) -> Result<bool, StoreFault>
     requires clause { (c : databases.Clause) × IsClause (S.names store.old) clause.now c }
     requires head { Holds (S.present store.old) head }
     requires room { (S.present store.old).next + most_variables < 2 ^ 63 }
@@ -32,8 +37,7 @@ fn unifies<S: Store>(store: &mut S, clause: &Clause, head: S::Word) -> Result<bo
 {
     // Reserves none: it says that no number from the next one on is taken.
     let _next = store.reserve(0);
-    let met = store.unify_head(&clause.head, head, clause.variables)?;
-    Ok(met.is_some())
+    store.unify_head(&clause.head, head, clause.variables, words)
 }
 
 /// The numbers of the clauses of the view whose heads unify with the term; the store is as it was then. The errors: the store is full, or
@@ -56,10 +60,11 @@ fn matching<S: Store>(
     ensures marks { KeepsMarks (S.stands store.old) (S.stands store.new) }
 {
     let mut numbers = Vec::new(alloc);
+    let mut words = Vec::new(alloc);
     let mut later = view;
     let mark = store.mark();
     while let Some(number) = next_left(db, &mut later) {
-        let matches = unifies(store, db.clause(number), head)?;
+        let matches = unifies(store, db.clause(number), head, &mut words)?;
         store.undo(mark);
         if matches {
             numbers.push(number)?;

@@ -166,9 +166,10 @@ pub fn unify_clause<S: Store>(
     ensures names { KeepsTexts (S.names store.old) (S.names store.new) }
     ensures marks { KeepsMarks (S.stands store.old) (S.stands store.new) }
 {
-    let Some(variables) = store.unify_head(&clause.head, head, clause.variables)? else {
+    let mut variables = Vec::new(alloc);
+    if !store.unify_head(&clause.head, head, clause.variables, &mut variables)? {
         return Ok(false);
-    };
+    }
     let parts = clause.parts.as_slice();
     let shown_body = body_word(alloc, store, controls, parts, variables.as_slice())?;
     store.unify(body, shown_body)

@@ -1,30 +1,24 @@
 -- A goal and the head of a clause, unified as the head is read: what was found, and what was unified later, make them equal.
-use Rattle.std.proofs.Common.{◌≡◌, ◌≢◌, ℕ, zero, suc, ◌+◌, ◌-◌, ◌<◌, ◌≤◌, ◌⊎◌, List, [], ◌∷◌, length, map, option_map, Bool, Result, IfOk, Option, Some, None, slice_get, slice_index_or, true, false, refl, ap, sym, ◌∙◌, subst, arith, inl, inr}
-use Rattle.std.specs.List.{All}
+use Rattle.std.proofs.Common.{◌≡◌, ℕ, ◌+◌, ◌<◌, ◌≤◌, List, [], ◌∷◌, length, map, Bool, MatchBool, Result, Ok, Err, IfOk, Option, Some, slice_index_or, true, false, refl, ap, sym, ◌∙◌, subst, arith, inl, inr}
 use Rattle.std.proofs.lemmas.Bool.{false≢true, eq-eqb}
 use Rattle.std.proofs.lemmas.Bool.Decides.{leb_tells}
+use Rattle.std.proofs.lemmas.Option.{slice_get_within}
 use Rattle.iso_model.specs.Terms.Trees.{Tree, Variable, End}
 use Rattle.iso_model.specs.Terms.Variables.{occurs}
-use Rattle.iso_model.specs.Terms.Substitutions.{Subst, apply, compose, Extends, BindsToOlder}
+use Rattle.iso_model.specs.Terms.Substitutions.{Subst, apply, compose, BindsToOlder}
 use Rattle.iso_model.specs.Terms.Copies.{renamed}
-use Rattle.iso_model.specs.Terms.Unifiers.{Unifier, NeverEqual}
+use Rattle.iso_model.specs.Terms.Unifiers.{NeverEqual}
 use Rattle.iso_model.specs.Terms.Unification.Applied.{apply_apply, apply_same, apply_absorbs}
 use Rattle.iso_model.specs.Terms.Unification.Composed.{variable_from}
-use Rattle.iso_model.proofs.OnTerms.UnifierLemmas.{compose_compose}
 use Rattle.iso_store_core.specs.declared.patterns.Part.{Part}
-use Rattle.iso_store_core.specs.Patterns.{IsPattern, HasPlaces, at_places}
+use Rattle.iso_store_core.specs.Patterns.{IsPattern, at_places}
 use Rattle.iso_store_core.specs.Presents.{Present, Holds, meaning, KeepsWords, MovesOn, Untouched}
 use Rattle.iso_store_core.specs.Heads.{new_head, MeetsHead, IsHeadMet}
 use Rattle.iso_store.specs.declared.reading.Later.{Later}
-use Rattle.iso_store.specs.Reading.{first_terms, term_between, IsLater, IsRead, IsHeadRead, MakesLeft, GivesValues, MakesLater, MakesThese, UnifiesThese, HasWords, AreValues}
+use Rattle.iso_store.specs.Reading.{first_terms, term_between, IsLater, IsHeadRead, MakesLeft, GivesValues, MakesLater, MakesThese, UnifiesThese, HasWords}
 use Rattle.iso_store.proofs.Gathering.{keeps-then}
-use Rattle.iso_store.proofs.InstanceLemmas.{all-parts}
+use Rattle.iso_store.proofs.InstanceLemmas.{all-parts, at-place}
 use Rattle.iso_store.proofs.WordLemmas.{value-or-itself, values-leave}
-
-at-place : {W : Type 0} (f : W → Tree) (ws : List W) (x : ℕ) (d : W) → x < length ws → at_places (map f ws) x ≡ f (slice_index_or ws x d)
-at-place f [] x d below = elim below [ ]
-at-place f (w ∷ ws) zero d below = refl
-at-place f (w ∷ ws) (suc x) d below = at-place f ws x d (omega arith)
 
 -- where numbers were reserved from p to a, and these are the parts of the head
 module _ {W : Type 0} {p a : Present W} (names : List (List ℕ)) (ks : List Part) (t : Tree) (whole : IsPattern names ks t) (goal : W) (held : Holds p goal) (count : ℕ)
@@ -32,14 +26,21 @@ module _ {W : Type 0} {p a : Present W} (names : List (List ℕ)) (ks : List Par
   abbrev pub first : ℕ
   first = p.next
 
+  word-there : (w : W) → Holds p w → meaning a w ≡ meaning p w
+  word-there w h = ap (apply a.substitution) (keeps.terms w h) ∙ ap (λ s. apply s (p.term w)) same
+
+  -- the numbers that come are not bound before
+  not-bound : (n : ℕ) → p.next ≤ n → p.substitution n ≡ Variable n
+  not-bound n above = ap (λ s. s n) (sym same) ∙ (bare n above).substitution
+
   goal-there : meaning a goal ≡ meaning p goal
-  goal-there = ap (apply a.substitution) (keeps.terms goal held) ∙ ap (λ s. apply s (p.term goal)) same
+  goal-there = word-there goal held
 
   abbrev pub new : Subst
   new x = Variable (first + x)
 
   head-there : new_head p t ≡ renamed first t
-  head-there = apply_apply new p.substitution t ∙ apply_same (compose new p.substitution) new t (λ x o. ap (λ s. s (first + x)) (sym same) ∙ (let above : p.next ≤ p.next + x = omega arith in (bare (first + x) above).substitution))
+  head-there = apply_apply new p.substitution t ∙ apply_same (compose new p.substitution) new t (λ x o. not-bound (first + x) (omega arith))
 
   all : first_terms names ks (length ks) ≡ t ∷ []
   all = all-parts names ks t whole (length ks) (omega arith)
@@ -68,9 +69,7 @@ module _ {W : Type 0} {p a : Present W} (names : List (List ℕ)) (ks : List Par
     leaves w h = values-leave a first values v has.are bare w h
 
     place-there : (x : ℕ) → x < length ws → at_places (map (meaning b) ws) x ≡ v (first + x)
-    place-there x below =
-        at-place (meaning b) ws x goal below ∙ ap (apply b.substitution) (has.terms x goal below) ∙ ap (λ s. s (first + x)) has.substitution
-        ∙ (let above : p.next ≤ p.next + x = omega arith in ap (apply v) (bare (first + x) above).substitution)
+    place-there x below = at-place (meaning b) ws x goal below ∙ has.means x goal below
 
     later-term : (l : Later W) → IsLater a names ks (length values) l → apply (at_places (map (meaning b) ws)) (term_between names ks l.from l.past) ≡ apply v (renamed first (term_between names ks l.from l.past))
     later-term l is =
@@ -79,7 +78,7 @@ module _ {W : Type 0} {p a : Present W} (names : List (List ℕ)) (ks : List Par
 
     later-word : (l : Later W) → IsLater a names ks (length values) l → meaning b l.word ≡ apply v (meaning a l.word)
     later-word l is =
-        ap (apply b.substitution) (has.keeps.terms l.word is.holds) ∙ ap (λ s. apply s (a.term l.word)) has.substitution ∙ sym (apply_apply a.substitution v (a.term l.word))
+        ap (apply b.substitution) (has.keeps.terms l.word is.holds) ∙ ap (λ s. apply s (a.term l.word)) has.substitution ∙ sym (leaves l.word is.holds)
 
     extends-values : (s : Subst) → GivesValues a names ks first s values → (n : ℕ) → apply s (v n) ≡ s n
     extends-values s gives n =
@@ -118,7 +117,7 @@ module _ {W : Type 0} {p a : Present W} (names : List (List ℕ)) (ks : List Par
         ∙ sym (apply_absorbs v s (renamed first (term_between names ks l.from l.past)) over) ∙ sym (ap (apply s) (later-term l is))
 
     -- nothing makes equal what was left
-    pub never-later : ((s : Subst) → MakesThese b names ks ws s later → ⊥) → NeverEqual (meaning p goal) (new_head p t)
+    never-later : ((s : Subst) → MakesThese b names ks ws s later → ⊥) → NeverEqual (meaning p goal) (new_head p t)
     never-later never s e = never s (these-made s e)
 
     module _ {d : Present W} (these : UnifiesThese b d names ks ws later) where
@@ -138,7 +137,17 @@ module _ {W : Type 0} {p a : Present W} (names : List (List ℕ)) (ks : List Par
           let u = term_between names ks l.from l.past in
           sym (apply_apply v last (meaning a l.word)) ∙ ap (apply last) (sym (later-word l is)) ∙ these.makes k o below ∙ ap (apply last) (later-term l is) ∙ apply_apply v last (renamed first u)
 
-      pub meets-head : MeetsHead p d goal t count ws
+      -- what words stand for when the variables have theirs, and behind the last binding
+      kept : (w : W) → Holds a w → meaning b w ≡ meaning a w
+      kept w h = ap (apply b.substitution) (has.keeps.terms w h) ∙ ap (λ s. apply s (a.term w)) has.substitution
+
+      behind : (w : W) → Holds b w → meaning d w ≡ apply last (meaning b w)
+      behind w h = ap (apply d.substitution) (these.binds.words.terms w h) ∙ ap (λ s. apply s (b.term w)) these.binds.substitution ∙ sym (apply_apply b.substitution last (b.term w))
+
+      numbers-there : d.next ≡ p.next + count
+      numbers-there = these.binds.numbers.next ∙ has.taken.next ∙ moves.next
+
+      meets-head : MeetsHead p d goal t count ws
       meets-head = record {
         unifier = unifier;
         is = record {
@@ -153,19 +162,32 @@ module _ {W : Type 0} {p a : Present W} (names : List (List ℕ)) (ks : List Par
               let outer = these.least from.0 m (sym (ap (apply last) from.1) ∙ is) in
               omega arith;
         };
-        substitution = these.binds.substitution ∙ ap (λ s. compose s last) has.substitution ∙ ap (λ s. compose (compose s v) last) same ∙ compose_compose p.substitution v last;
-        next = these.binds.numbers.next ∙ has.taken.next ∙ moves.next;
+        values = λ w h.
+            let here = keeps.stand w h in
+            behind w (has.keeps.stand w here) ∙ ap (apply last) (kept w here) ∙ ap (apply last) (sym (leaves w here)) ∙ apply_apply v last (meaning a w) ∙ ap (apply unifier) (word-there w h);
+        beyond = λ n above.
+            let counted = numbers-there in
+            let bound : d.substitution n ≡ apply last (Variable n) = ap (λ s. s n) (these.binds.substitution ∙ ap (λ s. compose s last) has.substitution) ∙ ap (apply last) (bare n (omega (arith, above, counted))).substitution in
+            let value : v n ≡ Variable n = has.are.others n (λ x w is here. (let below = slice_get_within values x (Some w) is in absurd (omega (arith, above, counted, below, here, many)))) in
+            bound ∙ sym (ap (apply last) value) ∙ sym (ap (apply unifier) (not-bound n (omega (arith, above, counted))));
+        next = numbers-there;
         keeps = keeps-then (keeps-then keeps has.keeps) these.binds.words;
         many = has.many ∙ many;
         hold = λ k o below. these.binds.words.stand _ (has.hold k o below);
-        variables = λ k o below. these.binds.words.terms _ (has.hold k o below) ∙ has.terms k o below;
+        variables = λ k o below. behind _ (has.hold k o below) ∙ ap (apply last) (has.means k o below) ∙ sym (ap (apply unifier) (not-bound (first + k) (omega arith)));
       }
 
+    -- what the answer to the last unification says
+    pub met-later : {E : Type 0} (d : Present W) (result : Result Bool E) → IfOk result (λ answer. MatchBool answer (UnifiesThese b d names ks ws later) ((s : Subst) → MakesThese b names ks ws s later → ⊥)) → IfOk result (IsHeadMet p d goal t count ws)
+    met-later d (Ok true) these = meets-head these
+    met-later d (Ok false) never = never-later never
+    met-later d (Err e) none = none
+
 -- the same store before, and the same behind
-pub met-result : {W X E : Type 0} (p q r s : Present W) → q ≡ p → s ≡ r → (goal : W) (t : Tree) (count : ℕ) (of : X → List W) (result : Result (Option X) E) → IfOk result (λ found. IsHeadMet q r goal t count (option_map of found)) → IfOk result (λ found. IsHeadMet p s goal t count (option_map of found))
-met-result p q r s before behind goal t count of result met =
-    subst (λ x. IfOk result (λ found. IsHeadMet x s goal t count (option_map of found))) before
-    (subst (λ x. IfOk result (λ found. IsHeadMet q x goal t count (option_map of found))) (sym behind) met)
+pub met-result : {W E : Type 0} (p q r s : Present W) → q ≡ p → s ≡ r → (goal : W) (t : Tree) (count : ℕ) (words : List W) (result : Result Bool E) → IfOk result (IsHeadMet q r goal t count words) → IfOk result (IsHeadMet p s goal t count words)
+met-result p q r s before behind goal t count words result met =
+    subst (λ x. IfOk result (IsHeadMet x s goal t count words)) before
+    (subst (λ x. IfOk result (IsHeadMet q x goal t count words)) (sym behind) met)
 
 -- what reading says where it says that the head may be equal
 pub read-many : {W : Type 0} (a : Present W) (names : List (List ℕ)) (ks : List Part) (n : ℕ) (goal : W) (values : List (Option W)) (later : List (Later W)) (answer : Bool) → answer ≡ true → IsHeadRead a names ks n goal values later answer → length values ≡ n

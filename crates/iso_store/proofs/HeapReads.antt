@@ -15,7 +15,7 @@ use Rattle.iso_store_core.specs.Arguments.{member, arity, argument}
 use Rattle.iso_store.specs.Rounds.{rounds_for}
 use Rattle.iso_store.specs.RoundLemmas.{rounds_bound}
 use Rattle.iso_store.specs.HeapTerms.{cell_terms, made_term, optional_term, heap_bindings, heap_substitution, bound_count}
-use Rattle.iso_store.specs.HeapStores.{number_of, is_variable_cell, is_functor, is_argument, has_cell_number, cell_word, is_word, IsHeap, next_word, bound_word, variable_of, number_rank, word_rank}
+use Rattle.iso_store.specs.HeapStores.{number_of, is_variable_cell, is_functor, is_argument, has_cell_number, cell_word, is_word, IsHeap, next_word, bound_word, number_rank, word_rank}
 use Rattle.iso_store.specs.HeapLemmas.{place_term, place_term-unbound, place_term-bound, place_term-argument, place_term-functor, terms_before, before-length, before-at}
 use Rattle.iso_store.specs.HeapNumbers.{target_is}
 use Rattle.iso_store.specs.HeapUntouched.{not_bound-value}

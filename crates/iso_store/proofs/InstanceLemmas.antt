@@ -1,8 +1,8 @@
 -- Terms that are made of parts, with words for the variables.
-use Rattle.std.proofs.Common.{◌≡◌, ℕ, suc, ◌+◌, ◌-◌, ◌<◌, ◌≤◌, ◌&&◌, ◌||◌, nat_le, List, [], ◌∷◌, ◌++◌, length, map, take, drop, get_or, Bool, true, false, refl, ap, ap₂, sym, ◌∙◌, subst, arith, inl, inr, length-append}
+use Rattle.std.proofs.Common.{◌≡◌, ℕ, zero, suc, ◌+◌, ◌-◌, ◌<◌, ◌≤◌, ◌&&◌, ◌||◌, nat_le, List, [], ◌∷◌, ◌++◌, length, map, take, drop, get_or, Bool, true, false, refl, ap, ap₂, sym, ◌∙◌, subst, arith, inl, inr, length-append, Result, Ok, Err, IfOk}
 use Rattle.std.specs.List.{All}
 use Rattle.std.proofs.lemmas.Bool.{and_parts, or_left, or_right, or_cases, leb-true, eq-eqb, false≢true}
-use Rattle.std.proofs.lemmas.List.{map-append, length-map, take-map, drop-map, take-append-drop, length-drop, take_all}
+use Rattle.std.proofs.lemmas.List.{map-append, length-map, take-map, drop-map, take-append-drop, length-drop, length-take, take_all}
 use Rattle.std.proofs.lemmas.List.Elements.{All-take}
 use Rattle.std.proofs.Math.Seq.{take-suc}
 use Rattle.iso_atoms.specs.Texts.{text_at}
@@ -16,9 +16,15 @@ use Rattle.iso_store_core.specs.declared.patterns.Part.TheVariants.{Variable as 
 use Rattle.iso_store_core.specs.Presents.{Present, Holds, Makes, Gathers}
 use Rattle.iso_store_core.specs.Copying.{cells_of}
 use Rattle.iso_store_core.specs.Patterns.{IsPattern, HasPlaces, part_step, after_parts, at_places}
-use Rattle.iso_store.specs.Writing.{IsReady, part_cells, taken}
+use Rattle.iso_store.specs.Writing.{IsReady, MakesOne, part_cells, taken}
 use Rattle.iso_store.proofs.Gathering.{keeps-none, keeps-then, terms-kept, gathers-more, gathers-length}
 use Rattle.iso_store.proofs.PatternLemmas.{after-append}
+
+-- the term at a place
+pub at-place : {W : Type 0} (f : W → Tree) (ws : List W) (x : ℕ) (d : W) → x < length ws → at_places (map f ws) x ≡ f (get_or ws x d)
+at-place f [] x d below = elim below [ ]
+at-place f (w ∷ ws) zero d below = refl
+at-place f (w ∷ ws) (suc x) d below = at-place f ws x d (omega arith)
 
 -- ---- one part
 module _ {W : Type 0} {p q : Present W} (ws us : List W) (w : W) (hold : All (λ v. Holds p v) ws) where
@@ -207,11 +213,38 @@ module _ (names : List (List ℕ)) where
             | inr never ↦ absurd (false≢true never)
           ]
 
+      -- the last part makes the term
+      pub last-step : (i : ℕ) (k : Part) → suc i ≡ length ks → k ≡ get_or ks i k → with_step (part_step names Variable k) (so_far i) ≡ t ∷ []
+      last-step i k last is = sym (next-part i k (omega arith) is) ∙ all-parts (suc i) (omega arith)
+
       pub part-is-ready : (i : ℕ) (k : Part) (count : ℕ) → i < length ks → k ≡ get_or ks i k → arities_fit t ≡ true → HasPlaces count t → IsReady count (length (so_far i)) k
       part-is-ready i k count below is fits places =
           let next = next-part i k below is in
           part-ready k (so_far i) count (ap (λ ts. arities_fit (row ts)) (sym next) ∙ fits-so-far (suc i) fits)
           (subst (λ ts. HasPlaces count (row ts)) next (places-so-far (suc i) count places))
+
+pub some-parts : (names : List (List ℕ)) (ks : List Part) (t : Tree) → IsPattern names ks t → 0 < length ks
+some-parts names [] t whole = let none : [] ≡ t ∷ [] = whole.term in absurd (omega (arith, ap length none))
+some-parts names (k ∷ ks) t whole = omega arith
+
+-- ---- the parts before the last one
+taken-or : {X : Type 0} (xs : List X) (n i : ℕ) (d : X) → i < n → get_or (take n xs) i d ≡ get_or xs i d
+taken-or xs zero i d below = absurd (omega arith)
+taken-or [] (suc n) i d below = refl
+taken-or (x ∷ xs) (suc n) zero d below = refl
+taken-or (x ∷ xs) (suc n) (suc i) d below = taken-or xs n i d (omega arith)
+
+pub before-last : (ks : List Part) (i : ℕ) (k : Part) → i < length (take (length ks - 1) ks) → k ≡ get_or (take (length ks - 1) ks) i k → (i < length ks) × (k ≡ get_or ks i k)
+before-last ks i k below is =
+    let long = length-take (length ks - 1) ks in
+    let within : i < length ks - 1 = omega (arith, below, long) in
+    (omega (arith, within), is ∙ taken-or ks (length ks - 1) i k within)
+
+pub at-last : (names : List (List ℕ)) (ks : List Part) (t : Tree) → IsPattern names ks t → (i : ℕ) → length (take (length ks - 1) ks) ≤ i → i ≤ length (take (length ks - 1) ks) → suc i ≡ length ks
+at-last names ks t whole i past within =
+    let long = length-take (length ks - 1) ks in
+    let some = some-parts names ks t whole in
+    omega (arith, past, within, long, some)
 
 -- ---- words for the terms so far
 module _ {W : Type 0} {p q r : Present W} (names : List (List ℕ)) (variables : List W) (hold : All (λ v. Holds p v) variables) {ws us : List W} (ts : List Tree) where
@@ -227,6 +260,30 @@ module _ {W : Type 0} {p q r : Present W} (names : List (List ℕ)) (variables :
             part.terms ∙ ap₂ (λ vs xs. with_step (part_step names (at_places vs) k) xs) same so.terms
             ∙ sym (part-applied names (at_places (map p.term variables)) k ts);
       }
+
+module _ {W : Type 0} {p q : Present W} (names : List (List ℕ)) (variables : List W) (hold : All (λ v. Holds p v) variables) {ws : List W} (ts : List Tree) where
+  -- a variable has its word already
+  pub gathers-place : {us : List W} (k : Part) (x : ℕ) (d : W) → k ≡ Place x → x < length variables → us ≡ ws ++ get_or variables x d ∷ [] → Gathers p q ws (map (apply (at_places (map p.term variables))) ts)
+      → Gathers p q us (map (apply (at_places (map p.term variables))) (with_step (part_step names Variable k) ts))
+  gathers-place k x d is below more so =
+      let w = get_or variables x d in
+      let stands = so.words.stand w (hold x d below) in
+      let itself : Makes q q w (q.term w) = record { words = keeps-none q; substitution = refl; holds = stands; term = refl } in
+      let term : q.term w ≡ at_places (map p.term variables) x = so.words.terms w (hold x d below) ∙ sym (at-place p.term variables x d below) in
+      let terms = ap (λ u. map (apply (at_places (map p.term variables))) ts ++ u ∷ []) term ∙ sym (map-append (apply (at_places (map p.term variables))) ts (Variable x ∷ [])) in
+      rw (more, is) (subst (Gathers p q (ws ++ w ∷ [])) terms (gathers-more so itself))
+
+  -- what the last part makes
+  pub last-makes : (k : Part) (t : Tree) → with_step (part_step names Variable k) ts ≡ t ∷ [] → Gathers p q ws (map (apply (at_places (map p.term variables))) ts)
+      → MakesOne names (at_places (map q.term variables)) k (map q.term ws) (apply (at_places (map p.term variables)) t)
+  last-makes k t is so =
+      ap₂ (λ vs xs. with_step (part_step names (at_places vs) k) xs) (terms-kept so.words variables hold) so.terms
+      ∙ sym (part-applied names (at_places (map p.term variables)) k ts) ∙ ap (map (apply (at_places (map p.term variables)))) is
+
+-- a word made behind those that were gathered
+pub made-behind : {W E : Type 0} {p q : Present W} {ws : List W} {ts : List Tree} (r : Present W) (t : Tree) (result : Result W E) → Gathers p q ws ts → IfOk result (λ w. Makes q r w t) → IfOk result (λ w. Makes p r w t)
+made-behind r t (Ok w) so made = record { words = keeps-then so.words made.words; substitution = made.substitution ∙ so.substitution; holds = made.holds; term = made.term }
+made-behind r t (Err e) so made = made
 
 pub gathers-count : {W : Type 0} {p q : Present W} {ws : List W} (s : Subst) (ts : List Tree) → Gathers p q ws (map (apply s) ts) → length ws ≡ length ts
 gathers-count s ts so = gathers-length so ∙ length-map ts (apply s)

@@ -1,4 +1,4 @@
--- The words of a store of nodes stand for terms.
+-- The words of a store of nodes stand for terms, and its bindings are a substitution.
 use Rattle.std.proofs.Common.{◌≡◌, ℕ, zero, suc, ◌<◌, ◌==◌, List, [], ◌∷◌, length, map, get_or, true, ◌&&◌, nat_le, refl, ap, sym, ◌∙◌, arith, Some, inl, inr, Result, Ok, Err, IfOk}
 use Rattle.std.specs.List.{slice_get}
 use Rattle.iso_atoms.specs.Texts.{text_at}
@@ -10,7 +10,7 @@ use Rattle.iso_model.specs.Terms.TermOf.{term_of}
 use Rattle.iso_model.proofs.OnTerms.MeaningLemmas.{meaning_is_term}
 use Rattle.iso_model.specs.Terms.Sorts.{is_term, is_row}
 use Rattle.iso_model.specs.Terms.Variables.{is_in}
-use Rattle.iso_model.specs.Terms.Substitutions.{Subst, apply, compose, single}
+use Rattle.iso_model.specs.Terms.Substitutions.{Subst, apply, compose, single, IsSubstitution}
 use Rattle.iso_model.specs.Terms.Unification.Applied.{single_at, single_other}
 use Rattle.iso_model.proofs.OnTerms.SortLemmas.{term_applied}
 use Rattle.iso_store.specs.declared.nodes.Node.{Node}
@@ -19,6 +19,8 @@ use Rattle.iso_store.specs.NodeTerms.{term_at, binding_of, binding_at, bindings,
 use Rattle.iso_store.specs.NodeStores.{IsStore}
 use Rattle.iso_store.specs.NodeLemmas.{term_at-variable, term_at-integer, term_at-atom, term_at-compound}
 use Rattle.iso_store.specs.NodeNumbers.{trail_parts}
+use Rattle.iso_store.proofs.NodeReads.{high_value}
+use Rattle.iso_store.proofs.Trails.{twice-all, idempotent}
 
 pub row-count : (f : ℕ → Tree) (ws : List ℕ) → count (row (map f ws)) ≡ length ws
 row-count f [] = refl
@@ -86,3 +88,9 @@ module _ (names : List (List ℕ)) (cs : List Node) (es : List ℕ) (next : ℕ)
 
   pub meaning-sorted : (w : ℕ) → w < length cs → is_term (apply (substitution_of names cs es) (term_at names cs w)) ≡ true
   meaning-sorted w within = term_applied (substitution_of names cs es) (term_at names cs w) (term_at-sorted w within) (λ n o. substitution-sorted n)
+
+  pub substitution-is : IsSubstitution (substitution_of names cs es)
+  substitution-is = record {
+    finite = (next, high_value names cs es next store);
+    idempotent = idempotent (substitution_of names cs es) (twice-all Variable (bindings names cs es) (λ n. refl) store.may_bind);
+  }

@@ -1,7 +1,6 @@
 -- What a part of a head shows of its term.
-use Rattle.std.proofs.Common.{◌≡◌, ◌≢◌, ℕ, ℤ, zero, suc, ◌+◌, ◌-◌, ◌<◌, ◌≤◌, ◌&&◌, nat_le, List, [], ◌∷◌, ◌++◌, length, map, take, drop, get_or, Bool, true, false, refl, ap, ap₂, sym, ◌∙◌, subst, arith, append-nil}
-use Rattle.std.specs.List.{All}
-use Rattle.std.proofs.lemmas.Bool.{and_parts, and_from, false≢true}
+use Rattle.std.proofs.Common.{◌≡◌, ℕ, ℤ, suc, ◌-◌, ◌<◌, ◌≤◌, ◌&&◌, nat_le, List, [], ◌∷◌, ◌++◌, length, take, drop, get_or, Bool, true, false, refl, ap, sym, ◌∙◌, subst, arith, append-nil}
+use Rattle.std.proofs.lemmas.Bool.{and_parts, and_from}
 use Rattle.std.proofs.lemmas.List.{length-drop, take-append-drop}
 use Rattle.iso_atoms.specs.Texts.{text_at}
 use Rattle.iso_model.specs.Terms.Trees.{Tree, Variable, Integer, Name, Apply, row, count, arities_fit}
@@ -9,7 +8,6 @@ use Rattle.iso_model.specs.Terms.Sorts.{is_term, is_row}
 use Rattle.iso_model.specs.Terms.Building.{Gather, with_step}
 use Rattle.iso_store_core.specs.declared.patterns.Part.{Part}
 use Rattle.iso_store_core.specs.declared.patterns.Part.TheVariants.{Variable as Place, Integer as Number, Atom, Compound}
-use Rattle.iso_store_core.specs.declared.shapes.Shape.{Shape}
 use Rattle.iso_store_core.specs.declared.shapes.Shape.TheVariants as shape
 use Rattle.iso_store_core.specs.Exact.{are_exact}
 use Rattle.iso_store_core.specs.Patterns.{IsNamed, IsPattern, HasPlaces, part_step, after_parts}

@@ -1,6 +1,5 @@
 -- Reading all of a head.
-use Rattle.std.proofs.Common.{◌≡◌, ℕ, zero, suc, ◌+◌, ◌-◌, ◌<◌, ◌≤◌, List, [], ◌∷◌, ◌++◌, length, Option, Some, None, slice_get, slice_index_or, true, refl, ap, sym, ◌∙◌, subst, arith, length-append}
-use Rattle.std.specs.List.{All}
+use Rattle.std.proofs.Common.{◌≡◌, ℕ, zero, suc, ◌<◌, List, [], ◌∷◌, ◌++◌, length, Option, Some, None, slice_get, slice_index_or, true, refl, ap, sym, ◌∙◌, subst, arith}
 use Rattle.std.proofs.lemmas.Option.{slice_get_within}
 use Rattle.iso_model.specs.Terms.Trees.{Tree}
 use Rattle.iso_model.specs.Terms.Substitutions.{Subst}
@@ -8,7 +7,7 @@ use Rattle.iso_store_core.specs.declared.patterns.Part.{Part}
 use Rattle.iso_store_core.specs.Patterns.{IsPattern}
 use Rattle.iso_store_core.specs.Presents.{Present, Holds}
 use Rattle.iso_store.specs.declared.reading.Later.{Later}
-use Rattle.iso_store.specs.Reading.{first_terms, IsRead, IsReadOn, MakesLeft, Solves, GivesValues, MakesLater, IsHeadRead}
+use Rattle.iso_store.specs.Reading.{first_terms, IsRead, IsReadOn, MakesLeft, Solves, IsHeadRead}
 use Rattle.iso_store.proofs.InstanceLemmas.{all-parts}
 use Rattle.iso_store.proofs.HeadCells.{later-none, later-end}
 

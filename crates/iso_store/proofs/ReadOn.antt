@@ -1,10 +1,9 @@
 -- What reading a part of a head comes to.
-use Rattle.std.proofs.Common.{◌≡◌, ◌≢◌, ℕ, zero, suc, ◌+◌, ◌-◌, ◌<◌, ◌≤◌, ◌&&◌, List, [], ◌∷◌, ◌++◌, length, map, take, drop, get_or, Option, Some, None, slice_get, slice_set, true, false, refl, ap, ap₂, sym, ◌∙◌, subst, arith, inl, inr, append-nil, length-append}
-use Rattle.std.specs.List.{All}
+use Rattle.std.proofs.Common.{◌≡◌, ◌≢◌, ℕ, zero, suc, ◌+◌, ◌-◌, ◌<◌, List, [], ◌∷◌, ◌++◌, length, map, Option, Some, None, slice_get, slice_set, true, false, refl, ap, ap₂, sym, ◌∙◌, subst, arith, inl, inr, length-append}
 use Rattle.std.proofs.lemmas.Bool.{and_parts, or_left, or_right, cases_eq}
-use Rattle.std.proofs.lemmas.List.{map-append, length-map}
-use Rattle.std.proofs.lemmas.List.Elements.{All-push, All-pop}
-use Rattle.iso_model.specs.Terms.Trees.{Tree, Variable, Apply, End, row, count, arities_fit}
+use Rattle.std.proofs.lemmas.List.{map-append}
+use Rattle.std.proofs.lemmas.List.Elements.{All-push}
+use Rattle.iso_model.specs.Terms.Trees.{Tree, Variable, row, arities_fit}
 use Rattle.iso_model.specs.Terms.Variables.{occurs}
 use Rattle.iso_model.specs.Terms.Substitutions.{Subst, apply}
 use Rattle.iso_model.specs.Terms.Copies.{renamed}
@@ -12,7 +11,7 @@ use Rattle.iso_store_core.specs.declared.patterns.Part.{Part}
 use Rattle.iso_store_core.specs.Patterns.{IsPattern, HasPlaces}
 use Rattle.iso_store_core.specs.Presents.{Present, Holds, meaning}
 use Rattle.iso_store.specs.declared.reading.Later.{Later}
-use Rattle.iso_store.specs.Reading.{first_terms, term_between, IsBetween, IsLater, IsRead, IsReadOn, GivesValues, MakesLater, MakesLeft, Solves}
+use Rattle.iso_store.specs.Reading.{first_terms, term_between, IsBetween, IsLater, IsRead, IsReadOn, MakesLeft}
 use Rattle.iso_store.proofs.UnifyLemmas.{All-front, All-last}
 use Rattle.iso_store.proofs.HeadCells.{later-part, later-variable}
 use Rattle.iso_store.proofs.InstanceLemmas.{arities-append, occurs-append, fits-so-far, places-so-far}

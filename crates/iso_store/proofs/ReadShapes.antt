@@ -1,14 +1,13 @@
 -- What reading a part comes to that is no variable.
-use Rattle.std.proofs.Common.{◌≡◌, ◌≢◌, ℕ, zero, suc, ◌+◌, ◌-◌, ◌<◌, ◌≤◌, List, [], ◌∷◌, ◌++◌, length, map, Option, Some, None, true, false, refl, ap, ap₂, sym, ◌∙◌, subst, arith, append-nil, length-append}
+use Rattle.std.proofs.Common.{◌≡◌, ◌≢◌, ℕ, ◌+◌, ◌-◌, ◌<◌, List, [], ◌∷◌, ◌++◌, length, map, Option, Some, None, true, refl, ap, ap₂, sym, ◌∙◌, subst, arith, append-nil, length-append}
 use Rattle.std.specs.List.{All}
 use Rattle.std.proofs.lemmas.List.{map-append, length-map}
 use Rattle.iso_atoms.specs.Texts.{text_at, EachOnce}
-use Rattle.iso_model.specs.Terms.Trees.{Tree, Variable, Integer, Name, Apply, End, row, count}
+use Rattle.iso_model.specs.Terms.Trees.{Tree, Variable, Integer, Name, Apply, row}
 use Rattle.iso_model.specs.Terms.Sorts.{is_term}
 use Rattle.iso_model.specs.Terms.Substitutions.{Subst, apply}
 use Rattle.iso_model.specs.Terms.Copies.{renamed}
 use Rattle.iso_model.specs.Terms.Unifiers.{NeverEqual}
-use Rattle.iso_model.specs.Terms.Unification.Composed.{never_sym}
 use Rattle.iso_model.proofs.OnTerms.CostOfRows.{apply-row}
 use Rattle.iso_model.proofs.OnTerms.SortLemmas.{count-apply, term_applied}
 use Rattle.iso_store_core.specs.declared.patterns.Part.{Part}
@@ -19,7 +18,7 @@ use Rattle.iso_store_core.specs.Shapes.{IsShape}
 use Rattle.iso_store_core.specs.Presents.{Present, Holds, meaning}
 use Rattle.iso_store.specs.declared.reading.Later.{Later}
 use Rattle.iso_store.specs.Unifying.{IsCompound}
-use Rattle.iso_store.specs.Reading.{first_terms, IsRead, IsReadOn, MakesLeft, Solves, Shows}
+use Rattle.iso_store.specs.Reading.{first_terms, IsRead, IsReadOn, MakesLeft, Shows}
 use Rattle.iso_store.proofs.UnifyLemmas.{All-front, row-of}
 use Rattle.iso_store.proofs.ArgumentLemmas.{row_of_term}
 use Rattle.iso_store.proofs.Clashes.{never-compound, one-atom}

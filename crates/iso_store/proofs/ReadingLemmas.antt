@@ -1,11 +1,10 @@
 -- Reading a head: its parts, and the words that are to stand for them.
-use Rattle.std.proofs.Common.{◌≡◌, ◌≢◌, ℕ, zero, suc, ◌+◌, ◌-◌, ◌<◌, ◌≤◌, List, [], ◌∷◌, ◌++◌, length, map, take, drop, get_or, Option, Some, None, slice_get, true, false, refl, ap, ap₂, sym, ◌∙◌, subst, arith, add-one, length-append}
+use Rattle.std.proofs.Common.{◌≡◌, ℕ, zero, suc, ◌+◌, ◌<◌, ◌≤◌, List, [], ◌∷◌, ◌++◌, length, take, get_or, refl, ap, ap₂, sym, ◌∙◌, arith, add-one}
 use Rattle.std.specs.List.{All}
 use Rattle.std.proofs.Math.Seq.{take-suc}
 use Rattle.std.proofs.lemmas.List.{take_all}
 use Rattle.std.proofs.lemmas.List.Elements.{All-push}
-use Rattle.iso_model.specs.Terms.Trees.{Tree, Variable, Apply, End, row, count}
-use Rattle.iso_model.specs.Terms.Substitutions.{Subst, apply}
+use Rattle.iso_model.specs.Terms.Trees.{Tree, End, row}
 use Rattle.iso_store_core.specs.Arguments.{arity, arguments, argument, member, listed}
 use Rattle.iso_store.specs.Unifying.{IsCompound}
 use Rattle.iso_store.proofs.UnifyLemmas.{compound-arity}

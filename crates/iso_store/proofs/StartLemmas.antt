@@ -1,17 +1,17 @@
 -- Where the parts of a term begin.
-use Rattle.std.proofs.Common.{◌≡◌, ◌≢◌, ℕ, inl, inr, zero, suc, ◌+◌, ◌-◌, ◌<◌, ◌≤◌, ◌&&◌, nat_le, List, [], ◌∷◌, ◌++◌, length, map, take, drop, get_or, Bool, true, false, refl, ap, ap₂, sym, ◌∙◌, subst, arith, append_assoc, append-nil, length-append}
+use Rattle.std.proofs.Common.{◌≡◌, ◌≢◌, ℕ, inl, inr, zero, suc, ◌+◌, ◌-◌, ◌<◌, ◌≤◌, nat_le, List, [], ◌∷◌, ◌++◌, length, take, drop, get_or, true, refl, ap, ap₂, sym, ◌∙◌, subst, arith, append_assoc, append-nil, length-append}
 use Rattle.std.specs.List.{All}
 use Rattle.std.proofs.lemmas.Bool.{and_parts, leb-true, cases_eq}
 use Rattle.std.proofs.lemmas.List.{length-take, length-drop, take-append-drop, get_or-take, drop_more, drop_all, nil_from_length}
 use Rattle.std.proofs.lemmas.List.Elements.{All-take, All-drop}
 use Rattle.iso_atoms.specs.Texts.{text_at}
 use Rattle.iso_model.specs.Terms.Trees.{Tree, Variable, Integer, Name, Apply, End, row}
-use Rattle.iso_model.specs.Terms.Building.{Step, Give, Gather, with_step}
+use Rattle.iso_model.specs.Terms.Building.{Give, Gather, with_step}
 use Rattle.iso_model.proofs.OnTerms.BuildingLemmas.{with_gathered}
 use Rattle.iso_store_core.specs.declared.patterns.Part.{Part}
 use Rattle.iso_store_core.specs.declared.patterns.Part.TheVariants.{Variable as Place, Integer as Number, Atom, Compound}
 use Rattle.iso_store_core.specs.Exact.{are_exact}
-use Rattle.iso_store_core.specs.Patterns.{IsNamed, IsPattern, part_step, after_parts}
+use Rattle.iso_store_core.specs.Patterns.{IsNamed, part_step, after_parts}
 use Rattle.iso_store.specs.Reading.{first_terms, parts_between, term_between, IsBetween}
 use Rattle.iso_store.proofs.InstanceLemmas.{next-part}
 

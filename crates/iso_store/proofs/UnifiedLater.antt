@@ -1,10 +1,8 @@
 -- What was left for later, made and unified with its word.
-use Rattle.std.proofs.Common.{◌≡◌, ℕ, zero, suc, ◌+◌, ◌-◌, ◌<◌, ◌≤◌, List, [], ◌∷◌, length, map, take, drop, get_or, Bool, Result, Ok, Err, IfOk, true, false, refl, ap, sym, ◌∙◌, subst, subst₂, arith}
-use Rattle.std.specs.List.{All}
+use Rattle.std.proofs.Common.{◌≡◌, ℕ, zero, suc, ◌-◌, ◌<◌, ◌≤◌, List, [], ◌∷◌, length, map, take, drop, Bool, Result, Ok, Err, IfOk, true, false, refl, ap, sym, ◌∙◌, subst, subst₂, arith}
 use Rattle.std.proofs.lemmas.List.{take_all}
-use Rattle.iso_model.specs.Terms.Trees.{Tree, End}
-use Rattle.iso_model.specs.Terms.Variables.{occurs}
-use Rattle.iso_model.specs.Terms.Substitutions.{Subst, apply, compose}
+use Rattle.iso_model.specs.Terms.Trees.{Tree}
+use Rattle.iso_model.specs.Terms.Substitutions.{apply, compose}
 use Rattle.iso_model.specs.Terms.Unifiers.{Unifier, NeverEqual}
 use Rattle.iso_model.specs.Terms.Unification.Applied.{apply_apply, apply_same}
 use Rattle.iso_store_core.specs.declared.shapes.StoreFault.{StoreFault}
@@ -12,7 +10,7 @@ use Rattle.iso_store_core.specs.declared.patterns.Part.{Part}
 use Rattle.iso_store_core.specs.Patterns.{IsPattern, HasPlaces, at_places}
 use Rattle.iso_store.specs.declared.reading.Later.{Later}
 use Rattle.iso_store.specs.Reading.{term_between, IsLater}
-use Rattle.iso_store_core.specs.Presents.{Present, Holds, meaning, KeepsNumbers, Makes, Binds, IsUnification}
+use Rattle.iso_store_core.specs.Presents.{Present, meaning, KeepsNumbers, Makes, IsUnification}
 use Rattle.iso_store.proofs.Gathering.{keeps-then, numbers-then}
 
 places-applied : {W : Type 0} (p : Present W) (ws : List W) (x : ℕ) → x < length ws → apply p.substitution (at_places (map p.term ws) x) ≡ at_places (map (meaning p) ws) x

@@ -1,12 +1,11 @@
 -- What was left for later, unified one after the other.
-use Rattle.std.proofs.Common.{◌≡◌, ℕ, zero, suc, ◌+◌, ◌<◌, List, [], ◌∷◌, ◌++◌, Bool, false, slice_index_or, length, map, take, refl, ap, ap₂, sym, ◌∙◌, subst, arith, true}
+use Rattle.std.proofs.Common.{◌≡◌, ℕ, zero, suc, ◌+◌, ◌<◌, List, [], ◌∷◌, ◌++◌, Bool, false, slice_index_or, length, map, take, refl, ap, sym, ◌∙◌, subst, arith, true}
 use Rattle.std.specs.List.{All}
 use Rattle.std.proofs.lemmas.List.Elements.{All-push}
-use Rattle.iso_model.specs.Terms.Trees.{Tree, End, Variable}
-use Rattle.iso_model.specs.Terms.Variables.{occurs}
-use Rattle.iso_model.specs.Terms.Substitutions.{Subst, apply, compose, Extends, BindsToOlder}
+use Rattle.iso_model.specs.Terms.Trees.{Tree, Variable}
+use Rattle.iso_model.specs.Terms.Substitutions.{Subst, apply, compose}
 use Rattle.iso_model.specs.Terms.Unifiers.{Unifier, NeverEqual}
-use Rattle.iso_model.specs.Terms.Unification.Applied.{apply_apply, apply_same, apply_absorbs, apply_none}
+use Rattle.iso_model.specs.Terms.Unification.Applied.{apply_apply, apply_same, apply_absorbs}
 use Rattle.iso_model.specs.Terms.Unification.Composed.{variable_from}
 use Rattle.iso_store_core.specs.declared.patterns.Part.{Part}
 use Rattle.iso_store_core.specs.Patterns.{HasPlaces, at_places}

@@ -1,21 +1,16 @@
--- Words for the variables of a clause, which come bound to their values.
-use Rattle.std.proofs.Common.{◌≡◌, ◌≢◌, ℕ, zero, suc, ◌+◌, ◌-◌, ◌<◌, ◌≤◌, ◌⊎◌, List, [], ◌∷◌, ◌++◌, length, take, get_or, Option, Some, None, slice_get, slice_index_or, true, false, refl, ap, sym, ◌∙◌, subst, arith, inl, inr, add-one, length-append}
-use Rattle.std.specs.List.{All}
+-- The words of the variables of a clause: their values, and variables that come.
+use Rattle.std.proofs.Common.{◌≡◌, ◌≢◌, ℕ, zero, suc, ◌+◌, ◌-◌, ◌<◌, ◌≤◌, ◌⊎◌, List, [], ◌∷◌, ◌++◌, length, take, get_or, Option, Some, None, slice_get, slice_index_or, refl, ap, sym, ◌∙◌, arith, inl, inr, add-one, length-append}
 use Rattle.std.proofs.Math.Seq.{take-suc}
-use Rattle.std.proofs.lemmas.Bool.{cases_eq, false≢true, eq-eqb}
+use Rattle.std.proofs.lemmas.Bool.{cases_eq, false≢true}
 use Rattle.std.proofs.lemmas.Bool.Decides.{leb_tells}
 use Rattle.std.proofs.lemmas.Option.{slice_get_within}
 use Rattle.std.proofs.lemmas.List.Elements.{All-push}
-use Rattle.iso_model.specs.Terms.Trees.{Tree, Variable}
-use Rattle.iso_model.specs.Terms.Variables.{occurs}
-use Rattle.iso_model.specs.Terms.Substitutions.{Subst, apply, compose, single}
-use Rattle.iso_model.specs.Terms.Unification.Applied.{apply_apply, apply_alone, apply_none, apply_single_absent, single_at, single_other}
-use Rattle.iso_model.proofs.OnTerms.UnifierLemmas.{compose_compose}
-use Rattle.iso_store_core.specs.Presents.{Present, Holds, KeepsWords, Makes, TakesNumber, TakesFrom, Untouched, Binds, meaning}
-use Rattle.iso_store.specs.Meetings.{IsYounger}
+use Rattle.iso_model.specs.Terms.Trees.{Variable}
+use Rattle.iso_model.specs.Terms.Substitutions.{Subst, apply, compose}
+use Rattle.iso_model.specs.Terms.Unification.Applied.{apply_alone, apply_none, apply_single_absent, single_at, single_other}
+use Rattle.iso_store_core.specs.Presents.{Present, Holds, Makes, TakesNumber, Untouched, meaning}
 use Rattle.iso_store.specs.Reading.{GetsWord, HasWords, AreValues, value_bound}
 use Rattle.iso_store.proofs.Gathering.{keeps-none, keeps-then}
-use Rattle.iso_store.proofs.UnifiedLater.{kept-meaning}
 
 get-before : {X : Type 0} (xs : List X) (y : X) (i : ℕ) → i < length xs → slice_get (xs ++ y ∷ []) i ≡ slice_get xs i
 get-before [] y i below = elim below [ ]
@@ -47,39 +42,26 @@ module _ {W : Type 0} {p q : Present W} (number : ℕ) (variable : W) (made : Ma
   pub variable-itself : meaning q variable ≡ Variable number
   variable-itself = ap (apply q.substitution) made.term ∙ ap (λ s. s number) made.substitution ∙ (bare number (omega arith)).substitution
 
-  -- where a word holds before it came
-  module _ (w : W) (held : Holds p w) where
-    pub absent-there : occurs number (meaning q w) ≡ false
-    absent-there = ap (occurs number) (kept-meaning variable w made held) ∙ (bare number (omega arith)).meanings w held
-
-    pub younger-there : IsYounger number (meaning q w)
-    younger-there y is =
-        elim (leb_tells number y) [
-          | inl above ↦
-              let none : occurs y (Variable y) ≡ false = ap (occurs y) (sym is) ∙ ap (occurs y) (kept-meaning variable w made held) ∙ (bare y above.1).meanings w held in
-              absurd (false≢true (sym none ∙ eq-eqb y y refl))
-          | inr below ↦ below.1
-        ]
-
-    pub gets-valued : {r : Present W} → TakesNumber p q number → Binds q r (single number (meaning q w)) → GetsWord p r number (Some w) variable
-    gets-valued {r = r} takes bound = record {
-      keeps = keeps-then made.words bound.words;
-      substitution = bound.substitution ∙ ap (λ s. compose s (single number (meaning q w))) made.substitution ∙ ap (λ t. compose p.substitution (single number t)) (kept-meaning variable w made held);
-      next = bound.numbers.next ∙ takes.next;
-      taken = λ n other. bound.numbers.taken n ∙ takes.others n other;
-      holds = bound.words.stand variable made.holds;
-      term = bound.words.terms variable made.holds ∙ made.term;
-    }
-
   pub gets-fresh : TakesNumber p q number → GetsWord p q number None variable
   gets-fresh takes = record {
     keeps = made.words;
-    substitution = made.substitution ∙ (λ i. λ n. sym (apply_none (p.substitution n)) i);
+    substitution = made.substitution;
     next = takes.next;
     taken = takes.others;
     holds = made.holds;
-    term = made.term;
+    means = variable-itself;
   }
+
+-- a value is the word itself
+pub gets-valued : {W : Type 0} (p : Present W) (number : ℕ) (w : W) → Holds p w → GetsWord p p number (Some w) w
+gets-valued p number w held = record {
+  keeps = keeps-none p;
+  substitution = refl;
+  next = refl;
+  taken = λ n other. refl;
+  holds = held;
+  means = sym (single_at number number (meaning p w) refl);
+}
 
 -- ---- the words of all variables
 
@@ -108,11 +90,11 @@ no-words p first = record {
   values_bound = Variable;
   are = record { valued = λ x w is. (let below = slice_get_within [] x (Some w) is in absurd (omega arith)); others = λ n none. refl };
   keeps = keeps-none p;
-  substitution = λ i. λ n. sym (apply_none (p.substitution n)) i;
+  substitution = refl;
   taken = record { next = refl; others = λ n below. refl };
   many = refl;
   hold = λ k d below. elim below [ ];
-  terms = λ x d below. elim below [ ];
+  means = λ x d below. elim below [ ];
 }
 
 module _ {W : Type 0} {p q r : Present W} (first : ℕ) (vs : List (Option W)) (ws : List W) (value : Option W) (w : W) (so : HasWords p q first vs ws) (gets : GetsWord q r (first + length vs) value w)
@@ -128,9 +110,7 @@ module _ {W : Type 0} {p q r : Present W} (first : ℕ) (vs : List (Option W)) (
 
   -- a held word stands in q for what it stood for in p
   stays : (u : W) → Holds p u → meaning q u ≡ meaning p u
-  stays u h =
-      ap (apply q.substitution) (so.keeps.terms u h) ∙ ap (λ s. apply s (p.term u)) so.substitution ∙ sym (apply_apply p.substitution so.values_bound (p.term u))
-      ∙ values-leave p first vs so.values_bound so.are bare u h
+  stays u h = ap (apply q.substitution) (so.keeps.terms u h) ∙ ap (λ s. apply s (p.term u)) so.substitution
 
   -- the last binding leaves what a held word stands for
   bound-leaves : (o : Option W) → (u : W) → Holds p u → apply (value_bound q number o) (meaning p u) ≡ meaning p u
@@ -173,23 +153,36 @@ module _ {W : Type 0} {p q r : Present W} (first : ℕ) (vs : List (Option W)) (
       ap (apply bound) (so.are.others n (λ x u is. none x u (before-now x u is)))
       ∙ bound-other value n (λ u is here. none (length vs) u (get-last vs value (length vs) refl ∙ ap Some is) here)
 
+  -- what the variables before the last one stand for is as it was
+  before-leaves : (x : ℕ) → x < length vs → now (first + x) ≡ so.values_bound (first + x)
+  before-leaves x below =
+      elim (value-or-itself p first vs so.values_bound so.are (first + x)) [
+        | inl valued ↦
+            let is = ap so.values_bound valued.3 ∙ so.are.valued valued.0 valued.1 valued.2 in
+            ap (apply bound) is ∙ bound-leaves value valued.1 (held valued.0 valued.1 (before-now valued.0 valued.1 valued.2)) ∙ sym is
+        | inr itself ↦ ap (apply bound) itself ∙ bound-other value (first + x) (λ u is here. absurd (omega (arith, below, here))) ∙ sym itself
+      ]
+
   pub words-more : HasWords p r first (vs ++ value ∷ []) (ws ++ w ∷ [])
   words-more = record {
     values_bound = now;
     are = record { valued = now-valued; others = now-others };
     keeps = keeps-then so.keeps gets.keeps;
-    substitution = gets.substitution ∙ ap (λ s. compose s bound) so.substitution ∙ compose_compose p.substitution so.values_bound bound;
+    substitution = gets.substitution ∙ so.substitution;
     taken = record { next = gets.next ∙ so.taken.next; others = λ n below. gets.taken n (λ e. omega arith) ∙ so.taken.others n below };
     many = omega (arith, length-append ws (w ∷ []), length-append vs (value ∷ []), so.many);
     hold = All-push (Holds r) ws w (λ k d below. gets.keeps.stand _ (so.hold k d below)) gets.holds;
-    terms = λ x d within.
+    means = λ x d within.
         elim (cases_eq x (length ws)) [
           | inl here ↦
               let at : x ≡ length vs = here ∙ so.many in
-              ap r.term (or-last ws w x d here) ∙ gets.term ∙ ap (λ k. Variable (first + k)) (sym at)
+              ap (meaning r) (or-last ws w x d here) ∙ gets.means ∙ sym (ap (apply bound) last-itself) ∙ ap (λ k. now (first + k)) (sym at)
           | inr other ↦
               let below : x < length ws = omega (arith, length-append ws (w ∷ [])) in
-              ap r.term (or-before ws w x d below) ∙ gets.keeps.terms _ (so.hold x d below) ∙ so.terms x d below
+              let held_before = so.hold x d below in
+              ap (meaning r) (or-before ws w x d below)
+              ∙ (ap (apply r.substitution) (gets.keeps.terms _ held_before) ∙ ap (λ s. apply s (q.term (slice_index_or ws x d))) gets.substitution)
+              ∙ so.means x d below ∙ sym (before-leaves x (omega (arith, below, so.many)))
         ];
   }
 

@@ -3,7 +3,7 @@ use Rattle.std.specs.Prelude.{◌≡◌, ◌≢◌, ℕ, ◌+◌, ◌-◌, ◌<�
 use Rattle.std.specs.List.{All, slice_get}
 use Rattle.iso_model.specs.Terms.Trees.{Tree, Variable, End, row, arities_fit}
 use Rattle.iso_model.specs.Terms.Sorts.{is_term}
-use Rattle.iso_model.specs.Terms.Substitutions.{Subst, apply, compose, single, Extends, BindsToOlder}
+use Rattle.iso_model.specs.Terms.Substitutions.{Subst, apply, single, Extends, BindsToOlder}
 use Rattle.iso_model.specs.Terms.Copies.{renamed}
 use Rattle.iso_store_core.specs.declared.patterns.Part.{Part}
 use Rattle.iso_store_core.specs.declared.shapes.Shape.{Shape}
@@ -105,35 +105,35 @@ IsHeadRead p names ks count goal values later true =
     × ((next : ℕ) (s : Subst) → GivesValues p names ks next s values → MakesLater p names ks next s later → MakesLeft p names ks next s (goal ∷ []) (first_terms names ks (length ks)))
 IsHeadRead p names ks count goal values later false = (next : ℕ) (s : Subst) → MakesLeft p names ks next s (goal ∷ []) (first_terms names ks (length ks)) → ⊥
 
--- what the variable of this number is bound to when it comes: its value, where it has one
+-- the variable of this number is its value, where it has one
 abbrev pub value_bound : {W : Type 0} → Present W → ℕ → Option W → Subst
 value_bound p number (Some w) = single number (meaning p w)
 value_bound p number None = Variable
 
--- From p to q a variable of this number came, bound to its value where it has one, and this is the word for it.
+-- The word is that of the variable of this number: it stands for its value where it has one, else the variable came from p to q.
 pub record GetsWord {W : Type 0} (p q : Present W) (number : ℕ) (value : Option W) (w : W) : Type 0 where
   pub keeps : KeepsWords p q
-  pub substitution : q.substitution ≡ compose p.substitution (value_bound p number value)
+  pub substitution : q.substitution ≡ p.substitution
   pub next : q.next ≡ p.next
   pub taken : (n : ℕ) → n ≢ number → q.taken n ≡ p.taken n
   pub holds : q.holds w ≡ true
-  pub term : q.term w ≡ Variable number
+  pub means : meaning q w ≡ value_bound p number value number
 
 -- v gives the values to the variables that are numbered from first on, and binds no other
 pub record AreValues {W : Type 0} (p : Present W) (first : ℕ) (values : List (Option W)) (v : Subst) : Type 0 where
   pub valued : (x : ℕ) (w : W) → slice_get values x ≡ Some (Some w) → v (first + x) ≡ meaning p w
   pub others : (n : ℕ) → ((x : ℕ) (w : W) → slice_get values x ≡ Some (Some w) → n ≢ first + x) → v n ≡ Variable n
 
--- From p to q the variables of the clause came, bound to their values, and these are the words for them.
+-- These are the words of the clause's variables: they stand for the values, and from p to q the variables without one came.
 pub record HasWords {W : Type 0} (p q : Present W) (first : ℕ) (values : List (Option W)) (ws : List W) : Type 0 where
   pub values_bound : Subst
   pub are : AreValues p first values values_bound
   pub keeps : KeepsWords p q
-  pub substitution : q.substitution ≡ compose p.substitution values_bound
+  pub substitution : q.substitution ≡ p.substitution
   pub taken : TakesFrom p q first
   pub many : length ws ≡ length values
   pub hold : All (Holds q) ws
-  pub terms : (x : ℕ) (d : W) → x < length ws → q.term (slice_index_or ws x d) ≡ Variable (first + x)
+  pub means : (x : ℕ) (d : W) → x < length ws → meaning q (slice_index_or ws x d) ≡ values_bound (first + x)
 
 -- where these words stand for the variables, the substitution makes equal what is to be unified later
 abbrev pub MakesThese : {W : Type 0} → Present W → List (List ℕ) → List Part → List W → Subst → List (Later W) → Type 0

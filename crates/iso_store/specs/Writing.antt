@@ -1,11 +1,13 @@
 -- What is left of writing a term out part by part, and what a part needs and takes.
-use Rattle.std.specs.Prelude.{ℕ, ◌<◌, ◌-◌, List, map}
+use Rattle.std.specs.Prelude.{◌≡◌, ℕ, ◌<◌, ◌-◌, List, [], ◌∷◌, map}
 use Rattle.std.specs.Borrow.{Bor}
 use Rattle.iso_model.specs.declared.terms.Term.{Term}
 use Rattle.iso_model.specs.Terms.Trees.{Tree, Variable}
 use Rattle.iso_model.specs.Terms.TermOf.{term_of}
 use Rattle.iso_model.specs.Terms.Substitutions.{Subst}
+use Rattle.iso_model.specs.Terms.Building.{with_step}
 use Rattle.iso_model.specs.Terms.Copies.{place_of}
+use Rattle.iso_store_core.specs.Patterns.{part_step}
 use Rattle.iso_store_core.specs.declared.patterns.Part.{Part}
 use Rattle.iso_store_core.specs.declared.patterns.Part.TheVariants.{Variable as Place, Integer as Number, Atom, Compound}
 use Rattle.iso_store.specs.declared.patterns.Places.{Places}
@@ -21,6 +23,10 @@ IsReady variables count (Place k) = k < variables
 IsReady variables count (Number z) = Unit {0}
 IsReady variables count (Atom a) = Unit {0}
 IsReady variables count (Compound a n) = (0 < taken count n) × (taken count n < 256)
+
+-- the part makes this one term of the terms before it, where s gives the terms of the places
+abbrev pub MakesOne : List (List ℕ) → Subst → Part → List Tree → Tree → Type 0
+MakesOne names s part before t = with_step (part_step names s part) before ≡ t ∷ []
 
 -- how many cells the part takes, where an integer or an atom takes so many and a compound of n arguments takes width n
 abbrev pub part_cells : ℕ → (ℕ → ℕ) → ℕ → Part → ℕ

@@ -1,5 +1,5 @@
 //! The head of a clause unified with a goal as it is read (7.7.10): what stands for a part of the goal is not made.
-ghost use Rattle.std.specs.Prelude.{◌≡◌, ℕ, ◌+◌, ◌<◌, ◌≤◌, ◌^◌, IfOk, MatchBool, Some, length, map, option_map, true, false};
+ghost use Rattle.std.specs.Prelude.{◌≡◌, ℕ, ◌+◌, ◌<◌, ◌≤◌, ◌^◌, IfOk, OnOk, MatchBool, Some, length, map, true, false};
 ghost use Rattle.std.specs.List.{All, slice_get};
 ghost use Rattle.iso_model.specs.Terms.Trees.{Tree, arities_fit};
 ghost use Rattle.iso_model.specs.Terms.Substitutions.{Subst, apply};
@@ -16,7 +16,7 @@ use super::scratch::{Kept, Scratch, keep, take_kept};
 use super::unify::{Task, unify_with};
 use iso_store_core::{Pattern, StoreFault};
 
-/// The word for the variable of this number, which comes, bound to its value where it has one.
+/// The word of the variable of this number: its value where it has one, else the variable, which comes.
 fn word_for<C: Cells>(
     store: &mut C,
     number: u64,
@@ -31,37 +31,38 @@ fn word_for<C: Cells>(
     ensures names { C.names store.new ≡ C.names store.old }
     ensures marks { KeepsMarks (C.stands store.old) (C.stands store.new) }
 {
-    let variable = store.variable(number)?;
-    if let Some(word) = value {
-        store.bind(number, variable, word)?;
+    match value {
+        Some(word) => Ok(word),
+        None => store.variable(number),
     }
-    Ok(variable)
 }
 
-/// Words for the variables of a clause, which come, numbered from `first` on and bound to their values.
+/// Puts into the list, in place of what it has, the words of the variables of a clause, numbered from `first` on: their values, and those
+/// that have none, which come.
 fn words_for<C: Cells>(
     store: &mut C,
     first: u64,
     values: &[Option<C::Word>],
-) -> Result<Vec<C::Word>, StoreFault>
+    words: &mut Vec<C::Word>,
+) -> Result<(), StoreFault>
     requires numbers { first + length values.now ≤ (C.present store.old).next }
     requires few { first + length values.now < 2 ^ 64 }
     requires free { (n : ℕ) → first ≤ n → (C.present store.old).taken n ≡ false }
     requires held { (x : ℕ) (w : C.Word) → slice_get values.now x ≡ Some (Some w) → Holds (C.present store.old) w }
-    ensures words { IfOk result (λ ws. HasWords (C.present store.old) (C.present store.new) first values.now ws.items) }
+    ensures words { OnOk result (HasWords (C.present store.old) (C.present store.new) first values.now words.new.items) }
     ensures cells { Grows (C.present store.old) (C.present store.new) (length values.now) }
     ensures full { result ≡ Err StoreFault.Full → C.full store.new }
     ensures names { C.names store.new ≡ C.names store.old }
     ensures marks { KeepsMarks (C.stands store.old) (C.stands store.new) }
 {
-    let mut words = Vec::new(store.alloc());
+    words.clear();
     let mut index = 0;
     while index < values.len() {
         let word = word_for(store, first + index as u64, values[index])?;
         words.push(word)?;
         index += 1;
     }
-    Ok(words)
+    Ok(())
 }
 
 /// Whether what was left for later can be unified with its word, which then is bound, with these words for the variables.
@@ -114,19 +115,20 @@ fn unify_later<C: Cells>(
     Ok(true)
 }
 
-/// Unifies the goal with the head, with these notes and lists; what it gives is that of `unify_head`.
+/// Unifies the goal with the head, with these notes and lists; what it comes to is as of `unify_head`.
 fn unify_head_with<C: Cells>(
     store: &mut C,
     head: &Pattern,
     goal: C::Word,
     count: usize,
+    words: &mut Vec<C::Word>,
     kept: &mut Kept<C::Word>,
-) -> Result<Option<Vec<C::Word>>, StoreFault>
+) -> Result<bool, StoreFault>
     requires goal { Holds (C.present store.old) goal }
     requires head { (t : Tree) × IsPattern (C.names store.old) head.now.parts.items t × (arities_fit t ≡ true) × HasPlaces count t }
     requires next { (C.present store.old).next + count < 2 ^ 63 }
     ensures met { (t : Tree) → IsPattern (C.names store.old) head.now.parts.items t
-        → IfOk result (λ found. IsHeadMet (C.present store.old) (C.present store.new) goal t count (option_map (λ ws. ws.items) found)) }
+        → IfOk result (λ answer. IsHeadMet (C.present store.old) (C.present store.new) goal t count words.new.items answer) }
     ensures cells { (t : Tree) → IsPattern (C.names store.old) head.now.parts.items t → Grows (C.present store.old) (C.present store.new) (count + cells_of C.atomic C.width t) }
     ensures full { result ≡ Err StoreFault.Full → C.full store.new }
     ensures names { C.names store.new ≡ C.names store.old }
@@ -143,43 +145,40 @@ fn unify_head_with<C: Cells>(
         &mut reading.later,
         &mut reading.left,
     )? {
-        return Ok(None);
+        return Ok(false);
     }
-    let words = words_for(store, first, reading.values.as_slice())?;
-    let later = reading.later.as_slice();
-    if !unify_later(
+    words_for(store, first, reading.values.as_slice(), words)?;
+    unify_later(
         store,
         head,
-        later,
+        reading.later.as_slice(),
         words.as_slice(),
         &mut kept.scratch,
         &mut kept.tasks,
-    )? {
-        return Ok(None);
-    }
-    Ok(Some(words))
+    )
 }
 
-/// Unifies the goal with the head of a clause, whose pattern this is, read part by part: words for the variables of the clause,
-/// so many, which get the next numbers; none where nothing makes the two equal.
+/// Whether the goal and the head of a clause, whose pattern this is, unify; the head is read part by part. The clause's variables, so
+/// many, get the next numbers, and the list has words of their values in place of what it had.
 pub(crate) fn unify_head<C: Cells>(
     store: &mut C,
     head: &Pattern,
     goal: C::Word,
     count: usize,
-) -> Result<Option<Vec<C::Word>>, StoreFault>
+    words: &mut Vec<C::Word>,
+) -> Result<bool, StoreFault>
     requires goal { Holds (C.present store.old) goal }
     requires head { (t : Tree) × IsPattern (C.names store.old) head.now.parts.items t × (arities_fit t ≡ true) × HasPlaces count t }
     requires next { (C.present store.old).next + count < 2 ^ 63 }
     ensures met { (t : Tree) → IsPattern (C.names store.old) head.now.parts.items t
-        → IfOk result (λ found. IsHeadMet (C.present store.old) (C.present store.new) goal t count (option_map (λ ws. ws.items) found)) }
+        → IfOk result (λ answer. IsHeadMet (C.present store.old) (C.present store.new) goal t count words.new.items answer) }
     ensures cells { (t : Tree) → IsPattern (C.names store.old) head.now.parts.items t → Grows (C.present store.old) (C.present store.new) (count + cells_of C.atomic C.width t) }
     ensures full { result ≡ Err StoreFault.Full → C.full store.new }
     ensures names { C.names store.new ≡ C.names store.old }
     ensures marks { KeepsMarks (C.stands store.old) (C.stands store.new) }
 {
     let mut kept = take_kept(store)?;
-    let met = unify_head_with(store, head, goal, count, &mut kept);
+    let met = unify_head_with(store, head, goal, count, words, &mut kept);
     keep(store, kept);
     met
 }

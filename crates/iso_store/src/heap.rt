@@ -431,8 +431,9 @@ impl Store for Heap {
         head: &Pattern,
         goal: HeapWord,
         count: usize,
-    ) -> Result<Option<Vec<HeapWord>>, StoreFault> {
-        unify_head(self, head, goal, count)
+        words: &mut Vec<HeapWord>,
+    ) -> Result<bool, StoreFault> {
+        unify_head(self, head, goal, count, words)
     }
 
     fn compare(&mut self, one: HeapWord, other: HeapWord) -> Result<Ordering, NoMemory> {

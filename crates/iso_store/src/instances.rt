@@ -8,7 +8,7 @@ ghost use Rattle.iso_model.specs.Terms.Substitutions.{apply};
 ghost use Rattle.iso_store_core.specs.Presents.{Holds, Gathers, Makes, KeepsNumbers, Grows, KeepsMarks};
 ghost use Rattle.iso_store_core.specs.Copying.{cells_of};
 ghost use Rattle.iso_store_core.specs.Patterns.{IsNamed, IsPattern, HasPlaces, part_step, at_places};
-ghost use Rattle.iso_store.specs.Writing.{IsReady, part_cells, taken};
+ghost use Rattle.iso_store.specs.Writing.{IsReady, MakesOne, part_cells, taken};
 
 use super::cells::Cells;
 use iso_atoms::Atom;
@@ -42,6 +42,7 @@ fn gather<C: Cells>(
 }
 
 /// Does what the part says with the words that came before it.
+#[inline(always)]
 pub(crate) fn make_part<C: Cells>(
     store: &mut C,
     part: Part,
@@ -79,6 +80,34 @@ pub(crate) fn make_part<C: Cells>(
     }
 }
 
+/// The term of a last part, which takes all the words that came before it.
+fn make_last<C: Cells>(
+    store: &mut C,
+    part: Part,
+    variables: &[C::Word],
+    words: &[C::Word],
+) -> Result<C::Word, StoreFault>
+    requires named { IsNamed (C.names store.old) part }
+    requires ready { IsReady (length variables.now) (length words.now) part }
+    requires one { (t : Tree) × MakesOne (C.names store.old) (at_places (map (C.present store.old).term variables.now)) part (map (C.present store.old).term words.now) t }
+    requires variables { All (λ w. Holds (C.present store.old) w) variables.now }
+    requires words { All (λ w. Holds (C.present store.old) w) words.now }
+    ensures made { (t : Tree) → MakesOne (C.names store.old) (at_places (map (C.present store.old).term variables.now)) part (map (C.present store.old).term words.now) t
+        → IfOk result (λ w. Makes (C.present store.old) (C.present store.new) w t) }
+    ensures numbers { OnOk result (KeepsNumbers (C.present store.old) (C.present store.new)) }
+    ensures cells { Grows (C.present store.old) (C.present store.new) (part_cells C.atomic C.width (length words.now) part) }
+    ensures full { result ≡ Err StoreFault.Full → C.full store.new }
+    ensures names { C.names store.new ≡ C.names store.old }
+    ensures marks { KeepsMarks (C.stands store.old) (C.stands store.new) }
+{
+    match part {
+        Part::Variable(place) => Ok(variables[place]),
+        Part::Integer(value) => store.int(value),
+        Part::Atom(name) => store.atom(name),
+        Part::Compound(name, _) => store.compound(name, words),
+    }
+}
+
 /// The term of the parts, with the word at its place for each variable, and this list for the words of its parts.
 fn make_parts<C: Cells>(
     store: &mut C,
@@ -97,13 +126,15 @@ fn make_parts<C: Cells>(
     ensures marks { KeepsMarks (C.stands store.old) (C.stands store.new) }
 {
     words.clear();
-    for part in parts {
-        make_part(store, *part, variables, words)?;
+    let last = parts.len() - 1;
+    for part in &parts[..last] {
+        if let Part::Variable(place) = part {
+            words.push(variables[*place])?;
+        } else {
+            make_part(store, *part, variables, words)?;
+        }
     }
-    let Some(word) = words.pop() else {
-        unreachable!()
-    };
-    Ok(word)
+    make_last(store, parts[last], variables, words.as_slice())
 }
 
 /// The term of the parts, with the word at its place for each variable.

@@ -321,8 +321,9 @@ impl Store for Nodes {
         head: &Pattern,
         goal: usize,
         count: usize,
-    ) -> Result<Option<Vec<usize>>, StoreFault> {
-        unify_head(self, head, goal, count)
+        words: &mut Vec<usize>,
+    ) -> Result<bool, StoreFault> {
+        unify_head(self, head, goal, count, words)
     }
 
     fn compare(&mut self, one: usize, other: usize) -> Result<Ordering, NoMemory> {

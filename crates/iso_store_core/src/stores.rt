@@ -1,5 +1,5 @@
 //! The contract that the engine and every built-in stand on: terms under one substitution, which marks bring back.
-ghost use Rattle.std.specs.Prelude.{◌≡◌, ℕ, List, Some, slice_get, ◌+◌, ◌*◌, ◌<◌, ◌≤◌, ◌^◌, IfOk, OnOk, OnErr, length, map, option_map, true, false};
+ghost use Rattle.std.specs.Prelude.{◌≡◌, ℕ, List, Some, slice_get, ◌+◌, ◌*◌, ◌<◌, ◌≤◌, ◌^◌, IfOk, OnOk, OnErr, length, map, true, false};
 ghost use Rattle.std.specs.List.{All};
 ghost use Rattle.iso_atoms.specs.Texts.{EachOnce, KeepsTexts, text_at};
 ghost use Rattle.iso_model.specs.Terms.Trees.{Tree, Integer, Name, Apply, Variable, row, arities_fit};
@@ -24,7 +24,7 @@ use std::cmp::Ordering;
 
 /// Words that stand for terms. A word has the term that it was made with, and stands for what the bindings make of it.
 /// A call that makes words fails where the store is full or memory was refused, as its `StoreFault` says.
-/// After an error, after `unify` answers false, and after `unify_head` gives no words, the caller goes back to a mark.
+/// After an error, after `unify` or `unify_head` answers false, the caller goes back to a mark.
 pub trait Store {
     /// What stands for a term.
     type Word: Copy;
@@ -189,20 +189,22 @@ pub trait Store {
         ensures names { names self.new ≡ names self.old }
         ensures marks { KeepsMarks (stands self.old) (stands self.new) };
 
-    /// Unifies the goal with the head of a clause, whose pattern this is, read part by part (7.7.10): words for the variables of the
-    /// clause, so many, which get the next numbers; none where nothing makes the two equal, which leaves it open what is bound. The
-    /// caller keeps the next number below 2^63.
+    /// Unifies the goal with the head of a clause, whose pattern this is, read part by part (7.7.10), and says whether they unify. The
+    /// clause's variables, so many, get the next numbers, and the list has words of their values in place of what it had. False, where
+    /// nothing makes the two equal, leaves it open what is bound, and what the list has. The caller keeps the next number below 2^63.
     fn unify_head(
         &mut self,
         head: &Pattern,
         goal: Self::Word,
         count: usize,
-    ) -> Result<Option<Vec<Self::Word>>, StoreFault>
+        words: &mut Vec<Self::Word>,
+    ) -> Result<bool, StoreFault>
         requires goal { Holds (present self.old) goal }
         requires head { (t : Tree) × IsPattern (names self.old) head.now.parts.items t × (arities_fit t ≡ true) × HasPlaces count t }
         requires next { (present self.old).next + count < 2 ^ 63 }
         ensures met { (t : Tree) → IsPattern (names self.old) head.now.parts.items t
-            → IfOk result (λ found. IsHeadMet (present self.old) (present self.new) goal t count (option_map (λ ws. ws.items) found)) }
+            → IfOk result (λ answer. IsHeadMet (present self.old) (present self.new) goal t count words.new.items answer) }
+        ensures substitution { IsSubstitution (present self.new).substitution }
         ensures cells { (t : Tree) → IsPattern (names self.old) head.now.parts.items t → Grows (present self.old) (present self.new) (count + cells_of atomic_cells (λ n. n + 1) t) }
         ensures full { result ≡ Err StoreFault.Full → full self.new }
         ensures names { names self.new ≡ names self.old }

@@ -323,6 +323,7 @@ fn triple<W: Copy>(alloc: Global, first: W, second: W, third: W) -> Result<Vec<W
 
 /// Words for the two variables of the term, once it is written out and unified as a head with the goal; none where it can't be.
 fn head_words<S: Store>(
+    alloc: Global,
     store: &mut S,
     head: &Term,
     goal: S::Word,
@@ -335,7 +336,11 @@ fn head_words<S: Store>(
     ensures goal { IfOk result (λ found. IfSome found (λ ws. Holds (S.present store.new) goal)) }
 {
     let pattern = store.pattern(head)?;
-    store.unify_head(&pattern, goal, 2)
+    let mut words = Vec::new(alloc);
+    if store.unify_head(&pattern, goal, 2, &mut words)? {
+        return Ok(Some(words));
+    }
+    Ok(None)
 }
 
 /// That p(1, V, W) becomes p(1, 1, g(Y)) where it is unified with the head p(X, X, g(Y)), with words for X and Y.
@@ -348,7 +353,7 @@ fn expect_head_met<S: Store>(rt: &impl Abort, alloc: Global, store: &mut S) -> R
     let third = store.fresh()?;
     let words = triple(alloc, one, second, third)?;
     let goal = store.compound(functor, words.as_slice())?;
-    let Some(met) = head_words(store, &head_term(alloc)?, goal)? else {
+    let Some(met) = head_words(alloc, store, &head_term(alloc)?, goal)? else {
         panic!(rt; "the head was missed");
     };
     assert_eq!(rt; met.len(), 2usize);
@@ -373,7 +378,7 @@ fn expect_head_missed<S: Store>(rt: &impl Abort, alloc: Global, store: &mut S) -
     let third = store.fresh()?;
     let words = triple(alloc, one, two, third)?;
     let goal = store.compound(functor, words.as_slice())?;
-    assert!(rt; head_words(store, &head_term(alloc)?, goal)?.is_none());
+    assert!(rt; head_words(alloc, store, &head_term(alloc)?, goal)?.is_none());
     Ok(())
 }
 

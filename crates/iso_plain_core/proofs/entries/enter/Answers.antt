@@ -1,11 +1,8 @@
 use Rattle.std.proofs.Common.{◌≡◌, length, arith}
-use Rattle.iso_model.specs.Terms.Copies.{numbers_from}
-use Rattle.iso_plain_core.specs.Standing.{AreVariables}
 use Rattle.iso_plain_core.specs.Entering.{PartsFit}
 use Rattle.iso_plain_core.specs.Written.{term_in}
-use Rattle.iso_plain_core.proofs.PatternLemmas.{copies_renamed}
 use Rattle.iso_plain_core.proofs.EnteringLemmas.{no_parts, some_parts, copies_some}
-use Rattle.iso_plain_core.proofs.HeadLemmas.{head_words, head_found, meets_behind}
+use Rattle.iso_plain_core.proofs.HeadLemmas.{head_met, meets_behind, head_terms, head_values, copies_with}
 use Rattle.iso_plain_core.proofs.entries.enter.Goals as goal
 
 pub unify_head-requires-clause-head : goal.unify_head-requires-clause-head
@@ -14,43 +11,34 @@ unify_head-requires-clause-head g c =
     (term_in (g.S.Store.names c.args.store.now) c.args.clause.now.head, fits.written, fits.fits.arities, fits.fits.below)
 
 -- what the answer says where nothing makes them equal
-pub returns-in_default-clause-enters : goal.returns-in_default-clause-enters
-returns-in_default-clause-enters g c =
-    rw c.in_default.is at (c.in_ok-variables.ensures.met (term_in (g.S.Store.names c.args.store.now) c.args.clause.now.head) c.requires.head_fits.written)
+pub returns-then-not-branch-clause-enters : goal.returns-then-not-branch-clause-enters
+returns-then-not-branch-clause-enters g c =
+    rw c.if-not-branch.true at (c.in_ok-unify_head.ensures.met (term_in (g.S.Store.names c.args.store.now) c.args.clause.now.head) c.requires.head_fits.written)
 
 -- the variables' words as the copying gets them
 pub copy_parts-requires-clause-fits : goal.copy_parts-requires-clause-fits
 copy_parts-requires-clause-fits g c =
     let fits = c.requires.head_fits in
     let head = term_in (g.S.Store.names c.args.store.now) c.args.clause.now.head in
-    let p = g.S.Store.present c.args.store.now in
-    let q = g.S.Store.present c.unify_head.new.self in
-    let count = c.args.clause.now.variables in
-    let met = head_found (λ v. v.items) p q c.args.goal head count c.in_ok-variables.field-0 c.in-Some.variables c.in-Some.is (c.in_ok-variables.ensures.met head fits.written) in
-    let ws = c.in-Some.variables.items in
+    let ws = c.unify_head.new.words.items in
+    let met = head_met (g.S.Store.present c.args.store.now) (g.S.Store.present c.unify_head.new.self) c.args.goal head c.args.clause.now.variables ws c.in_ok-unify_head.field-0 c.if-not-branch.false (c.in_ok-unify_head.ensures.met head fits.written) in
     rw (c.as_slice.ensures.value, c.as_slice-parts.ensures.value, met.many, c.unify_head.ensures.names) c.requires.parts_fit
 
 pub copy_parts-requires-clause-variables : goal.copy_parts-requires-clause-variables
 copy_parts-requires-clause-variables g c =
     let fits = c.requires.head_fits in
     let head = term_in (g.S.Store.names c.args.store.now) c.args.clause.now.head in
-    let p = g.S.Store.present c.args.store.now in
-    let q = g.S.Store.present c.unify_head.new.self in
-    let count = c.args.clause.now.variables in
-    let met = head_found (λ v. v.items) p q c.args.goal head count c.in_ok-variables.field-0 c.in-Some.variables c.in-Some.is (c.in_ok-variables.ensures.met head fits.written) in
-    let ws = c.in-Some.variables.items in
+    let ws = c.unify_head.new.words.items in
+    let met = head_met (g.S.Store.present c.args.store.now) (g.S.Store.present c.unify_head.new.self) c.args.goal head c.args.clause.now.variables ws c.in_ok-unify_head.field-0 c.if-not-branch.false (c.in_ok-unify_head.ensures.met head fits.written) in
     rw c.as_slice.ensures.value met.hold
 
 pub returns-then-is_empty-clause-enters : goal.returns-then-is_empty-clause-enters
 returns-then-is_empty-clause-enters g c =
     let fits = c.requires.head_fits in
     let head = term_in (g.S.Store.names c.args.store.now) c.args.clause.now.head in
-    let p = g.S.Store.present c.args.store.now in
-    let q = g.S.Store.present c.unify_head.new.self in
-    let count = c.args.clause.now.variables in
-    let met = head_found (λ v. v.items) p q c.args.goal head count c.in_ok-variables.field-0 c.in-Some.variables c.in-Some.is (c.in_ok-variables.ensures.met head fits.written) in
-    let ws = c.in-Some.variables.items in
-    (meets_behind met c.in_ok-copy_parts.ensures.extends, no_parts c.args.clause.now.parts.items c.is_empty.result (rw c.as_slice-parts.ensures.value at c.is_empty.ensures) c.if-is_empty.true)
+    let ws = c.unify_head.new.words.items in
+    let met = head_met (g.S.Store.present c.args.store.now) (g.S.Store.present c.unify_head.new.self) c.args.goal head c.args.clause.now.variables ws c.in_ok-unify_head.field-0 c.if-not-branch.false (c.in_ok-unify_head.ensures.met head fits.written) in
+    (meets_behind met c.unify_head.ensures.substitution c.in_ok-copy_parts.ensures.extends, no_parts c.args.clause.now.parts.items c.is_empty.result (rw c.as_slice-parts.ensures.value at c.is_empty.ensures) c.if-is_empty.true)
 
 pub overflow_sub-result : goal.overflow_sub-result
 overflow_sub-result g c =
@@ -65,13 +53,18 @@ returns-clause-enters g c =
     let head = term_in (g.S.Store.names c.args.store.now) c.args.clause.now.head in
     let p = g.S.Store.present c.args.store.now in
     let q = g.S.Store.present c.unify_head.new.self in
-    let count = c.args.clause.now.variables in
-    let met = head_found (λ v. v.items) p q c.args.goal head count c.in_ok-variables.field-0 c.in-Some.variables c.in-Some.is (c.in_ok-variables.ensures.met head fits.written) in
-    let ws = c.in-Some.variables.items in
+    let ws = c.unify_head.new.words.items in
+    let met = head_met p q c.args.goal head c.args.clause.now.variables ws c.in_ok-unify_head.field-0 c.if-not-branch.false (c.in_ok-unify_head.ensures.met head fits.written) in
     let parts_fit : PartsFit (g.S.Store.names c.args.store.now) (length ws) c.args.clause.now.parts.items = rw met.many c.requires.parts_fit in
-    let here : AreVariables q ws (numbers_from p.next (length ws)) = head_words ws met in
-    let copies = copies_renamed ws p.next _ _ c.args.clause.now.parts.items here parts_fit (rw (c.as_slice-parts.ensures.value, c.as_slice.ensures.value, c.unify_head.ensures.names) at c.in_ok-copy_parts.ensures.copies) in
+    let copies = copies_with q ws p.next _ _ c.args.clause.now.parts.items parts_fit (rw (c.as_slice-parts.ensures.value, c.as_slice.ensures.value, c.unify_head.ensures.names) at c.in_ok-copy_parts.ensures.copies) in
     let some = some_parts c.args.clause.now.parts.items c.is_empty.result (rw c.as_slice-parts.ensures.value at c.is_empty.ensures) c.if-is_empty.false in
     let nodes = copies_some copies some in
     let len : c.len.result ≡ length c.copy_parts.new.nodes.items = cc (c.len.ensures, c.copy_parts.new.nodes.ok.0) in
-    (meets_behind met c.in_ok-copy_parts.ensures.extends, copies, omega (arith, nodes, len), some)
+    record {
+      meets = meets_behind met c.unify_head.ensures.substitution c.in_ok-copy_parts.ensures.extends;
+      terms = head_terms q ws p.next;
+      values = head_values ws met c.in_ok-copy_parts.ensures.extends;
+      copies = copies;
+      last = omega (arith, nodes, len);
+      some = some;
+    }

@@ -1,4 +1,5 @@
 use Rattle.std.proofs.Common.{◌≡◌, ℕ, arith, ◌∙◌, ap, ◌≤◌, is_some}
+use Rattle.std.proofs.lemmas.Result.{IfOk-weaker}
 use Rattle.iso_model.specs.Terms.Trees.{Tree, Variable}
 use Rattle.iso_model.specs.Terms.Unification.{unifier_of}
 use Rattle.iso_model.specs.Terms.Copies.{renamed}
@@ -29,8 +30,10 @@ returns-clause-unifies g c = λ d is.
     let same = same_meaning {call = c.args.head} c.reserve-next.ensures.words c.reserve-next.ensures.substitution c.requires.head in
     let call = meaning (g.S.Store.present c.args.store.now) c.args.head in
     let head = term_is names c.args.clause.now.head d.head is.head in
-    let met = (rw c.reserve-next.ensures.names at c.in_ok-met.ensures.met) (term_in names c.args.clause.now.head) fits.written in
-    c.is_some.ensures ∙ met_answer (λ ws. ws.items) p (g.S.Store.present c.unify_head.new.self) c.args.head (term_in names c.args.clause.now.head) c.args.clause.now.variables c.in_ok-met.met alone met
-    ∙ ap (λ (x : Tree). is_some (unifier_of x (renamed p.next (term_in names c.args.clause.now.head)))) same
-    ∙ ap (λ (n : ℕ). is_some (unifier_of call (renamed n (term_in names c.args.clause.now.head)))) next
-    ∙ ap (λ (x : Tree). is_some (unifier_of call (renamed first x))) head)
+    let met = (rw c.reserve-next.ensures.names at c.unify_head.ensures.met) (term_in names c.args.clause.now.head) fits.written in
+    IfOk-weaker c.unify_head.result _ _
+    (λ answer met. met_answer p (g.S.Store.present c.unify_head.new.self) c.args.head (term_in names c.args.clause.now.head) c.args.clause.now.variables c.unify_head.new.words.items answer alone met
+        ∙ ap (λ (x : Tree). is_some (unifier_of x (renamed p.next (term_in names c.args.clause.now.head)))) same
+        ∙ ap (λ (n : ℕ). is_some (unifier_of call (renamed n (term_in names c.args.clause.now.head)))) next
+        ∙ ap (λ (x : Tree). is_some (unifier_of call (renamed first x))) head)
+    met)

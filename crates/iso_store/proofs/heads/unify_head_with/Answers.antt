@@ -1,6 +1,6 @@
-use Rattle.std.proofs.Common.{◌≡◌, ℕ, ◌≤◌, length, slice_index_or, subst, sym, ◌∙◌, true, false}
+use Rattle.std.proofs.Common.{ℕ, ◌≤◌, length, slice_index_or, ◌∙◌}
 use Rattle.iso_store_core.specs.Presents.{Untouched}
-use Rattle.iso_store.proofs.HeadMet.{never-read, never-later, meets-head, read-many, read-whole, read-never}
+use Rattle.iso_store.proofs.HeadMet.{never-read, met-later, read-many, read-whole, read-never}
 use Rattle.iso_store.proofs.UnifiedThese.{later-kept}
 use Rattle.iso_store.proofs.heads.unify_head_with.Goals as goal
 
@@ -25,28 +25,9 @@ unify_later-requires-clause-later g c =
     let values = c.read_head.new.values.items in
     let later = c.read_head.new.later.items in
     let read = read-whole a names ks n c.args.goal values later c.in_ok-read_head.field-0 c.if-not-branch.false (rw c.reserve-first.ensures.names at c.in_ok-read_head.ensures.read) in
-    let has = rw c.as_slice.ensures.value at c.in_ok-words.ensures.words in
-    rw (c.as_slice-later.ensures.value, c.as_slice-2.ensures.value, c.words_for.ensures.names, c.reserve-first.ensures.names, has.many)
+    let has = rw c.as_slice.ensures.value at c.in_ok-words_for.ensures.words in
+    rw (c.as_slice-2.ensures.value, c.as_slice-3.ensures.value, c.words_for.ensures.names, c.reserve-first.ensures.names, has.many)
     (λ k d below. later-kept names ks (length values) (slice_index_or later k d) has.keeps.stand (read.0.waiting k d below))
-
-pub returns-then-not-branch-2-clause-met : goal.returns-then-not-branch-2-clause-met
-returns-then-not-branch-2-clause-met g c = λ t pattern.
-    let names = g.C.Cells.names c.args.store.now in
-    let ks = c.args.head.now.parts.items in
-    let a = g.C.Cells.present c.reserve-first.new.self in
-    let n = length c.begin.new.reading.values.items in
-    let values = c.read_head.new.values.items in
-    let later = c.read_head.new.later.items in
-    let bare : (n : ℕ) → (g.C.Cells.present c.args.store.now).next ≤ n → Untouched a n = λ n above. g.met.C.Cells.untouched c.reserve-first.new.self n (c.reserve-first.ensures.free n (rw c.reserve-first.ensures.number above)) in
-    let told = rw c.reserve-first.ensures.names at c.in_ok-read_head.ensures.read in
-    let many = read-many a names ks n c.args.goal values later c.in_ok-read_head.field-0 c.if-not-branch.false told ∙ c.in_ok-begin.ensures.many in
-    let read = read-whole a names ks n c.args.goal values later c.in_ok-read_head.field-0 c.if-not-branch.false told in
-    let has = rw (c.as_slice.ensures.value, c.reserve-first.ensures.number) at c.in_ok-words.ensures.words in
-    let never = rw (c.if-not-branch-2.true, c.as_slice-later.ensures.value, c.as_slice-2.ensures.value, c.words_for.ensures.names, c.reserve-first.ensures.names) at c.in_ok-unify_later.ensures.unified in
-    never-later names ks t pattern c.args.goal c.requires.goal c.args.count c.reserve-first.ensures.words c.reserve-first.ensures.substitution c.reserve-first.ensures.numbers bare values later c.in_ok-words.words.items many read has never
-
-pub returns-then-not-branch-2-clause-marks : goal.returns-then-not-branch-2-clause-marks
-returns-then-not-branch-2-clause-marks g c = λ m q h. c.unify_later.ensures.marks m q (c.words_for.ensures.marks m q (c.reserve-first.ensures.marks m q h))
 
 pub returns-clause-met : goal.returns-clause-met
 returns-clause-met g c = λ t pattern.
@@ -60,9 +41,9 @@ returns-clause-met g c = λ t pattern.
     let told = rw c.reserve-first.ensures.names at c.in_ok-read_head.ensures.read in
     let many = read-many a names ks n c.args.goal values later c.in_ok-read_head.field-0 c.if-not-branch.false told ∙ c.in_ok-begin.ensures.many in
     let read = read-whole a names ks n c.args.goal values later c.in_ok-read_head.field-0 c.if-not-branch.false told in
-    let has = rw (c.as_slice.ensures.value, c.reserve-first.ensures.number) at c.in_ok-words.ensures.words in
-    let these = rw (c.if-not-branch-2.false, c.as_slice-later.ensures.value, c.as_slice-2.ensures.value, c.words_for.ensures.names, c.reserve-first.ensures.names) at c.in_ok-unify_later.ensures.unified in
-    meets-head names ks t pattern c.args.goal c.requires.goal c.args.count c.reserve-first.ensures.words c.reserve-first.ensures.substitution c.reserve-first.ensures.numbers bare values later c.in_ok-words.words.items many read has these
+    let has = rw (c.as_slice.ensures.value, c.reserve-first.ensures.number) at c.in_ok-words_for.ensures.words in
+    let unified = rw (c.as_slice-2.ensures.value, c.as_slice-3.ensures.value, c.words_for.ensures.names, c.reserve-first.ensures.names) at c.unify_later.ensures.unified in
+    met-later names ks t pattern c.args.goal c.requires.goal c.args.count c.reserve-first.ensures.words c.reserve-first.ensures.substitution c.reserve-first.ensures.numbers bare values later c.words_for.new.words.items many read has _ c.unify_later.result unified
 
 pub returns-clause-marks : goal.returns-clause-marks
 returns-clause-marks g c = λ m q h. c.unify_later.ensures.marks m q (c.words_for.ensures.marks m q (c.reserve-first.ensures.marks m q h))

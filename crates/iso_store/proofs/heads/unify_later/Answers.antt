@@ -1,11 +1,7 @@
-use Rattle.std.proofs.Common.{◌≡◌, ◌+◌, ◌≤◌, length, take, refl, sym, ◌∙◌, subst, arith}
-use Rattle.std.proofs.lemmas.List.{take_all}
-use Rattle.iso_store_core.specs.Presents.{Holds, meaning, IsUnification}
-use Rattle.iso_store.specs.Reading.{IsLater, UnifiesThese}
+use Rattle.std.proofs.Common.{◌+◌, refl, ◌∙◌, arith}
 use Rattle.iso_store.proofs.Gathering.{grows-none, grows-on, grows-within}
 use Rattle.iso_store.proofs.HeadCells.{later-next, later-fewer}
-use Rattle.iso_store.proofs.WordLemmas.{take-more}
-use Rattle.iso_store.proofs.UnifiedThese.{these-none, these-next, these-fail, later-kept}
+use Rattle.iso_store.proofs.UnifiedThese.{these-none, these-next, these-fail}
 use Rattle.iso_store.proofs.heads.unify_later.Goals as goal
 
 pub loop-part-init : goal.loop-part-init

@@ -1,8 +1,6 @@
-use Rattle.std.proofs.Common.{◌≡◌, ◌-◌, length, map, sym, ◌∙◌, arith}
-use Rattle.iso_store_core.specs.Presents.{Holds}
+use Rattle.std.proofs.Common.{length, arith}
 use Rattle.iso_store.specs.Reading.{term_between}
 use Rattle.iso_store.proofs.Gathering.{grows-on}
-use Rattle.iso_store.proofs.UnifiedThese.{these-more}
 use Rattle.iso_store.proofs.UnifiedLater.{later-pattern, made-meaning, unified-result}
 use Rattle.iso_store.proofs.heads.unify_part.Goals as goal
 

@@ -1,6 +1,6 @@
-use Rattle.std.proofs.Common.{◌≡◌, ◌+◌, ◌≤◌, ℕ, length, take, ap, sym, ◌∙◌, subst, arith, false, Some, get_or, refl}
+use Rattle.std.proofs.Common.{◌≡◌, ◌+◌, length, take, ap, sym, ◌∙◌, subst, arith, Some, get_or, refl}
 use Rattle.std.proofs.lemmas.List.{length-take}
-use Rattle.iso_store.specs.Reading.{GetsWord, HasWords}
+use Rattle.iso_store.specs.Reading.{GetsWord}
 use Rattle.iso_store.proofs.Gathering.{grows-on, grows-none}
 use Rattle.iso_store.proofs.WordLemmas.{words-more, take-more, get-taken, get-at, no-words}
 use Rattle.iso_store.proofs.heads.words_for.Goals as goal
@@ -8,7 +8,7 @@ use Rattle.iso_store.proofs.heads.words_for.Goals as goal
 pub loop-index-init : goal.loop-index-init
 loop-index-init g c = record {
   within = omega arith;
-  words = rw c.new-words.ensures.items (no-words (g.C.Cells.present c.args.store.now) c.args.first);
+  words = rw c.clear.ensures.items (no-words (g.C.Cells.present c.args.store.now) c.args.first);
   cells = grows-none (g.C.Cells.present c.args.store.now);
   free = λ n above. c.requires.free n (omega (arith, above));
   names = refl;

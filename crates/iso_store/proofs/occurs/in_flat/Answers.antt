@@ -1,4 +1,4 @@
-use Rattle.std.proofs.Common.{◌≡◌, ◌<◌, sym, arith, ◌∙◌}
+use Rattle.std.proofs.Common.{sym, arith, ◌∙◌}
 use Rattle.iso_store_core.specs.Presents.{meaning}
 use Rattle.iso_store.proofs.FlatLemmas.{occurs-all, occurs-here, occurs-not-here, occurs-none, index-there}
 use Rattle.iso_store.proofs.occurs.in_flat.Goals as goal

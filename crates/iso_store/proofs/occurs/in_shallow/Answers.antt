@@ -1,5 +1,3 @@
-use Rattle.std.proofs.Common.{◌≡◌}
-use Rattle.iso_model.specs.Terms.Trees.{row}
 use Rattle.iso_store_core.specs.Arguments.{listed}
 use Rattle.iso_store_core.specs.Presents.{meaning}
 use Rattle.iso_store.proofs.UnifyLemmas.{row-of}

@@ -1,5 +1,5 @@
-use Rattle.std.proofs.Common.{◌≡◌, ◌+◌, ◌++◌, ◌∷◌, [], suc, map, length, take, ap, ap₂, sym, ◌∙◌, arith, add-one, append_assoc}
-use Rattle.std.proofs.lemmas.List.{map-append, take_all}
+use Rattle.std.proofs.Common.{◌++◌, ◌∷◌, [], map, take, ap, sym, ◌∙◌, arith, append_assoc}
+use Rattle.std.proofs.lemmas.List.{map-append}
 use Rattle.iso_store_core.specs.Presents.{Holds, meaning}
 use Rattle.iso_store_core.specs.Arguments.{arguments, listed}
 use Rattle.iso_store.proofs.ReadingLemmas.{hold-more, argument-next, arguments-all, argument-index}

@@ -1,4 +1,4 @@
-use Rattle.std.proofs.Common.{rules, ◌≡◌, ◌+◌, ◌-◌, ◌<◌, length, refl, sym, ◌∙◌, arith, length-append}
+use Rattle.std.proofs.Common.{rules, length, refl}
 use Rattle.iso_store.proofs.ReadHeads.{read-begins, read-next, read-fails}
 use Rattle.iso_store.proofs.reading.read_head.Goals as goal
 

@@ -1,5 +1,5 @@
-use Rattle.std.proofs.Common.{rules, ◌≡◌, ◌≢◌, ◌+◌, ◌-◌, length, refl, sym, ◌∙◌, arith}
-use Rattle.iso_store_core.specs.Presents.{Holds, meaning}
+use Rattle.std.proofs.Common.{rules, ◌≡◌, ◌≢◌, length}
+use Rattle.iso_store_core.specs.Presents.{Holds}
 use Rattle.iso_store.proofs.UnifyLemmas.{All-front, All-last}
 use Rattle.iso_store.proofs.ReadOn.{read-later}
 use Rattle.iso_store.proofs.ReadShapes.{other, read-never, read-same, read-arguments}

@@ -1,5 +1,5 @@
-use Rattle.std.proofs.Common.{◌≡◌, ◌+◌, ◌-◌, ℕ, List, [], ap, sym, ◌∙◌, arith, subst}
-use Rattle.iso_store.proofs.StartLemmas.{Starts, starts-here, starts-before, starts-few, starts-all, starts-step, starts-earlier, takes, takes-none}
+use Rattle.std.proofs.Common.{◌≡◌, ◌+◌, ◌-◌, ℕ, List, [], ap, arith}
+use Rattle.iso_store.proofs.StartLemmas.{Starts, starts-here, starts-few, starts-all, starts-step, starts-earlier, takes, takes-none}
 use Rattle.iso_store.proofs.reading.start_of.Goals as goal
 
 pub loop-needed-init : goal.loop-needed-init

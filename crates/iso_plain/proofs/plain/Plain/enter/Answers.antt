@@ -47,7 +47,7 @@ returns-clause-tried g c = λ s call k ks gs t.
     let tried : Tried g.S.Store.names g.S.Store.present g.S.Store.stands g.S.Store.older c.args.self.now c.args.attempt s call k ks gs c.enter.new.store c.enter.new.nodes c.clause-clause.result.now =
     record { calls = t; keeps = c.in_ok-entered.ensures.marks; texts = same_texts c.in_ok-entered.ensures.names; adds = c.in_ok-entered.ensures.nodes; is = is } in
     rw (c.behind-self.ensures, c.as_slice.ensures.value)
-    (tried_engine g.S.Store.names g.S.Store.present g.S.Store.stands g.S.Store.older c.args.self.now c.args.attempt s call k ks gs c.enter.new.store c.enter.new.nodes c.clause-clause.result.now c.args.mark tried c.in_ok-entered.entered c.in_ok-entered.ensures.enters))
+    (tried_engine g.S.Store.names g.S.Store.present g.S.Store.stands g.S.Store.older c.args.self.now c.args.attempt s call k ks gs c.enter.new.store c.enter.new.nodes c.enter.new.words c.clause-clause.result.now c.args.mark tried c.in_ok-entered.entered c.in_ok-entered.ensures.enters))
 
 pub returns-clause-awake : goal.returns-clause-awake
 returns-clause-awake g c = rw c.behind-self.ensures (awake_entered _ c.in_ok-entered.entered c.args.mark c.args.attempt.rest)

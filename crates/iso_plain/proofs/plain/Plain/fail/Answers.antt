@@ -9,7 +9,7 @@ use Rattle.iso_plain.proofs.FailLemmas.{ends_run, resumes_on, passes_on, repeats
 use Rattle.iso_plain.proofs.ResumeLemmas.{has_members, newest_is}
 use Rattle.iso_plain.proofs.GatherMoves.{found_on, found_stops}
 use Rattle.iso_plain.proofs.OfferMoves.{offers_on, offers_stop}
-use Rattle.iso_plain.proofs.SearchMoves.{stops_bare}
+use Rattle.iso_plain.proofs.SearchMoves.{stands_itself, stops_bare}
 use Rattle.iso_plain.proofs.plain.Plain.fail.Goals as goal
 
 pub returns-then-is_empty-clause-moves : goal.returns-then-is_empty-clause-moves
@@ -230,7 +230,8 @@ returns-in_ok-try_next-in-Offered-clause-moves g c = λ s r.
     let tries = ap (λ (x : _). x.left) (sym same) ∙ c.in-Offered.is in
     let has = has_members g.S.Store.names g.S.Store.present g.S.Store.stands g.S.Store.older mid b.0 r.own b.1 b.2 b.5 _ tries in
     let e = c.in_ok-try_next-in-Offered.ensures in
-    offers_on g.S.Store.names g.S.Store.present g.S.Store.stands g.S.Store.older c.args.self.now c.try_next.new.self s r b.1 b.2 c.requires.failing b.3 _ _ has.is (e.tried b.0 _ r.own b.1 b.2 _ _ b.4 tries b.5 has.is) e.awake)
+    offers_on g.S.Store.names g.S.Store.present g.S.Store.stands g.S.Store.older c.args.self.now c.try_next.new.self s r b.1 b.2 c.requires.failing b.3 _ _ has.is
+    (stands_itself g.S.Store.names g.S.Store.present g.S.Store.stands g.S.Store.older _ _ (e.tried b.0 _ r.own b.1 b.2 _ _ b.4 tries b.5 has.is)) e.awake)
 
 pub returns-in_err-try_next-in-Offered-clause-stopped : goal.returns-in_err-try_next-in-Offered-clause-stopped
 returns-in_err-try_next-in-Offered-clause-stopped g c = λ s r.

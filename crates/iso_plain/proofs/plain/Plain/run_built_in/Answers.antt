@@ -1,5 +1,5 @@
 use Rattle.std.proofs.Common.{◌-◌, length, ap, refl, subst, arith}
-use Rattle.std.proofs.lemmas.Result.{on_err_weaker}
+use Rattle.std.proofs.lemmas.Result.{on_err_weaker, IfOk-weaker}
 use Rattle.iso_model.specs.Terms.TermOf.{term_of}
 use Rattle.iso_model.specs.Search.BuiltIns.{reply}
 use Rattle.iso_store_core.specs.Presents.{meaning}
@@ -13,7 +13,7 @@ use Rattle.iso_plain_core.proofs.StandingLemmas.{chain_place}
 use Rattle.iso_plain_core.proofs.ResultLemmas.{behind_error}
 use Rattle.iso_plain.proofs.StoppedLemmas.{base_kept, keeps_all, keeps_more}
 use Rattle.iso_plain.proofs.SearchMoves.{stops_here}
-use Rattle.iso_plain.proofs.RunMoves.{at, if_ok_map}
+use Rattle.iso_plain.proofs.RunMoves.{at}
 use Rattle.iso_plain.proofs.RunCosts.{behind_less, step_weight, goes_falls, fails_falls, throws_falls, calls_falls}
 use Rattle.iso_plain.proofs.ReplyMoves.{went_on, failed_on, raised_by, calls_by, once_by, refutes_by, repeats_by, catches_by, halts_by, gathers_by, asks_by, asking, asks_at, settles_now, settle_stops, settle_over, stores_by, storing, stores_at, stores_now, store_stops, store_over, writing, writes_at, writes_now, write_stops, inside_calls, inside_raises, places_unbound, goes_on, fails_now, unbound_ahead, raises_now, halts_now, after, enters_catch, calls_inside_now, call_inside_stops, call_inside_over, throws_inside_now, throw_inside_stops, throw_inside_over, called, called_ahead, calls_now, once_now, once_stops, refutes_now, refute_stops, refute_over, repeating, repeating_ahead, repeats_now, repeat_stops, repeat_over, behind_findall, enters_findall, finds_now, find_stops, find_over, parts_by, parting, parts_at, parts_now, part_stops, part_over}
 use Rattle.iso_plain.proofs.plain.Plain.run_built_in.Goals as goal
@@ -94,7 +94,7 @@ pub returns-in-CallsOnce-clause-moves : goal.returns-in-CallsOnce-clause-moves
 returns-in-CallsOnce-clause-moves g c = λ s r.
     (let by = once_by (g.S.Store.present c.args.self.now.store) (g.S.Store.present c.reply.new.store) c.args.self.now.nodes.items c.reply.new.nodes.items (reply c.args.built_in (meaning (g.S.Store.present c.args.self.now.store) c.args.goal)) c.in-CallsOnce.body (rw c.in-CallsOnce.is at c.in_ok-replied.ensures.replies) in
     let u = called g.S.Store.names g.S.Store.present g.S.Store.stands g.S.Store.older c.args.self.now c.reply.new.store c.reply.new.nodes s c.args.frame c.args.place c.args.goal c.requires.now c.requires.there r c.requires.steps c.args.built_in c.requires.built_in c.in_ok-replied.ensures.marks c.in_ok-replied.ensures.names c.in_ok-replied.ensures.nodes by.0 c.in-CallsOnce.body by.2 in
-    if_ok_map _ _ c.call_once.result (once_now g.S.Store.names g.S.Store.present g.S.Store.stands g.S.Store.older c.args.self.now c.reply.new.store c.reply.new.nodes s c.args.frame c.args.place c.args.goal c.requires.now c.requires.there r c.requires.steps c.args.built_in c.requires.built_in c.in_ok-replied.ensures.marks c.in_ok-replied.ensures.names c.in_ok-replied.ensures.nodes by.0 c.in-CallsOnce.body by.2 by.1 c.call_once.new.self) (c.call_once.ensures.called u by.2.body (called_ahead g.S.Store.names g.S.Store.present g.S.Store.stands g.S.Store.older c.args.self.now c.reply.new.store c.reply.new.nodes s c.args.frame c.args.place c.args.goal c.requires.now c.requires.there r c.requires.steps c.args.built_in c.requires.built_in c.in_ok-replied.ensures.marks c.in_ok-replied.ensures.names c.in_ok-replied.ensures.nodes by.0 c.in-CallsOnce.body by.2) by.2.stands))
+    IfOk-weaker c.call_once.result _ _ (once_now g.S.Store.names g.S.Store.present g.S.Store.stands g.S.Store.older c.args.self.now c.reply.new.store c.reply.new.nodes s c.args.frame c.args.place c.args.goal c.requires.now c.requires.there r c.requires.steps c.args.built_in c.requires.built_in c.in_ok-replied.ensures.marks c.in_ok-replied.ensures.names c.in_ok-replied.ensures.nodes by.0 c.in-CallsOnce.body by.2 by.1 c.call_once.new.self) (c.call_once.ensures.called u by.2.body (called_ahead g.S.Store.names g.S.Store.present g.S.Store.stands g.S.Store.older c.args.self.now c.reply.new.store c.reply.new.nodes s c.args.frame c.args.place c.args.goal c.requires.now c.requires.there r c.requires.steps c.args.built_in c.requires.built_in c.in_ok-replied.ensures.marks c.in_ok-replied.ensures.names c.in_ok-replied.ensures.nodes by.0 c.in-CallsOnce.body by.2) by.2.stands))
 
 pub returns-in-CallsOnce-clause-stopped : goal.returns-in-CallsOnce-clause-stopped
 returns-in-CallsOnce-clause-stopped g c = λ s r.
@@ -104,7 +104,7 @@ returns-in-CallsOnce-clause-stopped g c = λ s r.
 
 pub returns-in-CallsOnce-clause-falls : goal.returns-in-CallsOnce-clause-falls
 returns-in-CallsOnce-clause-falls g c =
-    if_ok_map _ _ c.call_once.result (λ m. subst (λ x. Falls m x (weight c.call_once.new.self)) (step_weight g.S.Store.names g.S.Store.present g.S.Store.stands g.S.Store.older c.args.self.now c.requires.stands.0 c.args.frame c.args.place c.requires.now c.requires.there.asks c.requires.stands.1 c.requires.steps)) (c.call_once.ensures.falls (cost c.args.self.now) (behind_less g.S.Store.names g.S.Store.present g.S.Store.stands g.S.Store.older c.args.self.now c.requires.stands.0 c.args.frame c.args.place c.requires.now c.requires.there.asks c.requires.stands.1 c.requires.steps))
+    IfOk-weaker c.call_once.result _ _ (λ m. subst (λ x. Falls m x (weight c.call_once.new.self)) (step_weight g.S.Store.names g.S.Store.present g.S.Store.stands g.S.Store.older c.args.self.now c.requires.stands.0 c.args.frame c.args.place c.requires.now c.requires.there.asks c.requires.stands.1 c.requires.steps)) (c.call_once.ensures.falls (cost c.args.self.now) (behind_less g.S.Store.names g.S.Store.present g.S.Store.stands g.S.Store.older c.args.self.now c.requires.stands.0 c.args.frame c.args.place c.requires.now c.requires.there.asks c.requires.stands.1 c.requires.steps))
 
 pub returns-in-CallsOnce-clause-frames : goal.returns-in-CallsOnce-clause-frames
 returns-in-CallsOnce-clause-frames g c = λ s r. result_full c.call_once.result (λ h. absurd h) c.call_once.ensures.frames
@@ -120,7 +120,7 @@ pub returns-in-Refutes-clause-moves : goal.returns-in-Refutes-clause-moves
 returns-in-Refutes-clause-moves g c = λ s r.
     (let by = refutes_by (g.S.Store.present c.args.self.now.store) (g.S.Store.present c.reply.new.store) c.args.self.now.nodes.items c.reply.new.nodes.items (reply c.args.built_in (meaning (g.S.Store.present c.args.self.now.store) c.args.goal)) c.in-Refutes.body (rw c.in-Refutes.is at c.in_ok-replied.ensures.replies) in
     let u = called g.S.Store.names g.S.Store.present g.S.Store.stands g.S.Store.older c.args.self.now c.reply.new.store c.reply.new.nodes s c.args.frame c.args.place c.args.goal c.requires.now c.requires.there r c.requires.steps c.args.built_in c.requires.built_in c.in_ok-replied.ensures.marks c.in_ok-replied.ensures.names c.in_ok-replied.ensures.nodes by.0 c.in-Refutes.body by.2 in
-    if_ok_map _ _ c.refute.result (refutes_now g.S.Store.names g.S.Store.present g.S.Store.stands g.S.Store.older c.args.self.now c.reply.new.store c.reply.new.nodes s c.args.frame c.args.place c.args.goal c.requires.now c.requires.there r c.requires.steps c.args.built_in c.requires.built_in c.in_ok-replied.ensures.marks c.in_ok-replied.ensures.names c.in_ok-replied.ensures.nodes by.0 c.in-Refutes.body by.2 by.1 c.refute.new.self) (c.refute.ensures.called u by.2.body (called_ahead g.S.Store.names g.S.Store.present g.S.Store.stands g.S.Store.older c.args.self.now c.reply.new.store c.reply.new.nodes s c.args.frame c.args.place c.args.goal c.requires.now c.requires.there r c.requires.steps c.args.built_in c.requires.built_in c.in_ok-replied.ensures.marks c.in_ok-replied.ensures.names c.in_ok-replied.ensures.nodes by.0 c.in-Refutes.body by.2) by.2.stands))
+    IfOk-weaker c.refute.result _ _ (refutes_now g.S.Store.names g.S.Store.present g.S.Store.stands g.S.Store.older c.args.self.now c.reply.new.store c.reply.new.nodes s c.args.frame c.args.place c.args.goal c.requires.now c.requires.there r c.requires.steps c.args.built_in c.requires.built_in c.in_ok-replied.ensures.marks c.in_ok-replied.ensures.names c.in_ok-replied.ensures.nodes by.0 c.in-Refutes.body by.2 by.1 c.refute.new.self) (c.refute.ensures.called u by.2.body (called_ahead g.S.Store.names g.S.Store.present g.S.Store.stands g.S.Store.older c.args.self.now c.reply.new.store c.reply.new.nodes s c.args.frame c.args.place c.args.goal c.requires.now c.requires.there r c.requires.steps c.args.built_in c.requires.built_in c.in_ok-replied.ensures.marks c.in_ok-replied.ensures.names c.in_ok-replied.ensures.nodes by.0 c.in-Refutes.body by.2) by.2.stands))
 
 pub returns-in-Refutes-clause-stopped : goal.returns-in-Refutes-clause-stopped
 returns-in-Refutes-clause-stopped g c = λ s r.
@@ -130,7 +130,7 @@ returns-in-Refutes-clause-stopped g c = λ s r.
 
 pub returns-in-Refutes-clause-falls : goal.returns-in-Refutes-clause-falls
 returns-in-Refutes-clause-falls g c =
-    if_ok_map _ _ c.refute.result (λ m. subst (λ x. Falls m x (weight c.refute.new.self)) (step_weight g.S.Store.names g.S.Store.present g.S.Store.stands g.S.Store.older c.args.self.now c.requires.stands.0 c.args.frame c.args.place c.requires.now c.requires.there.asks c.requires.stands.1 c.requires.steps)) (c.refute.ensures.falls (cost c.args.self.now) (behind_less g.S.Store.names g.S.Store.present g.S.Store.stands g.S.Store.older c.args.self.now c.requires.stands.0 c.args.frame c.args.place c.requires.now c.requires.there.asks c.requires.stands.1 c.requires.steps))
+    IfOk-weaker c.refute.result _ _ (λ m. subst (λ x. Falls m x (weight c.refute.new.self)) (step_weight g.S.Store.names g.S.Store.present g.S.Store.stands g.S.Store.older c.args.self.now c.requires.stands.0 c.args.frame c.args.place c.requires.now c.requires.there.asks c.requires.stands.1 c.requires.steps)) (c.refute.ensures.falls (cost c.args.self.now) (behind_less g.S.Store.names g.S.Store.present g.S.Store.stands g.S.Store.older c.args.self.now c.requires.stands.0 c.args.frame c.args.place c.requires.now c.requires.there.asks c.requires.stands.1 c.requires.steps))
 
 pub returns-in-Refutes-clause-frames : goal.returns-in-Refutes-clause-frames
 returns-in-Refutes-clause-frames g c = λ s r.
@@ -147,7 +147,7 @@ repeat-requires g c =
 pub returns-in-Repeats-clause-moves : goal.returns-in-Repeats-clause-moves
 returns-in-Repeats-clause-moves g c = λ s r.
     (let by = repeats_by (g.S.Store.present c.args.self.now.store) (g.S.Store.present c.reply.new.store) c.args.self.now.nodes.items c.reply.new.nodes.items (reply c.args.built_in (meaning (g.S.Store.present c.args.self.now.store) c.args.goal)) (rw c.in-Repeats.is at c.in_ok-replied.ensures.replies) in
-    if_ok_map _ _ c.repeat.result (repeats_now g.S.Store.names g.S.Store.present g.S.Store.stands g.S.Store.older c.args.self.now c.reply.new.store c.reply.new.nodes s c.args.frame c.args.place c.args.goal c.requires.now c.requires.there r c.requires.steps c.args.built_in c.requires.built_in c.in_ok-replied.ensures.marks c.in_ok-replied.ensures.names c.in_ok-replied.ensures.nodes by.0 by.1 c.repeat.new.self) (c.repeat.ensures.called (repeating g.S.Store.names g.S.Store.present g.S.Store.stands g.S.Store.older c.args.self.now c.reply.new.store c.reply.new.nodes s c.args.frame c.args.place c.args.goal c.requires.now c.requires.there r c.requires.steps c.args.built_in c.requires.built_in c.in_ok-replied.ensures.marks c.in_ok-replied.ensures.names c.in_ok-replied.ensures.nodes by.0 by.1) (repeating_ahead g.S.Store.names g.S.Store.present g.S.Store.stands g.S.Store.older c.args.self.now c.reply.new.store c.reply.new.nodes s c.args.frame c.args.place c.args.goal c.requires.now c.requires.there r c.requires.steps c.args.built_in c.requires.built_in c.in_ok-replied.ensures.marks c.in_ok-replied.ensures.names c.in_ok-replied.ensures.nodes by.0 by.1)))
+    IfOk-weaker c.repeat.result _ _ (repeats_now g.S.Store.names g.S.Store.present g.S.Store.stands g.S.Store.older c.args.self.now c.reply.new.store c.reply.new.nodes s c.args.frame c.args.place c.args.goal c.requires.now c.requires.there r c.requires.steps c.args.built_in c.requires.built_in c.in_ok-replied.ensures.marks c.in_ok-replied.ensures.names c.in_ok-replied.ensures.nodes by.0 by.1 c.repeat.new.self) (c.repeat.ensures.called (repeating g.S.Store.names g.S.Store.present g.S.Store.stands g.S.Store.older c.args.self.now c.reply.new.store c.reply.new.nodes s c.args.frame c.args.place c.args.goal c.requires.now c.requires.there r c.requires.steps c.args.built_in c.requires.built_in c.in_ok-replied.ensures.marks c.in_ok-replied.ensures.names c.in_ok-replied.ensures.nodes by.0 by.1) (repeating_ahead g.S.Store.names g.S.Store.present g.S.Store.stands g.S.Store.older c.args.self.now c.reply.new.store c.reply.new.nodes s c.args.frame c.args.place c.args.goal c.requires.now c.requires.there r c.requires.steps c.args.built_in c.requires.built_in c.in_ok-replied.ensures.marks c.in_ok-replied.ensures.names c.in_ok-replied.ensures.nodes by.0 by.1)))
 
 pub returns-in-Repeats-clause-stopped : goal.returns-in-Repeats-clause-stopped
 returns-in-Repeats-clause-stopped g c = λ s r.
@@ -156,7 +156,7 @@ returns-in-Repeats-clause-stopped g c = λ s r.
 
 pub returns-in-Repeats-clause-falls : goal.returns-in-Repeats-clause-falls
 returns-in-Repeats-clause-falls g c =
-    if_ok_map _ _ c.repeat.result (λ m. subst (λ x. Falls m x (weight c.repeat.new.self)) (step_weight g.S.Store.names g.S.Store.present g.S.Store.stands g.S.Store.older c.args.self.now c.requires.stands.0 c.args.frame c.args.place c.requires.now c.requires.there.asks c.requires.stands.1 c.requires.steps)) (c.repeat.ensures.falls (cost c.args.self.now) (behind_less g.S.Store.names g.S.Store.present g.S.Store.stands g.S.Store.older c.args.self.now c.requires.stands.0 c.args.frame c.args.place c.requires.now c.requires.there.asks c.requires.stands.1 c.requires.steps))
+    IfOk-weaker c.repeat.result _ _ (λ m. subst (λ x. Falls m x (weight c.repeat.new.self)) (step_weight g.S.Store.names g.S.Store.present g.S.Store.stands g.S.Store.older c.args.self.now c.requires.stands.0 c.args.frame c.args.place c.requires.now c.requires.there.asks c.requires.stands.1 c.requires.steps)) (c.repeat.ensures.falls (cost c.args.self.now) (behind_less g.S.Store.names g.S.Store.present g.S.Store.stands g.S.Store.older c.args.self.now c.requires.stands.0 c.args.frame c.args.place c.requires.now c.requires.there.asks c.requires.stands.1 c.requires.steps))
 
 pub returns-in-Repeats-clause-frames : goal.returns-in-Repeats-clause-frames
 returns-in-Repeats-clause-frames g c = λ s r.
@@ -178,7 +178,7 @@ returns-in-Catches-Body-clause-moves g c = λ s r.
     let inside = inside_calls (g.S.Store.present c.args.self.now.store) (g.S.Store.present c.reply.new.store) c.args.self.now.nodes.items c.reply.new.nodes.items by.0 c.in-Catches-Body.body by.4 in
     let unbound = places_unbound (g.S.Store.present c.args.self.now.store) (g.S.Store.present c.reply.new.store) c.args.self.now.nodes.items c.reply.new.nodes.items inside.0 c.in-Catches-Body.body inside.2 in
     let enters = enters_catch g.S.Store.names g.S.Store.present g.S.Store.stands g.S.Store.older c.args.self.now c.reply.new.store c.reply.new.nodes s c.args.frame c.args.place c.args.goal c.requires.now c.requires.there r c.requires.steps c.args.built_in c.requires.built_in c.in_ok-replied.ensures.marks c.in_ok-replied.ensures.names c.in_ok-replied.ensures.nodes by.0 by.1 by.2 by.3 unbound in
-    if_ok_map _ _ c.call_inside.result (calls_inside_now g.S.Store.names g.S.Store.present g.S.Store.stands g.S.Store.older c.args.self.now c.reply.new.store c.reply.new.nodes s c.args.frame c.args.place c.args.goal c.requires.now c.requires.there r c.requires.steps c.args.built_in c.requires.built_in c.in_ok-replied.ensures.marks c.in_ok-replied.ensures.names c.in_ok-replied.ensures.nodes by.0 by.1 by.2 by.3 unbound inside.0 inside.1 c.in-Catches-Body.body inside.2 c.call_inside.new.self) (c.call_inside.ensures.called _ inside.2.body enters inside.2.stands))
+    IfOk-weaker c.call_inside.result _ _ (calls_inside_now g.S.Store.names g.S.Store.present g.S.Store.stands g.S.Store.older c.args.self.now c.reply.new.store c.reply.new.nodes s c.args.frame c.args.place c.args.goal c.requires.now c.requires.there r c.requires.steps c.args.built_in c.requires.built_in c.in_ok-replied.ensures.marks c.in_ok-replied.ensures.names c.in_ok-replied.ensures.nodes by.0 by.1 by.2 by.3 unbound inside.0 inside.1 c.in-Catches-Body.body inside.2 c.call_inside.new.self) (c.call_inside.ensures.called _ inside.2.body enters inside.2.stands))
 
 pub returns-in-Catches-Body-clause-stopped : goal.returns-in-Catches-Body-clause-stopped
 returns-in-Catches-Body-clause-stopped g c = λ s r.
@@ -190,7 +190,7 @@ returns-in-Catches-Body-clause-stopped g c = λ s r.
 
 pub returns-in-Catches-Body-clause-falls : goal.returns-in-Catches-Body-clause-falls
 returns-in-Catches-Body-clause-falls g c =
-    if_ok_map _ _ c.call_inside.result (λ m. subst (λ x. Falls m x (weight c.call_inside.new.self)) (step_weight g.S.Store.names g.S.Store.present g.S.Store.stands g.S.Store.older c.args.self.now c.requires.stands.0 c.args.frame c.args.place c.requires.now c.requires.there.asks c.requires.stands.1 c.requires.steps)) (c.call_inside.ensures.falls (cost c.args.self.now) (behind_less g.S.Store.names g.S.Store.present g.S.Store.stands g.S.Store.older c.args.self.now c.requires.stands.0 c.args.frame c.args.place c.requires.now c.requires.there.asks c.requires.stands.1 c.requires.steps))
+    IfOk-weaker c.call_inside.result _ _ (λ m. subst (λ x. Falls m x (weight c.call_inside.new.self)) (step_weight g.S.Store.names g.S.Store.present g.S.Store.stands g.S.Store.older c.args.self.now c.requires.stands.0 c.args.frame c.args.place c.requires.now c.requires.there.asks c.requires.stands.1 c.requires.steps)) (c.call_inside.ensures.falls (cost c.args.self.now) (behind_less g.S.Store.names g.S.Store.present g.S.Store.stands g.S.Store.older c.args.self.now c.requires.stands.0 c.args.frame c.args.place c.requires.now c.requires.there.asks c.requires.stands.1 c.requires.steps))
 
 pub returns-in-Catches-Body-clause-frames : goal.returns-in-Catches-Body-clause-frames
 returns-in-Catches-Body-clause-frames g c = λ s r.
@@ -219,7 +219,7 @@ returns-in-Catches-Raises-clause-moves g c = λ s r.
     let inside = inside_raises (g.S.Store.present c.args.self.now.store) (g.S.Store.present c.reply.new.store) c.args.self.now.nodes.items c.reply.new.nodes.items by.0 c.in-Catches-Raises.ball by.4 in
     let unbound = inside.2 in
     let enters = enters_catch g.S.Store.names g.S.Store.present g.S.Store.stands g.S.Store.older c.args.self.now c.reply.new.store c.reply.new.nodes s c.args.frame c.args.place c.args.goal c.requires.now c.requires.there r c.requires.steps c.args.built_in c.requires.built_in c.in_ok-replied.ensures.marks c.in_ok-replied.ensures.names c.in_ok-replied.ensures.nodes by.0 by.1 by.2 by.3 unbound in
-    if_ok_map _ _ c.throw_inside.result (throws_inside_now g.S.Store.names g.S.Store.present g.S.Store.stands g.S.Store.older c.args.self.now c.reply.new.store c.reply.new.nodes s c.args.frame c.args.place c.args.goal c.requires.now c.requires.there r c.requires.steps c.args.built_in c.requires.built_in c.in_ok-replied.ensures.marks c.in_ok-replied.ensures.names c.in_ok-replied.ensures.nodes by.0 by.1 by.2 by.3 unbound (term_of c.in-Catches-Raises.ball.term) inside.0 c.throw_inside.new.self) (c.throw_inside.ensures.called _ enters))
+    IfOk-weaker c.throw_inside.result _ _ (throws_inside_now g.S.Store.names g.S.Store.present g.S.Store.stands g.S.Store.older c.args.self.now c.reply.new.store c.reply.new.nodes s c.args.frame c.args.place c.args.goal c.requires.now c.requires.there r c.requires.steps c.args.built_in c.requires.built_in c.in_ok-replied.ensures.marks c.in_ok-replied.ensures.names c.in_ok-replied.ensures.nodes by.0 by.1 by.2 by.3 unbound (term_of c.in-Catches-Raises.ball.term) inside.0 c.throw_inside.new.self) (c.throw_inside.ensures.called _ enters))
 
 pub returns-in-Catches-Raises-clause-stopped : goal.returns-in-Catches-Raises-clause-stopped
 returns-in-Catches-Raises-clause-stopped g c = λ s r.
@@ -231,7 +231,7 @@ returns-in-Catches-Raises-clause-stopped g c = λ s r.
 
 pub returns-in-Catches-Raises-clause-falls : goal.returns-in-Catches-Raises-clause-falls
 returns-in-Catches-Raises-clause-falls g c =
-    if_ok_map _ _ c.throw_inside.result (λ m. subst (λ x. Falls m x (weight c.throw_inside.new.self)) (step_weight g.S.Store.names g.S.Store.present g.S.Store.stands g.S.Store.older c.args.self.now c.requires.stands.0 c.args.frame c.args.place c.requires.now c.requires.there.asks c.requires.stands.1 c.requires.steps)) (c.throw_inside.ensures.falls (cost c.args.self.now) (behind_less g.S.Store.names g.S.Store.present g.S.Store.stands g.S.Store.older c.args.self.now c.requires.stands.0 c.args.frame c.args.place c.requires.now c.requires.there.asks c.requires.stands.1 c.requires.steps))
+    IfOk-weaker c.throw_inside.result _ _ (λ m. subst (λ x. Falls m x (weight c.throw_inside.new.self)) (step_weight g.S.Store.names g.S.Store.present g.S.Store.stands g.S.Store.older c.args.self.now c.requires.stands.0 c.args.frame c.args.place c.requires.now c.requires.there.asks c.requires.stands.1 c.requires.steps)) (c.throw_inside.ensures.falls (cost c.args.self.now) (behind_less g.S.Store.names g.S.Store.present g.S.Store.stands g.S.Store.older c.args.self.now c.requires.stands.0 c.args.frame c.args.place c.requires.now c.requires.there.asks c.requires.stands.1 c.requires.steps))
 
 pub returns-in-Catches-Raises-clause-frames : goal.returns-in-Catches-Raises-clause-frames
 returns-in-Catches-Raises-clause-frames g c = λ s r.
@@ -250,7 +250,7 @@ find_all-requires g c =
 pub returns-in-Gathers-clause-moves : goal.returns-in-Gathers-clause-moves
 returns-in-Gathers-clause-moves g c = λ s r.
     (let by = gathers_by (g.S.Store.present c.args.self.now.store) (g.S.Store.present c.reply.new.store) c.args.self.now.nodes.items c.reply.new.nodes.items (reply c.args.built_in (meaning (g.S.Store.present c.args.self.now.store) c.args.goal)) c.in-Gathers.body (rw c.in-Gathers.is at c.in_ok-replied.ensures.replies) in
-    if_ok_map _ _ c.find_all.result (finds_now g.S.Store.names g.S.Store.present g.S.Store.stands g.S.Store.older c.args.self.now c.reply.new.store c.reply.new.nodes s c.args.frame c.args.place c.args.goal c.requires.now c.requires.there r c.requires.steps c.args.built_in c.requires.built_in c.in_ok-replied.ensures.marks c.in_ok-replied.ensures.names c.in_ok-replied.ensures.nodes by.0 by.2 by.1 by.3 c.in-Gathers.body by.4 c.find_all.new.self) (c.find_all.ensures.called (behind_findall g.S.Store.names g.S.Store.present g.S.Store.stands g.S.Store.older c.args.self.now c.reply.new.store c.reply.new.nodes s c.args.frame c.args.place c.args.goal c.requires.now c.requires.there r c.requires.steps c.args.built_in c.requires.built_in c.in_ok-replied.ensures.marks c.in_ok-replied.ensures.names c.in_ok-replied.ensures.nodes by.0 by.2 by.1 by.3 c.in-Gathers.body by.4) by.4.body (enters_findall g.S.Store.names g.S.Store.present g.S.Store.stands g.S.Store.older c.args.self.now c.reply.new.store c.reply.new.nodes s c.args.frame c.args.place c.args.goal c.requires.now c.requires.there r c.requires.steps c.args.built_in c.requires.built_in c.in_ok-replied.ensures.marks c.in_ok-replied.ensures.names c.in_ok-replied.ensures.nodes by.0 by.2 by.1 by.3 c.in-Gathers.body by.4) by.4.stands))
+    IfOk-weaker c.find_all.result _ _ (finds_now g.S.Store.names g.S.Store.present g.S.Store.stands g.S.Store.older c.args.self.now c.reply.new.store c.reply.new.nodes s c.args.frame c.args.place c.args.goal c.requires.now c.requires.there r c.requires.steps c.args.built_in c.requires.built_in c.in_ok-replied.ensures.marks c.in_ok-replied.ensures.names c.in_ok-replied.ensures.nodes by.0 by.2 by.1 by.3 c.in-Gathers.body by.4 c.find_all.new.self) (c.find_all.ensures.called (behind_findall g.S.Store.names g.S.Store.present g.S.Store.stands g.S.Store.older c.args.self.now c.reply.new.store c.reply.new.nodes s c.args.frame c.args.place c.args.goal c.requires.now c.requires.there r c.requires.steps c.args.built_in c.requires.built_in c.in_ok-replied.ensures.marks c.in_ok-replied.ensures.names c.in_ok-replied.ensures.nodes by.0 by.2 by.1 by.3 c.in-Gathers.body by.4) by.4.body (enters_findall g.S.Store.names g.S.Store.present g.S.Store.stands g.S.Store.older c.args.self.now c.reply.new.store c.reply.new.nodes s c.args.frame c.args.place c.args.goal c.requires.now c.requires.there r c.requires.steps c.args.built_in c.requires.built_in c.in_ok-replied.ensures.marks c.in_ok-replied.ensures.names c.in_ok-replied.ensures.nodes by.0 by.2 by.1 by.3 c.in-Gathers.body by.4) by.4.stands))
 
 pub returns-in-Gathers-clause-stopped : goal.returns-in-Gathers-clause-stopped
 returns-in-Gathers-clause-stopped g c = λ s r.
@@ -259,7 +259,7 @@ returns-in-Gathers-clause-stopped g c = λ s r.
 
 pub returns-in-Gathers-clause-falls : goal.returns-in-Gathers-clause-falls
 returns-in-Gathers-clause-falls g c =
-    if_ok_map _ _ c.find_all.result (λ m. subst (λ x. Falls m x (weight c.find_all.new.self)) (step_weight g.S.Store.names g.S.Store.present g.S.Store.stands g.S.Store.older c.args.self.now c.requires.stands.0 c.args.frame c.args.place c.requires.now c.requires.there.asks c.requires.stands.1 c.requires.steps)) (c.find_all.ensures.falls (cost c.args.self.now) (behind_less g.S.Store.names g.S.Store.present g.S.Store.stands g.S.Store.older c.args.self.now c.requires.stands.0 c.args.frame c.args.place c.requires.now c.requires.there.asks c.requires.stands.1 c.requires.steps))
+    IfOk-weaker c.find_all.result _ _ (λ m. subst (λ x. Falls m x (weight c.find_all.new.self)) (step_weight g.S.Store.names g.S.Store.present g.S.Store.stands g.S.Store.older c.args.self.now c.requires.stands.0 c.args.frame c.args.place c.requires.now c.requires.there.asks c.requires.stands.1 c.requires.steps)) (c.find_all.ensures.falls (cost c.args.self.now) (behind_less g.S.Store.names g.S.Store.present g.S.Store.stands g.S.Store.older c.args.self.now c.requires.stands.0 c.args.frame c.args.place c.requires.now c.requires.there.asks c.requires.stands.1 c.requires.steps))
 
 pub returns-in-Gathers-clause-frames : goal.returns-in-Gathers-clause-frames
 returns-in-Gathers-clause-frames g c = λ s r.
@@ -281,7 +281,7 @@ pub returns-in-AsksSettings-clause-moves : goal.returns-in-AsksSettings-clause-m
 returns-in-AsksSettings-clause-moves g c = λ s r.
     (let by = asks_by (g.S.Store.present c.args.self.now.store) (g.S.Store.present c.reply.new.store) c.args.self.now.nodes.items c.reply.new.nodes.items (reply c.args.built_in (meaning (g.S.Store.present c.args.self.now.store) c.args.goal)) c.in-AsksSettings.row (rw c.in-AsksSettings.is at c.in_ok-replied.ensures.replies) in
     let own = rw c.in-AsksSettings.is at c.in_ok-replied.ensures.asks in
-    if_ok_map _ _ c.settle.result (settles_now g.S.Store.names g.S.Store.present g.S.Store.stands g.S.Store.older c.args.self.now c.reply.new.store c.reply.new.nodes s c.args.frame c.args.place c.args.goal c.requires.now c.requires.there r c.requires.steps c.args.built_in c.requires.built_in c.in_ok-replied.ensures.marks c.in_ok-replied.ensures.names c.in_ok-replied.ensures.nodes c.in-AsksSettings.row own by c.settle.new.self) (c.settle.ensures.called (asking g.S.Store.names g.S.Store.present g.S.Store.stands g.S.Store.older c.args.self.now c.reply.new.store c.reply.new.nodes s c.args.frame c.args.place c.args.goal c.requires.now c.requires.there r c.requires.steps c.args.built_in c.requires.built_in c.in_ok-replied.ensures.marks c.in_ok-replied.ensures.names c.in_ok-replied.ensures.nodes c.in-AsksSettings.row own by) (asks_at g.S.Store.names g.S.Store.present g.S.Store.stands g.S.Store.older c.args.self.now c.reply.new.store c.reply.new.nodes s c.args.frame c.args.place c.args.goal c.requires.now c.requires.there r c.requires.steps c.args.built_in c.requires.built_in c.in_ok-replied.ensures.marks c.in_ok-replied.ensures.names c.in_ok-replied.ensures.nodes c.in-AsksSettings.row own by)))
+    IfOk-weaker c.settle.result _ _ (settles_now g.S.Store.names g.S.Store.present g.S.Store.stands g.S.Store.older c.args.self.now c.reply.new.store c.reply.new.nodes s c.args.frame c.args.place c.args.goal c.requires.now c.requires.there r c.requires.steps c.args.built_in c.requires.built_in c.in_ok-replied.ensures.marks c.in_ok-replied.ensures.names c.in_ok-replied.ensures.nodes c.in-AsksSettings.row own by c.settle.new.self) (c.settle.ensures.called (asking g.S.Store.names g.S.Store.present g.S.Store.stands g.S.Store.older c.args.self.now c.reply.new.store c.reply.new.nodes s c.args.frame c.args.place c.args.goal c.requires.now c.requires.there r c.requires.steps c.args.built_in c.requires.built_in c.in_ok-replied.ensures.marks c.in_ok-replied.ensures.names c.in_ok-replied.ensures.nodes c.in-AsksSettings.row own by) (asks_at g.S.Store.names g.S.Store.present g.S.Store.stands g.S.Store.older c.args.self.now c.reply.new.store c.reply.new.nodes s c.args.frame c.args.place c.args.goal c.requires.now c.requires.there r c.requires.steps c.args.built_in c.requires.built_in c.in_ok-replied.ensures.marks c.in_ok-replied.ensures.names c.in_ok-replied.ensures.nodes c.in-AsksSettings.row own by)))
 
 pub returns-in-AsksSettings-clause-stopped : goal.returns-in-AsksSettings-clause-stopped
 returns-in-AsksSettings-clause-stopped g c = λ s r.
@@ -291,7 +291,7 @@ returns-in-AsksSettings-clause-stopped g c = λ s r.
 
 pub returns-in-AsksSettings-clause-falls : goal.returns-in-AsksSettings-clause-falls
 returns-in-AsksSettings-clause-falls g c =
-    if_ok_map _ _ c.settle.result (λ m. subst (λ x. Falls m x (weight c.settle.new.self)) (step_weight g.S.Store.names g.S.Store.present g.S.Store.stands g.S.Store.older c.args.self.now c.requires.stands.0 c.args.frame c.args.place c.requires.now c.requires.there.asks c.requires.stands.1 c.requires.steps)) (c.settle.ensures.falls (cost c.args.self.now) (behind_less g.S.Store.names g.S.Store.present g.S.Store.stands g.S.Store.older c.args.self.now c.requires.stands.0 c.args.frame c.args.place c.requires.now c.requires.there.asks c.requires.stands.1 c.requires.steps))
+    IfOk-weaker c.settle.result _ _ (λ m. subst (λ x. Falls m x (weight c.settle.new.self)) (step_weight g.S.Store.names g.S.Store.present g.S.Store.stands g.S.Store.older c.args.self.now c.requires.stands.0 c.args.frame c.args.place c.requires.now c.requires.there.asks c.requires.stands.1 c.requires.steps)) (c.settle.ensures.falls (cost c.args.self.now) (behind_less g.S.Store.names g.S.Store.present g.S.Store.stands g.S.Store.older c.args.self.now c.requires.stands.0 c.args.frame c.args.place c.requires.now c.requires.there.asks c.requires.stands.1 c.requires.steps))
 
 pub returns-in-AsksSettings-clause-frames : goal.returns-in-AsksSettings-clause-frames
 returns-in-AsksSettings-clause-frames g c = λ s r.
@@ -314,7 +314,7 @@ pub returns-in-TakesApart-clause-moves : goal.returns-in-TakesApart-clause-moves
 returns-in-TakesApart-clause-moves g c = λ s r.
     (let by = parts_by (g.S.Store.present c.args.self.now.store) (g.S.Store.present c.reply.new.store) c.args.self.now.nodes.items c.reply.new.nodes.items (reply c.args.built_in (meaning (g.S.Store.present c.args.self.now.store) c.args.goal)) c.in-TakesApart.row (rw c.in-TakesApart.is at c.in_ok-replied.ensures.replies) in
     let own = rw c.in-TakesApart.is at c.in_ok-replied.ensures.asks in
-    if_ok_map _ _ c.part_goal.result (parts_now g.S.Store.names g.S.Store.present g.S.Store.stands g.S.Store.older c.args.self.now c.reply.new.store c.reply.new.nodes s c.args.frame c.args.place c.args.goal c.requires.now c.requires.there r c.requires.steps c.args.built_in c.requires.built_in c.in_ok-replied.ensures.marks c.in_ok-replied.ensures.names c.in_ok-replied.ensures.nodes c.in-TakesApart.row own by c.part_goal.new.self) (c.part_goal.ensures.called (parting g.S.Store.names g.S.Store.present g.S.Store.stands g.S.Store.older c.args.self.now c.reply.new.store c.reply.new.nodes s c.args.frame c.args.place c.args.goal c.requires.now c.requires.there r c.requires.steps c.args.built_in c.requires.built_in c.in_ok-replied.ensures.marks c.in_ok-replied.ensures.names c.in_ok-replied.ensures.nodes c.in-TakesApart.row own by) (parts_at g.S.Store.names g.S.Store.present g.S.Store.stands g.S.Store.older c.args.self.now c.reply.new.store c.reply.new.nodes s c.args.frame c.args.place c.args.goal c.requires.now c.requires.there r c.requires.steps c.args.built_in c.requires.built_in c.in_ok-replied.ensures.marks c.in_ok-replied.ensures.names c.in_ok-replied.ensures.nodes c.in-TakesApart.row own by)))
+    IfOk-weaker c.part_goal.result _ _ (parts_now g.S.Store.names g.S.Store.present g.S.Store.stands g.S.Store.older c.args.self.now c.reply.new.store c.reply.new.nodes s c.args.frame c.args.place c.args.goal c.requires.now c.requires.there r c.requires.steps c.args.built_in c.requires.built_in c.in_ok-replied.ensures.marks c.in_ok-replied.ensures.names c.in_ok-replied.ensures.nodes c.in-TakesApart.row own by c.part_goal.new.self) (c.part_goal.ensures.called (parting g.S.Store.names g.S.Store.present g.S.Store.stands g.S.Store.older c.args.self.now c.reply.new.store c.reply.new.nodes s c.args.frame c.args.place c.args.goal c.requires.now c.requires.there r c.requires.steps c.args.built_in c.requires.built_in c.in_ok-replied.ensures.marks c.in_ok-replied.ensures.names c.in_ok-replied.ensures.nodes c.in-TakesApart.row own by) (parts_at g.S.Store.names g.S.Store.present g.S.Store.stands g.S.Store.older c.args.self.now c.reply.new.store c.reply.new.nodes s c.args.frame c.args.place c.args.goal c.requires.now c.requires.there r c.requires.steps c.args.built_in c.requires.built_in c.in_ok-replied.ensures.marks c.in_ok-replied.ensures.names c.in_ok-replied.ensures.nodes c.in-TakesApart.row own by)))
 
 pub returns-in-TakesApart-clause-stopped : goal.returns-in-TakesApart-clause-stopped
 returns-in-TakesApart-clause-stopped g c = λ s r.
@@ -324,7 +324,7 @@ returns-in-TakesApart-clause-stopped g c = λ s r.
 
 pub returns-in-TakesApart-clause-falls : goal.returns-in-TakesApart-clause-falls
 returns-in-TakesApart-clause-falls g c =
-    if_ok_map _ _ c.part_goal.result (λ m. subst (λ x. Falls m x (weight c.part_goal.new.self)) (step_weight g.S.Store.names g.S.Store.present g.S.Store.stands g.S.Store.older c.args.self.now c.requires.stands.0 c.args.frame c.args.place c.requires.now c.requires.there.asks c.requires.stands.1 c.requires.steps)) (c.part_goal.ensures.falls (cost c.args.self.now) (behind_less g.S.Store.names g.S.Store.present g.S.Store.stands g.S.Store.older c.args.self.now c.requires.stands.0 c.args.frame c.args.place c.requires.now c.requires.there.asks c.requires.stands.1 c.requires.steps))
+    IfOk-weaker c.part_goal.result _ _ (λ m. subst (λ x. Falls m x (weight c.part_goal.new.self)) (step_weight g.S.Store.names g.S.Store.present g.S.Store.stands g.S.Store.older c.args.self.now c.requires.stands.0 c.args.frame c.args.place c.requires.now c.requires.there.asks c.requires.stands.1 c.requires.steps)) (c.part_goal.ensures.falls (cost c.args.self.now) (behind_less g.S.Store.names g.S.Store.present g.S.Store.stands g.S.Store.older c.args.self.now c.requires.stands.0 c.args.frame c.args.place c.requires.now c.requires.there.asks c.requires.stands.1 c.requires.steps))
 
 pub returns-in-TakesApart-clause-frames : goal.returns-in-TakesApart-clause-frames
 returns-in-TakesApart-clause-frames g c = λ s r.
@@ -347,7 +347,7 @@ pub returns-in-AsksDatabase-clause-moves : goal.returns-in-AsksDatabase-clause-m
 returns-in-AsksDatabase-clause-moves g c = λ s r.
     (let by = stores_by (g.S.Store.present c.args.self.now.store) (g.S.Store.present c.reply.new.store) c.args.self.now.nodes.items c.reply.new.nodes.items (reply c.args.built_in (meaning (g.S.Store.present c.args.self.now.store) c.args.goal)) c.in-AsksDatabase.row (rw c.in-AsksDatabase.is at c.in_ok-replied.ensures.replies) in
     let own = rw c.in-AsksDatabase.is at c.in_ok-replied.ensures.asks in
-    if_ok_map _ _ c.store_goal.result (stores_now g.S.Store.names g.S.Store.present g.S.Store.stands g.S.Store.older c.args.self.now c.reply.new.store c.reply.new.nodes s c.args.frame c.args.place c.args.goal c.requires.now c.requires.there r c.requires.steps c.args.built_in c.requires.built_in c.in_ok-replied.ensures.marks c.in_ok-replied.ensures.names c.in_ok-replied.ensures.nodes c.in-AsksDatabase.row own by c.store_goal.new.self) (c.store_goal.ensures.called (storing g.S.Store.names g.S.Store.present g.S.Store.stands g.S.Store.older c.args.self.now c.reply.new.store c.reply.new.nodes s c.args.frame c.args.place c.args.goal c.requires.now c.requires.there r c.requires.steps c.args.built_in c.requires.built_in c.in_ok-replied.ensures.marks c.in_ok-replied.ensures.names c.in_ok-replied.ensures.nodes c.in-AsksDatabase.row own by) (stores_at g.S.Store.names g.S.Store.present g.S.Store.stands g.S.Store.older c.args.self.now c.reply.new.store c.reply.new.nodes s c.args.frame c.args.place c.args.goal c.requires.now c.requires.there r c.requires.steps c.args.built_in c.requires.built_in c.in_ok-replied.ensures.marks c.in_ok-replied.ensures.names c.in_ok-replied.ensures.nodes c.in-AsksDatabase.row own by)))
+    IfOk-weaker c.store_goal.result _ _ (stores_now g.S.Store.names g.S.Store.present g.S.Store.stands g.S.Store.older c.args.self.now c.reply.new.store c.reply.new.nodes s c.args.frame c.args.place c.args.goal c.requires.now c.requires.there r c.requires.steps c.args.built_in c.requires.built_in c.in_ok-replied.ensures.marks c.in_ok-replied.ensures.names c.in_ok-replied.ensures.nodes c.in-AsksDatabase.row own by c.store_goal.new.self) (c.store_goal.ensures.called (storing g.S.Store.names g.S.Store.present g.S.Store.stands g.S.Store.older c.args.self.now c.reply.new.store c.reply.new.nodes s c.args.frame c.args.place c.args.goal c.requires.now c.requires.there r c.requires.steps c.args.built_in c.requires.built_in c.in_ok-replied.ensures.marks c.in_ok-replied.ensures.names c.in_ok-replied.ensures.nodes c.in-AsksDatabase.row own by) (stores_at g.S.Store.names g.S.Store.present g.S.Store.stands g.S.Store.older c.args.self.now c.reply.new.store c.reply.new.nodes s c.args.frame c.args.place c.args.goal c.requires.now c.requires.there r c.requires.steps c.args.built_in c.requires.built_in c.in_ok-replied.ensures.marks c.in_ok-replied.ensures.names c.in_ok-replied.ensures.nodes c.in-AsksDatabase.row own by)))
 
 pub returns-in-AsksDatabase-clause-stopped : goal.returns-in-AsksDatabase-clause-stopped
 returns-in-AsksDatabase-clause-stopped g c = λ s r.
@@ -357,7 +357,7 @@ returns-in-AsksDatabase-clause-stopped g c = λ s r.
 
 pub returns-in-AsksDatabase-clause-falls : goal.returns-in-AsksDatabase-clause-falls
 returns-in-AsksDatabase-clause-falls g c =
-    if_ok_map _ _ c.store_goal.result (λ m. subst (λ x. Falls m x (weight c.store_goal.new.self)) (step_weight g.S.Store.names g.S.Store.present g.S.Store.stands g.S.Store.older c.args.self.now c.requires.stands.0 c.args.frame c.args.place c.requires.now c.requires.there.asks c.requires.stands.1 c.requires.steps)) (c.store_goal.ensures.falls (cost c.args.self.now) (behind_less g.S.Store.names g.S.Store.present g.S.Store.stands g.S.Store.older c.args.self.now c.requires.stands.0 c.args.frame c.args.place c.requires.now c.requires.there.asks c.requires.stands.1 c.requires.steps))
+    IfOk-weaker c.store_goal.result _ _ (λ m. subst (λ x. Falls m x (weight c.store_goal.new.self)) (step_weight g.S.Store.names g.S.Store.present g.S.Store.stands g.S.Store.older c.args.self.now c.requires.stands.0 c.args.frame c.args.place c.requires.now c.requires.there.asks c.requires.stands.1 c.requires.steps)) (c.store_goal.ensures.falls (cost c.args.self.now) (behind_less g.S.Store.names g.S.Store.present g.S.Store.stands g.S.Store.older c.args.self.now c.requires.stands.0 c.args.frame c.args.place c.requires.now c.requires.there.asks c.requires.stands.1 c.requires.steps))
 
 pub returns-in-AsksDatabase-clause-frames : goal.returns-in-AsksDatabase-clause-frames
 returns-in-AsksDatabase-clause-frames g c = λ s r.
@@ -380,7 +380,7 @@ pub returns-in-Writes-clause-moves : goal.returns-in-Writes-clause-moves
 returns-in-Writes-clause-moves g c = λ s r.
     (let by = (writes_none (g.S.Store.present c.args.self.now.store) (g.S.Store.present c.reply.new.store) c.args.self.now.nodes.items c.reply.new.nodes.items (reply c.args.built_in (meaning (g.S.Store.present c.args.self.now.store) c.args.goal)) c.in-Writes.row (rw c.in-Writes.is at c.in_ok-replied.ensures.replies)).0 in
     let own = rw c.in-Writes.is at c.in_ok-replied.ensures.asks in
-    if_ok_map _ _ c.write_goal.result (writes_now g.S.Store.names g.S.Store.present g.S.Store.stands g.S.Store.older c.args.self.now c.reply.new.store c.reply.new.nodes s c.args.frame c.args.place c.args.goal c.requires.now c.requires.there r c.requires.steps c.args.built_in c.requires.built_in c.in_ok-replied.ensures.marks c.in_ok-replied.ensures.names c.in_ok-replied.ensures.nodes c.in-Writes.row own by c.write_goal.new.self) (c.write_goal.ensures.written (writing g.S.Store.names g.S.Store.present g.S.Store.stands g.S.Store.older c.args.self.now c.reply.new.store c.reply.new.nodes s c.args.frame c.args.place c.args.goal c.requires.now c.requires.there r c.requires.steps c.args.built_in c.requires.built_in c.in_ok-replied.ensures.marks c.in_ok-replied.ensures.names c.in_ok-replied.ensures.nodes c.in-Writes.row own by) (writes_at g.S.Store.names g.S.Store.present g.S.Store.stands g.S.Store.older c.args.self.now c.reply.new.store c.reply.new.nodes s c.args.frame c.args.place c.args.goal c.requires.now c.requires.there r c.requires.steps c.args.built_in c.requires.built_in c.in_ok-replied.ensures.marks c.in_ok-replied.ensures.names c.in_ok-replied.ensures.nodes c.in-Writes.row own by)))
+    IfOk-weaker c.write_goal.result _ _ (writes_now g.S.Store.names g.S.Store.present g.S.Store.stands g.S.Store.older c.args.self.now c.reply.new.store c.reply.new.nodes s c.args.frame c.args.place c.args.goal c.requires.now c.requires.there r c.requires.steps c.args.built_in c.requires.built_in c.in_ok-replied.ensures.marks c.in_ok-replied.ensures.names c.in_ok-replied.ensures.nodes c.in-Writes.row own by c.write_goal.new.self) (c.write_goal.ensures.written (writing g.S.Store.names g.S.Store.present g.S.Store.stands g.S.Store.older c.args.self.now c.reply.new.store c.reply.new.nodes s c.args.frame c.args.place c.args.goal c.requires.now c.requires.there r c.requires.steps c.args.built_in c.requires.built_in c.in_ok-replied.ensures.marks c.in_ok-replied.ensures.names c.in_ok-replied.ensures.nodes c.in-Writes.row own by) (writes_at g.S.Store.names g.S.Store.present g.S.Store.stands g.S.Store.older c.args.self.now c.reply.new.store c.reply.new.nodes s c.args.frame c.args.place c.args.goal c.requires.now c.requires.there r c.requires.steps c.args.built_in c.requires.built_in c.in_ok-replied.ensures.marks c.in_ok-replied.ensures.names c.in_ok-replied.ensures.nodes c.in-Writes.row own by)))
 
 pub returns-in-Writes-clause-stopped : goal.returns-in-Writes-clause-stopped
 returns-in-Writes-clause-stopped g c = λ s r.
@@ -390,7 +390,7 @@ returns-in-Writes-clause-stopped g c = λ s r.
 
 pub returns-in-Writes-clause-falls : goal.returns-in-Writes-clause-falls
 returns-in-Writes-clause-falls g c =
-    if_ok_map _ _ c.write_goal.result (λ m. subst (λ x. Falls m x (weight c.write_goal.new.self)) (step_weight g.S.Store.names g.S.Store.present g.S.Store.stands g.S.Store.older c.args.self.now c.requires.stands.0 c.args.frame c.args.place c.requires.now c.requires.there.asks c.requires.stands.1 c.requires.steps)) (c.write_goal.ensures.falls (cost c.args.self.now) (behind_less g.S.Store.names g.S.Store.present g.S.Store.stands g.S.Store.older c.args.self.now c.requires.stands.0 c.args.frame c.args.place c.requires.now c.requires.there.asks c.requires.stands.1 c.requires.steps))
+    IfOk-weaker c.write_goal.result _ _ (λ m. subst (λ x. Falls m x (weight c.write_goal.new.self)) (step_weight g.S.Store.names g.S.Store.present g.S.Store.stands g.S.Store.older c.args.self.now c.requires.stands.0 c.args.frame c.args.place c.requires.now c.requires.there.asks c.requires.stands.1 c.requires.steps)) (c.write_goal.ensures.falls (cost c.args.self.now) (behind_less g.S.Store.names g.S.Store.present g.S.Store.stands g.S.Store.older c.args.self.now c.requires.stands.0 c.args.frame c.args.place c.requires.now c.requires.there.asks c.requires.stands.1 c.requires.steps))
 
 pub returns-in-Writes-clause-frames : goal.returns-in-Writes-clause-frames
 returns-in-Writes-clause-frames g c = λ s r. result_full c.write_goal.result (λ h. absurd h) c.write_goal.ensures.frames

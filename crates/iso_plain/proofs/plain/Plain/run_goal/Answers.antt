@@ -1,6 +1,6 @@
 use Rattle.std.proofs.Common.{◌-◌, ap, refl, subst, arith}
 use Rattle.iso_model.specs.Terms.TermOf.{term_of}
-use Rattle.std.proofs.lemmas.Result.{on_err_weaker}
+use Rattle.std.proofs.lemmas.Result.{on_err_weaker, IfOk-weaker}
 use Rattle.iso_store_core.specs.Presents.{meaning}
 use Rattle.iso_plain.specs.EngineStates.{Falls, cost, weight, phase_of}
 use Rattle.iso_plain_core.proofs.EnteringLemmas.{adds_none, words_same}
@@ -9,7 +9,7 @@ use Rattle.iso_plain_core.proofs.ResultLemmas.{behind_error}
 use Rattle.iso_plain.proofs.StoppedLemmas.{keeps_all}
 use Rattle.iso_plain.proofs.SearchMoves.{stops_here}
 use Rattle.iso_plain.proofs.RunLemmas.{calls_engine, ahead_step, one_less}
-use Rattle.iso_plain.proofs.RunMoves.{at, spends, throws_unknown, fails_unknown, called_on, refused_on, over, if_ok_map}
+use Rattle.iso_plain.proofs.RunMoves.{at, spends, throws_unknown, fails_unknown, called_on, refused_on, over}
 use Rattle.iso_plain.proofs.RunCosts.{behind_less, step_weight, fails_falls, throws_falls}
 use Rattle.iso_plain.proofs.LimitLemmas.{result_full}
 use Rattle.iso_plain.proofs.plain.Plain.run_goal.Goals as goal
@@ -95,7 +95,7 @@ returns-in-User-clause-moves g c = λ s r.
     let user = rw c.in-User.is at what in
     let calls = calls_engine g.S.Store.names g.S.Store.present g.S.Store.stands g.S.Store.older e r.own c.args.frame c.args.goal c.in-User.clause c.in-User.later (e.steps - 1) user.first user.others a (one_less e.steps c.if-self-eq0.false) user.left in
     let passes = c.passed-attempt.ensures.passes (record r.own { steps = e.steps - 1 }) (meaning (g.S.Store.present e.store) c.args.goal) user.first user.others a.behind calls in
-    if_ok_map _ _ c.call_first.result (called_on g.S.Store.names g.S.Store.present g.S.Store.stands g.S.Store.older e s c.args.frame c.args.place c.args.goal c.requires.now c.requires.there r c.if-self-eq0.false user.key user.first user.others user.user user.found passes.clause passes.others passes.quiet c.call_first.new.self) (c.call_first.ensures.called _ _ passes.clause passes.others a.behind passes.calls))
+    IfOk-weaker c.call_first.result _ _ (called_on g.S.Store.names g.S.Store.present g.S.Store.stands g.S.Store.older e s c.args.frame c.args.place c.args.goal c.requires.now c.requires.there r c.if-self-eq0.false user.key user.first user.others user.user user.found passes.clause passes.others passes.quiet c.call_first.new.self) (c.call_first.ensures.called _ _ passes.clause passes.others a.behind passes.calls))
 
 pub returns-in-User-clause-frames : goal.returns-in-User-clause-frames
 returns-in-User-clause-frames g c = λ s r.
@@ -121,4 +121,4 @@ returns-in-User-clause-stopped g c = λ s r.
 pub returns-in-User-clause-falls : goal.returns-in-User-clause-falls
 returns-in-User-clause-falls g c =
     let less = behind_less g.S.Store.names g.S.Store.present g.S.Store.stands g.S.Store.older c.args.self.now c.requires.stands.0 c.args.frame c.args.place c.requires.now c.requires.there.asks c.requires.stands.1 c.if-self-eq0.false in
-    if_ok_map _ _ c.call_first.result (λ m. subst (λ x. Falls m x (weight c.call_first.new.self)) (step_weight g.S.Store.names g.S.Store.present g.S.Store.stands g.S.Store.older c.args.self.now c.requires.stands.0 c.args.frame c.args.place c.requires.now c.requires.there.asks c.requires.stands.1 c.if-self-eq0.false)) (c.call_first.ensures.falls (cost c.args.self.now) (rw c.passed-attempt.ensures.rest (omega (arith, less))))
+    IfOk-weaker c.call_first.result _ _ (λ m. subst (λ x. Falls m x (weight c.call_first.new.self)) (step_weight g.S.Store.names g.S.Store.present g.S.Store.stands g.S.Store.older c.args.self.now c.requires.stands.0 c.args.frame c.args.place c.requires.now c.requires.there.asks c.requires.stands.1 c.if-self-eq0.false)) (c.call_first.ensures.falls (cost c.args.self.now) (rw c.passed-attempt.ensures.rest (omega (arith, less))))

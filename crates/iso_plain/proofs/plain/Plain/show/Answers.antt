@@ -2,7 +2,7 @@ use Rattle.std.proofs.Common.{◌≡◌, ◌∙◌, [], ap, refl, subst, Ok}
 use Rattle.iso_model.specs.Terms.Variables.{variables}
 use Rattle.iso_model.specs.Search.Walker.{State, World, with_rights}
 use Rattle.iso_plain_core.specs.Costs.{rest_cost, frame_costs, choices_cost}
-use Rattle.iso_plain.specs.EngineStates.{IsEngine, Keeps, cost}
+use Rattle.iso_plain.specs.EngineStates.{StandsAs, Keeps, cost}
 use Rattle.iso_plain.specs.Shows.{shown_row, offers_of}
 use Rattle.iso_plain.proofs.LimitLemmas.{stays_on, stays_bare}
 use Rattle.iso_plain.proofs.OfferMoves.{rights_keep}
@@ -67,7 +67,7 @@ returns-clause-called g c = λ s k x xs t.
     let other = shown_row (g.S.Store.present c.push_shown.new.self.store) c.args.shown in
     let same : other ≡ row = ap (λ (q : _). shown_row q c.args.shown) present in
     let there = first_tried c.args.shown row other k x xs s same in
-    (subst (λ (y : State). IsEngine g.S.Store.names g.S.Store.present g.S.Store.stands g.S.Store.older c.show_clause.new.self y) there (c.in_default.ensures.tried mid k x xs meets), c.in_default.ensures.awake))
+    (subst (λ (y : State). StandsAs g.S.Store.names g.S.Store.present g.S.Store.stands g.S.Store.older c.show_clause.new.self y) there (c.in_default.ensures.tried mid k x xs meets), c.in_default.ensures.awake))
 
 pub returns-clause-falls : goal.returns-clause-falls
 returns-clause-falls g c = λ w less.

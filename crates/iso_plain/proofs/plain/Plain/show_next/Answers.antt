@@ -1,6 +1,6 @@
 use Rattle.std.proofs.Common.{[], subst}
 use Rattle.iso_model.specs.Search.Walker.{State, World}
-use Rattle.iso_plain.specs.EngineStates.{IsEngine, Keeps, went_back}
+use Rattle.iso_plain.specs.EngineStates.{StandsAs, Keeps, went_back}
 use Rattle.iso_plain.specs.Shows.{shown_row, offers_of}
 use Rattle.iso_plain.proofs.LimitLemmas.{stays_on, stays_bare}
 use Rattle.iso_plain.proofs.OfferMoves.{rights_keep}
@@ -20,7 +20,7 @@ returns-clause-tried g c = λ ch s a below first rights mark tries w is.
     let n = c.leave_shown.ensures.shows ch s a below mark tries w in
     let mid = left_state g.S.Store.names g.S.Store.present g.S.Store.stands g.S.Store.older e c.args.shown s a below n in
     let same = left_tried g.S.Store.names g.S.Store.present g.S.Store.stands g.S.Store.older e c.args.shown s a below n first rights is in
-    subst (λ (y : State). IsEngine g.S.Store.names g.S.Store.present g.S.Store.stands g.S.Store.older c.show_clause.new.self y) same (c.in_default.ensures.tried mid n.key n.clause n.others n.shows))
+    subst (λ (y : State). StandsAs g.S.Store.names g.S.Store.present g.S.Store.stands g.S.Store.older c.show_clause.new.self y) same (c.in_default.ensures.tried mid n.key n.clause n.others n.shows))
 
 pub returns-in-Err-clause-kept : goal.returns-in-Err-clause-kept
 returns-in-Err-clause-kept g c = λ ch s a below mark tries w.

@@ -11,10 +11,11 @@ use Rattle.iso_plain_core.specs.Costs.{rest_cost, frame_costs, choices_cost, who
 use Rattle.iso_plain_core.specs.declared.parts.Now.TheVariants as now
 use Rattle.iso_plain_core.proofs.CostLemmas.{behind_cost, whole_paid}
 use Rattle.iso_plain_core.proofs.StandingLemmas.{chain_place}
-use Rattle.iso_plain.specs.EngineStates.{IsEngine, WasCalled, cost}
+use Rattle.iso_plain.specs.EngineStates.{IsEngine, WasTried, cost}
 use Rattle.iso_plain.proofs.FailLemmas.{awake_behind}
 use Rattle.iso_plain.proofs.LimitLemmas.{result_full}
 use Rattle.iso_plain.proofs.LocalMoves.{rest_paid}
+use Rattle.iso_plain.proofs.SearchMoves.{stands_itself}
 use Rattle.iso_plain.proofs.WeightLemmas.{cost_as}
 use Rattle.iso_plain.proofs.StoreMoves.{done_comes, fails_comes, shows_comes, raise_comes, unless_at, stopped_at, done_engine, fails_engine, keeps_same, ahead_same, shows_there, shows_is, shows_longer}
 use Rattle.iso_plain.proofs.plain.Plain.store_goal.Goals as goal
@@ -33,8 +34,8 @@ returns-in-Ok-Done-clause-called g c = λ s h.
     let settles = subst (λ (n : ℕ). IsStored (g.S.Store.names new.store) (g.S.Store.present new.store) new.db new.callables.items s.world (storage_settled c.args.row t n s.world) c.store.result) h.ahead.goes.next (c.store.ensures.stored s.world program) in
     let done = done_comes (g.S.Store.names new.store) (g.S.Store.present new.store) new.db new.callables.items s.world x c.store.result settles came in
     let unbound = stopped_at (IsUnbound (g.S.Store.present e.store) (g.S.Store.present new.store)) c.store.result (Ok c.in-Ok-Done.field-0) c.in-Ok-Done.is c.store.ensures.unbound in (
-      rw (c.at-self.ensures, c.as_slice.ensures.value) (done_engine g.S.Store.names g.S.Store.present g.S.Store.stands g.S.Store.older e c.args.row c.args.goal s c.args.place h new.store new.db new.callables c.store.ensures.marks c.store.ensures.names c.store.ensures.views c.store.ensures.clauses
-          done.1 done.3 unbound done.0 x done.2),
+      rw (c.at-self.ensures, c.as_slice.ensures.value) (stands_itself g.S.Store.names g.S.Store.present g.S.Store.stands g.S.Store.older _ _ (done_engine g.S.Store.names g.S.Store.present g.S.Store.stands g.S.Store.older e c.args.row c.args.goal s c.args.place h new.store new.db new.callables c.store.ensures.marks c.store.ensures.names c.store.ensures.views c.store.ensures.clauses
+          done.1 done.3 unbound done.0 x done.2)),
       rw c.at-self.ensures (awake_behind _ c.args.place),
     ))
 
@@ -57,7 +58,7 @@ returns-in-Ok-Fails-clause-called g c = λ s h.
     let settles = subst (λ (n : ℕ). IsStored (g.S.Store.names new.store) (g.S.Store.present new.store) new.db new.callables.items s.world (storage_settled c.args.row t n s.world) c.store.result) h.ahead.goes.next (c.store.ensures.stored s.world program) in
     let none = fails_comes (g.S.Store.names new.store) (g.S.Store.present new.store) new.db new.callables.items s.world x c.store.result settles came in
     let kept = unless_at (IsProgram (g.S.Store.names new.store) (contents new.db) new.callables.items s.world.database) c.store.result _ came (c.store.ensures.kept s.world.database program) in
-    (fails_engine g.S.Store.names g.S.Store.present g.S.Store.stands g.S.Store.older e c.args.row c.args.goal s c.args.place h new.store new.db new.callables c.store.ensures.marks c.store.ensures.names c.store.ensures.views c.store.ensures.clauses kept x none.0 none.1, tt))
+    (stands_itself g.S.Store.names g.S.Store.present g.S.Store.stands g.S.Store.older _ _ (fails_engine g.S.Store.names g.S.Store.present g.S.Store.stands g.S.Store.older e c.args.row c.args.goal s c.args.place h new.store new.db new.callables c.store.ensures.marks c.store.ensures.names c.store.ensures.views c.store.ensures.clauses kept x none.0 none.1), tt))
 
 pub returns-in-Ok-Fails-clause-falls : goal.returns-in-Ok-Fails-clause-falls
 returns-in-Ok-Fails-clause-falls g c = λ w less.
@@ -94,7 +95,7 @@ returns-in-Ok-Shows-clause-called g c = λ s h.
     let unbound = stopped_at (IsUnbound (g.S.Store.present e.store) (g.S.Store.present new.store)) c.store.result _ came c.store.ensures.unbound in
     let shows = shows_there g.S.Store.names g.S.Store.present g.S.Store.stands g.S.Store.older e c.args.row c.args.goal s c.args.place h new.store new.db new.callables c.store.ensures.marks c.store.ensures.names c.store.ensures.views c.store.ensures.clauses kept unbound x c.in-Ok-Shows.shown is in
     let same = shows_is g.S.Store.names g.S.Store.present g.S.Store.stands g.S.Store.older e c.args.row c.args.goal s c.args.place h new.store new.db new.callables c.store.ensures.marks c.store.ensures.names c.store.ensures.views c.store.ensures.clauses kept unbound x c.in-Ok-Shows.shown is in
-    subst (λ (v : State). IfOk c.show.result (λ m. WasCalled g.S.Store.names g.S.Store.present g.S.Store.stands g.S.Store.older m c.show.new.self s v)) same (c.show.ensures.called s is.key is.are.first is.are.others shows))
+    subst (λ (v : State). IfOk c.show.result (λ m. WasTried g.S.Store.names g.S.Store.present g.S.Store.stands g.S.Store.older m c.show.new.self s v)) same (c.show.ensures.called s is.key is.are.first is.are.others shows))
 
 pub returns-in-Ok-Shows-clause-kept : goal.returns-in-Ok-Shows-clause-kept
 returns-in-Ok-Shows-clause-kept g c = λ s h.
@@ -140,7 +141,7 @@ returns-in-Err-Raise-clause-called g c = λ s h.
     let kept = unless_at (IsProgram (g.S.Store.names new.store) (contents new.db) new.callables.items s.world.database) c.store.result _ came (c.store.ensures.kept s.world.database program) in
     let unbound = stopped_at (IsUnbound (g.S.Store.present e.store) (g.S.Store.present new.store)) c.store.result _ came c.store.ensures.unbound in
     let ahead = ahead_same g.S.Store.names g.S.Store.present g.S.Store.stands g.S.Store.older e c.args.row c.args.goal s c.args.place h new.store new.db new.callables c.store.ensures.marks c.store.ensures.names c.store.ensures.views c.store.ensures.clauses kept unbound in (
-      subst (λ (y : Settled). IsEngine g.S.Store.names g.S.Store.present g.S.Store.stands g.S.Store.older c.throw.new.self (settled y s.list s)) (sym is.0) (rw c.in-Err-Raise.ball-is at (c.throw.ensures.thrown s ahead)),
+      stands_itself g.S.Store.names g.S.Store.present g.S.Store.stands g.S.Store.older _ _ (subst (λ (y : Settled). IsEngine g.S.Store.names g.S.Store.present g.S.Store.stands g.S.Store.older c.throw.new.self (settled y s.list s)) (sym is.0) (rw c.in-Err-Raise.ball-is at (c.throw.ensures.thrown s ahead))),
       rw c.throw.ensures.now tt,
     ))
 

@@ -1,4 +1,4 @@
-use Rattle.iso_plain.proofs.RunMoves.{if_ok_map}
+use Rattle.std.proofs.lemmas.Result.{IfOk-weaker}
 use Rattle.iso_plain_core.proofs.LeavingLemmas.{left_clause}
 use Rattle.iso_plain.proofs.AheadLemmas.{keeps_ahead}
 use Rattle.iso_plain.proofs.StoppedLemmas.{keeps_store}
@@ -9,7 +9,7 @@ pub returns-clause-unified : goal.returns-clause-unified
 returns-clause-unified g c = λ s k x xs t.
     (let e = c.args.self.now in
     let is = left_clause (g.S.Store.names e.store) e.db t.clauses c.clause-clause.result.now c.clause-clause.ensures in
-    if_ok_map _ _ c.unify_clause.result (unified g.S.Store.names g.S.Store.present g.S.Store.stands g.S.Store.older e c.args.shown s k x xs t c.unify_clause.new.store c.unify_clause.ensures.marks c.unify_clause.ensures.names c.requires.failing is.few)
+    IfOk-weaker c.unify_clause.result _ _ (unified g.S.Store.names g.S.Store.present g.S.Store.stands g.S.Store.older e c.args.shown s k x xs t c.unify_clause.new.store c.unify_clause.ensures.marks c.unify_clause.ensures.names c.requires.failing is.few)
     (c.unify_clause.ensures.unifies x is))
 
 pub returns-clause-kept : goal.returns-clause-kept

@@ -1,0 +1,8 @@
+use Rattle.std.proofs.Common.{take}
+use Rattle.iso_store.proofs.HeapSorts.{substitution-is}
+use Rattle.iso_store.proofs.heap.HeapStore.unify_head.Goals as goal
+
+pub returns-clause-substitution : goal.returns-clause-substitution
+returns-clause-substitution c =
+    let now = c.unify_head.new.store in
+    substitution-is (take now.named now.atoms) now.area.low now.next now.is_heap
