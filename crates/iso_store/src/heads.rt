@@ -10,10 +10,10 @@ ghost use Rattle.iso_store_core.specs.Heads.{IsHeadMet};
 ghost use Rattle.iso_store.specs.Reading.{term_between, later_cells, IsLater, GetsWord, HasWords, MakesThese, UnifiesThese};
 
 use super::cells::Cells;
-use super::instances::instantiate_parts;
+use super::instances::make_parts;
 use super::reading::{Later, begin, read_head};
 use super::scratch::{Kept, Scratch, keep, take_kept};
-use super::unify::{Task, unify_with};
+use super::unify::{Task, unify_made};
 use iso_store_core::{Pattern, StoreFault};
 
 /// The word of the variable of this number: its value where it has one, else the variable, which comes.
@@ -84,8 +84,8 @@ fn unify_part<C: Cells>(
     ensures marks { KeepsMarks (C.stands store.old) (C.stands store.new) }
 {
     let parts = &head.parts[part.from..part.past];
-    let made = instantiate_parts(store.alloc(), store, parts, words)?;
-    unify_with(store, part.word, made, scratch, tasks)
+    let made = make_parts(store, parts, words, &mut scratch.made)?;
+    unify_made(store, part.word, made, scratch, tasks)
 }
 
 /// Whether all that was left for later can be unified with its words, which then is bound.

@@ -109,7 +109,7 @@ fn make_last<C: Cells>(
 }
 
 /// The term of the parts, with the word at its place for each variable, and this list for the words of its parts.
-fn make_parts<C: Cells>(
+pub(crate) fn make_parts<C: Cells>(
     store: &mut C,
     parts: &[Part],
     variables: &[C::Word],

@@ -10,7 +10,7 @@ use super::unify::Task;
 use iso_model::NoMemory;
 use std::alloc::Global;
 
-/// What unifying notes of the places of a store.
+/// What unifying notes of the places of a store, and makes in it.
 #[derive(Drop)]
 pub(crate) struct Scratch<W: Copy> {
     /// The places that a search for a variable is through with.
@@ -19,6 +19,8 @@ pub(crate) struct Scratch<W: Copy> {
     pub(crate) searches: Vec<Search<W>>,
     /// For a place, a word of an earlier place that stands for the same term.
     pub(crate) joined: Notes<W>,
+    /// The words of a term that is made of its parts.
+    pub(crate) made: Vec<W>,
 }
 
 /// The notes and lists, which a store keeps between calls, so that none of them begins by making as many notes as the store has
@@ -41,6 +43,7 @@ impl<W: Copy> Kept<W> {
                 searched: Notes::new(alloc),
                 searches: Vec::new(alloc),
                 joined: Notes::new(alloc),
+                made: Vec::new(alloc),
             },
             tasks: Vec::new(alloc),
             known: Notes::new(alloc),

@@ -242,6 +242,29 @@ pub(crate) fn unify_with<C: Cells>(
     Ok(true)
 }
 
+/// As `unify_with`; where the first word stands for an unbound variable, it is bound at once.
+pub(crate) fn unify_made<C: Cells>(
+    store: &mut C,
+    one: C::Word,
+    other: C::Word,
+    scratch: &mut Scratch<C::Word>,
+    tasks: &mut Vec<Task<C::Word>>,
+) -> Result<bool, StoreFault>
+    requires one { Holds (C.present store.old) one }
+    requires other { Holds (C.present store.old) other }
+    ensures unified { IfOk result (IsUnification (C.present store.old) (C.present store.new) (meaning (C.present store.old) one) (meaning (C.present store.old) other)) }
+    ensures cells { Grows (C.present store.old) (C.present store.new) 0 }
+    ensures full { result ≡ Err StoreFault.Full → C.full store.new }
+    ensures names { C.names store.new ≡ C.names store.old }
+    ensures marks { KeepsMarks (C.stands store.old) (C.stands store.new) }
+{
+    scratch.joined.begin();
+    match meet(store.shape(one), store.shape(other)) {
+        Meeting::FirstVariable(number) => bind_checked(store, number, one, other, scratch),
+        _ => unify_with(store, one, other, scratch, tasks),
+    }
+}
+
 /// Whether what the words stand for can be made equal, which then is bound.
 pub(crate) fn unify<C: Cells>(
     store: &mut C,
