@@ -182,7 +182,7 @@ module _ {S W M : Type 0} (names : S → List (List ℕ)) (present : S → Prese
           let own : State = record there { subst = q.substitution } in
           let raised = option_map (λ b. term_of b.term) e.raised in
           let engine = with_next (now_behind e.frames.items attempt.rest) own refl refl refl refl
-              (next_behind q links e.query.items raised own attempt.rest behind fact (chain_more links links_add m.values.words (t.calls).at.on.chain) (goes_on own.list)) in
+          (next_behind q links e.query.items raised own attempt.rest behind fact (chain_more links links_add m.values.words (t.calls).at.on.chain) (goes_on own.list)) in
           let h = behind_values in
           let under : SameUnder q.substitution there.subst there = record {
             goals = subst (λ (ms : List Member). SameList q.substitution there.subst (flat ms) (flat ms)) (sym fact) h.goals;
@@ -206,7 +206,7 @@ module _ {S W M : Type 0} (names : S → List (List ℕ)) (present : S → Prese
         let first : First q links f own.list = record { member = Goal b mark; behind = behind; is = refl; stands = a_body refl at; chain = chain_more links links_add m.values.words (t.calls).at.on.chain } in
         let engine = with_next (now.Running f) own refl refl refl refl (first, goes_on m own.list) in
         let values : (n : ℕ) → apply q.substitution (h.terms n) ≡ apply v.subst (renaming_from s.next n) = λ n.
-            h.values n ∙ ap (λ (i : ℕ). compose p.substitution m.unifier (i + n)) (t.calls).at.on.next_is ∙ ap (λ (r : Subst). r (s.next + n)) (bound m) in
+        h.values n ∙ ap (λ (i : ℕ). compose p.substitution m.unifier (i + n)) (t.calls).at.on.next_is ∙ ap (λ (r : Subst). r (s.next + n)) (bound m) in
         let value = body_under q.substitution h.terms v.subst (renaming_from s.next) values c.body in
         subst (λ (x : State). StandsAs names present stands older (onward e store nodes words (now.Running f)) x) (sym (found m))
         (record { own = own; engine = engine; same = same_in_front q.substitution v b (new_body m) mark behind (before_body (new_body m) mark behind body.0) value (behind_values m) })

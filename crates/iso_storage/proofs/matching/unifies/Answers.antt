@@ -33,7 +33,7 @@ returns-clause-unifies g c = λ d is.
     let met = (rw c.reserve-next.ensures.names at c.unify_head.ensures.met) (term_in names c.args.clause.now.head) fits.written in
     IfOk-weaker c.unify_head.result _ _
     (λ answer met. met_answer p (g.S.Store.present c.unify_head.new.self) c.args.head (term_in names c.args.clause.now.head) c.args.clause.now.variables c.unify_head.new.words.items answer alone met
-        ∙ ap (λ (x : Tree). is_some (unifier_of x (renamed p.next (term_in names c.args.clause.now.head)))) same
-        ∙ ap (λ (n : ℕ). is_some (unifier_of call (renamed n (term_in names c.args.clause.now.head)))) next
-        ∙ ap (λ (x : Tree). is_some (unifier_of call (renamed first x))) head)
+    ∙ ap (λ (x : Tree). is_some (unifier_of x (renamed p.next (term_in names c.args.clause.now.head)))) same
+    ∙ ap (λ (n : ℕ). is_some (unifier_of call (renamed n (term_in names c.args.clause.now.head)))) next
+    ∙ ap (λ (x : Tree). is_some (unifier_of call (renamed first x))) head)
     met)

@@ -38,7 +38,7 @@ body_word-requires-clause-fits g c =
     let head = c.args.clause.now.head in
     let written = (head_fits names k.0.variables head k.0.head k.1.head k.1.head_template).written in
     let met = head_met (g.S.Store.present c.args.store.now) (g.S.Store.present c.unify_head.new.self) c.args.head (term_in names head) c.args.clause.now.variables c.unify_head.new.words.items c.in_ok-unify_head.field-0 c.if-not-branch.false
-        (c.in_ok-unify_head.ensures.met (term_in names head) written) in
+    (c.in_ok-unify_head.ensures.met (term_in names head) written) in
     rw (c.as_slice.ensures.value, c.as_slice-parts.ensures.value, met.many, c.unify_head.ensures.names, k.1.variables) (kept_parts_fit names k.0.variables c.args.clause.now.parts.items k.1.goal_templates)
 
 pub body_word-requires-clause-variables : goal.body_word-requires-clause-variables
@@ -48,7 +48,7 @@ body_word-requires-clause-variables g c =
     let head = c.args.clause.now.head in
     let written = (head_fits names k.0.variables head k.0.head k.1.head k.1.head_template).written in
     let met = head_met (g.S.Store.present c.args.store.now) (g.S.Store.present c.unify_head.new.self) c.args.head (term_in names head) c.args.clause.now.variables c.unify_head.new.words.items c.in_ok-unify_head.field-0 c.if-not-branch.false
-        (c.in_ok-unify_head.ensures.met (term_in names head) written) in
+    (c.in_ok-unify_head.ensures.met (term_in names head) written) in
     rw c.as_slice.ensures.value met.hold
 
 pub returns-clause-unifies : goal.returns-clause-unifies
