@@ -310,7 +310,8 @@ impl<C: Drop> Db<C> {
         Ok(())
     }
 
-    /// Removes a clause from the database; views made before give it still. False where it was removed before. Takes no memory.
+    /// Removes a clause from the database; views made before give it still. False where it was removed before. It does
+    /// without the memory for thinning out what was removed where that is refused.
     pub fn remove(&mut self, id: ClauseId) -> bool
         ensures removed { result ≡ has_clause (contents self.old) id }
         ensures contents { contents self.new ≡ without_clause id (contents self.old) }
@@ -331,7 +332,7 @@ impl<C: Drop> Db<C> {
     }
 
     /// Removes the clause of this number from the procedure at this place; views made before give it still. False where that procedure has
-    /// it not, or not any more. Takes no memory.
+    /// it not, or not any more. It does without the memory for thinning out what was removed where that is refused.
     pub fn remove_from(&mut self, place: usize, id: ClauseId) -> bool
         requires { place < length (contents self.old).procedures }
         ensures removed { result ≡ has_in (clauses_at (contents self.old) place) id }

@@ -29,6 +29,8 @@ impl<S: Store + Drop> Plain<S> {
             → Passes S.names S.present S.stands S.older self.entry.now result s call c cs behind }
         ensures rest { result.rest ≡ attempt.rest }
     {
+        // The borrow checker asks that what the loop reads be a scalar or behind a reference: so the goal by itself, and the shape by
+        // reference.
         let goal = attempt.goal;
         let Some(first) = first_shape(&self.store, goal) else {
             return Attempt { goal, ..attempt };
