@@ -55,9 +55,7 @@ module _ {S W M : Type 0} (names : S → List (List ℕ)) (present : S → Prese
   -- the engine's own goals have the values of those that the step goes to
   pub goes_as : (e new : Plain S W M) (s : State) (r : Represents names present stands older e s) (v u : State) → step r.own ≡ Goes v → Same u v → IsEngine names present stands older new u → IsAwake (phase_of new.now)
       → Moves names present stands older move.Goes s new
-  goes_as e new s r v u h same is awake =
-      let k = onward_same r.own v s h r.same in
-      (k.0, k.1, record { own = u; engine = is; same = same_on u v k.0 same k.2 }, awake)
+  goes_as e new s r v u h same is awake = goes_alike e new s r v h (record { own = u; engine = is; same = λ itself. same }) awake
 
   -- where the step goes to a state with one alternative more, and there may be none more, the search comes to more than there may be
   pub comes_over : (e : Plain S W M) (s : State) (r : Represents names present stands older e s) (v : State) (limit : ℕ) → step r.own ≡ Goes v → length v.stack ≡ suc (length (r.own).stack) → limit ≤ length (r.own).stack → ComesOver limit s

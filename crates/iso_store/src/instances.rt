@@ -128,6 +128,7 @@ pub(crate) fn make_parts<C: Cells>(
     words.clear();
     let last = parts.len() - 1;
     for part in &parts[..last] {
+        // Most parts are variables, which need no more than this.
         if let Part::Variable(place) = part {
             words.push(variables[*place])?;
         } else {
@@ -135,30 +136,6 @@ pub(crate) fn make_parts<C: Cells>(
         }
     }
     make_last(store, parts[last], variables, words.as_slice())
-}
-
-/// The term of the parts, with the word at its place for each variable.
-pub(crate) fn instantiate_parts<C: Cells>(
-    alloc: Global,
-    store: &mut C,
-    parts: &[Part],
-    variables: &[C::Word],
-) -> Result<C::Word, StoreFault>
-    requires pattern { (t : Tree) × IsPattern (C.names store.old) parts.now t × (arities_fit t ≡ true) × HasPlaces (length variables.now) t }
-    requires variables { All (λ w. Holds (C.present store.old) w) variables.now }
-    ensures made { (t : Tree) → IsPattern (C.names store.old) parts.now t
-        → IfOk result (λ w. Makes (C.present store.old) (C.present store.new) w (apply (at_places (map (C.present store.old).term variables.now)) t)) }
-    ensures numbers { OnOk result (KeepsNumbers (C.present store.old) (C.present store.new)) }
-    ensures cells { (t : Tree) → IsPattern (C.names store.old) parts.now t → Grows (C.present store.old) (C.present store.new) (cells_of C.atomic C.width t) }
-    ensures full { result ≡ Err StoreFault.Full → C.full store.new }
-    ensures names { C.names store.new ≡ C.names store.old }
-    ensures marks { KeepsMarks (C.stands store.old) (C.stands store.new) }
-{
-    let mut words = Vec::new(alloc);
-    store.swap_words(&mut words);
-    let made = make_parts(store, parts, variables, &mut words);
-    store.swap_words(&mut words);
-    made
 }
 
 /// The term of the pattern, with the word at its place for each variable.
@@ -178,5 +155,9 @@ pub(crate) fn instantiate<C: Cells>(
     ensures names { C.names store.new ≡ C.names store.old }
     ensures marks { KeepsMarks (C.stands store.old) (C.stands store.new) }
 {
-    instantiate_parts(alloc, store, pattern.parts.as_slice(), variables)
+    let mut words = Vec::new(alloc);
+    store.swap_words(&mut words);
+    let made = make_parts(store, pattern.parts.as_slice(), variables, &mut words);
+    store.swap_words(&mut words);
+    made
 }
