@@ -9,7 +9,7 @@ use Rattle.iso_model.specs.Terms.Types.{is_variable}
 use Rattle.iso_model.specs.Search.Errors.{instantiation_error}
 use Rattle.iso_model.specs.Search.Settings.{Settled, Refuses, constant_offer, op_key, op_settled, op_set, with_priority, with_specifier, with_listed, with_texts, name_list, has_unbound, set_names, setting_settled, set_flag_key, set_flag_settled, named_flag_settled}
 use Rattle.iso_model.specs.Search.Worlds.{World}
-use Rattle.iso_model.specs.declared.library.Setting.{Setting}
+use Rattle.iso_model.specs.declared.kinds.Setting.{Setting}
 use Rattle.iso_lib_core.specs.declared.outcomes.Fault.{Fault}
 use Rattle.iso_lib_core.specs.declared.outcomes.Fault.TheVariants as fault
 use Rattle.iso_lib.specs.declared.settings.Offer.{Offer}

@@ -9,7 +9,7 @@ use Rattle.iso_model.specs.Terms.Trees.{Tree, Integer, Name, row}
 use Rattle.iso_model.specs.Terms.Arguments.{argument}
 use Rattle.iso_model.specs.Search.Settings.{Settled, Changes, Offers, constant_offer, setting_arity}
 use Rattle.iso_model.specs.Search.Worlds.{World}
-use Rattle.iso_model.specs.declared.library.Setting.{Setting}
+use Rattle.iso_model.specs.declared.kinds.Setting.{Setting}
 use Rattle.iso_model.specs.declared.pauses.Ball.{Ball}
 use Rattle.iso_lib_core.specs.declared.outcomes.Fault.{Fault}
 use Rattle.iso_lib_core.specs.declared.outcomes.Fault.TheVariants as fault

@@ -4,7 +4,7 @@ ghost use Rattle.iso_model.specs.Terms.Arguments.{arity};
 ghost use Rattle.iso_model.specs.Search.Errors.{key, raised as raised_by};
 ghost use Rattle.iso_model.specs.Search.Arithmetic.{Value, value};
 ghost use Rattle.iso_model.specs.Search.Library.{library_answer, comparison_name, compares};
-ghost use Rattle.iso_model.specs.declared.library.Library.TheVariants as row;
+ghost use Rattle.iso_model.specs.declared.kinds.Library.TheVariants as row;
 ghost use Rattle.iso_store_core.specs.Presents.{Holds, meaning, KeepsMarks};
 ghost use Rattle.iso_arith.specs.Evaluables.{AreEvaluables};
 ghost use Rattle.iso_arith.specs.Faults.{IsFault, error_of};

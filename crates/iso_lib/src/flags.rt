@@ -9,7 +9,7 @@ ghost use Rattle.iso_model.specs.Search.Bodies.{two};
 ghost use Rattle.iso_model.specs.Search.Errors.{domain_error, not_permitted};
 ghost use Rattle.iso_model.specs.Search.Settings.{setting_settled, named_flag_settled, flags_with, is_settable, may_be_flag, flag_row, set_flag_key};
 ghost use Rattle.iso_model.specs.Search.Worlds.{World};
-ghost use Rattle.iso_model.specs.declared.library.Setting.TheVariants as row;
+ghost use Rattle.iso_model.specs.declared.kinds.Setting.TheVariants as row;
 ghost use Rattle.iso_store_core.specs.Presents.{Holds, meaning};
 ghost use Rattle.iso_lib_core.specs.Replies.{IsError};
 ghost use Rattle.iso_lib.specs.Settlements.{IsSettled, OnOffers, OffersEach, offer_tree, with_settings};
@@ -17,7 +17,7 @@ ghost use Rattle.iso_lib.specs.Settlements.{IsSettled, OnOffers, OffersEach, off
 use super::operators::may_be_atom;
 use super::settings::{Constant, Offer, Settled};
 use super::types::is_unbound;
-use iso_lib_core::{Fault, errors};
+use iso_lib_core::{Fault, culprits, errors};
 use iso_model::{Ball, NoMemory, Term};
 use iso_ops::{FlagValue, Flags};
 use iso_store_core::{Shape, Store};
@@ -119,9 +119,7 @@ pub(crate) fn set_flag<S: Store>(
         return Err(Fault::Raise(ball));
     }
     let Shape::Atom(name) = store.shape(flag) else {
-        let culprit = store.copy_out(flag)?;
-        let ball = errors::wrong_type(alloc, "atom", culprit, "set_prolog_flag", 2)?;
-        return Err(Fault::Raise(ball));
+        return Err(culprits::wrong_type(alloc, store, "atom", flag, "set_prolog_flag", 2));
     };
     set_named(alloc, store, goal, store.text(name), value, flags)
 }
@@ -180,14 +178,17 @@ pub(crate) fn current_flag<S: Store>(
 {
     let flag = store.arg(goal, 0);
     if !may_be_atom(store, flag) {
-        let culprit = store.copy_out(flag)?;
-        let ball = errors::wrong_type(alloc, "atom", culprit, "current_prolog_flag", 2)?;
-        return Err(Fault::Raise(ball));
+        return Err(culprits::wrong_type(alloc, store, "atom", flag, "current_prolog_flag", 2));
     }
     if !may_be_flag(store, flag, flags) {
-        let culprit = store.copy_out(flag)?;
-        let ball = errors::out_of_domain(alloc, "prolog_flag", culprit, "current_prolog_flag", 2)?;
-        return Err(Fault::Raise(ball));
+        return Err(culprits::out_of_domain(
+            alloc,
+            store,
+            "prolog_flag",
+            flag,
+            "current_prolog_flag",
+            2,
+        ));
     }
     Ok(Settled::Offers(flag_offers(alloc, flags)?))
 }

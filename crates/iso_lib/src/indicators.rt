@@ -10,8 +10,8 @@ ghost use Rattle.iso_lib.specs.Indicators.{IsIndicated, AreIndicatorParts, AreCo
 use super::types::is_unbound;
 use iso_atoms::Atom;
 use iso_lib_core::lists::{ListParts, elements, is_nil};
-use iso_lib_core::{Fault, errors};
-use iso_model::{NoMemory, Term};
+use iso_lib_core::{Fault, culprits, errors};
+use iso_model::{MAX_ARITY, NoMemory};
 use iso_store_core::{Shape, Store};
 use std::alloc::Global;
 
@@ -23,7 +23,7 @@ pub struct Functor {
 }
 
 /// The number of arguments that an indicator gives, of 0 to 255. The errors: one is raised by this procedure of one argument, or memory was refused.
-fn asked_arity<S: Store>(
+fn with_arity<S: Store>(
     alloc: Global,
     store: &S,
     name: Atom,
@@ -35,16 +35,12 @@ fn asked_arity<S: Store>(
     ensures { IsIndicated (S.names store.now) (table.arity_named (text_at (S.names store.now) name) (meaning (S.present store.now) word) (key by.now 1)) result }
 {
     let Shape::Int(number) = store.shape(word) else {
-        let culprit = store.copy_out(word)?;
-        let ball = errors::wrong_type(alloc, "integer", culprit, by, 1)?;
-        return Err(Fault::Raise(ball));
+        return Err(culprits::wrong_type(alloc, store, "integer", word, by, 1));
     };
     if number < 0 {
-        let culprit = Term::Int(number);
-        let ball = errors::out_of_domain(alloc, "not_less_than_zero", culprit, by, 1)?;
-        return Err(Fault::Raise(ball));
+        return Err(culprits::out_of_domain(alloc, store, "not_less_than_zero", word, by, 1));
     }
-    if number > 255 {
+    if number > MAX_ARITY as i64 {
         return Err(Fault::Raise(errors::too_many_arguments(alloc, by, 1)?));
     }
     Ok(Functor {
@@ -54,7 +50,7 @@ fn asked_arity<S: Store>(
 }
 
 /// The procedure of this name and this number of arguments. The errors are those of `indicated`.
-fn asked_parts<S: Store>(
+fn named_by<S: Store>(
     alloc: Global,
     store: &S,
     name: S::Word,
@@ -69,11 +65,9 @@ fn asked_parts<S: Store>(
         return Err(Fault::Raise(errors::instantiation(alloc, by, 1)?));
     }
     let Shape::Atom(atom) = store.shape(name) else {
-        let culprit = store.copy_out(name)?;
-        let ball = errors::wrong_type(alloc, "atom", culprit, by, 1)?;
-        return Err(Fault::Raise(ball));
+        return Err(culprits::wrong_type(alloc, store, "atom", name, by, 1));
     };
-    asked_arity(alloc, store, atom, arity, by)
+    with_arity(alloc, store, atom, arity, by)
 }
 
 /// The name and the number of arguments, where the term is such a pair.
@@ -107,11 +101,9 @@ pub fn indicated<S: Store>(
         return Err(Fault::Raise(errors::instantiation(alloc, by, 1)?));
     }
     let Some((name, arity)) = indicator_parts(store, word) else {
-        let culprit = store.copy_out(word)?;
-        let ball = errors::wrong_type(alloc, "predicate_indicator", culprit, by, 1)?;
-        return Err(Fault::Raise(ball));
+        return Err(culprits::wrong_type(alloc, store, "predicate_indicator", word, by, 1));
     };
-    asked_parts(alloc, store, name, arity, by)
+    named_by(alloc, store, name, arity, by)
 }
 
 /// Words for the elements of a list; behind those of a partial list one for its variable. Any other term is one part. The error is that

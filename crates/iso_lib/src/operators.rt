@@ -11,7 +11,7 @@ ghost use Rattle.iso_model.specs.Terms.Arguments.{arity};
 ghost use Rattle.iso_model.specs.Search.Settings as table;
 ghost use Rattle.iso_model.specs.Search.Settings.{setting_settled};
 ghost use Rattle.iso_model.specs.Search.Worlds.{World};
-ghost use Rattle.iso_model.specs.declared.library.Setting.TheVariants as row;
+ghost use Rattle.iso_model.specs.declared.kinds.Setting.TheVariants as row;
 ghost use Rattle.iso_store_core.specs.Presents.{Holds, meaning};
 ghost use Rattle.iso_lib.specs.Settlements.{IsSettled, OnOffers, OffersEach, PassesTo, AreSet, IsSet, offer_tree, with_settings};
 
@@ -19,8 +19,8 @@ use super::settings::{Constant, Offer, Settled};
 use super::types::is_unbound;
 use iso_atoms::Atom;
 use iso_lib_core::lists::{ListParts, elements, is_nil};
-use iso_lib_core::{Fault, errors};
-use iso_model::{NoMemory, Term};
+use iso_lib_core::{Fault, culprits, errors};
+use iso_model::NoMemory;
 use iso_ops::{Entry, OpFault, OpTable, Spec};
 use iso_store_core::{Shape, Store};
 use std::alloc::Global;
@@ -67,14 +67,10 @@ fn asked_priority<S: Store>(alloc: Global, store: &S, word: S::Word) -> Result<u
     ensures passes { PassesTo (table.with_priority (meaning (S.present store.now) word)) (λ n goes_on. goes_on n) result }
 {
     let Shape::Int(number) = store.shape(word) else {
-        let culprit = store.copy_out(word)?;
-        let ball = errors::wrong_type(alloc, "integer", culprit, "op", 3)?;
-        return Err(Fault::Raise(ball));
+        return Err(culprits::wrong_type(alloc, store, "integer", word, "op", 3));
     };
     if number < 0 || number > 1200 {
-        let culprit = Term::Int(number);
-        let ball = errors::out_of_domain(alloc, "operator_priority", culprit, "op", 3)?;
-        return Err(Fault::Raise(ball));
+        return Err(culprits::out_of_domain(alloc, store, "operator_priority", word, "op", 3));
     }
     Ok(number as u16)
 }
@@ -86,14 +82,10 @@ fn asked_specifier<S: Store>(alloc: Global, store: &S, word: S::Word) -> Result<
     ensures passes { PassesTo (table.with_specifier (meaning (S.present store.now) word)) (λ a goes_on. goes_on (text_at (S.names store.now) a)) result }
 {
     let Shape::Atom(name) = store.shape(word) else {
-        let culprit = store.copy_out(word)?;
-        let ball = errors::wrong_type(alloc, "atom", culprit, "op", 3)?;
-        return Err(Fault::Raise(ball));
+        return Err(culprits::wrong_type(alloc, store, "atom", word, "op", 3));
     };
     if Spec::named(store.text(name)).is_none() {
-        let culprit = store.copy_out(word)?;
-        let ball = errors::out_of_domain(alloc, "operator_specifier", culprit, "op", 3)?;
-        return Err(Fault::Raise(ball));
+        return Err(culprits::out_of_domain(alloc, store, "operator_specifier", word, "op", 3));
     }
     Ok(name)
 }
@@ -119,9 +111,7 @@ fn listed_names<S: Store>(
         return Ok(parts.elements);
     }
     if !matches!(store.shape(word), Shape::Atom(_)) {
-        let culprit = store.copy_out(word)?;
-        let ball = errors::wrong_type(alloc, "list", culprit, "op", 3)?;
-        return Err(Fault::Raise(ball));
+        return Err(culprits::wrong_type(alloc, store, "list", word, "op", 3));
     }
     let mut words = Vec::with_capacity(alloc, 1)?;
     words.push(word)?;
@@ -136,9 +126,7 @@ fn asked_name<S: Store>(alloc: Global, store: &S, word: S::Word) -> Result<Atom,
         (λ a goes_on. table.with_texts ts (λ texts. goes_on (text_at (S.names store.now) a ∷ texts))) result }
 {
     let Shape::Atom(name) = store.shape(word) else {
-        let culprit = store.copy_out(word)?;
-        let ball = errors::wrong_type(alloc, "atom", culprit, "op", 3)?;
-        return Err(Fault::Raise(ball));
+        return Err(culprits::wrong_type(alloc, store, "atom", word, "op", 3));
     };
     Ok(name)
 }
@@ -313,19 +301,27 @@ pub(crate) fn current_op<S: Store>(
 {
     let (priority, specifier, name) = (store.arg(goal, 0), store.arg(goal, 1), store.arg(goal, 2));
     if !may_be_priority(store, priority) {
-        let culprit = store.copy_out(priority)?;
-        let ball = errors::out_of_domain(alloc, "operator_priority", culprit, "current_op", 3)?;
-        return Err(Fault::Raise(ball));
+        return Err(culprits::out_of_domain(
+            alloc,
+            store,
+            "operator_priority",
+            priority,
+            "current_op",
+            3,
+        ));
     }
     if !may_be_specifier(store, specifier) {
-        let culprit = store.copy_out(specifier)?;
-        let ball = errors::out_of_domain(alloc, "operator_specifier", culprit, "current_op", 3)?;
-        return Err(Fault::Raise(ball));
+        return Err(culprits::out_of_domain(
+            alloc,
+            store,
+            "operator_specifier",
+            specifier,
+            "current_op",
+            3,
+        ));
     }
     if !may_be_atom(store, name) {
-        let culprit = store.copy_out(name)?;
-        let ball = errors::wrong_type(alloc, "atom", culprit, "current_op", 3)?;
-        return Err(Fault::Raise(ball));
+        return Err(culprits::wrong_type(alloc, store, "atom", name, "current_op", 3));
     }
     Ok(Settled::Offers(operator_offers(alloc, ops)?))
 }

@@ -4,12 +4,12 @@ ghost use Rattle.iso_atoms.specs.Texts.{KeepsTexts};
 ghost use Rattle.iso_model.specs.Terms.Arguments.{arity};
 ghost use Rattle.iso_model.specs.Terms.Sorting.{by_order};
 ghost use Rattle.iso_model.specs.Search.Library.{library_answer, equate, stands_so, is_order_name, order_atom, compare_answer};
-ghost use Rattle.iso_model.specs.declared.library.Library.TheVariants as library;
+ghost use Rattle.iso_model.specs.declared.kinds.Library.TheVariants as library;
 ghost use Rattle.iso_store_core.specs.Presents.{Holds, meaning, KeepsMarks};
 ghost use Rattle.iso_lib_core.specs.Replies.{IsReply};
 ghost use Rattle.iso_lib_core.specs.Checks.{GoesOn};
 
-use iso_lib_core::{Fault, Reply, errors, tested};
+use iso_lib_core::{Fault, Reply, culprits, tested};
 use iso_model::OrderTest;
 use iso_store_core::{Shape, Store};
 use std::alloc::Global;
@@ -73,14 +73,10 @@ fn see_order<S: Store>(alloc: Global, store: &S, word: S::Word) -> Result<(), Fa
             if is_order_name(store.text(name)) {
                 return Ok(());
             }
-            let culprit = store.copy_out(word)?;
-            let ball = errors::out_of_domain(alloc, "order", culprit, "compare", 3)?;
-            Err(Fault::Raise(ball))
+            Err(culprits::out_of_domain(alloc, store, "order", word, "compare", 3))
         }
         Shape::Int(_) | Shape::Compound(_, _) => {
-            let culprit = store.copy_out(word)?;
-            let ball = errors::wrong_type(alloc, "atom", culprit, "compare", 3)?;
-            Err(Fault::Raise(ball))
+            Err(culprits::wrong_type(alloc, store, "atom", word, "compare", 3))
         }
     }
 }

@@ -34,6 +34,12 @@ pub record IsUnbound {W : Type 0} (p q : Present W) : Type 0 where
 abbrev pub IsError : Tree → Ball → Type 0
 IsError error ball = (term_of ball.term ≡ error) × (arities_fit (term_of ball.term) ≡ true)
 
+-- The fault is that this error was raised, or that memory was refused.
+abbrev pub IsFault : Tree → Fault → Type 0
+IsFault error (fault.Raise ball) = IsError error ball
+IsFault error fault.Full = ⊥
+IsFault error fault.NoMemory = Unit {0}
+
 -- the most variables of a term that is copied for a goal
 abbrev pub most_copied : ℕ
 most_copied = 536870912

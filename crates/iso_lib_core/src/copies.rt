@@ -6,7 +6,7 @@ ghost use Rattle.iso_model.specs.Terms.TermOf.{term_of};
 ghost use Rattle.iso_model.specs.Terms.Trees.{arities_fit};
 ghost use Rattle.iso_model.specs.Terms.Variables.{variable_count};
 ghost use Rattle.iso_model.specs.Search.Library.{library_answer};
-ghost use Rattle.iso_model.specs.declared.library.Library.TheVariants as row;
+ghost use Rattle.iso_model.specs.declared.kinds.Library.TheVariants as row;
 ghost use Rattle.iso_store_core.specs.Presents.{Holds, meaning, KeepsMarks};
 ghost use Rattle.iso_lib_core.specs.Replies.{IsReply, MeetsCopy};
 

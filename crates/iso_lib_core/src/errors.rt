@@ -45,12 +45,12 @@ fn error(alloc: Global, what: Term, place: Term) -> Result<Ball, AllocError>
 }
 
 /// `instantiation_error`, raised by this procedure (7.12.2 a).
-pub fn instantiation(alloc: Global, name: &str, arity: usize) -> Result<Ball, AllocError>
-    requires { arity < 256 }
-    ensures { IfOk result (λ b. term_of b.term ≡ errors.instantiation_error (key name.now arity)) }
+pub fn instantiation(alloc: Global, by: &str, by_arity: usize) -> Result<Ball, AllocError>
+    requires { by_arity < 256 }
+    ensures { IfOk result (λ b. term_of b.term ≡ errors.instantiation_error (key by.now by_arity)) }
 {
     let what = atom(alloc, "instantiation_error")?;
-    let place = indicator(alloc, name, arity)?;
+    let place = indicator(alloc, by, by_arity)?;
     error(alloc, what, place)
 }
 
@@ -59,15 +59,15 @@ pub fn wrong_type(
     alloc: Global,
     kind: &str,
     culprit: Term,
-    name: &str,
-    arity: usize,
+    by: &str,
+    by_arity: usize,
 ) -> Result<Ball, AllocError>
-    requires { arity < 256 }
-    ensures { IfOk result (λ b. term_of b.term ≡ errors.type_error kind.now (term_of culprit) (key name.now arity)) }
+    requires { by_arity < 256 }
+    ensures { IfOk result (λ b. term_of b.term ≡ errors.type_error kind.now (term_of culprit) (key by.now by_arity)) }
 {
     let kind = atom(alloc, kind)?;
     let what = compound2(alloc, "type_error", kind, culprit)?;
-    let place = indicator(alloc, name, arity)?;
+    let place = indicator(alloc, by, by_arity)?;
     error(alloc, what, place)
 }
 
@@ -75,13 +75,13 @@ pub fn wrong_type(
 pub fn not_callable(
     alloc: Global,
     culprit: Term,
-    name: &str,
-    arity: usize,
+    by: &str,
+    by_arity: usize,
 ) -> Result<Ball, AllocError>
-    requires { arity < 256 }
-    ensures { IfOk result (λ b. term_of b.term ≡ errors.type_error_callable (term_of culprit) (key name.now arity)) }
+    requires { by_arity < 256 }
+    ensures { IfOk result (λ b. term_of b.term ≡ errors.type_error_callable (term_of culprit) (key by.now by_arity)) }
 {
-    wrong_type(alloc, "callable", culprit, name, arity)
+    wrong_type(alloc, "callable", culprit, by, by_arity)
 }
 
 /// `domain_error(domain, culprit)`, raised by this procedure (7.12.2 c).
@@ -89,15 +89,15 @@ pub fn out_of_domain(
     alloc: Global,
     domain: &str,
     culprit: Term,
-    name: &str,
-    arity: usize,
+    by: &str,
+    by_arity: usize,
 ) -> Result<Ball, AllocError>
-    requires { arity < 256 }
-    ensures { IfOk result (λ b. term_of b.term ≡ errors.domain_error domain.now (term_of culprit) (key name.now arity)) }
+    requires { by_arity < 256 }
+    ensures { IfOk result (λ b. term_of b.term ≡ errors.domain_error domain.now (term_of culprit) (key by.now by_arity)) }
 {
     let domain = atom(alloc, domain)?;
     let what = compound2(alloc, "domain_error", domain, culprit)?;
-    let place = indicator(alloc, name, arity)?;
+    let place = indicator(alloc, by, by_arity)?;
     error(alloc, what, place)
 }
 
@@ -106,15 +106,15 @@ pub fn not_evaluable(
     alloc: Global,
     culprit: &str,
     count: usize,
-    name: &str,
-    arity: usize,
+    by: &str,
+    by_arity: usize,
 ) -> Result<Ball, AllocError>
     requires count { count < 256 }
-    requires arity { arity < 256 }
-    ensures { IfOk result (λ b. term_of b.term ≡ errors.raised (not_evaluable (key culprit.now count)) (key name.now arity)) }
+    requires by_arity { by_arity < 256 }
+    ensures { IfOk result (λ b. term_of b.term ≡ errors.raised (not_evaluable (key culprit.now count)) (key by.now by_arity)) }
 {
     let culprit = indicator(alloc, culprit, count)?;
-    wrong_type(alloc, "evaluable", culprit, name, arity)
+    wrong_type(alloc, "evaluable", culprit, by, by_arity)
 }
 
 /// `existence_error(procedure, PI)`, raised by the unknown procedure itself (7.7.7, 7.12.2 d).
@@ -135,18 +135,18 @@ pub fn not_permitted(
     operation: &str,
     kind: &str,
     culprit: Term,
-    name: &str,
-    arity: usize,
+    by: &str,
+    by_arity: usize,
 ) -> Result<Ball, AllocError>
-    requires { arity < 256 }
-    ensures { IfOk result (λ b. term_of b.term ≡ errors.not_permitted operation.now kind.now (term_of culprit) (key name.now arity)) }
+    requires { by_arity < 256 }
+    ensures { IfOk result (λ b. term_of b.term ≡ errors.not_permitted operation.now kind.now (term_of culprit) (key by.now by_arity)) }
 {
     let mut arguments = Vec::with_capacity(alloc, 3)?;
     arguments.push(atom(alloc, operation)?)?;
     arguments.push(atom(alloc, kind)?)?;
     arguments.push(culprit)?;
     let what = Term::Compound(String::from_str(alloc, "permission_error")?, arguments);
-    let place = indicator(alloc, name, arity)?;
+    let place = indicator(alloc, by, by_arity)?;
     error(alloc, what, place)
 }
 
@@ -169,26 +169,26 @@ fn named(
     alloc: Global,
     kind: &str,
     what: &str,
-    name: &str,
-    arity: usize,
+    by: &str,
+    by_arity: usize,
 ) -> Result<Ball, AllocError>
-    requires { arity < 256 }
-    ensures { IfOk result (λ b. term_of b.term ≡ errors.raised (one kind.now (Name what.now)) (key name.now arity)) }
+    requires { by_arity < 256 }
+    ensures { IfOk result (λ b. term_of b.term ≡ errors.raised (one kind.now (Name what.now)) (key by.now by_arity)) }
 {
     let mut arguments = Vec::with_capacity(alloc, 1)?;
     let what = atom(alloc, what)?;
     arguments.push(what)?;
     let what = Term::Compound(String::from_str(alloc, kind)?, arguments);
-    let place = indicator(alloc, name, arity)?;
+    let place = indicator(alloc, by, by_arity)?;
     error(alloc, what, place)
 }
 
 /// `evaluation_error(what)`, raised by this procedure (7.12.2 g).
-pub fn evaluation(alloc: Global, what: &str, name: &str, arity: usize) -> Result<Ball, AllocError>
-    requires { arity < 256 }
-    ensures { IfOk result (λ b. term_of b.term ≡ errors.raised (one (codes "evaluation_error") (Name what.now)) (key name.now arity)) }
+pub fn evaluation(alloc: Global, what: &str, by: &str, by_arity: usize) -> Result<Ball, AllocError>
+    requires { by_arity < 256 }
+    ensures { IfOk result (λ b. term_of b.term ≡ errors.raised (one (codes "evaluation_error") (Name what.now)) (key by.now by_arity)) }
 {
-    named(alloc, "evaluation_error", what, name, arity)
+    named(alloc, "evaluation_error", what, by, by_arity)
 }
 
 /// `representation_error(max_variables)`, raised by this procedure of one argument (own limit).
@@ -199,25 +199,31 @@ pub fn too_many_variables(alloc: Global, by: &str) -> Result<Ball, AllocError>
 }
 
 /// `representation_error(max_arity)`, raised by this procedure (own limit).
-pub fn too_many_arguments(alloc: Global, name: &str, arity: usize) -> Result<Ball, AllocError>
-    requires { arity < 256 }
-    ensures { IfOk result (λ b. term_of b.term ≡ errors.max_arity_error (key name.now arity)) }
+pub fn too_many_arguments(alloc: Global, by: &str, by_arity: usize) -> Result<Ball, AllocError>
+    requires { by_arity < 256 }
+    ensures { IfOk result (λ b. term_of b.term ≡ errors.max_arity_error (key by.now by_arity)) }
 {
-    named(alloc, "representation_error", "max_arity", name, arity)
+    named(alloc, "representation_error", "max_arity", by, by_arity)
 }
 
 /// `representation_error(character_code)`, raised by this procedure (7.12.2 f).
-pub fn no_character_code(alloc: Global, name: &str, arity: usize) -> Result<Ball, AllocError>
-    requires { arity < 256 }
-    ensures { IfOk result (λ b. term_of b.term ≡ errors.raised (one (codes "representation_error") (Name (codes "character_code"))) (key name.now arity)) }
+pub fn no_character_code(alloc: Global, by: &str, by_arity: usize) -> Result<Ball, AllocError>
+    requires { by_arity < 256 }
+    ensures { IfOk result (λ b. term_of b.term ≡ errors.raised (one (codes "representation_error") (Name (codes "character_code"))) (key by.now by_arity)) }
 {
-    named(alloc, "representation_error", "character_code", name, arity)
+    named(
+        alloc,
+        "representation_error",
+        "character_code",
+        by,
+        by_arity,
+    )
 }
 
 /// `syntax_error(illegal_number)`, raised by this procedure (8.16.7).
-pub fn illegal_number(alloc: Global, name: &str, arity: usize) -> Result<Ball, AllocError>
-    requires { arity < 256 }
-    ensures { IfOk result (λ b. term_of b.term ≡ errors.raised (one (codes "syntax_error") (Name (codes "illegal_number"))) (key name.now arity)) }
+pub fn illegal_number(alloc: Global, by: &str, by_arity: usize) -> Result<Ball, AllocError>
+    requires { by_arity < 256 }
+    ensures { IfOk result (λ b. term_of b.term ≡ errors.raised (one (codes "syntax_error") (Name (codes "illegal_number"))) (key by.now by_arity)) }
 {
-    named(alloc, "syntax_error", "illegal_number", name, arity)
+    named(alloc, "syntax_error", "illegal_number", by, by_arity)
 }

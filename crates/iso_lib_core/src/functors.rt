@@ -5,15 +5,15 @@ ghost use Rattle.iso_model.specs.Terms.Trees.{Apply, row};
 ghost use Rattle.iso_model.specs.Terms.TermOf.{term_of};
 ghost use Rattle.iso_model.specs.Terms.Arguments.{arity, variables_from};
 ghost use Rattle.iso_model.specs.Search.Library.{library_answer, new_term, new_term_of, new_compound};
-ghost use Rattle.iso_model.specs.declared.library.Library.TheVariants as library;
+ghost use Rattle.iso_model.specs.declared.kinds.Library.TheVariants as library;
 ghost use Rattle.iso_store_core.specs.Presents.{Holds, meaning, KeepsMarks, IsUnification};
 ghost use Rattle.iso_lib_core.specs.Replies.{IsReply, MeetsCopy};
 
 use super::copies::unify_copy;
-use super::errors;
 use super::outcomes::{Fault, Reply, tested};
+use super::{culprits, errors};
 use iso_atoms::Atom;
-use iso_model::Term;
+use iso_model::{MAX_ARITY, Term};
 use iso_store_core::{Shape, Store, StoreFault};
 use std::alloc::{AllocError, Global};
 
@@ -70,9 +70,7 @@ fn new_compound<S: Store>(
     ensures marks { KeepsMarks (S.stands store.old) (S.stands store.new) }
 {
     let Shape::Atom(atom) = store.shape(name) else {
-        let culprit = store.copy_out(name)?;
-        let ball = errors::wrong_type(alloc, "atom", culprit, "functor", 3)?;
-        return Err(Fault::Raise(ball));
+        return Err(culprits::wrong_type(alloc, store, "atom", name, "functor", 3));
     };
     Ok(tested(unify_new(alloc, store, word, atom, count)?))
 }
@@ -101,7 +99,7 @@ fn new_term_of<S: Store>(
     if number == 0 {
         return Ok(tested(store.unify(word, name)?));
     }
-    if number > 255 {
+    if number > MAX_ARITY as i64 {
         let ball = errors::too_many_arguments(alloc, "functor", 3)?;
         return Err(Fault::Raise(ball));
     }
@@ -131,14 +129,10 @@ fn new_term<S: Store>(
         return Err(Fault::Raise(errors::instantiation(alloc, "functor", 3)?));
     }
     if matches!(name_shape, Shape::Compound(_, _)) {
-        let culprit = store.copy_out(name)?;
-        let ball = errors::wrong_type(alloc, "atomic", culprit, "functor", 3)?;
-        return Err(Fault::Raise(ball));
+        return Err(culprits::wrong_type(alloc, store, "atomic", name, "functor", 3));
     }
     let Shape::Int(number) = count_shape else {
-        let culprit = store.copy_out(count)?;
-        let ball = errors::wrong_type(alloc, "integer", culprit, "functor", 3)?;
-        return Err(Fault::Raise(ball));
+        return Err(culprits::wrong_type(alloc, store, "integer", count, "functor", 3));
     };
     new_term_of(alloc, store, word, name, number)
 }

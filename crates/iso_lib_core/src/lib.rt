@@ -3,15 +3,16 @@
 #![tactic(auto)]
 
 // what goals come to, and the error terms
+pub mod culprits;
 pub mod errors;
 mod outcomes;
 // lists, and words in order
 pub mod lists;
-mod runs;
+mod merging;
 // the built-ins
+pub mod arguments;
 pub mod copies;
 pub mod functors;
-pub mod parts;
 pub mod sorting;
 pub mod univ;
 pub mod variables;

@@ -5,14 +5,14 @@ ghost use Rattle.iso_atoms.specs.Texts.{KeepsTexts};
 ghost use Rattle.iso_model.specs.Terms.Trees.{Variable};
 ghost use Rattle.iso_model.specs.Terms.Arguments.{arity, arguments, listed};
 ghost use Rattle.iso_model.specs.Search.Library.{library_answer, parts, compound_of_parts, term_of_parts, term_of_list};
-ghost use Rattle.iso_model.specs.declared.library.Library.TheVariants as library;
+ghost use Rattle.iso_model.specs.declared.kinds.Library.TheVariants as library;
 ghost use Rattle.iso_store_core.specs.Presents.{Holds, meaning, KeepsMarks, KeepsNumbers, KeepsWords};
 ghost use Rattle.iso_lib_core.specs.Replies.{IsReply, IsUnbound};
 
-use super::errors;
 use super::lists::{elements, is_partial_list, make_list, tail};
 use super::outcomes::{Fault, Reply, tested};
-use iso_model::NoMemory;
+use super::{culprits, errors};
+use iso_model::{MAX_ARITY, NoMemory};
 use iso_store_core::{Shape, Store, StoreFault};
 use std::alloc::Global;
 
@@ -78,11 +78,9 @@ fn compound_of_parts<S: Store>(
     ensures marks { KeepsMarks (S.stands store.old) (S.stands store.new) }
 {
     let Shape::Atom(atom) = store.shape(name) else {
-        let culprit = store.copy_out(name)?;
-        let ball = errors::wrong_type(alloc, "atom", culprit, "=..", 2)?;
-        return Err(Fault::Raise(ball));
+        return Err(culprits::wrong_type(alloc, store, "atom", name, "=..", 2));
     };
-    if arguments.len() > 255 {
+    if arguments.len() > MAX_ARITY {
         return Err(Fault::Raise(errors::too_many_arguments(alloc, "=..", 2)?));
     }
     let made = store.compound(atom, arguments)?;
@@ -114,9 +112,7 @@ fn term_of_parts<S: Store>(
         return compound_of_parts(alloc, store, word, name, arguments);
     }
     if matches!(shape, Shape::Compound(_, _)) {
-        let culprit = store.copy_out(name)?;
-        let ball = errors::wrong_type(alloc, "atomic", culprit, "=..", 2)?;
-        return Err(Fault::Raise(ball));
+        return Err(culprits::wrong_type(alloc, store, "atomic", name, "=..", 2));
     }
     Ok(tested(store.unify(word, name)?))
 }
@@ -155,9 +151,7 @@ pub fn univ<S: Store>(alloc: Global, store: &mut S, goal: S::Word) -> Result<Rep
 {
     let (term, list) = (store.arg(goal, 0), store.arg(goal, 1));
     if !is_partial_list(store, list) {
-        let culprit = store.copy_out(list)?;
-        let ball = errors::wrong_type(alloc, "list", culprit, "=..", 2)?;
-        return Err(Fault::Raise(ball));
+        return Err(culprits::wrong_type(alloc, store, "list", list, "=..", 2));
     }
     if !matches!(store.shape(term), Shape::Var(_)) {
         let parts = parts(alloc, store, term)?;

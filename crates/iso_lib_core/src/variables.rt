@@ -3,11 +3,11 @@ ghost use Rattle.std.specs.Prelude.{◌≡◌, ◌≤◌, Err};
 ghost use Rattle.iso_atoms.specs.Texts.{KeepsTexts};
 ghost use Rattle.iso_model.specs.Terms.Arguments.{arity};
 ghost use Rattle.iso_model.specs.Search.Library.{library_answer};
-ghost use Rattle.iso_model.specs.declared.library.Library.TheVariants as library;
+ghost use Rattle.iso_model.specs.declared.kinds.Library.TheVariants as library;
 ghost use Rattle.iso_store_core.specs.Presents.{Holds, meaning, KeepsMarks};
 ghost use Rattle.iso_lib_core.specs.Replies.{IsReply};
 
-use super::errors;
+use super::culprits;
 use super::lists::{is_partial_list, make_list};
 use super::outcomes::{Fault, Reply, tested};
 use iso_store_core::Store;
@@ -24,9 +24,7 @@ pub fn term_variables<S: Store>(alloc: Global, store: &mut S, goal: S::Word) -> 
 {
     let (term, list) = (store.arg(goal, 0), store.arg(goal, 1));
     if !is_partial_list(store, list) {
-        let culprit = store.copy_out(list)?;
-        let ball = errors::wrong_type(alloc, "list", culprit, "term_variables", 2)?;
-        return Err(Fault::Raise(ball));
+        return Err(culprits::wrong_type(alloc, store, "list", list, "term_variables", 2));
     }
     let variables = store.variables(term)?;
     let made = make_list(alloc, store, variables.as_slice())?;

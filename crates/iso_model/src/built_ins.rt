@@ -4,7 +4,7 @@ ghost use Rattle.iso_model.specs.Search.Keys.{key};
 ghost use Rattle.iso_model.specs.Search.BuiltIns as table;
 ghost use Rattle.iso_model.specs.Search.Rows.{entries_of};
 
-use super::library::{
+use super::kinds::{
     AtomPart, Comparison, Library, OrderTest, Output, Setting, Storage, Text, TypeTest,
 };
 

@@ -5,36 +5,10 @@ ghost use Rattle.iso_model.specs.declared.pauses.AddFault.TheVariants.{NoMemory}
 use super::terms::Term;
 use std::alloc::{AllocError, AllocFailed};
 
-/// A procedure's name and number of arguments (7.1.6.6).
-#[derive(Debug, Drop)]
-pub struct Indicator {
-    pub name: String,
-    pub arity: usize,
-}
-
 /// A thrown term (7.8.10).
 #[derive(Debug, Drop)]
 pub struct Ball {
     pub term: Term,
-}
-
-/// How a run ends.
-#[derive(Debug, Drop)]
-pub enum Ending {
-    /// There is no further solution.
-    NoMore,
-    /// A step was needed and none was left.
-    Budget,
-    /// A ball that nothing caught.
-    Uncaught(Ball),
-    /// The goal asked for the end, with this status.
-    Halt(u8),
-}
-
-/// Clauses in the order of their text.
-#[derive(Debug, Drop)]
-pub struct Program {
-    pub clauses: Vec<Term>,
 }
 
 /// What a call of `resume` came to.

@@ -1,5 +1,5 @@
 -- Specifiers of operators (ISO/IEC 13211-1:1995, 6.3.4.1).
-use Rattle.std.specs.Prelude.{ℕ, Bool, true, false, List, [], ◌∷◌, Option, codes}
+use Rattle.std.specs.Prelude.{ℕ, ◌-◌, Bool, true, false, if◌then◌else◌, List, [], ◌∷◌, Option, codes}
 use Rattle.std.specs.List.{find}
 use Rattle.std.specs.Str.{bytes_eq}
 use Rattle.iso_ops.specs.declared.specifiers.Spec.{Spec}
@@ -36,3 +36,23 @@ same_kind Prefix Prefix = true
 same_kind Infix Infix = true
 same_kind Postfix Postfix = true
 same_kind _ _ = false
+
+-- whether an operator takes a left operand of its own priority (6.3.4, table 4)
+abbrev pub takes_equal : Spec → Bool
+takes_equal Yfx = true
+takes_equal Yf = true
+takes_equal _ = false
+
+-- whether an operator takes a right operand of its own priority
+abbrev pub is_right_open : Spec → Bool
+is_right_open Xfy = true
+is_right_open Fy = true
+is_right_open _ = false
+
+-- the greatest priority of the left operand of an operator of this specifier and priority
+abbrev pub left_priority : Spec → ℕ → ℕ
+left_priority spec priority = if takes_equal spec then priority else priority - 1
+
+-- the greatest priority of its right operand
+abbrev pub right_priority : Spec → ℕ → ℕ
+right_priority spec priority = if is_right_open spec then priority else priority - 1

@@ -1,5 +1,6 @@
 //! Specifiers of operators (6.3.4).
 ghost use Rattle.std.specs.Prelude.{◌≡◌};
+ghost use Rattle.iso_ops.specs.Specifiers as specifiers;
 ghost use Rattle.iso_ops.specs.Specifiers.{spec_text, spec_named, kind_of, same_kind};
 
 /// An operator's specifier: where its operands stand, and which priorities they may have (6.3.4.1). An `x` operand has a
@@ -73,6 +74,42 @@ impl Spec {
             Spec::Xfx | Spec::Xfy | Spec::Yfx => Kind::Infix,
             Spec::Fx | Spec::Fy => Kind::Prefix,
             Spec::Xf | Spec::Yf => Kind::Postfix,
+        }
+    }
+
+    /// Whether an operator of this specifier takes a left operand of its own priority (6.3.4, table 4).
+    pub fn takes_equal(self) -> bool
+        ensures { result ≡ specifiers.takes_equal self }
+    {
+        matches!(self, Spec::Yfx | Spec::Yf)
+    }
+
+    /// Whether it takes a right operand of its own priority.
+    pub fn is_right_open(self) -> bool
+        ensures { result ≡ specifiers.is_right_open self }
+    {
+        matches!(self, Spec::Xfy | Spec::Fy)
+    }
+
+    /// The greatest priority of its left operand, where its own is this.
+    pub fn left_priority(self, priority: u16) -> u16
+        ensures { result ≡ specifiers.left_priority self priority }
+    {
+        if self.takes_equal() {
+            priority
+        } else {
+            priority.saturating_sub(1)
+        }
+    }
+
+    /// The greatest priority of its right operand, where its own is this.
+    pub fn right_priority(self, priority: u16) -> u16
+        ensures { result ≡ specifiers.right_priority self priority }
+    {
+        if self.is_right_open() {
+            priority
+        } else {
+            priority.saturating_sub(1)
         }
     }
 }

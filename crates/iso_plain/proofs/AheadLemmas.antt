@@ -1,4 +1,4 @@
--- The engine, as it goes on with the members from a place on, and as frames and choices come and go.
+-- The engine, as it goes on with the members from a place on, and as members and choices come and go.
 use Rattle.iso_plain_core.specs.Leaving.{AreLeft}
 use Rattle.std.proofs.Common.{◌≡◌, ℕ, zero, suc, ◌+◌, ◌*◌, ◌-◌, ◌≤◌, ◌++◌, List, [], ◌∷◌, length, take, drop, Option, Some, None, true, refl, ap, sym, ◌∙◌, subst, arith, Vec, Global}
 use Rattle.std.specs.Prelude.{option_map}
@@ -13,12 +13,12 @@ use Rattle.iso_model.specs.Search.Walker as walker
 use Rattle.iso_store_core.specs.Presents.{Present, KeepsMarks}
 use Rattle.iso_model.specs.declared.pauses.Ball.{Ball}
 use Rattle.iso_plain_core.specs.declared.bodies.Node.{Node}
-use Rattle.iso_plain_core.specs.declared.parts.Todo.TheVariants as todo
-use Rattle.iso_plain_core.specs.declared.parts.Frame.{Frame}
-use Rattle.iso_plain_core.specs.declared.parts.Left.{Left}
-use Rattle.iso_plain_core.specs.declared.parts.Choice as kept
-use Rattle.iso_plain_core.specs.declared.parts.Now.{Now}
-use Rattle.iso_plain_core.specs.declared.parts.Now.TheVariants as now
+use Rattle.iso_plain_core.specs.declared.members.Todo.TheVariants as todo
+use Rattle.iso_plain_core.specs.declared.members.Link.{Link}
+use Rattle.iso_plain_core.specs.declared.choices.Left.{Left}
+use Rattle.iso_plain_core.specs.declared.choices.Choice as kept
+use Rattle.iso_plain_core.specs.declared.members.Now.{Now}
+use Rattle.iso_plain_core.specs.declared.members.Now.TheVariants as now
 use Rattle.iso_plain.specs.declared.plain.Plain.{Plain}
 use Rattle.iso_plain_core.specs.Next.{IsPlace, now_behind}
 use Rattle.iso_plain_core.specs.Standing.{Among, Links, IsBefore, IsBody, IsMember, a_body, a_cut, a_failure, an_end, a_template, Chain, leads, HasMembers, HasLeft, StandsForChoice, StandsForChoices, GainsChoice, HaveRoom, GoesOn, DoesNext, entered_at, most_numbers, numbers_a_step}
@@ -29,54 +29,54 @@ use Rattle.iso_plain_core.proofs.StandingLemmas.{AddsLinks, at_last, chain_more,
 use Rattle.iso_plain.proofs.StoppedLemmas.{base_kept}
 use Rattle.iso_plain.proofs.WorldLemmas.{world_on, choices_kept, left_on}
 
--- ---- what a frame asks for
+-- ---- what a link asks for
 
 -- a body at this place
-pub body_of : {W : Type 0} (p : Present W) (nodes : List (Node W)) (f : Frame) (m : Member) (k : ℕ) → f.todo ≡ todo.Body k → IsMember p nodes f m → (b : Body) × (m ≡ Goal b f.mark) × IsBody p nodes k b
+pub body_of : {W : Type 0} (p : Present W) (nodes : List (Node W)) (f : Link) (m : Member) (k : ℕ) → f.todo ≡ todo.Body k → IsMember p nodes f m → (b : Body) × (m ≡ Goal b f.mark) × IsBody p nodes k b
 body_of p nodes f m k asks (a_body {i = i} {b = b} is body) =
     let same : todo.Body i ≡ todo.Body k = sym is ∙ asks in
     let place : i ≡ k = cc in
     (b, refl, subst (λ (n : ℕ). IsBody p nodes n b) place body)
-body_of p nodes f m k asks (a_cut is) = absurd (let other : todo.CutBack ≡ todo.Body k = sym is ∙ asks in cc)
+body_of p nodes f m k asks (a_cut is) = absurd (let other : todo.CutTo ≡ todo.Body k = sym is ∙ asks in cc)
 body_of p nodes f m k asks (a_failure is) = absurd (let other : todo.Fail ≡ todo.Body k = sym is ∙ asks in cc)
 body_of p nodes f m k asks (an_end is) = absurd (let other : todo.Leave ≡ todo.Body k = sym is ∙ asks in cc)
 body_of p nodes f m k asks (a_template {i = i} is body) = absurd (let other : todo.Gather i ≡ todo.Body k = sym is ∙ asks in cc)
 
-pub cut_of : {W : Type 0} (p : Present W) (nodes : List (Node W)) (f : Frame) (m : Member) → f.todo ≡ todo.CutBack → IsMember p nodes f m → m ≡ CutTo f.mark
-cut_of p nodes f m asks (a_body {i = i} is body) = absurd (let other : todo.Body i ≡ todo.CutBack = sym is ∙ asks in cc)
+pub cut_of : {W : Type 0} (p : Present W) (nodes : List (Node W)) (f : Link) (m : Member) → f.todo ≡ todo.CutTo → IsMember p nodes f m → m ≡ CutTo f.mark
+cut_of p nodes f m asks (a_body {i = i} is body) = absurd (let other : todo.Body i ≡ todo.CutTo = sym is ∙ asks in cc)
 cut_of p nodes f m asks (a_cut is) = refl
-cut_of p nodes f m asks (a_failure is) = absurd (let other : todo.Fail ≡ todo.CutBack = sym is ∙ asks in cc)
-cut_of p nodes f m asks (an_end is) = absurd (let other : todo.Leave ≡ todo.CutBack = sym is ∙ asks in cc)
-cut_of p nodes f m asks (a_template {i = i} is body) = absurd (let other : todo.Gather i ≡ todo.CutBack = sym is ∙ asks in cc)
+cut_of p nodes f m asks (a_failure is) = absurd (let other : todo.Fail ≡ todo.CutTo = sym is ∙ asks in cc)
+cut_of p nodes f m asks (an_end is) = absurd (let other : todo.Leave ≡ todo.CutTo = sym is ∙ asks in cc)
+cut_of p nodes f m asks (a_template {i = i} is body) = absurd (let other : todo.Gather i ≡ todo.CutTo = sym is ∙ asks in cc)
 
-pub fail_of : {W : Type 0} (p : Present W) (nodes : List (Node W)) (f : Frame) (m : Member) → f.todo ≡ todo.Fail → IsMember p nodes f m → m ≡ Fail
+pub fail_of : {W : Type 0} (p : Present W) (nodes : List (Node W)) (f : Link) (m : Member) → f.todo ≡ todo.Fail → IsMember p nodes f m → m ≡ Fail
 fail_of p nodes f m asks (a_body {i = i} is body) = absurd (let other : todo.Body i ≡ todo.Fail = sym is ∙ asks in cc)
-fail_of p nodes f m asks (a_cut is) = absurd (let other : todo.CutBack ≡ todo.Fail = sym is ∙ asks in cc)
+fail_of p nodes f m asks (a_cut is) = absurd (let other : todo.CutTo ≡ todo.Fail = sym is ∙ asks in cc)
 fail_of p nodes f m asks (a_failure is) = refl
 fail_of p nodes f m asks (an_end is) = absurd (let other : todo.Leave ≡ todo.Fail = sym is ∙ asks in cc)
 fail_of p nodes f m asks (a_template {i = i} is body) = absurd (let other : todo.Gather i ≡ todo.Fail = sym is ∙ asks in cc)
 
-pub end_of : {W : Type 0} (p : Present W) (nodes : List (Node W)) (f : Frame) (m : Member) → f.todo ≡ todo.Leave → IsMember p nodes f m → m ≡ Leave f.mark
+pub end_of : {W : Type 0} (p : Present W) (nodes : List (Node W)) (f : Link) (m : Member) → f.todo ≡ todo.Leave → IsMember p nodes f m → m ≡ Leave f.mark
 end_of p nodes f m asks (a_body {i = i} is body) = absurd (let other : todo.Body i ≡ todo.Leave = sym is ∙ asks in cc)
-end_of p nodes f m asks (a_cut is) = absurd (let other : todo.CutBack ≡ todo.Leave = sym is ∙ asks in cc)
+end_of p nodes f m asks (a_cut is) = absurd (let other : todo.CutTo ≡ todo.Leave = sym is ∙ asks in cc)
 end_of p nodes f m asks (a_failure is) = absurd (let other : todo.Fail ≡ todo.Leave = sym is ∙ asks in cc)
 end_of p nodes f m asks (an_end is) = refl
 end_of p nodes f m asks (a_template {i = i} is body) = absurd (let other : todo.Gather i ≡ todo.Leave = sym is ∙ asks in cc)
 
 -- a template, whose word is at this place
-pub template_at : {W : Type 0} (p : Present W) (nodes : List (Node W)) (f : Frame) (m : Member) (k : ℕ) → f.todo ≡ todo.Gather k → IsMember p nodes f m → (t : Tree) × (m ≡ Gather f.mark t) × IsBody p nodes k (Run t)
+pub template_at : {W : Type 0} (p : Present W) (nodes : List (Node W)) (f : Link) (m : Member) (k : ℕ) → f.todo ≡ todo.Gather k → IsMember p nodes f m → (t : Tree) × (m ≡ Gather f.mark t) × IsBody p nodes k (Run t)
 template_at p nodes f m k asks (a_template {i = i} {t = t} is body) =
     let same : todo.Gather i ≡ todo.Gather k = sym is ∙ asks in
     let place : i ≡ k = cc in
     (t, refl, subst (λ (n : ℕ). IsBody p nodes n (Run t)) place body)
 template_at p nodes f m k asks (a_body {i = i} is body) = absurd (let other : todo.Body i ≡ todo.Gather k = sym is ∙ asks in cc)
-template_at p nodes f m k asks (a_cut is) = absurd (let other : todo.CutBack ≡ todo.Gather k = sym is ∙ asks in cc)
+template_at p nodes f m k asks (a_cut is) = absurd (let other : todo.CutTo ≡ todo.Gather k = sym is ∙ asks in cc)
 template_at p nodes f m k asks (a_failure is) = absurd (let other : todo.Fail ≡ todo.Gather k = sym is ∙ asks in cc)
 template_at p nodes f m k asks (an_end is) = absurd (let other : todo.Leave ≡ todo.Gather k = sym is ∙ asks in cc)
 
-place_before : (frames : List Frame) (place : Option ℕ) → IsPlace frames place → IsBefore place (length frames)
-place_before frames None within = tt
-place_before frames (Some i) within = within
+place_before : (members : List Link) (place : Option ℕ) → IsPlace members place → IsBefore place (length members)
+place_before members None within = tt
+place_before members (Some i) within = within
 
 -- with other goals and alternatives
 pub goes_with : {W : Type 0} {p : Present W} {query : List W} {s : State} (list : List Member) (stack : List Alternative) → GoesOn p query s → GoesOn p query (record s { list = list; stack = stack })
@@ -88,16 +88,16 @@ room_dropped steps (suc n) [] h = h
 room_dropped steps (suc n) (k ∷ ks) h = room_dropped steps n ks h.1
 
 module _ {S W M : Type 0} (names : S → List (List ℕ)) (present : S → Present W) (stands : S → M → Present W → Type 0) (older : M → M → Type 0) where
-  -- The engine, in this state, is to do what this frame asks for.
-  pub record AtFrame (e : Plain S W M) (s : State) (f : Frame) : Type 0 where
+  -- The engine, in this state, is to do what this link asks for.
+  pub record AtLink (e : Plain S W M) (s : State) (f : Link) : Type 0 where
     pub member : Member
     pub behind : List Member
     pub list : s.list ≡ member ∷ behind
     pub stands_for : IsMember (present e.store) e.nodes.items f member
     pub ahead : IsAhead names present stands older e (record s { list = behind }) f.next
 
-  pub at_frame : (e : Plain S W M) (s : State) (f : Frame) → e.now ≡ now.Running f → IsEngine names present stands older e s → AtFrame e s f
-  at_frame e s f doing is =
+  pub at_link : (e : Plain S W M) (s : State) (f : Link) → e.now ≡ now.Running f → IsEngine names present stands older e s → AtLink e s f
+  at_link e s f doing is =
       let next : DoesNext (present e.store) (links_of e) e.query.items (now.Running f) (option_map (λ b. term_of b.term) e.raised) s =
       subst (λ (n : Now). DoesNext (present e.store) (links_of e) e.query.items n (option_map (λ b. term_of b.term) e.raised) s) doing is.next in
       let first = next.0 in
@@ -117,25 +117,25 @@ module _ {S W M : Type 0} (names : S → List (List ℕ)) (present : S → Prese
         };
       }
 
-  -- The engine, in this state, is to run this frame's body, which is at this place of the nodes.
-  pub record AtBody (e : Plain S W M) (s : State) (f : Frame) (k : ℕ) : Type 0 where
+  -- The engine, in this state, is to run this link's body, which is at this place of the nodes.
+  pub record AtBody (e : Plain S W M) (s : State) (f : Link) (k : ℕ) : Type 0 where
     pub body : Body
     pub behind : List Member
     pub list : s.list ≡ Goal body f.mark ∷ behind
     pub stands_for : IsBody (present e.store) e.nodes.items k body
     pub ahead : IsAhead names present stands older e (record s { list = behind }) f.next
 
-  pub at_body : (e : Plain S W M) (s : State) (f : Frame) (k : ℕ) → e.now ≡ now.Running f → f.todo ≡ todo.Body k → IsEngine names present stands older e s → AtBody e s f k
+  pub at_body : (e : Plain S W M) (s : State) (f : Link) (k : ℕ) → e.now ≡ now.Running f → f.todo ≡ todo.Body k → IsEngine names present stands older e s → AtBody e s f k
   at_body e s f k doing asks is =
-      let a = at_frame e s f doing is in
+      let a = at_link e s f doing is in
       let b = body_of (present e.store) e.nodes.items f a.member k asks a.stands_for in
       record { body = b.0; behind = a.behind; list = a.list ∙ ap (λ (m : Member). m ∷ a.behind) b.1; stands_for = b.2; ahead = a.ahead }
 
   -- ---- what comes next
 
-  pub engine_frame : (e : Plain S W M) (s : State) (f : Frame) (m : Member) → IsAhead names present stands older e s f.next → IsMember (present e.store) e.nodes.items f m
+  pub engine_link : (e : Plain S W M) (s : State) (f : Link) (m : Member) → IsAhead names present stands older e s f.next → IsMember (present e.store) e.nodes.items f m
       → IsEngine names present stands older (record e { now = now.Running f }) (record s { list = m ∷ s.list })
-  engine_frame e s f m h is = record {
+  engine_link e s f m h is = record {
     world = h.world;
     steps = h.steps;
     base = h.base;
@@ -144,7 +144,7 @@ module _ {S W M : Type 0} (names : S → List (List ℕ)) (present : S → Prese
     next = (record { member = m; behind = s.list; is = refl; stands = is; chain = h.chain }, goes_with (m ∷ s.list) s.stack h.goes);
   }
 
-  pub engine_place : (e : Plain S W M) (s : State) (place : Option ℕ) → IsAhead names present stands older e s place → IsEngine names present stands older (record e { now = now_behind e.frames.items place }) s
+  pub engine_place : (e : Plain S W M) (s : State) (place : Option ℕ) → IsAhead names present stands older e s place → IsEngine names present stands older (record e { now = now_behind e.members.items place }) s
   engine_place e s place h = record {
     world = h.world;
     steps = h.steps;
@@ -169,7 +169,7 @@ module _ {S W M : Type 0} (names : S → List (List ℕ)) (present : S → Prese
   pub keeps_ahead : (e : Plain S W M) (s : State) (place : Option ℕ) → IsAhead names present stands older e s place → Keeps names present stands older e s.world s.stack
   keeps_ahead e s place h = (h.world, h.base, (variables s.query, h.choices))
 
-  -- ---- frames and choices that come
+  -- ---- members and choices that come
 
   -- other members
   pub ahead_other : (e : Plain S W M) (s : State) (place other : Option ℕ) (ms : List Member) → IsAhead names present stands older e s place → Chain (present e.store) (links_of e) other ms
@@ -184,17 +184,17 @@ module _ {S W M : Type 0} (names : S → List (List ℕ)) (present : S → Prese
     chain = chain;
   }
 
-  pub chain_pushed : (e : Plain S W M) (frames : Vec Frame Global) (f : Frame) (place : Option ℕ) (ms : List Member) → frames.items ≡ e.frames.items ++ f ∷ [] → Chain (present e.store) (links_of e) place ms
-      → Chain (present e.store) (record { nodes = e.nodes.items; frames = frames.items }) place ms
-  chain_pushed e frames f place ms pushed chain =
-      let adds : AddsLinks (links_of e) (record { nodes = e.nodes.items; frames = frames.items }) = record { nodes = adds_none e.nodes.items; frames = (f ∷ [], pushed) } in
-      chain_more (record { nodes = e.nodes.items; frames = frames.items }) adds (words_same (present e.store)) chain
+  pub chain_pushed : (e : Plain S W M) (members : Vec Link Global) (f : Link) (place : Option ℕ) (ms : List Member) → members.items ≡ e.members.items ++ f ∷ [] → Chain (present e.store) (links_of e) place ms
+      → Chain (present e.store) (record { nodes = e.nodes.items; members = members.items }) place ms
+  chain_pushed e members f place ms pushed chain =
+      let adds : AddsLinks (links_of e) (record { nodes = e.nodes.items; members = members.items }) = record { nodes = adds_none e.nodes.items; members = (f ∷ [], pushed) } in
+      chain_more (record { nodes = e.nodes.items; members = members.items }) adds (words_same (present e.store)) chain
 
-  pub ahead_frame : (e : Plain S W M) (s : State) (f : Frame) (m : Member) (frames : Vec Frame Global) → IsAhead names present stands older e s f.next → IsMember (present e.store) e.nodes.items f m
-      → frames.items ≡ e.frames.items ++ f ∷ [] → IsAhead names present stands older (record e { frames = frames }) (record s { list = m ∷ s.list }) (Some (length e.frames.items))
-  ahead_frame e s f m frames h is pushed =
-      let links : Links W = record { nodes = e.nodes.items; frames = frames.items } in
-      let adds : AddsLinks (links_of e) links = record { nodes = adds_none e.nodes.items; frames = (f ∷ [], pushed) } in
+  pub ahead_link : (e : Plain S W M) (s : State) (f : Link) (m : Member) (members : Vec Link Global) → IsAhead names present stands older e s f.next → IsMember (present e.store) e.nodes.items f m
+      → members.items ≡ e.members.items ++ f ∷ [] → IsAhead names present stands older (record e { members = members }) (record s { list = m ∷ s.list }) (Some (length e.members.items))
+  ahead_link e s f m members h is pushed =
+      let links : Links W = record { nodes = e.nodes.items; members = members.items } in
+      let adds : AddsLinks (links_of e) links = record { nodes = adds_none e.nodes.items; members = (f ∷ [], pushed) } in
       record {
         world = h.world;
         steps = h.steps;
@@ -202,7 +202,7 @@ module _ {S W M : Type 0} (names : S → List (List ℕ)) (present : S → Prese
         choices = choices_more links adds h.choices;
         room = h.room;
         goes = goes_with (m ∷ s.list) s.stack h.goes;
-        chain = leads (rw pushed (at_last e.frames.items f)) (place_before e.frames.items f.next (chain_place f.next h.chain)) is (chain_pushed e frames f f.next s.list pushed h.chain);
+        chain = leads (rw pushed (at_last e.members.items f)) (place_before e.members.items f.next (chain_place f.next h.chain)) is (chain_pushed e members f f.next s.list pushed h.chain);
       }
 
   -- the members ahead, as what is left at a choice
@@ -214,11 +214,11 @@ module _ {S W M : Type 0} (names : S → List (List ℕ)) (present : S → Prese
   pub ahead_left : (e : Plain S W M) (s : State) (place : Option ℕ) (store : S) (choices : Vec (kept.Choice W M) Global) (left : Left W) (l : walker.Left) → IsAhead names present stands older e s place
       → HasLeft (AreLeft (names e.store) e.db) e.query.items (variables s.query) (present e.store) (links_of e) left (record { list = s.list; subst = s.subst; next = s.next; built = s.built; left = l }) → s.next + numbers_a_step * (e.steps + entered_at l) ≤ most_numbers
       → present store ≡ present e.store → KeepsMarks (stands e.store) (stands store) → KeepsTexts (names e.store) (names store)
-      → GainsChoice (stands e.store) (stands store) older (present e.store) (length e.nodes.items) (length e.frames.items) left e.choices.items choices.items
+      → GainsChoice (stands e.store) (stands store) older (present e.store) (length e.nodes.items) (length e.members.items) left e.choices.items choices.items
       → IsAhead names present stands older (record e { store = store; choices = choices }) (pushed s.list l s) place
   ahead_left e s place store choices left l h has space same keeps texts gains =
       let b = h.base in
-      let c : kept.Choice W M = record { mark = gains.mark; nodes = length e.nodes.items; frames = length e.frames.items; left = left } in
+      let c : kept.Choice W M = record { mark = gains.mark; nodes = length e.nodes.items; members = length e.members.items; left = left } in
       let a : Alternative = record { list = s.list; subst = s.subst; next = s.next; built = s.built; left = l } in
       let old : StandsForChoices (stands store) older e.base (AreLeft (names store) e.db) e.query.items (variables s.query) (links_of e) e.choices.items s.stack =
       choices_kept texts (λ x p among there. keeps x.mark p there) h.choices in
@@ -245,7 +245,7 @@ module _ {S W M : Type 0} (names : S → List (List ℕ)) (present : S → Prese
   pub ahead_choice : (e : Plain S W M) (s : State) (place : Option ℕ) (store : S) (choices : Vec (kept.Choice W M) Global) (left : Left W) (l : walker.Left) → IsAhead names present stands older e s place
       → HasLeft (AreLeft (names e.store) e.db) e.query.items (variables s.query) (present e.store) (links_of e) left (record { list = s.list; subst = s.subst; next = s.next; built = s.built; left = l }) → entered_at l ≡ 0
       → present store ≡ present e.store → KeepsMarks (stands e.store) (stands store) → KeepsTexts (names e.store) (names store)
-      → GainsChoice (stands e.store) (stands store) older (present e.store) (length e.nodes.items) (length e.frames.items) left e.choices.items choices.items
+      → GainsChoice (stands e.store) (stands store) older (present e.store) (length e.nodes.items) (length e.members.items) left e.choices.items choices.items
       → IsAhead names present stands older (record e { store = store; choices = choices }) (pushed s.list l s) place
   ahead_choice e s place store choices left l h has none same keeps texts gains =
       ahead_left e s place store choices left l h has (let room = h.goes.room in let steps = h.steps in omega (arith, room, steps, none)) same keeps texts gains

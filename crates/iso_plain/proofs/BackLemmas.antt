@@ -7,12 +7,12 @@ use Rattle.iso_model.specs.Terms.Variables.{variables}
 use Rattle.iso_model.specs.Search.Walker.{State, Alternative}
 use Rattle.iso_store_core.specs.Presents.{Present}
 use Rattle.iso_plain_core.specs.declared.bodies.Node.{Node}
-use Rattle.iso_plain_core.specs.declared.parts.Frame.{Frame}
-use Rattle.iso_plain_core.specs.declared.parts.Choice as kept
+use Rattle.iso_plain_core.specs.declared.members.Link.{Link}
+use Rattle.iso_plain_core.specs.declared.choices.Choice as kept
 use Rattle.iso_plain.specs.declared.plain.Plain.{Plain}
 use Rattle.iso_plain_core.specs.Standing.{Links, HasLeft, StandsForChoices, HaveRoom, links_at}
 use Rattle.iso_plain.specs.EngineStates.{IsEngine, WentBack, links_of}
-use Rattle.iso_plain_core.specs.Costs.{choice_cost, choices_cost, frame_costs}
+use Rattle.iso_plain_core.specs.Costs.{choice_cost, choices_cost, member_costs}
 use Rattle.iso_plain_core.proofs.StandingLemmas.{newest, left_stays, last_split}
 use Rattle.iso_plain.proofs.WorldLemmas.{world_on, left_on, choices_kept}
 use Rattle.iso_plain_core.proofs.CostLemmas.{choices_last, choices_on_more, left_place}
@@ -29,43 +29,43 @@ take_same zero xs h = refl
 take_same (suc n) [] h = absurd (omega arith)
 take_same (suc n) (x ∷ xs) h = ap suc (take_same n xs (omega arith))
 
--- over the frames that stood the choices cost what they did
+-- over the members that stood the choices cost what they did
 pub back_costs : {W M : Type 0} {stands : M → Present W → Type 0} {older : M → M → Type 0} {base : M} {leaves : Leaving} {query : List W} {named : List ℕ} {links : Links W} {cs : List (kept.Choice W M)} {ks : List Alternative}
     (c : kept.Choice W M) → slice_get cs (length cs - 1) ≡ Some c → StandsForChoices stands older base leaves query named links cs ks
-    → choices_cost (frame_costs (take c.frames links.frames)) cs ≡ choices_cost (frame_costs links.frames) cs
+    → choices_cost (member_costs (take c.members links.members)) cs ≡ choices_cost (member_costs links.members) cs
 back_costs {leaves = leaves} {query = query} {named = named} {links = links} {cs = cs} c last are =
     let n = newest c last are in
-    let front = take c.frames links.frames in
-    let whole = take-append-drop c.frames links.frames in
+    let front = take c.members links.members in
+    let whole = take-append-drop c.members links.members in
     let some : 0 < length cs = (let h = slice_get_within cs (length cs - 1) c last in omega (arith, h)) in
     let split = last_split cs (length cs - 1) c last (omega (arith, some)) in
     let before = take (length cs - 1) cs in
-    let one = ap (λ fs. choices_cost (frame_costs fs) before) (sym whole) ∙ choices_on_more (drop c.frames links.frames) n.stands_below in
-    let other = ap (λ fs. choice_cost (frame_costs fs) c.left) (sym whole) ∙ left_place leaves query named n.here.present (links_at c links) n.alternative (drop c.frames links.frames) c.left n.here.has in
-    let old = ap (choices_cost (frame_costs links.frames)) split ∙ choices_last (frame_costs links.frames) before c in
-    let new = ap (choices_cost (frame_costs front)) split ∙ choices_last (frame_costs front) before c in
+    let one = ap (λ fs. choices_cost (member_costs fs) before) (sym whole) ∙ choices_on_more (drop c.members links.members) n.stands_below in
+    let other = ap (λ fs. choice_cost (member_costs fs) c.left) (sym whole) ∙ left_place leaves query named n.here.present (links_at c links) n.alternative (drop c.members links.members) c.left n.here.has in
+    let old = ap (choices_cost (member_costs links.members)) split ∙ choices_last (member_costs links.members) before c in
+    let new = ap (choices_cost (member_costs front)) split ∙ choices_last (member_costs front) before c in
     omega (arith, one, other, old, new)
 
 module _ {S W M : Type 0} (names : S → List (List ℕ)) (present : S → Present W) (stands : S → M → Present W → Type 0) (older : M → M → Type 0) where
   -- what going back makes of the engine
-  pub record Back (e : Plain S W M) (store : S) (nodes : Vec (Node W) Global) (frames : Vec Frame Global) (c : kept.Choice W M) (s : State) : Type 0 where
+  pub record Back (e : Plain S W M) (store : S) (nodes : Vec (Node W) Global) (members : Vec Link Global) (c : kept.Choice W M) (s : State) : Type 0 where
     pub alternative : Alternative
     pub below : List Alternative
     pub is : s.stack ≡ alternative ∷ below
-    pub went : WentBack names present stands older (record e { store = store; nodes = nodes; frames = frames }) c s alternative below
+    pub went : WentBack names present stands older (record e { store = store; nodes = nodes; members = members }) c s alternative below
 
-  pub goes_back : (e : Plain S W M) (store : S) (nodes : Vec (Node W) Global) (frames : Vec Frame Global) (c : kept.Choice W M) (s : State) → IsEngine names present stands older e s
+  pub goes_back : (e : Plain S W M) (store : S) (nodes : Vec (Node W) Global) (members : Vec Link Global) (c : kept.Choice W M) (s : State) → IsEngine names present stands older e s
       → slice_get e.choices.items (length e.choices.items - 1) ≡ Some c
       → ((p : Present W) → stands e.store c.mark p → present store ≡ p) → ((p : Present W) → stands e.store c.mark p → stands store c.mark p)
-      → ((m : M) (p : Present W) → older m c.mark → stands e.store m p → stands store m p) → KeepsTexts (names e.store) (names store) → nodes.items ≡ take c.nodes e.nodes.items → frames.items ≡ take c.frames e.frames.items → Back e store nodes frames c s
-  goes_back e store nodes frames c s is last back same marks texts kept_nodes kept_frames =
+      → ((m : M) (p : Present W) → older m c.mark → stands e.store m p → stands store m p) → KeepsTexts (names e.store) (names store) → nodes.items ≡ take c.nodes e.nodes.items → members.items ≡ take c.members e.members.items → Back e store nodes members c s
+  goes_back e store nodes members c s is last back same marks texts kept_nodes kept_members =
       let n = newest c last is.choices in
       let h = n.here in
       let at : h.present ≡ present store = sym (back h.present h.mark) in
       let a = n.alternative in
-      let links : Links W = record { nodes = nodes.items; frames = frames.items } in
+      let links : Links W = record { nodes = nodes.items; members = members.items } in
       let stood : links_at c (links_of e) ≡ links =
-      ap (λ (ns : List (Node W)). record { nodes = ns; frames = take c.frames e.frames.items }) (sym kept_nodes) ∙ ap (λ (fs : List Frame). record { nodes = nodes.items; frames = fs }) (sym kept_frames) in
+      ap (λ (ns : List (Node W)). record { nodes = ns; members = take c.members e.members.items }) (sym kept_nodes) ∙ ap (λ (fs : List Link). record { nodes = nodes.items; members = fs }) (sym kept_members) in
       let below : StandsForChoices (stands store) older e.base (AreLeft (names store) e.db) e.query.items (variables s.query) (links_at c (links_of e)) (take (length e.choices.items - 1) e.choices.items) n.below =
       choices_kept texts (λ d p among standing. marks d.mark p (n.newer d among) standing) n.stands_below in
       let b = is.base in
@@ -80,7 +80,7 @@ module _ {S W M : Type 0} (names : S → List (List ℕ)) (present : S → Prese
           mark = subst (λ (p : Present W). stands store c.mark p) at (same h.present h.mark);
           newest = last;
           nodes = take_same c.nodes e.nodes.items n.within.nodes ∙ ap length (sym kept_nodes);
-          frames = take_same c.frames e.frames.items n.within.frames ∙ ap length (sym kept_frames);
+          members = take_same c.members e.members.items n.within.members ∙ ap length (sym kept_members);
           has = left_stays e.query.items (variables s.query) (present store) links a (left_on texts {d = e.db}) c.left
               (subst (λ (ls : Links W). HasLeft (AreLeft (names e.store) e.db) e.query.items (variables s.query) (present store) ls c.left a) stood
               (subst (λ (p : Present W). HasLeft (AreLeft (names e.store) e.db) e.query.items (variables s.query) p (links_at c (links_of e)) c.left a) at h.has));

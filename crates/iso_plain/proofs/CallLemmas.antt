@@ -6,18 +6,18 @@ use Rattle.iso_model.specs.Terms.Trees.{Tree}
 use Rattle.iso_model.specs.Search.Databases as databases
 use Rattle.iso_model.specs.Search.Walker.{State, Member, Alternative, Clauses, with_others}
 use Rattle.iso_store_core.specs.Presents.{Present, KeepsMarks}
-use Rattle.iso_plain_core.specs.declared.parts.Attempt.{Attempt}
-use Rattle.iso_plain_core.specs.declared.parts.Choice as kept
+use Rattle.iso_plain_core.specs.declared.choices.Attempt.{Attempt}
+use Rattle.iso_plain_core.specs.declared.choices.Choice as kept
 use Rattle.iso_plain.specs.declared.plain.Plain.{Plain}
-use Rattle.iso_plain_core.specs.Costs.{body_cost, left_cost, most, frame_costs, place_cost, now_cost}
+use Rattle.iso_plain_core.specs.Costs.{body_cost, left_cost, most, member_costs, place_cost, now_cost}
 use Rattle.iso_plain_core.specs.declared.bodies.Node.{Node}
 use Rattle.iso_plain_core.specs.declared.clauses.Clause.{Clause}
 use Rattle.iso_plain_core.specs.declared.entries.Entered.{Entered}
 use Rattle.iso_plain_core.specs.declared.entries.Entered.TheVariants as entered
-use Rattle.iso_plain_core.specs.declared.parts.Frame.{Frame}
+use Rattle.iso_plain_core.specs.declared.members.Link.{Link}
 use Rattle.iso_plain_core.specs.Entering.{Enters}
 use Rattle.iso_plain_core.specs.Next.{now_behind, now_entered}
-use Rattle.iso_plain_core.specs.declared.parts.Left.TheVariants as left
+use Rattle.iso_plain_core.specs.declared.choices.Left.TheVariants as left
 use Rattle.iso_plain_core.specs.Standing.{Among, AtGoal, GainsChoice, StandsForChoice, StandsForChoices}
 use Rattle.iso_db.specs.declared.views.View.{View}
 use Rattle.iso_plain_core.specs.Leaving.{AreLeft}
@@ -37,17 +37,17 @@ pub later_cost : (n r : ℕ) → n < 2 ^ 64 → left_cost (suc n) r ≤ left_cos
 later_cost n r few = left_higher most (suc n) r (one_below n few)
 
 -- what comes next behind a clause that was tried
-pub entered_least : {W : Type 0} (names : List (List ℕ)) (p q : Present W) (old : List (Node W)) (nodes : Vec (Node W) Global) (call : Tree) (clause : Clause) (frames : List Frame) (mark : ℕ) (rest : Option ℕ)
-    → now_cost (frame_costs frames) (now_behind frames rest) ≡ place_cost frames rest → (entered : Entered) → Enters names p q old nodes.items call clause entered
-    → now_cost (frame_costs frames) (now_entered frames entered mark rest) ≤ body_cost most (place_cost frames rest)
-entered_least names p q old nodes call clause frames mark rest behind entered.Missed h = omega arith
-entered_least names p q old nodes call clause frames mark rest behind entered.Fact h = (let up = cost_above most (place_cost frames rest) in omega (arith, behind, up))
-entered_least names p q old nodes call clause frames mark rest behind (entered.Body place) h =
+pub entered_least : {W : Type 0} (names : List (List ℕ)) (p q : Present W) (old : List (Node W)) (nodes : Vec (Node W) Global) (call : Tree) (clause : Clause) (members : List Link) (mark : ℕ) (rest : Option ℕ)
+    → now_cost (member_costs members) (now_behind members rest) ≡ place_cost members rest → (entered : Entered) → Enters names p q old nodes.items call clause entered
+    → now_cost (member_costs members) (now_entered members entered mark rest) ≤ body_cost most (place_cost members rest)
+entered_least names p q old nodes call clause members mark rest behind entered.Missed h = omega arith
+entered_least names p q old nodes call clause members mark rest behind entered.Fact h = (let up = cost_above most (place_cost members rest) in omega (arith, behind, up))
+entered_least names p q old nodes call clause members mark rest behind (entered.Body place) h =
     let end = h.last in
     let many = nodes.ok.0 in
     let within = nodes.ok.1 in
     let small = nodes.small in
-    cost_higher most place (place_cost frames rest) (below_most place (omega (arith, end, many, within, small)))
+    cost_higher most place (place_cost members rest) (below_most place (omega (arith, end, many, within, small)))
 
 -- ---- the choice of a call
 
@@ -60,12 +60,12 @@ module _ {S W M : Type 0} (names : S → List (List ℕ)) (present : S → Prese
 
   pub calls_later : (e : Plain S W M) (attempt : Attempt W) (s : State) (call : Tree) (c : databases.Clause) (cs : List databases.Clause) (behind : List Member) (store : S) (choices : Vec (kept.Choice W M) Global) (clause : ℕ) (later : View)
       → Calls names present stands older e attempt s call c cs behind → AreLeft (names e.store) e.db clause later cs → present store ≡ present e.store → KeepsMarks (stands e.store) (stands store) → KeepsTexts (names e.store) (names store)
-      → GainsChoice (stands e.store) (stands store) older (present e.store) (length e.nodes.items) (length e.frames.items) (left.Clauses (record attempt { clause = clause; later = later })) e.choices.items choices.items
+      → GainsChoice (stands e.store) (stands store) older (present e.store) (length e.nodes.items) (length e.members.items) (left.Clauses (record attempt { clause = clause; later = later })) e.choices.items choices.items
       → Calls names present stands older (record e { store = store; choices = choices }) attempt (with_others call cs behind s) call c cs behind
   calls_later e attempt s call c [] behind store choices clause later t next same keeps texts gains = absurd (cc next.is)
   calls_later e attempt s call c (d ∷ cs) behind store choices clause later t next same keeps texts gains =
       let b = t.base in
-      let made : kept.Choice W M = record { mark = gains.mark; nodes = length e.nodes.items; frames = length e.frames.items; left = left.Clauses (record attempt { clause = clause; later = later }) } in
+      let made : kept.Choice W M = record { mark = gains.mark; nodes = length e.nodes.items; members = length e.members.items; left = left.Clauses (record attempt { clause = clause; later = later }) } in
       let a : Alternative = record { list = behind; subst = s.subst; next = s.next; built = s.built; left = Clauses call (d ∷ cs) } in
       let old : StandsForChoices (stands store) older e.base (AreLeft (names store) e.db) e.query.items (variables s.query) (links_of e) e.choices.items s.stack =
       choices_kept texts (λ x p among there. keeps x.mark p there) t.choices in

@@ -7,21 +7,21 @@ use Rattle.iso_model.specs.Terms.Variables.{variables}
 use Rattle.iso_model.specs.Search.Bodies.{Body}
 use Rattle.iso_model.specs.Search.Walker.{State, Member, Goal, Leave, Catching, Goes, pushed, step}
 use Rattle.iso_store_core.specs.Presents.{Present, KeepsMarks}
-use Rattle.iso_plain_core.specs.declared.parts.Todo.{Todo}
-use Rattle.iso_plain_core.specs.declared.parts.Todo.TheVariants as todo
-use Rattle.iso_plain_core.specs.declared.parts.Frame.{Frame}
-use Rattle.iso_plain_core.specs.declared.parts.Left.TheVariants as left
-use Rattle.iso_plain_core.specs.declared.parts.Choice as kept
-use Rattle.iso_plain_core.specs.declared.parts.Now.{Now}
-use Rattle.iso_plain_core.specs.declared.parts.Now.TheVariants as now
+use Rattle.iso_plain_core.specs.declared.members.Todo.{Todo}
+use Rattle.iso_plain_core.specs.declared.members.Todo.TheVariants as todo
+use Rattle.iso_plain_core.specs.declared.members.Link.{Link}
+use Rattle.iso_plain_core.specs.declared.choices.Left.TheVariants as left
+use Rattle.iso_plain_core.specs.declared.choices.Choice as kept
+use Rattle.iso_plain_core.specs.declared.members.Now.{Now}
+use Rattle.iso_plain_core.specs.declared.members.Now.TheVariants as now
 use Rattle.iso_plain.specs.declared.plain.Move.TheVariants as move
 use Rattle.iso_plain.specs.declared.plain.Plain.{Plain}
 use Rattle.iso_plain.specs.Catches.{EntersCatch, catching, calling_inside, catcher_of, recovery_of}
-use Rattle.iso_plain_core.specs.Costs.{body_cost, left_cost, most, whole_cost, todo_cost, frame_costs, place_cost, choices_cost, now_cost}
+use Rattle.iso_plain_core.specs.Costs.{body_cost, left_cost, most, whole_cost, todo_cost, member_costs, place_cost, choices_cost, now_cost}
 use Rattle.iso_plain_core.specs.Next.{now_behind}
 use Rattle.iso_plain_core.specs.Standing.{IsBody, a_body, an_end, HasLeft, GainsChoice}
 use Rattle.iso_plain.specs.EngineStates.{IsEngine, IsAhead, Represents, Moves, cost, weight, links_of}
-use Rattle.iso_plain.proofs.AheadLemmas.{AtFrame, at_frame, end_of, engine_frame, engine_place, ahead_frame, ahead_left}
+use Rattle.iso_plain.proofs.AheadLemmas.{AtLink, at_link, end_of, engine_link, engine_place, ahead_link, ahead_left}
 use Rattle.iso_plain.proofs.ControlCosts.{new_place, old_place, gained_cost}
 use Rattle.iso_plain_core.proofs.CostLemmas.{cost_more, cost_higher, left_step, left_higher, whole_paid, some_most, below_words, choices_on_more, behind_cost}
 use Rattle.iso_plain.proofs.FailLemmas.{awake_behind}
@@ -78,33 +78,33 @@ module _ {S W M : Type 0} (names : S → List (List ℕ)) (present : S → Prese
         record { holds = h.catches.holds; three = h.catches.three; on = record { subst_is = a.goes.subst; next_is = a.goes.next; chain = a.chain; words = a.goes.words }; is = refl }
 
     module _ (store : S) (choices : Vec (kept.Choice W M) Global) (same : present store ≡ present e.store) (keeps : KeepsMarks (stands e.store) (stands store)) (texts : KeepsTexts (names e.store) (names store))
-        (gains : GainsChoice (stands e.store) (stands store) older (present e.store) (length e.nodes.items) (length e.frames.items) (left.Catching goal next) e.choices.items choices.items) where
+        (gains : GainsChoice (stands e.store) (stands store) older (present e.store) (length e.nodes.items) (length e.members.items) (left.Catching goal next) e.choices.items choices.items) where
       -- its choice came
       pub entry_ahead : IsAhead names present stands older (record e { store = store; choices = choices }) (pushed s.list (Catching catcher recovery) s) next
       entry_ahead = ahead_left names present stands older e s next store choices (left.Catching goal next) (Catching catcher recovery) h.ahead catch_left h.space same keeps texts gains
 
       -- and its end
-      pub opened_ahead : (frames : Vec Frame Global) → frames.items ≡ e.frames.items ++ record { todo = todo.Leave; mark = length e.choices.items; next = next } ∷ []
-          → IsAhead names present stands older (record e { store = store; choices = choices; frames = frames }) (catching catcher recovery s) (Some (length e.frames.items))
-      opened_ahead frames come =
+      pub opened_ahead : (members : Vec Link Global) → members.items ≡ e.members.items ++ record { todo = todo.Leave; mark = length e.choices.items; next = next } ∷ []
+          → IsAhead names present stands older (record e { store = store; choices = choices; members = members }) (catching catcher recovery s) (Some (length e.members.items))
+      opened_ahead members come =
           let height = length e.choices.items in
           let alike : height ≡ length s.stack = choices_length h.ahead.choices in
-          let end : Frame = record { todo = todo.Leave; mark = height; next = next } in
+          let end : Link = record { todo = todo.Leave; mark = height; next = next } in
           let p = pushed s.list (Catching catcher recovery) s in
-          let one = ahead_frame names present stands older (record e { store = store; choices = choices }) p end (Leave height) frames entry_ahead (an_end refl) come in
-          subst (λ (n : ℕ). IsAhead names present stands older (record e { store = store; choices = choices; frames = frames }) (record p { list = Leave n ∷ s.list }) (Some (length e.frames.items))) alike one
+          let one = ahead_link names present stands older (record e { store = store; choices = choices }) p end (Leave height) members entry_ahead (an_end refl) come in
+          subst (λ (n : ℕ). IsAhead names present stands older (record e { store = store; choices = choices; members = members }) (record p { list = Leave n ∷ s.list }) (Some (length e.members.items))) alike one
 
     -- what is to be done at its choice, and at its end
-    pub opened_costs : {old new : M → Present W → Type 0} {p : Present W} {nodes stood : ℕ} (choices : Vec (kept.Choice W M) Global) (frames : Vec Frame Global) (mark : ℕ) → GainsChoice old new older p nodes stood (left.Catching goal next) e.choices.items choices.items
-        → frames.items ≡ e.frames.items ++ record { todo = todo.Leave; mark = mark; next = next } ∷ []
-        → (choices_cost (frame_costs frames.items) choices.items ≡ choices_cost (frame_costs e.frames.items) e.choices.items + left_cost 1 (place_cost e.frames.items next))
-        × (place_cost frames.items (Some (length e.frames.items)) ≡ suc (place_cost e.frames.items next))
-    opened_costs choices frames mark gains come =
-        let end : Frame = record { todo = todo.Leave; mark = mark; next = next } in
-        let gained = gained_cost (frame_costs frames.items) gains in
-        let all = ap (λ (fs : List Frame). choices_cost (frame_costs fs) e.choices.items) come ∙ choices_on_more (end ∷ []) h.ahead.choices in
-        let kept_rest = old_place e.frames.items frames.items (end ∷ []) next come (chain_place next h.ahead.chain) in
-        (gained ∙ ap₂ (λ (a b : ℕ). a + b) all (ap (left_cost 1) kept_rest), new_place e.frames.items frames.items end come)
+    pub opened_costs : {old new : M → Present W → Type 0} {p : Present W} {nodes stood : ℕ} (choices : Vec (kept.Choice W M) Global) (members : Vec Link Global) (mark : ℕ) → GainsChoice old new older p nodes stood (left.Catching goal next) e.choices.items choices.items
+        → members.items ≡ e.members.items ++ record { todo = todo.Leave; mark = mark; next = next } ∷ []
+        → (choices_cost (member_costs members.items) choices.items ≡ choices_cost (member_costs e.members.items) e.choices.items + left_cost 1 (place_cost e.members.items next))
+        × (place_cost members.items (Some (length e.members.items)) ≡ suc (place_cost e.members.items next))
+    opened_costs choices members mark gains come =
+        let end : Link = record { todo = todo.Leave; mark = mark; next = next } in
+        let gained = gained_cost (member_costs members.items) gains in
+        let all = ap (λ (fs : List Link). choices_cost (member_costs fs) e.choices.items) come ∙ choices_on_more (end ∷ []) h.ahead.choices in
+        let kept_rest = old_place e.members.items members.items (end ∷ []) next come (chain_place next h.ahead.chain) in
+        (gained ∙ ap₂ (λ (a b : ℕ). a + b) all (ap (left_cost 1) kept_rest), new_place e.members.items members.items end come)
 
     -- ---- inside it
 
@@ -117,17 +117,17 @@ module _ {S W M : Type 0} (names : S → List (List ℕ)) (present : S → Prese
           → IsEngine names present stands older (record mid { now = now.Running (record { todo = todo.Body body; mark = length mid.choices.items; next = Some end }) }) (calling_inside b catcher recovery s)
       inside_engine body b is =
           let height = length mid.choices.items in
-          let first : Frame = record { todo = todo.Body body; mark = height; next = Some end } in
-          let engine = engine_frame names present stands older mid (catching catcher recovery s) first (Goal b height) ahead (a_body refl is) in
+          let first : Link = record { todo = todo.Body body; mark = height; next = Some end } in
+          let engine = engine_link names present stands older mid (catching catcher recovery s) first (Goal b height) ahead (a_body refl is) in
           subst (λ (n : ℕ). IsEngine names present stands older (record mid { now = now.Running first }) (record (catching catcher recovery s) { list = Goal b n ∷ Leave (length s.stack) ∷ s.list })) inside_height engine
 
   -- ---- what falls
 
   module _ (e mid : Plain S W M) (next : Option ℕ) (end : ℕ) (steps : mid.steps ≡ e.steps)
-      (choices : choices_cost (frame_costs mid.frames.items) mid.choices.items ≡ choices_cost (frame_costs e.frames.items) e.choices.items + left_cost 1 (place_cost e.frames.items next))
-      (there : place_cost mid.frames.items (Some end) ≡ suc (place_cost e.frames.items next)) (w : ℕ)
-      (less : choices_cost (frame_costs e.frames.items) e.choices.items + place_cost e.frames.items next + 1 ≤ w) where
-    all_choices : choices_cost (frame_costs mid.frames.items) mid.choices.items ≡ choices_cost (frame_costs e.frames.items) e.choices.items + left_cost 1 (place_cost e.frames.items next)
+      (choices : choices_cost (member_costs mid.members.items) mid.choices.items ≡ choices_cost (member_costs e.members.items) e.choices.items + left_cost 1 (place_cost e.members.items next))
+      (there : place_cost mid.members.items (Some end) ≡ suc (place_cost e.members.items next)) (w : ℕ)
+      (less : choices_cost (member_costs e.members.items) e.choices.items + place_cost e.members.items next + 1 ≤ w) where
+    all_choices : choices_cost (member_costs mid.members.items) mid.choices.items ≡ choices_cost (member_costs e.members.items) e.choices.items + left_cost 1 (place_cost e.members.items next)
     all_choices = choices
 
     pub inside_falls : (body mark : ℕ) (b : Body) → IsBody (present mid.store) mid.nodes.items body b
@@ -138,37 +138,37 @@ module _ {S W M : Type 0} (names : S → List (List ℕ)) (present : S → Prese
         let within = mid.nodes.ok.1 in
         let small = mid.nodes.small in
         let fits = below_words body (omega (arith, here, many, within, small)) in
-        let paid = inside_paid body e.steps (choices_cost (frame_costs e.frames.items) e.choices.items) (place_cost e.frames.items next) w (omega (arith, fits)) less in
+        let paid = inside_paid body e.steps (choices_cost (member_costs e.members.items) e.choices.items) (place_cost e.members.items next) w (omega (arith, fits)) less in
         rw (steps, all_choices, there) paid
 
-    pub thrown_falls : (new : Plain S W M) (place : Option ℕ) → new.now ≡ now.Raising place → new.steps ≡ mid.steps → new.choices ≡ mid.choices → new.frames ≡ mid.frames
+    pub thrown_falls : (new : Plain S W M) (place : Option ℕ) → new.now ≡ now.Raising place → new.steps ≡ mid.steps → new.choices ≡ mid.choices → new.members ≡ mid.members
         → weight new < whole_cost (suc e.steps) w
-    thrown_falls new place doing same_steps same_choices same_frames =
-        let many = choices_cost (frame_costs e.frames.items) e.choices.items in
-        let paid = thrown_paid e.steps many (place_cost e.frames.items next) w less in
-        let here : cost new ≡ many + left_cost 1 (place_cost e.frames.items next) + 1 = cost_as mid new (now.Raising place) doing same_choices same_frames ∙ ap (λ (n : ℕ). n + 1) all_choices in
+    thrown_falls new place doing same_steps same_choices same_members =
+        let many = choices_cost (member_costs e.members.items) e.choices.items in
+        let paid = thrown_paid e.steps many (place_cost e.members.items next) w less in
+        let here : cost new ≡ many + left_cost 1 (place_cost e.members.items next) + 1 = cost_as mid new (now.Raising place) doing same_choices same_members ∙ ap (λ (n : ℕ). n + 1) all_choices in
         subst (λ (k : ℕ). whole_cost k (cost new) < whole_cost (suc e.steps) w) (sym (same_steps ∙ steps)) (subst (λ (v : ℕ). whole_cost e.steps v < whole_cost (suc e.steps) w) (sym here) paid)
 
   -- ---- out of a catch
 
-  module _ (e : Plain S W M) (s : State) (f : Frame) (doing : e.now ≡ now.Running f) (asks : f.todo ≡ todo.Leave) (r : Represents names present stands older e s) where
-    abbrev pub at : AtFrame names present stands older e r.own f
-    at = at_frame names present stands older e r.own f doing r.engine
+  module _ (e : Plain S W M) (s : State) (f : Link) (doing : e.now ≡ now.Running f) (asks : f.todo ≡ todo.Leave) (r : Represents names present stands older e s) where
+    abbrev pub at : AtLink names present stands older e r.own f
+    at = at_link names present stands older e r.own f doing r.engine
 
     leave_goes : step r.own ≡ Goes (record (r.own) { list = at.behind })
     leave_goes =
         let is = end_of (present e.store) e.nodes.items f at.member asks at.stands_for in
         leave_step r.own f.mark at.behind (at.list ∙ ap (λ (m : Member). m ∷ at.behind) is)
 
-    pub leaves : Moves names present stands older move.Goes s (record e { now = now_behind e.frames.items f.next })
+    pub leaves : Moves names present stands older move.Goes s (record e { now = now_behind e.members.items f.next })
     leaves =
         let v : State = record (r.own) { list = at.behind } in
-        goes names present stands older e (record e { now = now_behind e.frames.items f.next }) s r v leave_goes (engine_place names present stands older e v f.next at.ahead) (awake_behind e.frames.items f.next)
+        goes names present stands older e (record e { now = now_behind e.members.items f.next }) s r v leave_goes (engine_place names present stands older e v f.next at.ahead) (awake_behind e.members.items f.next)
 
-    pub leave_falls : weight (record e { now = now_behind e.frames.items f.next }) < weight e
+    pub leave_falls : weight (record e { now = now_behind e.members.items f.next }) < weight e
     leave_falls =
-        let many = choices_cost (frame_costs e.frames.items) e.choices.items in
-        let old : cost e ≡ many + suc (place_cost e.frames.items f.next) =
-        ap (λ (n : Now). many + now_cost (frame_costs e.frames.items) n) doing ∙ ap (λ (t : Todo). many + todo_cost t (place_cost e.frames.items f.next)) asks in
+        let many = choices_cost (member_costs e.members.items) e.choices.items in
+        let old : cost e ≡ many + suc (place_cost e.members.items f.next) =
+        ap (λ (n : Now). many + now_cost (member_costs e.members.items) n) doing ∙ ap (λ (t : Todo). many + todo_cost t (place_cost e.members.items f.next)) asks in
         let here = behind_cost f.next (at.ahead).chain in
-        falls_less e (record e { now = now_behind e.frames.items f.next }) refl (omega (arith, old, here))
+        falls_less e (record e { now = now_behind e.members.items f.next }) refl (omega (arith, old, here))

@@ -6,11 +6,11 @@ use Rattle.iso_model.specs.Terms.Variables.{variables}
 use Rattle.iso_model.specs.Search.Databases as databases
 use Rattle.iso_model.specs.Search.Walker.{State, Alternative, Clauses, with_others}
 use Rattle.iso_store_core.specs.Presents.{Present}
-use Rattle.iso_plain_core.specs.declared.parts.Choice as kept
+use Rattle.iso_plain_core.specs.declared.choices.Choice as kept
 use Rattle.iso_plain.specs.declared.plain.Plain.{Plain}
-use Rattle.iso_plain_core.specs.declared.parts.Left.{Left}
-use Rattle.iso_plain_core.specs.declared.parts.Left.TheVariants as left
-use Rattle.iso_plain_core.specs.declared.parts.Attempt.{Attempt}
+use Rattle.iso_plain_core.specs.declared.choices.Left.{Left}
+use Rattle.iso_plain_core.specs.declared.choices.Left.TheVariants as left
+use Rattle.iso_plain_core.specs.declared.choices.Attempt.{Attempt}
 use Rattle.iso_plain_core.specs.Costs.{body_cost, most, rest_cost, choice_cost, choices_cost}
 use Rattle.iso_plain_core.specs.Standing.{AtGoal, HasClauses, HasLeft, StandsForChoices, numbers_a_step, most_numbers, entered_at}
 use Rattle.iso_plain.specs.EngineStates.{Calls, WentBack, Retries, links_of, went_back}
@@ -31,7 +31,7 @@ last_set (x ∷ xs) (suc i) d all = ap (λ (ys : List _). x ∷ ys) (last_set xs
 
 -- the choice with this left to be tried
 abbrev pub with_left : {W M : Type 0} → kept.Choice W M → Left W → kept.Choice W M
-with_left c l = record { mark = c.mark; nodes = c.nodes; frames = c.frames; left = l }
+with_left c l = record { mark = c.mark; nodes = c.nodes; members = c.members; left = l }
 
 -- the attempt at this clause, before those of the view
 abbrev pub next_of : {W : Type 0} → Attempt W → ℕ → View → Attempt W
@@ -97,7 +97,7 @@ module _ {S W M : Type 0} (names : S → List (List ℕ)) (present : S → Prese
           steps = w.steps;
           base = w.base;
           choices = subst (λ (ds : List (kept.Choice W M)). StandsForChoices (stands e.store) older e.base (AreLeft (names e.store) e.db) e.query.items (variables s.query) (links_of e) ds (b ∷ below)) (sym made)
-              (choices_push (with_left c (left.Clauses (next_of attempt clause later))) b w.nodes w.frames
+              (choices_push (with_left c (left.Clauses (next_of attempt clause later))) b w.nodes w.members
               (record {
                 present = present e.store;
                 mark = w.mark;

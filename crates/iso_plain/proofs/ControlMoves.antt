@@ -6,27 +6,27 @@ use Rattle.iso_model.specs.Search.Walker.{State, Goal, CutTo, Alternative, AsIs,
 use Rattle.iso_model.specs.Search.Runs.{ComesOver}
 use Rattle.iso_store_core.specs.Presents.{Present, KeepsMarks}
 use Rattle.iso_plain_core.specs.declared.bodies.Node.TheVariants as node
-use Rattle.iso_plain_core.specs.declared.parts.Todo.TheVariants as todo
-use Rattle.iso_plain_core.specs.declared.parts.Frame.{Frame}
-use Rattle.iso_plain_core.specs.declared.parts.Left.TheVariants as left
-use Rattle.iso_plain_core.specs.declared.parts.Choice as kept
-use Rattle.iso_plain_core.specs.declared.parts.Now.TheVariants as now
+use Rattle.iso_plain_core.specs.declared.members.Todo.TheVariants as todo
+use Rattle.iso_plain_core.specs.declared.members.Link.{Link}
+use Rattle.iso_plain_core.specs.declared.choices.Left.TheVariants as left
+use Rattle.iso_plain_core.specs.declared.choices.Choice as kept
+use Rattle.iso_plain_core.specs.declared.members.Now.TheVariants as now
 use Rattle.iso_plain.specs.declared.plain.Move.TheVariants as move
 use Rattle.iso_plain.specs.declared.plain.Plain.{Plain}
 use Rattle.iso_plain_core.specs.Standing.{IsAt, IsBody, IsGoalWord, Chain, a_body, a_cut, GainsChoice}
 use Rattle.iso_plain.specs.EngineStates.{IsEngine, IsAhead, Represents, Stopped, Keeps, Moves}
-use Rattle.iso_plain.proofs.AheadLemmas.{AtBody, at_body, engine_frame, ahead_frame, members_left, ahead_choice, ahead_other, chain_pushed}
+use Rattle.iso_plain.proofs.AheadLemmas.{AtBody, at_body, engine_link, ahead_link, members_left, ahead_choice, ahead_other, chain_pushed}
 use Rattle.iso_plain_core.proofs.PlaceLemmas.{Pair, Triple, and_at, or_at, if_at, choose_at}
 use Rattle.iso_plain.proofs.SearchMoves.{goes, stops, comes_over}
 use Rattle.iso_plain.proofs.SearchSteps.{parts_step, either_step, condition_step, choose_step}
 use Rattle.iso_plain_core.proofs.StandingLemmas.{choices_length}
 
--- the frame for another body, with this frame's mark and before what is behind it
-abbrev pub body_frame : Frame → ℕ → Frame
-body_frame f k = record { todo = todo.Body k; mark = f.mark; next = f.next }
+-- the link for another body, with this link's mark and before what is behind it
+abbrev pub body_link : Link → ℕ → Link
+body_link f k = record { todo = todo.Body k; mark = f.mark; next = f.next }
 
 module _ {S W M : Type 0} (names : S → List (List ℕ)) (present : S → Present W) (stands : S → M → Present W → Type 0) (older : M → M → Type 0) where
-  module _ (e : Plain S W M) (s : State) (f : Frame) (k : ℕ) (doing : e.now ≡ now.Running f) (r : Represents names present stands older e s) where
+  module _ (e : Plain S W M) (s : State) (f : Link) (k : ℕ) (doing : e.now ≡ now.Running f) (r : Represents names present stands older e s) where
     abbrev pub own : State
     own = r.own
 
@@ -38,36 +38,36 @@ module _ {S W M : Type 0} (names : S → List (List ℕ)) (present : S → Prese
     pub and_parts : (d : ℕ) → (h : IsAt e.nodes.items f k (node.And d)) → (d ≤ k) × (0 < d) × (0 < k) × Pair (IsGoalWord (present e.store)) e.nodes.items And (k - d) (k - 1) (at h.asks).body
     and_parts d h = and_at (present e.store) d h.there (at h.asks).stands_for
 
-    pub takes_apart : (d : ℕ) (frames : Vec Frame Global) → IsAt e.nodes.items f k (node.And d) → frames.items ≡ e.frames.items ++ body_frame f (k - 1) ∷ []
-        → Moves names present stands older move.Goes s (record e { frames = frames; now = now.Running (record { todo = todo.Body (k - d); mark = f.mark; next = Some (length e.frames.items) }) })
-    takes_apart d frames h come =
+    pub takes_apart : (d : ℕ) (members : Vec Link Global) → IsAt e.nodes.items f k (node.And d) → members.items ≡ e.members.items ++ body_link f (k - 1) ∷ []
+        → Moves names present stands older move.Goes s (record e { members = members; now = now.Running (record { todo = todo.Body (k - d); mark = f.mark; next = Some (length e.members.items) }) })
+    takes_apart d members h come =
         let a = at h.asks in
         let p = (and_parts d h).3 in
-        let first : Frame = record { todo = todo.Body (k - d); mark = f.mark; next = Some (length e.frames.items) } in
-        let ahead = ahead_frame names present stands older e (record own { list = a.behind }) (body_frame f (k - 1)) (Goal p.second f.mark) frames a.ahead (a_body refl p.second_body) come in
-        goes names present stands older e (record e { frames = frames; now = now.Running first }) s r (record own { list = Goal p.first f.mark ∷ Goal p.second f.mark ∷ a.behind })
+        let first : Link = record { todo = todo.Body (k - d); mark = f.mark; next = Some (length e.members.items) } in
+        let ahead = ahead_link names present stands older e (record own { list = a.behind }) (body_link f (k - 1)) (Goal p.second f.mark) members a.ahead (a_body refl p.second_body) come in
+        goes names present stands older e (record e { members = members; now = now.Running first }) s r (record own { list = Goal p.first f.mark ∷ Goal p.second f.mark ∷ a.behind })
         (parts_step own p.first p.second f.mark a.behind (a.list ∙ ap (λ (b : Body). Goal b f.mark ∷ a.behind) p.is))
-        (engine_frame names present stands older (record e { frames = frames }) (record own { list = Goal p.second f.mark ∷ a.behind }) first (Goal p.first f.mark) ahead (a_body refl p.first_body)) tt
+        (engine_link names present stands older (record e { members = members }) (record own { list = Goal p.second f.mark ∷ a.behind }) first (Goal p.first f.mark) ahead (a_body refl p.first_body)) tt
 
     -- ---- an if-then
 
     pub if_parts : (d : ℕ) → (h : IsAt e.nodes.items f k (node.If d)) → (d ≤ k) × (0 < d) × (0 < k) × Pair (IsGoalWord (present e.store)) e.nodes.items If (k - d) (k - 1) (at h.asks).body
     if_parts d h = if_at (present e.store) d h.there (at h.asks).stands_for
 
-    pub takes_condition : (d : ℕ) (frames more : Vec Frame Global) → IsAt e.nodes.items f k (node.If d) → frames.items ≡ e.frames.items ++ body_frame f (k - 1) ∷ []
-        → more.items ≡ frames.items ++ record { todo = todo.CutBack; mark = length e.choices.items; next = Some (length e.frames.items) } ∷ []
-        → Moves names present stands older move.Goes s (record e { frames = more; now = now.Running (record { todo = todo.Body (k - d); mark = length e.choices.items; next = Some (length frames.items) }) })
-    takes_condition d frames more h come come_more =
+    pub takes_condition : (d : ℕ) (members more : Vec Link Global) → IsAt e.nodes.items f k (node.If d) → members.items ≡ e.members.items ++ body_link f (k - 1) ∷ []
+        → more.items ≡ members.items ++ record { todo = todo.CutTo; mark = length e.choices.items; next = Some (length e.members.items) } ∷ []
+        → Moves names present stands older move.Goes s (record e { members = more; now = now.Running (record { todo = todo.Body (k - d); mark = length e.choices.items; next = Some (length members.items) }) })
+    takes_condition d members more h come come_more =
         let a = at h.asks in
         let p = (if_parts d h).3 in
         let height = length e.choices.items in
         let same : height ≡ length own.stack = choices_length r.engine.choices in
-        let once : Frame = record { todo = todo.CutBack; mark = height; next = Some (length e.frames.items) } in
-        let first : Frame = record { todo = todo.Body (k - d); mark = height; next = Some (length frames.items) } in
-        let one = ahead_frame names present stands older e (record own { list = a.behind }) (body_frame f (k - 1)) (Goal p.second f.mark) frames a.ahead (a_body refl p.second_body) come in
-        let two = ahead_frame names present stands older (record e { frames = frames }) (record own { list = Goal p.second f.mark ∷ a.behind }) once (CutTo height) more one (a_cut refl) come_more in
-        let engine = engine_frame names present stands older (record e { frames = more }) (record own { list = CutTo height ∷ Goal p.second f.mark ∷ a.behind }) first (Goal p.first height) two (a_body refl p.first_body) in
-        let new : Plain S W M = record e { frames = more; now = now.Running first } in
+        let once : Link = record { todo = todo.CutTo; mark = height; next = Some (length e.members.items) } in
+        let first : Link = record { todo = todo.Body (k - d); mark = height; next = Some (length members.items) } in
+        let one = ahead_link names present stands older e (record own { list = a.behind }) (body_link f (k - 1)) (Goal p.second f.mark) members a.ahead (a_body refl p.second_body) come in
+        let two = ahead_link names present stands older (record e { members = members }) (record own { list = Goal p.second f.mark ∷ a.behind }) once (CutTo height) more one (a_cut refl) come_more in
+        let engine = engine_link names present stands older (record e { members = more }) (record own { list = CutTo height ∷ Goal p.second f.mark ∷ a.behind }) first (Goal p.first height) two (a_body refl p.first_body) in
+        let new : Plain S W M = record e { members = more; now = now.Running first } in
         goes names present stands older e new s r (record own { list = Goal p.first (length own.stack) ∷ CutTo (length own.stack) ∷ Goal p.second f.mark ∷ a.behind })
         (condition_step own p.first p.second f.mark a.behind (a.list ∙ ap (λ (b : Body). Goal b f.mark ∷ a.behind) p.is))
         (subst (λ (n : ℕ). IsEngine names present stands older new (record own { list = Goal p.first n ∷ CutTo n ∷ Goal p.second f.mark ∷ a.behind })) same engine) tt
@@ -85,32 +85,32 @@ module _ {S W M : Type 0} (names : S → List (List ℕ)) (present : S → Prese
         either_step own p.first p.second f.mark a.behind (a.list ∙ ap (λ (b : Body). Goal b f.mark ∷ a.behind) p.is)
 
     -- the second body's choice came
-    or_ahead : (d : ℕ) (frames : Vec Frame Global) (store : S) (choices : Vec (kept.Choice W M) Global) (h : IsAt e.nodes.items f k (node.Or d)) → frames.items ≡ e.frames.items ++ body_frame f (k - 1) ∷ []
+    or_ahead : (d : ℕ) (members : Vec Link Global) (store : S) (choices : Vec (kept.Choice W M) Global) (h : IsAt e.nodes.items f k (node.Or d)) → members.items ≡ e.members.items ++ body_link f (k - 1) ∷ []
         → present store ≡ present e.store → KeepsMarks (stands e.store) (stands store) → KeepsTexts (names e.store) (names store)
-        → GainsChoice (stands e.store) (stands store) older (present e.store) (length e.nodes.items) (length frames.items) (left.AsIs (Some (length e.frames.items))) e.choices.items choices.items
-        → IsAhead names present stands older (record e { frames = frames; store = store; choices = choices }) (record (pushed (Goal ((or_parts d h).3).second f.mark ∷ (at h.asks).behind) AsIs own) { list = (at h.asks).behind }) f.next
-    or_ahead d frames store choices h come same keeps texts gains =
+        → GainsChoice (stands e.store) (stands store) older (present e.store) (length e.nodes.items) (length members.items) (left.AsIs (Some (length e.members.items))) e.choices.items choices.items
+        → IsAhead names present stands older (record e { members = members; store = store; choices = choices }) (record (pushed (Goal ((or_parts d h).3).second f.mark ∷ (at h.asks).behind) AsIs own) { list = (at h.asks).behind }) f.next
+    or_ahead d members store choices h come same keeps texts gains =
         let a = at h.asks in
         let p = (or_parts d h).3 in
-        let one = ahead_frame names present stands older e (record own { list = a.behind }) (body_frame f (k - 1)) (Goal p.second f.mark) frames a.ahead (a_body refl p.second_body) come in
-        let has = members_left names present stands older (record e { frames = frames }) (record own { list = Goal p.second f.mark ∷ a.behind }) (Some (length e.frames.items)) AsIs one in
-        let two = ahead_choice names present stands older (record e { frames = frames }) (record own { list = Goal p.second f.mark ∷ a.behind }) (Some (length e.frames.items)) store choices
-        (left.AsIs (Some (length e.frames.items))) AsIs one has refl same keeps texts gains in
-        let chain = subst (λ (q : Present W). Chain q (record { nodes = e.nodes.items; frames = frames.items }) f.next a.behind) (sym same) (chain_pushed names present stands older e frames (body_frame f (k - 1)) f.next a.behind come a.ahead.chain) in
-        ahead_other names present stands older (record e { frames = frames; store = store; choices = choices }) (pushed (Goal p.second f.mark ∷ a.behind) AsIs (record own { list = Goal p.second f.mark ∷ a.behind })) (Some (length e.frames.items)) f.next a.behind two chain
+        let one = ahead_link names present stands older e (record own { list = a.behind }) (body_link f (k - 1)) (Goal p.second f.mark) members a.ahead (a_body refl p.second_body) come in
+        let has = members_left names present stands older (record e { members = members }) (record own { list = Goal p.second f.mark ∷ a.behind }) (Some (length e.members.items)) AsIs one in
+        let two = ahead_choice names present stands older (record e { members = members }) (record own { list = Goal p.second f.mark ∷ a.behind }) (Some (length e.members.items)) store choices
+        (left.AsIs (Some (length e.members.items))) AsIs one has refl same keeps texts gains in
+        let chain = subst (λ (q : Present W). Chain q (record { nodes = e.nodes.items; members = members.items }) f.next a.behind) (sym same) (chain_pushed names present stands older e members (body_link f (k - 1)) f.next a.behind come a.ahead.chain) in
+        ahead_other names present stands older (record e { members = members; store = store; choices = choices }) (pushed (Goal p.second f.mark ∷ a.behind) AsIs (record own { list = Goal p.second f.mark ∷ a.behind })) (Some (length e.members.items)) f.next a.behind two chain
 
-    pub takes_either : (d : ℕ) (frames : Vec Frame Global) (store : S) (choices : Vec (kept.Choice W M) Global) (h : IsAt e.nodes.items f k (node.Or d)) → frames.items ≡ e.frames.items ++ body_frame f (k - 1) ∷ []
+    pub takes_either : (d : ℕ) (members : Vec Link Global) (store : S) (choices : Vec (kept.Choice W M) Global) (h : IsAt e.nodes.items f k (node.Or d)) → members.items ≡ e.members.items ++ body_link f (k - 1) ∷ []
         → present store ≡ present e.store → KeepsMarks (stands e.store) (stands store) → KeepsTexts (names e.store) (names store)
-        → GainsChoice (stands e.store) (stands store) older (present e.store) (length e.nodes.items) (length frames.items) (left.AsIs (Some (length e.frames.items))) e.choices.items choices.items
-        → Moves names present stands older move.Goes s (record e { frames = frames; store = store; choices = choices; now = now.Running (body_frame f (k - d)) })
-    takes_either d frames store choices h come same keeps texts gains =
+        → GainsChoice (stands e.store) (stands store) older (present e.store) (length e.nodes.items) (length members.items) (left.AsIs (Some (length e.members.items))) e.choices.items choices.items
+        → Moves names present stands older move.Goes s (record e { members = members; store = store; choices = choices; now = now.Running (body_link f (k - d)) })
+    takes_either d members store choices h come same keeps texts gains =
         let a = at h.asks in
         let p = (or_parts d h).3 in
-        let ahead = or_ahead d frames store choices h come same keeps texts gains in
+        let ahead = or_ahead d members store choices h come same keeps texts gains in
         let body = subst (λ (q : Present W). IsBody q e.nodes.items (k - d) p.first) (sym same) p.first_body in
-        goes names present stands older e (record e { frames = frames; store = store; choices = choices; now = now.Running (body_frame f (k - d)) }) s r
+        goes names present stands older e (record e { members = members; store = store; choices = choices; now = now.Running (body_link f (k - d)) }) s r
         (record (pushed (Goal p.second f.mark ∷ a.behind) AsIs own) { list = Goal p.first f.mark ∷ a.behind }) (or_step d h)
-        (engine_frame names present stands older (record e { frames = frames; store = store; choices = choices }) (record (pushed (Goal p.second f.mark ∷ a.behind) AsIs own) { list = a.behind }) (body_frame f (k - d)) (Goal p.first f.mark) ahead
+        (engine_link names present stands older (record e { members = members; store = store; choices = choices }) (record (pushed (Goal p.second f.mark ∷ a.behind) AsIs own) { list = a.behind }) (body_link f (k - d)) (Goal p.first f.mark) ahead
         (a_body refl body)) tt
 
     -- the choice would be one too many
@@ -142,23 +142,23 @@ module _ {S W M : Type 0} (names : S → List (List ℕ)) (present : S → Prese
         comes_over names present stands older e s r (record (pushed (Goal p.third f.mark ∷ a.behind) AsIs own) { list = Goal p.first (suc (length own.stack)) ∷ CutTo (length own.stack) ∷ Goal p.second f.mark ∷ a.behind }) e.limit
         (choose_goes c d h) refl (omega (arith, many, full))
 
-    module _ (c d : ℕ) (frames : Vec Frame Global) (store : S) (choices : Vec (kept.Choice W M) Global) (h : IsAt e.nodes.items f k (node.Choose c d)) (come : frames.items ≡ e.frames.items ++ body_frame f (k - 1) ∷ [])
+    module _ (c d : ℕ) (members : Vec Link Global) (store : S) (choices : Vec (kept.Choice W M) Global) (h : IsAt e.nodes.items f k (node.Choose c d)) (come : members.items ≡ e.members.items ++ body_link f (k - 1) ∷ [])
         (same : present store ≡ present e.store) (keeps : KeepsMarks (stands e.store) (stands store)) (texts : KeepsTexts (names e.store) (names store))
-        (gains : GainsChoice (stands e.store) (stands store) older (present e.store) (length e.nodes.items) (length frames.items) (left.AsIs (Some (length e.frames.items))) e.choices.items choices.items) where
+        (gains : GainsChoice (stands e.store) (stands store) older (present e.store) (length e.nodes.items) (length members.items) (left.AsIs (Some (length e.members.items))) e.choices.items choices.items) where
       -- the alternative for where the condition fails
       abbrev pub other : List Alternative
       other = (pushed (Goal ((choose_parts c d h).5).third f.mark ∷ (at h.asks).behind) AsIs own).stack
 
-      pub choose_ahead : IsAhead names present stands older (record e { frames = frames; store = store; choices = choices }) (record own { list = (at h.asks).behind; stack = other }) f.next
+      pub choose_ahead : IsAhead names present stands older (record e { members = members; store = store; choices = choices }) (record own { list = (at h.asks).behind; stack = other }) f.next
       choose_ahead =
           let a = at h.asks in
           let p = (choose_parts c d h).5 in
-          let one = ahead_frame names present stands older e (record own { list = a.behind }) (body_frame f (k - 1)) (Goal p.third f.mark) frames a.ahead (a_body refl p.third_body) come in
-          let has = members_left names present stands older (record e { frames = frames }) (record own { list = Goal p.third f.mark ∷ a.behind }) (Some (length e.frames.items)) AsIs one in
-          let two = ahead_choice names present stands older (record e { frames = frames }) (record own { list = Goal p.third f.mark ∷ a.behind }) (Some (length e.frames.items)) store choices
-          (left.AsIs (Some (length e.frames.items))) AsIs one has refl same keeps texts gains in
-          let chain = subst (λ (q : Present W). Chain q (record { nodes = e.nodes.items; frames = frames.items }) f.next a.behind) (sym same) (chain_pushed names present stands older e frames (body_frame f (k - 1)) f.next a.behind come a.ahead.chain) in
-          ahead_other names present stands older (record e { frames = frames; store = store; choices = choices }) (pushed (Goal p.third f.mark ∷ a.behind) AsIs (record own { list = Goal p.third f.mark ∷ a.behind })) (Some (length e.frames.items)) f.next a.behind two chain
+          let one = ahead_link names present stands older e (record own { list = a.behind }) (body_link f (k - 1)) (Goal p.third f.mark) members a.ahead (a_body refl p.third_body) come in
+          let has = members_left names present stands older (record e { members = members }) (record own { list = Goal p.third f.mark ∷ a.behind }) (Some (length e.members.items)) AsIs one in
+          let two = ahead_choice names present stands older (record e { members = members }) (record own { list = Goal p.third f.mark ∷ a.behind }) (Some (length e.members.items)) store choices
+          (left.AsIs (Some (length e.members.items))) AsIs one has refl same keeps texts gains in
+          let chain = subst (λ (q : Present W). Chain q (record { nodes = e.nodes.items; members = members.items }) f.next a.behind) (sym same) (chain_pushed names present stands older e members (body_link f (k - 1)) f.next a.behind come a.ahead.chain) in
+          ahead_other names present stands older (record e { members = members; store = store; choices = choices }) (pushed (Goal p.third f.mark ∷ a.behind) AsIs (record own { list = Goal p.third f.mark ∷ a.behind })) (Some (length e.members.items)) f.next a.behind two chain
 
       -- memory was refused behind that
       pub choose_stops : (new : Plain S W M) → Keeps names present stands older new own.world other → Stopped names present stands older new s
@@ -167,35 +167,35 @@ module _ {S W M : Type 0} (names : S → List (List ℕ)) (present : S → Prese
           let p = (choose_parts c d h).5 in
           stops names present stands older new own (record own { list = Goal p.first (suc (length own.stack)) ∷ CutTo (length own.stack) ∷ Goal p.second f.mark ∷ a.behind; stack = other }) s other r.same (choose_goes c d h) refl refl keeps_other
 
-      module _ (more most : Vec Frame Global) (come_more : more.items ≡ frames.items ++ body_frame f (k - d) ∷ [])
-          (come_most : most.items ≡ more.items ++ record { todo = todo.CutBack; mark = length e.choices.items; next = Some (length frames.items) } ∷ []) where
-        pub one_more : IsAhead names present stands older (record e { frames = more; store = store; choices = choices }) (record own { list = Goal ((choose_parts c d h).5).second f.mark ∷ (at h.asks).behind; stack = other }) (Some (length frames.items))
+      module _ (more most : Vec Link Global) (come_more : more.items ≡ members.items ++ body_link f (k - d) ∷ [])
+          (come_most : most.items ≡ more.items ++ record { todo = todo.CutTo; mark = length e.choices.items; next = Some (length members.items) } ∷ []) where
+        pub one_more : IsAhead names present stands older (record e { members = more; store = store; choices = choices }) (record own { list = Goal ((choose_parts c d h).5).second f.mark ∷ (at h.asks).behind; stack = other }) (Some (length members.items))
         one_more =
             let a = at h.asks in
             let p = (choose_parts c d h).5 in
             let body = subst (λ (q : Present W). IsBody q e.nodes.items (k - d) p.second) (sym same) p.second_body in
-            ahead_frame names present stands older (record e { frames = frames; store = store; choices = choices }) (record own { list = a.behind; stack = other }) (body_frame f (k - d)) (Goal p.second f.mark) more choose_ahead (a_body refl body) come_more
+            ahead_link names present stands older (record e { members = members; store = store; choices = choices }) (record own { list = a.behind; stack = other }) (body_link f (k - d)) (Goal p.second f.mark) more choose_ahead (a_body refl body) come_more
 
-        pub two_more : IsAhead names present stands older (record e { frames = most; store = store; choices = choices })
+        pub two_more : IsAhead names present stands older (record e { members = most; store = store; choices = choices })
             (record own { list = CutTo (length e.choices.items) ∷ Goal ((choose_parts c d h).5).second f.mark ∷ (at h.asks).behind; stack = other }) (Some (length more.items))
         two_more =
             let a = at h.asks in
             let p = (choose_parts c d h).5 in
-            let once : Frame = record { todo = todo.CutBack; mark = length e.choices.items; next = Some (length frames.items) } in
-            ahead_frame names present stands older (record e { frames = more; store = store; choices = choices }) (record own { list = Goal p.second f.mark ∷ a.behind; stack = other }) once (CutTo (length e.choices.items)) most one_more (a_cut refl) come_most
+            let once : Link = record { todo = todo.CutTo; mark = length e.choices.items; next = Some (length members.items) } in
+            ahead_link names present stands older (record e { members = more; store = store; choices = choices }) (record own { list = Goal p.second f.mark ∷ a.behind; stack = other }) once (CutTo (length e.choices.items)) most one_more (a_cut refl) come_most
 
         pub chooses : Moves names present stands older move.Goes s
-            (record e { frames = most; store = store; choices = choices; now = now.Running (record { todo = todo.Body (k - c); mark = length e.choices.items + 1; next = Some (length more.items) }) })
+            (record e { members = most; store = store; choices = choices; now = now.Running (record { todo = todo.Body (k - c); mark = length e.choices.items + 1; next = Some (length more.items) }) })
         chooses =
             let a = at h.asks in
             let p = (choose_parts c d h).5 in
             let height = length e.choices.items in
             let alike : height ≡ length own.stack = choices_length r.engine.choices in
             let over : height + 1 ≡ suc (length own.stack) = omega (arith, alike) in
-            let first : Frame = record { todo = todo.Body (k - c); mark = height + 1; next = Some (length more.items) } in
-            let new : Plain S W M = record e { frames = most; store = store; choices = choices; now = now.Running first } in
+            let first : Link = record { todo = todo.Body (k - c); mark = height + 1; next = Some (length more.items) } in
+            let new : Plain S W M = record e { members = most; store = store; choices = choices; now = now.Running first } in
             let body = subst (λ (q : Present W). IsBody q e.nodes.items (k - c) p.first) (sym same) p.first_body in
-            let engine = engine_frame names present stands older (record e { frames = most; store = store; choices = choices }) (record own { list = CutTo height ∷ Goal p.second f.mark ∷ a.behind; stack = other }) first (Goal p.first (height + 1)) two_more
+            let engine = engine_link names present stands older (record e { members = most; store = store; choices = choices }) (record own { list = CutTo height ∷ Goal p.second f.mark ∷ a.behind; stack = other }) first (Goal p.first (height + 1)) two_more
             (a_body refl body) in
             goes names present stands older e new s r (record own { list = Goal p.first (suc (length own.stack)) ∷ CutTo (length own.stack) ∷ Goal p.second f.mark ∷ a.behind; stack = other }) (choose_goes c d h)
             (subst (λ (n : ℕ). IsEngine names present stands older new (record own { list = Goal p.first n ∷ CutTo (length own.stack) ∷ Goal p.second f.mark ∷ a.behind; stack = other })) over

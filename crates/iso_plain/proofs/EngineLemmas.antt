@@ -21,11 +21,11 @@ use Rattle.iso_plain_core.specs.declared.bodies.Node.{Node}
 use Rattle.iso_plain_core.specs.declared.clauses.Clause.{Clause}
 use Rattle.iso_plain_core.specs.declared.entries.Entered.{Entered}
 use Rattle.iso_plain_core.specs.declared.entries.Entered.TheVariants as entered
-use Rattle.iso_plain_core.specs.declared.parts.Attempt.{Attempt}
-use Rattle.iso_plain_core.specs.declared.parts.Frame.{Frame}
-use Rattle.iso_plain_core.specs.declared.parts.Todo.TheVariants as todo
-use Rattle.iso_plain_core.specs.declared.parts.Now.{Now}
-use Rattle.iso_plain_core.specs.declared.parts.Now.TheVariants as now
+use Rattle.iso_plain_core.specs.declared.choices.Attempt.{Attempt}
+use Rattle.iso_plain_core.specs.declared.members.Link.{Link}
+use Rattle.iso_plain_core.specs.declared.members.Todo.TheVariants as todo
+use Rattle.iso_plain_core.specs.declared.members.Now.{Now}
+use Rattle.iso_plain_core.specs.declared.members.Now.TheVariants as now
 use Rattle.iso_plain.specs.declared.plain.Plain.{Plain}
 use Rattle.iso_plain_core.specs.Standing.{Links, First, IsBody, a_body, GoesOn, DoesNext}
 use Rattle.iso_plain_core.specs.Kept.{IsClause}
@@ -103,7 +103,7 @@ module _ {S W M : Type 0} (names : S → List (List ℕ)) (present : S → Prese
     head_is = term_is (names e.store) k.head c.head t.is.head
 
     abbrev links : Links W
-    links = record { nodes = nodes.items; frames = e.frames.items }
+    links = record { nodes = nodes.items; members = e.members.items }
 
     -- the parts that don't depend on what comes next
     with_next : (doing : Now) (v : State) → v.world ≡ s.world → v.steps ≡ s.steps → v.stack ≡ s.stack → v.query ≡ s.query
@@ -115,7 +115,7 @@ module _ {S W M : Type 0} (names : S → List (List ℕ)) (present : S → Prese
           world = rw world (world_on t.texts w);
           steps = steps ∙ h.steps;
           base = base_kept (stands e.store) (stands store) e.base t.keeps h.base;
-          choices = rw (stack, query) (choices_on names present stands older e store nodes e.frames (variables s.query) s.stack t.keeps t.texts t.adds (adds_none e.frames.items) h.choices);
+          choices = rw (stack, query) (choices_on names present stands older e store nodes e.members (variables s.query) s.stack t.keeps t.texts t.adds (adds_none e.members.items) h.choices);
           room = rw stack h.room;
           next = next;
         }
@@ -141,7 +141,7 @@ module _ {S W M : Type 0} (names : S → List (List ℕ)) (present : S → Prese
         here
 
     links_add : AddsLinks (links_of e) links
-    links_add = record { nodes = t.adds; frames = adds_none e.frames.items }
+    links_add = record { nodes = t.adds; members = adds_none e.members.items }
 
     -- the head was unified with the call
     module _ (m : Meets p q (p.term attempt.goal) (term_in (names e.store) k.head) k.variables) where
@@ -176,12 +176,12 @@ module _ {S W M : Type 0} (names : S → List (List ℕ)) (present : S → Prese
         words = variables_more m.values.words (t.calls).at.on.words;
       }
 
-      pub fact_engine : k.parts.items ≡ [] → StandsAs names present stands older (onward e store nodes words (now_behind e.frames.items attempt.rest)) (tried_clause call c mark behind s)
+      pub fact_engine : k.parts.items ≡ [] → StandsAs names present stands older (onward e store nodes words (now_behind e.members.items attempt.rest)) (tried_clause call c mark behind s)
       fact_engine none =
           let fact = before_fact new_body mark behind (fact_true (IsPatternOf (names e.store)) s.next k.parts.items c.body t.is.parts none) in
           let own : State = record there { subst = q.substitution } in
           let raised = option_map (λ b. term_of b.term) e.raised in
-          let engine = with_next (now_behind e.frames.items attempt.rest) own refl refl refl refl
+          let engine = with_next (now_behind e.members.items attempt.rest) own refl refl refl refl
           (next_behind q links e.query.items raised own attempt.rest behind fact (chain_more links links_add m.values.words (t.calls).at.on.chain) (goes_on own.list)) in
           let h = behind_values in
           let under : SameUnder q.substitution there.subst there = record {
@@ -190,7 +190,7 @@ module _ {S W M : Type 0} (names : S → List (List ℕ)) (present : S → Prese
             beyond = h.beyond;
             twice = h.twice;
           } in
-          subst (λ (x : State). StandsAs names present stands older (onward e store nodes words (now_behind e.frames.items attempt.rest)) x) (sym found)
+          subst (λ (x : State). StandsAs names present stands older (onward e store nodes words (now_behind e.members.items attempt.rest)) x) (sym found)
           (record { own = own; engine = engine; same = same_under q.substitution there under })
 
     pub body_engine : (place : ℕ) → Brings (names e.store) p q e.nodes.items nodes.items (p.term attempt.goal) k place
@@ -199,7 +199,7 @@ module _ {S W M : Type 0} (names : S → List (List ℕ)) (present : S → Prese
         let m = h.meets in
         let v = there m in
         let b = map_body h.terms c.body in
-        let f : Frame = record { todo = todo.Body place; mark = mark; next = attempt.rest } in
+        let f : Link = record { todo = todo.Body place; mark = mark; next = attempt.rest } in
         let body = body_untrue (IsPatternOf (names e.store)) s.next k.parts.items c.body t.is.parts h.some in
         let at : IsBody q nodes.items place b = placed_body (names e.store) q h.terms c.variables e.nodes.items nodes.items k.parts.items c.body place body.1 t.is.goal_templates h.copies h.last in
         let own : State = record v { list = Goal b mark ∷ behind; subst = q.substitution } in
@@ -213,7 +213,7 @@ module _ {S W M : Type 0} (names : S → List (List ℕ)) (present : S → Prese
 
     -- what an entry comes to
     pub tried_engine : (entered : Entered) → Enters (names e.store) p q e.nodes.items nodes.items (p.term attempt.goal) k entered
-        → StandsAs names present stands older (onward e store nodes words (now_entered e.frames.items entered mark attempt.rest)) (tried_clause call c mark behind s)
+        → StandsAs names present stands older (onward e store nodes words (now_entered e.members.items entered mark attempt.rest)) (tried_clause call c mark behind s)
     tried_engine entered.Missed never = missed_engine never
     tried_engine entered.Fact h = fact_engine h.0 h.1
     tried_engine (entered.Body place) h = body_engine place h

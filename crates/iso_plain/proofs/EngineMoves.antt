@@ -14,8 +14,8 @@ use Rattle.iso_model.specs.declared.pauses.Pause.TheVariants as pause
 use Rattle.iso_store_core.specs.Presents.{Present}
 use Rattle.iso_plain.specs.Worlds.{IsWorld}
 use Rattle.iso_plain.specs.EngineStates.{IsEngine, Represents, Stopped, StandsBy, StandsFor, phase_of}
-use Rattle.iso_plain_core.specs.declared.parts.Now.{Now}
-use Rattle.iso_plain_core.specs.declared.parts.Now.TheVariants as now
+use Rattle.iso_plain_core.specs.declared.members.Now.{Now}
+use Rattle.iso_plain_core.specs.declared.members.Now.TheVariants as now
 use Rattle.iso_plain.specs.declared.plain.Plain.{Plain}
 use Rattle.iso_model.specs.Search.RunLaws.SameRuns.{same_world}
 use Rattle.iso_plain.proofs.StoppedLemmas.{keeps_all}
@@ -27,7 +27,7 @@ module _ {S W M : Type 0} (names : S → List (List ℕ)) (present : S → Prese
   awake_stands now.Idle e s awake r = r
   awake_stands now.Failing e s awake r = r
   awake_stands now.Answering e s awake r = r
-  awake_stands (now.Running frame) e s awake r = r
+  awake_stands (now.Running link) e s awake r = r
   awake_stands (now.Raising place) e s awake r = r
   awake_stands (now.Spent limit) e s awake r = absurd awake
 
@@ -35,7 +35,7 @@ module _ {S W M : Type 0} (names : S → List (List ℕ)) (present : S → Prese
   ready_stands now.Idle e s ready r = r
   ready_stands now.Failing e s ready r = r
   ready_stands now.Answering e s ready r = r
-  ready_stands (now.Running frame) e s ready r = r
+  ready_stands (now.Running link) e s ready r = r
   ready_stands (now.Raising place) e s ready r = r
   ready_stands (now.Spent limit) e s ready r = absurd (cc)
 
@@ -47,7 +47,7 @@ module _ {S W M : Type 0} (names : S → List (List ℕ)) (present : S → Prese
   stands_where P now.Idle e s has r = has s.world (represents_world e s r)
   stands_where P now.Failing e s has r = has s.world (represents_world e s r)
   stands_where P now.Answering e s has r = has s.world (represents_world e s r)
-  stands_where P (now.Running frame) e s has r = has s.world (represents_world e s r)
+  stands_where P (now.Running link) e s has r = has s.world (represents_world e s r)
   stands_where P (now.Raising place) e s has r = has s.world (represents_world e s r)
   stands_where P (now.Spent limit) e s has r = record { at = r.at; quiet = r.quiet; holds = has r.at.world r.keeps.0 }
 
@@ -55,7 +55,7 @@ module _ {S W M : Type 0} (names : S → List (List ℕ)) (present : S → Prese
   represents_stands now.Idle e s r = r
   represents_stands now.Failing e s r = r
   represents_stands now.Answering e s r = r
-  represents_stands (now.Running frame) e s r = r
+  represents_stands (now.Running link) e s r = r
   represents_stands (now.Raising place) e s r = r
   represents_stands (now.Spent limit) e s r = stops_here names present stands older e r.own s r.same (keeps_all names present stands older e r.own r.engine)
 
@@ -64,7 +64,7 @@ module _ {S W M : Type 0} (names : S → List (List ℕ)) (present : S → Prese
   spent_stands limit now.Idle e s h stopped = absurd (cc h)
   spent_stands limit now.Failing e s h stopped = absurd (cc h)
   spent_stands limit now.Answering e s h stopped = absurd (cc h)
-  spent_stands limit (now.Running frame) e s h stopped = absurd (cc h)
+  spent_stands limit (now.Running link) e s h stopped = absurd (cc h)
   spent_stands limit (now.Raising place) e s h stopped = absurd (cc h)
   spent_stands limit (now.Spent k) e s h stopped = stopped
 
@@ -72,7 +72,7 @@ module _ {S W M : Type 0} (names : S → List (List ℕ)) (present : S → Prese
   spent_behind limit now.Idle e s t h q stopped = absurd (cc h)
   spent_behind limit now.Failing e s t h q stopped = absurd (cc h)
   spent_behind limit now.Answering e s t h q stopped = absurd (cc h)
-  spent_behind limit (now.Running frame) e s t h q stopped = absurd (cc h)
+  spent_behind limit (now.Running link) e s t h q stopped = absurd (cc h)
   spent_behind limit (now.Raising place) e s t h q stopped = absurd (cc h)
   spent_behind limit (now.Spent k) e s t h q stopped = stopped_behind names present stands older e s t q stopped
 

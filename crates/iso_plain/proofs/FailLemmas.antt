@@ -11,10 +11,10 @@ use Rattle.iso_model.proofs.Search.CallLemmas.{clause_keeps}
 use Rattle.iso_store_core.specs.Presents.{Present}
 use Rattle.iso_plain_core.specs.declared.entries.Entered.{Entered}
 use Rattle.iso_plain_core.specs.declared.entries.Entered.TheVariants as entered
-use Rattle.iso_plain_core.specs.declared.parts.Attempt.{Attempt}
-use Rattle.iso_plain_core.specs.declared.parts.Frame.{Frame}
-use Rattle.iso_plain_core.specs.declared.parts.Now.{Now}
-use Rattle.iso_plain_core.specs.declared.parts.Now.TheVariants as now
+use Rattle.iso_plain_core.specs.declared.choices.Attempt.{Attempt}
+use Rattle.iso_plain_core.specs.declared.members.Link.{Link}
+use Rattle.iso_plain_core.specs.declared.members.Now.{Now}
+use Rattle.iso_plain_core.specs.declared.members.Now.TheVariants as now
 use Rattle.iso_plain.specs.declared.plain.Move.TheVariants as move
 use Rattle.iso_plain.specs.declared.plain.Plain.{Plain}
 use Rattle.iso_plain_core.specs.Standing.{DoesNext}
@@ -25,19 +25,19 @@ use Rattle.iso_plain_core.proofs.StandingLemmas.{no_choices}
 use Rattle.iso_plain.proofs.SearchSteps.{retry_step, resume_step, pass_step, again_step, spent_step, last_step, others_keep}
 use Rattle.iso_plain.proofs.SearchMoves.{goes, goes_alike, ends, stops}
 
-awake_at : (f : Option Frame) → IsAwake (phase_of (now_at f))
+awake_at : (f : Option Link) → IsAwake (phase_of (now_at f))
 awake_at None = tt
 awake_at (Some f) = tt
 
-pub awake_behind : (frames : List Frame) (place : Option ℕ) → IsAwake (phase_of (now_behind frames place))
-awake_behind frames None = tt
-awake_behind frames (Some i) = awake_at (slice_get frames i)
+pub awake_behind : (members : List Link) (place : Option ℕ) → IsAwake (phase_of (now_behind members place))
+awake_behind members None = tt
+awake_behind members (Some i) = awake_at (slice_get members i)
 
 -- behind a clause that was tried the engine is awake
-pub awake_entered : (frames : List Frame) (entered : Entered) (mark : ℕ) (rest : Option ℕ) → IsAwake (phase_of (now_entered frames entered mark rest))
-awake_entered frames entered.Missed mark rest = tt
-awake_entered frames entered.Fact mark rest = awake_behind frames rest
-awake_entered frames (entered.Body place) mark rest = tt
+pub awake_entered : (members : List Link) (entered : Entered) (mark : ℕ) (rest : Option ℕ) → IsAwake (phase_of (now_entered members entered mark rest))
+awake_entered members entered.Missed mark rest = tt
+awake_entered members entered.Fact mark rest = awake_behind members rest
+awake_entered members (entered.Body place) mark rest = tt
 
 no_items : {X : Type 0} (xs : List X) → length xs ≡ 0 → xs ≡ []
 no_items [] h = refl

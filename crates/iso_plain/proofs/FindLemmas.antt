@@ -6,9 +6,9 @@ use Rattle.iso_model.specs.Terms.Trees.{Tree}
 use Rattle.iso_model.specs.Search.Walker.{State, Member, Leave, Left, caught_at, caught, thrown}
 use Rattle.iso_store_core.specs.Presents.{Present}
 use Rattle.iso_plain_core.specs.declared.bodies.Node.{Node}
-use Rattle.iso_plain_core.specs.declared.parts.Frame.{Frame}
-use Rattle.iso_plain_core.specs.declared.parts.Todo.TheVariants as todo
-use Rattle.iso_plain_core.specs.declared.parts.Choice as kept
+use Rattle.iso_plain_core.specs.declared.members.Link.{Link}
+use Rattle.iso_plain_core.specs.declared.members.Todo.TheVariants as todo
+use Rattle.iso_plain_core.specs.declared.choices.Choice as kept
 use Rattle.iso_plain_core.specs.Standing.{Links, IsBefore, IsMember, a_body, a_cut, a_failure, an_end, a_template, Chain, leads, ends, StandsForChoices}
 use Rattle.iso_plain.specs.Catches.{GoesTo, IsEndOfCatch}
 use Rattle.std.proofs.lemmas.Option.{slice_get_within}
@@ -22,7 +22,7 @@ nothing_there (x ∷ xs) (suc i) h = let less = nothing_there xs i h in omega (a
 
 module _ {W M : Type 0} {stands : M → Present W → Type 0} {older : M → M → Type 0} {base : M} {leaves : Leaving} {query : List W} {named : List ℕ} where
   -- an end whose choice catches nothing, or is none
-  end_passes : {links : Links W} {cs : List (kept.Choice W M)} (f : Frame) (ball : Tree) (ms : List Member) (s : State) → StandsForChoices stands older base leaves query named links cs s.stack → f.todo ≡ todo.Leave
+  end_passes : {links : Links W} {cs : List (kept.Choice W M)} (f : Link) (ball : Tree) (ms : List Member) (s : State) → StandsForChoices stands older base leaves query named links cs s.stack → f.todo ≡ todo.Leave
       → (IsEndOfCatch cs f → ⊥) → thrown ball (Leave f.mark ∷ ms) s ≡ thrown ball ms s
   end_passes {cs = cs} f ball ms s are asks none = by_choice (slice_get cs f.mark) refl where
     by_choice : (o : Option (kept.Choice W M)) → slice_get cs f.mark ≡ o → caught f.mark s.stack ball s (thrown ball ms s) ≡ thrown ball ms s
@@ -35,7 +35,7 @@ module _ {W M : Type 0} {stands : M → Present W → Type 0} {older : M → M �
         h.caught_is ball s (thrown ball ms s) ∙ other_passes f.mark c h (λ entry. none (record { asks = asks; choice = c; stands = there; entry = entry })) ball s (thrown ball ms s)
 
   -- a member that is no such end
-  pub member_passes : {p : Present W} {nodes : List (Node W)} {links : Links W} {cs : List (kept.Choice W M)} {m : Member} (f : Frame) (ball : Tree) (ms : List Member) (s : State)
+  pub member_passes : {p : Present W} {nodes : List (Node W)} {links : Links W} {cs : List (kept.Choice W M)} {m : Member} (f : Link) (ball : Tree) (ms : List Member) (s : State)
       → StandsForChoices stands older base leaves query named links cs s.stack → IsMember p nodes f m → (IsEndOfCatch cs f → ⊥) → thrown ball (m ∷ ms) s ≡ thrown ball ms s
   member_passes f ball ms s are (a_body is body) none = refl
   member_passes f ball ms s are (a_cut is) none = refl
@@ -44,10 +44,10 @@ module _ {W M : Type 0} {stands : M → Present W → Type 0} {older : M → M �
   member_passes f ball ms s are (a_template is body) none = refl
 
   -- one that is
-  pub member_catches : {p : Present W} {nodes : List (Node W)} {links : Links W} {cs : List (kept.Choice W M)} {m : Member} (f : Frame) (ball : Tree) (ms : List Member) (s : State)
+  pub member_catches : {p : Present W} {nodes : List (Node W)} {links : Links W} {cs : List (kept.Choice W M)} {m : Member} (f : Link) (ball : Tree) (ms : List Member) (s : State)
       → StandsForChoices stands older base leaves query named links cs s.stack → IsMember p nodes f m → IsEndOfCatch cs f → GoesTo ball (m ∷ ms) s f.mark
   member_catches f ball ms s are (a_body {i = i} is body) end = absurd (let other : todo.Body i ≡ todo.Leave = sym is ∙ end.asks in cc)
-  member_catches f ball ms s are (a_cut is) end = absurd (let other : todo.CutBack ≡ todo.Leave = sym is ∙ end.asks in cc)
+  member_catches f ball ms s are (a_cut is) end = absurd (let other : todo.CutTo ≡ todo.Leave = sym is ∙ end.asks in cc)
   member_catches f ball ms s are (a_failure is) end = absurd (let other : todo.Fail ≡ todo.Leave = sym is ∙ end.asks in cc)
   member_catches f ball ms s are (a_template {i = i} is body) end = absurd (let other : todo.Gather i ≡ todo.Leave = sym is ∙ end.asks in cc)
   member_catches f ball ms s are (an_end is) end =
@@ -74,8 +74,8 @@ abbrev pub places_left : Option ℕ → ℕ
 places_left None = 0
 places_left (Some i) = suc i
 
--- The frame at this place is the first of these members.
-pub record StepsOn {W : Type 0} (p : Present W) (links : Links W) (place : ℕ) (f : Frame) (list : List Member) : Type 0 where
+-- The link at this place is the first of these members.
+pub record StepsOn {W : Type 0} (p : Present W) (links : Links W) (place : ℕ) (f : Link) (list : List Member) : Type 0 where
   pub member : Member
   pub behind : List Member
   pub is : list ≡ member ∷ behind
@@ -87,12 +87,12 @@ before_less : (next : Option ℕ) (i : ℕ) → IsBefore next i → places_left 
 before_less None i h = omega arith
 before_less (Some j) i h = omega (arith, h)
 
-pub steps_on : {W : Type 0} {p : Present W} {links : Links W} {place : ℕ} {list : List Member} (f : Frame) → Chain p links (Some place) list → slice_get links.frames place ≡ Some f → StepsOn p links place f list
+pub steps_on : {W : Type 0} {p : Present W} {links : Links W} {place : ℕ} {list : List Member} (f : Link) → Chain p links (Some place) list → slice_get links.members place ≡ Some f → StepsOn p links place f list
 steps_on {W} {p} {links} {place} f (leads {f = d} {m = m} {ms = ms} at before member chain) there =
     let same : d ≡ f = some_same (sym at.is ∙ there) in
-    subst (λ (x : Frame). StepsOn p links place x (m ∷ ms)) same (record { member = m; behind = ms; is = refl; stands = member; chain = chain; less = before_less d.next place before })
+    subst (λ (x : Link). StepsOn p links place x (m ∷ ms)) same (record { member = m; behind = ms; is = refl; stands = member; chain = chain; less = before_less d.next place before })
 
-pub chain_within : {W : Type 0} {p : Present W} {links : Links W} {place : ℕ} {list : List Member} → Chain p links (Some place) list → place < length links.frames
+pub chain_within : {W : Type 0} {p : Present W} {links : Links W} {place : ℕ} {list : List Member} → Chain p links (Some place) list → place < length links.members
 chain_within {place = place} (leads at before member chain) = slice_get_within _ place _ at.is
 
 pub chain_ends : {W : Type 0} {p : Present W} {links : Links W} {list : List Member} → Chain p links None list → list ≡ []

@@ -24,23 +24,23 @@ use Rattle.iso_plain_core.specs.Gathering.{SameCopies, ChangesAt}
 use Rattle.iso_plain_core.specs.declared.solutions.Gathered.{Gathered}
 use Rattle.iso_plain_core.specs.declared.bodies.Node.{Node}
 use Rattle.iso_plain_core.specs.declared.bodies.Node.TheVariants as node
-use Rattle.iso_plain_core.specs.declared.parts.Todo.{Todo}
-use Rattle.iso_plain_core.specs.declared.parts.Todo.TheVariants as todo
-use Rattle.iso_plain_core.specs.declared.parts.Frame.{Frame}
-use Rattle.iso_plain_core.specs.declared.parts.Left.TheVariants as left
-use Rattle.iso_plain_core.specs.declared.parts.Choice as kept
-use Rattle.iso_plain_core.specs.declared.parts.Now.{Now}
-use Rattle.iso_plain_core.specs.declared.parts.Now.TheVariants as now
+use Rattle.iso_plain_core.specs.declared.members.Todo.{Todo}
+use Rattle.iso_plain_core.specs.declared.members.Todo.TheVariants as todo
+use Rattle.iso_plain_core.specs.declared.members.Link.{Link}
+use Rattle.iso_plain_core.specs.declared.choices.Left.TheVariants as left
+use Rattle.iso_plain_core.specs.declared.choices.Choice as kept
+use Rattle.iso_plain_core.specs.declared.members.Now.{Now}
+use Rattle.iso_plain_core.specs.declared.members.Now.TheVariants as now
 use Rattle.iso_plain.specs.declared.plain.Move.TheVariants as move
 use Rattle.iso_plain.specs.declared.plain.Plain.{Plain}
 use Rattle.iso_plain_core.specs.Entering.{Adds}
 use Rattle.iso_plain_core.specs.Nodes.{runs}
 use Rattle.iso_plain_core.specs.Next.{now_behind}
-use Rattle.iso_plain_core.specs.Costs.{body_cost, most, whole_cost, todo_cost, frame_costs, place_cost, choice_cost, choices_cost, now_cost}
+use Rattle.iso_plain_core.specs.Costs.{body_cost, most, whole_cost, todo_cost, member_costs, place_cost, choice_cost, choices_cost, now_cost}
 use Rattle.iso_plain_core.specs.Standing.{IsBody, IsGoalWord, a_body, a_template, Chain, HasLeft, HasGathered, StandsForChoices, GainsChoice, GoesOn, entered_at, most_numbers, numbers_a_step}
 use Rattle.iso_plain.specs.EngineStates.{IsEngine, IsAhead, Represents, WentBack, Keeps, Stopped, Moves, cost, weight, phase_of, links_of, went_back}
 use Rattle.iso_plain.specs.Gathers.{EntersFindall, finding, found, result_of}
-use Rattle.iso_plain.proofs.AheadLemmas.{AtFrame, at_frame, template_at, engine_frame, ahead_frame, ahead_left}
+use Rattle.iso_plain.proofs.AheadLemmas.{AtLink, at_link, template_at, engine_link, ahead_link, ahead_left}
 use Rattle.iso_plain.proofs.ControlCosts.{new_place, old_place, gained_cost}
 use Rattle.iso_plain_core.proofs.CostLemmas.{cost_more, cost_parts, left_step, whole_paid, zero_cost, some_most, below_words, choices_on_more, choices_last}
 use Rattle.iso_plain_core.proofs.EnteringLemmas.{adds_none, words_same}
@@ -85,9 +85,9 @@ run_there p (runs {g = w} at stands) = (w, at.is, stands)
 module _ {S W M : Type 0} (names : S → List (List ℕ)) (present : S → Present W) (stands : S → M → Present W → Type 0) (older : M → M → Type 0) where
   -- ---- a solution
 
-  module _ (e : Plain S W M) (s : State) (f : Frame) (k : ℕ) (doing : e.now ≡ now.Running f) (asks : f.todo ≡ todo.Gather k) (r : Represents names present stands older e s) where
-    abbrev pub at : AtFrame names present stands older e r.own f
-    at = at_frame names present stands older e r.own f doing r.engine
+  module _ (e : Plain S W M) (s : State) (f : Link) (k : ℕ) (doing : e.now ≡ now.Running f) (asks : f.todo ≡ todo.Gather k) (r : Represents names present stands older e s) where
+    abbrev pub at : AtLink names present stands older e r.own f
+    at = at_link names present stands older e r.own f doing r.engine
 
     abbrev pub template : (t : Tree) × (at.member ≡ Gather f.mark t) × IsBody (present e.store) e.nodes.items k (Run t)
     template = template_at (present e.store) e.nodes.items f at.member k asks at.stands_for
@@ -133,10 +133,10 @@ module _ {S W M : Type 0} (names : S → List (List ℕ)) (present : S → Prese
 
     pub gather_falls : (choices : Vec (kept.Choice W M) Global) (R : Gathered → Gathered → Type 0) → ChangesAt R f.mark e.choices.items choices.items → weight (record e { choices = choices; now = now.Failing }) < weight e
     gather_falls choices R change =
-        let many = choices_cost (frame_costs e.frames.items) e.choices.items in
-        let old : cost e ≡ many + suc (place_cost e.frames.items f.next) =
-        ap (λ (n : Now). many + now_cost (frame_costs e.frames.items) n) doing ∙ ap (λ (t : Todo). many + todo_cost t (place_cost e.frames.items f.next)) asks in
-        let new = changed_costs R (frame_costs e.frames.items) change in
+        let many = choices_cost (member_costs e.members.items) e.choices.items in
+        let old : cost e ≡ many + suc (place_cost e.members.items f.next) =
+        ap (λ (n : Now). many + now_cost (member_costs e.members.items) n) doing ∙ ap (λ (t : Todo). many + todo_cost t (place_cost e.members.items f.next)) asks in
+        let new = changed_costs R (member_costs e.members.items) change in
         falls_less e (record e { choices = choices; now = now.Failing }) refl (omega (arith, old, new))
 
   -- ---- the goal is run
@@ -160,7 +160,7 @@ module _ {S W M : Type 0} (names : S → List (List ℕ)) (present : S → Prese
 
     module _ (w : W) (g : Gathered) (holds : (present e.store).holds w ≡ true) (value : meaning (present e.store) w ≡ result) (none : copies_of g ≡ []) (count : g.variables ≡ 0)
         (store : S) (choices : Vec (kept.Choice W M) Global) (same : present store ≡ present e.store) (keeps : KeepsMarks (stands e.store) (stands store)) (texts : KeepsTexts (names e.store) (names store))
-        (gains : GainsChoice (stands e.store) (stands store) older (present e.store) (length e.nodes.items) (length e.frames.items) (left.Gathering w next g) e.choices.items choices.items) where
+        (gains : GainsChoice (stands e.store) (stands store) older (present e.store) (length e.nodes.items) (length e.members.items) (left.Gathering w next g) e.choices.items choices.items) where
       pub gatherer_ahead : IsAhead names present stands older (record e { store = store; choices = choices }) (pushed s.list (Gathering result [] 0) s) next
       gatherer_ahead = ahead_left names present stands older e s next store choices (left.Gathering w next g) (Gathering result [] 0) h.ahead (nothing_gathered w g holds value none count) h.space same keeps texts gains
 
@@ -168,56 +168,56 @@ module _ {S W M : Type 0} (names : S → List (List ℕ)) (present : S → Prese
       pub node_ahead : (nodes : Vec (Node W) Global) → Adds e.nodes.items nodes.items → IsAhead names present stands older (record e { store = store; choices = choices; nodes = nodes }) (pushed s.list (Gathering result [] 0) s) next
       node_ahead nodes adds =
           let a = gatherer_ahead in
-          let more : AddsLinks (links_of e) (record { nodes = nodes.items; frames = e.frames.items }) = record { nodes = adds; frames = adds_none e.frames.items } in
+          let more : AddsLinks (links_of e) (record { nodes = nodes.items; members = e.members.items }) = record { nodes = adds; members = adds_none e.members.items } in
           record {
             world = a.world;
             steps = a.steps;
             base = a.base;
-            choices = choices_more (record { nodes = nodes.items; frames = e.frames.items }) more a.choices;
+            choices = choices_more (record { nodes = nodes.items; members = e.members.items }) more a.choices;
             room = a.room;
             goes = a.goes;
-            chain = chain_more (record { nodes = nodes.items; frames = e.frames.items }) more (words_same (present store)) a.chain;
+            chain = chain_more (record { nodes = nodes.items; members = e.members.items }) more (words_same (present store)) a.chain;
           }
 
-      pub finds_engine : (k : ℕ) (b : Body) (t : W) (nodes : Vec (Node W) Global) (frames : Vec Frame Global) → IsBody (present e.store) e.nodes.items k b → (present e.store).holds t ≡ true → nodes.items ≡ e.nodes.items ++ node.Run t ∷ []
-          → frames.items ≡ e.frames.items ++ record { todo = todo.Gather (length e.nodes.items); mark = length e.choices.items; next = next } ∷ []
-          → IsEngine names present stands older (record e { store = store; choices = choices; nodes = nodes; frames = frames; now = now.Running (record { todo = todo.Body k; mark = length e.choices.items + 1; next = Some (length e.frames.items) }) })
+      pub finds_engine : (k : ℕ) (b : Body) (t : W) (nodes : Vec (Node W) Global) (members : Vec Link Global) → IsBody (present e.store) e.nodes.items k b → (present e.store).holds t ≡ true → nodes.items ≡ e.nodes.items ++ node.Run t ∷ []
+          → members.items ≡ e.members.items ++ record { todo = todo.Gather (length e.nodes.items); mark = length e.choices.items; next = next } ∷ []
+          → IsEngine names present stands older (record e { store = store; choices = choices; nodes = nodes; members = members; now = now.Running (record { todo = todo.Body k; mark = length e.choices.items + 1; next = Some (length e.members.items) }) })
           (finding b ((present e.store).term t) result s)
-      finds_engine k b t nodes frames body there come come_frame =
+      finds_engine k b t nodes members body there come come_link =
           let height = length e.choices.items in
           let alike : height ≡ length s.stack = choices_length h.ahead.choices in
           let over : height + 1 ≡ suc (length s.stack) = omega (arith, alike) in
           let tree = (present e.store).term t in
-          let end : Frame = record { todo = todo.Gather (length e.nodes.items); mark = height; next = next } in
-          let first : Frame = record { todo = todo.Body k; mark = height + 1; next = Some (length e.frames.items) } in
+          let end : Link = record { todo = todo.Gather (length e.nodes.items); mark = height; next = next } in
+          let first : Link = record { todo = todo.Body k; mark = height + 1; next = Some (length e.members.items) } in
           let mid : Plain S W M = record e { store = store; choices = choices; nodes = nodes } in
-          let new : Plain S W M = record mid { frames = frames; now = now.Running first } in
+          let new : Plain S W M = record mid { members = members; now = now.Running first } in
           let u : State = pushed s.list (Gathering result [] 0) s in
           let word : IsBody (present e.store) nodes.items (length e.nodes.items) (Run tree) = runs (rw come (at_last e.nodes.items (node.Run t))) (there, refl) in
           let word_there = subst (λ (q : Present W). IsBody q nodes.items (length e.nodes.items) (Run tree)) (sym same) word in
-          let one = ahead_frame names present stands older mid u end (Gather height tree) frames (node_ahead nodes (node.Run t ∷ [], come)) (a_template refl word_there) come_frame in
+          let one = ahead_link names present stands older mid u end (Gather height tree) members (node_ahead nodes (node.Run t ∷ [], come)) (a_template refl word_there) come_link in
           let body_there = subst (λ (q : Present W). IsBody q nodes.items k b) (sym same) (subst (λ (ns : List (Node W)). IsBody (present e.store) ns k b) (sym come) (body_more (node.Run t ∷ []) (words_same (present e.store)) body)) in
-          let engine = engine_frame names present stands older (record mid { frames = frames }) (record u { list = Gather height tree ∷ s.list }) first (Goal b (height + 1)) one (a_body refl body_there) in
+          let engine = engine_link names present stands older (record mid { members = members }) (record u { list = Gather height tree ∷ s.list }) first (Goal b (height + 1)) one (a_body refl body_there) in
           subst (λ (n : ℕ). IsEngine names present stands older new (record u { list = Goal b n ∷ Gather (length s.stack) tree ∷ s.list })) over
           (subst (λ (n : ℕ). IsEngine names present stands older new (record u { list = Goal b (height + 1) ∷ Gather n tree ∷ s.list })) alike engine)
 
-    pub finds_falls : {old new : M → Present W → Type 0} {p : Present W} {stood framed : ℕ} (store : S) (choices : Vec (kept.Choice W M) Global) (wd : W) (g : Gathered) (k mark place : ℕ) (b : Body) (nodes : Vec (Node W) Global) (frames : Vec Frame Global) (w : ℕ)
-        → IsBody (present e.store) e.nodes.items k b → GainsChoice old new older p stood framed (left.Gathering wd next g) e.choices.items choices.items
-        → frames.items ≡ e.frames.items ++ record { todo = todo.Gather place; mark = mark; next = next } ∷ []
-        → choices_cost (frame_costs e.frames.items) e.choices.items + place_cost e.frames.items next + 1 ≤ w
-        → weight (record e { store = store; choices = choices; nodes = nodes; frames = frames; now = now.Running (record { todo = todo.Body k; mark = mark + 1; next = Some (length e.frames.items) }) }) < whole_cost (suc e.steps) w
-    finds_falls store choices wd g k mark place b nodes frames w body gains come less =
-        let end : Frame = record { todo = todo.Gather place; mark = mark; next = next } in
+    pub finds_falls : {old new : M → Present W → Type 0} {p : Present W} {stood linked : ℕ} (store : S) (choices : Vec (kept.Choice W M) Global) (wd : W) (g : Gathered) (k mark place : ℕ) (b : Body) (nodes : Vec (Node W) Global) (members : Vec Link Global) (w : ℕ)
+        → IsBody (present e.store) e.nodes.items k b → GainsChoice old new older p stood linked (left.Gathering wd next g) e.choices.items choices.items
+        → members.items ≡ e.members.items ++ record { todo = todo.Gather place; mark = mark; next = next } ∷ []
+        → choices_cost (member_costs e.members.items) e.choices.items + place_cost e.members.items next + 1 ≤ w
+        → weight (record e { store = store; choices = choices; nodes = nodes; members = members; now = now.Running (record { todo = todo.Body k; mark = mark + 1; next = Some (length e.members.items) }) }) < whole_cost (suc e.steps) w
+    finds_falls store choices wd g k mark place b nodes members w body gains come less =
+        let end : Link = record { todo = todo.Gather place; mark = mark; next = next } in
         let here = body_within (present e.store) body in
         let many = e.nodes.ok.0 in
         let within = e.nodes.ok.1 in
         let small = e.nodes.small in
         let fits = below_words k (omega (arith, here, many, within, small)) in
-        let gained = gained_cost (frame_costs frames.items) gains in
-        let all = ap (λ (fs : List Frame). choices_cost (frame_costs fs) e.choices.items) come ∙ choices_on_more (end ∷ []) h.ahead.choices in
-        let kept_rest = old_place e.frames.items frames.items (end ∷ []) next come (chain_place next h.ahead.chain) in
-        let there = new_place e.frames.items frames.items end come in
-        let paid = finds_paid k e.steps (choices_cost (frame_costs e.frames.items) e.choices.items) (place_cost e.frames.items next) w fits less in
+        let gained = gained_cost (member_costs members.items) gains in
+        let all = ap (λ (fs : List Link). choices_cost (member_costs fs) e.choices.items) come ∙ choices_on_more (end ∷ []) h.ahead.choices in
+        let kept_rest = old_place e.members.items members.items (end ∷ []) next come (chain_place next h.ahead.chain) in
+        let there = new_place e.members.items members.items end come in
+        let paid = finds_paid k e.steps (choices_cost (member_costs e.members.items) e.choices.items) (place_cost e.members.items next) w fits less in
         rw (gained, all, kept_rest, there) paid
 
   -- ---- no further solution
@@ -264,7 +264,7 @@ module _ {S W M : Type 0} (names : S → List (List ℕ)) (present : S → Prese
       module _ (last : S) (keeps : KeepsMarks (stands store) (stands last)) (after_texts : KeepsTexts (names store) (names last)) where
         -- the result was unified with the list
         pub found_engine : UnifiesCopy (present store) (present last) value (list_of copies)
-            → IsEngine names present stands older (record e { store = last; choices = choices; now = now_behind e.frames.items place }) (found value copies back)
+            → IsEngine names present stands older (record e { store = last; choices = choices; now = now_behind e.members.items place }) (found value copies back)
         found_engine u =
             let mid : Plain S W M = record e { store = store; choices = choices } in
             let list = list_of copies in
@@ -277,7 +277,7 @@ module _ {S W M : Type 0} (names : S → List (List ℕ)) (present : S → Prese
             let ahead = ahead_bound names present stands older mid last e.nodes back place (variable_count list) (compose a.subst u.unifier) gone_ahead keeps after_texts (adds_none e.nodes.items) u.words
             (u.substitution ∙ ap (λ (q : Subst). compose q u.unifier) at.subst) u.next (omega (arith, space, few)) in
             let x : State = record back { subst = compose a.subst u.unifier; next = a.next + variable_count list; built = a.built + (1 + size list) } in
-            subst (λ (y : State). IsEngine names present stands older (record e { store = last; choices = choices; now = now_behind e.frames.items place }) y) (sym is_found)
+            subst (λ (y : State). IsEngine names present stands older (record e { store = last; choices = choices; now = now_behind e.members.items place }) y) (sym is_found)
             (record {
               world = ahead.world;
               steps = ahead.steps;
@@ -308,10 +308,10 @@ module _ {S W M : Type 0} (names : S → List (List ℕ)) (present : S → Prese
 
     -- ---- what falls
 
-    pub gone_cost : (n : Now) (choices : Vec (kept.Choice W M) Global) → 0 < length e.choices.items → choices.items ≡ take (length e.choices.items - 1) e.choices.items → now_cost (frame_costs e.frames.items) n ≤ place_cost e.frames.items place
-        → choices_cost (frame_costs e.frames.items) choices.items + now_cost (frame_costs e.frames.items) n < choices_cost (frame_costs e.frames.items) e.choices.items
+    pub gone_cost : (n : Now) (choices : Vec (kept.Choice W M) Global) → 0 < length e.choices.items → choices.items ≡ take (length e.choices.items - 1) e.choices.items → now_cost (member_costs e.members.items) n ≤ place_cost e.members.items place
+        → choices_cost (member_costs e.members.items) choices.items + now_cost (member_costs e.members.items) n < choices_cost (member_costs e.members.items) e.choices.items
     gone_cost n choices some made less =
-        let costs = frame_costs e.frames.items in
+        let costs = member_costs e.members.items in
         let before = take (length e.choices.items - 1) e.choices.items in
         let old = ap (choices_cost costs) (choices_are names present stands older e c s a below w some) ∙ choices_last costs before c in
         let here = ap (choice_cost costs) is in

@@ -1,4 +1,4 @@
--- Where the frames are full the search has as many alternatives.
+-- Where the members are full the search has as many alternatives.
 use Rattle.std.proofs.Common.{◌≡◌, ℕ, List, [], length, refl, ap, ◌∙◌, arith, Result, Ok, Err, Vec, Global}
 use Rattle.iso_atoms.specs.Texts.{KeepsTexts}
 use Rattle.iso_model.specs.declared.pauses.Pause.{Pause}
@@ -8,7 +8,7 @@ use Rattle.iso_plain.proofs.WorldLemmas.{all_texts}
 use Rattle.iso_plain.specs.declared.plain.Move.{Move}
 use Rattle.iso_plain.specs.declared.plain.Move.TheVariants as move
 use Rattle.iso_plain_core.specs.declared.bodies.Node.{Node}
-use Rattle.iso_plain_core.specs.declared.parts.Choice.{Choice}
+use Rattle.iso_plain_core.specs.declared.choices.Choice.{Choice}
 use Rattle.iso_plain.specs.Stays.{Stays}
 use Rattle.iso_plain.specs.declared.plain.Plain.{Plain}
 use Rattle.iso_plain.specs.Limits.{WhereFull, MoveFull, ResultFull}

@@ -4,17 +4,17 @@ use Rattle.iso_atoms.specs.Texts.{KeepsTexts}
 use Rattle.iso_model.specs.Search.Bodies.{Body}
 use Rattle.iso_model.specs.Search.Walker.{State, Goal, CutTo, Fail, AsIs, Again, pushed}
 use Rattle.iso_store_core.specs.Presents.{Present, KeepsMarks}
-use Rattle.iso_plain_core.specs.declared.parts.Todo.TheVariants as todo
-use Rattle.iso_plain_core.specs.declared.parts.Frame.{Frame}
-use Rattle.iso_plain_core.specs.declared.parts.Left.TheVariants as left
-use Rattle.iso_plain_core.specs.declared.parts.Choice as kept
-use Rattle.iso_plain_core.specs.declared.parts.Now.TheVariants as now
+use Rattle.iso_plain_core.specs.declared.members.Todo.TheVariants as todo
+use Rattle.iso_plain_core.specs.declared.members.Link.{Link}
+use Rattle.iso_plain_core.specs.declared.choices.Left.TheVariants as left
+use Rattle.iso_plain_core.specs.declared.choices.Choice as kept
+use Rattle.iso_plain_core.specs.declared.members.Now.TheVariants as now
 use Rattle.iso_plain.specs.declared.plain.Plain.{Plain}
-use Rattle.iso_plain_core.specs.Costs.{body_cost, most, whole_cost, frame_costs, place_cost, choices_cost}
+use Rattle.iso_plain_core.specs.Costs.{body_cost, most, whole_cost, member_costs, place_cost, choices_cost}
 use Rattle.iso_plain_core.specs.Next.{now_behind}
 use Rattle.iso_plain_core.specs.Standing.{IsBody, a_body, a_cut, a_failure, GainsChoice}
 use Rattle.iso_plain.specs.EngineStates.{IsEngine, IsAhead, calling_once, refuting, weight}
-use Rattle.iso_plain.proofs.AheadLemmas.{engine_frame, engine_place, ahead_frame, ahead_choice, members_left}
+use Rattle.iso_plain.proofs.AheadLemmas.{engine_link, engine_place, ahead_link, ahead_choice, members_left}
 use Rattle.iso_plain.proofs.ControlCosts.{grown, new_place, old_place, gained_cost}
 use Rattle.iso_plain_core.proofs.CostLemmas.{cost_above, cost_more, cost_parts, left_step, whole_paid, called_cost, zero_cost, some_most, below_words, choices_on_more, behind_cost}
 use Rattle.iso_plain_core.proofs.StandingLemmas.{chain_place, choices_length, body_within}
@@ -55,11 +55,11 @@ repeated_paid n c r w less =
 module _ {S W M : Type 0} (names : S → List (List ℕ)) (present : S → Present W) (stands : S → M → Present W → Type 0) (older : M → M → Type 0) where
   module _ (e : Plain S W M) (s : State) (next : Option ℕ) (h : IsAhead names present stands older e s next) where
     rest : ℕ
-    rest = place_cost e.frames.items next
+    rest = place_cost e.members.items next
 
-    choices_same : (frames more : List Frame) → frames ≡ e.frames.items ++ more
-        → choices_cost (frame_costs frames) e.choices.items ≡ choices_cost (frame_costs e.frames.items) e.choices.items
-    choices_same frames more come = ap (λ (fs : List Frame). choices_cost (frame_costs fs) e.choices.items) come ∙ choices_on_more more h.choices
+    choices_same : (members more : List Link) → members ≡ e.members.items ++ more
+        → choices_cost (member_costs members) e.choices.items ≡ choices_cost (member_costs e.members.items) e.choices.items
+    choices_same members more come = ap (λ (fs : List Link). choices_cost (member_costs fs) e.choices.items) come ∙ choices_on_more more h.choices
 
     body_small : (k : ℕ) (b : Body) → IsBody (present e.store) e.nodes.items k b → k < most
     body_small k b body =
@@ -71,86 +71,86 @@ module _ {S W M : Type 0} (names : S → List (List ℕ)) (present : S → Prese
 
     -- ---- for the first solution
 
-    pub once_engine : (k : ℕ) (b : Body) (frames : Vec Frame Global) → IsBody (present e.store) e.nodes.items k b → frames.items ≡ e.frames.items ++ record { todo = todo.CutBack; mark = length e.choices.items; next = next } ∷ []
-        → IsEngine names present stands older (record e { frames = frames; now = now.Running (record { todo = todo.Body k; mark = length e.choices.items; next = Some (length e.frames.items) }) }) (calling_once b s)
-    once_engine k b frames body come =
+    pub once_engine : (k : ℕ) (b : Body) (members : Vec Link Global) → IsBody (present e.store) e.nodes.items k b → members.items ≡ e.members.items ++ record { todo = todo.CutTo; mark = length e.choices.items; next = next } ∷ []
+        → IsEngine names present stands older (record e { members = members; now = now.Running (record { todo = todo.Body k; mark = length e.choices.items; next = Some (length e.members.items) }) }) (calling_once b s)
+    once_engine k b members body come =
         let height = length e.choices.items in
         let same : height ≡ length s.stack = choices_length h.choices in
-        let once : Frame = record { todo = todo.CutBack; mark = height; next = next } in
-        let first : Frame = record { todo = todo.Body k; mark = height; next = Some (length e.frames.items) } in
-        let new : Plain S W M = record e { frames = frames; now = now.Running first } in
-        let ahead = ahead_frame names present stands older e s once (CutTo height) frames h (a_cut refl) come in
-        let engine = engine_frame names present stands older (record e { frames = frames }) (record s { list = CutTo height ∷ s.list }) first (Goal b height) ahead (a_body refl body) in
+        let once : Link = record { todo = todo.CutTo; mark = height; next = next } in
+        let first : Link = record { todo = todo.Body k; mark = height; next = Some (length e.members.items) } in
+        let new : Plain S W M = record e { members = members; now = now.Running first } in
+        let ahead = ahead_link names present stands older e s once (CutTo height) members h (a_cut refl) come in
+        let engine = engine_link names present stands older (record e { members = members }) (record s { list = CutTo height ∷ s.list }) first (Goal b height) ahead (a_body refl body) in
         subst (λ (n : ℕ). IsEngine names present stands older new (record s { list = Goal b n ∷ CutTo n ∷ s.list })) same engine
 
-    pub once_falls : (k mark : ℕ) (b : Body) (frames : Vec Frame Global) (w : ℕ) → IsBody (present e.store) e.nodes.items k b → frames.items ≡ e.frames.items ++ record { todo = todo.CutBack; mark = mark; next = next } ∷ []
-        → choices_cost (frame_costs e.frames.items) e.choices.items + place_cost e.frames.items next + 1 ≤ w
-        → weight (record e { frames = frames; now = now.Running (record { todo = todo.Body k; mark = mark; next = Some (length e.frames.items) }) }) < whole_cost (suc e.steps) w
-    once_falls k mark b frames w body come less =
-        let once : Frame = record { todo = todo.CutBack; mark = mark; next = next } in
-        let all = choices_same frames.items (once ∷ []) come in
-        let there = new_place e.frames.items frames.items once come in
-        let paid = once_paid k e.steps (choices_cost (frame_costs e.frames.items) e.choices.items) (place_cost e.frames.items next) w (body_small k b body) less in
+    pub once_falls : (k mark : ℕ) (b : Body) (members : Vec Link Global) (w : ℕ) → IsBody (present e.store) e.nodes.items k b → members.items ≡ e.members.items ++ record { todo = todo.CutTo; mark = mark; next = next } ∷ []
+        → choices_cost (member_costs e.members.items) e.choices.items + place_cost e.members.items next + 1 ≤ w
+        → weight (record e { members = members; now = now.Running (record { todo = todo.Body k; mark = mark; next = Some (length e.members.items) }) }) < whole_cost (suc e.steps) w
+    once_falls k mark b members w body come less =
+        let once : Link = record { todo = todo.CutTo; mark = mark; next = next } in
+        let all = choices_same members.items (once ∷ []) come in
+        let there = new_place e.members.items members.items once come in
+        let paid = once_paid k e.steps (choices_cost (member_costs e.members.items) e.choices.items) (place_cost e.members.items next) w (body_small k b body) less in
         rw (all, there) paid
 
     -- ---- again and again
 
     pub repeat_engine : (store : S) (choices : Vec (kept.Choice W M) Global) → present store ≡ present e.store → KeepsMarks (stands e.store) (stands store) → KeepsTexts (names e.store) (names store)
-        → GainsChoice (stands e.store) (stands store) older (present e.store) (length e.nodes.items) (length e.frames.items) (left.Again next) e.choices.items choices.items
-        → IsEngine names present stands older (record e { store = store; choices = choices; now = now_behind e.frames.items next }) (pushed s.list Again s)
+        → GainsChoice (stands e.store) (stands store) older (present e.store) (length e.nodes.items) (length e.members.items) (left.Again next) e.choices.items choices.items
+        → IsEngine names present stands older (record e { store = store; choices = choices; now = now_behind e.members.items next }) (pushed s.list Again s)
     repeat_engine store choices same keeps texts gains =
         let has = members_left names present stands older e s next Again h in
         let ahead = ahead_choice names present stands older e s next store choices (left.Again next) Again h has refl same keeps texts gains in
         engine_place names present stands older (record e { store = store; choices = choices }) (pushed s.list Again s) next ahead
 
     pub repeat_falls : {old new : M → Present W → Type 0} {p : Present W} {nodes stood : ℕ} (store : S) (choices : Vec (kept.Choice W M) Global) (w : ℕ)
-        → GainsChoice old new older p nodes stood (left.Again next) e.choices.items choices.items → choices_cost (frame_costs e.frames.items) e.choices.items + place_cost e.frames.items next + 1 ≤ w
-        → weight (record e { store = store; choices = choices; now = now_behind e.frames.items next }) < whole_cost (suc e.steps) w
+        → GainsChoice old new older p nodes stood (left.Again next) e.choices.items choices.items → choices_cost (member_costs e.members.items) e.choices.items + place_cost e.members.items next + 1 ≤ w
+        → weight (record e { store = store; choices = choices; now = now_behind e.members.items next }) < whole_cost (suc e.steps) w
     repeat_falls store choices w gains less =
-        let gained = gained_cost (frame_costs e.frames.items) gains in
+        let gained = gained_cost (member_costs e.members.items) gains in
         let there = behind_cost next h.chain in
-        let paid = repeated_paid e.steps (choices_cost (frame_costs e.frames.items) e.choices.items) (place_cost e.frames.items next) w less in
+        let paid = repeated_paid e.steps (choices_cost (member_costs e.members.items) e.choices.items) (place_cost e.members.items next) w less in
         rw (gained, there) paid
 
     -- ---- where a body has no solution
 
     module _ (store : S) (choices : Vec (kept.Choice W M) Global) (same : present store ≡ present e.store) (keeps : KeepsMarks (stands e.store) (stands store)) (texts : KeepsTexts (names e.store) (names store))
-        (gains : GainsChoice (stands e.store) (stands store) older (present e.store) (length e.nodes.items) (length e.frames.items) (left.AsIs next) e.choices.items choices.items) where
+        (gains : GainsChoice (stands e.store) (stands store) older (present e.store) (length e.nodes.items) (length e.members.items) (left.AsIs next) e.choices.items choices.items) where
       pub refute_ahead : IsAhead names present stands older (record e { store = store; choices = choices }) (pushed s.list AsIs s) next
       refute_ahead = ahead_choice names present stands older e s next store choices (left.AsIs next) AsIs h (members_left names present stands older e s next AsIs h) refl same keeps texts gains
 
-      module _ (k mark : ℕ) (b : Body) (frames more : Vec Frame Global) (body : IsBody (present e.store) e.nodes.items k b) (come : frames.items ≡ e.frames.items ++ record { todo = todo.Fail; mark = mark; next = next } ∷ [])
-          (come_more : more.items ≡ frames.items ++ record { todo = todo.CutBack; mark = length e.choices.items; next = Some (length e.frames.items) } ∷ []) where
-        pub refute_engine : IsEngine names present stands older (record e { store = store; choices = choices; frames = more; now = now.Running (record { todo = todo.Body k; mark = length e.choices.items + 1; next = Some (length frames.items) }) }) (refuting b s)
+      module _ (k mark : ℕ) (b : Body) (members more : Vec Link Global) (body : IsBody (present e.store) e.nodes.items k b) (come : members.items ≡ e.members.items ++ record { todo = todo.Fail; mark = mark; next = next } ∷ [])
+          (come_more : more.items ≡ members.items ++ record { todo = todo.CutTo; mark = length e.choices.items; next = Some (length e.members.items) } ∷ []) where
+        pub refute_engine : IsEngine names present stands older (record e { store = store; choices = choices; members = more; now = now.Running (record { todo = todo.Body k; mark = length e.choices.items + 1; next = Some (length members.items) }) }) (refuting b s)
         refute_engine =
             let height = length e.choices.items in
             let alike : height ≡ length s.stack = choices_length h.choices in
             let over : height + 1 ≡ suc (length s.stack) = omega (arith, alike) in
-            let fail : Frame = record { todo = todo.Fail; mark = mark; next = next } in
-            let once : Frame = record { todo = todo.CutBack; mark = height; next = Some (length e.frames.items) } in
-            let first : Frame = record { todo = todo.Body k; mark = height + 1; next = Some (length frames.items) } in
+            let fail : Link = record { todo = todo.Fail; mark = mark; next = next } in
+            let once : Link = record { todo = todo.CutTo; mark = height; next = Some (length e.members.items) } in
+            let first : Link = record { todo = todo.Body k; mark = height + 1; next = Some (length members.items) } in
             let mid : Plain S W M = record e { store = store; choices = choices } in
-            let new : Plain S W M = record mid { frames = more; now = now.Running first } in
+            let new : Plain S W M = record mid { members = more; now = now.Running first } in
             let u : State = pushed s.list AsIs s in
-            let one = ahead_frame names present stands older mid u fail Fail frames refute_ahead (a_failure refl) come in
-            let two = ahead_frame names present stands older (record mid { frames = frames }) (record u { list = Fail ∷ s.list }) once (CutTo height) more one (a_cut refl) come_more in
+            let one = ahead_link names present stands older mid u fail Fail members refute_ahead (a_failure refl) come in
+            let two = ahead_link names present stands older (record mid { members = members }) (record u { list = Fail ∷ s.list }) once (CutTo height) more one (a_cut refl) come_more in
             let there = subst (λ (q : Present W). IsBody q e.nodes.items k b) (sym same) body in
-            let engine = engine_frame names present stands older (record mid { frames = more }) (record u { list = CutTo height ∷ Fail ∷ s.list }) first (Goal b (height + 1)) two (a_body refl there) in
+            let engine = engine_link names present stands older (record mid { members = more }) (record u { list = CutTo height ∷ Fail ∷ s.list }) first (Goal b (height + 1)) two (a_body refl there) in
             subst (λ (n : ℕ). IsEngine names present stands older new (record u { list = Goal b n ∷ CutTo (length s.stack) ∷ Fail ∷ s.list })) over
             (subst (λ (n : ℕ). IsEngine names present stands older new (record u { list = Goal b (height + 1) ∷ CutTo n ∷ Fail ∷ s.list })) alike engine)
 
-    pub refute_falls : {old new : M → Present W → Type 0} {p : Present W} {nodes stood : ℕ} (store : S) (choices : Vec (kept.Choice W M) Global) (k mark cut : ℕ) (b : Body) (frames more : Vec Frame Global) (w : ℕ) → IsBody (present e.store) e.nodes.items k b
-        → GainsChoice old new older p nodes stood (left.AsIs next) e.choices.items choices.items → frames.items ≡ e.frames.items ++ record { todo = todo.Fail; mark = mark; next = next } ∷ []
-        → more.items ≡ frames.items ++ record { todo = todo.CutBack; mark = cut; next = Some (length e.frames.items) } ∷ []
-        → choices_cost (frame_costs e.frames.items) e.choices.items + place_cost e.frames.items next + 1 ≤ w
-        → weight (record e { store = store; choices = choices; frames = more; now = now.Running (record { todo = todo.Body k; mark = cut + 1; next = Some (length frames.items) }) }) < whole_cost (suc e.steps) w
-    refute_falls store choices k mark cut b frames more w body gains come come_more less =
-        let fail : Frame = record { todo = todo.Fail; mark = mark; next = next } in
-        let once : Frame = record { todo = todo.CutBack; mark = cut; next = Some (length e.frames.items) } in
-        let both = grown e.frames.items frames.items more.items (fail ∷ []) (once ∷ []) come come_more in
+    pub refute_falls : {old new : M → Present W → Type 0} {p : Present W} {nodes stood : ℕ} (store : S) (choices : Vec (kept.Choice W M) Global) (k mark cut : ℕ) (b : Body) (members more : Vec Link Global) (w : ℕ) → IsBody (present e.store) e.nodes.items k b
+        → GainsChoice old new older p nodes stood (left.AsIs next) e.choices.items choices.items → members.items ≡ e.members.items ++ record { todo = todo.Fail; mark = mark; next = next } ∷ []
+        → more.items ≡ members.items ++ record { todo = todo.CutTo; mark = cut; next = Some (length e.members.items) } ∷ []
+        → choices_cost (member_costs e.members.items) e.choices.items + place_cost e.members.items next + 1 ≤ w
+        → weight (record e { store = store; choices = choices; members = more; now = now.Running (record { todo = todo.Body k; mark = cut + 1; next = Some (length members.items) }) }) < whole_cost (suc e.steps) w
+    refute_falls store choices k mark cut b members more w body gains come come_more less =
+        let fail : Link = record { todo = todo.Fail; mark = mark; next = next } in
+        let once : Link = record { todo = todo.CutTo; mark = cut; next = Some (length e.members.items) } in
+        let both = grown e.members.items members.items more.items (fail ∷ []) (once ∷ []) come come_more in
         let all = choices_same more.items (fail ∷ once ∷ []) both in
-        let gained = gained_cost (frame_costs more.items) gains in
-        let kept_rest = old_place e.frames.items more.items (fail ∷ once ∷ []) next both (chain_place next h.chain) in
-        let there = new_place frames.items more.items once come_more ∙ ap suc (new_place e.frames.items frames.items fail come) in
-        let paid = refuted_paid k e.steps (choices_cost (frame_costs e.frames.items) e.choices.items) (place_cost e.frames.items next) w (body_small k b body) less in
+        let gained = gained_cost (member_costs more.items) gains in
+        let kept_rest = old_place e.members.items more.items (fail ∷ once ∷ []) next both (chain_place next h.chain) in
+        let there = new_place members.items more.items once come_more ∙ ap suc (new_place e.members.items members.items fail come) in
+        let paid = refuted_paid k e.steps (choices_cost (member_costs e.members.items) e.choices.items) (place_cost e.members.items next) w (body_small k b body) less in
         rw (gained, all, kept_rest, there) paid

@@ -16,14 +16,14 @@ use Rattle.iso_plain.specs.declared.plain.Plain.{Plain}
 use Rattle.iso_plain.specs.EngineStates.{IsEngine, IsAhead, Keeps, links_of}
 use Rattle.iso_plain_core.specs.declared.bodies.Node.{Node}
 use Rattle.iso_plain_core.specs.declared.bodies.Node.TheVariants as node
-use Rattle.iso_plain_core.specs.declared.parts.Todo.TheVariants as todo
-use Rattle.iso_plain_core.specs.declared.parts.Frame.{Frame}
-use Rattle.iso_plain_core.specs.declared.parts.Now.TheVariants as now
+use Rattle.iso_plain_core.specs.declared.members.Todo.TheVariants as todo
+use Rattle.iso_plain_core.specs.declared.members.Link.{Link}
+use Rattle.iso_plain_core.specs.declared.members.Now.TheVariants as now
 use Rattle.iso_plain_core.specs.Entering.{Adds}
 use Rattle.iso_plain_core.specs.Nodes.{runs}
 use Rattle.iso_plain_core.specs.Standing.{IsBody, a_body, Chain, GoesOn, most_numbers, numbers_a_step}
 use Rattle.iso_plain.specs.Catches.{IsCatchGoal, MeetsBall, Recovers, Calling, HasMet, Unified, catcher_of, recovery_of, throwing}
-use Rattle.iso_plain.proofs.AheadLemmas.{keeps_ahead, engine_frame, engine_throws}
+use Rattle.iso_plain.proofs.AheadLemmas.{keeps_ahead, engine_link, engine_throws}
 use Rattle.iso_plain_core.proofs.EnteringLemmas.{adds_none}
 use Rattle.iso_plain_core.proofs.StandingLemmas.{AddsLinks, at_last, chain_more, choices_length, variables_more}
 use Rattle.iso_plain.proofs.StoppedLemmas.{base_kept, choices_on, keeps_store}
@@ -41,13 +41,13 @@ module _ {S W M : Type 0} (names : S → List (List ℕ)) (present : S → Prese
       → KeepsMarks (stands e.store) (stands store) → KeepsTexts (names e.store) (names store) → Adds e.nodes.items nodes.items → KeepsWords (present e.store) (present store) → (present store).substitution ≡ q → (present store).next ≡ (present e.store).next + m
       → s.next + m + numbers_a_step * e.steps ≤ most_numbers → IsAhead names present stands older (record e { store = store; nodes = nodes }) (record s { subst = q; next = s.next + m }) place
   ahead_bound e store nodes s place m q h keeps texts adds words substitution next space =
-      let more : AddsLinks (links_of e) (record { nodes = nodes.items; frames = e.frames.items }) = record { nodes = adds; frames = adds_none e.frames.items } in
+      let more : AddsLinks (links_of e) (record { nodes = nodes.items; members = e.members.items }) = record { nodes = adds; members = adds_none e.members.items } in
       let steps = h.steps in
       record {
         world = world_on texts h.world;
         steps = h.steps;
         base = base_kept (stands e.store) (stands store) e.base keeps h.base;
-        choices = choices_on names present stands older e store nodes e.frames (variables s.query) s.stack keeps texts adds (adds_none e.frames.items) h.choices;
+        choices = choices_on names present stands older e store nodes e.members (variables s.query) s.stack keeps texts adds (adds_none e.members.items) h.choices;
         room = h.room;
         goes = record {
           subst = substitution;
@@ -55,7 +55,7 @@ module _ {S W M : Type 0} (names : S → List (List ℕ)) (present : S → Prese
           room = omega (arith, space, steps);
           words = variables_more words h.goes.words;
         };
-        chain = chain_more (record { nodes = nodes.items; frames = e.frames.items }) more words h.chain;
+        chain = chain_more (record { nodes = nodes.items; members = e.members.items }) more words h.chain;
       }
 
   -- ---- the recovery is called
@@ -63,7 +63,7 @@ module _ {S W M : Type 0} (names : S → List (List ℕ)) (present : S → Prese
   module _ (e : Plain S W M) (recovery : W) (s : State) (place : Option ℕ) (h : Recovers names present stands older e recovery s place) (store : S) (nodes : Vec (Node W) Global) (call : W)
       (keeps : KeepsMarks (stands e.store) (stands store)) (texts : KeepsTexts (names e.store) (names store))
       (made : Makes (present e.store) (present store) call (one (codes "call") ((present e.store).term recovery))) (same : (present store).next ≡ (present e.store).next) (come : nodes.items ≡ e.nodes.items ++ node.Run call ∷ []) where
-    abbrev pub first : Frame
+    abbrev pub first : Link
     first = record { todo = todo.Body (length e.nodes.items); mark = length e.choices.items; next = place }
 
     behind : IsAhead names present stands older (record e { store = store; nodes = nodes }) s place
@@ -82,7 +82,7 @@ module _ {S W M : Type 0} (names : S → List (List ℕ)) (present : S → Prese
       term = (present store).term call;
       value = ap (apply s.subst) made.term ∙ ap (λ (r : Subst). one (codes "call") (apply r ((present e.store).term recovery))) (sym h.ahead.goes.subst);
       engine = subst (λ (n : ℕ). IsEngine names present stands older (record e { store = store; nodes = nodes; now = now.Running first }) (record s { list = Goal (Run ((present store).term call)) n ∷ s.list })) (choices_length h.ahead.choices)
-          (engine_frame names present stands older (record e { store = store; nodes = nodes }) s first (Goal (Run ((present store).term call)) (length e.choices.items)) behind (a_body refl stands_there));
+          (engine_link names present stands older (record e { store = store; nodes = nodes }) s first (Goal (Run ((present store).term call)) (length e.choices.items)) behind (a_body refl stands_there));
     }
 
   -- ---- the ball meets the catcher

@@ -22,7 +22,7 @@ use Rattle.iso_model.specs.Search.Walker as search
 use Rattle.iso_model.specs.Search.Settlements as walker
 use Rattle.iso_model.specs.Search.Settlements.{Reference, constant_offer}
 use Rattle.iso_model.specs.Terms.Copies.{renamed}
-use Rattle.iso_model.specs.declared.library.Setting.{Setting}
+use Rattle.iso_model.specs.declared.kinds.Setting.{Setting}
 use Rattle.iso_model.specs.declared.pauses.Ball.{Ball}
 use Rattle.iso_model.proofs.Search.CallLemmas.{unify_found, unify_none}
 use Rattle.iso_store_core.specs.Presents.{Present, Binds, IsUnification, KeepsMarks, meaning}
@@ -43,10 +43,10 @@ use Rattle.iso_plain_core.specs.declared.offers.Offers as kept_rows
 use Rattle.iso_plain_core.specs.declared.offers.Offers.TheVariants as rows
 use Rattle.iso_plain_core.specs.declared.offers.Row.{Row}
 use Rattle.iso_plain_core.specs.declared.offers.Row.TheVariants as offered_row
-use Rattle.iso_plain_core.specs.declared.parts.Left.{Left}
-use Rattle.iso_plain_core.specs.declared.parts.Left.TheVariants as left
-use Rattle.iso_plain_core.specs.declared.parts.Choice as kept
-use Rattle.iso_plain_core.specs.declared.parts.Now.TheVariants as now
+use Rattle.iso_plain_core.specs.declared.choices.Left.{Left}
+use Rattle.iso_plain_core.specs.declared.choices.Left.TheVariants as left
+use Rattle.iso_plain_core.specs.declared.choices.Choice as kept
+use Rattle.iso_plain_core.specs.declared.members.Now.TheVariants as now
 use Rattle.iso_plain_core.specs.Next.{now_behind}
 use Rattle.iso_plain_core.specs.Costs.{body_cost, left_cost, most, rest_cost, choice_cost, choices_cost}
 use Rattle.iso_plain_core.specs.Standing.{Chain, HasOffered, StandsForChoices, GainsChoice, GoesOn, entered_at, most_numbers, numbers_a_step}
@@ -295,7 +295,7 @@ module _ {S W M : Type 0} (names : S → List (List ℕ)) (present : S → Prese
     right = row_tree t r
 
     pub row_found : (u : Subst) → Unifier left right u → Binds (present e.store) (present store) u
-        → IsEngine names present stands older (record e { store = store; now = now_behind e.frames.items place }) (tried_right left (row_offer made t r) s.list s)
+        → IsEngine names present stands older (record e { store = store; now = now_behind e.members.items place }) (tried_right left (row_offer made t r) s.list s)
     row_found u unifier binds =
         let a = h.ahead in
         let room = a.goes.room in
@@ -316,7 +316,7 @@ module _ {S W M : Type 0} (names : S → List (List ℕ)) (present : S → Prese
           chain = ahead.chain;
         } in
         let is = row_right made left t r of s.list s ∙ ap (λ (o : Option Subst). equated o s.list (record s { built = s.built + made })) (unify_found s.subst left right unifier) in
-        subst (λ (y : State). IsEngine names present stands older (record e { store = store; now = now_behind e.frames.items place }) y) (sym is) (engine_place names present stands older (record e { store = store }) x place counted)
+        subst (λ (y : State). IsEngine names present stands older (record e { store = store; now = now_behind e.members.items place }) y) (sym is) (engine_place names present stands older (record e { store = store }) x place counted)
 
     pub row_missed : NeverEqual left right → IsEngine names present stands older (record e { store = store; now = now.Failing }) (tried_right left (row_offer made t r) s.list s)
     row_missed never =
@@ -347,7 +347,7 @@ module _ {S W M : Type 0} (names : S → List (List ℕ)) (present : S → Prese
         subst (λ (x : State). MeetsRow names present stands older e goal x place) (sym (rights_none arguments rights s.list s (omega (arith, many, none)))) h
 
     pub pushed_some : (store : S) (choices : Vec (kept.Choice W M) Global) → 0 < length (rows_in offers) → present store ≡ present e.store → KeepsMarks (stands e.store) (stands store) → KeepsTexts (names e.store) (names store)
-        → GainsChoice (stands e.store) (stands store) older (present e.store) (length e.nodes.items) (length e.frames.items) (left.Offered goal place offers) e.choices.items choices.items
+        → GainsChoice (stands e.store) (stands store) older (present e.store) (length e.nodes.items) (length e.members.items) (left.Offered goal place offers) e.choices.items choices.items
         → MeetsRow names present stands older (record e { store = store; choices = choices }) goal (with_rights arguments rights s.list s) place
     pushed_some store choices some same keeps texts gains =
         let a = h.ahead in
@@ -457,7 +457,7 @@ module _ {S W M : Type 0} (names : S → List (List ℕ)) (present : S → Prese
               steps = w.steps;
               base = w.base;
               choices = subst (λ (ds : List (kept.Choice W M)). StandsForChoices (stands e.store) older e.base (AreLeft (names e.store) e.db) e.query.items (variables s.query) (links_of e) ds (b ∷ below)) (sym made)
-                  (choices_push (with_left c (left.Offered goal place others)) b w.nodes w.frames (record { present = present e.store; mark = w.mark; newer = w.newer_base; has = has }) w.newer w.stands_below);
+                  (choices_push (with_left c (left.Offered goal place others)) b w.nodes w.members (record { present = present e.store; mark = w.mark; newer = w.newer_base; has = has }) w.newer w.stands_below);
               room = (next_space, w.room.1);
               goes = record { subst = goes.subst; next = goes.next; room = goes.room; words = goes.words };
               chain = h.on.chain;
@@ -561,7 +561,7 @@ module _ {S W M : Type 0} (names : S → List (List ℕ)) (present : S → Prese
 
   module _ (e : Plain S W M) (goal : W) (s : State) (place : Option ℕ) (h : MeetsRow names present stands older e goal s place) where
     pub changed_engine : (ops : List Operator) (flags : Flags) (x : Settled) → x ≡ Changes 0 (with_settings s.world ops flags)
-        → IsEngine names present stands older (record e { ops = ops; flags = flags; now = now_behind e.frames.items place }) (settled x s.list s)
+        → IsEngine names present stands older (record e { ops = ops; flags = flags; now = now_behind e.members.items place }) (settled x s.list s)
     changed_engine ops flags x is =
         let a = h.ahead in
         let y : State = record s { built = s.built + 0; world = with_settings s.world ops flags } in
@@ -574,7 +574,7 @@ module _ {S W M : Type 0} (names : S → List (List ℕ)) (present : S → Prese
           goes = record { subst = a.goes.subst; next = a.goes.next; room = a.goes.room; words = a.goes.words };
           chain = a.chain;
         } in
-        subst (λ (z : Settled). IsEngine names present stands older (record e { ops = ops; flags = flags; now = now_behind e.frames.items place }) (settled z s.list s)) (sym is)
+        subst (λ (z : Settled). IsEngine names present stands older (record e { ops = ops; flags = flags; now = now_behind e.members.items place }) (settled z s.list s)) (sym is)
         (engine_place names present stands older (record e { ops = ops; flags = flags }) y place ahead)
 
     -- they stay

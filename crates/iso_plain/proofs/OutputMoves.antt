@@ -10,14 +10,14 @@ use Rattle.iso_model.specs.Search.Outputs.{put_code, put_char_key, output_reply}
 use Rattle.iso_model.specs.Search.Walker.{State, Member, Outcome, Goes, Gives, Wrote, charged, written, replied, step}
 use Rattle.iso_model.specs.Search.Engines.{Midway, IsAwake}
 use Rattle.iso_model.specs.Search.RunLaws.SameRuns.{comes_same}
-use Rattle.iso_model.specs.declared.library.Output.{Output}
-use Rattle.iso_model.specs.declared.library.Output.TheVariants.{PutChar, NewLine, Write, Writeq, WriteCanonical}
+use Rattle.iso_model.specs.declared.kinds.Output.{Output}
+use Rattle.iso_model.specs.declared.kinds.Output.TheVariants.{PutChar, NewLine, Write, Writeq, WriteCanonical}
 use Rattle.iso_model.specs.declared.pauses.Ball.{Ball}
 use Rattle.iso_model.specs.declared.pauses.Pause.TheVariants as pause
 use Rattle.iso_lib_core.specs.declared.outcomes.Fault.TheVariants as fault
 use Rattle.iso_text.specs.Written.{IsWritten}
 use Rattle.iso_store_core.specs.Presents.{Present, meaning}
-use Rattle.iso_plain_core.specs.declared.parts.Frame.{Frame}
+use Rattle.iso_plain_core.specs.declared.members.Link.{Link}
 use Rattle.iso_plain_core.specs.Next.{now_at, now_behind}
 use Rattle.std.specs.List.{slice_get}
 use Rattle.iso_plain.specs.declared.plain.Move.{Move}
@@ -79,13 +79,13 @@ written_some : (text : List ℕ) (s : State) → length text ≢ 0 → written t
 written_some [] s h = absurd (h refl)
 written_some (b ∷ bytes) s h = refl
 
-midway_at : (f : Option Frame) → phase_of (now_at f) ≡ Midway
+midway_at : (f : Option Link) → phase_of (now_at f) ≡ Midway
 midway_at None = refl
 midway_at (Some f) = refl
 
-midway_behind : (frames : List Frame) (place : Option ℕ) → phase_of (now_behind frames place) ≡ Midway
-midway_behind frames None = refl
-midway_behind frames (Some i) = midway_at (slice_get frames i)
+midway_behind : (members : List Link) (place : Option ℕ) → phase_of (now_behind members place) ≡ Midway
+midway_behind members None = refl
+midway_behind members (Some i) = midway_at (slice_get members i)
 
 module _ {S W M : Type 0} (names : S → List (List ℕ)) (present : S → Present W) (stands : S → M → Present W → Type 0) (older : M → M → Type 0) where
   -- ---- the engine's move
@@ -100,12 +100,12 @@ module _ {S W M : Type 0} (names : S → List (List ℕ)) (present : S → Prese
         ap (λ (x : Reply). replied x s.list s) text.1 ∙ ap (λ (x : List ℕ). written x s.list s) (ap text.0 (sym h.ahead.world.operators_are) ∙ sym text.2)
 
     pub wrote_none : (bytes : Vec ℕ Global) → IsWritten (output_reply row t) e.ops (Ok bytes) → length bytes.items ≡ 0
-        → HasWritten names present stands older move.Goes (record e { now = now_behind e.frames.items place }) (replied (output_reply row t) s.list s)
-    wrote_none bytes is none = (s, outcome bytes is ∙ written_none bytes.items s none, engine_place names present stands older e s place h.ahead, awake_behind e.frames.items place)
+        → HasWritten names present stands older move.Goes (record e { now = now_behind e.members.items place }) (replied (output_reply row t) s.list s)
+    wrote_none bytes is none = (s, outcome bytes is ∙ written_none bytes.items s none, engine_place names present stands older e s place h.ahead, awake_behind e.members.items place)
 
     pub wrote_some : (bytes : Vec ℕ Global) → IsWritten (output_reply row t) e.ops (Ok bytes) → length bytes.items ≢ 0
-        → HasWritten names present stands older (move.Pauses (pause.Output bytes)) (record e { now = now_behind e.frames.items place }) (replied (output_reply row t) s.list s)
-    wrote_some bytes is some = (bytes, s, refl, outcome bytes is ∙ written_some bytes.items s some, engine_place names present stands older e s place h.ahead, midway_behind e.frames.items place)
+        → HasWritten names present stands older (move.Pauses (pause.Output bytes)) (record e { now = now_behind e.members.items place }) (replied (output_reply row t) s.list s)
+    wrote_some bytes is some = (bytes, s, refl, outcome bytes is ∙ written_some bytes.items s some, engine_place names present stands older e s place h.ahead, midway_behind e.members.items place)
 
     pub raised_now : (new : Plain S W M) (ball : Ball) → IsWritten (output_reply row t) e.ops (Err (fault.Raise ball)) → IsEngine names present stands older new (throwing (term_of ball.term) s) → IsAwake (phase_of new.now)
         → HasWritten names present stands older move.Goes new (replied (output_reply row t) s.list s)

@@ -10,8 +10,8 @@ use Rattle.iso_model.specs.Search.AtomParts.{part_arity}
 use Rattle.iso_model.specs.Search.Settlements as walker
 use Rattle.iso_model.specs.Search.Settlements.{Settled, Refuses, Offers, constant_offer}
 use Rattle.iso_model.specs.Search.Walker.{State, offered, settled}
-use Rattle.iso_model.specs.declared.library.AtomPart.{AtomPart}
-use Rattle.iso_model.specs.declared.library.AtomPart.TheVariants.{Concat, Sub}
+use Rattle.iso_model.specs.declared.kinds.AtomPart.{AtomPart}
+use Rattle.iso_model.specs.declared.kinds.AtomPart.TheVariants.{Concat, Sub}
 use Rattle.iso_model.specs.declared.pauses.Ball.{Ball}
 use Rattle.iso_lib.specs.Settlements.{arguments_from}
 use Rattle.iso_lib_core.specs.declared.outcomes.Fault.{Fault}

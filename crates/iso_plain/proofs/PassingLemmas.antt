@@ -11,7 +11,7 @@ use Rattle.iso_store_core.specs.Presents.{Present, meaning}
 use Rattle.iso_store_core.specs.Patterns.{IsPattern}
 use Rattle.iso_db.specs.declared.views.View.{View}
 use Rattle.iso_plain_core.specs.declared.clauses.Clause.{Clause}
-use Rattle.iso_plain_core.specs.declared.parts.Attempt.{Attempt}
+use Rattle.iso_plain_core.specs.declared.choices.Attempt.{Attempt}
 use Rattle.iso_plain_core.specs.Kept.{IsClause}
 use Rattle.iso_plain_core.specs.Leaving.{AreLeft}
 use Rattle.iso_db.specs.Presents.{Stands}

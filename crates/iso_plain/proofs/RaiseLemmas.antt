@@ -10,11 +10,11 @@ use Rattle.iso_model.specs.Terms.Variables.{variables}
 use Rattle.iso_model.specs.Search.Walker.{State, Member, Raise, Alternative, Catching, fails, shortened}
 use Rattle.iso_model.specs.declared.pauses.Ball.{Ball}
 use Rattle.iso_store_core.specs.Presents.{Present}
-use Rattle.iso_plain_core.specs.declared.parts.Left.{Left}
-use Rattle.iso_plain_core.specs.declared.parts.Left.TheVariants as left
-use Rattle.iso_plain_core.specs.declared.parts.Choice as kept
-use Rattle.iso_plain_core.specs.declared.parts.Now.{Now}
-use Rattle.iso_plain_core.specs.declared.parts.Now.TheVariants as now
+use Rattle.iso_plain_core.specs.declared.choices.Left.{Left}
+use Rattle.iso_plain_core.specs.declared.choices.Left.TheVariants as left
+use Rattle.iso_plain_core.specs.declared.choices.Choice as kept
+use Rattle.iso_plain_core.specs.declared.members.Now.{Now}
+use Rattle.iso_plain_core.specs.declared.members.Now.TheVariants as now
 use Rattle.iso_plain.specs.declared.plain.Plain.{Plain}
 use Rattle.iso_plain_core.specs.Standing.{Chain, HasCatch, HasLeft, StandsForChoices, GoesOn, DoesNext, entered_at, most_numbers, numbers_a_step}
 use Rattle.iso_plain.specs.EngineStates.{IsEngine, IsAhead, WentBack, went_back, links_of}
@@ -148,7 +148,7 @@ module _ {S W M : Type 0} (names : S → List (List ℕ)) (present : S → Prese
           mark = there.mark;
           newest = there.newest;
           nodes = there.nodes;
-          frames = there.frames;
+          members = there.members;
           has = there.has;
           newer_base = there.newer_base;
           newer = there.newer;

@@ -12,9 +12,9 @@ use Rattle.iso_model.specs.Search.Bodies.{Body, Run, map_body}
 use Rattle.iso_model.specs.Search.BuiltIns.{Reply, Fails, Succeeds, Equates, EquatesCopy, Raises, Calls, CallsOnce, Refutes, Repeats, Catches, Gathers, Halts, AsksWorld, Writes, reply}
 use Rattle.iso_model.specs.declared.built_ins.BuiltIn.{BuiltIn}
 use Rattle.iso_model.specs.declared.built_ins.BuiltIn.TheVariants as built_in
-use Rattle.iso_model.specs.declared.library.Setting.{Setting}
-use Rattle.iso_model.specs.declared.library.Storage.{Storage}
-use Rattle.iso_model.specs.declared.library.Output.{Output}
+use Rattle.iso_model.specs.declared.kinds.Setting.{Setting}
+use Rattle.iso_model.specs.declared.kinds.Storage.{Storage}
+use Rattle.iso_model.specs.declared.kinds.Output.{Output}
 use Rattle.iso_model.specs.Search.Outputs.{output_reply}
 use Rattle.iso_model.specs.Search.Settings.{Settled, setting_settled}
 use Rattle.iso_model.specs.Search.Storages.{storage_settled}
@@ -31,9 +31,9 @@ use Rattle.iso_atoms.specs.Texts.{KeepsTexts}
 use Rattle.iso_store_core.specs.Presents.{Present, KeepsMarks, KeepsWords, Binds, meaning}
 use Rattle.iso_plain_core.specs.declared.bodies.Node.{Node}
 use Rattle.iso_plain_core.specs.declared.bodies.Node.TheVariants as node
-use Rattle.iso_plain_core.specs.declared.parts.Frame.{Frame}
-use Rattle.iso_plain_core.specs.declared.parts.Todo.TheVariants as todo
-use Rattle.iso_plain_core.specs.declared.parts.Now.TheVariants as now
+use Rattle.iso_plain_core.specs.declared.members.Link.{Link}
+use Rattle.iso_plain_core.specs.declared.members.Todo.TheVariants as todo
+use Rattle.iso_plain_core.specs.declared.members.Now.TheVariants as now
 use Rattle.iso_plain.specs.declared.plain.Move.{Move}
 use Rattle.iso_plain.specs.declared.plain.Move.TheVariants as move
 use Rattle.iso_plain.specs.declared.plain.Plain.{Plain}
@@ -47,7 +47,7 @@ use Rattle.iso_plain_core.specs.Entering.{Adds}
 use Rattle.iso_plain.specs.Catches.{EntersCatch, throwing, catching, calling_inside, catcher_of, recovery_of}
 use Rattle.iso_plain.specs.Gathers.{EntersFindall, FindsAll, finding, template_of, result_of}
 use Rattle.iso_plain.specs.Settles.{MeetsRow, AsksAt, PartsAt, WasStopped}
-use Rattle.iso_model.specs.declared.library.AtomPart.{AtomPart}
+use Rattle.iso_model.specs.declared.kinds.AtomPart.{AtomPart}
 use Rattle.iso_model.specs.Search.AtomParts.{parts_settled}
 use Rattle.iso_plain.specs.Shows.{StoresAt, WasGivenUp}
 use Rattle.iso_plain.specs.Outputs.{WritesAt, HasWritten}
@@ -56,7 +56,7 @@ use Rattle.iso_lib_core.specs.Replies.{IsUnbound, UnifiesCopy}
 use Rattle.iso_plain_core.specs.Replies.{IsReply, IsInside, Places}
 use Rattle.iso_plain_core.specs.Standing.{IsAt, a_body}
 use Rattle.iso_plain.specs.EngineStates.{IsEngine, IsAhead, Represents, StandsFor, Stopped, Keeps, WasCalled, WasTried, WasRefused, Moves, calling_once, refuting, phase_of}
-use Rattle.iso_plain.proofs.AheadLemmas.{engine_frame, engine_place}
+use Rattle.iso_plain.proofs.AheadLemmas.{engine_link, engine_place}
 use Rattle.iso_plain.proofs.EngineMoves.{spent_stands}
 use Rattle.iso_plain_core.proofs.EnteringLemmas.{words_same}
 use Rattle.iso_plain.proofs.FailLemmas.{awake_behind}
@@ -334,7 +334,7 @@ pub places_unbound : {W : Type 0} (p q : Present W) (old new : List (Node W)) (b
 places_unbound p q old new b place h = record { words = h.words; substitution = h.substitution; next = h.next }
 
 module _ {S W M : Type 0} (names : S → List (List ℕ)) (present : S → Present W) (stands : S → M → Present W → Type 0) (older : M → M → Type 0) where
-  module _ (e : Plain S W M) (store : S) (nodes : Vec (Node W) Global) (s : State) (f : Frame) (k : ℕ) (w : W) (doing : e.now ≡ now.Running f) (there : IsAt e.nodes.items f k (node.Run w)) (r : Represents names present stands older e s)
+  module _ (e : Plain S W M) (store : S) (nodes : Vec (Node W) Global) (s : State) (f : Link) (k : ℕ) (w : W) (doing : e.now ≡ now.Running f) (there : IsAt e.nodes.items f k (node.Run w)) (r : Represents names present stands older e s)
       (more : e.steps ≢ 0) (b : BuiltIn) (is_own : IsBuiltIn (meaning (present e.store) w) b) (keeps : KeepsMarks (stands e.store) (stands store)) (texts : KeepsTexts (names e.store) (names store)) (adds : Adds e.nodes.items nodes.items) where
     abbrev n : ℕ
     n = e.steps - 1
@@ -365,24 +365,24 @@ module _ {S W M : Type 0} (names : S → List (List ℕ)) (present : S → Prese
     -- ---- it succeeded
 
     went : (built : ℕ) (v : Subst) → KeepsWords (present e.store) (present store) → (present store).substitution ≡ v → (present store).next ≡ (present e.store).next
-        → step o ≡ Goes (record o { list = a.behind; subst = v; built = built; steps = n }) → Moves names present stands older move.Goes s (record mid { now = now_behind e.frames.items f.next })
+        → step o ≡ Goes (record o { list = a.behind; subst = v; built = built; steps = n }) → Moves names present stands older move.Goes s (record mid { now = now_behind e.members.items f.next })
     went built v words substitution number h =
         let ahead = ahead_step names present stands older e store nodes (record o { list = a.behind }) f.next n built v a.ahead (one_less e.steps more) keeps texts adds words substitution number in
-        goes names present stands older e (record mid { now = now_behind e.frames.items f.next }) s r (record o { list = a.behind; subst = v; built = built; steps = n }) h
-        (engine_place names present stands older mid (record o { list = a.behind; subst = v; built = built; steps = n }) f.next ahead) (awake_behind e.frames.items f.next)
+        goes names present stands older e (record mid { now = now_behind e.members.items f.next }) s r (record o { list = a.behind; subst = v; built = built; steps = n }) h
+        (engine_place names present stands older mid (record o { list = a.behind; subst = v; built = built; steps = n }) f.next ahead) (awake_behind e.members.items f.next)
 
     -- a copy, as the search makes it
     same_copy : (y : Tree) → apply (present e.store).substitution (copy_from y (present e.store).next) ≡ apply o.subst (copy_from y o.next)
     same_copy y = ap₂ (λ (v : Subst) (m : ℕ). apply v (copy_from y m)) a.ahead.goes.subst a.ahead.goes.next
 
     went_copy : (y : Tree) (v : Subst) {x : Tree} (u : UnifiesCopy (present e.store) (present store) x y) → (present store).substitution ≡ v
-        → step o ≡ Goes (record o { list = a.behind; subst = v; next = o.next + variable_count y; built = o.built + (1 + size y); steps = n }) → Moves names present stands older move.Goes s (record mid { now = now_behind e.frames.items f.next })
+        → step o ≡ Goes (record o { list = a.behind; subst = v; next = o.next + variable_count y; built = o.built + (1 + size y); steps = n }) → Moves names present stands older move.Goes s (record mid { now = now_behind e.members.items f.next })
     went_copy y v u substitution h =
         let ahead = ahead_more names present stands older e store nodes (record o { list = a.behind }) f.next n (o.built + (1 + size y)) (variable_count y) v a.ahead (one_less e.steps more) keeps texts adds u.words substitution u.next u.few in
-        goes names present stands older e (record mid { now = now_behind e.frames.items f.next }) s r (record o { list = a.behind; subst = v; next = o.next + variable_count y; built = o.built + (1 + size y); steps = n }) h
-        (engine_place names present stands older mid (record o { list = a.behind; subst = v; next = o.next + variable_count y; built = o.built + (1 + size y); steps = n }) f.next ahead) (awake_behind e.frames.items f.next)
+        goes names present stands older e (record mid { now = now_behind e.members.items f.next }) s r (record o { list = a.behind; subst = v; next = o.next + variable_count y; built = o.built + (1 + size y); steps = n }) h
+        (engine_place names present stands older mid (record o { list = a.behind; subst = v; next = o.next + variable_count y; built = o.built + (1 + size y); steps = n }) f.next ahead) (awake_behind e.members.items f.next)
 
-    pub goes_on : (x : Reply) → reply b t ≡ x → WentOn (present e.store) (present store) x → Moves names present stands older move.Goes s (record mid { now = now_behind e.frames.items f.next })
+    pub goes_on : (x : Reply) → reply b t ≡ x → WentOn (present e.store) (present store) x → Moves names present stands older move.Goes s (record mid { now = now_behind e.members.items f.next })
     goes_on Succeeds is (as_before same) =
         went o.built o.subst (subst (λ (q : Present W). KeepsWords (present e.store) q) (sym same) (words_same (present e.store))) (ap (λ (q : Present W). q.substitution) same ∙ a.ahead.goes.subst) (ap (λ (q : Present W). q.next) same)
         (runs_to names present stands older e s f k w doing there r (record o { list = a.behind }) more (own_goal t a.behind o b Succeeds is_own is))
@@ -481,8 +481,8 @@ module _ {S W M : Type 0} (names : S → List (List ℕ)) (present : S → Prese
           let height : length e.choices.items ≡ length o.stack = choices_length r.engine.choices in
           let v : State = record called { list = Goal c (length o.stack) ∷ a.behind } in
           let u : State = record called { list = Goal h.body (length o.stack) ∷ a.behind } in
-          let first : Frame = record { todo = todo.Body place; mark = length e.choices.items; next = f.next } in
-          let engine = engine_frame names present stands older mid called first (Goal h.body (length e.choices.items)) called_ahead (a_body refl h.stands) in
+          let first : Link = record { todo = todo.Body place; mark = length e.choices.items; next = f.next } in
+          let engine = engine_link names present stands older mid called first (Goal h.body (length e.choices.items)) called_ahead (a_body refl h.stands) in
           goes_as names present stands older e (record mid { now = now.Running first }) s r v u
           (runs_to names present stands older e s f k w doing there r (record (with_goal c o) { list = Goal c (length o.stack) ∷ a.behind }) more (own_goal t a.behind o b (Calls c) is_own is))
           (same_first called h.body c (length o.stack) a.behind (same_values (own_reply (Calls c) is)) (around_steps o a.behind (with_goal c o).built n around))

@@ -7,12 +7,12 @@ use Rattle.iso_model.specs.Terms.Variables.{variables}
 use Rattle.iso_model.specs.Search.Walker.{State, Alternative, AsIs, Again, fails, pushed}
 use Rattle.iso_model.specs.Search.Walker as walker
 use Rattle.iso_store_core.specs.Presents.{Present}
-use Rattle.iso_plain_core.specs.declared.parts.Left.{Left}
-use Rattle.iso_plain_core.specs.declared.parts.Left.TheVariants as left
-use Rattle.iso_plain_core.specs.declared.parts.Choice as kept
-use Rattle.iso_plain_core.specs.declared.parts.Now.TheVariants as now
+use Rattle.iso_plain_core.specs.declared.choices.Left.{Left}
+use Rattle.iso_plain_core.specs.declared.choices.Left.TheVariants as left
+use Rattle.iso_plain_core.specs.declared.choices.Choice as kept
+use Rattle.iso_plain_core.specs.declared.members.Now.TheVariants as now
 use Rattle.iso_plain.specs.declared.plain.Plain.{Plain}
-use Rattle.iso_plain_core.specs.Costs.{frame_costs, rest_cost, choice_cost, choices_cost}
+use Rattle.iso_plain_core.specs.Costs.{member_costs, rest_cost, choice_cost, choices_cost}
 use Rattle.iso_plain_core.specs.Next.{now_behind}
 use Rattle.iso_plain_core.specs.Standing.{Chain, HasMembers, HasLeft, StandsForChoices, HaveRoom, GoesOn}
 use Rattle.iso_plain.specs.EngineStates.{IsEngine, IsAhead, WentBack, went_back, links_of, cost}
@@ -65,7 +65,7 @@ module _ {S W M : Type 0} (names : S → List (List ℕ)) (present : S → Prese
     -- the choice is gone
     pub resumed : (place : Option ℕ) (store : S) (choices : Vec (kept.Choice W M) Global) → c.left ≡ left.AsIs place → present store ≡ present e.store → ((m : M) (p : Present W) → older m c.mark → stands e.store m p → stands store m p) → KeepsTexts (names e.store) (names store)
         → choices.items ≡ take (length e.choices.items - 1) e.choices.items
-        → (a.left ≡ AsIs) × IsEngine names present stands older (record e { store = store; choices = choices; now = now_behind e.frames.items place }) (went_back a below s)
+        → (a.left ≡ AsIs) × IsEngine names present stands older (record e { store = store; choices = choices; now = now_behind e.members.items place }) (went_back a below s)
     resumed place store choices tries same marks texts made =
         let h : HasMembers (AreLeft (names e.store) e.db) e.query.items (variables s.query) (present e.store) (links_of e) place AsIs a = has_members (left.AsIs place) tries in
         let b = w.base in
@@ -83,10 +83,10 @@ module _ {S W M : Type 0} (names : S → List (List ℕ)) (present : S → Prese
         (h.is, engine_place names present stands older (record e { store = store; choices = choices }) (went_back a below s) place ahead)
 
     pub resumed_cost : (place : Option ℕ) (store : S) (choices : Vec (kept.Choice W M) Global) → 0 < length e.choices.items → c.left ≡ left.AsIs place → choices.items ≡ take (length e.choices.items - 1) e.choices.items
-        → cost (record e { store = store; choices = choices; now = now_behind e.frames.items place }) < choices_cost (frame_costs e.frames.items) e.choices.items
+        → cost (record e { store = store; choices = choices; now = now_behind e.members.items place }) < choices_cost (member_costs e.members.items) e.choices.items
     resumed_cost place store choices some tries made =
         let h : HasMembers (AreLeft (names e.store) e.db) e.query.items (variables s.query) (present e.store) (links_of e) place AsIs a = has_members (left.AsIs place) tries in
-        let costs = frame_costs e.frames.items in
+        let costs = member_costs e.members.items in
         let before = take (length e.choices.items - 1) e.choices.items in
         let old = ap (choices_cost costs) (choices_are some) ∙ choices_last costs before c in
         let here = ap (choice_cost costs) tries in
@@ -110,9 +110,9 @@ module _ {S W M : Type 0} (names : S → List (List ℕ)) (present : S → Prese
         }
 
     pub passed_cost : (goal : W) (place : Option ℕ) (store : S) (choices : Vec (kept.Choice W M) Global) → 0 < length e.choices.items → c.left ≡ left.Catching goal place → choices.items ≡ take (length e.choices.items - 1) e.choices.items
-        → cost (record e { store = store; choices = choices; now = now.Failing }) < choices_cost (frame_costs e.frames.items) e.choices.items
+        → cost (record e { store = store; choices = choices; now = now.Failing }) < choices_cost (member_costs e.members.items) e.choices.items
     passed_cost goal place store choices some catches made =
-        let costs = frame_costs e.frames.items in
+        let costs = member_costs e.members.items in
         let before = take (length e.choices.items - 1) e.choices.items in
         let old = ap (choices_cost costs) (choices_are some) ∙ choices_last costs before c in
         let here = ap (choice_cost costs) catches in
@@ -122,7 +122,7 @@ module _ {S W M : Type 0} (names : S → List (List ℕ)) (present : S → Prese
 
     -- the choice stays, and a step was taken
     pub repeated : (place : Option ℕ) (n : ℕ) → 0 < length e.choices.items → c.left ≡ left.Again place → n + 1 ≡ e.steps
-        → (a.left ≡ Again) × IsEngine names present stands older (record e { steps = n; now = now_behind e.frames.items place }) (record (pushed a.list Again (went_back a below s)) { steps = n })
+        → (a.left ≡ Again) × IsEngine names present stands older (record e { steps = n; now = now_behind e.members.items place }) (record (pushed a.list Again (went_back a below s)) { steps = n })
     repeated place n some tries more =
         let h : HasMembers (AreLeft (names e.store) e.db) e.query.items (variables s.query) (present e.store) (links_of e) place Again a = has_members (left.Again place) tries in
         let again : Alternative = record { list = a.list; subst = a.subst; next = a.next; built = a.built; left = Again } in
@@ -133,7 +133,7 @@ module _ {S W M : Type 0} (names : S → List (List ℕ)) (present : S → Prese
         let has : HasLeft (AreLeft (names e.store) e.db) e.query.items (variables s.query) (present e.store) (links_of e) c.left again =
         subst (λ (l : Left W). HasLeft (AreLeft (names e.store) e.db) e.query.items (variables s.query) (present e.store) (links_of e) l again) (sym tries) members in
         let stood : StandsForChoices (stands e.store) older e.base (AreLeft (names e.store) e.db) e.query.items (variables s.query) (links_of e) (take (length e.choices.items - 1) e.choices.items ++ c ∷ []) (again ∷ below) =
-        choices_push c again w.nodes w.frames (record { present = present e.store; mark = w.mark; newer = w.newer_base; has = has }) w.newer w.stands_below in
+        choices_push c again w.nodes w.members (record { present = present e.store; mark = w.mark; newer = w.newer_base; has = has }) w.newer w.stands_below in
         let room = w.room.0 in
         let ahead : IsAhead names present stands older (record e { steps = n }) (record (pushed a.list Again (went_back a below s)) { steps = n }) place = record {
           world = w.world;
@@ -147,10 +147,10 @@ module _ {S W M : Type 0} (names : S → List (List ℕ)) (present : S → Prese
         (h.is, engine_place names present stands older (record e { steps = n }) (record (pushed a.list Again (went_back a below s)) { steps = n }) place ahead)
 
     pub repeated_cost : (place : Option ℕ) (n : ℕ) → 0 < length e.choices.items → c.left ≡ left.Again place
-        → cost (record e { steps = n; now = now_behind e.frames.items place }) ≤ choices_cost (frame_costs e.frames.items) e.choices.items + choices_cost (frame_costs e.frames.items) e.choices.items
+        → cost (record e { steps = n; now = now_behind e.members.items place }) ≤ choices_cost (member_costs e.members.items) e.choices.items + choices_cost (member_costs e.members.items) e.choices.items
     repeated_cost place n some tries =
         let h : HasMembers (AreLeft (names e.store) e.db) e.query.items (variables s.query) (present e.store) (links_of e) place Again a = has_members (left.Again place) tries in
-        let costs = frame_costs e.frames.items in
+        let costs = member_costs e.members.items in
         let before = take (length e.choices.items - 1) e.choices.items in
         let old = ap (choices_cost costs) (choices_are some) ∙ choices_last costs before c in
         let here = ap (choice_cost costs) tries in

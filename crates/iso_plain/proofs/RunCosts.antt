@@ -4,13 +4,13 @@ use Rattle.iso_store_core.specs.Presents.{Present}
 use Rattle.iso_model.specs.Search.Bodies.{Body}
 use Rattle.iso_model.specs.Search.Walker.{State}
 use Rattle.iso_plain_core.specs.declared.bodies.Node.{Node}
-use Rattle.iso_plain_core.specs.declared.parts.Todo.{Todo}
-use Rattle.iso_plain_core.specs.declared.parts.Todo.TheVariants as todo
-use Rattle.iso_plain_core.specs.declared.parts.Frame.{Frame}
-use Rattle.iso_plain_core.specs.declared.parts.Now.{Now}
-use Rattle.iso_plain_core.specs.declared.parts.Now.TheVariants as now
+use Rattle.iso_plain_core.specs.declared.members.Todo.{Todo}
+use Rattle.iso_plain_core.specs.declared.members.Todo.TheVariants as todo
+use Rattle.iso_plain_core.specs.declared.members.Link.{Link}
+use Rattle.iso_plain_core.specs.declared.members.Now.{Now}
+use Rattle.iso_plain_core.specs.declared.members.Now.TheVariants as now
 use Rattle.iso_plain.specs.declared.plain.Plain.{Plain}
-use Rattle.iso_plain_core.specs.Costs.{whole_cost, todo_cost, frame_costs, place_cost, choices_cost, now_cost}
+use Rattle.iso_plain_core.specs.Costs.{whole_cost, todo_cost, member_costs, place_cost, choices_cost, now_cost}
 use Rattle.iso_plain_core.specs.Next.{now_behind}
 use Rattle.iso_plain_core.specs.Standing.{IsBody}
 use Rattle.iso_plain.specs.EngineStates.{Represents, cost, weight}
@@ -22,45 +22,45 @@ use Rattle.iso_plain.proofs.RunLemmas.{one_less}
 use Rattle.iso_plain_core.proofs.StandingLemmas.{body_within}
 use Rattle.iso_plain.proofs.WeightLemmas.{falls_less, cost_as}
 
--- a frame that asks for failure
-pub failing_falls : {S W M : Type 0} (e : Plain S W M) (f : Frame) → e.now ≡ now.Running f → f.todo ≡ todo.Fail → weight (record e { now = now.Failing }) < weight e
+-- a link that asks for failure
+pub failing_falls : {S W M : Type 0} (e : Plain S W M) (f : Link) → e.now ≡ now.Running f → f.todo ≡ todo.Fail → weight (record e { now = now.Failing }) < weight e
 failing_falls e f doing asks =
-    let old : cost e ≡ choices_cost (frame_costs e.frames.items) e.choices.items + suc (place_cost e.frames.items f.next) =
-    ap (λ (n : Now). choices_cost (frame_costs e.frames.items) e.choices.items + now_cost (frame_costs e.frames.items) n) doing
-    ∙ ap (λ (t : Todo). choices_cost (frame_costs e.frames.items) e.choices.items + todo_cost t (place_cost e.frames.items f.next)) asks in
+    let old : cost e ≡ choices_cost (member_costs e.members.items) e.choices.items + suc (place_cost e.members.items f.next) =
+    ap (λ (n : Now). choices_cost (member_costs e.members.items) e.choices.items + now_cost (member_costs e.members.items) n) doing
+    ∙ ap (λ (t : Todo). choices_cost (member_costs e.members.items) e.choices.items + todo_cost t (place_cost e.members.items f.next)) asks in
     falls_less e (record e { now = now.Failing }) refl (omega (arith, old))
 
 module _ {S W M : Type 0} (names : S → List (List ℕ)) (present : S → Present W) (stands : S → M → Present W → Type 0) (older : M → M → Type 0) where
-  module _ (e : Plain S W M) (s : State) (f : Frame) (k : ℕ) (doing : e.now ≡ now.Running f) (asks : f.todo ≡ todo.Body k) (r : Represents names present stands older e s) (more : e.steps ≢ 0) where
+  module _ (e : Plain S W M) (s : State) (f : Link) (k : ℕ) (doing : e.now ≡ now.Running f) (asks : f.todo ≡ todo.Body k) (r : Represents names present stands older e s) (more : e.steps ≢ 0) where
     -- less than before the goal is to be done behind it
-    pub behind_less : choices_cost (frame_costs e.frames.items) e.choices.items + place_cost e.frames.items f.next + 1 ≤ cost e
+    pub behind_less : choices_cost (member_costs e.members.items) e.choices.items + place_cost e.members.items f.next + 1 ≤ cost e
     behind_less =
         let old = cost_at names present stands older e s f k doing r asks in
-        let up = cost_above k (place_cost e.frames.items f.next) in
+        let up = cost_above k (place_cost e.members.items f.next) in
         omega (arith, old, up)
 
     -- with the step that is taken
     pub step_weight : whole_cost (suc (e.steps - 1)) (cost e) ≡ weight e
     step_weight = ap (λ n. whole_cost n (cost e)) (sym (one_less e.steps more))
 
-    pub goes_falls : (store : S) (nodes : Vec (Node W) Global) → weight (record e { store = store; nodes = nodes; steps = e.steps - 1; now = now_behind e.frames.items f.next }) < weight e
+    pub goes_falls : (store : S) (nodes : Vec (Node W) Global) → weight (record e { store = store; nodes = nodes; steps = e.steps - 1; now = now_behind e.members.items f.next }) < weight e
     goes_falls store nodes =
         let chain = ((at_body names present stands older e r.own f k doing asks r.engine).ahead).chain in
         let next = behind_cost f.next chain in
-        let paid = rest_paid (e.steps - 1) (choices_cost (frame_costs e.frames.items) e.choices.items) (place_cost e.frames.items f.next) (cost e) behind_less in
-        subst (λ x. weight (record e { store = store; nodes = nodes; steps = e.steps - 1; now = now_behind e.frames.items f.next }) < x) step_weight (rw next paid)
+        let paid = rest_paid (e.steps - 1) (choices_cost (member_costs e.members.items) e.choices.items) (place_cost e.members.items f.next) (cost e) behind_less in
+        subst (λ x. weight (record e { store = store; nodes = nodes; steps = e.steps - 1; now = now_behind e.members.items f.next }) < x) step_weight (rw next paid)
 
     pub fails_falls : (store : S) (nodes : Vec (Node W) Global) → weight (record e { store = store; nodes = nodes; steps = e.steps - 1; now = now.Failing }) < weight e
     fails_falls store nodes =
         let all = behind_less in
-        let paid = whole_paid (e.steps - 1) (cost e) (choices_cost (frame_costs e.frames.items) e.choices.items + 0) (omega (arith, all)) in
+        let paid = whole_paid (e.steps - 1) (cost e) (choices_cost (member_costs e.members.items) e.choices.items + 0) (omega (arith, all)) in
         subst (λ x. weight (record e { store = store; nodes = nodes; steps = e.steps - 1; now = now.Failing }) < x) step_weight paid
 
     -- a ball is thrown
-    pub throws_falls : (new : Plain S W M) (place : Option ℕ) → new.now ≡ now.Raising place → new.steps ≡ e.steps - 1 → new.choices ≡ e.choices → new.frames ≡ e.frames → weight new < weight e
-    throws_falls new place doing steps choices frames =
+    pub throws_falls : (new : Plain S W M) (place : Option ℕ) → new.now ≡ now.Raising place → new.steps ≡ e.steps - 1 → new.choices ≡ e.choices → new.members ≡ e.members → weight new < weight e
+    throws_falls new place doing steps choices members =
         let all = behind_less in
-        let here = cost_as e new (now.Raising place) doing choices frames in
+        let here = cost_as e new (now.Raising place) doing choices members in
         let paid = whole_paid (e.steps - 1) (cost e) (cost new) (omega (arith, all, here)) in
         subst (λ x. weight new < x) step_weight (subst (λ (k : ℕ). whole_cost k (cost new) < whole_cost (suc (e.steps - 1)) (cost e)) (sym steps) paid)
 
@@ -71,5 +71,5 @@ module _ {S W M : Type 0} (names : S → List (List ℕ)) (present : S → Prese
         let many = nodes.ok.0 in
         let within = nodes.ok.1 in
         let small = nodes.small in
-        let paid = goal_paid place (e.steps - 1) (choices_cost (frame_costs e.frames.items) e.choices.items) (place_cost e.frames.items f.next) (cost e) (below_words place (omega (arith, here, many, within, small))) behind_less in
+        let paid = goal_paid place (e.steps - 1) (choices_cost (member_costs e.members.items) e.choices.items) (place_cost e.members.items f.next) (cost e) (below_words place (omega (arith, here, many, within, small))) behind_less in
         subst (λ x. weight (record e { store = store; nodes = nodes; steps = e.steps - 1; now = now.Running (record { todo = todo.Body place; mark = mark; next = f.next }) }) < x) step_weight paid

@@ -12,8 +12,8 @@ use Rattle.iso_model.specs.Search.Walker.{State, Member, Goal, Alternative}
 use Rattle.iso_store_core.specs.Presents.{Present, KeepsMarks, KeepsWords, meaning}
 use Rattle.iso_plain_core.specs.declared.bodies.Node.{Node}
 use Rattle.iso_plain_core.specs.declared.bodies.Node.TheVariants as node
-use Rattle.iso_plain_core.specs.declared.parts.Frame.{Frame}
-use Rattle.iso_plain_core.specs.declared.parts.Now.TheVariants as now
+use Rattle.iso_plain_core.specs.declared.members.Link.{Link}
+use Rattle.iso_plain_core.specs.declared.members.Now.TheVariants as now
 use Rattle.iso_plain.specs.declared.plain.Plain.{Plain}
 use Rattle.iso_plain_core.specs.Entering.{Adds}
 use Rattle.iso_plain_core.specs.Standing.{IsAt, HaveRoom, numbers_a_step}
@@ -36,7 +36,7 @@ room_less steps (k ∷ ks) h = (let more = h.0 in omega (arith, more), room_less
 
 module _ {S W M : Type 0} (names : S → List (List ℕ)) (present : S → Present W) (stands : S → M → Present W → Type 0) (older : M → M → Type 0) where
   -- The engine is at this goal, with these members behind it.
-  pub record AtRun (e : Plain S W M) (s : State) (f : Frame) (w : W) : Type 0 where
+  pub record AtRun (e : Plain S W M) (s : State) (f : Link) (w : W) : Type 0 where
     pub term : Tree
     pub behind : List Member
     pub list : s.list ≡ Goal (Run term) f.mark ∷ behind
@@ -44,7 +44,7 @@ module _ {S W M : Type 0} (names : S → List (List ℕ)) (present : S → Prese
     pub value : apply s.subst term ≡ meaning (present e.store) w
     pub ahead : IsAhead names present stands older e (record s { list = behind }) f.next
 
-  pub at_run : (e : Plain S W M) (s : State) (f : Frame) (k : ℕ) (w : W) → e.now ≡ now.Running f → IsAt e.nodes.items f k (node.Run w) → IsEngine names present stands older e s → AtRun e s f w
+  pub at_run : (e : Plain S W M) (s : State) (f : Link) (k : ℕ) (w : W) → e.now ≡ now.Running f → IsAt e.nodes.items f k (node.Run w) → IsEngine names present stands older e s → AtRun e s f w
   at_run e s f k w doing there is =
       let b = at_body names present stands older e s f k doing there.asks is in
       let g = goal_at (present e.store) w there.there b.stands_for in
@@ -58,7 +58,7 @@ module _ {S W M : Type 0} (names : S → List (List ℕ)) (present : S → Prese
       }
 
   -- the goal is called, which takes a step; its procedure has these clauses
-  pub calls_engine : (e : Plain S W M) (s : State) (f : Frame) (w : W) (clause : ℕ) (later : View) (n : ℕ) (c : databases.Clause) (cs : List databases.Clause) (a : AtRun e s f w)
+  pub calls_engine : (e : Plain S W M) (s : State) (f : Link) (w : W) (clause : ℕ) (later : View) (n : ℕ) (c : databases.Clause) (cs : List databases.Clause) (a : AtRun e s f w)
       → e.steps ≡ suc n → AreLeft (names e.store) e.db clause later (c ∷ cs)
       → Calls names present stands older (record e { steps = n }) (record { clause = clause; later = later; goal = w; rest = f.next }) (record s { steps = n }) (meaning (present e.store) w) c cs a.behind
   calls_engine e s f w clause later n c cs a many clauses =
@@ -80,12 +80,12 @@ module _ {S W M : Type 0} (names : S → List (List ℕ)) (present : S → Prese
       → (present store).next ≡ (present e.store).next + count → count ≤ numbers_a_step
       → IsAhead names present stands older (record e { store = store; nodes = nodes; steps = n }) (record s { subst = q; next = s.next + count; built = built; steps = n }) place
   ahead_more e store nodes s place n built count q h many keeps texts adds words substitution next few =
-      let more : AddsLinks (links_of e) (record { nodes = nodes.items; frames = e.frames.items }) = record { nodes = adds; frames = adds_none e.frames.items } in
+      let more : AddsLinks (links_of e) (record { nodes = nodes.items; members = e.members.items }) = record { nodes = adds; members = adds_none e.members.items } in
       record {
         world = world_on texts h.world;
         steps = refl;
         base = base_kept (stands e.store) (stands store) e.base keeps h.base;
-        choices = choices_on names present stands older e store nodes e.frames (variables s.query) s.stack keeps texts adds (adds_none e.frames.items) h.choices;
+        choices = choices_on names present stands older e store nodes e.members (variables s.query) s.stack keeps texts adds (adds_none e.members.items) h.choices;
         room = room_less n s.stack (subst (λ (k : ℕ). HaveRoom k s.stack) many h.room);
         goes = record {
           subst = substitution;
@@ -93,7 +93,7 @@ module _ {S W M : Type 0} (names : S → List (List ℕ)) (present : S → Prese
           room = (let room = h.goes.room in let all = h.steps in omega (arith, room, all, many, few));
           words = variables_more words h.goes.words;
         };
-        chain = chain_more (record { nodes = nodes.items; frames = e.frames.items }) more words h.chain;
+        chain = chain_more (record { nodes = nodes.items; members = e.members.items }) more words h.chain;
       }
 
   -- the same where no number came

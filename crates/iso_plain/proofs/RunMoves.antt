@@ -14,9 +14,9 @@ use Rattle.iso_model.specs.declared.limit.Limit.TheVariants as limit
 use Rattle.iso_store_core.specs.Presents.{Present, KeepsMarks, meaning}
 use Rattle.iso_plain_core.specs.declared.bodies.Node.{Node}
 use Rattle.iso_plain_core.specs.declared.bodies.Node.TheVariants as node
-use Rattle.iso_plain_core.specs.declared.parts.Frame.{Frame}
-use Rattle.iso_plain_core.specs.declared.parts.Todo.TheVariants as todo
-use Rattle.iso_plain_core.specs.declared.parts.Now.TheVariants as now
+use Rattle.iso_plain_core.specs.declared.members.Link.{Link}
+use Rattle.iso_plain_core.specs.declared.members.Todo.TheVariants as todo
+use Rattle.iso_plain_core.specs.declared.members.Now.TheVariants as now
 use Rattle.iso_plain.specs.declared.plain.Move.{Move}
 use Rattle.iso_plain.specs.declared.plain.Move.TheVariants as move
 use Rattle.iso_plain.specs.declared.plain.Plain.{Plain}
@@ -28,7 +28,7 @@ use Rattle.iso_plain.specs.Worlds.{IsWorld}
 use Rattle.iso_plain_core.specs.Standing.{IsAt, HaveRoom}
 use Rattle.iso_plain.specs.EngineStates.{IsEngine, Represents, StandsFor, Keeps, Stopped, WasTried, WasRefused, Moves, phase_of}
 use Rattle.iso_model.specs.Terms.Variables.{variables}
-use Rattle.iso_plain.proofs.AheadLemmas.{at_frame, fail_of}
+use Rattle.iso_plain.proofs.AheadLemmas.{at_link, fail_of}
 use Rattle.iso_plain.proofs.EngineMoves.{spent_stands}
 use Rattle.iso_plain_core.proofs.EnteringLemmas.{adds_none}
 use Rattle.iso_plain.proofs.RunLemmas.{AtRun, at_run, room_less, one_less}
@@ -39,10 +39,10 @@ use Rattle.iso_plain.proofs.StoppedLemmas.{base_kept, choices_on}
 use Rattle.iso_plain.proofs.WorldLemmas.{world_on}
 
 module _ {S W M : Type 0} (names : S → List (List ℕ)) (present : S → Present W) (stands : S → M → Present W → Type 0) (older : M → M → Type 0) where
-  -- A frame asks for failure.
-  pub fails_next : (e : Plain S W M) (s : State) (f : Frame) → e.now ≡ now.Running f → f.todo ≡ todo.Fail → Represents names present stands older e s → Moves names present stands older move.Goes s (record e { now = now.Failing })
+  -- A link asks for failure.
+  pub fails_next : (e : Plain S W M) (s : State) (f : Link) → e.now ≡ now.Running f → f.todo ≡ todo.Fail → Represents names present stands older e s → Moves names present stands older move.Goes s (record e { now = now.Failing })
   fails_next e s f doing asks r =
-      let a = at_frame names present stands older e r.own f doing r.engine in
+      let a = at_link names present stands older e r.own f doing r.engine in
       let is = fail_of (present e.store) e.nodes.items f a.member asks a.stands_for in
       let h = r.engine in (
         s,
@@ -69,14 +69,14 @@ module _ {S W M : Type 0} (names : S → List (List ℕ)) (present : S → Prese
     world = world_on texts is.world;
     steps = refl;
     base = base_kept (stands e.store) (stands store) e.base keeps is.base;
-    choices = choices_on names present stands older e store nodes e.frames (variables s.query) s.stack keeps texts adds (adds_none e.frames.items) is.choices;
+    choices = choices_on names present stands older e store nodes e.members (variables s.query) s.stack keeps texts adds (adds_none e.members.items) is.choices;
     room = room_less n s.stack (subst (λ (k : ℕ). HaveRoom k s.stack) many is.room);
     next = ([], refl);
   }
 
   -- ---- a goal
 
-  module _ (e : Plain S W M) (s : State) (f : Frame) (k : ℕ) (w : W) (doing : e.now ≡ now.Running f) (there : IsAt e.nodes.items f k (node.Run w)) (r : Represents names present stands older e s) where
+  module _ (e : Plain S W M) (s : State) (f : Link) (k : ℕ) (w : W) (doing : e.now ≡ now.Running f) (there : IsAt e.nodes.items f k (node.Run w)) (r : Represents names present stands older e s) where
     abbrev pub own : State
     own = r.own
 

@@ -10,8 +10,8 @@ use Rattle.iso_model.specs.Search.RunLaws.SameRuns.{onward_same, comes_same, fin
 use Rattle.iso_model.specs.Search.RunLaws.SameSteps.{stack_length}
 use Rattle.iso_model.specs.Search.RunLaws.SameLaws.{same_back, same_beside, same_on}
 use Rattle.iso_store_core.specs.Presents.{Present}
-use Rattle.iso_plain_core.specs.declared.parts.Now.{Now}
-use Rattle.iso_plain_core.specs.declared.parts.Now.TheVariants as now
+use Rattle.iso_plain_core.specs.declared.members.Now.{Now}
+use Rattle.iso_plain_core.specs.declared.members.Now.TheVariants as now
 use Rattle.iso_plain.specs.declared.plain.Move.TheVariants as move
 use Rattle.iso_plain.specs.declared.plain.Plain.{Plain}
 use Rattle.iso_plain.specs.EngineStates.{IsEngine, StandsAs, Represents, Keeps, Stopped, StandsBy, StandsFor, Moves, phase_of}

@@ -21,9 +21,9 @@ use Rattle.iso_storage.specs.Shown.{MeetsClause, UnifiesClause}
 use Rattle.iso_plain_core.specs.Entering.{HasValues}
 use Rattle.iso_plain_core.specs.Next.{now_behind}
 use Rattle.iso_plain_core.specs.Offers.{clause_offer}
-use Rattle.iso_plain_core.specs.declared.parts.Now.{Now}
-use Rattle.iso_plain_core.specs.declared.parts.Now.TheVariants as now
-use Rattle.iso_plain_core.specs.declared.parts.Showing.{Showing}
+use Rattle.iso_plain_core.specs.declared.members.Now.{Now}
+use Rattle.iso_plain_core.specs.declared.members.Now.TheVariants as now
+use Rattle.iso_plain_core.specs.declared.choices.Showing.{Showing}
 use Rattle.iso_plain_core.proofs.EnteringLemmas.{adds_none}
 use Rattle.iso_plain.specs.declared.plain.Plain.{Plain}
 use Rattle.iso_plain.specs.EngineStates.{IsEngine, StandsAs, SameUnder, IsAhead, links_of}
@@ -109,12 +109,12 @@ module _ {S W M : Type 0} (names : S → List (List ℕ)) (present : S → Prese
 
   -- the search goes on behind it
   pub read_found : (e : Plain S W M) (r : Tree) (shown : Showing W) (s : State) (k : Key) (c : databases.Clause) → shown.removes ≡ false → HasUnified names present stands older e r shown s c true
-      → StandsAs names present stands older (record e { now = now_behind e.frames.items shown.rest }) (tried_right r (clause_offer shown.removes k c) s.list s)
+      → StandsAs names present stands older (record e { now = now_behind e.members.items shown.rest }) (tried_right r (clause_offer shown.removes k c) s.list s)
   read_found e r shown s k c stays h =
       let a = h.3 in
       let x : State = record s { subst = h.0; next = s.next + c.variables; built = s.built + clause_cost c } in
       let own : State = record x { subst = h.2 } in
-      let engine : Plain S W M = record e { now = now_behind e.frames.items shown.rest } in
+      let engine : Plain S W M = record e { now = now_behind e.members.items shown.rest } in
       let counted : IsAhead names present stands older e own shown.rest = record {
         world = a.world;
         steps = a.steps;

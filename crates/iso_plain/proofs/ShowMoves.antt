@@ -14,9 +14,9 @@ use Rattle.iso_plain_core.specs.Costs.{body_cost, most, rest_cost, choice_cost, 
 use Rattle.iso_plain_core.specs.Leaving.{AreLeft}
 use Rattle.iso_plain_core.specs.Offers.{clause_offer}
 use Rattle.iso_plain_core.specs.Standing.{Chain, HasShown, StandsForChoices, GainsChoice, GoesOn, entered_at, most_numbers, numbers_a_step}
-use Rattle.iso_plain_core.specs.declared.parts.Choice as kept
-use Rattle.iso_plain_core.specs.declared.parts.Left.TheVariants as left
-use Rattle.iso_plain_core.specs.declared.parts.Showing.{Showing}
+use Rattle.iso_plain_core.specs.declared.choices.Choice as kept
+use Rattle.iso_plain_core.specs.declared.choices.Left.TheVariants as left
+use Rattle.iso_plain_core.specs.declared.choices.Showing.{Showing}
 use Rattle.iso_plain_core.proofs.CostLemmas.{left_step, left_higher, choices_last}
 use Rattle.iso_plain_core.proofs.LeavingLemmas.{left_long}
 use Rattle.iso_plain_core.proofs.StandingLemmas.{choices_push, last_split}
@@ -76,7 +76,7 @@ module _ {S W M : Type 0} (names : S → List (List ℕ)) (present : S → Prese
 
     pub shows_later : (store : S) (choices : Vec (kept.Choice W M) Global) (clause : ℕ) (later : View) → AreLeft (names e.store) e.db clause later cs
         → present store ≡ present e.store → KeepsMarks (stands e.store) (stands store) → KeepsTexts (names e.store) (names store)
-        → GainsChoice (stands e.store) (stands store) older (present e.store) (length e.nodes.items) (length e.frames.items) (left.Shown (shown_from shown clause later)) e.choices.items choices.items
+        → GainsChoice (stands e.store) (stands store) older (present e.store) (length e.nodes.items) (length e.members.items) (left.Shown (shown_from shown clause later)) e.choices.items choices.items
         → Shows names present stands older (record e { store = store; choices = choices }) shown (with_rights here_row (offers_of shown k cs) s.list s) k c cs
     shows_later store choices clause later next same keeps texts gains =
         let a = t.ahead in
@@ -163,7 +163,7 @@ module _ {S W M : Type 0} (names : S → List (List ℕ)) (present : S → Prese
             steps = w.steps;
             base = w.base;
             choices = subst (λ (ds : List (kept.Choice W M)). StandsForChoices (stands e.store) older e.base (AreLeft (names e.store) e.db) e.query.items (variables s.query) (links_of e) ds (b ∷ below)) (sym made)
-                (choices_push (with_left c (left.Shown (shown_from shown clause later))) b w.nodes w.frames (record { present = present e.store; mark = w.mark; newer = w.newer_base; has = over }) w.newer w.stands_below);
+                (choices_push (with_left c (left.Shown (shown_from shown clause later))) b w.nodes w.members (record { present = present e.store; mark = w.mark; newer = w.newer_base; has = over }) w.newer w.stands_below);
             room = (space, w.room.1);
             goes = record { subst = goes.subst; next = goes.next; room = goes.room; words = goes.words };
             chain = h.on.chain;

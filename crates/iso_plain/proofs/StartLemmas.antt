@@ -16,8 +16,8 @@ use Rattle.iso_model.proofs.OnTerms.CopyLemmas.{in_numbers_from}
 use Rattle.iso_model.specs.Search.Databases.{Static, at_end}
 use Rattle.iso_model.specs.Search.Errors.{key, type_error_callable}
 use Rattle.iso_store_core.specs.Presents.{Present, KeepsMarks}
-use Rattle.iso_plain_core.specs.declared.parts.Choice as kept
-use Rattle.iso_plain_core.specs.declared.parts.Now.TheVariants as now
+use Rattle.iso_plain_core.specs.declared.choices.Choice as kept
+use Rattle.iso_plain_core.specs.declared.members.Now.TheVariants as now
 use Rattle.iso_plain_core.specs.Standing.{Links, StandsForChoices, none_kept, one_kept}
 use Rattle.std.specs.Prelude.{Result, Ok, Err, IsErrAnd}
 use Rattle.iso_model.specs.Search.RunLaws.Values.{IsTwice}

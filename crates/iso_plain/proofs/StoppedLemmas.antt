@@ -7,8 +7,8 @@ use Rattle.iso_model.specs.Search.Walker.{State, World, Alternative}
 use Rattle.iso_model.specs.Search.Runs.{here}
 use Rattle.iso_store_core.specs.Presents.{Present, KeepsMarks}
 use Rattle.iso_plain_core.specs.declared.bodies.Node.{Node}
-use Rattle.iso_plain_core.specs.declared.parts.Frame.{Frame}
-use Rattle.iso_plain_core.specs.declared.parts.Choice as kept
+use Rattle.iso_plain_core.specs.declared.members.Link.{Link}
+use Rattle.iso_plain_core.specs.declared.choices.Choice as kept
 use Rattle.iso_plain.specs.declared.plain.Plain.{Plain}
 use Rattle.iso_plain_core.specs.Entering.{Adds}
 use Rattle.iso_plain_core.specs.Standing.{StandsForChoices, none_kept}
@@ -30,19 +30,19 @@ module _ {S W M : Type 0} (names : S → List (List ℕ)) (present : S → Prese
   pub keeps_none : (e : Plain S W M) (w : World) → IsFresh names present stands older e w → Keeps names present stands older e w []
   keeps_none e w fresh = (fresh.world, fresh.base, ([], rw fresh.choices none_kept))
 
-  -- the choices, where marks stand on and nodes and frames come
-  pub choices_on : (e : Plain S W M) (store : S) (nodes : Vec (Node W) Global) (frames : Vec Frame Global) (named : List ℕ) (ks : List Alternative) → KeepsMarks (stands e.store) (stands store)
-      → KeepsTexts (names e.store) (names store) → Adds e.nodes.items nodes.items → Adds e.frames.items frames.items
+  -- the choices, where marks stand on and nodes and members come
+  pub choices_on : (e : Plain S W M) (store : S) (nodes : Vec (Node W) Global) (members : Vec Link Global) (named : List ℕ) (ks : List Alternative) → KeepsMarks (stands e.store) (stands store)
+      → KeepsTexts (names e.store) (names store) → Adds e.nodes.items nodes.items → Adds e.members.items members.items
       → StandsForChoices (stands e.store) older e.base (AreLeft (names e.store) e.db) e.query.items named (links_of e) e.choices.items ks
-      → StandsForChoices (stands store) older e.base (AreLeft (names store) e.db) e.query.items named (record { nodes = nodes.items; frames = frames.items }) e.choices.items ks
-  choices_on e store nodes frames named ks keeps texts nodes_add frames_add are =
-      choices_more (record { nodes = nodes.items; frames = frames.items }) (record { nodes = nodes_add; frames = frames_add }) (choices_kept texts (λ d p among stood. keeps d.mark p stood) are)
+      → StandsForChoices (stands store) older e.base (AreLeft (names store) e.db) e.query.items named (record { nodes = nodes.items; members = members.items }) e.choices.items ks
+  choices_on e store nodes members named ks keeps texts nodes_add members_add are =
+      choices_more (record { nodes = nodes.items; members = members.items }) (record { nodes = nodes_add; members = members_add }) (choices_kept texts (λ d p among stood. keeps d.mark p stood) are)
 
-  -- a store that keeps its marks, and nodes and frames that come
-  pub keeps_more : (e : Plain S W M) (store : S) (nodes : Vec (Node W) Global) (frames : Vec Frame Global) (w : World) (ks : List Alternative) → Keeps names present stands older e w ks → KeepsMarks (stands e.store) (stands store) → KeepsTexts (names e.store) (names store)
-      → Adds e.nodes.items nodes.items → Adds e.frames.items frames.items → Keeps names present stands older (record e { store = store; nodes = nodes; frames = frames }) w ks
-  keeps_more e store nodes frames w ks k keeps texts nodes_add frames_add =
-      (world_on texts k.0, base_kept (stands e.store) (stands store) e.base keeps k.1, (k.2.0, choices_on e store nodes frames k.2.0 ks keeps texts nodes_add frames_add k.2.1))
+  -- a store that keeps its marks, and nodes and members that come
+  pub keeps_more : (e : Plain S W M) (store : S) (nodes : Vec (Node W) Global) (members : Vec Link Global) (w : World) (ks : List Alternative) → Keeps names present stands older e w ks → KeepsMarks (stands e.store) (stands store) → KeepsTexts (names e.store) (names store)
+      → Adds e.nodes.items nodes.items → Adds e.members.items members.items → Keeps names present stands older (record e { store = store; nodes = nodes; members = members }) w ks
+  keeps_more e store nodes members w ks k keeps texts nodes_add members_add =
+      (world_on texts k.0, base_kept (stands e.store) (stands store) e.base keeps k.1, (k.2.0, choices_on e store nodes members k.2.0 ks keeps texts nodes_add members_add k.2.1))
 
   pub keeps_store : (e : Plain S W M) (store : S) (w : World) (ks : List Alternative) → Keeps names present stands older e w ks → KeepsMarks (stands e.store) (stands store) → KeepsTexts (names e.store) (names store)
       → Keeps names present stands older (record e { store = store }) w ks

@@ -13,7 +13,7 @@ use Rattle.iso_model.specs.Search.Databases.{Key}
 use Rattle.iso_model.specs.Search.Settlements.{Settled, Offer, Reference, Refuses, Changes, Offers}
 use Rattle.iso_model.specs.Search.Walker as search
 use Rattle.iso_model.specs.Search.Walker.{State, World, Member, Alternative, fails, under, met_right, is_there, tried_right, with_rights, offered, settled}
-use Rattle.iso_model.specs.declared.library.Storage.{Storage}
+use Rattle.iso_model.specs.declared.kinds.Storage.{Storage}
 use Rattle.iso_model.specs.declared.pauses.Ball.{Ball}
 use Rattle.iso_db.specs.Presents.{contents, KeepsViews, KeepsClauses}
 use Rattle.iso_db.specs.declared.db.Db.{Db}
@@ -30,8 +30,8 @@ use Rattle.iso_plain_core.specs.Offers.{clause_offer}
 use Rattle.iso_plain_core.specs.Standing.{StandsForChoices}
 use Rattle.iso_plain_core.specs.declared.callables.Callable.{Callable}
 use Rattle.iso_plain_core.specs.declared.clauses.Clause.{Clause}
-use Rattle.iso_plain_core.specs.declared.parts.Now.TheVariants as now
-use Rattle.iso_plain_core.specs.declared.parts.Showing.{Showing}
+use Rattle.iso_plain_core.specs.declared.members.Now.TheVariants as now
+use Rattle.iso_plain_core.specs.declared.choices.Showing.{Showing}
 use Rattle.iso_plain_core.proofs.EnteringLemmas.{adds_none}
 use Rattle.iso_plain_core.proofs.LeavingLemmas.{left_keeps}
 use Rattle.iso_plain_core.proofs.StandingLemmas.{chain_more, choices_stay, variables_more}
@@ -118,13 +118,13 @@ module _ {S W M : Type 0} (names : S → List (List ℕ)) (present : S → Prese
               choices = choices_there;
               room = a.room;
               goes = record { subst = unbound.substitution ∙ a.goes.subst; next = unbound.next ∙ a.goes.next; room = a.goes.room; words = variables_more unbound.words a.goes.words };
-              chain = chain_more (links_of e) (record { nodes = adds_none e.nodes.items; frames = adds_none e.frames.items }) unbound.words a.chain;
+              chain = chain_more (links_of e) (record { nodes = adds_none e.nodes.items; members = adds_none e.members.items }) unbound.words a.chain;
             }
 
         -- it succeeds
-        pub done_engine : (made : ℕ) (x : Settled) → x ≡ Changes made (record s.world { database = m }) → IsEngine names present stands older (record e { store = store; db = db; callables = callables; now = now_behind e.frames.items place }) (settled x s.list s)
+        pub done_engine : (made : ℕ) (x : Settled) → x ≡ Changes made (record s.world { database = m }) → IsEngine names present stands older (record e { store = store; db = db; callables = callables; now = now_behind e.members.items place }) (settled x s.list s)
         done_engine made x is =
-            subst (λ (z : Settled). IsEngine names present stands older (record e { store = store; db = db; callables = callables; now = now_behind e.frames.items place }) (settled z s.list s)) (sym is)
+            subst (λ (z : Settled). IsEngine names present stands older (record e { store = store; db = db; callables = callables; now = now_behind e.members.items place }) (settled z s.list s)) (sym is)
             (engine_place names present stands older behind (record s { built = s.built + made; world = record s.world { database = m } }) place (ahead_behind made))
 
     module _ (program : IsProgram (names store) (contents db) callables.items s.world.database) where
@@ -150,7 +150,7 @@ module _ {S W M : Type 0} (names : S → List (List ℕ)) (present : S → Prese
               choices = choices_there;
               room = a.room;
               goes = record { subst = unbound.substitution ∙ a.goes.subst; next = unbound.next ∙ a.goes.next; room = a.goes.room; words = variables_more unbound.words a.goes.words };
-              chain = chain_more (links_of e) (record { nodes = adds_none e.nodes.items; frames = adds_none e.frames.items }) unbound.words a.chain;
+              chain = chain_more (links_of e) (record { nodes = adds_none e.nodes.items; members = adds_none e.members.items }) unbound.words a.chain;
             }
 
         -- clauses are shown

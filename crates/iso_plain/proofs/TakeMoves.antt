@@ -16,9 +16,9 @@ use Rattle.iso_db.specs.declared.db.Db.{Db}
 use Rattle.iso_db.specs.declared.views.View.{View}
 use Rattle.iso_store_core.specs.Presents.{Present}
 use Rattle.iso_plain_core.specs.declared.clauses.Clause as kept
-use Rattle.iso_plain_core.specs.declared.parts.Now.{Now}
-use Rattle.iso_plain_core.specs.declared.parts.Now.TheVariants as now
-use Rattle.iso_plain_core.specs.declared.parts.Showing.{Showing}
+use Rattle.iso_plain_core.specs.declared.members.Now.{Now}
+use Rattle.iso_plain_core.specs.declared.members.Now.TheVariants as now
+use Rattle.iso_plain_core.specs.declared.choices.Showing.{Showing}
 use Rattle.iso_plain_core.specs.Callables.{Finds}
 use Rattle.iso_plain_core.specs.Leaving.{AreLeft}
 use Rattle.iso_plain_core.specs.Next.{now_behind}
@@ -114,12 +114,12 @@ module _ {S W M : Type 0} (names : S → List (List ℕ)) (present : S → Prese
 
     pub take_found : (r : Tree) (shown : Showing W) (s : State) (k : Key) (c : databases.Clause) → c.number ≡ number → place_at (contents e.db) k ≡ Some place → shown.removes ≡ true → has_clause s.world.database.procedures k c.number ≡ true
         → HasUnified names present stands older e r shown s c true
-        → StandsAs names present stands older (record e { db = d; now = now_behind e.frames.items shown.rest }) (tried_right r (clause_offer shown.removes k c) s.list s)
+        → StandsAs names present stands older (record e { db = d; now = now_behind e.members.items shown.rest }) (tried_right r (clause_offer shown.removes k c) s.list s)
     take_found r shown s k c same at goes there h =
         let x : State = record s { next = s.next + c.variables; built = s.built + clause_cost c } in
         let y : State = record s { subst = h.0; next = s.next + c.variables; built = s.built + clause_cost c; world = without_removed (reference k number) s.world } in
         let own : State = record y { subst = h.2 } in
-        let engine : Plain S W M = record e { db = d; now = now_behind e.frames.items shown.rest } in
+        let engine : Plain S W M = record e { db = d; now = now_behind e.members.items shown.rest } in
         let ahead : IsAhead names present stands older behind own shown.rest = ahead_less (record s { subst = h.2; next = s.next + c.variables }) k shown.rest (s.built + clause_cost c) at h.3 in
         let alike : SameUnder h.2 y.subst y = record { goals = h.4.goals; shown = h.4.shown; beyond = h.4.beyond; twice = h.4.twice } in
         let is : StandsAs names present stands older engine y = record { own = own; engine = engine_place names present stands older behind own shown.rest ahead; same = same_under h.2 y alike } in

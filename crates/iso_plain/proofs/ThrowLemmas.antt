@@ -10,10 +10,10 @@ use Rattle.iso_model.specs.Search.Walker.{State, Alternative, Left, AsIs, Again,
 use Rattle.iso_store_core.specs.Presents.{Present, meaning}
 use Rattle.iso_plain_core.specs.Solutions.{copies_of}
 use Rattle.iso_plain_core.specs.Offers.{goal_arguments, rights_of, clause_offer}
-use Rattle.iso_plain_core.specs.declared.parts.Frame.{Frame}
-use Rattle.iso_plain_core.specs.declared.parts.Left as engine
-use Rattle.iso_plain_core.specs.declared.parts.Left.TheVariants as left
-use Rattle.iso_plain_core.specs.declared.parts.Choice as kept
+use Rattle.iso_plain_core.specs.declared.members.Link.{Link}
+use Rattle.iso_plain_core.specs.declared.choices.Left as engine
+use Rattle.iso_plain_core.specs.declared.choices.Left.TheVariants as left
+use Rattle.iso_plain_core.specs.declared.choices.Choice as kept
 use Rattle.iso_plain_core.specs.Standing.{Links, HasLeft, StandsForChoice, StandsForChoices, one_kept, none_kept, links_at}
 use Rattle.iso_plain.specs.Catches.{IsEntry, IsEndOfCatch}
 use Rattle.iso_plain_core.proofs.StandingLemmas.{choices_length, length_last, at_front, last_is, some_same}
@@ -129,7 +129,7 @@ module _ {W M : Type 0} {leaves : Leaving} {query : List W} {named : List ℕ} w
     by_left (left.Clauses attempt) e has = passes (Clauses has.call has.clauses) has.left refl
 
 -- a choice that is no entry of a catch
-pub no_entry : {W M : Type 0} (choices : List (kept.Choice W M)) (f : Frame) (c : kept.Choice W M) → slice_get choices f.mark ≡ Some c → ((goal : W) (place : Option ℕ) → c.left ≡ left.Catching goal place → ⊥) → IsEndOfCatch choices f → ⊥
+pub no_entry : {W M : Type 0} (choices : List (kept.Choice W M)) (f : Link) (c : kept.Choice W M) → slice_get choices f.mark ≡ Some c → ((goal : W) (place : Option ℕ) → c.left ≡ left.Catching goal place → ⊥) → IsEndOfCatch choices f → ⊥
 no_entry {W} {M} choices f c there none h =
     let same : h.choice ≡ c = some_same (sym h.stands ∙ there) in
     by_left c.left none (subst (λ (d : kept.Choice W M). IsEntry d.left) same h.entry) where

@@ -13,7 +13,7 @@ use Rattle.iso_plain_core.specs.Entering.{HasValues}
 use Rattle.iso_plain_core.specs.Nodes.{IsTree, runs, cuts, joins, branches, commits, chooses}
 use Rattle.iso_plain_core.specs.Standing.{Links, Chain, ends, leads, IsMember, a_body, a_cut, a_failure, an_end, a_template, AreVariables, no_word, one_word, IsGoalWord}
 use Rattle.iso_plain_core.specs.declared.bodies.Node.{Node}
-use Rattle.iso_plain_core.specs.declared.parts.Frame.{Frame}
+use Rattle.iso_plain_core.specs.declared.members.Link.{Link}
 use Rattle.iso_plain.specs.EngineStates.{SameUnder}
 use Rattle.iso_plain.proofs.SameBodies.{around_itself}
 
@@ -38,7 +38,7 @@ module _ {W : Type 0} {p q : Present W} {u : Subst} (h : HasValues p q u) where
   template_value (runs {g = w} {t = t} at is) = word_value w t is
 
   -- a member before others
-  member_value : (nodes : List (Node W)) (f : Frame) (m : Member) (ms : List Member) → IsMember p nodes f m → SameList q.substitution u (flat ms) (flat ms) → SameList q.substitution u (flat (m ∷ ms)) (flat (m ∷ ms))
+  member_value : (nodes : List (Node W)) (f : Link) (m : Member) (ms : List Member) → IsMember p nodes f m → SameList q.substitution u (flat ms) (flat ms) → SameList q.substitution u (flat (m ∷ ms)) (flat (m ∷ ms))
   member_value nodes f m ms (a_body {b = b} asks body) same = put_alike q.substitution u (flat ms) (flat ms) b b f.mark (body_value body) same
   member_value nodes f m ms (a_cut asks) same = same_cut same
   member_value nodes f m ms (a_failure asks) same = same_failure same

@@ -1,19 +1,19 @@
 -- By what moves fall.
 use Rattle.std.proofs.Common.{◌≡◌, ◌<◌, ◌≤◌, ◌+◌, ℕ, suc, Option, refl, ap, ◌∙◌, arith}
-use Rattle.iso_plain_core.specs.declared.parts.Now.{Now}
-use Rattle.iso_plain_core.specs.declared.parts.Now.TheVariants as now
+use Rattle.iso_plain_core.specs.declared.members.Now.{Now}
+use Rattle.iso_plain_core.specs.declared.members.Now.TheVariants as now
 use Rattle.iso_plain.specs.declared.plain.Plain.{Plain}
-use Rattle.iso_plain_core.specs.Costs.{body_cost, most, left_cost, whole_cost, rest_cost, frame_costs, choices_cost, now_cost}
+use Rattle.iso_plain_core.specs.Costs.{body_cost, most, left_cost, whole_cost, rest_cost, member_costs, choices_cost, now_cost}
 use Rattle.iso_plain.specs.EngineStates.{cost, weight}
 use Rattle.iso_plain_core.proofs.CostLemmas.{whole_more, whole_paid, called_cost, left_step, cost_above}
 
--- the cost of an engine whose choices and frames are those of another
-pub cost_as : {S W M : Type 0} (e new : Plain S W M) (n : Now) → new.now ≡ n → new.choices ≡ e.choices → new.frames ≡ e.frames
-    → cost new ≡ choices_cost (frame_costs e.frames.items) e.choices.items + now_cost (frame_costs e.frames.items) n
-cost_as e new n doing choices frames =
-    (ap (λ fs. choices_cost (frame_costs fs.items) new.choices.items + now_cost (frame_costs fs.items) new.now) frames
-    ∙ (ap (λ cs. choices_cost (frame_costs e.frames.items) cs.items + now_cost (frame_costs e.frames.items) new.now) choices
-    ∙ ap (λ (m : Now). choices_cost (frame_costs e.frames.items) e.choices.items + now_cost (frame_costs e.frames.items) m) doing))
+-- the cost of an engine whose choices and members are those of another
+pub cost_as : {S W M : Type 0} (e new : Plain S W M) (n : Now) → new.now ≡ n → new.choices ≡ e.choices → new.members ≡ e.members
+    → cost new ≡ choices_cost (member_costs e.members.items) e.choices.items + now_cost (member_costs e.members.items) n
+cost_as e new n doing choices members =
+    (ap (λ fs. choices_cost (member_costs fs.items) new.choices.items + now_cost (member_costs fs.items) new.now) members
+    ∙ (ap (λ cs. choices_cost (member_costs e.members.items) cs.items + now_cost (member_costs e.members.items) new.now) choices
+    ∙ ap (λ (m : Now). choices_cost (member_costs e.members.items) e.choices.items + now_cost (member_costs e.members.items) m) doing))
 
 -- as many steps, and less to be done before the next
 pub falls_less : {S W M : Type 0} (e new : Plain S W M) → new.steps ≡ e.steps → cost new < cost e → weight new < weight e
@@ -26,36 +26,36 @@ falls_called steps s r w v less within =
     whole_paid steps w v (omega (arith, h, within))
 
 -- what a call leaves to be done: its other clauses, and what comes next
-pub call_costs : {S W M : Type 0} (e mid new : Plain S W M) (rest : Option ℕ) → mid.frames ≡ e.frames → new.frames ≡ mid.frames → new.choices ≡ mid.choices
-    → choices_cost (frame_costs e.frames.items) mid.choices.items ≤ choices_cost (frame_costs e.frames.items) e.choices.items + left_cost most (rest_cost (frame_costs e.frames.items) rest)
-    → now_cost (frame_costs mid.frames.items) new.now ≤ body_cost most (rest_cost (frame_costs mid.frames.items) rest)
-    → cost new ≤ choices_cost (frame_costs e.frames.items) e.choices.items + left_cost most (rest_cost (frame_costs e.frames.items) rest) + body_cost most (rest_cost (frame_costs e.frames.items) rest)
-call_costs e mid new rest frames same choices kept next =
-    let all : choices_cost (frame_costs new.frames.items) new.choices.items ≡ choices_cost (frame_costs e.frames.items) mid.choices.items =
-    (ap (λ fs. choices_cost (frame_costs fs.items) new.choices.items) (same ∙ frames) ∙ ap (λ cs. choices_cost (frame_costs e.frames.items) cs.items) choices) in
-    let here : now_cost (frame_costs new.frames.items) new.now ≡ now_cost (frame_costs mid.frames.items) new.now = ap (λ fs. now_cost (frame_costs fs.items) new.now) same in
-    let there : body_cost most (rest_cost (frame_costs mid.frames.items) rest) ≡ body_cost most (rest_cost (frame_costs e.frames.items) rest) = ap (λ fs. body_cost most (rest_cost (frame_costs fs.items) rest)) frames in
+pub call_costs : {S W M : Type 0} (e mid new : Plain S W M) (rest : Option ℕ) → mid.members ≡ e.members → new.members ≡ mid.members → new.choices ≡ mid.choices
+    → choices_cost (member_costs e.members.items) mid.choices.items ≤ choices_cost (member_costs e.members.items) e.choices.items + left_cost most (rest_cost (member_costs e.members.items) rest)
+    → now_cost (member_costs mid.members.items) new.now ≤ body_cost most (rest_cost (member_costs mid.members.items) rest)
+    → cost new ≤ choices_cost (member_costs e.members.items) e.choices.items + left_cost most (rest_cost (member_costs e.members.items) rest) + body_cost most (rest_cost (member_costs e.members.items) rest)
+call_costs e mid new rest members same choices kept next =
+    let all : choices_cost (member_costs new.members.items) new.choices.items ≡ choices_cost (member_costs e.members.items) mid.choices.items =
+    (ap (λ fs. choices_cost (member_costs fs.items) new.choices.items) (same ∙ members) ∙ ap (λ cs. choices_cost (member_costs e.members.items) cs.items) choices) in
+    let here : now_cost (member_costs new.members.items) new.now ≡ now_cost (member_costs mid.members.items) new.now = ap (λ fs. now_cost (member_costs fs.items) new.now) same in
+    let there : body_cost most (rest_cost (member_costs mid.members.items) rest) ≡ body_cost most (rest_cost (member_costs e.members.items) rest) = ap (λ fs. body_cost most (rest_cost (member_costs fs.items) rest)) members in
     omega (arith, all, here, there, kept, next)
 
 -- behind failure: the newest choice was taken away, or left at less
 pub back_cost : {S W M : Type 0} (e back : Plain S W M) → back.choices ≡ e.choices
-    → choices_cost (frame_costs back.frames.items) e.choices.items ≡ choices_cost (frame_costs e.frames.items) e.choices.items
-    → choices_cost (frame_costs back.frames.items) back.choices.items ≤ cost e
+    → choices_cost (member_costs back.members.items) e.choices.items ≡ choices_cost (member_costs e.members.items) e.choices.items
+    → choices_cost (member_costs back.members.items) back.choices.items ≤ cost e
 back_cost e back choices same =
-    let all : choices_cost (frame_costs back.frames.items) back.choices.items ≡ choices_cost (frame_costs back.frames.items) e.choices.items =
-    ap (λ cs. choices_cost (frame_costs back.frames.items) cs.items) choices in
+    let all : choices_cost (member_costs back.members.items) back.choices.items ≡ choices_cost (member_costs back.members.items) e.choices.items =
+    ap (λ cs. choices_cost (member_costs back.members.items) cs.items) choices in
     omega (arith, all, same)
 
 -- a clause of a choice was entered
-pub entered_cost : {S W M : Type 0} (back mid new : Plain S W M) (rest : Option ℕ) → mid.frames ≡ back.frames → new.frames ≡ mid.frames → new.choices ≡ mid.choices
-    → choices_cost (frame_costs back.frames.items) mid.choices.items + (body_cost most (rest_cost (frame_costs back.frames.items) rest) + 1) ≤ choices_cost (frame_costs back.frames.items) back.choices.items
-    → now_cost (frame_costs mid.frames.items) new.now ≤ body_cost most (rest_cost (frame_costs mid.frames.items) rest)
-    → cost new < choices_cost (frame_costs back.frames.items) back.choices.items
-entered_cost back mid new rest frames same choices fewer next =
-    let all : choices_cost (frame_costs new.frames.items) new.choices.items ≡ choices_cost (frame_costs back.frames.items) mid.choices.items =
-    (ap (λ fs. choices_cost (frame_costs fs.items) new.choices.items) (same ∙ frames) ∙ ap (λ cs. choices_cost (frame_costs back.frames.items) cs.items) choices) in
-    let here : now_cost (frame_costs new.frames.items) new.now ≡ now_cost (frame_costs mid.frames.items) new.now = ap (λ fs. now_cost (frame_costs fs.items) new.now) same in
-    let there : body_cost most (rest_cost (frame_costs mid.frames.items) rest) ≡ body_cost most (rest_cost (frame_costs back.frames.items) rest) = ap (λ fs. body_cost most (rest_cost (frame_costs fs.items) rest)) frames in
+pub entered_cost : {S W M : Type 0} (back mid new : Plain S W M) (rest : Option ℕ) → mid.members ≡ back.members → new.members ≡ mid.members → new.choices ≡ mid.choices
+    → choices_cost (member_costs back.members.items) mid.choices.items + (body_cost most (rest_cost (member_costs back.members.items) rest) + 1) ≤ choices_cost (member_costs back.members.items) back.choices.items
+    → now_cost (member_costs mid.members.items) new.now ≤ body_cost most (rest_cost (member_costs mid.members.items) rest)
+    → cost new < choices_cost (member_costs back.members.items) back.choices.items
+entered_cost back mid new rest members same choices fewer next =
+    let all : choices_cost (member_costs new.members.items) new.choices.items ≡ choices_cost (member_costs back.members.items) mid.choices.items =
+    (ap (λ fs. choices_cost (member_costs fs.items) new.choices.items) (same ∙ members) ∙ ap (λ cs. choices_cost (member_costs back.members.items) cs.items) choices) in
+    let here : now_cost (member_costs new.members.items) new.now ≡ now_cost (member_costs mid.members.items) new.now = ap (λ fs. now_cost (member_costs fs.items) new.now) same in
+    let there : body_cost most (rest_cost (member_costs mid.members.items) rest) ≡ body_cost most (rest_cost (member_costs back.members.items) rest) = ap (λ fs. body_cost most (rest_cost (member_costs fs.items) rest)) members in
     omega (arith, all, here, there, fewer, next)
 
 -- a step was taken for a choice that stays
@@ -70,5 +70,5 @@ falls_again e new w steps within less =
 -- an answer was given
 pub answered_falls : {S W M : Type 0} (e : Plain S W M) → e.now ≡ now.Answering → weight (record e { now = now.Failing }) < weight e
 answered_falls e doing =
-    let old : cost e ≡ choices_cost (frame_costs e.frames.items) e.choices.items + 1 = ap (λ (n : Now). choices_cost (frame_costs e.frames.items) e.choices.items + now_cost (frame_costs e.frames.items) n) doing in
+    let old : cost e ≡ choices_cost (member_costs e.members.items) e.choices.items + 1 = ap (λ (n : Now). choices_cost (member_costs e.members.items) e.choices.items + now_cost (member_costs e.members.items) n) doing in
     falls_less e (record e { now = now.Failing }) refl (omega (arith, old))

@@ -10,7 +10,7 @@ use Rattle.iso_plain_core.specs.declared.vocabulary.Vocabulary.{Vocabulary}
 use Rattle.iso_plain_core.specs.Vocabularies.{IsVocabulary}
 use Rattle.iso_plain_core.specs.Leaving.{AreLeft, KeepsLeft}
 use Rattle.iso_plain_core.specs.Standing.{Among, Links, StandsForChoices}
-use Rattle.iso_plain_core.specs.declared.parts.Choice as kept
+use Rattle.iso_plain_core.specs.declared.choices.Choice as kept
 use Rattle.iso_plain_core.proofs.StandingLemmas.{choices_keep, choices_stay}
 use Rattle.iso_store_core.specs.Presents.{Present}
 use Rattle.iso_db.specs.Databases.{Database}

@@ -13,11 +13,11 @@ use Rattle.iso_model.specs.Search.Walker.{State, Member, Alternative, Goes, Ends
 use Rattle.iso_model.specs.declared.pauses.Ball.{Ball}
 use Rattle.iso_lib_core.specs.Replies.{UnifiesCopy, MeetsCopy}
 use Rattle.iso_store_core.specs.Presents.{Present, meaning}
-use Rattle.iso_plain_core.specs.declared.parts.Frame.{Frame}
-use Rattle.iso_plain_core.specs.declared.parts.Todo.TheVariants as todo
-use Rattle.iso_plain_core.specs.declared.parts.Left.{Left}
-use Rattle.iso_plain_core.specs.declared.parts.Left.TheVariants as left
-use Rattle.iso_plain_core.specs.declared.parts.Choice as kept
+use Rattle.iso_plain_core.specs.declared.members.Link.{Link}
+use Rattle.iso_plain_core.specs.declared.members.Todo.TheVariants as todo
+use Rattle.iso_plain_core.specs.declared.choices.Left.{Left}
+use Rattle.iso_plain_core.specs.declared.choices.Left.TheVariants as left
+use Rattle.iso_plain_core.specs.declared.choices.Choice as kept
 use Rattle.iso_plain.specs.declared.plain.Plain.{Plain}
 use Rattle.iso_plain_core.specs.Standing.{most_numbers, numbers_a_step}
 use Rattle.iso_plain.specs.EngineStates.{IsEngine, IsAhead, HasChoices, went_back}
@@ -75,8 +75,8 @@ abbrev pub IsEntry : {W : Type 0} → Left W → Type 0
 IsEntry (left.Catching goal place) = Unit {0}
 IsEntry l = ⊥
 
--- The frame is the end of a catch, whose choice stands at its mark.
-pub record IsEndOfCatch {W M : Type 0} (choices : List (kept.Choice W M)) (f : Frame) : Type 0 where
+-- The link is the end of a catch, whose choice stands at its mark.
+pub record IsEndOfCatch {W M : Type 0} (choices : List (kept.Choice W M)) (f : Link) : Type 0 where
   pub asks : f.todo ≡ todo.Leave
   pub choice : kept.Choice W M
   pub stands : slice_get choices f.mark ≡ Some choice
@@ -91,7 +91,7 @@ abbrev pub HasMet : {W : Type 0} → Present W → Present W → W → Tree → 
 HasMet p q goal ball answer = MeetsCopy p q (catcher_of p goal) ball answer
 
 module _ {S W M : Type 0} (names : S → List (List ℕ)) (present : S → Present W) (stands : S → M → Present W → Type 0) (older : M → M → Type 0) where
-  -- The engine, in this state, is about to enter the catch that this goal calls, with its members from this place of the frames on behind it.
+  -- The engine, in this state, is about to enter the catch that this goal calls, with its members from this place of the members on behind it.
   pub record EntersCatch (e : Plain S W M) (goal : W) (s : State) (place : Option ℕ) : Type 0 where
     pub ahead : IsAhead names present stands older e s place
     pub space : s.next + numbers_a_step * (e.steps + 1) ≤ most_numbers

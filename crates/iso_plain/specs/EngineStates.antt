@@ -18,12 +18,12 @@ use Rattle.iso_model.specs.declared.limit.Limit.TheVariants as limit
 use Rattle.iso_store_core.specs.Presents.{Present}
 use Rattle.iso_plain_core.specs.Leaving.{Leaving, AreLeft}
 use Rattle.iso_plain_core.specs.Standing.{Among, Links, Chain, AtGoal, HasLeft, StandsForChoices, HaveRoom, GoesOn, DoesNext, most_numbers, numbers_a_step}
-use Rattle.iso_plain_core.specs.Costs.{whole_cost, frame_costs, choices_cost, now_cost}
+use Rattle.iso_plain_core.specs.Costs.{whole_cost, member_costs, choices_cost, now_cost}
 use Rattle.iso_plain.specs.Worlds.{IsWorld}
-use Rattle.iso_plain_core.specs.declared.parts.Attempt.{Attempt}
-use Rattle.iso_plain_core.specs.declared.parts.Choice as kept
-use Rattle.iso_plain_core.specs.declared.parts.Now.{Now}
-use Rattle.iso_plain_core.specs.declared.parts.Now.TheVariants as now
+use Rattle.iso_plain_core.specs.declared.choices.Attempt.{Attempt}
+use Rattle.iso_plain_core.specs.declared.choices.Choice as kept
+use Rattle.iso_plain_core.specs.declared.members.Now.{Now}
+use Rattle.iso_plain_core.specs.declared.members.Now.TheVariants as now
 use Rattle.iso_plain.specs.declared.plain.Move.{Move}
 use Rattle.iso_plain.specs.declared.plain.Move.TheVariants as move
 use Rattle.iso_plain.specs.declared.plain.Plain.{Plain}
@@ -51,13 +51,13 @@ abbrev pub phase_of : Now → Phase
 phase_of now.Idle = Ready
 phase_of now.Failing = Ready
 phase_of now.Answering = Midway
-phase_of (now.Running frame) = Midway
+phase_of (now.Running link) = Midway
 phase_of (now.Raising place) = Midway
 phase_of (now.Spent limit) = engines.Spent limit
 
--- the nodes and frames of an engine
+-- the nodes and members of an engine
 abbrev pub links_of : {S W M : Type 0} → Plain S W M → Links W
-links_of e = record { nodes = e.nodes.items; frames = e.frames.items }
+links_of e = record { nodes = e.nodes.items; members = e.members.items }
 
 -- Under the two substitutions the goals of the state and the variables of its query have the same values, and so have the numbers that aren't used.
 pub record SameUnder (own u : Subst) (s : State) : Type 0 where
@@ -114,7 +114,7 @@ module _ {S W M : Type 0} (names : S → List (List ℕ)) (present : S → Prese
   StandsBy now.Idle e s = Represents e s
   StandsBy now.Failing e s = Represents e s
   StandsBy now.Answering e s = Represents e s
-  StandsBy (now.Running frame) e s = Represents e s
+  StandsBy (now.Running link) e s = Represents e s
   StandsBy (now.Raising place) e s = Represents e s
 
   -- the states that the engine stands for
@@ -140,7 +140,7 @@ module _ {S W M : Type 0} (names : S → List (List ℕ)) (present : S → Prese
     pub quiet : Quiet (tried call (c ∷ cs) behind s) (tried call (clause ∷ others) behind s)
     pub fewer : length others ≤ length cs
 
-  -- The engine, in this state, has its members from this place of the frames on.
+  -- The engine, in this state, has its members from this place of the members on.
   pub record IsAhead (e : Plain S W M) (s : State) (place : Option ℕ) : Type 0 where
     pub world : IsWorld names e s.world
     pub steps : s.steps ≡ e.steps
@@ -158,7 +158,7 @@ module _ {S W M : Type 0} (names : S → List (List ℕ)) (present : S → Prese
     pub mark : stands e.store c.mark (present e.store)
     pub newest : slice_get e.choices.items (length e.choices.items - 1) ≡ Some c
     pub nodes : c.nodes ≡ length e.nodes.items
-    pub frames : c.frames ≡ length e.frames.items
+    pub members : c.members ≡ length e.members.items
     pub has : HasLeft (leaves_of e) e.query.items (variables s.query) (present e.store) (links_of e) c.left a
     pub newer_base : older e.base c.mark
     pub newer : (d : kept.Choice W M) → Among d (take (length e.choices.items - 1) e.choices.items) → older d.mark c.mark
@@ -196,7 +196,7 @@ module _ {S W M : Type 0} (names : S → List (List ℕ)) (present : S → Prese
 
 -- before the next step
 abbrev pub cost : {S W M : Type 0} → Plain S W M → ℕ
-cost e = choices_cost (frame_costs e.frames.items) e.choices.items + now_cost (frame_costs e.frames.items) e.now
+cost e = choices_cost (member_costs e.members.items) e.choices.items + now_cost (member_costs e.members.items) e.now
 
 -- A number that falls at each move.
 abbrev pub weight : {S W M : Type 0} → Plain S W M → ℕ

@@ -32,7 +32,7 @@ found result copies s =
     equated (under s.subst (unifier_of result (apply s.subst (copy_from (list_of copies) s.next)))) s.list (with_copy (list_of copies) s)
 
 module _ {S W M : Type 0} (names : S → List (List ℕ)) (present : S → Present W) (stands : S → M → Present W → Type 0) (older : M → M → Type 0) where
-  -- The engine, in this state, is about to run this goal of findall/3, with its members from this place of the frames on behind it.
+  -- The engine, in this state, is about to run this goal of findall/3, with its members from this place of the members on behind it.
   pub record EntersFindall (e : Plain S W M) (goal : W) (s : State) (place : Option ℕ) : Type 0 where
     pub ahead : IsAhead names present stands older e s place
     pub space : s.next + numbers_a_step * (e.steps + 1) ≤ most_numbers

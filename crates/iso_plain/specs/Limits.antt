@@ -1,4 +1,4 @@
--- What the engine says of its limits: full frames only where its choices are as many as there may be, and a full heap only where its store is full.
+-- What the engine says of its limits: full members only where its choices are as many as there may be, and a full heap only where its store is full.
 use Rattle.std.specs.Prelude.{◌≤◌, length, Result, Ok, Err}
 use Rattle.iso_model.specs.declared.pauses.Pause.{Pause}
 use Rattle.iso_model.specs.declared.pauses.Pause.TheVariants as pause
@@ -30,9 +30,9 @@ module _ {S W M : Type 0} (full : S → Type 0) where
 abbrev pub IsWithin : {S W M : Type 0} → Plain S W M → Type 0
 IsWithin e = length e.choices.items ≤ e.limit
 
--- ---- full frames, said of the search
+-- ---- full members, said of the search
 
--- a fact that holds where the frames are full
+-- a fact that holds where the members are full
 abbrev pub WhereFull : Type 0 → Pause → Type 0
 WhereFull Fact pause.FramesFull = Fact
 WhereFull Fact p = Unit {0}

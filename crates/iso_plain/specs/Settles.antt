@@ -3,9 +3,9 @@ use Rattle.std.specs.Prelude.{◌≡◌, ◌+◌, ◌*◌, ◌≤◌, ℕ, List,
 use Rattle.iso_model.specs.Terms.Arguments.{arity}
 use Rattle.iso_model.specs.Search.Settings.{setting_arity}
 use Rattle.iso_model.specs.Search.Walker.{State, Alternative, Offered, with_rights}
-use Rattle.iso_model.specs.declared.library.Setting.{Setting}
+use Rattle.iso_model.specs.declared.kinds.Setting.{Setting}
 use Rattle.iso_model.specs.Search.AtomParts.{part_arity}
-use Rattle.iso_model.specs.declared.library.AtomPart.{AtomPart}
+use Rattle.iso_model.specs.declared.kinds.AtomPart.{AtomPart}
 use Rattle.iso_store_core.specs.Presents.{Present, meaning}
 use Rattle.iso_plain_core.specs.declared.offers.Row.{Row}
 use Rattle.iso_model.specs.Search.Settlements as walker
@@ -15,13 +15,13 @@ use Rattle.iso_plain.specs.declared.plain.Plain.{Plain}
 use Rattle.iso_plain.specs.EngineStates.{IsAhead, Keeps, went_back}
 
 module _ {S W M : Type 0} (names : S → List (List ℕ)) (present : S → Present W) (stands : S → M → Present W → Type 0) (older : M → M → Type 0) where
-  -- The engine, in this state, is about to unify the arguments of this goal with a row, before its members from this place of the frames on.
+  -- The engine, in this state, is about to unify the arguments of this goal with a row, before its members from this place of the members on.
   pub record MeetsRow (e : Plain S W M) (goal : W) (s : State) (place : Option ℕ) : Type 0 where
     pub ahead : IsAhead names present stands older e s place
     pub space : s.next + numbers_a_step * (e.steps + 1) ≤ most_numbers
     pub holds : (present e.store).holds goal ≡ true
 
-  -- The engine, in this state, is about to run this goal of this row, with its members from this place of the frames on behind it.
+  -- The engine, in this state, is about to run this goal of this row, with its members from this place of the members on behind it.
   pub record AsksAt (e : Plain S W M) (row : Setting) (goal : W) (s : State) (place : Option ℕ) : Type 0 where
     pub meets : MeetsRow e goal s place
     pub arity_is : arity (meaning (present e.store) goal) ≡ setting_arity row

@@ -10,14 +10,14 @@ use Rattle.iso_model.specs.Search.Databases.{Clause, Key, key_of}
 use Rattle.iso_model.specs.Search.Storages.{storage_arity, clause_row}
 use Rattle.iso_model.specs.Search.Walker.{State, Alternative, Offered, under, fails, with_rights}
 use Rattle.iso_model.specs.Search.Settlements as walker
-use Rattle.iso_model.specs.declared.library.Storage.{Storage}
+use Rattle.iso_model.specs.declared.kinds.Storage.{Storage}
 use Rattle.iso_store_core.specs.Presents.{Present, meaning}
 use Rattle.iso_db.specs.Databases.{Database}
 use Rattle.iso_plain_core.specs.Offers.{clause_offer}
 use Rattle.iso_plain_core.specs.Programs.{place_at, kept_at, kind_of}
 use Rattle.iso_plain_core.specs.declared.clauses.Clause as kept
 use Rattle.iso_plain_core.specs.Standing.{most_numbers, numbers_a_step}
-use Rattle.iso_plain_core.specs.declared.parts.Showing.{Showing}
+use Rattle.iso_plain_core.specs.declared.choices.Showing.{Showing}
 use Rattle.iso_plain.specs.declared.plain.Plain.{Plain}
 use Rattle.iso_plain.specs.EngineStates.{IsEngine, SameUnder, IsAhead, Keeps, leaves_of, went_back}
 
@@ -36,7 +36,7 @@ IsUserPlace d k None = kind_of (kept_at d k) ≡ None
 
 module _ {S W M : Type 0} (names : S → List (List ℕ)) (present : S → Present W) (stands : S → M → Present W → Type 0) (older : M → M → Type 0) where
   -- The engine, in this state, is about to unify a head and a body with those of this clause, and then of these, before its members from a place of the
-  -- frames on. They are of the user procedure with this key, which is the key of the head.
+  -- members on. They are of the user procedure with this key, which is the key of the head.
   pub record Shows (e : Plain S W M) (shown : Showing W) (s : State) (k : Key) (c : Clause) (cs : List Clause) : Type 0 where
     pub ahead : IsAhead names present stands older e s shown.rest
     pub space : s.next + numbers_a_step * (e.steps + 1) ≤ most_numbers
@@ -53,7 +53,7 @@ module _ {S W M : Type 0} (names : S → List (List ℕ)) (present : S → Prese
       × SameUnder own u (record s { next = s.next + c.variables })
   HasUnified e r shown s c false = (under s.subst (unifier_of r (apply s.subst (renamed s.next (clause_row c)))) ≡ None) × IsEngine names present stands older e (fails s)
 
-  -- The engine, in this state, is about to run this goal of this row, with its members from this place of the frames on behind it.
+  -- The engine, in this state, is about to run this goal of this row, with its members from this place of the members on behind it.
   pub record StoresAt (e : Plain S W M) (row : Storage) (goal : W) (s : State) (place : Option ℕ) : Type 0 where
     pub ahead : IsAhead names present stands older e s place
     pub space : s.next + numbers_a_step * (e.steps + 1) ≤ most_numbers

@@ -22,7 +22,7 @@ use iso_lib::errors;
 use iso_model::{Ball, BuiltIn};
 use iso_ops::Unknown;
 use iso_plain_core::callables::{self, Callee};
-use iso_plain_core::leaving::next_left;
+use iso_plain_core::left_clauses::next_left;
 use iso_store_core::{Shape, Store};
 use std::alloc::AllocError;
 

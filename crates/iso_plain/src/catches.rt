@@ -8,19 +8,20 @@ ghost use Rattle.iso_plain.specs.Catches.{catching, calling_inside, throwing, ca
 
 use super::plain::{Move, Plain};
 use iso_model::{Ball, Limit, Pause};
-use iso_plain_core::parts::{Frame, Left, Now, Todo, at, keep_choice, push_frame};
+use iso_plain_core::choices::{Left, keep_choice};
+use iso_plain_core::members::{Link, Now, Todo, at, push_link};
 use iso_store_core::{Store, StoreFault};
 use std::alloc::AllocError;
 
 impl<S: Store + Drop> Plain<S> {
     ghost use Rattle.iso_plain.specs.Catches.{EntersCatch};
     ghost use Rattle.iso_plain.specs.EngineStates.{IsAhead, Represents, Moves, WasRefused, WasCalled, Falls, weight};
-    ghost use Rattle.iso_plain_core.specs.Costs.{choices_cost, rest_cost, left_cost, frame_costs, whole_cost};
+    ghost use Rattle.iso_plain_core.specs.Costs.{choices_cost, rest_cost, left_cost, member_costs, whole_cost};
     ghost use Rattle.iso_plain_core.specs.Standing.{IsBody};
     ghost use Rattle.iso_plain.specs.Stays.{Stays};
     ghost use Rattle.iso_plain.specs.Limits.{MoveMet, MoveFull, ResultMet, ResultFull};
-    ghost use Rattle.iso_plain_core.specs.declared.parts.Now.TheVariants as now;
-    ghost use Rattle.iso_plain_core.specs.declared.parts.Todo.TheVariants as todo;
+    ghost use Rattle.iso_plain_core.specs.declared.members.Now.TheVariants as now;
+    ghost use Rattle.iso_plain_core.specs.declared.members.Todo.TheVariants as todo;
 
     /// Makes the entry of the catch that this goal calls, before the members from `next` on, and before them the catch's end, whose
     /// place it answers; nothing where no choice may be made any more. The error is that memory was refused.
@@ -39,9 +40,9 @@ impl<S: Store + Drop> Plain<S> {
         ensures full { IfOk result (λ end. MatchOption end (self.old.limit ≤ length self.old.choices.items)
             (λ place. length self.new.choices.items ≡ length self.old.choices.items + 1)) }
         ensures costs { IfOk result (λ end. MatchOption end (self.new ≡ self.old) (λ place.
-            (choices_cost (frame_costs self.new.frames.items) self.new.choices.items
-            ≡ choices_cost (frame_costs self.old.frames.items) self.old.choices.items + left_cost 1 (rest_cost (frame_costs self.old.frames.items) next))
-            × (rest_cost (frame_costs self.new.frames.items) (Option.Some place) ≡ suc (rest_cost (frame_costs self.old.frames.items) next)))) }
+            (choices_cost (member_costs self.new.members.items) self.new.choices.items
+            ≡ choices_cost (member_costs self.old.members.items) self.old.choices.items + left_cost 1 (rest_cost (member_costs self.old.members.items) next))
+            × (rest_cost (member_costs self.new.members.items) (Option.Some place) ≡ suc (rest_cost (member_costs self.old.members.items) next)))) }
         ensures same { (self.new.steps ≡ self.old.steps) × (self.new.nodes ≡ self.old.nodes) × (S.present self.new.store ≡ S.present self.old.store) }
         ensures stays { Stays S.names self.old self.new }
     {
@@ -54,11 +55,11 @@ impl<S: Store + Drop> Plain<S> {
             &mut self.choices,
             Left::Catching(goal, next),
             self.nodes.len(),
-            self.frames.len(),
+            self.members.len(),
         )?;
-        let end = push_frame(
-            &mut self.frames,
-            Frame {
+        let end = push_link(
+            &mut self.members,
+            Link {
                 todo: Todo::Leave,
                 mark: height,
                 next,
@@ -82,8 +83,8 @@ impl<S: Store + Drop> Plain<S> {
         ensures kept { (s : State) → EntersCatch S.names S.present S.stands S.older self.old goal s next
             → OnErr result (WasRefused S.names S.present S.stands S.older self.new s
             (pushed s.list (Catching (catcher_of (S.present self.old.store) goal) (recovery_of (S.present self.old.store) goal)) s)) }
-        ensures falls { (w : ℕ) → choices_cost (frame_costs self.old.frames.items) self.old.choices.items
-            + rest_cost (frame_costs self.old.frames.items) next + 1 ≤ w → IfOk result (λ m. Falls m (whole_cost (suc self.old.steps) w) (weight self.new)) }
+        ensures falls { (w : ℕ) → choices_cost (member_costs self.old.members.items) self.old.choices.items
+            + rest_cost (member_costs self.old.members.items) next + 1 ≤ w → IfOk result (λ m. Falls m (whole_cost (suc self.old.steps) w) (weight self.new)) }
         ensures frames { ResultFull (self.old.limit ≤ length self.old.choices.items) result }
         ensures met { ResultMet S.full result self.new }
         ensures stays { Stays S.names self.old self.new }
@@ -92,7 +93,7 @@ impl<S: Store + Drop> Plain<S> {
             self.now = Now::Spent(Limit::Frames);
             return Ok(Move::Pauses(Pause::FramesFull));
         };
-        self.now = Now::Running(Frame {
+        self.now = Now::Running(Link {
             todo: Todo::Body(body),
             mark: self.choices.len(),
             next: Some(end),
@@ -116,8 +117,8 @@ impl<S: Store + Drop> Plain<S> {
         ensures kept { (s : State) → EntersCatch S.names S.present S.stands S.older self.old goal s next
             → OnErr result (WasRefused S.names S.present S.stands S.older self.new s
             (pushed s.list (Catching (catcher_of (S.present self.old.store) goal) (recovery_of (S.present self.old.store) goal)) s)) }
-        ensures falls { (w : ℕ) → choices_cost (frame_costs self.old.frames.items) self.old.choices.items
-            + rest_cost (frame_costs self.old.frames.items) next + 1 ≤ w → IfOk result (λ m. Falls m (whole_cost (suc self.old.steps) w) (weight self.new)) }
+        ensures falls { (w : ℕ) → choices_cost (member_costs self.old.members.items) self.old.choices.items
+            + rest_cost (member_costs self.old.members.items) next + 1 ≤ w → IfOk result (λ m. Falls m (whole_cost (suc self.old.steps) w) (weight self.new)) }
         ensures frames { ResultFull (self.old.limit ≤ length self.old.choices.items) result }
         ensures met { ResultMet S.full result self.new }
         ensures stays { Stays S.names self.old self.new }
@@ -131,9 +132,9 @@ impl<S: Store + Drop> Plain<S> {
     }
 
     /// Goes on behind the catch whose goal has ended: it catches nothing any more, but its choice stays (7.8.9).
-    pub(crate) fn leave(&mut self, frame: Frame) -> Move
-        requires now { self.old.now ≡ now.Running frame }
-        requires leaves { frame.todo ≡ todo.Leave }
+    pub(crate) fn leave(&mut self, link: Link) -> Move
+        requires now { self.old.now ≡ now.Running link }
+        requires leaves { link.todo ≡ todo.Leave }
         requires stands { (s : State) × Represents S.names S.present S.stands S.older self.old s }
         ensures moves { (s : State) → Represents S.names S.present S.stands S.older self.old s → Moves S.names S.present S.stands S.older result s self.new }
         ensures falls { Falls result (weight self.old) (weight self.new) }
@@ -141,7 +142,7 @@ impl<S: Store + Drop> Plain<S> {
         ensures met { MoveMet S.full result self.new }
         ensures stays { Stays S.names self.old self.new }
     {
-        self.now = at(self.frames.as_slice(), frame.next);
+        self.now = at(self.members.as_slice(), link.next);
         Move::Goes
     }
 }

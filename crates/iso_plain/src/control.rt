@@ -6,16 +6,17 @@ ghost use Rattle.iso_plain_core.specs.declared.bodies.Node.TheVariants as node;
 
 use super::plain::{Move, Plain};
 use iso_model::{Limit, Pause};
-use iso_plain_core::parts::{Frame, Left, Now, Todo, at, keep_choice, push_frame};
+use iso_plain_core::choices::{Left, keep_choice};
+use iso_plain_core::members::{Link, Now, Todo, at, push_link};
 use iso_store_core::{Store, StoreFault};
 
 impl<S: Store + Drop> Plain<S> {
     ghost use Rattle.iso_plain.specs.EngineStates.{IsAhead, IsEngine, Keeps, Represents, Stopped, Moves, Falls, weight};
-    ghost use Rattle.iso_plain_core.specs.Costs.{choices_cost, frame_costs};
+    ghost use Rattle.iso_plain_core.specs.Costs.{choices_cost, member_costs};
     ghost use Rattle.iso_plain.specs.Stays.{Stays};
     ghost use Rattle.iso_plain.specs.Limits.{ResultMet, ResultFull, MoveMet, MoveFull};
     ghost use Rattle.iso_plain_core.specs.Standing.{IsCut, IsAt};
-    ghost use Rattle.iso_plain_core.specs.declared.parts.Now.TheVariants as now;
+    ghost use Rattle.iso_plain_core.specs.declared.members.Now.TheVariants as now;
 
     /// Takes the choices away that were made since so many stood.
     pub(crate) fn cut_to(&mut self, height: usize)
@@ -27,9 +28,9 @@ impl<S: Store + Drop> Plain<S> {
         ensures now { self.new.now ≡ self.old.now }
         ensures raised { self.new.raised ≡ self.old.raised }
         ensures steps { self.new.steps ≡ self.old.steps }
-        ensures frames { self.new.frames ≡ self.old.frames }
-        ensures costs { choices_cost (frame_costs self.old.frames.items) self.new.choices.items
-            ≤ choices_cost (frame_costs self.old.frames.items) self.old.choices.items }
+        ensures members { self.new.members ≡ self.old.members }
+        ensures costs { choices_cost (member_costs self.old.members.items) self.new.choices.items
+            ≤ choices_cost (member_costs self.old.members.items) self.old.choices.items }
         ensures stays { Stays S.names self.old self.new }
     {
         if height < self.choices.len() {
@@ -39,10 +40,10 @@ impl<S: Store + Drop> Plain<S> {
         }
     }
 
-    /// Takes the choices away that were made since so many stood as the frame's mark says, and goes on behind it (7.8.4).
-    pub(crate) fn cut(&mut self, frame: Frame) -> Move
-        requires now { self.old.now ≡ now.Running frame }
-        requires cuts { IsCut self.old.nodes.items frame }
+    /// Takes the choices away that were made since so many stood as the link's mark says, and goes on behind it (7.8.4).
+    pub(crate) fn cut(&mut self, link: Link) -> Move
+        requires now { self.old.now ≡ now.Running link }
+        requires cuts { IsCut self.old.nodes.items link }
         requires stands { (s : State) × Represents S.names S.present S.stands S.older self.old s }
         ensures moves { (s : State) → Represents S.names S.present S.stands S.older self.old s → Moves S.names S.present S.stands S.older result s self.new }
         ensures falls { Falls result (weight self.old) (weight self.new) }
@@ -50,21 +51,21 @@ impl<S: Store + Drop> Plain<S> {
         ensures met { MoveMet S.full result self.new }
         ensures stays { Stays S.names self.old self.new }
     {
-        self.cut_to(frame.mark);
-        self.now = at(self.frames.as_slice(), frame.next);
+        self.cut_to(link.mark);
+        self.now = at(self.members.as_slice(), link.next);
         Move::Goes
     }
 
     /// Runs the first body of the conjunction at this place, which ends so far back, before its second one (7.8.5). The error is
     /// that memory was refused.
-    pub(crate) fn take_apart(
+    pub(crate) fn conjunction(
         &mut self,
-        frame: Frame,
+        link: Link,
         place: usize,
         distance: usize,
     ) -> Result<Move, StoreFault>
-        requires now { self.old.now ≡ now.Running frame }
-        requires there { IsAt self.old.nodes.items frame place (node.And distance) }
+        requires now { self.old.now ≡ now.Running link }
+        requires there { IsAt self.old.nodes.items link place (node.And distance) }
         requires stands { (s : State) × Represents S.names S.present S.stands S.older self.old s }
         ensures moves { (s : State) → Represents S.names S.present S.stands S.older self.old s
             → IfOk result (λ m. Moves S.names S.present S.stands S.older m s self.new) }
@@ -74,16 +75,16 @@ impl<S: Store + Drop> Plain<S> {
         ensures met { ResultMet S.full result self.new }
         ensures stays { Stays S.names self.old self.new }
     {
-        let second = push_frame(
-            &mut self.frames,
-            Frame {
+        let second = push_link(
+            &mut self.members,
+            Link {
                 todo: Todo::Body(place - 1),
-                ..frame
+                ..link
             },
         )?;
-        self.now = Now::Running(Frame {
+        self.now = Now::Running(Link {
             todo: Todo::Body(place - distance),
-            mark: frame.mark,
+            mark: link.mark,
             next: Some(second),
         });
         Ok(Move::Goes)
@@ -91,14 +92,14 @@ impl<S: Store + Drop> Plain<S> {
 
     /// Runs the condition of the if-then at this place, which ends so far back; its first solution is its only one (7.8.7). The
     /// error is that memory was refused.
-    pub(crate) fn take_condition(
+    pub(crate) fn if_then(
         &mut self,
-        frame: Frame,
+        link: Link,
         place: usize,
         distance: usize,
     ) -> Result<Move, StoreFault>
-        requires now { self.old.now ≡ now.Running frame }
-        requires there { IsAt self.old.nodes.items frame place (node.If distance) }
+        requires now { self.old.now ≡ now.Running link }
+        requires there { IsAt self.old.nodes.items link place (node.If distance) }
         requires stands { (s : State) × Represents S.names S.present S.stands S.older self.old s }
         ensures moves { (s : State) → Represents S.names S.present S.stands S.older self.old s
             → IfOk result (λ m. Moves S.names S.present S.stands S.older m s self.new) }
@@ -109,22 +110,22 @@ impl<S: Store + Drop> Plain<S> {
         ensures stays { Stays S.names self.old self.new }
     {
         let height = self.choices.len();
-        let behind = push_frame(
-            &mut self.frames,
-            Frame {
+        let behind = push_link(
+            &mut self.members,
+            Link {
                 todo: Todo::Body(place - 1),
-                ..frame
+                ..link
             },
         )?;
-        let once = push_frame(
-            &mut self.frames,
-            Frame {
-                todo: Todo::CutBack,
+        let once = push_link(
+            &mut self.members,
+            Link {
+                todo: Todo::CutTo,
                 mark: height,
                 next: Some(behind),
             },
         )?;
-        self.now = Now::Running(Frame {
+        self.now = Now::Running(Link {
             todo: Todo::Body(place - distance),
             mark: height,
             next: Some(once),
@@ -134,14 +135,14 @@ impl<S: Store + Drop> Plain<S> {
 
     /// Runs the first body of the disjunction at this place, which ends so far back; its second one is left as a choice (7.8.6).
     /// The error is that memory was refused; where no choice may be made any more the engine is spent.
-    pub(crate) fn take_either(
+    pub(crate) fn disjunction(
         &mut self,
-        frame: Frame,
+        link: Link,
         place: usize,
         distance: usize,
     ) -> Result<Move, StoreFault>
-        requires now { self.old.now ≡ now.Running frame }
-        requires there { IsAt self.old.nodes.items frame place (node.Or distance) }
+        requires now { self.old.now ≡ now.Running link }
+        requires there { IsAt self.old.nodes.items link place (node.Or distance) }
         requires stands { (s : State) × Represents S.names S.present S.stands S.older self.old s }
         ensures moves { (s : State) → Represents S.names S.present S.stands S.older self.old s
             → IfOk result (λ m. Moves S.names S.present S.stands S.older m s self.new) }
@@ -155,11 +156,11 @@ impl<S: Store + Drop> Plain<S> {
             self.now = Now::Spent(Limit::Frames);
             return Ok(Move::Pauses(Pause::FramesFull));
         }
-        let second = push_frame(
-            &mut self.frames,
-            Frame {
+        let second = push_link(
+            &mut self.members,
+            Link {
                 todo: Todo::Body(place - 1),
-                ..frame
+                ..link
             },
         )?;
         keep_choice(
@@ -167,11 +168,11 @@ impl<S: Store + Drop> Plain<S> {
             &mut self.choices,
             Left::AsIs(Some(second)),
             self.nodes.len(),
-            self.frames.len(),
+            self.members.len(),
         )?;
-        self.now = Now::Running(Frame {
+        self.now = Now::Running(Link {
             todo: Todo::Body(place - distance),
-            ..frame
+            ..link
         });
         Ok(Move::Goes)
     }
@@ -179,15 +180,15 @@ impl<S: Store + Drop> Plain<S> {
     /// Runs the condition of the if-then-else at this place; the condition and the body behind it end so far back, and the body
     /// for where it fails is left as a choice (7.8.8). The error is that memory was refused; where no choice may be made any
     /// more the engine is spent.
-    pub(crate) fn choose(
+    pub(crate) fn if_then_else(
         &mut self,
-        frame: Frame,
+        link: Link,
         place: usize,
         condition: usize,
         next: usize,
     ) -> Result<Move, StoreFault>
-        requires now { self.old.now ≡ now.Running frame }
-        requires there { IsAt self.old.nodes.items frame place (node.Choose condition next) }
+        requires now { self.old.now ≡ now.Running link }
+        requires there { IsAt self.old.nodes.items link place (node.Choose condition next) }
         requires stands { (s : State) × Represents S.names S.present S.stands S.older self.old s }
         ensures moves { (s : State) → Represents S.names S.present S.stands S.older self.old s
             → IfOk result (λ m. Moves S.names S.present S.stands S.older m s self.new) }
@@ -202,11 +203,11 @@ impl<S: Store + Drop> Plain<S> {
             self.now = Now::Spent(Limit::Frames);
             return Ok(Move::Pauses(Pause::FramesFull));
         }
-        let other = push_frame(
-            &mut self.frames,
-            Frame {
+        let other = push_link(
+            &mut self.members,
+            Link {
                 todo: Todo::Body(place - 1),
-                ..frame
+                ..link
             },
         )?;
         keep_choice(
@@ -214,24 +215,24 @@ impl<S: Store + Drop> Plain<S> {
             &mut self.choices,
             Left::AsIs(Some(other)),
             self.nodes.len(),
-            self.frames.len(),
+            self.members.len(),
         )?;
-        let behind = push_frame(
-            &mut self.frames,
-            Frame {
+        let behind = push_link(
+            &mut self.members,
+            Link {
                 todo: Todo::Body(place - next),
-                ..frame
+                ..link
             },
         )?;
-        let once = push_frame(
-            &mut self.frames,
-            Frame {
-                todo: Todo::CutBack,
+        let once = push_link(
+            &mut self.members,
+            Link {
+                todo: Todo::CutTo,
                 mark: height,
                 next: Some(behind),
             },
         )?;
-        self.now = Now::Running(Frame {
+        self.now = Now::Running(Link {
             todo: Todo::Body(place - condition),
             mark: height + 1,
             next: Some(once),

@@ -8,7 +8,7 @@ ghost use Rattle.iso_plain_core.specs.Standing.{AreVariables};
 
 use super::plain::{Move, Plain};
 use iso_model::{Pause, Term};
-use iso_plain_core::parts::Now;
+use iso_plain_core::members::Now;
 use iso_store_core::{Store, StoreFault};
 use std::alloc::{AllocError, Global};
 
@@ -30,7 +30,7 @@ impl<S: Store + Drop> Plain<S> {
     ghost use Rattle.iso_plain.specs.EngineStates.{IsBase, Represents, Stopped, Moves, Falls, weight};
     ghost use Rattle.iso_plain.specs.Limits.{MoveMet, ResultMet, MoveFull, ResultFull};
     ghost use Rattle.iso_plain.specs.Stays.{Stays};
-    ghost use Rattle.iso_plain_core.specs.declared.parts.Now.TheVariants.{Answering, Raising};
+    ghost use Rattle.iso_plain_core.specs.declared.members.Now.TheVariants.{Answering, Raising};
 
     /// The values of the query's variables, by first occurrence; the engine fails next.
     pub(crate) fn answer(&mut self) -> Result<Move, StoreFault>

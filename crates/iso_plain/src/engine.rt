@@ -11,7 +11,7 @@ ghost use Rattle.iso_plain.specs.declared.plain.Move.TheVariants as moved;
 use super::plain::{Move, Plain};
 use iso_model::{AddFault, Engine, Limit, Pause, StartFault, Term};
 use iso_ops::{Flags, OpTable};
-use iso_plain_core::parts::Now;
+use iso_plain_core::members::Now;
 use iso_store_core::{Store, StoreFault};
 
 impl<S: Store + Drop> Plain<S> {
@@ -58,7 +58,7 @@ impl<S: Store + Drop> Plain<S> {
             Now::Spent(_) => unreachable!(),
             Now::Failing => self.fail(),
             Now::Answering => self.answer(),
-            Now::Running(frame) => self.run(frame),
+            Now::Running(link) => self.run(link),
             Now::Raising(from) => self.raise(from),
         }
     }

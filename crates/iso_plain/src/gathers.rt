@@ -2,7 +2,7 @@
 ghost use Rattle.std.specs.Prelude.{◌≡◌, ℕ, suc, ◌+◌, ◌<◌, ◌≤◌, true, IfOk, OnOk, OnErr, ◌∷◌, [], List, length, Option, Err};
 ghost use Rattle.iso_model.specs.Search.Bodies.{Body};
 ghost use Rattle.iso_model.specs.Search.Walker.{State, Alternative, Gathering, pushed};
-ghost use Rattle.iso_plain_core.specs.declared.parts.Choice as kept;
+ghost use Rattle.iso_plain_core.specs.declared.choices.Choice as kept;
 ghost use Rattle.iso_plain_core.specs.declared.solutions.Gathered.{Gathered};
 ghost use Rattle.iso_plain_core.specs.Solutions.{copies_of};
 ghost use Rattle.iso_plain.specs.Gathers.{template_of, result_of, found};
@@ -12,21 +12,22 @@ use super::plain::{Move, Plain};
 use iso_lib::unify_copy;
 use iso_model::{Limit, Pause};
 use iso_plain_core::bodies::Node;
-use iso_plain_core::parts::{Frame, Left, Now, Todo, at, gather, keep_choice, push_frame};
+use iso_plain_core::choices::{Left, gather, keep_choice};
+use iso_plain_core::members::{Link, Now, Todo, at, push_link};
 use iso_plain_core::solutions;
 use iso_store_core::{Store, StoreFault};
 
 impl<S: Store + Drop> Plain<S> {
     ghost use Rattle.iso_plain.specs.Gathers.{EntersFindall, FindsAll};
     ghost use Rattle.iso_plain.specs.EngineStates.{IsEngine, Represents, Stopped, Keeps, WentBack, Moves, WasRefused, Falls, cost, weight, phase_of, went_back};
-    ghost use Rattle.iso_plain_core.specs.Costs.{choices_cost, rest_cost, frame_costs, whole_cost};
+    ghost use Rattle.iso_plain_core.specs.Costs.{choices_cost, rest_cost, member_costs, whole_cost};
     ghost use Rattle.iso_plain_core.specs.Standing.{IsBody};
     ghost use Rattle.iso_model.specs.Search.Engines.{IsAwake};
     ghost use Rattle.iso_plain.specs.Stays.{Stays};
     ghost use Rattle.iso_plain.specs.Limits.{ResultMet, ResultFull};
-    ghost use Rattle.iso_plain_core.specs.declared.parts.Now.TheVariants as now;
-    ghost use Rattle.iso_plain_core.specs.declared.parts.Todo.TheVariants as todo;
-    ghost use Rattle.iso_plain_core.specs.declared.parts.Left.TheVariants as left;
+    ghost use Rattle.iso_plain_core.specs.declared.members.Now.TheVariants as now;
+    ghost use Rattle.iso_plain_core.specs.declared.members.Todo.TheVariants as todo;
+    ghost use Rattle.iso_plain_core.specs.declared.choices.Left.TheVariants as left;
 
     /// Runs the body at this place of the nodes for all of its solutions, as this goal of findall/3 asks for, before the members from `next`
     /// on. The error is that memory was refused; where no choice may be made any more the engine is spent.
@@ -41,8 +42,8 @@ impl<S: Store + Drop> Plain<S> {
             → IfOk result (λ m. FindsAll S.names S.present S.stands S.older m self.new (template_of (S.present self.old.store) goal) (result_of (S.present self.old.store) goal) b s) }
         ensures kept { (s : State) → EntersFindall S.names S.present S.stands S.older self.old goal s next
             → OnErr result (WasRefused S.names S.present S.stands S.older self.new s (pushed s.list (Gathering (result_of (S.present self.old.store) goal) [] 0) s)) }
-        ensures falls { (w : ℕ) → choices_cost (frame_costs self.old.frames.items) self.old.choices.items
-            + rest_cost (frame_costs self.old.frames.items) next + 1 ≤ w → IfOk result (λ m. Falls m (whole_cost (suc self.old.steps) w) (weight self.new)) }
+        ensures falls { (w : ℕ) → choices_cost (member_costs self.old.members.items) self.old.choices.items
+            + rest_cost (member_costs self.old.members.items) next + 1 ≤ w → IfOk result (λ m. Falls m (whole_cost (suc self.old.steps) w) (weight self.new)) }
         ensures frames { ResultFull (self.old.limit ≤ length self.old.choices.items) result }
         ensures met { ResultMet S.full result self.new }
         ensures stays { Stays S.names self.old self.new }
@@ -58,19 +59,19 @@ impl<S: Store + Drop> Plain<S> {
             &mut self.choices,
             Left::Gathering(solutions, next, solutions::Gathered::new(self.alloc)),
             self.nodes.len(),
-            self.frames.len(),
+            self.members.len(),
         )?;
         let place = self.nodes.len();
         self.nodes.push(Node::Run(template))?;
-        let end = push_frame(
-            &mut self.frames,
-            Frame {
+        let end = push_link(
+            &mut self.members,
+            Link {
                 todo: Todo::Gather(place),
                 mark: height,
                 next,
             },
         )?;
-        self.now = Now::Running(Frame {
+        self.now = Now::Running(Link {
             todo: Todo::Body(body),
             mark: height + 1,
             next: Some(end),
@@ -78,11 +79,11 @@ impl<S: Store + Drop> Plain<S> {
         Ok(Move::Goes)
     }
 
-    /// Gathers a solution: a copy of the template, whose word is at this place of the nodes, comes to what the choice at the frame's mark
+    /// Gathers a solution: a copy of the template, whose word is at this place of the nodes, comes to what the choice at the link's mark
     /// has gathered, and the engine fails next. The error is that memory was refused.
-    pub(crate) fn gather(&mut self, frame: Frame, place: usize) -> Result<Move, StoreFault>
-        requires now { self.old.now ≡ now.Running frame }
-        requires gathers { frame.todo ≡ todo.Gather place }
+    pub(crate) fn gather(&mut self, link: Link, place: usize) -> Result<Move, StoreFault>
+        requires now { self.old.now ≡ now.Running link }
+        requires gathers { link.todo ≡ todo.Gather place }
         requires stands { (s : State) × Represents S.names S.present S.stands S.older self.old s }
         ensures moves { (s : State) → Represents S.names S.present S.stands S.older self.old s
             → IfOk result (λ m. Moves S.names S.present S.stands S.older m s self.new) }
@@ -96,7 +97,7 @@ impl<S: Store + Drop> Plain<S> {
             unreachable!();
         };
         let solution = self.store.copy_out(template)?;
-        gather(self.alloc, &mut self.choices, frame.mark, &solution)?;
+        gather(self.alloc, &mut self.choices, link.mark, &solution)?;
         self.now = Now::Failing;
         Ok(Move::Goes)
     }
@@ -122,7 +123,7 @@ impl<S: Store + Drop> Plain<S> {
         ensures awake { OnOk result (IsAwake (phase_of self.new.now)) }
         ensures full { result ≡ Err StoreFault.Full → S.full self.new.store }
         ensures steps { self.new.steps ≡ self.old.steps }
-        ensures costs { OnOk result (cost self.new < choices_cost (frame_costs self.old.frames.items) self.old.choices.items) }
+        ensures costs { OnOk result (cost self.new < choices_cost (member_costs self.old.members.items) self.old.choices.items) }
         ensures stays { Stays S.names self.old self.new }
     {
         let Some(choice) = self.choices.pop() else {
@@ -137,7 +138,7 @@ impl<S: Store + Drop> Plain<S> {
             self.now = Now::Failing;
             return Ok(());
         }
-        self.now = at(self.frames.as_slice(), place);
+        self.now = at(self.members.as_slice(), place);
         Ok(())
     }
 }

@@ -3,19 +3,20 @@
 #![tactic(auto)]
 
 // the engine's parts, and its moves
+mod backtracking;
+mod calling;
 pub mod calls;
 pub mod catches;
 pub mod control;
 pub mod ends;
 pub mod gathers;
 mod locals;
-pub mod moves;
 mod outputs;
+mod offers;
 mod part_goals;
 mod passing;
 pub mod plain;
 pub mod runs;
-mod settles;
 mod storages;
 pub mod throws;
 // what the callers call

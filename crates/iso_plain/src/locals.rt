@@ -5,12 +5,13 @@ ghost use Rattle.iso_model.specs.Search.Walker.{State, AsIs, Again, pushed};
 
 use super::plain::{Move, Plain};
 use iso_model::{Limit, Pause};
-use iso_plain_core::parts::{Frame, Left, Now, Todo, at, keep_choice, push_frame};
+use iso_plain_core::choices::{Left, keep_choice};
+use iso_plain_core::members::{Link, Now, Todo, at, push_link};
 use iso_store_core::{Store, StoreFault};
 
 impl<S: Store + Drop> Plain<S> {
     ghost use Rattle.iso_plain.specs.EngineStates.{IsAhead, WasRefused, Keeps, WasCalled, Falls, calling_once, refuting, weight};
-    ghost use Rattle.iso_plain_core.specs.Costs.{choices_cost, rest_cost, frame_costs, whole_cost};
+    ghost use Rattle.iso_plain_core.specs.Costs.{choices_cost, rest_cost, member_costs, whole_cost};
     ghost use Rattle.iso_plain_core.specs.Standing.{IsBody};
     ghost use Rattle.iso_plain.specs.Stays.{Stays};
     ghost use Rattle.iso_plain.specs.Limits.{ResultMet, ResultFull};
@@ -22,22 +23,22 @@ impl<S: Store + Drop> Plain<S> {
         ensures called { (s : State) (b : Body) → IsAhead S.names S.present S.stands S.older self.old s next → IsBody (S.present self.old.store) self.old.nodes.items body b
             → IfOk result (λ m. WasCalled S.names S.present S.stands S.older m self.new s (calling_once b s)) }
         ensures kept { (s : State) → IsAhead S.names S.present S.stands S.older self.old s next → OnErr result (Keeps S.names S.present S.stands S.older self.new s.world s.stack) }
-        ensures falls { (w : ℕ) → choices_cost (frame_costs self.old.frames.items) self.old.choices.items
-            + rest_cost (frame_costs self.old.frames.items) next + 1 ≤ w → IfOk result (λ m. Falls m (whole_cost (suc self.old.steps) w) (weight self.new)) }
+        ensures falls { (w : ℕ) → choices_cost (member_costs self.old.members.items) self.old.choices.items
+            + rest_cost (member_costs self.old.members.items) next + 1 ≤ w → IfOk result (λ m. Falls m (whole_cost (suc self.old.steps) w) (weight self.new)) }
         ensures frames { ResultFull ⊥ result }
         ensures met { ResultMet S.full result self.new }
         ensures stays { Stays S.names self.old self.new }
     {
         let height = self.choices.len();
-        let once = push_frame(
-            &mut self.frames,
-            Frame {
-                todo: Todo::CutBack,
+        let once = push_link(
+            &mut self.members,
+            Link {
+                todo: Todo::CutTo,
                 mark: height,
                 next,
             },
         )?;
-        self.now = Now::Running(Frame {
+        self.now = Now::Running(Link {
             todo: Todo::Body(body),
             mark: height,
             next: Some(once),
@@ -53,8 +54,8 @@ impl<S: Store + Drop> Plain<S> {
             → IfOk result (λ m. WasCalled S.names S.present S.stands S.older m self.new s (refuting b s)) }
         ensures kept { (s : State) → IsAhead S.names S.present S.stands S.older self.old s next
             → OnErr result (WasRefused S.names S.present S.stands S.older self.new s (pushed s.list AsIs s)) }
-        ensures falls { (w : ℕ) → choices_cost (frame_costs self.old.frames.items) self.old.choices.items
-            + rest_cost (frame_costs self.old.frames.items) next + 1 ≤ w → IfOk result (λ m. Falls m (whole_cost (suc self.old.steps) w) (weight self.new)) }
+        ensures falls { (w : ℕ) → choices_cost (member_costs self.old.members.items) self.old.choices.items
+            + rest_cost (member_costs self.old.members.items) next + 1 ≤ w → IfOk result (λ m. Falls m (whole_cost (suc self.old.steps) w) (weight self.new)) }
         ensures frames { ResultFull (self.old.limit ≤ length self.old.choices.items) result }
         ensures met { ResultMet S.full result self.new }
         ensures stays { Stays S.names self.old self.new }
@@ -69,25 +70,25 @@ impl<S: Store + Drop> Plain<S> {
             &mut self.choices,
             Left::AsIs(next),
             self.nodes.len(),
-            self.frames.len(),
+            self.members.len(),
         )?;
-        let fail = push_frame(
-            &mut self.frames,
-            Frame {
+        let fail = push_link(
+            &mut self.members,
+            Link {
                 todo: Todo::Fail,
                 mark: height,
                 next,
             },
         )?;
-        let once = push_frame(
-            &mut self.frames,
-            Frame {
-                todo: Todo::CutBack,
+        let once = push_link(
+            &mut self.members,
+            Link {
+                todo: Todo::CutTo,
                 mark: height,
                 next: Some(fail),
             },
         )?;
-        self.now = Now::Running(Frame {
+        self.now = Now::Running(Link {
             todo: Todo::Body(body),
             mark: height + 1,
             next: Some(once),
@@ -102,8 +103,8 @@ impl<S: Store + Drop> Plain<S> {
         ensures called { (s : State) → IsAhead S.names S.present S.stands S.older self.old s next
             → IfOk result (λ m. WasCalled S.names S.present S.stands S.older m self.new s (pushed s.list Again s)) }
         ensures kept { (s : State) → IsAhead S.names S.present S.stands S.older self.old s next → OnErr result (Keeps S.names S.present S.stands S.older self.new s.world s.stack) }
-        ensures falls { (w : ℕ) → choices_cost (frame_costs self.old.frames.items) self.old.choices.items
-            + rest_cost (frame_costs self.old.frames.items) next + 1 ≤ w → IfOk result (λ m. Falls m (whole_cost (suc self.old.steps) w) (weight self.new)) }
+        ensures falls { (w : ℕ) → choices_cost (member_costs self.old.members.items) self.old.choices.items
+            + rest_cost (member_costs self.old.members.items) next + 1 ≤ w → IfOk result (λ m. Falls m (whole_cost (suc self.old.steps) w) (weight self.new)) }
         ensures frames { ResultFull (self.old.limit ≤ length self.old.choices.items) result }
         ensures met { ResultMet S.full result self.new }
         ensures stays { Stays S.names self.old self.new }
@@ -117,9 +118,9 @@ impl<S: Store + Drop> Plain<S> {
             &mut self.choices,
             Left::Again(next),
             self.nodes.len(),
-            self.frames.len(),
+            self.members.len(),
         )?;
-        self.now = at(self.frames.as_slice(), next);
+        self.now = at(self.members.as_slice(), next);
         Ok(Move::Goes)
     }
 }

@@ -7,14 +7,14 @@ ghost use Rattle.iso_store_core.specs.Presents.{meaning};
 use super::plain::{Move, Plain};
 use iso_lib::Fault;
 use iso_model::{Output, Pause};
-use iso_plain_core::parts::at;
+use iso_plain_core::members::at;
 use iso_store_core::{Store, StoreFault};
 use iso_text::output;
 
 impl<S: Store + Drop> Plain<S> {
     ghost use Rattle.iso_plain.specs.Outputs.{WritesAt, HasWritten};
     ghost use Rattle.iso_plain.specs.EngineStates.{Keeps, Falls, weight};
-    ghost use Rattle.iso_plain_core.specs.Costs.{choices_cost, rest_cost, frame_costs, whole_cost};
+    ghost use Rattle.iso_plain_core.specs.Costs.{choices_cost, rest_cost, member_costs, whole_cost};
     ghost use Rattle.iso_plain.specs.Stays.{Stays};
     ghost use Rattle.iso_plain.specs.Limits.{ResultMet, ResultFull};
 
@@ -31,15 +31,15 @@ impl<S: Store + Drop> Plain<S> {
             → IfOk result (λ m. HasWritten S.names S.present S.stands S.older m self.new (replied (output_reply row (meaning (S.present self.old.store) goal)) s.list s)) }
         ensures kept { (s : State) → WritesAt S.names S.present S.stands S.older self.old row goal s place
             → OnErr result (Keeps S.names S.present S.stands S.older self.new s.world s.stack) }
-        ensures falls { (w : ℕ) → choices_cost (frame_costs self.old.frames.items) self.old.choices.items
-            + rest_cost (frame_costs self.old.frames.items) place + 1 ≤ w → IfOk result (λ m. Falls m (whole_cost (suc self.old.steps) w) (weight self.new)) }
+        ensures falls { (w : ℕ) → choices_cost (member_costs self.old.members.items) self.old.choices.items
+            + rest_cost (member_costs self.old.members.items) place + 1 ≤ w → IfOk result (λ m. Falls m (whole_cost (suc self.old.steps) w) (weight self.new)) }
         ensures frames { ResultFull ⊥ result }
         ensures met { ResultMet S.full result self.new }
         ensures stays { Stays S.names self.old self.new }
     {
         match output(self.alloc, &self.store, &self.ops, row, goal) {
             Ok(bytes) => {
-                self.now = at(self.frames.as_slice(), place);
+                self.now = at(self.members.as_slice(), place);
                 if bytes.is_empty() {
                     return Ok(Move::Goes);
                 }

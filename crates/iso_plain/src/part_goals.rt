@@ -14,7 +14,7 @@ use iso_text::parts::parted;
 impl<S: Store + Drop> Plain<S> {
     ghost use Rattle.iso_plain.specs.Settles.{PartsAt, WasStopped};
     ghost use Rattle.iso_plain.specs.EngineStates.{WasCalled, Falls, weight};
-    ghost use Rattle.iso_plain_core.specs.Costs.{choices_cost, rest_cost, frame_costs, whole_cost};
+    ghost use Rattle.iso_plain_core.specs.Costs.{choices_cost, rest_cost, member_costs, whole_cost};
     ghost use Rattle.iso_plain.specs.Stays.{Stays};
     ghost use Rattle.iso_plain.specs.Limits.{ResultMet, ResultFull};
 
@@ -31,8 +31,8 @@ impl<S: Store + Drop> Plain<S> {
             → IfOk result (λ m. WasCalled S.names S.present S.stands S.older m self.new s (settled (parts_settled row (meaning (S.present self.old.store) goal)) s.list s)) }
         ensures kept { (s : State) → PartsAt S.names S.present S.stands S.older self.old row goal s place
             → OnErr result (WasStopped S.names S.present S.stands S.older self.new s (settled (parts_settled row (meaning (S.present self.old.store) goal)) s.list s)) }
-        ensures falls { (w : ℕ) → choices_cost (frame_costs self.old.frames.items) self.old.choices.items
-            + rest_cost (frame_costs self.old.frames.items) place + 1 ≤ w → IfOk result (λ m. Falls m (whole_cost (suc self.old.steps) w) (weight self.new)) }
+        ensures falls { (w : ℕ) → choices_cost (member_costs self.old.members.items) self.old.choices.items
+            + rest_cost (member_costs self.old.members.items) place + 1 ≤ w → IfOk result (λ m. Falls m (whole_cost (suc self.old.steps) w) (weight self.new)) }
         ensures frames { (s : State) → PartsAt S.names S.present S.stands S.older self.old row goal s place
             → ResultFull ((self.old.limit ≤ length self.old.choices.items)
             × (length (settled (parts_settled row (meaning (S.present self.old.store) goal)) s.list s).stack ≡ suc (length s.stack))) result }

@@ -9,13 +9,14 @@ ghost use Rattle.iso_model.specs.Search.Walker.{State, Member, tried_clause};
 
 use super::plain::Plain;
 use iso_plain_core::firsts::{first_shape, misses};
-use iso_plain_core::leaving::next_left;
-use iso_plain_core::parts::{Attempt, Now};
+use iso_plain_core::left_clauses::next_left;
+use iso_plain_core::choices::Attempt;
+use iso_plain_core::members::Now;
 use iso_store_core::{Store, StoreFault};
 
 impl<S: Store + Drop> Plain<S> {
     ghost use Rattle.iso_plain.specs.EngineStates.{Calls, Passes, StandsAs, Keeps, phase_of};
-    ghost use Rattle.iso_plain_core.specs.Costs.{now_cost, body_cost, most, rest_cost, frame_costs};
+    ghost use Rattle.iso_plain_core.specs.Costs.{now_cost, body_cost, most, rest_cost, member_costs};
     ghost use Rattle.iso_plain.specs.Stays.{Stays};
     ghost use Rattle.iso_model.specs.Search.Engines.{IsAwake};
 
@@ -86,8 +87,8 @@ impl<S: Store + Drop> Plain<S> {
         ensures awake { OnOk result (IsAwake (phase_of self.new.now)) }
         ensures full { result ≡ Err StoreFault.Full → S.full self.new.store }
         ensures choices { self.new.choices ≡ self.old.choices }
-        ensures frames { self.new.frames ≡ self.old.frames }
-        ensures cost { OnOk result (now_cost (frame_costs self.old.frames.items) self.new.now ≤ body_cost most (rest_cost (frame_costs self.old.frames.items) attempt.rest)) }
+        ensures members { self.new.members ≡ self.old.members }
+        ensures cost { OnOk result (now_cost (member_costs self.old.members.items) self.new.now ≤ body_cost most (rest_cost (member_costs self.old.members.items) attempt.rest)) }
         ensures stays { Stays S.names self.old self.new }
     {
         if self.misses(attempt) {

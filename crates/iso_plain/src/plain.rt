@@ -5,9 +5,10 @@ use iso_db::Db;
 use iso_model::{Ball, Pause};
 use iso_ops::{Flags, OpTable};
 use iso_plain_core::bodies::Node;
-use iso_plain_core::callables::Callable;
+use iso_plain_core::callables::Callables;
 use iso_plain_core::clauses::Clause;
-use iso_plain_core::parts::{Choice, Frame, Now};
+use iso_plain_core::choices::Choice;
+use iso_plain_core::members::{Link, Now};
 use iso_plain_core::vocabulary::Vocabulary;
 use iso_store_core::Store;
 use std::alloc::Global;
@@ -27,7 +28,7 @@ pub struct Plain<S: Store> {
     /// The clauses of the procedures.
     pub(crate) db: Db<Clause>,
     /// What is callable under each name, by the number of its atom.
-    pub(crate) callables: Vec<Vec<Callable>>,
+    pub(crate) callables: Callables,
     /// The names that it knows beforehand.
     pub(crate) vocabulary: Vocabulary,
     /// The operators as they are now.
@@ -37,7 +38,7 @@ pub struct Plain<S: Store> {
     /// The bodies that stand, part by part.
     pub(crate) nodes: Vec<Node<S::Word>>,
     /// The members of lists of goals, one behind the other.
-    pub(crate) frames: Vec<Frame>,
+    pub(crate) members: Vec<Link>,
     /// The alternatives that stand, the newest last.
     pub(crate) choices: Vec<Choice<S::Word, S::Mark>>,
     /// How many alternatives may stand at once.
@@ -62,7 +63,7 @@ impl<S: Store + Drop> Plain<S> {
     ghost use Rattle.iso_model.specs.Search.Walker.{World, idle};
     ghost use Rattle.iso_plain.specs.Worlds.{IsWorld};
     ghost use Rattle.iso_plain.specs.EngineStates.{IsBase, IsEngine};
-    ghost use Rattle.iso_plain_core.specs.declared.parts.Now.TheVariants.{Idle};
+    ghost use Rattle.iso_plain_core.specs.declared.members.Now.TheVariants.{Idle};
 
     /// Drops what is left of a run.
     pub(crate) fn clear(&mut self)
@@ -73,7 +74,7 @@ impl<S: Store + Drop> Plain<S> {
         ensures substitution { (S.present self.new.store).substitution ≡ Variable }
         ensures next { (S.present self.new.store).next ≡ 0 }
         ensures nodes { self.new.nodes.items ≡ [] }
-        ensures frames { self.new.frames.items ≡ [] }
+        ensures members { self.new.members.items ≡ [] }
         ensures choices { self.new.choices.items ≡ [] }
         ensures query { self.new.query.items ≡ [] }
         ensures raised { self.new.raised ≡ None }
@@ -83,7 +84,7 @@ impl<S: Store + Drop> Plain<S> {
         self.choices.clear();
         self.db.forget_views();
         self.nodes.clear();
-        self.frames.clear();
+        self.members.clear();
         self.query.clear();
         self.raised = None;
         self.steps = 0;

@@ -13,23 +13,24 @@ use super::plain::{Move, Plain};
 use iso_model::{BuiltIn, Limit, Pause};
 use iso_plain_core::bodies::Node;
 use iso_plain_core::goals::Placed;
-use iso_plain_core::parts::{Attempt, Frame, Now, Todo, at};
+use iso_plain_core::choices::Attempt;
+use iso_plain_core::members::{Link, Now, Todo, at};
 use iso_plain_core::replies::{self, Replied};
 use iso_store_core::{Store, StoreFault};
 
 impl<S: Store + Drop> Plain<S> {
     ghost use Rattle.iso_plain.specs.EngineStates.{Represents, Stopped, WasRefused, Moves, Falls, Calls, WasTried, cost, weight};
-    ghost use Rattle.iso_plain_core.specs.Costs.{choices_cost, rest_cost, frame_costs, whole_cost};
+    ghost use Rattle.iso_plain_core.specs.Costs.{choices_cost, rest_cost, member_costs, whole_cost};
     ghost use Rattle.iso_plain_core.specs.Standing.{IsAt};
     ghost use Rattle.iso_plain.specs.Stays.{Stays};
     ghost use Rattle.iso_plain.specs.Limits.{ResultMet, ResultFull};
     ghost use Rattle.iso_plain.specs.declared.plain.Move.TheVariants.{Goes};
-    ghost use Rattle.iso_plain_core.specs.declared.parts.Now.TheVariants as now;
-    ghost use Rattle.iso_plain_core.specs.declared.parts.Todo.TheVariants as todo;
+    ghost use Rattle.iso_plain_core.specs.declared.members.Now.TheVariants as now;
+    ghost use Rattle.iso_plain_core.specs.declared.members.Todo.TheVariants as todo;
 
-    /// Does what the frame asks for. The errors: the store is full, or memory was refused.
-    pub(crate) fn run(&mut self, frame: Frame) -> Result<Move, StoreFault>
-        requires now { self.old.now ≡ now.Running frame }
+    /// Does what the link asks for. The errors: the store is full, or memory was refused.
+    pub(crate) fn run(&mut self, link: Link) -> Result<Move, StoreFault>
+        requires now { self.old.now ≡ now.Running link }
         requires stands { (s : State) × Represents S.names S.present S.stands S.older self.old s }
         ensures moves { (s : State) → Represents S.names S.present S.stands S.older self.old s
             → IfOk result (λ m. Moves S.names S.present S.stands S.older m s self.new) }
@@ -39,22 +40,22 @@ impl<S: Store + Drop> Plain<S> {
         ensures met { ResultMet S.full result self.new }
         ensures stays { Stays S.names self.old self.new }
     {
-        match frame.todo {
-            Todo::Body(place) => self.run_body(frame, place),
-            Todo::CutBack => Ok(self.cut(frame)),
+        match link.todo {
+            Todo::Body(place) => self.run_body(link, place),
+            Todo::CutTo => Ok(self.cut(link)),
             Todo::Fail => {
                 self.now = Now::Failing;
                 Ok(Move::Goes)
             }
-            Todo::Leave => Ok(self.leave(frame)),
-            Todo::Gather(place) => self.gather(frame, place),
+            Todo::Leave => Ok(self.leave(link)),
+            Todo::Gather(place) => self.gather(link, place),
         }
     }
 
-    /// Runs the body at this place of the nodes, which the frame asks for. The errors are those of `run`.
-    fn run_body(&mut self, frame: Frame, place: usize) -> Result<Move, StoreFault>
-        requires now { self.old.now ≡ now.Running frame }
-        requires body { frame.todo ≡ todo.Body place }
+    /// Runs the body at this place of the nodes, which the link asks for. The errors are those of `run`.
+    fn run_body(&mut self, link: Link, place: usize) -> Result<Move, StoreFault>
+        requires now { self.old.now ≡ now.Running link }
+        requires body { link.todo ≡ todo.Body place }
         requires stands { (s : State) × Represents S.names S.present S.stands S.older self.old s }
         ensures moves { (s : State) → Represents S.names S.present S.stands S.older self.old s
             → IfOk result (λ m. Moves S.names S.present S.stands S.older m s self.new) }
@@ -65,19 +66,19 @@ impl<S: Store + Drop> Plain<S> {
         ensures stays { Stays S.names self.old self.new }
     {
         match self.nodes[place] {
-            Node::Run(goal) => self.run_goal(frame, place, goal),
-            Node::Cut => Ok(self.cut(frame)),
-            Node::And(distance) => self.take_apart(frame, place, distance),
-            Node::Or(distance) => self.take_either(frame, place, distance),
-            Node::If(distance) => self.take_condition(frame, place, distance),
-            Node::Choose(condition, next) => self.choose(frame, place, condition, next),
+            Node::Run(goal) => self.run_goal(link, place, goal),
+            Node::Cut => Ok(self.cut(link)),
+            Node::And(distance) => self.conjunction(link, place, distance),
+            Node::Or(distance) => self.disjunction(link, place, distance),
+            Node::If(distance) => self.if_then(link, place, distance),
+            Node::Choose(condition, next) => self.if_then_else(link, place, condition, next),
         }
     }
 
-    /// Runs the goal of the frame's body. The errors: the store is full, or memory was refused.
-    fn run_goal(&mut self, frame: Frame, place: usize, goal: S::Word) -> Result<Move, StoreFault>
-        requires now { self.old.now ≡ now.Running frame }
-        requires there { IsAt self.old.nodes.items frame place (node.Run goal) }
+    /// Runs the goal of the link's body. The errors: the store is full, or memory was refused.
+    fn run_goal(&mut self, link: Link, place: usize, goal: S::Word) -> Result<Move, StoreFault>
+        requires now { self.old.now ≡ now.Running link }
+        requires there { IsAt self.old.nodes.items link place (node.Run goal) }
         requires stands { (s : State) × Represents S.names S.present S.stands S.older self.old s }
         ensures moves { (s : State) → Represents S.names S.present S.stands S.older self.old s
             → IfOk result (λ m. Moves S.names S.present S.stands S.older m s self.new) }
@@ -93,7 +94,7 @@ impl<S: Store + Drop> Plain<S> {
         }
         let called = self.called(goal)?;
         match called {
-            Called::BuiltIn(built_in) => self.run_built_in(frame, place, built_in, goal),
+            Called::BuiltIn(built_in) => self.run_built_in(link, place, built_in, goal),
             Called::Fails => {
                 self.steps -= 1;
                 self.now = Now::Failing;
@@ -101,7 +102,7 @@ impl<S: Store + Drop> Plain<S> {
             }
             Called::Unknown(ball) => {
                 self.steps -= 1;
-                self.throw(ball, frame.next);
+                self.throw(ball, link.next);
                 Ok(Move::Goes)
             }
             Called::User(clause, later) => {
@@ -110,23 +111,23 @@ impl<S: Store + Drop> Plain<S> {
                     clause,
                     later,
                     goal,
-                    rest: frame.next,
+                    rest: link.next,
                 });
                 self.call_first(attempt)
             }
         }
     }
 
-    /// Runs the goal of the frame's body, which is one of this built-in. The errors: the store is full, or memory was refused.
+    /// Runs the goal of the link's body, which is one of this built-in. The errors: the store is full, or memory was refused.
     fn run_built_in(
         &mut self,
-        frame: Frame,
+        link: Link,
         place: usize,
         built_in: BuiltIn,
         goal: S::Word,
     ) -> Result<Move, StoreFault>
-        requires now { self.old.now ≡ now.Running frame }
-        requires there { IsAt self.old.nodes.items frame place (node.Run goal) }
+        requires now { self.old.now ≡ now.Running link }
+        requires there { IsAt self.old.nodes.items link place (node.Run goal) }
         requires steps { self.old.steps ≢ 0 }
         requires built_in { IsBuiltIn (meaning (S.present self.old.store) goal) built_in }
         requires stands { (s : State) × Represents S.names S.present S.stands S.older self.old s }
@@ -149,7 +150,7 @@ impl<S: Store + Drop> Plain<S> {
         self.steps -= 1;
         match replied {
             Replied::GoesOn => {
-                self.now = at(self.frames.as_slice(), frame.next);
+                self.now = at(self.members.as_slice(), link.next);
                 Ok(Move::Goes)
             }
             Replied::Fails => {
@@ -157,20 +158,20 @@ impl<S: Store + Drop> Plain<S> {
                 Ok(Move::Goes)
             }
             Replied::Raises(ball) => {
-                self.throw(ball, frame.next);
+                self.throw(ball, link.next);
                 Ok(Move::Goes)
             }
-            Replied::Calls(body) => Ok(self.call_body(body, frame.next)),
-            Replied::CallsOnce(body) => self.call_once(body, frame.next),
-            Replied::Refutes(body) => self.refute(body, frame.next),
-            Replied::Repeats => self.repeat(frame.next),
-            Replied::Catches(Placed::Body(body)) => self.call_inside(body, goal, frame.next),
-            Replied::Catches(Placed::Raises(ball)) => self.throw_inside(ball, goal, frame.next),
-            Replied::Gathers(body) => self.find_all(body, goal, frame.next),
-            Replied::AsksSettings(row) => self.settle(row, goal, frame.next),
-            Replied::AsksDatabase(row) => self.store_goal(row, goal, frame.next),
-            Replied::TakesApart(row) => self.part_goal(row, goal, frame.next),
-            Replied::Writes(row) => self.write_goal(row, goal, frame.next),
+            Replied::Calls(body) => Ok(self.call_body(body, link.next)),
+            Replied::CallsOnce(body) => self.call_once(body, link.next),
+            Replied::Refutes(body) => self.refute(body, link.next),
+            Replied::Repeats => self.repeat(link.next),
+            Replied::Catches(Placed::Body(body)) => self.call_inside(body, goal, link.next),
+            Replied::Catches(Placed::Raises(ball)) => self.throw_inside(ball, goal, link.next),
+            Replied::Gathers(body) => self.find_all(body, goal, link.next),
+            Replied::AsksSettings(row) => self.settle(row, goal, link.next),
+            Replied::AsksDatabase(row) => self.database_goal(row, goal, link.next),
+            Replied::TakesApart(row) => self.part_goal(row, goal, link.next),
+            Replied::Writes(row) => self.write_goal(row, goal, link.next),
             Replied::Halts(status) => {
                 self.clear();
                 Ok(Move::Pauses(Pause::Halt(status)))
@@ -183,7 +184,7 @@ impl<S: Store + Drop> Plain<S> {
         ensures goes { result ≡ Goes }
         ensures runs { self.new ≡ record self.old { now = now.Running (record { todo = todo.Body body; mark = length self.old.choices.items; next = next }) } }
     {
-        self.now = Now::Running(Frame {
+        self.now = Now::Running(Link {
             todo: Todo::Body(body),
             mark: self.choices.len(),
             next,
@@ -201,8 +202,8 @@ impl<S: Store + Drop> Plain<S> {
         ensures kept { (s : State) (call : Tree) (c : databases.Clause) (cs : List databases.Clause) (behind : List Member)
             → Calls S.names S.present S.stands S.older self.old attempt s call c cs behind
             → OnErr result (WasRefused S.names S.present S.stands S.older self.new s (with_others call cs behind s)) }
-        ensures falls { (w : ℕ) → choices_cost (frame_costs self.old.frames.items) self.old.choices.items
-            + rest_cost (frame_costs self.old.frames.items) attempt.rest ≤ w → IfOk result (λ m. Falls m (whole_cost (suc self.old.steps) w) (weight self.new)) }
+        ensures falls { (w : ℕ) → choices_cost (member_costs self.old.members.items) self.old.choices.items
+            + rest_cost (member_costs self.old.members.items) attempt.rest ≤ w → IfOk result (λ m. Falls m (whole_cost (suc self.old.steps) w) (weight self.new)) }
         ensures frames { (s : State) (call : Tree) (c : databases.Clause) (cs : List databases.Clause) (behind : List Member)
             → Calls S.names S.present S.stands S.older self.old attempt s call c cs behind
             → ResultFull ((self.old.limit ≤ length self.old.choices.items) × (0 < length cs)) result }

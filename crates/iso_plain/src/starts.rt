@@ -13,10 +13,10 @@ use iso_lib::errors;
 use iso_lib::indicators::Functor;
 use iso_model::{AddFault, Term};
 use iso_ops::{Flags, OpTable};
-use iso_plain_core::parts::{Frame, Now, Todo};
+use iso_plain_core::members::{Link, Now, Todo};
 use iso_plain_core::procedures::{self, Way};
 use iso_plain_core::vocabulary::Vocabulary;
-use iso_plain_core::{callables, clauses, entries, writing};
+use iso_plain_core::{callables, clauses, entries, patterns};
 use iso_prep::{Fault, Prepared};
 use iso_store_core::{Store, StoreFault};
 use std::alloc::{AllocError, Global};
@@ -28,7 +28,7 @@ impl<S: Store + Drop> Plain<S> {
     ghost use Rattle.iso_plain.specs.EngineStates.{IsEngine, Represents, Keeps, StandsFor, phase_of};
     ghost use Rattle.iso_plain.specs.Starts.{IsQuery, IsFresh, Comes};
     ghost use Rattle.iso_model.specs.Search.Engines.{Ready, Midway};
-    ghost use Rattle.iso_plain_core.specs.declared.parts.Now.TheVariants.{Idle};
+    ghost use Rattle.iso_plain_core.specs.declared.members.Now.TheVariants.{Idle};
 
     /// An engine that no goal was started on, without clauses, with the operators and flags before any is set, over this empty store, in which at most so many
     /// alternatives (1 to 16,777,216) stand at once. The error is that memory was refused; the store is dropped then.
@@ -54,7 +54,7 @@ impl<S: Store + Drop> Plain<S> {
             ops,
             flags: Flags::initial(),
             nodes: Vec::new(alloc),
-            frames: Vec::new(alloc),
+            members: Vec::new(alloc),
             choices: Vec::new(alloc),
             limit: frames,
             steps: 0,
@@ -94,7 +94,7 @@ impl<S: Store + Drop> Plain<S> {
         ensures full { result ≡ Err StoreFault.Full → S.full self.new.store }
         ensures stays { Stays S.names self.old self.new }
     {
-        let parts = writing::written_body(self.alloc, &mut self.store, query)?;
+        let parts = patterns::written_body(self.alloc, &mut self.store, query)?;
         let count = query.variables();
         let variables = entries::new_variables(self.alloc, &mut self.store, count)?;
         entries::copy_parts(
@@ -104,7 +104,7 @@ impl<S: Store + Drop> Plain<S> {
             variables.as_slice(),
         )?;
         self.query = variables;
-        self.now = Now::Running(Frame {
+        self.now = Now::Running(Link {
             todo: Todo::Body(self.nodes.len() - 1),
             mark: 0,
             next: None,
@@ -153,7 +153,7 @@ impl<S: Store + Drop> Plain<S> {
         let Some((text, arity)) = clauses::indicator_of(&checked.head) else {
             unreachable!();
         };
-        let kept = writing::written_clause(self.alloc, &mut self.store, &checked)?;
+        let kept = patterns::written_clause(self.alloc, &mut self.store, &checked)?;
         let name = self.store.intern(text)?;
         procedures::add(
             self.alloc,

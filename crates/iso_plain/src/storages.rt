@@ -13,29 +13,30 @@ ghost use Rattle.iso_plain_core.specs.Callables.{Finds};
 ghost use Rattle.iso_atoms.specs.Texts.{EachOnce, text_at};
 ghost use Rattle.iso_model.specs.Search.Errors.{key};
 ghost use Rattle.iso_plain_core.specs.Offers.{clause_offer};
-ghost use Rattle.iso_plain_core.specs.declared.parts.Choice as kept;
+ghost use Rattle.iso_plain_core.specs.declared.choices.Choice as kept;
 
 use super::plain::{Move, Plain};
 use iso_atoms::Atom;
 use iso_lib::Fault;
 use iso_model::{Limit, Pause, Storage};
 use iso_plain_core::callables::{self, Callee};
-use iso_plain_core::leaving::next_left;
-use iso_plain_core::parts::{Left, Now, Showing, at, keep_choice};
+use iso_plain_core::left_clauses::next_left;
+use iso_plain_core::choices::{Left, Showing, keep_choice};
+use iso_plain_core::members::{Now, at};
 use iso_storage::shown::unify_clause;
-use iso_storage::{Stored, store};
+use iso_storage::{Stored, store_goal};
 use iso_store_core::{Shape, Store, StoreFault};
 use std::alloc::AllocError;
 
 impl<S: Store + Drop> Plain<S> {
     ghost use Rattle.iso_plain.specs.Shows.{Shows, HasUnified, IsUserPlace, StoresAt, ShowsNext, WasGivenUp, shown_row, offers_of};
     ghost use Rattle.iso_plain.specs.EngineStates.{StandsAs, Keeps, WentBack, WasTried, Falls, cost, weight, phase_of, went_back};
-    ghost use Rattle.iso_plain_core.specs.Costs.{choices_cost, now_cost, body_cost, left_cost, most, rest_cost, frame_costs, whole_cost};
+    ghost use Rattle.iso_plain_core.specs.Costs.{choices_cost, now_cost, body_cost, left_cost, most, rest_cost, member_costs, whole_cost};
     ghost use Rattle.iso_model.specs.Search.Engines.{IsAwake};
     ghost use Rattle.iso_plain.specs.Stays.{Stays};
     ghost use Rattle.iso_plain.specs.Limits.{ResultMet, ResultFull};
-    ghost use Rattle.iso_plain_core.specs.declared.parts.Now.TheVariants as now;
-    ghost use Rattle.iso_plain_core.specs.declared.parts.Left.TheVariants as left;
+    ghost use Rattle.iso_plain_core.specs.declared.members.Now.TheVariants as now;
+    ghost use Rattle.iso_plain_core.specs.declared.choices.Left.TheVariants as left;
 
     /// The place of the user procedure with this name and so many arguments, if it has one.
     fn user_place(&self, name: Atom, arity: usize) -> Option<usize>
@@ -79,7 +80,7 @@ impl<S: Store + Drop> Plain<S> {
         ensures db { self.new.db ≡ self.old.db }
         ensures steps { self.new.steps ≡ self.old.steps }
         ensures choices { self.new.choices ≡ self.old.choices }
-        ensures frames { self.new.frames ≡ self.old.frames }
+        ensures members { self.new.members ≡ self.old.members }
         ensures stays { Stays S.names self.old self.new }
     {
         let clause = self.db.clause(shown.clause);
@@ -90,7 +91,7 @@ impl<S: Store + Drop> Plain<S> {
 
     /// Unifies the head and the body that are shown with those of the clause that comes first, and goes on (8.8.1); where they don't
     /// unify it fails next. The errors: the store is full, or memory was refused.
-    fn read_clause(&mut self, shown: Showing<S::Word>) -> Result<(), StoreFault>
+    fn try_shown(&mut self, shown: Showing<S::Word>) -> Result<(), StoreFault>
         requires shows { (s : State) × (k : databases.Key) × (c : databases.Clause) × (cs : List databases.Clause) × Shows S.names S.present S.stands S.older self.old shown s k c cs }
         requires failing { self.old.now ≡ now.Failing }
         requires stays { shown.removes ≡ false }
@@ -102,19 +103,19 @@ impl<S: Store + Drop> Plain<S> {
         ensures full { result ≡ Err StoreFault.Full → S.full self.new.store }
         ensures steps { self.new.steps ≡ self.old.steps }
         ensures choices { self.new.choices ≡ self.old.choices }
-        ensures frames { self.new.frames ≡ self.old.frames }
-        ensures cost { OnOk result (now_cost (frame_costs self.old.frames.items) self.new.now ≤ body_cost most (rest_cost (frame_costs self.old.frames.items) shown.rest)) }
+        ensures members { self.new.members ≡ self.old.members }
+        ensures cost { OnOk result (now_cost (member_costs self.old.members.items) self.new.now ≤ body_cost most (rest_cost (member_costs self.old.members.items) shown.rest)) }
         ensures stays { Stays S.names self.old self.new }
     {
         if self.unify_shown(shown)? {
-            self.now = at(self.frames.as_slice(), shown.rest);
+            self.now = at(self.members.as_slice(), shown.rest);
         }
         Ok(())
     }
 
     /// Unifies the head and the body that are shown with those of the clause that comes first, removes it, and goes on (8.9.3); where it
     /// was removed before, or they don't unify, it fails next. The errors: the store is full, or memory was refused.
-    fn take_clause(&mut self, shown: Showing<S::Word>) -> Result<(), StoreFault>
+    fn try_removal(&mut self, shown: Showing<S::Word>) -> Result<(), StoreFault>
         requires shows { (s : State) × (k : databases.Key) × (c : databases.Clause) × (cs : List databases.Clause) × Shows S.names S.present S.stands S.older self.old shown s k c cs }
         requires failing { self.old.now ≡ now.Failing }
         requires removes { shown.removes ≡ true }
@@ -126,8 +127,8 @@ impl<S: Store + Drop> Plain<S> {
         ensures full { result ≡ Err StoreFault.Full → S.full self.new.store }
         ensures steps { self.new.steps ≡ self.old.steps }
         ensures choices { self.new.choices ≡ self.old.choices }
-        ensures frames { self.new.frames ≡ self.old.frames }
-        ensures cost { OnOk result (now_cost (frame_costs self.old.frames.items) self.new.now ≤ body_cost most (rest_cost (frame_costs self.old.frames.items) shown.rest)) }
+        ensures members { self.new.members ≡ self.old.members }
+        ensures cost { OnOk result (now_cost (member_costs self.old.members.items) self.new.now ≤ body_cost most (rest_cost (member_costs self.old.members.items) shown.rest)) }
         ensures stays { Stays S.names self.old self.new }
     {
         let Some(place) = self.place_of(shown.head) else {
@@ -138,7 +139,7 @@ impl<S: Store + Drop> Plain<S> {
         }
         if self.unify_shown(shown)? {
             self.db.remove_from(place, shown.clause);
-            self.now = at(self.frames.as_slice(), shown.rest);
+            self.now = at(self.members.as_slice(), shown.rest);
         }
         Ok(())
     }
@@ -155,15 +156,15 @@ impl<S: Store + Drop> Plain<S> {
         ensures full { result ≡ Err StoreFault.Full → S.full self.new.store }
         ensures steps { self.new.steps ≡ self.old.steps }
         ensures choices { self.new.choices ≡ self.old.choices }
-        ensures frames { self.new.frames ≡ self.old.frames }
-        ensures cost { OnOk result (now_cost (frame_costs self.old.frames.items) self.new.now ≤ body_cost most (rest_cost (frame_costs self.old.frames.items) shown.rest)) }
+        ensures members { self.new.members ≡ self.old.members }
+        ensures cost { OnOk result (now_cost (member_costs self.old.members.items) self.new.now ≤ body_cost most (rest_cost (member_costs self.old.members.items) shown.rest)) }
         ensures stays { Stays S.names self.old self.new }
     {
         self.now = Now::Failing;
         if shown.removes {
-            self.take_clause(shown)
+            self.try_removal(shown)
         } else {
-            self.read_clause(shown)
+            self.try_shown(shown)
         }
     }
 
@@ -180,9 +181,9 @@ impl<S: Store + Drop> Plain<S> {
         ensures over { (s : State) (k : databases.Key) (c : databases.Clause) (cs : List databases.Clause) → Shows S.names S.present S.stands S.older self.old shown s k c cs
             → result ≡ Ok false → (self.old.limit ≤ length self.old.choices.items) × (0 < length cs) }
         ensures steps { self.new.steps ≡ self.old.steps }
-        ensures frames { self.new.frames ≡ self.old.frames }
-        ensures costs { choices_cost (frame_costs self.old.frames.items) self.new.choices.items
-            ≤ choices_cost (frame_costs self.old.frames.items) self.old.choices.items + left_cost most (rest_cost (frame_costs self.old.frames.items) shown.rest) }
+        ensures members { self.new.members ≡ self.old.members }
+        ensures costs { choices_cost (member_costs self.old.members.items) self.new.choices.items
+            ≤ choices_cost (member_costs self.old.members.items) self.old.choices.items + left_cost most (rest_cost (member_costs self.old.members.items) shown.rest) }
         ensures stays { Stays S.names self.old self.new }
     {
         let mut later = shown.later;
@@ -201,7 +202,7 @@ impl<S: Store + Drop> Plain<S> {
                 ..shown
             }),
             self.nodes.len(),
-            self.frames.len(),
+            self.members.len(),
         )?;
         Ok(true)
     }
@@ -214,8 +215,8 @@ impl<S: Store + Drop> Plain<S> {
             → IfOk result (λ m. WasTried S.names S.present S.stands S.older m self.new s (offered (shown_row (S.present self.old.store) shown) (offers_of shown k (c ∷ cs)) s.list s)) }
         ensures kept { (s : State) (k : databases.Key) (c : databases.Clause) (cs : List databases.Clause) → Shows S.names S.present S.stands S.older self.old shown s k c cs
             → OnErr result (Keeps S.names S.present S.stands S.older self.new s.world []) }
-        ensures falls { (w : ℕ) → choices_cost (frame_costs self.old.frames.items) self.old.choices.items
-            + rest_cost (frame_costs self.old.frames.items) shown.rest ≤ w → IfOk result (λ m. Falls m (whole_cost (suc self.old.steps) w) (weight self.new)) }
+        ensures falls { (w : ℕ) → choices_cost (member_costs self.old.members.items) self.old.choices.items
+            + rest_cost (member_costs self.old.members.items) shown.rest ≤ w → IfOk result (λ m. Falls m (whole_cost (suc self.old.steps) w) (weight self.new)) }
         ensures frames { (s : State) (k : databases.Key) (c : databases.Clause) (cs : List databases.Clause) → Shows S.names S.present S.stands S.older self.old shown s k c cs
             → ResultFull ((self.old.limit ≤ length self.old.choices.items) × (0 < length cs)) result }
         ensures met { ResultMet S.full result self.new }
@@ -241,7 +242,7 @@ impl<S: Store + Drop> Plain<S> {
 
     /// Runs the goal of this row, before the members from this place on. The errors: the store is full, or memory was refused; where no
     /// choice may be made any more the engine is spent.
-    pub(crate) fn store_goal(
+    pub(crate) fn database_goal(
         &mut self,
         row: Storage,
         goal: S::Word,
@@ -252,15 +253,15 @@ impl<S: Store + Drop> Plain<S> {
             → IfOk result (λ m. WasTried S.names S.present S.stands S.older m self.new s (settled (storage_settled row (meaning (S.present self.old.store) goal) s.next s.world) s.list s)) }
         ensures kept { (s : State) → StoresAt S.names S.present S.stands S.older self.old row goal s place
             → OnErr result (WasGivenUp S.names S.present S.stands S.older self.new s) }
-        ensures falls { (w : ℕ) → choices_cost (frame_costs self.old.frames.items) self.old.choices.items
-            + rest_cost (frame_costs self.old.frames.items) place + 1 ≤ w → IfOk result (λ m. Falls m (whole_cost (suc self.old.steps) w) (weight self.new)) }
+        ensures falls { (w : ℕ) → choices_cost (member_costs self.old.members.items) self.old.choices.items
+            + rest_cost (member_costs self.old.members.items) place + 1 ≤ w → IfOk result (λ m. Falls m (whole_cost (suc self.old.steps) w) (weight self.new)) }
         ensures frames { (s : State) → StoresAt S.names S.present S.stands S.older self.old row goal s place
             → ResultFull ((self.old.limit ≤ length self.old.choices.items)
             × (length (settled (storage_settled row (meaning (S.present self.old.store) goal) s.next s.world) s.list s).stack ≡ suc (length s.stack))) result }
         ensures met { ResultMet S.full result self.new }
         ensures stays { Stays S.names self.old self.new }
     {
-        match store(
+        match store_goal(
             self.alloc,
             &mut self.store,
             &mut self.db,
@@ -269,7 +270,7 @@ impl<S: Store + Drop> Plain<S> {
             goal,
         ) {
             Ok(Stored::Done) => {
-                self.now = at(self.frames.as_slice(), place);
+                self.now = at(self.members.as_slice(), place);
                 Ok(Move::Goes)
             }
             Ok(Stored::Fails) => {
@@ -297,9 +298,9 @@ impl<S: Store + Drop> Plain<S> {
         ensures shows { (c : kept.Choice S.Word S.Mark) (s : State) (a : Alternative) (below : List Alternative) → c.mark ≡ mark → c.left ≡ left.Shown shown → WentBack S.names S.present S.stands S.older self.old c s a below
             → ShowsNext S.names S.present S.stands S.older self.new shown s a below }
         ensures steps { self.new.steps ≡ self.old.steps }
-        ensures frames { self.new.frames ≡ self.old.frames }
-        ensures costs { choices_cost (frame_costs self.old.frames.items) self.new.choices.items + (body_cost most (rest_cost (frame_costs self.old.frames.items) shown.rest) + 1)
-            ≤ choices_cost (frame_costs self.old.frames.items) self.old.choices.items }
+        ensures members { self.new.members ≡ self.old.members }
+        ensures costs { choices_cost (member_costs self.old.members.items) self.new.choices.items + (body_cost most (rest_cost (member_costs self.old.members.items) shown.rest) + 1)
+            ≤ choices_cost (member_costs self.old.members.items) self.old.choices.items }
         ensures stays { Stays S.names self.old self.new }
     {
         let newest = self.choices.len() - 1;
@@ -335,7 +336,7 @@ impl<S: Store + Drop> Plain<S> {
         ensures awake { OnOk result (IsAwake (phase_of self.new.now)) }
         ensures full { result ≡ Err StoreFault.Full → S.full self.new.store }
         ensures steps { self.new.steps ≡ self.old.steps }
-        ensures costs { OnOk result (cost self.new < choices_cost (frame_costs self.old.frames.items) self.old.choices.items) }
+        ensures costs { OnOk result (cost self.new < choices_cost (member_costs self.old.members.items) self.old.choices.items) }
         ensures stays { Stays S.names self.old self.new }
     {
         self.leave_shown(mark, shown);

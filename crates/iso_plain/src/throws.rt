@@ -14,18 +14,19 @@ use iso_lib::unify_copy;
 use iso_model::Ball;
 use iso_plain_core::bodies::Node;
 use iso_plain_core::conversion::call_of;
-use iso_plain_core::parts::{Frame, Left, Now, Todo};
+use iso_plain_core::choices::Left;
+use iso_plain_core::members::{Link, Now, Todo};
 use iso_store_core::{Store, StoreFault};
 
 impl<S: Store + Drop> Plain<S> {
     ghost use Rattle.iso_plain.specs.Catches.{MeetsBall, IsCaught, Recovers, Calling, HasStack, HasThrown};
     ghost use Rattle.iso_plain.specs.EngineStates.{IsAhead, IsEngine, Represents, Moves, Stopped, Keeps, Falls, cost, weight, links_of, phase_of, went_back};
-    ghost use Rattle.iso_plain_core.specs.Costs.{choices_cost, body_cost, left_cost, most, rest_cost, frame_costs};
+    ghost use Rattle.iso_plain_core.specs.Costs.{choices_cost, body_cost, left_cost, most, rest_cost, member_costs};
     ghost use Rattle.iso_plain_core.specs.Standing.{Chain};
     ghost use Rattle.iso_model.specs.Search.Engines.{IsAwake};
     ghost use Rattle.iso_plain.specs.Stays.{Stays};
     ghost use Rattle.iso_plain.specs.Limits.{ResultMet, ResultFull};
-    ghost use Rattle.iso_plain_core.specs.declared.parts.Now.TheVariants as now;
+    ghost use Rattle.iso_plain_core.specs.declared.members.Now.TheVariants as now;
 
     /// Throws the ball, past the members from `next` on.
     pub(crate) fn throw(&mut self, ball: Ball, next: Option<usize>)
@@ -33,21 +34,21 @@ impl<S: Store + Drop> Plain<S> {
         ensures thrown { (s : State) → IsAhead S.names S.present S.stands S.older self.old s next
             → IsEngine S.names S.present S.stands S.older self.new (throwing (term_of ball.term) s) }
         ensures now { self.new.now ≡ now.Raising next }
-        ensures same { (self.new.steps ≡ self.old.steps) × (self.new.choices ≡ self.old.choices) × (self.new.frames ≡ self.old.frames) × (self.new.store ≡ self.old.store) }
+        ensures same { (self.new.steps ≡ self.old.steps) × (self.new.choices ≡ self.old.choices) × (self.new.members ≡ self.old.members) × (self.new.store ≡ self.old.store) }
         ensures stays { Stays S.names self.old self.new }
     {
         self.raised = Some(ball);
         self.now = Now::Raising(next);
     }
 
-    /// Whether the frame is the end of a catch whose choice stands at its mark.
-    fn ends_catch(&self, frame: Frame) -> bool
-        ensures { MatchBool result (IsEndOfCatch self.entry.now.choices.items frame) (IsEndOfCatch self.entry.now.choices.items frame → ⊥) }
+    /// Whether the link is the end of a catch whose choice stands at its mark.
+    fn ends_catch(&self, link: Link) -> bool
+        ensures { MatchBool result (IsEndOfCatch self.entry.now.choices.items link) (IsEndOfCatch self.entry.now.choices.items link → ⊥) }
     {
-        if !matches!(frame.todo, Todo::Leave) || frame.mark >= self.choices.len() {
+        if !matches!(link.todo, Todo::Leave) || link.mark >= self.choices.len() {
             return false;
         }
-        matches!(self.choices[frame.mark].left, Left::Catching(_, _))
+        matches!(self.choices[link.mark].left, Left::Catching(_, _))
     }
 
     /// The place of the choice of the catch to which a ball goes that is thrown past the members from this place on.
@@ -59,11 +60,11 @@ impl<S: Store + Drop> Plain<S> {
     {
         let mut at = from;
         while let Some(place) = at {
-            let frame = self.frames[place];
-            if self.ends_catch(frame) {
-                return Some(frame.mark);
+            let link = self.members[place];
+            if self.ends_catch(link) {
+                return Some(link.mark);
             }
-            at = frame.next;
+            at = link.next;
         }
         None
     }
@@ -77,8 +78,8 @@ impl<S: Store + Drop> Plain<S> {
         ensures back { (s : State) (ball : Tree) (behind : List Member) → IsEngine S.names S.present S.stands S.older self.old s
             → s.list ≡ Raise ball ∷ behind → (g : GoesTo ball behind s height)
             → IsCaught S.names S.present S.stands S.older self.new result.0 ball g.catcher g.recovery (went_back g.alternative g.below s) result.1 }
-        ensures costs { choices_cost (frame_costs self.new.frames.items) self.new.choices.items
-            + left_cost 1 (rest_cost (frame_costs self.new.frames.items) result.1) ≤ choices_cost (frame_costs self.old.frames.items) self.old.choices.items }
+        ensures costs { choices_cost (member_costs self.new.members.items) self.new.choices.items
+            + left_cost 1 (rest_cost (member_costs self.new.members.items) result.1) ≤ choices_cost (member_costs self.old.members.items) self.old.choices.items }
         ensures steps { self.new.steps ≡ self.old.steps }
         ensures stays { Stays S.names self.old self.new }
     {
@@ -102,8 +103,8 @@ impl<S: Store + Drop> Plain<S> {
         ensures kept { (s : State) → Recovers S.names S.present S.stands S.older self.old recovery s next
             → OnErr result (Keeps S.names S.present S.stands S.older self.new s.world s.stack) }
         ensures full { result ≡ Err StoreFault.Full → S.full self.new.store }
-        ensures costs { OnOk result (cost self.new ≤ choices_cost (frame_costs self.old.frames.items) self.old.choices.items
-            + body_cost most (rest_cost (frame_costs self.old.frames.items) next)) }
+        ensures costs { OnOk result (cost self.new ≤ choices_cost (member_costs self.old.members.items) self.old.choices.items
+            + body_cost most (rest_cost (member_costs self.old.members.items) next)) }
         ensures awake { OnOk result (IsAwake (phase_of self.new.now)) }
         ensures steps { self.new.steps ≡ self.old.steps }
         ensures stays { Stays S.names self.old self.new }
@@ -116,7 +117,7 @@ impl<S: Store + Drop> Plain<S> {
         )?;
         let place = self.nodes.len();
         self.nodes.push(Node::Run(call))?;
-        self.now = Now::Running(Frame {
+        self.now = Now::Running(Link {
             todo: Todo::Body(place),
             mark: self.choices.len(),
             next,
@@ -153,8 +154,8 @@ impl<S: Store + Drop> Plain<S> {
         ensures kept { (s : State) (ball : Tree) → MeetsBall S.names S.present S.stands S.older self.old goal ball s next
             → OnErr result (Keeps S.names S.present S.stands S.older self.new s.world s.stack) }
         ensures full { result ≡ Err StoreFault.Full → S.full self.new.store }
-        ensures costs { OnOk result (cost self.new ≤ choices_cost (frame_costs self.old.frames.items) self.old.choices.items
-            + body_cost most (rest_cost (frame_costs self.old.frames.items) next)) }
+        ensures costs { OnOk result (cost self.new ≤ choices_cost (member_costs self.old.members.items) self.old.choices.items
+            + body_cost most (rest_cost (member_costs self.old.members.items) next)) }
         ensures awake { OnOk result (IsAwake (phase_of self.new.now)) }
         ensures steps { self.new.steps ≡ self.old.steps }
         ensures stays { Stays S.names self.old self.new }

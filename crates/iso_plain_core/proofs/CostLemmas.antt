@@ -1,19 +1,19 @@
--- What is to be done at most: bodies, clauses, steps and frames.
+-- What is to be done at most: bodies, clauses, steps and members.
 use Rattle.std.proofs.Common.{◌≡◌, ◌<◌, ◌≤◌, ℕ, zero, suc, ◌+◌, List, [], ◌∷◌, ◌++◌, length, take, drop, Option, Some, None, ◌⊎◌, inl, inr, refl, sym, ap, ◌∙◌, subst, arith, append_assoc, append-nil, length-take, length-append, min}
 use Rattle.std.specs.List.{slice_index_or, slice_get}
 use Rattle.std.proofs.lemmas.List.{take-append-drop, get_or_append_left}
 use Rattle.std.proofs.lemmas.Option.{slice_get_within}
-use Rattle.iso_plain_core.specs.declared.parts.Frame.{Frame}
-use Rattle.iso_plain_core.specs.declared.parts.Choice as kept
-use Rattle.iso_plain_core.specs.declared.parts.Left.{Left}
-use Rattle.iso_plain_core.specs.declared.parts.Left.TheVariants as left
+use Rattle.iso_plain_core.specs.declared.members.Link.{Link}
+use Rattle.iso_plain_core.specs.declared.choices.Choice as kept
+use Rattle.iso_plain_core.specs.declared.choices.Left.{Left}
+use Rattle.iso_plain_core.specs.declared.choices.Left.TheVariants as left
 use Rattle.iso_model.specs.Search.Walker.{Member, Alternative}
 use Rattle.iso_store_core.specs.Presents.{Present}
 use Rattle.iso_plain_core.specs.Standing.{Links, IsBefore, Chain, ends, leads, HasLeft, StandsForChoices, links_at, none_kept, one_kept}
 use Rattle.iso_db.specs.Presents.{remaining}
 use Rattle.iso_plain_core.specs.Leaving.{Leaving}
 use Rattle.iso_plain_core.specs.Offers.{rows_in}
-use Rattle.iso_plain_core.specs.Costs.{choice_cost, choices_cost, now_cost, body_cost, most, left_cost, whole_cost, todo_cost, frame_cost, costs_behind, frame_costs, place_cost}
+use Rattle.iso_plain_core.specs.Costs.{choice_cost, choices_cost, now_cost, body_cost, most, left_cost, whole_cost, todo_cost, member_cost, costs_behind, member_costs, place_cost}
 use Rattle.iso_plain_core.specs.Next.{IsPlace, now_at, now_behind}
 use Rattle.iso_plain_core.proofs.StandingLemmas.{chain_place}
 use Rattle.std.proofs.Math.Nat.{eq-or-lt_of_le}
@@ -117,77 +117,77 @@ called_cost n k s r w few below less =
     let e = left_step most w in
     omega (arith, a, b, c, d, e, less)
 
--- ---- frames
+-- ---- members
 
-costs_length : (costs : List ℕ) (fs : List Frame) → length (costs_behind costs fs) ≡ length fs
+costs_length : (costs : List ℕ) (fs : List Link) → length (costs_behind costs fs) ≡ length fs
 costs_length costs [] = refl
-costs_length costs (f ∷ fs) = ap suc (costs_length (costs ++ frame_cost costs f ∷ []) fs)
+costs_length costs (f ∷ fs) = ap suc (costs_length (costs ++ member_cost costs f ∷ []) fs)
 
-costs_on : (costs : List ℕ) (fs gs : List Frame) → costs_behind costs (fs ++ gs) ≡ costs_behind costs fs ++ costs_behind (costs ++ costs_behind costs fs) gs
+costs_on : (costs : List ℕ) (fs gs : List Link) → costs_behind costs (fs ++ gs) ≡ costs_behind costs fs ++ costs_behind (costs ++ costs_behind costs fs) gs
 costs_on costs [] gs = ap (λ cs. costs_behind cs gs) (sym (append-nil costs))
 costs_on costs (f ∷ fs) gs =
-    let c = frame_cost costs f in
+    let c = member_cost costs f in
     ap (λ cs. c ∷ cs) (costs_on (costs ++ c ∷ []) fs gs ∙ ap (λ xs. costs_behind (costs ++ c ∷ []) fs ++ costs_behind xs gs) (append_assoc costs (c ∷ []) (costs_behind (costs ++ c ∷ []) fs)))
 
--- older frames cost what they did
-pub more_cost : (fs more : List Frame) (place : Option ℕ) → IsPlace fs place → place_cost (fs ++ more) place ≡ place_cost fs place
+-- older members cost what they did
+pub more_cost : (fs more : List Link) (place : Option ℕ) → IsPlace fs place → place_cost (fs ++ more) place ≡ place_cost fs place
 more_cost fs more None within = refl
 more_cost fs more (Some i) within =
     let many = costs_length [] fs in
-    ap (λ cs. slice_index_or cs i 0) (costs_on [] fs more) ∙ get_or_append_left (frame_costs fs) (costs_behind (frame_costs fs) more) 0 i (omega (arith, within, many))
+    ap (λ cs. slice_index_or cs i 0) (costs_on [] fs more) ∙ get_or_append_left (member_costs fs) (costs_behind (member_costs fs) more) 0 i (omega (arith, within, many))
 
-pub newest_cost : (fs : List Frame) (f : Frame) → place_cost (fs ++ f ∷ []) (Some (length fs)) ≡ frame_cost (frame_costs fs) f
+pub newest_cost : (fs : List Link) (f : Link) → place_cost (fs ++ f ∷ []) (Some (length fs)) ≡ member_cost (member_costs fs) f
 newest_cost fs f =
     let many = costs_length [] fs in
     ap (λ cs. slice_index_or cs (length fs) 0) (costs_on [] fs (f ∷ []))
-    ∙ ap (λ n. slice_index_or (frame_costs fs ++ frame_cost (frame_costs fs) f ∷ []) n 0) (sym many)
-    ∙ get_or-append_seam (frame_costs fs) (frame_cost (frame_costs fs) f) [] 0
+    ∙ ap (λ n. slice_index_or (member_costs fs ++ member_cost (member_costs fs) f ∷ []) n 0) (sym many)
+    ∙ get_or-append_seam (member_costs fs) (member_cost (member_costs fs) f) [] 0
 
-pub taken_place : (n : ℕ) (fs : List Frame) (place : Option ℕ) → IsPlace (take n fs) place → IsPlace fs place
+pub taken_place : (n : ℕ) (fs : List Link) (place : Option ℕ) → IsPlace (take n fs) place → IsPlace fs place
 taken_place n fs None within = tt
 taken_place n fs (Some i) within = let short = length-take n fs in shorter i n (length fs) (omega (arith, within, short)) where
   shorter : (i n m : ℕ) → i < min n m → i < m
   shorter i n m less = omega (arith, less)
 
-pub taken_cost : (n : ℕ) (fs : List Frame) (place : Option ℕ) → IsPlace (take n fs) place → place_cost (take n fs) place ≡ place_cost fs place
+pub taken_cost : (n : ℕ) (fs : List Link) (place : Option ℕ) → IsPlace (take n fs) place → place_cost (take n fs) place ≡ place_cost fs place
 taken_cost n fs place within =
     let same = more_cost (take n fs) (drop n fs) place within in
     sym (sym (ap (λ gs. place_cost gs place) (take-append-drop n fs)) ∙ same)
 
--- ---- a frame of the list
+-- ---- a link of the list
 
-frame_split : (fs : List Frame) (i : ℕ) (f : Frame) → slice_get fs i ≡ Some f → fs ≡ (take i fs ++ f ∷ []) ++ drop (suc i) fs
-frame_split [] i f there = absurd (cc)
-frame_split (g ∷ fs) zero f there = let same : g ≡ f = cc in ap (λ x. x ∷ fs) same
-frame_split (g ∷ fs) (suc i) f there = ap (λ xs. g ∷ xs) (frame_split fs i f there)
+link_split : (fs : List Link) (i : ℕ) (f : Link) → slice_get fs i ≡ Some f → fs ≡ (take i fs ++ f ∷ []) ++ drop (suc i) fs
+link_split [] i f there = absurd (cc)
+link_split (g ∷ fs) zero f there = let same : g ≡ f = cc in ap (λ x. x ∷ fs) same
+link_split (g ∷ fs) (suc i) f there = ap (λ xs. g ∷ xs) (link_split fs i f there)
 
-length_taken : (i : ℕ) (fs : List Frame) → i < length fs → length (take i fs) ≡ i
+length_taken : (i : ℕ) (fs : List Link) → i < length fs → length (take i fs) ≡ i
 length_taken zero fs less = refl
 length_taken (suc i) [] less = absurd (omega arith)
 length_taken (suc i) (f ∷ fs) less = ap suc (length_taken i fs (omega arith))
 
-place_before : (fs : List Frame) (place : Option ℕ) (i : ℕ) → length fs ≡ i → IsBefore place i → IsPlace fs place
+place_before : (fs : List Link) (place : Option ℕ) (i : ℕ) → length fs ≡ i → IsBefore place i → IsPlace fs place
 place_before fs None i many less = tt
 place_before fs (Some j) i many less = omega (arith, many, less)
 
 -- what is to be done from it on
-pub there_cost : (fs : List Frame) (i : ℕ) (f : Frame) → slice_get fs i ≡ Some f → IsBefore f.next i → place_cost fs (Some i) ≡ frame_cost (frame_costs fs) f
+pub there_cost : (fs : List Link) (i : ℕ) (f : Link) → slice_get fs i ≡ Some f → IsBefore f.next i → place_cost fs (Some i) ≡ member_cost (member_costs fs) f
 there_cost fs i f there below =
     let within = slice_get_within fs i f there in
     let many = length_taken i fs within in
     let front = take i fs in
     let long = length-append front (f ∷ []) in
     let place : IsPlace (front ++ f ∷ []) (Some i) = omega (arith, long, many) in
-    ap (λ xs. place_cost xs (Some i)) (frame_split fs i f there)
+    ap (λ xs. place_cost xs (Some i)) (link_split fs i f there)
     ∙ (more_cost (front ++ f ∷ []) (drop (suc i) fs) (Some i) place
     ∙ (ap (λ n. place_cost (front ++ f ∷ []) (Some n)) (sym many)
     ∙ (newest_cost front f ∙ ap (todo_cost f.todo) (taken_cost i fs f.next (place_before front f.next i many below)))))
 
 -- what is to be done where the members from a place on come next
-pub behind_cost : {W : Type 0} {p : Present W} {links : Links W} {ms : List Member} (place : Option ℕ) → Chain p links place ms → now_cost (frame_costs links.frames) (now_behind links.frames place) ≡ place_cost links.frames place
+pub behind_cost : {W : Type 0} {p : Present W} {links : Links W} {ms : List Member} (place : Option ℕ) → Chain p links place ms → now_cost (member_costs links.members) (now_behind links.members place) ≡ place_cost links.members place
 behind_cost None ends = refl
 behind_cost {links = links} (Some i) (leads {f = f} at below member others) =
-    ap (λ o. now_cost (frame_costs links.frames) (now_at o)) at.is ∙ sym (there_cost links.frames i f at.is below)
+    ap (λ o. now_cost (member_costs links.members) (now_at o)) at.is ∙ sym (there_cost links.members i f at.is below)
 
 -- ---- choices
 
@@ -200,31 +200,31 @@ choices_fewer zero costs cs = omega arith
 choices_fewer (suc n) costs [] = omega arith
 choices_fewer (suc n) costs (c ∷ cs) = let more = choices_fewer n costs cs in omega (arith, more)
 
-pub left_place : {W : Type 0} (leaves : Leaving) (query : List W) (named : List ℕ) (p : Present W) (links : Links W) (a : Alternative) (more : List Frame) (left : Left W) → HasLeft leaves query named p links left a
-    → choice_cost (frame_costs (links.frames ++ more)) left ≡ choice_cost (frame_costs links.frames) left
-left_place leaves query named p links a more (left.AsIs place) h = ap suc (more_cost links.frames more place (chain_place place h.on.chain))
-left_place leaves query named p links a more (left.Again place) h = ap suc (more_cost links.frames more place (chain_place place h.on.chain))
-left_place leaves query named p links a more (left.Catching goal place) h = ap (left_cost 1) (more_cost links.frames more place (chain_place place h.on.chain))
-left_place leaves query named p links a more (left.Gathering result place gathered) h = ap suc (more_cost links.frames more place (chain_place place h.on.chain))
-left_place leaves query named p links a more (left.Offered goal place offers) h = ap (left_cost (length (rows_in offers))) (more_cost links.frames more place (chain_place place h.on.chain))
-left_place leaves query named p links a more (left.Shown shown) h = ap (left_cost (suc (remaining shown.later))) (more_cost links.frames more shown.rest (chain_place shown.rest h.on.chain))
+pub left_place : {W : Type 0} (leaves : Leaving) (query : List W) (named : List ℕ) (p : Present W) (links : Links W) (a : Alternative) (more : List Link) (left : Left W) → HasLeft leaves query named p links left a
+    → choice_cost (member_costs (links.members ++ more)) left ≡ choice_cost (member_costs links.members) left
+left_place leaves query named p links a more (left.AsIs place) h = ap suc (more_cost links.members more place (chain_place place h.on.chain))
+left_place leaves query named p links a more (left.Again place) h = ap suc (more_cost links.members more place (chain_place place h.on.chain))
+left_place leaves query named p links a more (left.Catching goal place) h = ap (left_cost 1) (more_cost links.members more place (chain_place place h.on.chain))
+left_place leaves query named p links a more (left.Gathering result place gathered) h = ap suc (more_cost links.members more place (chain_place place h.on.chain))
+left_place leaves query named p links a more (left.Offered goal place offers) h = ap (left_cost (length (rows_in offers))) (more_cost links.members more place (chain_place place h.on.chain))
+left_place leaves query named p links a more (left.Shown shown) h = ap (left_cost (suc (remaining shown.later))) (more_cost links.members more shown.rest (chain_place shown.rest h.on.chain))
 left_place leaves query named p links a more (left.Clauses attempt) h =
-    ap (left_cost (suc (remaining attempt.later))) (more_cost links.frames more attempt.rest (chain_place attempt.rest h.at.on.chain))
+    ap (left_cost (suc (remaining attempt.later))) (more_cost links.members more attempt.rest (chain_place attempt.rest h.at.on.chain))
 
--- over more frames choices cost what they did
+-- over more members choices cost what they did
 pub choices_on_more : {W M : Type 0} {stands : M → Present W → Type 0} {older : M → M → Type 0} {base : M} {leaves : Leaving} {query : List W} {named : List ℕ} {links : Links W} {cs : List (kept.Choice W M)} {ks : List Alternative}
-    (more : List Frame) → StandsForChoices stands older base leaves query named links cs ks
-    → choices_cost (frame_costs (links.frames ++ more)) cs ≡ choices_cost (frame_costs links.frames) cs
+    (more : List Link) → StandsForChoices stands older base leaves query named links cs ks
+    → choices_cost (member_costs (links.members ++ more)) cs ≡ choices_cost (member_costs links.members) cs
 choices_on_more more none_kept = refl
 choices_on_more {leaves = leaves} {query = query} {named = named} {links = links} {cs = cs} more (one_kept {before = before} {c = c} {a = a} is on here newer below) =
-    let front = take c.frames links.frames in
-    let rest = drop c.frames links.frames in
-    let whole : front ++ rest ≡ links.frames = take-append-drop c.frames links.frames in
-    let longer : front ++ (rest ++ more) ≡ links.frames ++ more = sym (append_assoc front rest more) ∙ ap (λ fs. fs ++ more) whole in
-    let one = ap (λ fs. choices_cost (frame_costs fs) before) (sym longer) ∙ choices_on_more (rest ++ more) below in
-    let other = ap (λ fs. choices_cost (frame_costs fs) before) (sym whole) ∙ choices_on_more rest below in
-    let first = ap (λ fs. choice_cost (frame_costs fs) c.left) (sym longer) ∙ left_place leaves query named here.present (links_at c links) a (rest ++ more) c.left here.has in
-    let second = ap (λ fs. choice_cost (frame_costs fs) c.left) (sym whole) ∙ left_place leaves query named here.present (links_at c links) a rest c.left here.has in
-    let old = ap (choices_cost (frame_costs links.frames)) is ∙ choices_last (frame_costs links.frames) before c in
-    let new = ap (choices_cost (frame_costs (links.frames ++ more))) is ∙ choices_last (frame_costs (links.frames ++ more)) before c in
+    let front = take c.members links.members in
+    let rest = drop c.members links.members in
+    let whole : front ++ rest ≡ links.members = take-append-drop c.members links.members in
+    let longer : front ++ (rest ++ more) ≡ links.members ++ more = sym (append_assoc front rest more) ∙ ap (λ fs. fs ++ more) whole in
+    let one = ap (λ fs. choices_cost (member_costs fs) before) (sym longer) ∙ choices_on_more (rest ++ more) below in
+    let other = ap (λ fs. choices_cost (member_costs fs) before) (sym whole) ∙ choices_on_more rest below in
+    let first = ap (λ fs. choice_cost (member_costs fs) c.left) (sym longer) ∙ left_place leaves query named here.present (links_at c links) a (rest ++ more) c.left here.has in
+    let second = ap (λ fs. choice_cost (member_costs fs) c.left) (sym whole) ∙ left_place leaves query named here.present (links_at c links) a rest c.left here.has in
+    let old = ap (choices_cost (member_costs links.members)) is ∙ choices_last (member_costs links.members) before c in
+    let new = ap (choices_cost (member_costs (links.members ++ more))) is ∙ choices_last (member_costs (links.members ++ more)) before c in
     omega (arith, one, other, first, second, old, new)

@@ -14,9 +14,9 @@ use Rattle.iso_plain_core.specs.Leaving.{Leaving}
 use Rattle.iso_plain_core.specs.Solutions.{copies_of, Gains}
 use Rattle.iso_plain_core.specs.Gathering.{SameCopies, LeftChanges, ChoiceChanges, ChangesAt, no_choice, this_choice, later_choice}
 use Rattle.iso_plain_core.specs.declared.solutions.Gathered.{Gathered}
-use Rattle.iso_plain_core.specs.declared.parts.Left.{Left}
-use Rattle.iso_plain_core.specs.declared.parts.Left.TheVariants as left
-use Rattle.iso_plain_core.specs.declared.parts.Choice as kept
+use Rattle.iso_plain_core.specs.declared.choices.Left.{Left}
+use Rattle.iso_plain_core.specs.declared.choices.Left.TheVariants as left
+use Rattle.iso_plain_core.specs.declared.choices.Choice as kept
 use Rattle.iso_plain_core.specs.Costs.{choice_cost, choices_cost}
 use Rattle.iso_plain_core.specs.Standing.{Among, Links, links_at, StandsOn, HasLeft, StandsForChoice, StandsForChoices, none_kept, one_kept, HaveRoom, entered_at, numbers_a_step, most_numbers}
 use Rattle.iso_plain_core.proofs.SolutionLemmas.{copy_fits, list_fits}
@@ -131,13 +131,13 @@ unchanged n (a ∷ below) = ap₂ (λ (x : Alternative) (xs : List Alternative).
 
 same_links : {W M : Type 0} (R : Gathered → Gathered → Type 0) (links : Links W) (c d : kept.Choice W M) → ChoiceChanges R c d → links_at d links ≡ links_at c links
 same_links {W} R links c d h =
-    let made : ℕ → ℕ → Links W = λ n m. record { nodes = take n links.nodes; frames = take m links.frames } in
-    ap₂ made h.nodes h.frames
+    let made : ℕ → ℕ → Links W = λ n m. record { nodes = take n links.nodes; members = take m links.members } in
+    ap₂ made h.nodes h.members
 
 on_changed : {W M : Type 0} (R : Gathered → Gathered → Type 0) (links : Links W) (c d : kept.Choice W M) → ChoiceChanges R c d → StandsOn c links → StandsOn d links
 on_changed R links c d h on = record {
   nodes = (let a = on.nodes in let b = h.nodes in omega (arith, a, b));
-  frames = (let a = on.frames in let b = h.frames in omega (arith, a, b));
+  members = (let a = on.members in let b = h.members in omega (arith, a, b));
 }
 
 -- How what was gathered, and what is left at the alternative, change together.

@@ -18,9 +18,9 @@ use Rattle.iso_store_core.specs.declared.shapes.StoreFault.TheVariants as store_
 use Rattle.iso_model.specs.Search.Errors.{Key, key, domain_error, max_arity_error, type_error}
 use Rattle.iso_model.specs.declared.built_ins.BuiltIn.{BuiltIn}
 use Rattle.iso_model.specs.declared.built_ins.BuiltIn.TheVariants as built_in
-use Rattle.iso_model.specs.declared.library.Setting.{Setting}
-use Rattle.iso_model.specs.declared.library.Storage.{Storage}
-use Rattle.iso_model.specs.declared.library.AtomPart.{AtomPart}
+use Rattle.iso_model.specs.declared.kinds.Setting.{Setting}
+use Rattle.iso_model.specs.declared.kinds.Storage.{Storage}
+use Rattle.iso_model.specs.declared.kinds.AtomPart.{AtomPart}
 use Rattle.iso_model.specs.Search.Settlements.{Settled}
 use Rattle.iso_model.specs.Search.Settings.{setting_settled}
 use Rattle.iso_model.specs.Search.Storages.{storage_settled}
@@ -28,8 +28,8 @@ use Rattle.iso_model.specs.Search.AtomParts.{parts_settled}
 use Rattle.iso_model.specs.Search.Worlds.{World}
 use Rattle.iso_model.specs.Search.AtomTexts.{Characters, element_code, text_answer}
 use Rattle.iso_model.specs.Search.Outputs.{put_code, put_char_key, output_reply}
-use Rattle.iso_model.specs.declared.library.Output.{Output}
-use Rattle.iso_model.specs.declared.library.Output.TheVariants.{PutChar, NewLine, Write, Writeq, WriteCanonical}
+use Rattle.iso_model.specs.declared.kinds.Output.{Output}
+use Rattle.iso_model.specs.declared.kinds.Output.TheVariants.{PutChar, NewLine, Write, Writeq, WriteCanonical}
 use Rattle.iso_ops.specs.Operators.{Operator}
 use Rattle.iso_model.specs.declared.pauses.Ball.{Ball}
 use Rattle.iso_store_core.specs.Presents.{Present}

@@ -1,4 +1,4 @@
--- Bodies, frames and choices, as the store, the nodes and the frames change.
+-- Bodies, members and choices, as the store, the nodes and the members change.
 use Rattle.std.proofs.Common.{◌≡◌, ℕ, zero, suc, ◌+◌, ◌-◌, ◌<◌, List, [], ◌∷◌, ◌++◌, length, take, drop, get_or, Option, Some, None, refl, ap, ap₂, sym, ◌∙◌, subst, arith, ◌⊎◌, inl, inr, length-append}
 use Rattle.std.specs.List.{slice_get}
 use Rattle.std.proofs.Math.Nat.{eq-or-lt_of_le}
@@ -10,12 +10,12 @@ use Rattle.iso_model.specs.Search.Walker.{State, Member, Alternative}
 use Rattle.iso_store_core.specs.Presents.{Present, KeepsWords}
 use Rattle.iso_plain_core.specs.Next.{IsPlace, now_at, now_behind}
 use Rattle.iso_plain_core.specs.declared.bodies.Node.{Node}
-use Rattle.iso_plain_core.specs.declared.parts.Frame.{Frame}
-use Rattle.iso_plain_core.specs.declared.parts.Choice as kept
+use Rattle.iso_plain_core.specs.declared.members.Link.{Link}
+use Rattle.iso_plain_core.specs.declared.choices.Choice as kept
 use Rattle.iso_plain_core.specs.Nodes.{At, IsTree, runs, cuts, joins, branches, commits, chooses}
 use Rattle.iso_plain_core.specs.Standing.{Among, Links, IsBody, IsMember, a_body, a_cut, a_failure, an_end, a_template, Chain, ends, leads, First, StandsOn, HasLeft, StandsForChoice, StandsForChoices, none_kept, one_kept, links_at, Newest, AreVariables, no_word, one_word, GoesOn, DoesNext}
-use Rattle.iso_plain_core.specs.declared.parts.Left.{Left}
-use Rattle.iso_plain_core.specs.declared.parts.Left.TheVariants as left
+use Rattle.iso_plain_core.specs.declared.choices.Left.{Left}
+use Rattle.iso_plain_core.specs.declared.choices.Left.TheVariants as left
 use Rattle.iso_plain_core.specs.Leaving.{Leaving, KeepsLeft}
 use Rattle.iso_plain_core.specs.Entering.{Adds}
 use Rattle.iso_plain_core.proofs.NodeLemmas.{tree_keep}
@@ -31,7 +31,7 @@ pub at_last : {X : Type 0} (xs : List X) (x : X) → At (xs ++ x ∷ []) (length
 at_last [] x = record { is = refl }
 at_last (y ∷ xs) x = record { is = (at_last xs x).is }
 
--- ---- bodies and frames
+-- ---- bodies and members
 
 -- more nodes
 pub tree_more : {G : Type 0} {Stands : G → Tree → Type 0} {parts : List (Node G)} {i : ℕ} {b : Body} (more : List (Node G)) → IsTree Stands parts i b → IsTree Stands (parts ++ more) i b
@@ -62,29 +62,29 @@ body_more more keeps body = tree_more more (body_keep keeps body)
 pub body_within : {W : Type 0} (p : Present W) {nodes : List (Node W)} {i : ℕ} {b : Body} → IsBody p nodes i b → i < length nodes
 body_within p body = tree_within body
 
-pub member_more : {W : Type 0} {p q : Present W} {nodes : List (Node W)} {f : Frame} {m : Member} (more : List (Node W)) → KeepsWords p q → IsMember p nodes f m → IsMember q (nodes ++ more) f m
+pub member_more : {W : Type 0} {p q : Present W} {nodes : List (Node W)} {f : Link} {m : Member} (more : List (Node W)) → KeepsWords p q → IsMember p nodes f m → IsMember q (nodes ++ more) f m
 member_more more keeps (a_body is body) = a_body is (body_more more keeps body)
 member_more more keeps (a_cut is) = a_cut is
 member_more more keeps (a_failure is) = a_failure is
 member_more more keeps (an_end is) = an_end is
 member_more more keeps (a_template is body) = a_template is (body_more more keeps body)
 
-pub member_keep : {W : Type 0} {p q : Present W} {nodes : List (Node W)} {f : Frame} {m : Member} → KeepsWords p q → IsMember p nodes f m → IsMember q nodes f m
+pub member_keep : {W : Type 0} {p q : Present W} {nodes : List (Node W)} {f : Link} {m : Member} → KeepsWords p q → IsMember p nodes f m → IsMember q nodes f m
 member_keep keeps (a_body is body) = a_body is (body_keep keeps body)
 member_keep keeps (a_cut is) = a_cut is
 member_keep keeps (a_failure is) = a_failure is
 member_keep keeps (an_end is) = an_end is
 member_keep keeps (a_template is body) = a_template is (body_keep keeps body)
 
--- nodes and frames that were added at the end
+-- nodes and members that were added at the end
 pub record AddsLinks {W : Type 0} (old new : Links W) : Type 0 where
   pub nodes : Adds old.nodes new.nodes
-  pub frames : Adds old.frames new.frames
+  pub members : Adds old.members new.members
 
 pub chain_more : {W : Type 0} {p q : Present W} {old : Links W} {place : Option ℕ} {ms : List Member} (new : Links W) → AddsLinks old new → KeepsWords p q → Chain p old place ms → Chain q new place ms
 chain_more new adds keeps ends = ends
 chain_more {q = q} {old = old} new adds keeps (leads {i = i} {f = f} {m = m} at below member others) =
-    leads (subst (λ (fs : List Frame). At fs i f) (sym adds.frames.1) (at_more old.frames adds.frames.0 i f at)) below
+    leads (subst (λ (fs : List Link). At fs i f) (sym adds.members.1) (at_more old.members adds.members.0 i f at)) below
     (subst (λ (ns : List (Node _)). IsMember q ns f m) (sym adds.nodes.1) (member_more adds.nodes.0 keeps member)) (chain_more new adds keeps others)
 
 pub chain_keep : {W : Type 0} {p q : Present W} {links : Links W} {place : Option ℕ} {ms : List Member} → KeepsWords p q → Chain p links place ms → Chain q links place ms
@@ -92,9 +92,9 @@ chain_keep keeps ends = ends
 chain_keep keeps (leads at below member others) = leads at below (member_keep keeps member) (chain_keep keeps others)
 
 -- the place that a chain begins at
-pub chain_place : {W : Type 0} {p : Present W} {links : Links W} (place : Option ℕ) {ms : List Member} → Chain p links place ms → IsPlace links.frames place
+pub chain_place : {W : Type 0} {p : Present W} {links : Links W} (place : Option ℕ) {ms : List Member} → Chain p links place ms → IsPlace links.members place
 chain_place None ends = tt
-chain_place {links = links} (Some i) (leads at below member others) = slice_get_within links.frames i _ at.is
+chain_place {links = links} (Some i) (leads at below member others) = slice_get_within links.members i _ at.is
 
 -- ---- lists that end in an item
 
@@ -157,13 +157,13 @@ some_same h = cc
 -- what stood when a choice was made stands as it was
 links_same : {W M : Type 0} (c : kept.Choice W M) (old new : Links W) → StandsOn c old → AddsLinks old new → links_at c new ≡ links_at c old
 links_same c old new on adds =
-    let links : List (Node _) → List Frame → Links _ = λ ns fs. record { nodes = ns; frames = fs } in
-    ap₂ links (ap (λ (ns : List (Node _)). take c.nodes ns) adds.nodes.1 ∙ take-append-le c.nodes old.nodes adds.nodes.0 on.nodes) (ap (λ (fs : List Frame). take c.frames fs) adds.frames.1 ∙ take-append-le c.frames old.frames adds.frames.0 on.frames)
+    let links : List (Node _) → List Link → Links _ = λ ns fs. record { nodes = ns; members = fs } in
+    ap₂ links (ap (λ (ns : List (Node _)). take c.nodes ns) adds.nodes.1 ∙ take-append-le c.nodes old.nodes adds.nodes.0 on.nodes) (ap (λ (fs : List Link). take c.members fs) adds.members.1 ∙ take-append-le c.members old.members adds.members.0 on.members)
 
 stands_more : {W M : Type 0} (c : kept.Choice W M) (old new : Links W) → StandsOn c old → AddsLinks old new → StandsOn c new
 stands_more c old new on adds = record {
   nodes = (let a = on.nodes in let b = ap length adds.nodes.1 in let d = length-append old.nodes adds.nodes.0 in omega (arith, a, b, d));
-  frames = (let a = on.frames in let b = ap length adds.frames.1 in let d = length-append old.frames adds.frames.0 in omega (arith, a, b, d));
+  members = (let a = on.members in let b = ap length adds.members.1 in let d = length-append old.members adds.members.0 in omega (arith, a, b, d));
 }
 
 -- What is left of choices where those above a height are taken away.
@@ -186,7 +186,7 @@ left_stays query named p links a keeps (left.Shown shown) has = record { head = 
 left_stays query named p links a keeps (left.Clauses attempt) has = record { call = has.call; clauses = has.clauses; at = has.at; left = has.left; are = keeps attempt.clause attempt.later has.clauses has.are }
 
 module _ {W M : Type 0} {older : M → M → Type 0} {base : M} {leaves : Leaving} {query : List W} {named : List ℕ} where
-  -- more nodes and frames
+  -- more nodes and members
   pub choices_more : {stands : M → Present W → Type 0} {links : Links W} {cs : List (kept.Choice W M)} {ks : List Alternative} (new : Links W) → AddsLinks links new
       → StandsForChoices stands older base leaves query named links cs ks → StandsForChoices stands older base leaves query named new cs ks
   choices_more new adds none_kept = none_kept
@@ -251,23 +251,23 @@ module _ {W M : Type 0} {older : M → M → Type 0} {base : M} {leaves : Leavin
       subst (λ (e : kept.Choice W M). Newest stands older base leaves query named links cs e (a ∷ ks)) same
       (subst (λ (ds : List (kept.Choice W M)). Newest stands older base leaves query named links ds d (a ∷ ks)) (sym is) (newest_of on here newer below))
 
-  -- A choice that keeps all nodes and frames, newer than all others.
-  pub choices_push : {stands : M → Present W → Type 0} {links : Links W} {cs : List (kept.Choice W M)} {ks : List Alternative} (c : kept.Choice W M) (a : Alternative) → c.nodes ≡ length links.nodes → c.frames ≡ length links.frames
+  -- A choice that keeps all nodes and members, newer than all others.
+  pub choices_push : {stands : M → Present W → Type 0} {links : Links W} {cs : List (kept.Choice W M)} {ks : List Alternative} (c : kept.Choice W M) (a : Alternative) → c.nodes ≡ length links.nodes → c.members ≡ length links.members
       → StandsForChoice stands older base leaves query named links c a → ((d : kept.Choice W M) → Among d cs → older d.mark c.mark)
       → StandsForChoices stands older base leaves query named links cs ks → StandsForChoices stands older base leaves query named links (cs ++ c ∷ []) (a ∷ ks)
-  choices_push {stands = stands} {links = links} {cs = cs} {ks = ks} c a nodes frames here newer below =
-      let make : List (Node W) → List Frame → Links W = λ ns fs. record { nodes = ns; frames = fs } in
-      let whole : links_at c links ≡ links = ap₂ make (ap (λ (n : ℕ). take n links.nodes) nodes ∙ take_whole links.nodes) (ap (λ (n : ℕ). take n links.frames) frames ∙ take_whole links.frames) in
-      one_kept refl (record { nodes = omega (arith, nodes); frames = omega (arith, frames) })
+  choices_push {stands = stands} {links = links} {cs = cs} {ks = ks} c a nodes members here newer below =
+      let make : List (Node W) → List Link → Links W = λ ns fs. record { nodes = ns; members = fs } in
+      let whole : links_at c links ≡ links = ap₂ make (ap (λ (n : ℕ). take n links.nodes) nodes ∙ take_whole links.nodes) (ap (λ (n : ℕ). take n links.members) members ∙ take_whole links.members) in
+      one_kept refl (record { nodes = omega (arith, nodes); members = omega (arith, members) })
       (subst (λ (ls : Links W). StandsForChoice stands older base leaves query named ls c a) (sym whole) here) newer
       (subst (λ (ls : Links W). StandsForChoices stands older base leaves query named ls cs ks) (sym whole) below)
 
   -- ---- choices up to a height
 
-  -- the older choices stand over all nodes and frames
+  -- the older choices stand over all nodes and members
   wider : {stands : M → Present W → Type 0} {links : Links W} {cs : List (kept.Choice W M)} {ks : List Alternative} (c : kept.Choice W M)
       → StandsForChoices stands older base leaves query named (links_at c links) cs ks → StandsForChoices stands older base leaves query named links cs ks
-  wider {links = links} c h = choices_more links (record { nodes = (drop c.nodes links.nodes, sym (take-append-drop c.nodes links.nodes)); frames = (drop c.frames links.frames, sym (take-append-drop c.frames links.frames)) }) h
+  wider {links = links} c h = choices_more links (record { nodes = (drop c.nodes links.nodes, sym (take-append-drop c.nodes links.nodes)); members = (drop c.members links.members, sym (take-append-drop c.members links.members)) }) h
 
   lower_by : {stands : M → Present W → Type 0} {links : Links W} {before : List (kept.Choice W M)} {ks : List Alternative} (height : ℕ) (c d : kept.Choice W M) (a : Alternative)
       → StandsOn d links → StandsForChoice stands older base leaves query named (links_at d links) d a → ((x : kept.Choice W M) → Among x before → older x.mark d.mark)
@@ -347,26 +347,26 @@ variables_more keeps (one_word {w = w} holds is others) = one_word (keeps.stand 
 
 -- ---- what comes next
 
--- the first of the members that a frame leads to
+-- the first of the members that a link leads to
 pub record Leads {W : Type 0} (p : Present W) (links : Links W) (place : ℕ) (ms : List Member) : Type 0 where
-  pub frame : Frame
-  pub at : slice_get links.frames place ≡ Some frame
-  pub first : First p links frame ms
+  pub link : Link
+  pub at : slice_get links.members place ≡ Some link
+  pub first : First p links link ms
 
 pub leads_to : {W : Type 0} {p : Present W} {links : Links W} {place : ℕ} {ms : List Member} → Chain p links (Some place) ms → Leads p links place ms
-leads_to (leads {f = f} {m = m} {ms = ms} at below member others) = record { frame = f; at = at.is; first = record { member = m; behind = ms; is = refl; stands = member; chain = others } }
+leads_to (leads {f = f} {m = m} {ms = ms} at below member others) = record { link = f; at = at.is; first = record { member = m; behind = ms; is = refl; stands = member; chain = others } }
 
 -- no members are behind the last
 pub none_linked : {W : Type 0} {p : Present W} {links : Links W} {ms : List Member} → Chain p links None ms → ms ≡ []
 none_linked ends = refl
 
-first_as : {W : Type 0} {p : Present W} {links : Links W} {f : Frame} {ms ns : List Member} → First p links f ms → ns ≡ ms → First p links f ns
+first_as : {W : Type 0} {p : Present W} {links : Links W} {f : Link} {ms ns : List Member} → First p links f ms → ns ≡ ms → First p links f ns
 first_as h same = record { member = h.member; behind = h.behind; is = same ∙ h.is; stands = h.stands; chain = h.chain }
 
 -- the members from the place on come next; where there are none, an answer
 pub next_behind : {W : Type 0} (q : Present W) (links : Links W) (query : List W) (raised : Option Tree) (s : State) (place : Option ℕ) (ms : List Member) → s.list ≡ ms → Chain q links place ms → GoesOn q query s
-    → DoesNext q links query (now_behind links.frames place) raised s
+    → DoesNext q links query (now_behind links.members place) raised s
 next_behind q links query raised s None ms list chain goes = (list ∙ none_linked chain, goes)
 next_behind q links query raised s (Some i) ms list chain goes =
     let l = leads_to chain in
-    subst (λ (f : Option Frame). DoesNext q links query (now_at f) raised s) (sym l.at) (first_as l.first list, goes)
+    subst (λ (f : Option Link). DoesNext q links query (now_at f) raised s) (sym l.at) (first_as l.first list, goes)

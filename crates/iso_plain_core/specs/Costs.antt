@@ -1,16 +1,16 @@
 -- What is to be done at most before a goal takes a step, and in all: a number that falls at each move of the engine.
 use Rattle.std.specs.Prelude.{ℕ, zero, suc, ◌+◌, List, [], ◌∷◌, ◌++◌, length, Option, Some, None}
 use Rattle.std.specs.List.{slice_index_or}
-use Rattle.iso_plain_core.specs.declared.parts.Todo.{Todo}
-use Rattle.iso_plain_core.specs.declared.parts.Todo.TheVariants as todo
-use Rattle.iso_plain_core.specs.declared.parts.Frame.{Frame}
+use Rattle.iso_plain_core.specs.declared.members.Todo.{Todo}
+use Rattle.iso_plain_core.specs.declared.members.Todo.TheVariants as todo
+use Rattle.iso_plain_core.specs.declared.members.Link.{Link}
 use Rattle.iso_db.specs.Presents.{remaining}
 use Rattle.iso_plain_core.specs.Offers.{rows_in}
-use Rattle.iso_plain_core.specs.declared.parts.Left.{Left}
-use Rattle.iso_plain_core.specs.declared.parts.Left.TheVariants as left
-use Rattle.iso_plain_core.specs.declared.parts.Choice as kept
-use Rattle.iso_plain_core.specs.declared.parts.Now.{Now}
-use Rattle.iso_plain_core.specs.declared.parts.Now.TheVariants as now
+use Rattle.iso_plain_core.specs.declared.choices.Left.{Left}
+use Rattle.iso_plain_core.specs.declared.choices.Left.TheVariants as left
+use Rattle.iso_plain_core.specs.declared.choices.Choice as kept
+use Rattle.iso_plain_core.specs.declared.members.Now.{Now}
+use Rattle.iso_plain_core.specs.declared.members.Now.TheVariants as now
 
 -- The most that is to be done of a body at a place of the nodes before a goal takes a step, whatever the body is, where this is to be done behind
 -- it. Its parts are at lower places: two of them one behind the other, and a third, take less.
@@ -32,38 +32,38 @@ unfoldable pub whole_cost : ℕ → ℕ → ℕ
 whole_cost zero w = w
 whole_cost (suc n) w = suc (whole_cost n (w + left_cost (suc most) w))
 
--- ---- frames
+-- ---- members
 
--- what is to be done from a place of frames on, by what is to be done from each; an answer where there is none
+-- what is to be done from a place of members on, by what is to be done from each; an answer where there is none
 abbrev pub rest_cost : List ℕ → Option ℕ → ℕ
 rest_cost costs None = 1
 rest_cost costs (Some i) = slice_index_or costs i 0
 
 abbrev pub todo_cost : Todo → ℕ → ℕ
 todo_cost (todo.Body k) rest = body_cost k rest
-todo_cost todo.CutBack rest = suc rest
+todo_cost todo.CutTo rest = suc rest
 todo_cost todo.Fail rest = suc rest
 todo_cost todo.Leave rest = suc rest
 todo_cost (todo.Gather place) rest = suc rest
 
-abbrev pub frame_cost : List ℕ → Frame → ℕ
-frame_cost costs f = todo_cost f.todo (rest_cost costs f.next)
+abbrev pub member_cost : List ℕ → Link → ℕ
+member_cost costs f = todo_cost f.todo (rest_cost costs f.next)
 
--- what is to be done from each of these frames on, behind frames with these costs
-abbrev pub costs_behind : List ℕ → List Frame → List ℕ
+-- what is to be done from each of these members on, behind members with these costs
+abbrev pub costs_behind : List ℕ → List Link → List ℕ
 costs_behind costs [] = []
-costs_behind costs (f ∷ fs) = frame_cost costs f ∷ costs_behind (costs ++ frame_cost costs f ∷ []) fs
+costs_behind costs (f ∷ fs) = member_cost costs f ∷ costs_behind (costs ++ member_cost costs f ∷ []) fs
 
-abbrev pub frame_costs : List Frame → List ℕ
-frame_costs fs = costs_behind [] fs
+abbrev pub member_costs : List Link → List ℕ
+member_costs fs = costs_behind [] fs
 
--- what is to be done from a place of frames on
-abbrev pub place_cost : List Frame → Option ℕ → ℕ
-place_cost fs place = rest_cost (frame_costs fs) place
+-- what is to be done from a place of members on
+abbrev pub place_cost : List Link → Option ℕ → ℕ
+place_cost fs place = rest_cost (member_costs fs) place
 
 -- ---- choices, and what comes next
 
--- what is to be done at most at what is left to be tried, over frames with these costs
+-- what is to be done at most at what is left to be tried, over members with these costs
 abbrev pub choice_cost : {W : Type 0} → List ℕ → Left W → ℕ
 choice_cost costs (left.AsIs place) = suc (rest_cost costs place)
 choice_cost costs (left.Again place) = suc (rest_cost costs place)
@@ -82,6 +82,6 @@ abbrev pub now_cost : List ℕ → Now → ℕ
 now_cost costs now.Idle = 0
 now_cost costs now.Failing = 0
 now_cost costs now.Answering = 1
-now_cost costs (now.Running frame) = frame_cost costs frame
+now_cost costs (now.Running link) = member_cost costs link
 now_cost costs (now.Raising place) = 1
 now_cost costs (now.Spent limit) = 0

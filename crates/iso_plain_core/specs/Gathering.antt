@@ -2,9 +2,9 @@
 use Rattle.std.specs.Prelude.{◌≡◌, ℕ, suc, List, [], ◌∷◌}
 use Rattle.iso_plain_core.specs.Solutions.{copies_of}
 use Rattle.iso_plain_core.specs.declared.solutions.Gathered.{Gathered}
-use Rattle.iso_plain_core.specs.declared.parts.Left.{Left}
-use Rattle.iso_plain_core.specs.declared.parts.Left.TheVariants as left
-use Rattle.iso_plain_core.specs.declared.parts.Choice as kept
+use Rattle.iso_plain_core.specs.declared.choices.Left.{Left}
+use Rattle.iso_plain_core.specs.declared.choices.Left.TheVariants as left
+use Rattle.iso_plain_core.specs.declared.choices.Choice as kept
 
 -- the same solutions were gathered
 abbrev pub SameCopies : Gathered → Gathered → Type 0
@@ -19,7 +19,7 @@ LeftChanges R l new = new ≡ l
 pub record ChoiceChanges {W M : Type 0} (R : Gathered → Gathered → Type 0) (old new : kept.Choice W M) : Type 0 where
   pub mark : new.mark ≡ old.mark
   pub nodes : new.nodes ≡ old.nodes
-  pub frames : new.frames ≡ old.frames
+  pub members : new.members ≡ old.members
   pub left : LeftChanges R old.left new.left
 
 -- The choice at this place, where there is one, changes so; the others stay.

@@ -13,8 +13,8 @@ use Rattle.iso_plain_core.specs.declared.offers.Row.{Row}
 use Rattle.iso_plain_core.specs.declared.offers.Row.TheVariants as offered
 use Rattle.iso_plain_core.specs.declared.offers.Offers.{Offers}
 use Rattle.iso_plain_core.specs.declared.offers.Offers.TheVariants as rows
-use Rattle.iso_plain_core.specs.declared.parts.Left.TheVariants as left
-use Rattle.iso_plain_core.specs.declared.parts.Choice as kept
+use Rattle.iso_plain_core.specs.declared.choices.Left.TheVariants as left
+use Rattle.iso_plain_core.specs.declared.choices.Choice as kept
 
 -- the goal's arguments
 abbrev pub goal_arguments : Tree → Tree

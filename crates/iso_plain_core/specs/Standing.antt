@@ -20,34 +20,34 @@ use Rattle.iso_plain_core.specs.declared.offers.Offers.{Offers}
 use Rattle.iso_plain_core.specs.declared.solutions.Gathered.{Gathered}
 use Rattle.iso_plain_core.specs.declared.bodies.Node.{Node}
 use Rattle.iso_plain_core.specs.declared.bodies.Node.TheVariants as node
-use Rattle.iso_plain_core.specs.declared.parts.Todo.TheVariants as todo
-use Rattle.iso_plain_core.specs.declared.parts.Frame.{Frame}
-use Rattle.iso_plain_core.specs.declared.parts.Left.{Left}
-use Rattle.iso_plain_core.specs.declared.parts.Left.TheVariants as left
-use Rattle.iso_plain_core.specs.declared.parts.Attempt.{Attempt}
-use Rattle.iso_plain_core.specs.declared.parts.Showing.{Showing}
-use Rattle.iso_plain_core.specs.declared.parts.Choice as kept
-use Rattle.iso_plain_core.specs.declared.parts.Now.{Now}
-use Rattle.iso_plain_core.specs.declared.parts.Now.TheVariants as now
+use Rattle.iso_plain_core.specs.declared.members.Todo.TheVariants as todo
+use Rattle.iso_plain_core.specs.declared.members.Link.{Link}
+use Rattle.iso_plain_core.specs.declared.choices.Left.{Left}
+use Rattle.iso_plain_core.specs.declared.choices.Left.TheVariants as left
+use Rattle.iso_plain_core.specs.declared.choices.Attempt.{Attempt}
+use Rattle.iso_plain_core.specs.declared.choices.Showing.{Showing}
+use Rattle.iso_plain_core.specs.declared.choices.Choice as kept
+use Rattle.iso_plain_core.specs.declared.members.Now.{Now}
+use Rattle.iso_plain_core.specs.declared.members.Now.TheVariants as now
 
--- The frame asks for the body at this place of the nodes, whose own part is this.
-pub record IsAt {W : Type 0} (nodes : List (Node W)) (f : Frame) (place : ℕ) (part : Node W) : Type 0 where
+-- The link asks for the body at this place of the nodes, whose own part is this.
+pub record IsAt {W : Type 0} (nodes : List (Node W)) (f : Link) (place : ℕ) (part : Node W) : Type 0 where
   pub asks : f.todo ≡ todo.Body place
   pub there : slice_get nodes place ≡ Some part
 
--- The frame asks for a cut: it is one, or its body is.
-abbrev pub IsCut : {W : Type 0} → List (Node W) → Frame → Type 0
-IsCut nodes f = (f.todo ≡ todo.CutBack) ⊎ ((i : ℕ) × IsAt nodes f i node.Cut)
+-- The link asks for a cut: it is one, or its body is.
+abbrev pub IsCut : {W : Type 0} → List (Node W) → Link → Type 0
+IsCut nodes f = (f.todo ≡ todo.CutTo) ⊎ ((i : ℕ) × IsAt nodes f i node.Cut)
 
 -- The item is one of the list.
 abbrev pub Among : {X : Type 0} → X → List X → Type 0
 Among x [] = ⊥
 Among x (y ∷ ys) = (x ≡ y) ⊎ Among x ys
 
--- The nodes of bodies and the frames that stand.
+-- The nodes of bodies and the members that stand.
 pub record Links (W : Type 0) : Type 0 where
   pub nodes : List (Node W)
-  pub frames : List Frame
+  pub members : List Link
 
 -- The word is a goal, made with this term.
 abbrev pub IsGoalWord : {W : Type 0} → Present W → W → Tree → Type 0
@@ -57,10 +57,10 @@ IsGoalWord p w t = (p.holds w ≡ true) × (t ≡ p.term w)
 abbrev pub IsBody : {W : Type 0} → Present W → List (Node W) → ℕ → Body → Type 0
 IsBody p nodes = IsTree (IsGoalWord p) nodes
 
--- The frame is this member.
-pub data IsMember {W : Type 0} (p : Present W) (nodes : List (Node W)) (f : Frame) : Member → Type 0 where
+-- The link is this member.
+pub data IsMember {W : Type 0} (p : Present W) (nodes : List (Node W)) (f : Link) : Member → Type 0 where
   a_body : {i : ℕ} {b : Body} → f.todo ≡ todo.Body i → IsBody p nodes i b → IsMember p nodes f (Goal b f.mark)
-  a_cut : f.todo ≡ todo.CutBack → IsMember p nodes f (CutTo f.mark)
+  a_cut : f.todo ≡ todo.CutTo → IsMember p nodes f (CutTo f.mark)
   a_failure : f.todo ≡ todo.Fail → IsMember p nodes f Fail
   an_end : f.todo ≡ todo.Leave → IsMember p nodes f (Leave f.mark)
   a_template : {i : ℕ} {t : Tree} → f.todo ≡ todo.Gather i → IsBody p nodes i (Run t) → IsMember p nodes f (Gather f.mark t)
@@ -70,13 +70,13 @@ abbrev pub IsBefore : Option ℕ → ℕ → Type 0
 IsBefore None i = Unit {0}
 IsBefore (Some j) i = j < i
 
--- The frames from this place on are these members, each after those behind it.
+-- The members from this place on are these members, each after those behind it.
 pub data Chain {W : Type 0} (p : Present W) (links : Links W) : Option ℕ → List Member → Type 0 where
   ends : Chain p links None []
-  leads : {i : ℕ} {f : Frame} {m : Member} {ms : List Member} → At links.frames i f → IsBefore f.next i → IsMember p links.nodes f m → Chain p links f.next ms → Chain p links (Some i) (m ∷ ms)
+  leads : {i : ℕ} {f : Link} {m : Member} {ms : List Member} → At links.members i f → IsBefore f.next i → IsMember p links.nodes f m → Chain p links f.next ms → Chain p links (Some i) (m ∷ ms)
 
--- The frame comes first, and then the members behind it.
-pub record First {W : Type 0} (p : Present W) (links : Links W) (f : Frame) (list : List Member) : Type 0 where
+-- The link comes first, and then the members behind it.
+pub record First {W : Type 0} (p : Present W) (links : Links W) (f : Link) (list : List Member) : Type 0 where
   pub member : Member
   pub behind : List Member
   pub is : list ≡ member ∷ behind
@@ -103,12 +103,12 @@ pub record AtGoal {W : Type 0} (p : Present W) (links : Links W) (query : List W
 
 -- what stood when the choice was made
 abbrev pub links_at : {W M : Type 0} → kept.Choice W M → Links W → Links W
-links_at c links = record { nodes = take c.nodes links.nodes; frames = take c.frames links.frames }
+links_at c links = record { nodes = take c.nodes links.nodes; members = take c.members links.members }
 
 -- it still stands
 pub record StandsOn {W M : Type 0} (c : kept.Choice W M) (links : Links W) : Type 0 where
   pub nodes : c.nodes ≤ length links.nodes
-  pub frames : c.frames ≤ length links.frames
+  pub members : c.members ≤ length links.members
 
 -- What is left to be tried is said by which clauses are left by a number and a view, and the words of the query's variables with their numbers.
 module _ {W : Type 0} (leaves : Leaving) (query : List W) (named : List ℕ) where
@@ -199,12 +199,12 @@ module _ {W M : Type 0} (stands : M → Present W → Type 0) (older : M → M �
     pub newer : (d : kept.Choice W M) → Among d (take (length cs - 1) cs) → older d.mark c.mark
     pub stands_below : StandsForChoices (links_at c links) (take (length cs - 1) cs) below
 
--- A choice came behind the others: so many nodes and frames stand, this is left, and its mark brings back the store as it is, and is newer than all others.
-pub record GainsChoice {W M : Type 0} (old new : M → Present W → Type 0) (older : M → M → Type 0) (present : Present W) (nodes frames : ℕ) (left : Left W) (before after : List (kept.Choice W M)) : Type 0 where
+-- A choice came behind the others: so many nodes and members stand, this is left, and its mark brings back the store as it is, and is newer than all others.
+pub record GainsChoice {W M : Type 0} (old new : M → Present W → Type 0) (older : M → M → Type 0) (present : Present W) (nodes members : ℕ) (left : Left W) (before after : List (kept.Choice W M)) : Type 0 where
   pub mark : M
   pub stands : new mark present
   pub newer : (m : M) (p : Present W) → old m p → older m mark
-  pub are : after ≡ before ++ record { mark = mark; nodes = nodes; frames = frames; left = left } ∷ []
+  pub are : after ≡ before ++ record { mark = mark; nodes = nodes; members = members; left = left } ∷ []
 
 -- the most variable numbers that a run uses
 abbrev pub most_numbers : ℕ

@@ -25,6 +25,9 @@ pub struct Callable {
     pub calls: Callee,
 }
 
+/// What is called under the name of each atom, by the atom's number.
+pub type Callables = Vec<Vec<Callable>>;
+
 /// What has this arity among the callables of a name.
 fn among(callables: &[Callable], arity: usize) -> Option<Callee>
     ensures { result ≡ callee_in callables.now arity }
@@ -52,7 +55,7 @@ pub fn find(callables: &[Vec<Callable>], name: Atom, arity: usize) -> Option<Cal
 }
 
 /// Makes room for the callables of this name, and of those that have an atom before it. The error is that memory was refused.
-fn reach(alloc: Global, callables: &mut Vec<Vec<Callable>>, place: usize) -> Result<(), AllocError>
+fn reach(alloc: Global, callables: &mut Callables, place: usize) -> Result<(), AllocError>
     ensures there { OnOk result (place < length callables.new.items) }
     ensures same { (a n : ℕ) → callee_at callables.new.items a n ≡ callee_at callables.old.items a n }
 {
@@ -69,7 +72,7 @@ fn reach(alloc: Global, callables: &mut Vec<Vec<Callable>>, place: usize) -> Res
 /// Adds what a goal of this name and arity calls, where it called nothing. The error is that memory was refused.
 pub fn insert(
     alloc: Global,
-    callables: &mut Vec<Vec<Callable>>,
+    callables: &mut Callables,
     name: Atom,
     arity: usize,
     calls: Callee,
@@ -88,7 +91,7 @@ pub fn insert(
 fn insert_built_in<S: Store>(
     alloc: Global,
     store: &mut S,
-    callables: &mut Vec<Vec<Callable>>,
+    callables: &mut Callables,
     row: &Row,
 ) -> Result<(), AllocError>
     ensures found { (rows : List Row) → Indexes (S.names store.old) callables.old.items (callee_among rows)
@@ -105,7 +108,7 @@ fn of_rows<S: Store>(
     alloc: Global,
     store: &mut S,
     rows: &[Row],
-) -> Result<Vec<Vec<Callable>>, AllocError>
+) -> Result<Callables, AllocError>
     ensures found { IfOk result (λ callables. Indexes (S.names store.new) callables.items (callee_among rows.now)) }
     ensures present { S.present store.new ≡ S.present store.old }
 {
@@ -120,7 +123,7 @@ fn of_rows<S: Store>(
 pub fn of_built_ins<S: Store>(
     alloc: Global,
     store: &mut S,
-) -> Result<Vec<Vec<Callable>>, AllocError>
+) -> Result<Callables, AllocError>
     ensures found { IfOk result (λ rows. Indexes (S.names store.new) rows.items (λ k. option_map Callee.BuiltIn (built_in k))) }
     ensures present { S.present store.new ≡ S.present store.old }
 {

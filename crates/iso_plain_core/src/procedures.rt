@@ -11,7 +11,7 @@ ghost use Rattle.iso_plain_core.specs.Programs.{IsDatabase, place_at, kind_of, k
 ghost use Rattle.iso_plain_core.specs.Adding.{IsFound, MayCome, came, with_more};
 ghost use Rattle.iso_plain_core.specs.declared.callables.Callee.TheVariants as callee;
 
-use super::callables::{self, Callable, Callee};
+use super::callables::{self, Callables, Callee};
 use super::clauses::Clause;
 use iso_db::{Db, DbFault};
 use iso_lib::indicators::Functor;
@@ -33,7 +33,7 @@ pub enum Way {
 pub fn place(
     alloc: Global,
     db: &mut Db<Clause>,
-    callables: &mut Vec<Vec<Callable>>,
+    callables: &mut Callables,
     functor: Functor,
     text: &str,
 ) -> Result<usize, AllocError>
@@ -93,7 +93,7 @@ fn insert(db: &mut Db<Clause>, place: usize, way: Way, clause: Clause) -> Result
 pub fn add(
     alloc: Global,
     db: &mut Db<Clause>,
-    callables: &mut Vec<Vec<Callable>>,
+    callables: &mut Callables,
     functor: Functor,
     text: &str,
     way: Way,

@@ -13,7 +13,7 @@ use Rattle.iso_model.specs.Search.Bodies as body
 use Rattle.iso_model.specs.Search.Bodies.{Body, Run, one, two, both, either, converted, converted_name, body_term}
 use Rattle.iso_prep.specs.declared.connectives.Connective.{Connective}
 use Rattle.iso_prep.specs.declared.connectives.Connective.TheVariants.{And, Or, If}
-use Rattle.iso_prep.specs.Connectives.{text_of, join_of, connective_of}
+use Rattle.iso_prep.specs.Connectives.{text_of, join_of, connective_of, control_of}
 use Rattle.iso_prep.specs.Conversions.{is_callable, are_callable, joined, with_calls, numbers}
 use Rattle.iso_prep.proofs.ConnectiveLemmas.{named_by_text}
 use Rattle.iso_prep.specs.Loads.{terms_load}
@@ -29,6 +29,11 @@ pub calls_of_control : (k : Connective) (a b : Tree) → with_calls (two (text_o
 calls_of_control And a b = refl
 calls_of_control Or a b = refl
 calls_of_control If a b = refl
+
+-- a compound that is no control construct
+pub calls_kept : (vs : List ℕ) (f : List ℕ) (ts : Tree) → control_of (Apply f ts) ≡ None → with_calls (apply (numbers vs) (Apply f ts)) ≡ apply (numbers vs) (Apply f ts)
+calls_kept vs f (More a (More b End)) none = rw none refl
+calls_kept vs f ts none = refl
 
 both_callable : (join : Body → Body → Body) (a b : Option Body) → is_some (both join a b) ≡ is_some a && is_some b
 both_callable join (Some a) (Some b) = refl

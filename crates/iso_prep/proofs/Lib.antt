@@ -1,6 +1,5 @@
 pub mod TermLemmas
 pub mod ConnectiveLemmas
-pub mod PlaceLemmas
 pub mod ConversionLemmas
 pub mod CopyLemmas
 pub mod PrepareLemmas

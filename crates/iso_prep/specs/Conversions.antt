@@ -1,5 +1,5 @@
 -- Conversion of terms into bodies, step by step (ISO/IEC 13211-1:1995, 7.6.2).
-use Rattle.std.specs.Prelude.{◌≡◌, ℕ, ◌+◌, List, [], ◌∷◌, Bool, true, ◌&&◌, Option, Some, None, is_some, map, codes}
+use Rattle.std.specs.Prelude.{◌≡◌, ℕ, ◌+◌, List, [], ◌∷◌, Bool, true, ◌&&◌, Option, Some, None, is_some, codes}
 use Rattle.std.specs.Borrow.{Bor}
 use Rattle.iso_model.specs.declared.terms.Term.{Term}
 use Rattle.iso_model.specs.Terms.Trees.{Tree, Variable, Apply, End, More}
@@ -51,5 +51,4 @@ numbers vs x = Variable (0 + place_of x vs)
 -- what is left to do of a copy, where the variables have these places
 abbrev pub step_of : List ℕ → Task → Step
 step_of vs (task.Body t) = Give (with_calls (apply (numbers vs) (term_of t.now)) ∷ [])
-step_of vs (task.Copy ts) = Give (map (apply (numbers vs)) (map term_of ts.now))
 step_of vs (task.Build name n) = Gather name.now n

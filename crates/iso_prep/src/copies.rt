@@ -1,17 +1,15 @@
-//! Copies of terms with their variables numbered, and of bodies with `call(X)` for a variable `X` that is a goal (7.6.2).
+//! Copies of bodies with their variables numbered, and with `call(X)` for a variable `X` that is a goal (7.6.2).
 ghost use Rattle.std.specs.Prelude.{◌≡◌, ◌+◌, ◌*◌, ◌<◌, ◌∷◌, [], ◌++◌, codes, map, IfOk, OnOk};
-ghost use Rattle.iso_model.specs.Terms.TermOf.{term_of, row_of};
+ghost use Rattle.iso_model.specs.Terms.TermOf.{term_of};
 ghost use Rattle.iso_model.specs.Terms.Sizes.{size};
 ghost use Rattle.iso_model.specs.Terms.Substitutions.{apply};
 ghost use Rattle.iso_model.specs.Terms.Building.{with_step, with_steps, step_load, steps_load};
-ghost use Rattle.iso_model.specs.Terms.Copies as copies;
-ghost use Rattle.iso_model.specs.Terms.Trees.{row};
 ghost use Rattle.iso_model.specs.Search.Bodies.{one};
 ghost use Rattle.iso_prep.specs.Conversions.{numbers, with_calls, step_of};
 
 use super::connectives::control;
 use iso_model::terms::build_last;
-use iso_model::{Numbering, Term};
+use iso_model::{Numbering, Term, renumbered};
 use std::alloc::{AllocError, Global};
 
 /// What is left to do of a copy.
@@ -19,20 +17,8 @@ use std::alloc::{AllocError, Global};
 pub enum Task<'t> {
     /// This body is to be copied.
     Body(&'t Term),
-    /// These terms are to be copied, the first one next.
-    Copy(&'t [Term]),
     /// A compound of this name is to be built of the last copies, so many.
     Build(&'t str, usize),
-}
-
-/// The place of the variable among the variables; behind them where it isn't one of them.
-fn place_of(variables: &Numbering, number: u64) -> usize
-    ensures { result ≡ copies.place_of number variables.now }
-{
-    match variables.place(number) {
-        Some(place) => place,
-        None => variables.len(),
-    }
 }
 
 /// The goal `call(X)` that a variable stands for in a body.
@@ -42,61 +28,6 @@ fn call_of(alloc: Global, variable: Term) -> Result<Term, AllocError>
     let mut arguments = Vec::with_capacity(alloc, 1)?;
     arguments.push(variable)?;
     Ok(Term::Compound(String::from_str(alloc, "call")?, arguments))
-}
-
-/// Copies a term that has no arguments, and leaves a compound to be copied by its arguments.
-fn copy_next<'t>(
-    variables: &Numbering,
-    term: &'t Term,
-    tasks: &mut Vec<Task<'t>>,
-    copies: &mut Vec<Term>,
-) -> Result<(), AllocError>
-    ensures steps { OnOk result (with_steps (map (step_of variables.now) tasks.new.items) (map term_of copies.new.items)
-        ≡ with_steps (map (step_of variables.now) tasks.old.items) (map term_of copies.old.items ++ apply (numbers variables.now) (term_of term.now) ∷ [])) }
-    ensures load { OnOk result (steps_load (map (step_of variables.now) tasks.new.items)
-        < 2 * size (apply (numbers variables.now) (term_of term.now)) + steps_load (map (step_of variables.now) tasks.old.items)) }
-{
-    match term {
-        Term::Var(number) => {
-            copies.push(Term::Var(place_of(variables, *number) as u64))?;
-            Ok(())
-        }
-        Term::Int(value) => {
-            copies.push(Term::Int(*value))?;
-            Ok(())
-        }
-        Term::Atom(text) => {
-            copies.push(Term::Atom(text.clone()?))?;
-            Ok(())
-        }
-        Term::Compound(name, arguments) => {
-            tasks.push(Task::Build(name.as_str(), arguments.len()))?;
-            tasks.push(Task::Copy(arguments.as_slice()))?;
-            Ok(())
-        }
-    }
-}
-
-/// Copies the first of the terms, and leaves the others.
-fn copy_row<'t>(
-    variables: &Numbering,
-    terms: &'t [Term],
-    tasks: &mut Vec<Task<'t>>,
-    copies: &mut Vec<Term>,
-) -> Result<(), AllocError>
-    ensures steps { OnOk result (with_steps (map (step_of variables.now) tasks.new.items) (map term_of copies.new.items)
-        ≡ with_steps (map (step_of variables.now) tasks.old.items) (map term_of copies.old.items ++ map (apply (numbers variables.now)) (map term_of terms.now))) }
-    ensures load { OnOk result (steps_load (map (step_of variables.now) tasks.new.items)
-        < 1 + 2 * size (row (map (apply (numbers variables.now)) (map term_of terms.now))) + steps_load (map (step_of variables.now) tasks.old.items)) }
-{
-    match terms {
-        [] => Ok(()),
-        [only] => copy_next(variables, only, tasks, copies),
-        [first, others @ ..] => {
-            tasks.push(Task::Copy(others))?;
-            copy_next(variables, first, tasks, copies)
-        }
-    }
 }
 
 /// Copies a goal, and leaves a control construct to be copied by its parts.
@@ -120,12 +51,14 @@ fn copy_body<'t>(
     }
     match body {
         Term::Var(number) => {
-            let variable = Term::Var(place_of(variables, *number) as u64);
+            let variable = Term::Var(variables.place_or_len(*number) as u64);
             copies.push(call_of(alloc, variable)?)?;
-            Ok(())
         }
-        _ => copy_next(variables, body, tasks, copies),
+        Term::Int(value) => copies.push(Term::Int(*value))?,
+        Term::Atom(name) => copies.push(Term::Atom(name.clone()?))?,
+        Term::Compound(_, _) => copies.push(renumbered(alloc, body, variables)?)?,
     }
+    Ok(())
 }
 
 /// Does what a task says.
@@ -143,7 +76,6 @@ fn do_task<'t>(
 {
     match task {
         Task::Body(body) => copy_body(alloc, variables, body, tasks, copies),
-        Task::Copy(terms) => copy_row(variables, terms, tasks, copies),
         Task::Build(name, count) => build_last(alloc, name, count, copies),
     }
 }
@@ -164,21 +96,8 @@ fn do_all(
     Ok(())
 }
 
-/// The term with each variable by its place among the variables. The error is that memory was refused.
-pub fn numbered(alloc: Global, variables: &Numbering, term: &Term) -> Result<Term, AllocError>
-    ensures { IfOk result (λ copy. term_of copy ≡ apply (numbers variables.now) (term_of term.now)) }
-{
-    let mut tasks = Vec::new(alloc);
-    let mut copies = Vec::new(alloc);
-    copy_next(variables, term, &mut tasks, &mut copies)?;
-    do_all(alloc, variables, tasks, &mut copies)?;
-    let Some(copy) = copies.pop() else {
-        unreachable!()
-    };
-    Ok(copy)
-}
-
-/// The same of a body, with `call(X)` for each variable `X` that is a goal. The error is that memory was refused.
+/// The body with each variable by its place among the variables, and with `call(X)` for each variable `X` that is a goal. The error
+/// is that memory was refused.
 pub fn numbered_body(alloc: Global, variables: &Numbering, body: &Term) -> Result<Term, AllocError>
     ensures { IfOk result (λ copy. term_of copy ≡ with_calls (apply (numbers variables.now) (term_of body.now))) }
 {

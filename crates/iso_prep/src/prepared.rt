@@ -17,11 +17,11 @@ ghost use Rattle.iso_prep.specs.Uses.{AreUses, head_or_end};
 use super::callable::can_be_called;
 use super::classes::Class;
 use super::constructs::{Construct, parts_of};
-use super::copies::{numbered, numbered_body};
+use super::copies::numbered_body;
 use super::fault::Fault;
 use super::goals::collected;
 use super::uses::{UNUSED, Use, note_goals, note_head};
-use iso_model::{Numbering, Term, copied};
+use iso_model::{Numbering, Term, copied, renumbered};
 use std::alloc::{AllocError, Global};
 use std::marker::Model;
 
@@ -170,7 +170,7 @@ fn numbered_head(
     ensures { IfOk result (λ copy. option_map term_of copy ≡ option_map (apply (numbers variables.now)) (option_map (λ h. term_of h.now) head.entry)) }
 {
     match head {
-        Some(head) => Ok(Some(numbered(alloc, variables, head)?)),
+        Some(head) => Ok(Some(renumbered(alloc, head, variables)?)),
         None => Ok(None),
     }
 }

@@ -33,14 +33,14 @@ pub const UNUSED: Use = Use {
 
 impl Use {
     /// The use with an occurrence more, in the goal of this number; the head is 0.
-    fn noted(self, place: usize) -> Use
-        ensures { result ≡ noted place self }
+    fn noted(self, goal: usize) -> Use
+        ensures { result ≡ noted goal self }
     {
         Use {
             times: if self.times == 0 { 1 } else { 2 },
-            in_head: self.in_head || place == 0,
-            first: if self.first == 0 { place } else { self.first },
-            last: place,
+            in_head: self.in_head || goal == 0,
+            first: if self.first == 0 { goal } else { self.first },
+            last: goal,
         }
     }
 
@@ -58,29 +58,29 @@ impl Use {
     }
 }
 
-/// Notes a variable in the goal of this number; one without a place is left out.
-fn note_use(place: usize, number: u64, uses: &mut Vec<Use>)
-    ensures { uses.new.items ≡ with_use place number uses.old.items }
+/// Notes a variable in the goal of this number; one that has no uses here is left out.
+fn note_use(goal: usize, variable: u64, uses: &mut Vec<Use>)
+    ensures { uses.new.items ≡ with_use goal variable uses.old.items }
 {
-    let number = number as usize;
-    if number < uses.len() {
-        uses[number] = uses[number].noted(place);
+    let variable = variable as usize;
+    if variable < uses.len() {
+        uses[variable] = uses[variable].noted(goal);
     }
 }
 
 /// Notes a variable, and leaves a compound's arguments to be gone through.
 fn note_next<'t>(
-    place: usize,
+    goal: usize,
     term: &'t Term,
     rows: &mut Vec<&'t [Term]>,
     uses: &mut Vec<Use>,
 ) -> Result<(), AllocError>
-    ensures uses { OnOk result (with_rows place rows.new.items uses.new.items ≡ with_rows place rows.old.items (with_term place (term_of term.now) uses.old.items)) }
+    ensures uses { OnOk result (with_rows goal rows.new.items uses.new.items ≡ with_rows goal rows.old.items (with_term goal (term_of term.now) uses.old.items)) }
     ensures load { OnOk result (sum_by row_load rows.new.items < 2 * size (term_of term.now) + sum_by row_load rows.old.items) }
 {
     match term {
         Term::Var(number) => {
-            note_use(place, *number, uses);
+            note_use(goal, *number, uses);
             Ok(())
         }
         Term::Int(_) | Term::Atom(_) => Ok(()),
@@ -93,20 +93,20 @@ fn note_next<'t>(
 
 /// Goes through the first term of a row, and leaves the others.
 fn note_row<'t>(
-    place: usize,
+    goal: usize,
     row: &'t [Term],
     rows: &mut Vec<&'t [Term]>,
     uses: &mut Vec<Use>,
 ) -> Result<(), AllocError>
-    ensures uses { OnOk result (with_rows place rows.new.items uses.new.items ≡ with_rows place rows.old.items (with_term place (row_of row.now) uses.old.items)) }
+    ensures uses { OnOk result (with_rows goal rows.new.items uses.new.items ≡ with_rows goal rows.old.items (with_term goal (row_of row.now) uses.old.items)) }
     ensures load { OnOk result (sum_by row_load rows.new.items < 1 + 2 * size (row_of row.now) + sum_by row_load rows.old.items) }
 {
     match row {
         [] => Ok(()),
-        [only] => note_next(place, only, rows, uses),
+        [only] => note_next(goal, only, rows, uses),
         [first, others @ ..] => {
             rows.push(others)?;
-            note_next(place, first, rows, uses)
+            note_next(goal, first, rows, uses)
         }
     }
 }
@@ -114,16 +114,16 @@ fn note_row<'t>(
 /// Notes each variable of the term in the goal of this number. The error is that memory was refused.
 pub fn note_term(
     alloc: Global,
-    place: usize,
+    goal: usize,
     term: &Term,
     uses: &mut Vec<Use>,
 ) -> Result<(), AllocError>
-    ensures { OnOk result (uses.new.items ≡ with_term place (term_of term.now) uses.old.items) }
+    ensures { OnOk result (uses.new.items ≡ with_term goal (term_of term.now) uses.old.items) }
 {
     let mut rows = Vec::new(alloc);
-    note_next(place, term, &mut rows, uses)?;
+    note_next(goal, term, &mut rows, uses)?;
     while let Some(row) = rows.pop() {
-        note_row(place, row, &mut rows, uses)?;
+        note_row(goal, row, &mut rows, uses)?;
     }
     Ok(())
 }

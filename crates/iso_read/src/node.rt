@@ -12,7 +12,6 @@ ghost use Rattle.iso_read.specs.declared.clause.ReadFault.TheVariants.{NoMemory}
 use crate::clause::ReadFault;
 use crate::operators::Operator;
 use iso_model::Term;
-use iso_ops::Spec;
 use std::alloc::Global;
 
 /// A term that was read, with what decides where it may stand.
@@ -46,46 +45,18 @@ pub fn closed(term: Term, height: usize) -> Node
     }
 }
 
-/// Whether an operator takes a left operand of its own priority (6.3.4, table 4).
-fn takes_equal(spec: Spec) -> bool
-    ensures { result ≡ operators.takes_equal spec }
-{
-    match spec {
-        Spec::Yfx | Spec::Yf => true,
-        Spec::Xfx | Spec::Xfy | Spec::Fx | Spec::Fy | Spec::Xf => false,
-    }
-}
-
-/// Whether an operator takes a right operand of its own priority.
-fn is_right_open(spec: Spec) -> bool
-    ensures { result ≡ operators.is_right_open spec }
-{
-    match spec {
-        Spec::Xfy | Spec::Fy => true,
-        Spec::Xfx | Spec::Yfx | Spec::Fx | Spec::Xf | Spec::Yf => false,
-    }
-}
-
 /// The greatest priority of the operator's left operand.
 fn left_of(operator: &Operator) -> u16
     ensures { result ≡ operators.left_of (operator_of operator.now) }
 {
-    if takes_equal(operator.spec) {
-        operator.priority
-    } else {
-        operator.priority.saturating_sub(1)
-    }
+    operator.spec.left_priority(operator.priority)
 }
 
 /// The greatest priority of the operator's right operand.
 pub fn right_of(operator: &Operator) -> u16
     ensures { result ≡ operators.right_of (operator_of operator.now) }
 {
-    if is_right_open(operator.spec) {
-        operator.priority
-    } else {
-        operator.priority.saturating_sub(1)
-    }
+    operator.spec.right_priority(operator.priority)
 }
 
 /// Whether the node may be the operator's left operand, in a place of at most this priority. A term that an operator
@@ -96,7 +67,7 @@ pub fn fits(most: u16, left: &Node, operator: &Operator) -> bool
 {
     operator.priority <= most
         && left.priority <= left_of(operator)
-        && !(left.is_open && left.priority == operator.priority && takes_equal(operator.spec))
+        && !(left.is_open && left.priority == operator.priority && operator.spec.takes_equal())
 }
 
 /// The term that an infix operator makes of its operands (6.3.4.2).
@@ -106,7 +77,7 @@ pub fn joined(alloc: Global, left: Node, operator: Operator, right: Node) -> Res
     ensures node { IfOk result (λ node. node_of node ≡ model.joined (node_of left) (operator_of operator) (node_of right)) }
     ensures refused { IfErr result (λ fault. fault ≡ NoMemory) }
 {
-    let is_open = is_right_open(operator.spec);
+    let is_open = operator.spec.is_right_open();
     let height = left.height.max(right.height);
     let mut operands = Vec::new(alloc);
     operands.push(left.term)?;
@@ -126,7 +97,7 @@ pub fn applied(alloc: Global, operator: Operator, operand: Node) -> Result<Node,
     ensures node { IfOk result (λ node. node_of node ≡ model.applied (operator_of operator) (node_of operand)) }
     ensures refused { IfErr result (λ fault. fault ≡ NoMemory) }
 {
-    let is_open = is_right_open(operator.spec);
+    let is_open = operator.spec.is_right_open();
     let mut operands = Vec::new(alloc);
     operands.push(operand.term)?;
     Ok(Node {

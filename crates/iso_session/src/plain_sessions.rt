@@ -9,12 +9,12 @@ ghost use Rattle.iso_session_core.specs.Progress.{outcome_of};
 
 use iso_model::{Engine, Limits, NoMemory};
 use iso_plain::plain::Plain;
-use iso_session_core::{Choice, Ended, Fault, refused_session, session_on};
+use iso_session_core::{EngineName, Ended, Fault, refused_session, session_on};
 use iso_store::{Heap, Store};
 use std::alloc::Global;
 use std::io::Write;
 
-/// A session with the engine of this choice, within these limits: the bytes written are those of the standard's search, or, where
+/// A session with the engine of this name, within these limits: the bytes written are those of the standard's search, or, where
 /// heap, frames or memory end it, a beginning of them and the line that says which; the frames end it only where the search comes to
 /// more alternatives than there are frames. The error: a write of at least one byte answered an error or took 0 bytes; what was
 /// written is a beginning.
@@ -23,15 +23,15 @@ pub fn session<W: Write>(
     text: &str,
     queries: &str,
     limits: &Limits,
-    choice: Choice,
+    engine: EngineName,
     out: &mut W,
 ) -> Result<Ended, Fault>
     ensures { SessionWrites text.now queries.now limits.now.budget
         (WalkStops limits.now.budget limits.now.frames (session_script text.now queries.now limits.now.budget))
         (W.contents out.old) (W.contents out.new) (outcome_of result) }
 {
-    match choice {
-        Choice::Plain => plain_session(alloc, text, queries, limits, out),
+    match engine {
+        EngineName::Plain => plain_session(alloc, text, queries, limits, out),
     }
 }
 

@@ -165,7 +165,7 @@ pub record KeptTurn (Stands : State → Type 0) (budget : ℕ) (x : RustKept) (l
   pub at : State
   pub stands : Stands at
   pub k : ℕ
-  pub counts : IsCount x.place k
+  pub counts : IsCount x.number k
   pub goals : List Kept
   pub are : AreKept left goals
   pub advances : Advances old mid script (directive_script k (run_of (started (term_of x.goal) budget at.world)) (λ v. kept_script budget goals v next))
@@ -175,7 +175,7 @@ pub record FirstKept (x : RustKept) (left : List RustKept) (goals : List Kept) :
   pub first : Kept
   pub others : List Kept
   pub is : goals ≡ first ∷ others
-  pub counts : IsCount x.place first.place
+  pub counts : IsCount x.number first.place
   pub goal : term_of x.goal ≡ first.goal
   pub are : AreKept left others
 
@@ -229,7 +229,7 @@ kept_end Stands now budget kept i old new script next low p ready =
     record { at = p.at; stands = p.stands; ready = ready; advances = subst (λ z. Advances old new script (kept_script budget z p.at.world next)) none p.advances }
 
 -- one more kept goal
-pub kept_more : (kept : List RustKept) (goals : List Kept) (x : RustKept) (k : ℕ) (goal : Tree) → AreKept kept goals → IsCount x.place k → term_of x.goal ≡ goal → arities_fit goal ≡ true → IsNumbered goal
+pub kept_more : (kept : List RustKept) (goals : List Kept) (x : RustKept) (k : ℕ) (goal : Tree) → AreKept kept goals → IsCount x.number k → term_of x.goal ≡ goal → arities_fit goal ≡ true → IsNumbered goal
     → AreKept (kept ++ x ∷ []) (goals ++ record { place = k; goal = goal } ∷ [])
 kept_more [] [] x k goal are counts same fits numbered = (counts, same, rw same fits, rw same numbered, tt)
 kept_more [] (g ∷ gs) x k goal are counts same fits numbered = absurd are

@@ -25,7 +25,7 @@ GoalFits other = Unit {0}
 -- These are the kept goals, each by its place as it is counted; each is well formed, and its variables are numbered in the order of their first occurrence.
 abbrev pub AreKept : List Kept → List model.Kept → Type 0
 AreKept [] [] = Unit {0}
-AreKept (x ∷ xs) (g ∷ gs) = IsCount x.place g.place × (term_of x.goal ≡ g.goal) × (arities_fit (term_of x.goal) ≡ true) × IsNumbered (term_of x.goal) × AreKept xs gs
+AreKept (x ∷ xs) (g ∷ gs) = IsCount x.number g.place × (term_of x.goal ≡ g.goal) × (arities_fit (term_of x.goal) ≡ true) × IsNumbered (term_of x.goal) × AreKept xs gs
 AreKept xs gs = ⊥
 
 -- Of the goals that are kept now P holds.

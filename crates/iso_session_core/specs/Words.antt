@@ -9,8 +9,8 @@ use Rattle.clap.specs.declared.error.kind.ErrorKind.{ErrorKind}
 use Rattle.clap.specs.declared.error.kind.ErrorKind.TheVariants.{DisplayHelp, OutOfMemory}
 use Rattle.iso_model.specs.Syntax.Characters.{is_digit}
 use Rattle.iso_model.specs.Syntax.Token.{digits_value}
-use Rattle.iso_session_core.specs.declared.statuses.Choice.{Choice}
-use Rattle.iso_session_core.specs.declared.statuses.Choice.TheVariants.{Plain}
+use Rattle.iso_session_core.specs.declared.statuses.EngineName.{EngineName}
+use Rattle.iso_session_core.specs.declared.statuses.EngineName.TheVariants.{Plain}
 use Rattle.iso_session_core.specs.declared.words.Words.{Words}
 use Rattle.iso_session_core.specs.declared.words.WordsFault.{WordsFault}
 use Rattle.iso_session_core.specs.declared.words.WordsFault.TheVariants as fault
@@ -61,11 +61,11 @@ cells_of values = number_in 16777216 1 268435456 (values (codes "cells"))
 abbrev pub frames_of : Values → Option ℕ
 frames_of values = number_in 1000000 1 16777216 (values (codes "frames"))
 
-abbrev pub engine_named : Option Text → Option Choice
+abbrev pub engine_named : Option Text → Option EngineName
 engine_named None = Some Plain
 engine_named (Some name) = if bytes_eq name (codes "plain") then Some Plain else None
 
-abbrev pub engine_of : Values → Option Choice
+abbrev pub engine_of : Values → Option EngineName
 engine_of values = engine_named (values (codes "engine"))
 
 -- each field is what the options give, or the default
@@ -73,7 +73,7 @@ pub record AreAsked (values : Values) (w : Words) : Type 0 where
   pub budget : budget_of values ≡ Some w.limits.budget
   pub cells : cells_of values ≡ Some w.limits.cells
   pub frames : frames_of values ≡ Some w.limits.frames
-  pub choice : engine_of values ≡ Some w.choice
+  pub engine : engine_of values ≡ Some w.engine
   pub file : values (codes "FILE") ≡ Some (string_bytes w.file)
 
 -- some field can't be had

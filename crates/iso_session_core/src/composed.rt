@@ -12,57 +12,57 @@ use iso_write::{Style, write_to};
 use std::alloc::{AllocError, Global};
 
 /// `syntax error in clause K`
-pub fn syntax_error_line(alloc: Global, clause: u64) -> Result<Vec<u8>, AllocError>
-    ensures { IfOk result (λ line. line.items ≡ lines.syntax_error_line clause ++ 10 ∷ []) }
+pub fn syntax_error_line(alloc: Global, number: u64) -> Result<Vec<u8>, AllocError>
+    ensures { IfOk result (λ line. line.items ≡ lines.syntax_error_line number ++ 10 ∷ []) }
 {
-    Ok(format!(in alloc; "syntax error in clause {clause}\n")?.into_bytes())
+    Ok(format!(in alloc; "syntax error in clause {number}\n")?.into_bytes())
 }
 
 /// `clause K skipped`
-pub fn skipped_line(alloc: Global, clause: u64) -> Result<Vec<u8>, AllocError>
-    ensures { IfOk result (λ line. line.items ≡ lines.skipped_line clause ++ 10 ∷ []) }
+pub fn skipped_line(alloc: Global, number: u64) -> Result<Vec<u8>, AllocError>
+    ensures { IfOk result (λ line. line.items ≡ lines.skipped_line number ++ 10 ∷ []) }
 {
-    Ok(format!(in alloc; "clause {clause} skipped\n")?.into_bytes())
+    Ok(format!(in alloc; "clause {number} skipped\n")?.into_bytes())
 }
 
 /// `clause K refused: E`
 pub fn refused_line(
     alloc: Global,
     ops: &OpTable,
-    clause: u64,
+    number: u64,
     error: &Term,
 ) -> Result<Vec<u8>, AllocError>
-    ensures { IfOk result (λ line. line.items ≡ lines.refused_line ops.now clause (term_of error.now) ++ 10 ∷ []) }
+    ensures { IfOk result (λ line. line.items ≡ lines.refused_line ops.now number (term_of error.now) ++ 10 ∷ []) }
 {
-    let mut line = format!(in alloc; "clause {clause} refused: ")?.into_bytes();
+    let mut line = format!(in alloc; "clause {number} refused: ")?.into_bytes();
     finish_with_term(alloc, ops, &mut line, error)?;
     Ok(line)
 }
 
 /// `directive K failed`
-pub fn directive_failed_line(alloc: Global, term: u64) -> Result<Vec<u8>, AllocError>
-    ensures { IfOk result (λ line. line.items ≡ lines.directive_failed_line term ++ 10 ∷ []) }
+pub fn directive_failed_line(alloc: Global, number: u64) -> Result<Vec<u8>, AllocError>
+    ensures { IfOk result (λ line. line.items ≡ lines.directive_failed_line number ++ 10 ∷ []) }
 {
-    Ok(format!(in alloc; "directive {term} failed\n")?.into_bytes())
+    Ok(format!(in alloc; "directive {number} failed\n")?.into_bytes())
 }
 
 /// `directive K stopped: budget`
-pub fn directive_stopped_line(alloc: Global, term: u64) -> Result<Vec<u8>, AllocError>
-    ensures { IfOk result (λ line. line.items ≡ lines.directive_stopped_line term ++ 10 ∷ []) }
+pub fn directive_stopped_line(alloc: Global, number: u64) -> Result<Vec<u8>, AllocError>
+    ensures { IfOk result (λ line. line.items ≡ lines.directive_stopped_line number ++ 10 ∷ []) }
 {
-    Ok(format!(in alloc; "directive {term} stopped: budget\n")?.into_bytes())
+    Ok(format!(in alloc; "directive {number} stopped: budget\n")?.into_bytes())
 }
 
 /// `directive K refused: BALL`
 pub fn directive_refused_line(
     alloc: Global,
     ops: &OpTable,
-    term: u64,
+    number: u64,
     ball: &Term,
 ) -> Result<Vec<u8>, AllocError>
-    ensures { IfOk result (λ line. line.items ≡ lines.directive_refused_line ops.now term (term_of ball.now) ++ 10 ∷ []) }
+    ensures { IfOk result (λ line. line.items ≡ lines.directive_refused_line ops.now number (term_of ball.now) ++ 10 ∷ []) }
 {
-    let mut line = format!(in alloc; "directive {term} refused: ")?.into_bytes();
+    let mut line = format!(in alloc; "directive {number} refused: ")?.into_bytes();
     finish_with_term(alloc, ops, &mut line, ball)?;
     Ok(line)
 }

@@ -27,17 +27,17 @@ use std::alloc::{AllocError, Global};
 use std::io::Write;
 
 /// Adds the K-th term of the text as a clause, or says that it is refused.
-fn consult_term<E: Engine, W: Write>(
+fn add_clause<E: Engine, W: Write>(
     alloc: Global,
     engine: &mut E,
     console: &mut Console<'_, W>,
-    count: u64,
+    number: u64,
     term: &Term,
 ) -> Result<Flow, Fault>
     requires ready { E.phase engine.old ≡ Ready }
     requires stands { (s : State) × E.stands_for engine.old s }
     requires fits { arities_fit (term_of term.now) ≡ true }
-    ensures does { (s : State) → E.stands_for engine.old s → (k : ℕ) → IsCount count k → (budget : ℕ) (next : World → Script)
+    ensures does { (s : State) → E.stands_for engine.old s → (k : ℕ) → IsCount number k → (budget : ℕ) (next : World → Script)
         → Does budget (E.stands_for engine.new) (MayMeet (E.heap_pieces engine.new) (E.frames_pieces engine.new)) (E.phase engine.new)
         (place W.contents console.old) (place W.contents console.new)
         (added_script k (consulted (term_of term.now) s.world.database) s.world next) next result }
@@ -48,22 +48,22 @@ fn consult_term<E: Engine, W: Write>(
         Ok(()) => Ok(Flow::On),
         Err(AddFault::NoMemory) => Ok(Flow::Stops(Limit::Memory)),
         Err(AddFault::Refused(ball)) => {
-            let line = composed::refused_line(alloc, engine.ops(), count, &ball.term);
+            let line = composed::refused_line(alloc, engine.ops(), number, &ball.term);
             console.put_line(line, Flow::On)
         }
     }
 }
 
 /// Keeps the goal of the K-th term. The error is that memory was refused; the kept goals are as they were then.
-fn keep_goal(alloc: Global, count: u64, goal: &Term, kept: &mut Vec<Kept>) -> Result<(), AllocError>
+fn keep_goal(alloc: Global, number: u64, goal: &Term, kept: &mut Vec<Kept>) -> Result<(), AllocError>
     requires fits { arities_fit (term_of goal.now) ≡ true }
     requires numbered { IsNumbered (term_of goal.now) }
-    ensures ok { OnOk result ((goals : List KeptGoal) → AreKept kept.old.items goals → (k : ℕ) → IsCount count k
+    ensures ok { OnOk result ((goals : List KeptGoal) → AreKept kept.old.items goals → (k : ℕ) → IsCount number k
         → AreKept kept.new.items (goals ++ record { place = k; goal = term_of goal.now } ∷ [])) }
     ensures err { OnErr result (kept.new.items ≡ kept.old.items) }
 {
     let goal = copied(alloc, goal)?;
-    kept.push(Kept { place: count, goal })?;
+    kept.push(Kept { number, goal })?;
     Ok(())
 }
 
@@ -73,7 +73,7 @@ fn consult_read<E: Engine, W: Write>(
     alloc: Global,
     engine: &mut E,
     console: &mut Console<'_, W>,
-    count: u64,
+    number: u64,
     term: &Term,
     budget: u32,
     kept: &mut Vec<Kept>,
@@ -82,7 +82,7 @@ fn consult_read<E: Engine, W: Write>(
     requires stands { (s : State) × E.stands_for engine.old s }
     requires fits { arities_fit (term_of term.now) ≡ true }
     requires numbered { IsNumbered (term_of term.now) }
-    ensures does { (s : State) → E.stands_for engine.old s → (k : ℕ) → IsCount count k → (goals : List KeptGoal) → AreKept kept.old.items goals
+    ensures does { (s : State) → E.stands_for engine.old s → (k : ℕ) → IsCount number k → (goals : List KeptGoal) → AreKept kept.old.items goals
         → (next : List KeptGoal → World → Script) → Keeps kept.new.items (λ later. Does budget (E.stands_for engine.new) (MayMeet (E.heap_pieces engine.new) (E.frames_pieces engine.new)) (E.phase engine.new)
         (place W.contents console.old) (place W.contents console.new)
         (read_script budget k (text_term_is (term_of term.now)) (term_of term.now) s.world goals next) (next later) result) }
@@ -90,14 +90,14 @@ fn consult_read<E: Engine, W: Write>(
     ensures writer { console.new.out.ghost_name ≡ console.old.out.ghost_name }
 {
     match text_term(term) {
-        TextTerm::Clause => consult_term(alloc, engine, console, count, term),
-        TextTerm::Directive(goal) => run_directive(alloc, engine, console, count, goal, budget),
-        TextTerm::Initialization(goal) => match keep_goal(alloc, count, goal, kept) {
+        TextTerm::Clause => add_clause(alloc, engine, console, number, term),
+        TextTerm::Directive(goal) => run_directive(alloc, engine, console, number, goal, budget),
+        TextTerm::Initialization(goal) => match keep_goal(alloc, number, goal, kept) {
             Ok(()) => Ok(Flow::On),
             Err(AllocError) => Ok(Flow::Stops(Limit::Memory)),
         },
         TextTerm::PassedOver => {
-            let line = composed::skipped_line(alloc, count);
+            let line = composed::skipped_line(alloc, number);
             console.put_line(line, Flow::On)
         }
     }
@@ -108,7 +108,7 @@ fn consult_item<E: Engine, W: Write>(
     alloc: Global,
     engine: &mut E,
     console: &mut Console<'_, W>,
-    count: u64,
+    number: u64,
     item: Item,
     budget: u32,
     kept: &mut Vec<Kept>,
@@ -116,7 +116,7 @@ fn consult_item<E: Engine, W: Write>(
     requires ready { E.phase engine.old ≡ Ready }
     requires stands { (s : State) × E.stands_for engine.old s }
     requires fits { Fits item }
-    ensures does { (s : State) → E.stands_for engine.old s → (k : ℕ) → IsCount count k → (goals : List KeptGoal) → AreKept kept.old.items goals
+    ensures does { (s : State) → E.stands_for engine.old s → (k : ℕ) → IsCount number k → (goals : List KeptGoal) → AreKept kept.old.items goals
         → (next : List KeptGoal → World → Script) → Keeps kept.new.items (λ later. Does budget (E.stands_for engine.new) (MayMeet (E.heap_pieces engine.new) (E.frames_pieces engine.new)) (E.phase engine.new)
         (place W.contents console.old) (place W.contents console.new)
         (term_script budget k (item_read item) s.world goals next) (next later) result) }
@@ -125,10 +125,10 @@ fn consult_item<E: Engine, W: Write>(
 {
     match item {
         Item::Readable(read) => {
-            consult_read(alloc, engine, console, count, &read.term, budget, kept)
+            consult_read(alloc, engine, console, number, &read.term, budget, kept)
         }
         Item::Unreadable => {
-            let line = composed::syntax_error_line(alloc, count);
+            let line = composed::syntax_error_line(alloc, number);
             console.put_line(line, Flow::On)
         }
     }
@@ -154,7 +154,7 @@ fn consult_items<E: Engine, W: Write>(
     ensures writer { console.new.out.ghost_name ≡ console.old.out.ghost_name }
 {
     let mut tokens = Tokens::new(text);
-    let mut count: u64 = 0;
+    let mut number: u64 = 0;
     loop {
         let Ok(next) = take_item(alloc, engine, &mut tokens) else {
             return Ok(Flow::Stops(Limit::Memory));
@@ -162,8 +162,8 @@ fn consult_items<E: Engine, W: Write>(
         let Some(item) = next else {
             return Ok(Flow::On);
         };
-        count = count.saturating_add(1);
-        match consult_item(alloc, engine, console, count, item, budget, kept)? {
+        number = number.saturating_add(1);
+        match consult_item(alloc, engine, console, number, item, budget, kept)? {
             Flow::On => {}
             flow => return Ok(flow),
         }

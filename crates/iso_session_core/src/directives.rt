@@ -24,8 +24,8 @@ use std::io::Write;
 /// A kept goal.
 #[derive(Debug, Drop)]
 pub struct Kept {
-    /// The place of its term in the text.
-    pub place: u64,
+    /// The number of its term in the text, from 1 on.
+    pub number: u64,
     /// The goal.
     pub goal: Term,
 }
@@ -36,23 +36,23 @@ fn end_directive<W: Write>(
     alloc: Global,
     ops: &OpTable,
     console: &mut Console<'_, W>,
-    count: u64,
+    number: u64,
     pause: Pause,
 ) -> Result<Flow, Fault>
-    ensures ends { EndsDirective count ops.now pause (place W.contents console.old) (place W.contents console.new) result }
+    ensures ends { EndsDirective number ops.now pause (place W.contents console.old) (place W.contents console.new) result }
     ensures writer { console.new.out.ghost_name ≡ console.old.out.ghost_name }
 {
     match pause {
         Pause::NoMore => {
-            let line = composed::directive_failed_line(alloc, count);
+            let line = composed::directive_failed_line(alloc, number);
             console.put_line(line, Flow::On)
         }
         Pause::Budget => {
-            let line = composed::directive_stopped_line(alloc, count);
+            let line = composed::directive_stopped_line(alloc, number);
             console.put_line(line, Flow::On)
         }
         Pause::Uncaught(ball) => {
-            let line = composed::directive_refused_line(alloc, ops, count, &ball.term);
+            let line = composed::directive_refused_line(alloc, ops, number, &ball.term);
             console.put_line(line, Flow::On)
         }
         Pause::Halt(status) => {
@@ -71,11 +71,11 @@ fn run_once<E: Engine, W: Write>(
     alloc: Global,
     engine: &mut E,
     console: &mut Console<'_, W>,
-    count: u64,
+    number: u64,
 ) -> Result<Flow, Fault>
     requires awake { IsAwake (E.phase engine.old) }
     requires stands { (s : State) × E.stands_for engine.old s }
-    ensures does { (goal : Tree) (w : World) (budget : ℕ) → E.stands_for engine.old (started goal budget w) → (k : ℕ) → IsCount count k → (next : World → Script)
+    ensures does { (goal : Tree) (w : World) (budget : ℕ) → E.stands_for engine.old (started goal budget w) → (k : ℕ) → IsCount number k → (next : World → Script)
         → Does budget (E.stands_for engine.new) (MayMeet (E.heap_pieces engine.new) (E.frames_pieces engine.new)) (E.phase engine.new)
         (place W.contents console.old) (place W.contents console.new)
         (directive_script k (run_of (started goal budget w)) next) next result }
@@ -85,7 +85,7 @@ fn run_once<E: Engine, W: Write>(
     loop {
         match engine.resume() {
             Pause::Output(bytes) => console.write_output(bytes.as_slice())?,
-            pause => return end_directive(alloc, engine.ops(), console, count, pause),
+            pause => return end_directive(alloc, engine.ops(), console, number, pause),
         }
     }
 }
@@ -95,7 +95,7 @@ pub fn run_directive<E: Engine, W: Write>(
     alloc: Global,
     engine: &mut E,
     console: &mut Console<'_, W>,
-    count: u64,
+    number: u64,
     goal: &Term,
     budget: u32,
 ) -> Result<Flow, Fault>
@@ -103,7 +103,7 @@ pub fn run_directive<E: Engine, W: Write>(
     requires stands { (s : State) × E.stands_for engine.old s }
     requires fits { arities_fit (term_of goal.now) ≡ true }
     requires numbered { IsNumbered (term_of goal.now) }
-    ensures does { (s : State) → E.stands_for engine.old s → (k : ℕ) → IsCount count k → (next : World → Script)
+    ensures does { (s : State) → E.stands_for engine.old s → (k : ℕ) → IsCount number k → (next : World → Script)
         → Does budget (E.stands_for engine.new) (MayMeet (E.heap_pieces engine.new) (E.frames_pieces engine.new)) (E.phase engine.new)
         (place W.contents console.old) (place W.contents console.new)
         (directive_script k (run_of (started (term_of goal.now) budget s.world)) next) next result }
@@ -111,7 +111,7 @@ pub fn run_directive<E: Engine, W: Write>(
     ensures writer { console.new.out.ghost_name ≡ console.old.out.ghost_name }
 {
     match engine.start(goal, budget) {
-        Ok(()) => run_once(alloc, engine, console, count),
+        Ok(()) => run_once(alloc, engine, console, number),
         Err(StartFault::HeapFull) => Ok(Flow::Stops(Limit::Heap)),
         Err(StartFault::NoMemory) => Ok(Flow::Stops(Limit::Memory)),
     }
@@ -136,7 +136,7 @@ pub fn run_kept<E: Engine, W: Write>(
     ensures writer { console.new.out.ghost_name ≡ console.old.out.ghost_name }
 {
     for entry in kept {
-        match run_directive(alloc, engine, console, entry.place, &entry.goal, budget)? {
+        match run_directive(alloc, engine, console, entry.number, &entry.goal, budget)? {
             Flow::On => {}
             flow => return Ok(flow),
         }

@@ -4,10 +4,10 @@ ghost use Rattle.iso_session_core.specs.Statuses.{status};
 
 use thiserror::Error;
 
-/// The engine of a session.
+/// The name of a session's engine.
 #[derive(Clone, Copy, Debug, PartialEq, Eq)]
-pub enum Choice {
-    /// The plain engine, over nodes.
+pub enum EngineName {
+    /// The plain engine.
     Plain,
 }
 

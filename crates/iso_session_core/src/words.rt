@@ -7,7 +7,7 @@ ghost use Rattle.iso_model.specs.Syntax.Token.{digits_value};
 ghost use Rattle.iso_session_core.specs.Words as asked;
 ghost use Rattle.iso_session_core.specs.declared.words.WordsFault.TheVariants.{Usage, NoMemory};
 
-use super::statuses::Choice;
+use super::statuses::EngineName;
 use clap::error::ErrorKind;
 use clap::{Arg, ArgAction, ArgMatches, Command, Error};
 use iso_model::Limits;
@@ -17,7 +17,7 @@ use std::alloc::{AllocError, Global};
 #[derive(Debug, Drop)]
 pub struct Words {
     pub limits: Limits,
-    pub choice: Choice,
+    pub engine: EngineName,
     /// The program text's file, as the word was given.
     pub file: String,
 }
@@ -189,14 +189,14 @@ fn number(
 
 /// The engine of this name; the default is the plain one. Usage where there is no such engine, NoMemory where memory for
 /// the line that says so was refused.
-fn engine(alloc: Global, value: Option<&str>) -> Result<Choice, WordsFault>
+fn engine_name(alloc: Global, value: Option<&str>) -> Result<EngineName, WordsFault>
     ensures { MatchResult result
-        (λ choice. asked.engine_named (option_map (λ name. name.now) value.entry) ≡ Some choice)
+        (λ name. asked.engine_named (option_map (λ name. name.now) value.entry) ≡ Some name)
         (λ fault. asked.Refuses (asked.engine_named (option_map (λ name. name.now) value.entry) ≡ None) fault) }
 {
     match value {
-        None => Ok(Choice::Plain),
-        Some("plain") => Ok(Choice::Plain),
+        None => Ok(EngineName::Plain),
+        Some("plain") => Ok(EngineName::Plain),
         Some(name) => Err(usage(refusal(alloc, "engine", "plain", name))),
     }
 }
@@ -231,7 +231,7 @@ fn fields<'a>(alloc: Global, matches: &ArgMatches<'a>) -> Result<Words, WordsFau
         1,
         Limits::MOST_FRAMES,
     )?;
-    let choice = engine(alloc, matches.get_str("engine"))?;
+    let engine = engine_name(alloc, matches.get_str("engine"))?;
     let Some(file) = matches.get_str("FILE") else {
         return Err(usage(String::from_str(alloc, "FILE is missing")));
     };
@@ -242,7 +242,7 @@ fn fields<'a>(alloc: Global, matches: &ArgMatches<'a>) -> Result<Words, WordsFau
             cells,
             frames,
         },
-        choice,
+        engine,
         file,
     })
 }

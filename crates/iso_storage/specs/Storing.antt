@@ -31,7 +31,7 @@ use Rattle.iso_plain_core.specs.declared.callables.Callee.TheVariants as callee
 use Rattle.iso_plain_core.specs.declared.clauses.Clause.{Clause}
 use Rattle.iso_plain_core.specs.declared.procedures.Way.{Way}
 use Rattle.iso_plain_core.specs.declared.procedures.Way.TheVariants as way
-use Rattle.iso_plain_core.specs.declared.parts.Showing.{Showing}
+use Rattle.iso_plain_core.specs.declared.choices.Showing.{Showing}
 use Rattle.iso_storage.specs.declared.storages.Stored.{Stored}
 use Rattle.iso_storage.specs.declared.storages.Stored.TheVariants as stored
 

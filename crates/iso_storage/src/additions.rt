@@ -19,10 +19,10 @@ use iso_db::Db;
 use iso_lib::indicators::Functor;
 use iso_lib::{Fault, errors};
 use iso_model::AddFault;
-use iso_plain_core::callables::Callable;
+use iso_plain_core::callables::Callables;
 use iso_plain_core::clauses::{self, Checked, Clause};
 use iso_plain_core::procedures::{self, Way};
-use iso_plain_core::writing;
+use iso_plain_core::patterns;
 use iso_store_core::Store;
 use std::alloc::Global;
 
@@ -46,7 +46,7 @@ fn add_checked<S: Store>(
     alloc: Global,
     store: &mut S,
     db: &mut Db<Clause>,
-    callables: &mut Vec<Vec<Callable>>,
+    callables: &mut Callables,
     checked: &Checked,
     way: Way,
     by: &str,
@@ -68,7 +68,7 @@ fn add_checked<S: Store>(
     let Some((text, arity)) = clauses::indicator_of(&checked.head) else {
         unreachable!();
     };
-    let kept = writing::written_clause(alloc, store, checked)?;
+    let kept = patterns::written_clause(alloc, store, checked)?;
     let name = store.intern(text)?;
     let functor = Functor { name, arity };
     if is_fixed(db, callables.as_slice(), functor, text) {
@@ -94,7 +94,7 @@ pub(crate) fn add<S: Store>(
     alloc: Global,
     store: &mut S,
     db: &mut Db<Clause>,
-    callables: &mut Vec<Vec<Callable>>,
+    callables: &mut Callables,
     clause: S::Word,
     way: Way,
     by: &str,

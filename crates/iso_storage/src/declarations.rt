@@ -20,7 +20,7 @@ use super::heads::is_fixed;
 use iso_db::Db;
 use iso_lib::indicators::{Functor, declared_parts, indicated};
 use iso_lib::{Fault, errors};
-use iso_plain_core::callables::Callable;
+use iso_plain_core::callables::{Callable, Callables};
 use iso_plain_core::clauses::Clause;
 use iso_plain_core::procedures;
 use iso_store_core::{Shape, Store};
@@ -144,7 +144,7 @@ fn place_of<S: Store>(
     alloc: Global,
     store: &S,
     db: &mut Db<Clause>,
-    callables: &mut Vec<Vec<Callable>>,
+    callables: &mut Callables,
     functor: Functor,
 ) -> Result<usize, AllocError>
     requires each_once { EachOnce (S.names store.now) }
@@ -167,7 +167,7 @@ fn places<S: Store>(
     alloc: Global,
     store: &S,
     db: &mut Db<Clause>,
-    callables: &mut Vec<Vec<Callable>>,
+    callables: &mut Callables,
     functors: &[Functor],
 ) -> Result<Vec<usize>, AllocError>
     requires each_once { 0 < length functors.now → EachOnce (S.names store.now) }
@@ -215,7 +215,7 @@ pub(crate) fn declare<S: Store>(
     alloc: Global,
     store: &S,
     db: &mut Db<Clause>,
-    callables: &mut Vec<Vec<Callable>>,
+    callables: &mut Callables,
     argument: S::Word,
 ) -> Result<(), Fault>
     requires argument { Holds (S.present store.now) argument }

@@ -6,8 +6,8 @@ mod declarations;
 mod heads;
 mod matching;
 mod removals;
-mod rows;
+mod shown_clauses;
 pub mod shown;
 mod storages;
 
-pub use storages::{Stored, store};
+pub use storages::{Stored, store_goal};

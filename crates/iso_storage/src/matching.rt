@@ -14,7 +14,7 @@ ghost use Rattle.iso_storage.specs.Matching.{matching_numbers};
 
 use iso_db::{ClauseId, Db, View};
 use iso_plain_core::clauses::Clause;
-use iso_plain_core::leaving::next_left;
+use iso_plain_core::left_clauses::next_left;
 use iso_store_core::{Store, StoreFault};
 use std::alloc::Global;
 

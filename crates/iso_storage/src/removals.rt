@@ -19,7 +19,7 @@ use super::matching::matching_at;
 use iso_db::{ClauseId, Db};
 use iso_lib::indicators::{Functor, indicated};
 use iso_lib::{Fault, errors};
-use iso_plain_core::callables::Callable;
+use iso_plain_core::callables::{Callable, Callables};
 use iso_plain_core::clauses::Clause;
 use iso_plain_core::procedures;
 use iso_store_core::{Shape, Store};
@@ -46,7 +46,7 @@ pub(crate) fn retractall<S: Store>(
     alloc: Global,
     store: &mut S,
     db: &mut Db<Clause>,
-    callables: &mut Vec<Vec<Callable>>,
+    callables: &mut Callables,
     head: S::Word,
 ) -> Result<(), Fault>
     requires head { Holds (S.present store.old) head }

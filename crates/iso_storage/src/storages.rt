@@ -14,13 +14,13 @@ ghost use Rattle.iso_storage.specs.Storing.{IsProgram, IsStored, UnlessDone, Unl
 use super::additions::add;
 use super::declarations::{check, declare};
 use super::removals::{abolish, retractall};
-use super::rows::{clause, retract};
+use super::shown_clauses::{clause, retract};
 use iso_db::Db;
 use iso_lib::Fault;
 use iso_model::Storage;
-use iso_plain_core::callables::Callable;
+use iso_plain_core::callables::Callables;
 use iso_plain_core::clauses::Clause;
-use iso_plain_core::parts::Showing;
+use iso_plain_core::choices::Showing;
 use iso_plain_core::procedures::Way;
 use iso_store_core::Store;
 use std::alloc::Global;
@@ -46,11 +46,11 @@ fn done<W: Copy>(changed: Result<(), Fault>) -> Result<Stored<W>, Fault>
 
 /// What a goal of this row comes to, which has as many arguments. The errors: one is raised, the store is full, or memory was refused. The
 /// database is changed where the answer is `Done` alone.
-pub fn store<S: Store>(
+pub fn store_goal<S: Store>(
     alloc: Global,
     store: &mut S,
     db: &mut Db<Clause>,
-    callables: &mut Vec<Vec<Callable>>,
+    callables: &mut Callables,
     row: Storage,
     goal: S::Word,
 ) -> Result<Stored<S::Word>, Fault>

@@ -8,7 +8,7 @@ use Rattle.iso_store.specs.declared.nodes.Node.{Node}
 use Rattle.iso_store.specs.declared.nodes.Node.TheVariants.{Var, Int, Atom, Compound}
 use Rattle.iso_store.specs.NodeTerms.{term_at, binding_of, substitution_of}
 use Rattle.iso_store.specs.NodeStores.{IsStore, LeadsBack, MayPush, unbound, unbound_at, reset, restored}
-use Rattle.iso_store.specs.declared.marks.NodesMark.{NodesMark}
+use Rattle.iso_store.specs.declared.node_marks.NodesMark.{NodesMark}
 use Rattle.iso_store.specs.NodeVariables.{inside-term, inside-meaning}
 use Rattle.iso_store.specs.VariableKinds.{Inside}
 use Rattle.iso_store.specs.Slices.{slice_get-pushed, slice_get-set, slice_get-here, slice_get-taken}

@@ -45,15 +45,15 @@ module _ {W : Type 0} {p a : Present W} (names : List (List ℕ)) (ks : List Par
   all : first_terms names ks (length ks) ≡ t ∷ []
   all = all-parts names ks t whole (length ks) (omega arith)
 
-  left-made : (s : Subst) → apply s (meaning a goal) ≡ apply s (renamed first t) → MakesLeft a names ks first s (goal ∷ []) (first_terms names ks (length ks))
-  left-made s e = subst (λ ts. MakesLeft a names ks first s (goal ∷ []) ts) (sym all) (ap (λ x. x ∷ []) e)
+  left-made : (s : Subst) → apply s (meaning a goal) ≡ apply s (renamed first t) → MakesLeft a names ks first s (meaning a goal ∷ []) (first_terms names ks (length ks))
+  left-made s e = subst (λ ts. MakesLeft a names ks first s (meaning a goal ∷ []) ts) (sym all) (ap (λ x. x ∷ []) e)
 
-  left-equal : (s : Subst) → MakesLeft a names ks first s (goal ∷ []) (first_terms names ks (length ks)) → apply s (meaning a goal) ≡ apply s (renamed first t)
+  left-equal : (s : Subst) → MakesLeft a names ks first s (meaning a goal ∷ []) (first_terms names ks (length ks)) → apply s (meaning a goal) ≡ apply s (renamed first t)
   left-equal s made =
-      let one : apply s (meaning a goal) ∷ [] ≡ apply s (renamed first t) ∷ [] = subst (λ ts. MakesLeft a names ks first s (goal ∷ []) ts) all made in
+      let one : apply s (meaning a goal) ∷ [] ≡ apply s (renamed first t) ∷ [] = subst (λ ts. MakesLeft a names ks first s (meaning a goal ∷ []) ts) all made in
       ap (λ xs. slice_index_or xs 0 End) one
 
-  equal-there : (s : Subst) → apply s (meaning p goal) ≡ apply s (new_head p t) → MakesLeft a names ks first s (goal ∷ []) (first_terms names ks (length ks))
+  equal-there : (s : Subst) → apply s (meaning p goal) ≡ apply s (new_head p t) → MakesLeft a names ks first s (meaning a goal ∷ []) (first_terms names ks (length ks))
   equal-there s e = left-made s (ap (apply s) goal-there ∙ e ∙ ap (apply s) head-there)
 
   -- reading shows that nothing makes them equal

@@ -50,6 +50,7 @@ pub mod ReadingLemmas
 pub mod HeadCells
 pub mod ReadOn
 pub mod ReadShapes
+pub mod ReadUnread
 pub mod PartShows
 pub mod ReadHeads
 pub mod WordLemmas

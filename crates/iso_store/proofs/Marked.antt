@@ -4,7 +4,7 @@ use Rattle.std.specs.List.{slice_get}
 use Rattle.std.proofs.lemmas.List.{drop-append-le, take-append-le, take-take, take-append-drop, drop_all, take_all}
 use Rattle.iso_store.specs.declared.nodes.Node.{Node}
 use Rattle.iso_store.specs.declared.nodes.Node.TheVariants.{Var}
-use Rattle.iso_store.specs.declared.marks.NodesMark.{NodesMark}
+use Rattle.iso_store.specs.declared.node_marks.NodesMark.{NodesMark}
 use Rattle.iso_store_core.specs.Presents.{Present}
 use Rattle.iso_store.specs.NodeStores.{unbound_at, reset, restored, IsStore, StandsFor, IsOlder, present_of, KeepsNodesMarks}
 use Rattle.iso_store.proofs.Resets.{reset-push, reset-append, take-reset, take-unbound_at, reset-length}

@@ -6,7 +6,7 @@ use Rattle.iso_store_core.proofs.AtomLemmas.{text-kept, atom-kept}
 use Rattle.iso_model.specs.Terms.Trees.{Tree, Variable, Name, Apply, End, row}
 use Rattle.iso_store.specs.declared.nodes.Node.{Node}
 use Rattle.iso_store.specs.declared.nodes.Node.TheVariants.{Var, Int, Atom, Compound}
-use Rattle.iso_store.specs.declared.marks.NodesMark.{NodesMark}
+use Rattle.iso_store.specs.declared.node_marks.NodesMark.{NodesMark}
 use Rattle.iso_store_core.specs.Presents.{Present}
 use Rattle.iso_store.specs.NodeTerms.{node_term, terms_at, terms_from, term_at, binding_of, bindings, bind_all, all_may_bind}
 use Rattle.iso_store.specs.NodeStores.{has_number, IsStore, StandsFor, restored, present_of}

@@ -10,7 +10,7 @@ use Rattle.iso_model.specs.Terms.Trees.{Tree, Variable, Name, Apply, row, count}
 use Rattle.iso_model.specs.Terms.Order.{term_cmp}
 use Rattle.iso_model.proofs.OnTerms.OrderLemmas.{identical, alike_itself}
 use Rattle.iso_store.specs.declared.unify.Task.{Task}
-use Rattle.iso_store.specs.declared.unify.Task.TheVariants.{Unify, Join}
+use Rattle.iso_store.specs.declared.unify.Task.TheVariants.{Arguments, Join}
 use Rattle.iso_store_core.specs.Presents.{Present, meaning}
 use Rattle.iso_store_core.specs.Arguments.{argument}
 use Rattle.iso_store.specs.Unifying.{IsCompound, ones, others}
@@ -52,7 +52,7 @@ module _ {W : Type 0} (p : Present W) where
 
   -- these are compounds of one name, whose arguments come in their place
   pub order-opened : (xs ys zs : List (Task W)) (w v : W) (n : ℕ) (a b : Tree) (one : meaning p w ≡ a) (other : meaning p v ≡ b) (o : Opened n a b)
-      → ys ≡ xs ++ Join w v ∷ [] → zs ≡ ys ++ Unify w v 0 n ∷ [] → order_left p [] [] zs ≡ order_left p (a ∷ []) (b ∷ []) xs
+      → ys ≡ xs ++ Join w v ∷ [] → zs ≡ ys ++ Arguments w v 0 n ∷ [] → order_left p [] [] zs ≡ order_left p (a ∷ []) (b ∷ []) xs
   order-opened xs ys zs w v n a b one other o first second =
       let new = ap₂ (λ us vs. term_cmp (row us) (row vs)) (ones-opened p xs ys zs w v n a b one other o first second) (others-opened p xs ys zs w v n a b one other o first second) in
       let old = ap₂ (λ us vs. term_cmp (row us) (row vs)) (ones-before p xs ys zs w v n a b one other o first second) (others-before p xs ys zs w v n a b one other o first second) in
@@ -65,17 +65,17 @@ module _ {W : Type 0} (p : Present W) where
       new ∙ rows-append o.left o.right (ones p [] xs) (others p [] xs) same ∙ ap (λ x. ordering_then x (order_left p [] [] xs)) (sym heads) ∙ sym old
 
   pub order-alone : (zs : List (Task W)) (w v : W) (n : ℕ) (a b : Tree) (one : meaning p w ≡ a) (other : meaning p v ≡ b) (o : Opened n a b)
-      → zs ≡ Unify w v 0 n ∷ [] → order_left p [] [] zs ≡ order_left p (a ∷ []) (b ∷ []) []
-  order-alone zs w v n a b one other o alone = ap (order_left p [] []) alone ∙ order-opened [] (Join w v ∷ []) (Join w v ∷ Unify w v 0 n ∷ []) w v n a b one other o refl refl
+      → zs ≡ Arguments w v 0 n ∷ [] → order_left p [] [] zs ≡ order_left p (a ∷ []) (b ∷ []) []
+  order-alone zs w v n a b one other o alone = ap (order_left p [] []) alone ∙ order-opened [] (Join w v ∷ []) (Join w v ∷ Arguments w v 0 n ∷ []) w v n a b one other o refl refl
 
   -- the arguments of two compounds, one after another
   module _ (xs : List (Task W)) (w v : W) (i n : ℕ) (below : i < n) (left : IsCompound n (meaning p w)) (right : IsCompound n (meaning p v)) (a b : Tree)
       (one : a ≡ argument i (meaning p w)) (other : b ≡ argument i (meaning p v)) where
-    pub order-last : i + 1 ≡ n → order_left p (a ∷ []) (b ∷ []) xs ≡ order_left p [] [] (xs ++ Unify w v i n ∷ [])
+    pub order-last : i + 1 ≡ n → order_left p (a ∷ []) (b ∷ []) xs ≡ order_left p [] [] (xs ++ Arguments w v i n ∷ [])
     order-last last =
         sym (ap₂ (λ us vs. term_cmp (row us) (row vs)) (ones-last p xs w v i n below left right a b one other last) (others-last p xs w v i n below left right a b one other last))
 
-    pub order-more : (ys : List (Task W)) → ys ≡ xs ++ Unify w v (i + 1) n ∷ [] → order_left p (a ∷ []) (b ∷ []) ys ≡ order_left p [] [] (xs ++ Unify w v i n ∷ [])
+    pub order-more : (ys : List (Task W)) → ys ≡ xs ++ Arguments w v (i + 1) n ∷ [] → order_left p (a ∷ []) (b ∷ []) ys ≡ order_left p [] [] (xs ++ Arguments w v i n ∷ [])
     order-more ys more =
         sym (ap₂ (λ us vs. term_cmp (row us) (row vs)) (ones-more p xs w v i n below left right a b one other ys more) (others-more p xs w v i n below left right a b one other ys more))
 

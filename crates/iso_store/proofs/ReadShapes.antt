@@ -1,6 +1,5 @@
 -- What reading a part comes to that is no variable.
 use Rattle.std.proofs.Common.{◌≡◌, ◌≢◌, ℕ, ◌+◌, ◌-◌, ◌<◌, List, [], ◌∷◌, ◌++◌, length, map, Option, Some, None, true, refl, ap, ap₂, sym, ◌∙◌, subst, arith, append-nil, length-append}
-use Rattle.std.specs.List.{All}
 use Rattle.std.proofs.lemmas.List.{map-append, length-map}
 use Rattle.iso_atoms.specs.Texts.{text_at, EachOnce}
 use Rattle.iso_model.specs.Terms.Trees.{Tree, Variable, Integer, Name, Apply, row}
@@ -15,11 +14,11 @@ use Rattle.iso_store_core.specs.declared.shapes.Shape.{Shape}
 use Rattle.iso_store_core.specs.declared.shapes.Shape.TheVariants.{Var, Int, Atom, Compound}
 use Rattle.iso_store_core.specs.Arguments.{arguments, listed}
 use Rattle.iso_store_core.specs.Shapes.{IsShape}
-use Rattle.iso_store_core.specs.Presents.{Present, Holds, meaning}
+use Rattle.iso_store_core.specs.Presents.{Present, meaning}
 use Rattle.iso_store.specs.declared.reading.Later.{Later}
 use Rattle.iso_store.specs.Unifying.{IsCompound}
 use Rattle.iso_store.specs.Reading.{first_terms, IsRead, IsReadOn, MakesLeft, Shows}
-use Rattle.iso_store.proofs.UnifyLemmas.{All-front, row-of}
+use Rattle.iso_store.proofs.UnifyLemmas.{row-of}
 use Rattle.iso_store.proofs.ArgumentLemmas.{row_of_term}
 use Rattle.iso_store.proofs.Clashes.{never-compound, one-atom}
 use Rattle.iso_store.proofs.ReadingLemmas.{listed-row}
@@ -77,47 +76,48 @@ shape-constant names (Atom f) a b one other bound free = record { none = ap (λ 
 shape-constant names (Compound f n) a b one other bound free = absurd (free f n refl)
 
 -- ---- a part that is read for a word
-module _ {W : Type 0} (p : Present W) (names : List (List ℕ)) (ks : List Part) (n at : ℕ) (some : 0 < at) (shape : Shape) (us : List Tree) (a : Tree) (shows : Shows names ks at shape us a) (values : List (Option W)) (later : List (Later W)) (ws : List W) (w : W)
-    (so : IsRead p names ks n values later (ws ++ w ∷ []) at) where
+module _ {W : Type 0} (p : Present W) (names : List (List ℕ)) (ks : List Part) (n at : ℕ) (some : 0 < at) (shape : Shape) (us : List Tree) (a : Tree) (shows : Shows names ks at shape us a) (values : List (Option W)) (later : List (Later W)) (ws : List Tree) (w : W)
+    (so : IsRead p names ks n values later (ws ++ meaning p w ∷ []) at) where
   many-before : length ws ≡ length us
   many-before =
-      let one = length-append ws (w ∷ []) in
+      let one = length-append ws (meaning p w ∷ []) in
       let other = ap length shows.whole ∙ length-append us (a ∷ []) in
       omega (arith, so.many)
 
-  split-here : (next : ℕ) (s : Subst) → MakesLeft p names ks next s (ws ++ w ∷ []) (first_terms names ks at) → MakesLeft p names ks next s ws us × (apply s (meaning p w) ≡ apply s (renamed next a))
-  split-here next s made = left-split p names ks next s ws w us a (made ∙ ap (λ ts. map (apply s) (map (renamed next) ts)) shows.whole)
+  split-here : (next : ℕ) (s : Subst) → MakesLeft p names ks next s (ws ++ meaning p w ∷ []) (first_terms names ks at) → MakesLeft p names ks next s ws us × (apply s (meaning p w) ≡ apply s (renamed next a))
+  split-here next s made = left-split p names ks next s ws (meaning p w) us a (made ∙ ap (λ ts. map (apply s) (map (renamed next) ts)) shows.whole)
 
-  joined-here : (next : ℕ) (s : Subst) → MakesLeft p names ks next s ws us → apply s (meaning p w) ≡ apply s (renamed next a) → MakesLeft p names ks next s (ws ++ w ∷ []) (first_terms names ks at)
-  joined-here next s before here = left-joined p names ks next s ws w us a before here ∙ sym (ap (λ ts. map (apply s) (map (renamed next) ts)) shows.whole)
+  joined-here : (next : ℕ) (s : Subst) → MakesLeft p names ks next s ws us → apply s (meaning p w) ≡ apply s (renamed next a) → MakesLeft p names ks next s (ws ++ meaning p w ∷ []) (first_terms names ks at)
+  joined-here next s before here = left-joined p names ks next s ws (meaning p w) us a before here ∙ sym (ap (λ ts. map (apply s) (map (renamed next) ts)) shows.whole)
 
   -- nothing makes them equal
-  pub read-never : (found : Shape) → EachOnce names → IsShape names found (meaning p w) → is_term (meaning p w) ≡ true → ((x : ℕ) → found ≢ Var x) → found ≢ shape → (news : List (Option W)) (laters : List (Later W)) (lefts : List W)
-      → IsReadOn p names ks n values news later laters (ws ++ w ∷ []) lefts at None
-  read-never found once is sort free differ news laters lefts next s made =
+  pub read-never : (found : Shape) → EachOnce names → IsShape names found (meaning p w) → is_term (meaning p w) ≡ true → ((x : ℕ) → found ≢ Var x) → found ≢ shape → (news : List (Option W)) (laters : List (Later W)) (lefts : List Tree)
+      → IsReadOn p names ks n values news later laters (ws ++ meaning p w ∷ []) lefts at None
+  read-never found once is sort free differ news laters lefts next s solved =
       let r : Subst = λ x. Variable (next + x) in
       let other = shape-applied names shape a r shows.shows shows.term shows.bound in
       let sorted = term_applied r a shows.term (λ x o. refl) in
-      never-shapes names shape found (renamed next a) (meaning p w) once other is sorted sort (not-variable names shape a r shows.shows shows.term shows.bound) free differ s (sym (split-here next s made).1)
+      never-shapes names shape found (renamed next a) (meaning p w) once other is sorted sort (not-variable names shape a r shows.shows shows.term shows.bound) free differ s (sym (split-here next s solved.2).1)
 
   -- they are one constant
-  pub read-same : (found : Shape) → found ≡ shape → IsShape names found (meaning p w) → ((f m : ℕ) → shape ≢ Compound f m) → IsReadOn p names ks n values values later later (ws ++ w ∷ []) ws at (Some (at - 1))
+  pub read-same : (found : Shape) → found ≡ shape → IsShape names found (meaning p w) → ((f m : ℕ) → shape ≢ Compound f m) → IsReadOn p names ks n values values later later (ws ++ meaning p w ∷ []) ws at (Some (at - 1))
   read-same found same is free =
       let constant = shape-constant names shape a (meaning p w) shows.shows (subst (λ h. IsShape names h (meaning p w)) same is) shows.bound free in
       let rest : first_terms names ks (at - 1) ≡ us = shows.opened ∙ ap (λ ts. us ++ ts) constant.none ∙ append-nil us in
       let fewer : at - 1 < at = omega arith in (
         fewer,
         record {
-          within = omega (arith, so.within);
-          many_values = so.many_values;
-          held = so.held;
-          waiting = so.waiting;
-          cells = later-shape names ks later at shape us a shows so.cells;
-          words = All-front (Holds p) ws w so.words;
-          many = many-before ∙ sym (ap length rest);
+          read = record {
+            within = omega (arith, so.within);
+            many_values = so.many_values;
+            held = so.held;
+            waiting = so.waiting;
+            cells = later-shape names ks later at shape us a shows so.cells;
+            many = many-before ∙ sym (ap length rest);
+          };
+          ahead = λ next s solved. (solved.0, solved.1, rw rest (split-here next s solved.2).0);
+          back = λ next s solved. (solved.0, solved.1, joined-here next s (rw rest at solved.2) (constant.same (λ x. Variable (next + x)) s));
         },
-        (λ next s solved. (solved.0, solved.1, rw rest (split-here next s solved.2).0)),
-        (λ next s solved. (solved.0, solved.1, joined-here next s (rw rest at solved.2) (constant.same (λ x. Variable (next + x)) s))),
       )
 
   -- they are compounds of one name
@@ -132,41 +132,41 @@ module _ {W : Type 0} (p : Present W) (names : List (List ℕ)) (ks : List Part)
     unfolding other one shape-compound
     name = refl
 
-    pub read-arguments : (lefts : List W) → All (Holds p) lefts → map (meaning p) lefts ≡ map (meaning p) ws ++ listed (arguments (meaning p w))
-        → IsReadOn p names ks n values values later later (ws ++ w ∷ []) lefts at (Some (at - 1))
+    pub read-arguments : (lefts : List Tree) → lefts ≡ ws ++ listed (arguments (meaning p w))
+        → IsReadOn p names ks n values values later later (ws ++ meaning p w ∷ []) lefts at (Some (at - 1))
     unfolding other one shape-compound
-    read-arguments lefts hold more =
+    read-arguments lefts more =
         let A = one.1 in
         let B = other.1 in
         let args : listed (arguments a) ≡ A = ap (λ t. listed (arguments t)) one.2 ∙ listed-row A in
-        let words : map (meaning p) lefts ≡ map (meaning p) ws ++ B = more ∙ ap (λ ts. map (meaning p) ws ++ ts) (ap (λ t. listed (arguments t)) other.2 ∙ listed-row B) in
+        let words : lefts ≡ ws ++ B = more ∙ ap (λ ts. ws ++ ts) (ap (λ t. listed (arguments t)) other.2 ∙ listed-row B) in
         let rest : first_terms names ks (at - 1) ≡ us ++ A = shows.opened ∙ ap (λ ts. us ++ ts) args in
-        let long = sym (length-map lefts (meaning p)) ∙ ap length words ∙ length-append (map (meaning p) ws) B in
+        let long = ap length words ∙ length-append ws B in
         let long_rest = ap length rest ∙ length-append us A in
-        let many = length-map ws (meaning p) in
         let fewer : at - 1 < at = omega arith in (
           fewer,
           record {
-            within = omega (arith, so.within);
-            many_values = so.many_values;
-            held = so.held;
-            waiting = so.waiting;
-            cells = later-shape names ks later at shape us a shows so.cells;
-            words = hold;
-            many = omega (arith, many-before, one.3, other.3);
+            read = record {
+              within = omega (arith, so.within);
+              many_values = so.many_values;
+              held = so.held;
+              waiting = so.waiting;
+              cells = later-shape names ks later at shape us a shows so.cells;
+              many = omega (arith, many-before, one.3, other.3);
+            };
+            ahead = λ next s solved.
+                let parts = split-here next s solved.2 in
+                let both : Apply other.0 (row (map (apply s) B)) ≡ Apply one.0 (row (map (apply s) (map (renamed next) A))) =
+                sym (ap (apply s) other.2 ∙ ap (Apply other.0) (apply-row s B)) ∙ parts.1 ∙ ap (λ t. apply s (renamed next t)) one.2 ∙ ap (λ t. Apply one.0 (apply s t)) (apply-row (λ x. Variable (next + x)) A) ∙ ap (Apply one.0) (apply-row s (map (renamed next) A)) in
+                let rows : row (map (apply s) B) ≡ row (map (apply s) (map (renamed next) A)) = cc in
+                let lists = sym (listed-row (map (apply s) B)) ∙ ap listed rows ∙ listed-row (map (apply s) (map (renamed next) A)) in
+                (solved.0, solved.1, ap (map (apply s)) words ∙ map-append (apply s) ws B ∙ ap₂ ◌++◌ parts.0 lists ∙ sym (ap (λ ts. map (apply s) (map (renamed next) ts)) rest ∙ ap (map (apply s)) (map-append (renamed next) us A) ∙ map-append (apply s) (map (renamed next) us) (map (renamed next) A)));
+            back = λ next s solved.
+                let whole = sym (ap (map (apply s)) words ∙ map-append (apply s) ws B) ∙ solved.2 ∙ ap (λ ts. map (apply s) (map (renamed next) ts)) rest ∙ ap (map (apply s)) (map-append (renamed next) us A) ∙ map-append (apply s) (map (renamed next) us) (map (renamed next) A) in
+                let short = length-map ws (apply s) ∙ many-before ∙ sym (length-map (map (renamed next) us) (apply s) ∙ length-map us (renamed next)) in
+                let parts = parts-same _ _ _ _ short whole in
+                let here : apply s (meaning p w) ≡ apply s (renamed next a) =
+                ap (apply s) other.2 ∙ ap (Apply other.0) (apply-row s B) ∙ ap (λ ts. Apply other.0 (row ts)) parts.1 ∙ sym (ap (λ t. apply s (renamed next t)) one.2 ∙ ap (λ t. Apply one.0 (apply s t)) (apply-row (λ x. Variable (next + x)) A) ∙ ap (Apply one.0) (apply-row s (map (renamed next) A))) in
+                (solved.0, solved.1, joined-here next s parts.0 here);
           },
-          (λ next s solved.
-              let parts = split-here next s solved.2 in
-              let both : Apply other.0 (row (map (apply s) B)) ≡ Apply one.0 (row (map (apply s) (map (renamed next) A))) =
-              sym (ap (apply s) other.2 ∙ ap (Apply other.0) (apply-row s B)) ∙ parts.1 ∙ ap (λ t. apply s (renamed next t)) one.2 ∙ ap (λ t. Apply one.0 (apply s t)) (apply-row (λ x. Variable (next + x)) A) ∙ ap (Apply one.0) (apply-row s (map (renamed next) A)) in
-              let rows : row (map (apply s) B) ≡ row (map (apply s) (map (renamed next) A)) = cc in
-              let lists = sym (listed-row (map (apply s) B)) ∙ ap listed rows ∙ listed-row (map (apply s) (map (renamed next) A)) in
-              (solved.0, solved.1, ap (map (apply s)) words ∙ map-append (apply s) (map (meaning p) ws) B ∙ ap₂ ◌++◌ parts.0 lists ∙ sym (ap (λ ts. map (apply s) (map (renamed next) ts)) rest ∙ ap (map (apply s)) (map-append (renamed next) us A) ∙ map-append (apply s) (map (renamed next) us) (map (renamed next) A)))),
-          (λ next s solved.
-              let whole = sym (ap (map (apply s)) words ∙ map-append (apply s) (map (meaning p) ws) B) ∙ solved.2 ∙ ap (λ ts. map (apply s) (map (renamed next) ts)) rest ∙ ap (map (apply s)) (map-append (renamed next) us A) ∙ map-append (apply s) (map (renamed next) us) (map (renamed next) A) in
-              let short = length-map (map (meaning p) ws) (apply s) ∙ many ∙ many-before ∙ sym (length-map (map (renamed next) us) (apply s) ∙ length-map us (renamed next)) in
-              let parts = parts-same _ _ _ _ short whole in
-              let here : apply s (meaning p w) ≡ apply s (renamed next a) =
-              ap (apply s) other.2 ∙ ap (Apply other.0) (apply-row s B) ∙ ap (λ ts. Apply other.0 (row ts)) parts.1 ∙ sym (ap (λ t. apply s (renamed next t)) one.2 ∙ ap (λ t. Apply one.0 (apply s t)) (apply-row (λ x. Variable (next + x)) A) ∙ ap (Apply one.0) (apply-row s (map (renamed next) A))) in
-              (solved.0, solved.1, joined-here next s parts.0 here)),
         )

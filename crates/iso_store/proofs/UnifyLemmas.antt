@@ -14,7 +14,7 @@ use Rattle.iso_model.proofs.OnTerms.CostOfRows.{apply-row}
 use Rattle.iso_store.specs.declared.notes.Notes.{Notes}
 use Rattle.iso_store_core.specs.declared.shapes.StoreFault.{StoreFault}
 use Rattle.iso_store.specs.declared.unify.Task.{Task}
-use Rattle.iso_store.specs.declared.unify.Task.TheVariants.{Unify, Join}
+use Rattle.iso_store.specs.declared.unify.Task.TheVariants.{Arguments, Join}
 use Rattle.iso_store_core.specs.Presents.{Present, Holds, meaning, Binds, IsUnification}
 use Rattle.iso_store_core.specs.Arguments.{arity, argument, members_from, listed, arguments_from}
 use Rattle.iso_store.specs.Meetings.{IsMeeting}
@@ -61,7 +61,7 @@ compound-same n t u same c = (c.0, c.1, sym same ∙ c.2, c.3)
 
 -- ---- bindings
 pub pair-bound : {W : Type 0} {p q : Present W} {s : Subst} → Binds p q s → (k : Task W) → IsPair p k → IsPair q k
-pair-bound {s = s} bound (Unify w v i n) pair = (
+pair-bound {s = s} bound (Arguments w v i n) pair = (
   bound.words.stand w pair.0,
   bound.words.stand v pair.1,
   pair.2,
@@ -77,24 +77,24 @@ Picks {W} side = (P : W → Type 0) (w v : W) → P w → P v → P (side w v)
 module _ {W : Type 0} (p : Present W) where
   pub terms-append : (side : W → W → W) (now : List Tree) (xs ys : List (Task W)) → terms p side now (xs ++ ys) ≡ terms p side (terms p side now ys) xs
   terms-append side now [] ys = refl
-  terms-append side now (Unify w v i n ∷ xs) ys = ap (λ us. us ++ arguments_from i (meaning p (side w v))) (terms-append side now xs ys)
+  terms-append side now (Arguments w v i n ∷ xs) ys = ap (λ us. us ++ arguments_from i (meaning p (side w v))) (terms-append side now xs ys)
   terms-append side now (Join w v ∷ xs) ys = terms-append side now xs ys
 
   pub terms-now : (side : W → W → W) (now : List Tree) (xs : List (Task W)) → terms p side now xs ≡ now ++ terms p side [] xs
   terms-now side now [] = sym (append-nil now)
-  terms-now side now (Unify w v i n ∷ xs) =
+  terms-now side now (Arguments w v i n ∷ xs) =
       ap (λ us. us ++ arguments_from i (meaning p (side w v))) (terms-now side now xs) ∙ append_assoc now (terms p side [] xs) (arguments_from i (meaning p (side w v)))
   terms-now side now (Join w v ∷ xs) = terms-now side now xs
 
   pub sound-append : (us vs : List Tree) (xs ys : List (Task W)) → AreSound p (ones p us ys) (others p vs ys) xs → AreSound p us vs ys → AreSound p us vs (xs ++ ys)
   sound-append us vs [] ys front end = end
-  sound-append us vs (Unify w v i n ∷ xs) ys front end = sound-append us vs xs ys front end
+  sound-append us vs (Arguments w v i n ∷ xs) ys front end = sound-append us vs xs ys front end
   sound-append us vs (Join w v ∷ xs) ys front end =
       ((λ s e. front.0 s (subst₂ (MakesEqual s) (terms-append (λ one other. one) us xs ys) (terms-append (λ one other. other) vs xs ys) e)), sound-append us vs xs ys front.1 end)
 
   pub sound-parts : (us vs : List Tree) (xs ys : List (Task W)) → AreSound p us vs (xs ++ ys) → AreSound p (ones p us ys) (others p vs ys) xs × AreSound p us vs ys
   sound-parts us vs [] ys sound = (tt, sound)
-  sound-parts us vs (Unify w v i n ∷ xs) ys sound = sound-parts us vs xs ys sound
+  sound-parts us vs (Arguments w v i n ∷ xs) ys sound = sound-parts us vs xs ys sound
   sound-parts us vs (Join w v ∷ xs) ys sound =
       let parts = sound-parts us vs xs ys sound.1 in
       (((λ s e. sound.0 s (subst₂ (MakesEqual s) (sym (terms-append (λ one other. one) us xs ys)) (sym (terms-append (λ one other. other) vs xs ys)) e)), parts.0), parts.1)
@@ -102,7 +102,7 @@ module _ {W : Type 0} (p : Present W) where
   -- other terms stand before those of the tasks, and only what makes the first ones equal makes these equal
   pub sound-instead : (us vs cs ds : List Tree) (xs : List (Task W)) → length cs ≡ length ds → ((s : Subst) → MakesEqual s cs ds → MakesEqual s us vs) → AreSound p us vs xs → AreSound p cs ds xs
   sound-instead us vs cs ds [] same back sound = tt
-  sound-instead us vs cs ds (Unify w v i n ∷ xs) same back sound = sound-instead us vs cs ds xs same back sound
+  sound-instead us vs cs ds (Arguments w v i n ∷ xs) same back sound = sound-instead us vs cs ds xs same back sound
   sound-instead us vs cs ds (Join w v ∷ xs) same back sound = (
     (λ s e.
         let whole = subst₂ (MakesEqual s) (terms-now (λ one other. one) cs xs) (terms-now (λ one other. other) ds xs) e in
@@ -119,9 +119,9 @@ module _ {W : Type 0} {p q : Present W} {s : Subst} (bound : Binds p q s) where
 
   terms-bound : (side : W → W → W) → Picks side → (xs : List (Task W)) → All (IsPair p) xs → terms q side [] xs ≡ map (apply s) (terms p side [] xs)
   terms-bound side picks [] pairs = refl
-  terms-bound side picks (Unify w v i n ∷ xs) pairs =
-      let pair = All-head (IsPair p) (Unify w v i n) xs pairs in
-      let inner = terms-bound side picks xs (All-tail (IsPair p) (Unify w v i n) xs pairs) in
+  terms-bound side picks (Arguments w v i n ∷ xs) pairs =
+      let pair = All-head (IsPair p) (Arguments w v i n) xs pairs in
+      let inner = terms-bound side picks xs (All-tail (IsPair p) (Arguments w v i n) xs pairs) in
       let here = binds-meaning bound (side w v) (picks (Holds p) w v pair.0 pair.1) in
       let arguments = ap (arguments_from i) here ∙ arguments-applied i n (meaning p (side w v)) s (picks (λ u. IsCompound n (meaning p u)) w v pair.3 pair.4) in
       ap₂ ◌++◌ inner arguments ∙ sym (map-append (apply s) (terms p side [] xs) (arguments_from i (meaning p (side w v))))
@@ -139,7 +139,7 @@ module _ {W : Type 0} {p q : Present W} {s : Subst} (bound : Binds p q s) where
   -- the terms a and b are equal now
   pub sound-bound : (a b : Tree) → apply s a ≡ apply s b → (xs : List (Task W)) → All (IsPair p) xs → AreSound p (a ∷ []) (b ∷ []) xs → AreSound q [] [] xs
   sound-bound a b equal [] pairs sound = tt
-  sound-bound a b equal (Unify w v i n ∷ xs) pairs sound = sound-bound a b equal xs (All-tail (IsPair p) (Unify w v i n) xs pairs) sound
+  sound-bound a b equal (Arguments w v i n ∷ xs) pairs sound = sound-bound a b equal xs (All-tail (IsPair p) (Arguments w v i n) xs pairs) sound
   sound-bound a b equal (Join w v ∷ xs) pairs sound =
       let later = All-tail (IsPair p) (Join w v) xs pairs in
       let pair = All-head (IsPair p) (Join w v) xs pairs in (
@@ -199,9 +199,9 @@ opened n a b meets sort_a sort_b =
     }
 
 module _ {W : Type 0} (p : Present W) (xs ys zs : List (Task W)) (w v : W) (n : ℕ) (a b : Tree) (one : meaning p w ≡ a) (other : meaning p v ≡ b) (o : Opened n a b)
-    (first : ys ≡ xs ++ Join w v ∷ []) (second : zs ≡ ys ++ Unify w v 0 n ∷ []) where
-  both : zs ≡ xs ++ Join w v ∷ Unify w v 0 n ∷ []
-  both = second ∙ ap (λ ks. ks ++ Unify w v 0 n ∷ []) first ∙ append_assoc xs (Join w v ∷ []) (Unify w v 0 n ∷ [])
+    (first : ys ≡ xs ++ Join w v ∷ []) (second : zs ≡ ys ++ Arguments w v 0 n ∷ []) where
+  both : zs ≡ xs ++ Join w v ∷ Arguments w v 0 n ∷ []
+  both = second ∙ ap (λ ks. ks ++ Arguments w v 0 n ∷ []) first ∙ append_assoc xs (Join w v ∷ []) (Arguments w v 0 n ∷ [])
 
   left_arguments : arguments_from 0 (meaning p w) ≡ o.left
   left_arguments = arguments-compound 0 o.name o.left (meaning p w) (one ∙ o.left_is)
@@ -211,11 +211,11 @@ module _ {W : Type 0} (p : Present W) (xs ys zs : List (Task W)) (w v : W) (n : 
 
   pub ones-opened : ones p [] zs ≡ o.left ++ ones p [] xs
   ones-opened =
-      ap (ones p []) both ∙ terms-append p (λ one other. one) [] xs (Join w v ∷ Unify w v 0 n ∷ []) ∙ ap (λ us. ones p us xs) left_arguments ∙ terms-now p (λ one other. one) o.left xs
+      ap (ones p []) both ∙ terms-append p (λ one other. one) [] xs (Join w v ∷ Arguments w v 0 n ∷ []) ∙ ap (λ us. ones p us xs) left_arguments ∙ terms-now p (λ one other. one) o.left xs
 
   pub others-opened : others p [] zs ≡ o.right ++ others p [] xs
   others-opened =
-      ap (others p []) both ∙ terms-append p (λ one other. other) [] xs (Join w v ∷ Unify w v 0 n ∷ []) ∙ ap (λ us. others p us xs) right_arguments ∙ terms-now p (λ one other. other) o.right xs
+      ap (others p []) both ∙ terms-append p (λ one other. other) [] xs (Join w v ∷ Arguments w v 0 n ∷ []) ∙ ap (λ us. others p us xs) right_arguments ∙ terms-now p (λ one other. other) o.right xs
 
   pub ones-before : ones p (a ∷ []) xs ≡ Apply o.name (row o.left) ∷ ones p [] xs
   ones-before = terms-now p (λ one other. one) (a ∷ []) xs ∙ ap (λ t. t ∷ ones p [] xs) o.left_is
@@ -232,7 +232,7 @@ module _ {W : Type 0} (p : Present W) (xs ys zs : List (Task W)) (w v : W) (n : 
     bound = (Variable, rw (ones-before, others-before, ones-opened, others-opened) (left-opened o.name o.left o.right (ones p [] xs) (others p [] xs) same), binds-none p);
     falls = λ m measures.
         let less = measures.opened o.name o.left o.right (ones p [] xs) (others p [] xs) same in
-        let size : length zs ≡ length xs + 2 = ap length both ∙ omega (arith, length-append xs (Join w v ∷ Unify w v 0 n ∷ [])) in
+        let size : length zs ≡ length xs + 2 = ap length both ∙ omega (arith, length-append xs (Join w v ∷ Arguments w v 0 n ∷ [])) in
         rw (ones-before, others-before, ones-opened, others-opened) (omega arith);
   }
 
@@ -244,7 +244,7 @@ module _ {W : Type 0} (p : Present W) (xs ys zs : List (Task W)) (w v : W) (n : 
       let now = sound-instead p (a ∷ []) (b ∷ []) o.left o.right xs same (λ s e. let t : apply s a ≡ apply s b = makes-same s e in (cc)) sound in
       let front = subst₂ (λ us vs. AreSound p us vs xs) (sym left_arguments) (sym right_arguments) now in
       rw both
-      (sound-append p [] [] xs (Join w v ∷ Unify w v 0 n ∷ []) front
+      (sound-append p [] [] xs (Join w v ∷ Arguments w v 0 n ∷ []) front
       ((
         (λ s e.
             let inner : MakesEqual s o.left o.right = subst₂ (MakesEqual s) left_arguments right_arguments e in
@@ -256,7 +256,7 @@ module _ {W : Type 0} (p : Present W) (xs ys zs : List (Task W)) (w v : W) (n : 
   stands-opened at old new holds_w holds_v stands joins = record {
     pairs =
         rw second
-        (All-push (IsPair p) ys (Unify w v 0 n) (rw first (All-push (IsPair p) xs (Join w v) stands.pairs (holds_w, holds_v)))
+        (All-push (IsPair p) ys (Arguments w v 0 n) (rw first (All-push (IsPair p) xs (Join w v) stands.pairs (holds_w, holds_v)))
         (holds_w, holds_v, o.some, (o.name, o.left, one ∙ o.left_is, o.left_many), (o.name, o.right, other ∙ o.right_is, o.right_many)));
     sound = sound-opened stands.sound;
     joins = joins;
@@ -267,17 +267,17 @@ no_tasks xs n none is test e = nil_from_length xs (sym is ∙ eqb-true n 0 (sym 
 
 -- they alone are left, so they need not be joined
 module _ {W : Type 0} (p : Present W) (zs : List (Task W)) (w v : W) (n : ℕ) (a b : Tree) (one : meaning p w ≡ a) (other : meaning p v ≡ b) (o : Opened n a b)
-    (alone : zs ≡ Unify w v 0 n ∷ []) where
+    (alone : zs ≡ Arguments w v 0 n ∷ []) where
   pub steps-alone : Steps p p (a ∷ []) (b ∷ []) [] zs
   steps-alone =
-      let joined = steps-opened p [] (Join w v ∷ []) (Join w v ∷ Unify w v 0 n ∷ []) w v n a b one other o refl refl in
+      let joined = steps-opened p [] (Join w v ∷ []) (Join w v ∷ Arguments w v 0 n ∷ []) w v n a b one other o refl refl in
       rw alone (record { bound = joined.bound; falls = λ m measures. let less = joined.falls m measures in omega arith })
 
   pub stands-alone : (at : ℕ → Tree) (joined : Notes W) → p.holds w ≡ true → p.holds v ≡ true → AreJoined p at joined → Stands p at joined [] [] zs
   stands-alone at joined holds_w holds_v joins = record {
     pairs =
         rw alone
-        (All-push (IsPair p) [] (Unify w v 0 n) (λ k d below. absurd (omega arith))
+        (All-push (IsPair p) [] (Arguments w v 0 n) (λ k d below. absurd (omega arith))
         (holds_w, holds_v, o.some, (o.name, o.left, one ∙ o.left_is, o.left_many), (o.name, o.right, other ∙ o.right_is, o.right_many)));
     sound = rw alone tt;
     joins = joins;
@@ -286,11 +286,11 @@ module _ {W : Type 0} (p : Present W) (zs : List (Task W)) (w v : W) (n : ℕ) (
 -- ---- the arguments of two compounds, one after another
 module _ {W : Type 0} (p : Present W) (xs : List (Task W)) (w v : W) (i n : ℕ) (below : i < n) (left : IsCompound n (meaning p w)) (right : IsCompound n (meaning p v)) (a b : Tree)
     (one : a ≡ argument i (meaning p w)) (other : b ≡ argument i (meaning p v)) where
-  ones-popped : ones p [] (xs ++ Unify w v i n ∷ []) ≡ ones p (arguments_from i (meaning p w)) xs
-  ones-popped = terms-append p (λ one other. one) [] xs (Unify w v i n ∷ [])
+  ones-popped : ones p [] (xs ++ Arguments w v i n ∷ []) ≡ ones p (arguments_from i (meaning p w)) xs
+  ones-popped = terms-append p (λ one other. one) [] xs (Arguments w v i n ∷ [])
 
-  others-popped : others p [] (xs ++ Unify w v i n ∷ []) ≡ others p (arguments_from i (meaning p v)) xs
-  others-popped = terms-append p (λ one other. other) [] xs (Unify w v i n ∷ [])
+  others-popped : others p [] (xs ++ Arguments w v i n ∷ []) ≡ others p (arguments_from i (meaning p v)) xs
+  others-popped = terms-append p (λ one other. other) [] xs (Arguments w v i n ∷ [])
 
   left_more : arguments_from i (meaning p w) ≡ a ∷ arguments_from (i + 1) (meaning p w)
   left_more = arguments-more i n (meaning p w) a below (compound-arity n (meaning p w) left) one
@@ -299,7 +299,7 @@ module _ {W : Type 0} (p : Present W) (xs : List (Task W)) (w v : W) (i n : ℕ)
   right_more = arguments-more i n (meaning p v) b below (compound-arity n (meaning p v) right) other
 
   -- nothing makes these arguments equal
-  pub never-popped : NeverEqual a b → NeverEqual (row (ones p [] (xs ++ Unify w v i n ∷ []))) (row (others p [] (xs ++ Unify w v i n ∷ [])))
+  pub never-popped : NeverEqual a b → NeverEqual (row (ones p [] (xs ++ Arguments w v i n ∷ []))) (row (others p [] (xs ++ Arguments w v i n ∷ [])))
   never-popped never =
       rw (ones-popped, others-popped, terms-now p (λ one other. one) (arguments_from i (meaning p w)) xs, terms-now p (λ one other. other) (arguments_from i (meaning p v)) xs, left_more, right_more)
       (never_first a b _ _ never)
@@ -312,52 +312,52 @@ module _ {W : Type 0} (p : Present W) (xs : List (Task W)) (w v : W) (i n : ℕ)
     right_last : arguments_from i (meaning p v) ≡ b ∷ []
     right_last = arguments-last i n (meaning p v) b below (compound-arity n (meaning p v) right) other last
 
-    pub stands-last : (at : ℕ → Tree) (joined : Notes W) → Stands p at joined [] [] (xs ++ Unify w v i n ∷ []) → Stands p at joined (a ∷ []) (b ∷ []) xs
+    pub stands-last : (at : ℕ → Tree) (joined : Notes W) → Stands p at joined [] [] (xs ++ Arguments w v i n ∷ []) → Stands p at joined (a ∷ []) (b ∷ []) xs
     stands-last at joined stands = record {
-      pairs = All-front (IsPair p) xs (Unify w v i n) stands.pairs;
-      sound = subst₂ (λ us vs. AreSound p us vs xs) left_last right_last ((sound-parts p [] [] xs (Unify w v i n ∷ []) stands.sound).0);
+      pairs = All-front (IsPair p) xs (Arguments w v i n) stands.pairs;
+      sound = subst₂ (λ us vs. AreSound p us vs xs) left_last right_last ((sound-parts p [] [] xs (Arguments w v i n ∷ []) stands.sound).0);
       joins = stands.joins;
     }
 
-    pub ones-last : ones p [] (xs ++ Unify w v i n ∷ []) ≡ ones p (a ∷ []) xs
+    pub ones-last : ones p [] (xs ++ Arguments w v i n ∷ []) ≡ ones p (a ∷ []) xs
     ones-last = ones-popped ∙ ap (λ us. ones p us xs) left_last
 
-    pub others-last : others p [] (xs ++ Unify w v i n ∷ []) ≡ others p (b ∷ []) xs
+    pub others-last : others p [] (xs ++ Arguments w v i n ∷ []) ≡ others p (b ∷ []) xs
     others-last = others-popped ∙ ap (λ us. others p us xs) right_last
 
-    pub steps-last : (q : Present W) (new : List (Task W)) → Steps p q (a ∷ []) (b ∷ []) xs new → Steps p q [] [] (xs ++ Unify w v i n ∷ []) new
+    pub steps-last : (q : Present W) (new : List (Task W)) → Steps p q (a ∷ []) (b ∷ []) xs new → Steps p q [] [] (xs ++ Arguments w v i n ∷ []) new
     steps-last q new steps = record {
       bound = rw (ones-last, others-last) steps.bound;
       falls = λ m measures.
           let less = steps.falls m measures in
-          let size = length-append xs (Unify w v i n ∷ []) in
+          let size = length-append xs (Arguments w v i n ∷ []) in
           rw (ones-last, others-last) (omega arith);
     }
 
   -- others behind them
-  module _ (ys : List (Task W)) (more : ys ≡ xs ++ Unify w v (i + 1) n ∷ []) where
-    pub stands-more : (at : ℕ → Tree) (joined : Notes W) → i + 1 < n → Stands p at joined [] [] (xs ++ Unify w v i n ∷ []) → Stands p at joined (a ∷ []) (b ∷ []) ys
+  module _ (ys : List (Task W)) (more : ys ≡ xs ++ Arguments w v (i + 1) n ∷ []) where
+    pub stands-more : (at : ℕ → Tree) (joined : Notes W) → i + 1 < n → Stands p at joined [] [] (xs ++ Arguments w v i n ∷ []) → Stands p at joined (a ∷ []) (b ∷ []) ys
     stands-more at joined within stands =
-        let pair = All-last (IsPair p) xs (Unify w v i n) stands.pairs in
+        let pair = All-last (IsPair p) xs (Arguments w v i n) stands.pairs in
         rw more (record {
-          pairs = All-push (IsPair p) xs (Unify w v (i + 1) n) (All-front (IsPair p) xs (Unify w v i n) stands.pairs) (pair.0, pair.1, within, pair.3, pair.4);
-          sound = sound-append p (a ∷ []) (b ∷ []) xs (Unify w v (i + 1) n ∷ []) (subst₂ (λ us vs. AreSound p us vs xs) left_more right_more ((sound-parts p [] [] xs (Unify w v i n ∷ []) stands.sound).0)) tt;
+          pairs = All-push (IsPair p) xs (Arguments w v (i + 1) n) (All-front (IsPair p) xs (Arguments w v i n) stands.pairs) (pair.0, pair.1, within, pair.3, pair.4);
+          sound = sound-append p (a ∷ []) (b ∷ []) xs (Arguments w v (i + 1) n ∷ []) (subst₂ (λ us vs. AreSound p us vs xs) left_more right_more ((sound-parts p [] [] xs (Arguments w v i n ∷ []) stands.sound).0)) tt;
           joins = stands.joins;
         })
 
-    pub ones-more : ones p [] (xs ++ Unify w v i n ∷ []) ≡ ones p (a ∷ []) ys
-    ones-more = ones-popped ∙ ap (λ us. ones p us xs) left_more ∙ sym (ap (ones p (a ∷ [])) more ∙ terms-append p (λ one other. one) (a ∷ []) xs (Unify w v (i + 1) n ∷ []))
+    pub ones-more : ones p [] (xs ++ Arguments w v i n ∷ []) ≡ ones p (a ∷ []) ys
+    ones-more = ones-popped ∙ ap (λ us. ones p us xs) left_more ∙ sym (ap (ones p (a ∷ [])) more ∙ terms-append p (λ one other. one) (a ∷ []) xs (Arguments w v (i + 1) n ∷ []))
 
-    pub others-more : others p [] (xs ++ Unify w v i n ∷ []) ≡ others p (b ∷ []) ys
-    others-more = others-popped ∙ ap (λ us. others p us xs) right_more ∙ sym (ap (others p (b ∷ [])) more ∙ terms-append p (λ one other. other) (b ∷ []) xs (Unify w v (i + 1) n ∷ []))
+    pub others-more : others p [] (xs ++ Arguments w v i n ∷ []) ≡ others p (b ∷ []) ys
+    others-more = others-popped ∙ ap (λ us. others p us xs) right_more ∙ sym (ap (others p (b ∷ [])) more ∙ terms-append p (λ one other. other) (b ∷ []) xs (Arguments w v (i + 1) n ∷ []))
 
-    pub steps-more : (q : Present W) (new : List (Task W)) → Steps p q (a ∷ []) (b ∷ []) ys new → Steps p q [] [] (xs ++ Unify w v i n ∷ []) new
+    pub steps-more : (q : Present W) (new : List (Task W)) → Steps p q (a ∷ []) (b ∷ []) ys new → Steps p q [] [] (xs ++ Arguments w v i n ∷ []) new
     steps-more q new steps = record {
       bound = rw (ones-more, others-more) steps.bound;
       falls = λ m measures.
           let less = steps.falls m measures in
-          let old = length-append xs (Unify w v i n ∷ []) in
-          let pushed = ap length more ∙ length-append xs (Unify w v (i + 1) n ∷ []) in
+          let old = length-append xs (Arguments w v i n ∷ []) in
+          let pushed = ap length more ∙ length-append xs (Arguments w v (i + 1) n ∷ []) in
           rw (ones-more, others-more) (omega arith);
     }
 

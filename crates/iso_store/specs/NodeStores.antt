@@ -5,7 +5,7 @@ use Rattle.iso_model.specs.Terms.Trees.{Variable, End}
 use Rattle.iso_model.specs.Terms.Variables.{is_in}
 use Rattle.iso_store.specs.declared.nodes.Node.{Node}
 use Rattle.iso_store.specs.declared.nodes.Node.TheVariants.{Var, Int, Atom, Compound}
-use Rattle.iso_store.specs.declared.marks.NodesMark.{NodesMark}
+use Rattle.iso_store.specs.declared.node_marks.NodesMark.{NodesMark}
 use Rattle.iso_store_core.specs.Presents.{Present}
 use Rattle.iso_store.specs.NodeTerms.{term_at, substitution_of, bindings, all_may_bind}
 

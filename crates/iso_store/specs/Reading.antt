@@ -12,7 +12,32 @@ use Rattle.iso_store_core.specs.Arguments.{arguments, listed}
 use Rattle.iso_store_core.specs.Copying.{cells_of}
 use Rattle.iso_store_core.specs.Patterns.{IsPattern, HasPlaces, after_parts, at_places}
 use Rattle.iso_store_core.specs.Presents.{Present, Holds, meaning, KeepsWords, TakesFrom, Binds}
+use Rattle.iso_store.specs.Unifying.{IsCompound}
 use Rattle.iso_store.specs.declared.reading.Later.{Later}
+use Rattle.iso_store.specs.declared.reading.Unread.{Unread}
+use Rattle.iso_store.specs.declared.reading.NextPart.{NextPart}
+
+-- in a store that is so
+module _ {W : Type 0} (p : Present W) where
+  -- The word stands for a compound, of whose arguments so many are left to be read.
+  pub record HasArguments (word : W) (count : ℕ) : Type 0 where
+    pub holds : Holds p word
+    pub arity : ℕ
+    pub compound : IsCompound arity (meaning p word)
+    pub some : 0 < count
+    pub within : count ≤ arity
+
+  abbrev pub AreUnread : List (Unread W) → Type 0
+  AreUnread us = All (λ u. HasArguments u.word u.count) us
+
+  -- its first arguments, so many
+  abbrev pub first_arguments : W → ℕ → List Tree
+  first_arguments word count = take count (listed (arguments (meaning p word)))
+
+  -- the terms of the goal that are left to be read, the last one next
+  abbrev pub left_terms : List (Unread W) → List Tree
+  left_terms [] = []
+  left_terms (u ∷ us) = first_arguments u.word u.count ++ left_terms us
 
 -- where these are the names of the atoms, and these the parts of a pattern
 module _ (names : List (List ℕ)) (ks : List Part) where
@@ -53,14 +78,13 @@ module _ {W : Type 0} (p : Present W) (names : List (List ℕ)) (ks : List Part)
     pub fits : arities_fit (term_between names ks l.from l.past) ≡ true
     pub places : HasPlaces count (term_between names ks l.from l.past)
 
-  -- What holds while the head is read, where so many parts are left, and these words are to stand for their terms.
-  pub record IsRead (values : List (Option W)) (later : List (Later W)) (left : List W) (at : ℕ) : Type 0 where
+  -- What holds while the head is read, where so many parts are left, and these terms of the goal are to be equal to theirs.
+  pub record IsRead (values : List (Option W)) (later : List (Later W)) (left : List Tree) (at : ℕ) : Type 0 where
     pub within : at ≤ length ks
     pub many_values : length values ≡ count
     pub held : (x : ℕ) (w : W) → slice_get values x ≡ Some (Some w) → p.holds w ≡ true
     pub waiting : All IsLater later
     pub cells : LaterWithin names ks later at
-    pub words : All (Holds p) left
     pub many : length left ≡ length (first_terms names ks at)
 
 -- and its variables are numbered from this number on
@@ -73,21 +97,30 @@ module _ {W : Type 0} (p : Present W) (names : List (List ℕ)) (ks : List Part)
   abbrev pub MakesLater : Subst → List (Later W) → Type 0
   MakesLater s later = All (λ l. apply s (meaning p l.word) ≡ apply s (renamed next (term_between names ks l.from l.past))) later
 
-  -- it makes the words stand for the terms
-  abbrev pub MakesLeft : Subst → List W → List Tree → Type 0
-  MakesLeft s left ts = map (apply s) (map (meaning p) left) ≡ map (apply s) (map (renamed next) ts)
+  -- it makes the terms of the goal equal to those of the head
+  abbrev pub MakesLeft : Subst → List Tree → List Tree → Type 0
+  MakesLeft s left ts = map (apply s) left ≡ map (apply s) (map (renamed next) ts)
 
   -- it does all this, where so many parts are left
-  abbrev pub Solves : Subst → List (Option W) → List (Later W) → List W → ℕ → Type 0
+  abbrev pub Solves : Subst → List (Option W) → List (Later W) → List Tree → ℕ → Type 0
   Solves s values later left at = GivesValues s values × MakesLater s later × MakesLeft s left (first_terms names ks at)
 
--- What reading a part comes to: nothing makes the word and the part equal, or fewer parts are left, and the same substitutions solve what is left.
-abbrev pub IsReadOn : {W : Type 0} → Present W → List (List ℕ) → List Part → ℕ → List (Option W) → List (Option W) → List (Later W) → List (Later W) → List W → List W → ℕ → Option ℕ → Type 0
-IsReadOn p names ks count values news later laters left lefts at (Some rest) =
-    (rest < at) × IsRead p names ks count news laters lefts rest
-    × ((next : ℕ) (s : Subst) → Solves p names ks next s values later left at → Solves p names ks next s news laters lefts rest)
-    × ((next : ℕ) (s : Subst) → Solves p names ks next s news laters lefts rest → Solves p names ks next s values later left at)
-IsReadOn p names ks count values news later laters left lefts at None = (next : ℕ) (s : Subst) → MakesLeft p names ks next s left (first_terms names ks at) → ⊥
+-- From so many parts on, fewer are left: the same substitutions solve what is left.
+pub record IsReadTo {W : Type 0} (p : Present W) (names : List (List ℕ)) (ks : List Part) (count : ℕ) (values news : List (Option W)) (later laters : List (Later W)) (left lefts : List Tree) (at rest : ℕ) : Type 0 where
+  pub read : IsRead p names ks count news laters lefts rest
+  pub ahead : (next : ℕ) (s : Subst) → Solves p names ks next s values later left at → Solves p names ks next s news laters lefts rest
+  pub back : (next : ℕ) (s : Subst) → Solves p names ks next s news laters lefts rest → Solves p names ks next s values later left at
+
+-- What reading a part comes to: nothing makes it and the term of the goal equal, or fewer parts are left.
+abbrev pub IsReadOn : {W : Type 0} → Present W → List (List ℕ) → List Part → ℕ → List (Option W) → List (Option W) → List (Later W) → List (Later W) → List Tree → List Tree → ℕ → Option ℕ → Type 0
+IsReadOn p names ks count values news later laters left lefts at (Some rest) = (rest < at) × IsReadTo p names ks count values news later laters left lefts at rest
+IsReadOn p names ks count values news later laters left lefts at None = (next : ℕ) (s : Subst) → Solves p names ks next s values later left at → ⊥
+
+-- What is read next, where the variables before it were read: a part for this word, of so many parts that are left; or nothing is left.
+abbrev pub IsNext : {W : Type 0} → Present W → List (List ℕ) → List Part → ℕ → List (Option W) → List (Option W) → List (Later W) → List Tree → List Tree → ℕ → Option (NextPart W) → Type 0
+IsNext p names ks count values news later left lefts at (Some next) =
+    Holds p next.word × (next.at ≤ at) × IsReadTo p names ks count values news later later left (lefts ++ meaning p next.word ∷ []) at next.at
+IsNext p names ks count values news later left lefts at None = (rest : ℕ) × IsReadTo p names ks count values news later later left [] at rest
 
 -- The term a comes last of the first parts, so many, behind ts, and has this shape; its arguments come last of those before the last one.
 pub record Shows (names : List (List ℕ)) (ks : List Part) (at : ℕ) (shape : Shape) (ts : List Tree) (a : Tree) : Type 0 where
@@ -101,9 +134,9 @@ pub record Shows (names : List (List ℕ)) (ks : List Part) (at : ℕ) (shape : 
 abbrev pub IsHeadRead : {W : Type 0} → Present W → List (List ℕ) → List Part → ℕ → W → List (Option W) → List (Later W) → Bool → Type 0
 IsHeadRead p names ks count goal values later true =
     IsRead p names ks count values later [] 0
-    × ((next : ℕ) (s : Subst) → MakesLeft p names ks next s (goal ∷ []) (first_terms names ks (length ks)) → GivesValues p names ks next s values × MakesLater p names ks next s later)
-    × ((next : ℕ) (s : Subst) → GivesValues p names ks next s values → MakesLater p names ks next s later → MakesLeft p names ks next s (goal ∷ []) (first_terms names ks (length ks)))
-IsHeadRead p names ks count goal values later false = (next : ℕ) (s : Subst) → MakesLeft p names ks next s (goal ∷ []) (first_terms names ks (length ks)) → ⊥
+    × ((next : ℕ) (s : Subst) → MakesLeft p names ks next s (meaning p goal ∷ []) (first_terms names ks (length ks)) → GivesValues p names ks next s values × MakesLater p names ks next s later)
+    × ((next : ℕ) (s : Subst) → GivesValues p names ks next s values → MakesLater p names ks next s later → MakesLeft p names ks next s (meaning p goal ∷ []) (first_terms names ks (length ks)))
+IsHeadRead p names ks count goal values later false = (next : ℕ) (s : Subst) → MakesLeft p names ks next s (meaning p goal ∷ []) (first_terms names ks (length ks)) → ⊥
 
 -- the variable of this number is its value, where it has one
 abbrev pub value_bound : {W : Type 0} → Present W → ℕ → Option W → Subst

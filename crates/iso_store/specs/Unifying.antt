@@ -6,7 +6,7 @@ use Rattle.iso_model.specs.Terms.Substitutions.{Subst, apply, compose}
 use Rattle.iso_model.specs.Terms.Unifiers.{Unifier, NeverEqual}
 use Rattle.iso_store.specs.declared.notes.Notes.{Notes}
 use Rattle.iso_store.specs.declared.unify.Task.{Task}
-use Rattle.iso_store.specs.declared.unify.Task.TheVariants.{Unify, Join}
+use Rattle.iso_store.specs.declared.unify.Task.TheVariants.{Arguments, Join}
 use Rattle.iso_store_core.specs.Presents.{Present, Holds, meaning, Binds}
 use Rattle.iso_store_core.specs.Arguments.{arguments_from}
 use Rattle.iso_store.specs.Notes.{noted}
@@ -34,13 +34,13 @@ IsCompound n t = (f : List ℕ) × (ts : List Tree) × (t ≡ Apply f (row ts)) 
 module _ {W : Type 0} (p : Present W) where
   -- the words of the task stand for what it says
   abbrev pub IsPair : Task W → Type 0
-  IsPair (Unify one other index count) = Holds p one × Holds p other × (index < count) × IsCompound count (meaning p one) × IsCompound count (meaning p other)
+  IsPair (Arguments one other index count) = Holds p one × Holds p other × (index < count) × IsCompound count (meaning p one) × IsCompound count (meaning p other)
   IsPair (Join one other) = Holds p one × Holds p other
 
   -- The terms that are to be made equal, the next one first: these come before those of the tasks, on the one side or the other.
   abbrev pub terms : (W → W → W) → List Tree → List (Task W) → List Tree
   terms side now [] = now
-  terms side now (Unify one other index count ∷ tasks) = terms side now tasks ++ arguments_from index (meaning p (side one other))
+  terms side now (Arguments one other index count ∷ tasks) = terms side now tasks ++ arguments_from index (meaning p (side one other))
   terms side now (Join one other ∷ tasks) = terms side now tasks
 
   abbrev pub ones : List Tree → List (Task W) → List Tree
@@ -52,7 +52,7 @@ module _ {W : Type 0} (p : Present W) where
   -- where all that comes before a join is equal, the words of the join stand for equal terms
   abbrev pub AreSound : List Tree → List Tree → List (Task W) → Type 0
   AreSound us vs [] = Unit {0}
-  AreSound us vs (Unify one other index count ∷ tasks) = AreSound us vs tasks
+  AreSound us vs (Arguments one other index count ∷ tasks) = AreSound us vs tasks
   AreSound us vs (Join one other ∷ tasks) =
       ((s : Subst) → MakesEqual s (ones us tasks) (others vs tasks) → apply s (meaning p one) ≡ apply s (meaning p other)) × AreSound us vs tasks
 

@@ -11,7 +11,7 @@ ghost use Rattle.iso_store_core.specs.Arguments.{arity, argument};
 ghost use Rattle.iso_store_core.specs.Shapes.{IsShape};
 ghost use Rattle.iso_store.specs.Meetings.{IsYounger};
 
-use super::scratch::Kept;
+use super::scratch::Scratch;
 use iso_atoms::Atom;
 use iso_model::NoMemory;
 use iso_store_core::{Shape, StoreFault};
@@ -91,7 +91,7 @@ pub(crate) trait Cells {
     fn alloc(&self) -> Global;
 
     /// Exchanges the notes and lists that the store keeps for these.
-    fn swap_kept(&mut self, kept: &mut Option<Box<Kept<Self::Word>>>)
+    fn swap_scratch(&mut self, scratch: &mut Option<Box<Scratch<Self::Word>>>)
         ensures present { present self.new ≡ present self.old }
         ensures full { full self.old → full self.new }
         ensures names { names self.new ≡ names self.old }

@@ -14,7 +14,7 @@ use super::cells::Cells;
 use super::copies::variables_from;
 use super::instances::make_part;
 use super::plans::{MOST_VARIABLES, plan};
-use super::scratch::{Kept, keep, take_kept};
+use super::scratch::{Scratch, keep, take_scratch};
 use super::variables::variables_with;
 use iso_store_core::{Part, StoreFault};
 use std::alloc::Global;
@@ -92,7 +92,7 @@ fn plan_copy<C: Cells>(
     alloc: Global,
     store: &C,
     word: C::Word,
-    kept: &mut Kept<C::Word>,
+    scratch: &mut Scratch<C::Word>,
 ) -> Result<CopyPlan, StoreFault>
     requires { Holds (C.present store.now) word }
     ensures count { IfOk result (λ r. r.variables ≡ variable_count (meaning (C.present store.now) word)) }
@@ -100,12 +100,12 @@ fn plan_copy<C: Cells>(
     ensures plan { IfOk result (λ r. IsPlan (C.names store.now) (map Variable (variables (meaning (C.present store.now) word))) r.parts.items (meaning (C.present store.now) word)) }
     ensures error { OnErr result (result ≡ Err StoreFault.NoMemory) }
 {
-    let words = variables_with(alloc, store, word, &mut kept.scratch.searched)?;
+    let words = variables_with(alloc, store, word, &mut scratch.notes.searched)?;
     let variables = words.len();
     if variables > MOST_VARIABLES {
         return Err(StoreFault::NoMemory);
     }
-    let parts = plan(alloc, store, word, words, &mut kept.known)?;
+    let parts = plan(alloc, store, word, words, &mut scratch.known)?;
     Ok(CopyPlan { variables, parts })
 }
 
@@ -128,9 +128,9 @@ pub(crate) fn duplicate<C: Cells>(
     ensures names { C.names store.new ≡ C.names store.old }
     ensures marks { KeepsMarks (C.stands store.old) (C.stands store.new) }
 {
-    let mut kept = take_kept(store)?;
-    let planned = plan_copy(alloc, &*store, word, &mut kept);
-    keep(store, kept);
+    let mut scratch = take_scratch(store)?;
+    let planned = plan_copy(alloc, &*store, word, &mut scratch);
+    keep(store, scratch);
     let planned = planned?;
     let first = store.reserve(planned.variables as u64);
     let known = variables_from(alloc, store, first, planned.variables)?;

@@ -12,7 +12,7 @@ ghost use Rattle.iso_store.specs.Reading.{term_between, later_cells, IsLater, Ge
 use super::cells::Cells;
 use super::instances::make_parts;
 use super::reading::{Later, begin, read_head};
-use super::scratch::{Kept, Scratch, keep, take_kept};
+use super::scratch::{Scratch, UnifyNotes, keep, take_scratch};
 use super::unify::{Task, unify_made};
 use iso_store_core::{Pattern, StoreFault};
 
@@ -71,7 +71,7 @@ fn unify_part<C: Cells>(
     head: &Pattern,
     part: Later<C::Word>,
     words: &[C::Word],
-    scratch: &mut Scratch<C::Word>,
+    notes: &mut UnifyNotes<C::Word>,
     tasks: &mut Vec<Task<C::Word>>,
 ) -> Result<bool, StoreFault>
     requires later { IsLater (C.present store.old) (C.names store.old) head.now.parts.items (length words.now) part }
@@ -84,8 +84,8 @@ fn unify_part<C: Cells>(
     ensures marks { KeepsMarks (C.stands store.old) (C.stands store.new) }
 {
     let parts = &head.parts[part.from..part.past];
-    let made = make_parts(store, parts, words, &mut scratch.made)?;
-    unify_made(store, part.word, made, scratch, tasks)
+    let made = make_parts(store, parts, words, &mut notes.made)?;
+    unify_made(store, part.word, made, notes, tasks)
 }
 
 /// Whether all that was left for later can be unified with its words, which then is bound.
@@ -94,7 +94,7 @@ fn unify_later<C: Cells>(
     head: &Pattern,
     later: &[Later<C::Word>],
     words: &[C::Word],
-    scratch: &mut Scratch<C::Word>,
+    notes: &mut UnifyNotes<C::Word>,
     tasks: &mut Vec<Task<C::Word>>,
 ) -> Result<bool, StoreFault>
     requires later { All (IsLater (C.present store.old) (C.names store.old) head.now.parts.items (length words.now)) later.now }
@@ -108,7 +108,7 @@ fn unify_later<C: Cells>(
     ensures marks { KeepsMarks (C.stands store.old) (C.stands store.new) }
 {
     for part in later {
-        if !unify_part(store, head, *part, words, scratch, tasks)? {
+        if !unify_part(store, head, *part, words, notes, tasks)? {
             return Ok(false);
         }
     }
@@ -122,7 +122,7 @@ fn unify_head_with<C: Cells>(
     goal: C::Word,
     count: usize,
     words: &mut Vec<C::Word>,
-    kept: &mut Kept<C::Word>,
+    scratch: &mut Scratch<C::Word>,
 ) -> Result<bool, StoreFault>
     requires goal { Holds (C.present store.old) goal }
     requires head { (t : Tree) × IsPattern (C.names store.old) head.now.parts.items t × (arities_fit t ≡ true) × HasPlaces count t }
@@ -135,7 +135,7 @@ fn unify_head_with<C: Cells>(
     ensures marks { KeepsMarks (C.stands store.old) (C.stands store.new) }
 {
     let first = store.reserve(count as u64);
-    let reading = &mut kept.reading;
+    let reading = &mut scratch.reading;
     begin(reading, count)?;
     if !read_head(
         store,
@@ -153,8 +153,8 @@ fn unify_head_with<C: Cells>(
         head,
         reading.later.as_slice(),
         words.as_slice(),
-        &mut kept.scratch,
-        &mut kept.tasks,
+        &mut scratch.notes,
+        &mut scratch.tasks,
     )
 }
 
@@ -177,8 +177,8 @@ pub(crate) fn unify_head<C: Cells>(
     ensures names { C.names store.new ≡ C.names store.old }
     ensures marks { KeepsMarks (C.stands store.old) (C.stands store.new) }
 {
-    let mut kept = take_kept(store)?;
-    let met = unify_head_with(store, head, goal, count, words, &mut kept);
-    keep(store, kept);
+    let mut scratch = take_scratch(store)?;
+    let met = unify_head_with(store, head, goal, count, words, &mut scratch);
+    keep(store, scratch);
     met
 }

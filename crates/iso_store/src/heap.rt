@@ -25,7 +25,7 @@ use super::instances::instantiate;
 use super::order::compare;
 use super::patterns::{Places, written};
 use super::reaches::{farther_to, within};
-use super::scratch::Kept;
+use super::scratch::Scratch;
 use super::unify::unify;
 use super::variables::variables;
 use iso_area::Full;
@@ -51,7 +51,7 @@ pub struct Heap {
     /// No binding leads from a cell before its target to a target behind this place.
     forward: usize,
     /// What calls keep from one to the next, but while one has it.
-    kept: Option<Box<Kept<HeapWord>>>,
+    scratch: Option<Box<Scratch<HeapWord>>>,
     /// The words of a term that is made, which is empty between calls.
     words: Vec<HeapWord>,
     ghost is_heap: { IsHeap (take named atoms) area.low next } by { Prim.hlevel (props, IsBefore-prop, Settles-prop) },
@@ -105,7 +105,7 @@ impl Heap {
             area,
             newest: 0,
             forward: 0,
-            kept: Some(Box::new(alloc, Kept::new(alloc))?),
+            scratch: Some(Box::new(alloc, Scratch::new(alloc))?),
             words: Vec::new(alloc),
         })
     }
@@ -297,8 +297,8 @@ impl Cells for Heap {
         self.alloc
     }
 
-    fn swap_kept(&mut self, kept: &mut Option<Box<Kept<HeapWord>>>) {
-        mem::swap(&mut self.kept, kept);
+    fn swap_scratch(&mut self, scratch: &mut Option<Box<Scratch<HeapWord>>>) {
+        mem::swap(&mut self.scratch, scratch);
     }
 
     fn swap_words(&mut self, words: &mut Vec<HeapWord>) {

@@ -14,11 +14,11 @@ use super::copies::{build, copy_out};
 use super::duplicates::duplicate;
 use super::heads::unify_head;
 use super::instances::instantiate;
-use super::marks::{NodesMark, unwind};
+use super::node_marks::{NodesMark, unwind};
 use super::order::compare;
 use super::patterns::{Places, written};
 use super::reaches::{farther, within};
-use super::scratch::Kept;
+use super::scratch::Scratch;
 use super::unify::unify;
 use super::variables::variables;
 use iso_atoms::{Atom, Atoms};
@@ -52,7 +52,7 @@ pub struct Nodes {
     /// No binding leads from a place before its target to a target behind this place.
     forward: usize,
     /// What calls keep from one to the next, but while one has it.
-    kept: Option<Box<Kept<usize>>>,
+    scratch: Option<Box<Scratch<usize>>>,
     /// The words of a term that is made, which is empty between calls.
     words: Vec<usize>,
     ghost is_store: { IsStore atoms nodes.items trail.items next },
@@ -73,7 +73,7 @@ impl Nodes {
             nodes: Vec::new(alloc),
             trail: Vec::new(alloc),
             forward: 0,
-            kept: Some(Box::new(alloc, Kept::new(alloc))?),
+            scratch: Some(Box::new(alloc, Scratch::new(alloc))?),
             words: Vec::new(alloc),
         })
     }
@@ -194,8 +194,8 @@ impl Cells for Nodes {
         self.alloc
     }
 
-    fn swap_kept(&mut self, kept: &mut Option<Box<Kept<usize>>>) {
-        mem::swap(&mut self.kept, kept);
+    fn swap_scratch(&mut self, scratch: &mut Option<Box<Scratch<usize>>>) {
+        mem::swap(&mut self.scratch, scratch);
     }
 
     fn swap_words(&mut self, words: &mut Vec<usize>) {

@@ -16,7 +16,7 @@ ghost use Rattle.iso_store.specs.Comparing.{IsComparison, order_left};
 use super::cells::Cells;
 use super::joins::join;
 use super::notes::Notes;
-use super::scratch::{keep, take_kept};
+use super::scratch::{keep, take_scratch};
 use super::unify::{Task, leave_arguments};
 use iso_atoms::Atom;
 use iso_model::NoMemory;
@@ -149,19 +149,19 @@ fn compare_arguments<C: Cells>(
     joined: &mut Notes<C::Word>,
     tasks: &mut Vec<Task<C::Word>>,
 ) -> Result<Ordering, NoMemory>
-    requires pair { IsPair (C.present store.now) (Task.Unify one other index count) }
-    requires stands { Stands (C.present store.now) (C.at_place store.now) joined.old [] [] (tasks.old.items ++ Task.Unify one other index count ∷ []) }
+    requires pair { IsPair (C.present store.now) (Task.Arguments one other index count) }
+    requires stands { Stands (C.present store.now) (C.at_place store.now) joined.old [] [] (tasks.old.items ++ Task.Arguments one other index count ∷ []) }
     ensures stands { IfOk result (λ o. o ≡ Ordering.Equal → Stands (C.present store.now) (C.at_place store.now) joined.new [] [] tasks.new.items) }
-    ensures steps { IfOk result (λ o. o ≡ Ordering.Equal → Steps (C.present store.now) (C.present store.now) [] [] (tasks.old.items ++ Task.Unify one other index count ∷ []) tasks.new.items) }
+    ensures steps { IfOk result (λ o. o ≡ Ordering.Equal → Steps (C.present store.now) (C.present store.now) [] [] (tasks.old.items ++ Task.Arguments one other index count ∷ []) tasks.new.items) }
     ensures order { IfOk result (λ o. ordering_then o (order_left (C.present store.now) [] [] tasks.new.items)
-        ≡ order_left (C.present store.now) [] [] (tasks.old.items ++ Task.Unify one other index count ∷ [])) }
+        ≡ order_left (C.present store.now) [] [] (tasks.old.items ++ Task.Arguments one other index count ∷ [])) }
 {
     let first = store.arg(one, index);
     let second = store.arg(other, index);
     if index + 1 == count {
         return compare_next(store, first, second, joined, tasks);
     }
-    tasks.push(Task::Unify(one, other, index + 1, count))?;
+    tasks.push(Task::Arguments(one, other, index + 1, count))?;
     compare_next(store, first, second, joined, tasks)
 }
 
@@ -180,7 +180,7 @@ fn do_task<C: Cells>(
         ≡ order_left (C.present store.now) [] [] (tasks.old.items ++ task ∷ [])) }
 {
     match task {
-        Task::Unify(one, other, index, count) => {
+        Task::Arguments(one, other, index, count) => {
             compare_arguments(store, one, other, index, count, joined, tasks)
         }
         Task::Join(one, other) => {
@@ -230,15 +230,15 @@ pub(crate) fn compare<C: Cells>(
     ensures names { C.names store.new ≡ C.names store.old }
     ensures marks { KeepsMarks (C.stands store.old) (C.stands store.new) }
 {
-    let mut kept = take_kept(store)?;
-    let inside = &mut *kept;
+    let mut scratch = take_scratch(store)?;
+    let inside = &mut *scratch;
     let answer = compare_with(
         store,
         one,
         other,
-        &mut inside.scratch.joined,
+        &mut inside.notes.joined,
         &mut inside.tasks,
     );
-    keep(store, kept);
+    keep(store, scratch);
     answer
 }

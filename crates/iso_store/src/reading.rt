@@ -1,13 +1,14 @@
 //! Reading the head of a clause against a goal (7.7.10): which variables have a part of the goal as their value, and what is
 //! left to be unified.
-ghost use Rattle.std.specs.Prelude.{◌≡◌, ℕ, List, ◌-◌, ◌<◌, ◌≤◌, ◌∷◌, [], ◌++◌, IfOk, OnOk, Some, None, length, map, true};
+ghost use Rattle.std.specs.Prelude.{◌≡◌, ℕ, List, ◌+◌, ◌-◌, ◌<◌, ◌≤◌, ◌∷◌, [], ◌++◌, IfOk, OnOk, Some, None, length, map, true};
 ghost use Rattle.std.specs.List.{All, slice_get};
 ghost use Rattle.iso_model.specs.Terms.Trees.{Tree, Variable, arities_fit};
 ghost use Rattle.iso_store_core.specs.Presents.{Holds, meaning};
 ghost use Rattle.iso_store_core.specs.Arguments.{arguments, listed};
 ghost use Rattle.iso_store_core.specs.Patterns.{IsNamed, IsPattern, HasPlaces};
 ghost use Rattle.iso_store.specs.Unifying.{IsCompound};
-ghost use Rattle.iso_store.specs.Reading.{first_terms, IsBetween, IsRead, IsReadOn, IsHeadRead, Shows};
+ghost use Rattle.iso_store.specs.Reading.{HasArguments, AreUnread, first_arguments, left_terms, first_terms, IsBetween, IsRead, IsReadTo, IsReadOn, IsNext, IsHeadRead, Shows};
+ghost use Rattle.iso_store.specs.declared.reading.Later as waiting;
 
 use super::cells::Cells;
 use iso_model::NoMemory;
@@ -21,6 +22,20 @@ pub(crate) struct Later<W: Copy> {
     pub(crate) past: usize,
 }
 
+/// A compound whose first arguments, so many, are left to be read, the last of them next.
+#[derive(Clone, Copy)]
+pub(crate) struct Unread<W: Copy> {
+    pub(crate) word: W,
+    pub(crate) count: usize,
+}
+
+/// The part before this place is to be read for the word.
+#[derive(Clone, Copy)]
+pub(crate) struct NextPart<W: Copy> {
+    pub(crate) word: W,
+    pub(crate) at: usize,
+}
+
 /// What reading a head against a goal finds.
 #[derive(Drop)]
 pub(crate) struct Reading<W: Copy> {
@@ -28,8 +43,8 @@ pub(crate) struct Reading<W: Copy> {
     pub(crate) values: Vec<Option<W>>,
     /// What is to be unified when all is read.
     pub(crate) later: Vec<Later<W>>,
-    /// The words that are left to be read, the last one next.
-    pub(crate) left: Vec<W>,
+    /// The compounds of the goal with arguments that are left to be read, the last one next.
+    pub(crate) left: Vec<Unread<W>>,
 }
 
 /// No variable of so many has a value, and nothing is to be done.
@@ -65,25 +80,23 @@ fn start_of(head: &Pattern, past: usize) -> usize
     from
 }
 
-/// Leaves the arguments of the compound of so many to be read, the last one next.
+/// Leaves the first arguments of the compound, so many, to be read, the last of them next.
 fn leave_arguments<C: Cells>(
     store: &C,
     word: C::Word,
     count: usize,
-    left: &mut Vec<C::Word>,
+    left: &mut Vec<Unread<C::Word>>,
 ) -> Result<(), NoMemory>
     requires word { Holds (C.present store.now) word }
-    requires compound { IsCompound count (meaning (C.present store.now) word) }
-    requires left { All (Holds (C.present store.now)) left.old.items }
-    ensures left { OnOk result (All (Holds (C.present store.now)) left.new.items) }
-    ensures arguments { OnOk result (map (meaning (C.present store.now)) left.new.items
-        ≡ map (meaning (C.present store.now)) left.old.items ++ listed (arguments (meaning (C.present store.now) word))) }
+    requires compound { (n : ℕ) × IsCompound n (meaning (C.present store.now) word) × (count ≤ n) }
+    requires left { AreUnread (C.present store.now) left.old.items }
+    ensures terms { OnOk result (left_terms (C.present store.now) left.new.items ≡ left_terms (C.present store.now) left.old.items ++ first_arguments (C.present store.now) word count) }
+    ensures left { OnOk result (AreUnread (C.present store.now) left.new.items) }
 {
-    let mut index = 0;
-    while index < count {
-        left.push(store.arg(word, index))?;
-        index += 1;
+    if count == 0 {
+        return Ok(());
     }
+    left.push(Unread { word, count })?;
     Ok(())
 }
 
@@ -97,14 +110,17 @@ fn read_shape<C: Cells>(
     word: C::Word,
     values: &mut Vec<Option<C::Word>>,
     later: &mut Vec<Later<C::Word>>,
-    left: &mut Vec<C::Word>,
+    left: &mut Vec<Unread<C::Word>>,
 ) -> Result<Option<usize>, NoMemory>
     requires count { (t : Tree) × IsPattern (C.names store.now) head.now.parts.items t × (arities_fit t ≡ true) × HasPlaces (length values.old.items) t }
     requires some { 0 < at }
+    requires word { Holds (C.present store.now) word }
+    requires left { AreUnread (C.present store.now) left.old.items }
     requires shows { (ts : List Tree) × (a : Tree) × Shows (C.names store.now) head.now.parts.items at shape ts a }
-    requires read { IsRead (C.present store.now) (C.names store.now) head.now.parts.items (length values.old.items) values.old.items later.old.items (left.old.items ++ word ∷ []) at }
+    requires read { IsRead (C.present store.now) (C.names store.now) head.now.parts.items (length values.old.items) values.old.items later.old.items (left_terms (C.present store.now) left.old.items ++ meaning (C.present store.now) word ∷ []) at }
     ensures read { IfOk result (IsReadOn (C.present store.now) (C.names store.now) head.now.parts.items (length values.old.items)
-        values.old.items values.new.items later.old.items later.new.items (left.old.items ++ word ∷ []) left.new.items at) }
+        values.old.items values.new.items later.old.items later.new.items (left_terms (C.present store.now) left.old.items ++ meaning (C.present store.now) word ∷ []) (left_terms (C.present store.now) left.new.items) at) }
+    ensures left { OnOk result (AreUnread (C.present store.now) left.new.items) }
 {
     let found = store.shape(word);
     if let Shape::Var(_) = found {
@@ -138,15 +154,16 @@ fn read_variable<C: Cells>(
     word: C::Word,
     values: &mut Vec<Option<C::Word>>,
     later: &mut Vec<Later<C::Word>>,
-    left: &Vec<C::Word>,
+    left: &Vec<Unread<C::Word>>,
 ) -> Result<Option<usize>, NoMemory>
     requires count { (t : Tree) × IsPattern (C.names store.now) head.now.parts.items t × (arities_fit t ≡ true) × HasPlaces (length values.old.items) t }
     requires some { 0 < at }
+    requires word { Holds (C.present store.now) word }
     requires place { place < length values.old.items }
     requires variable { first_terms (C.names store.now) head.now.parts.items at ≡ first_terms (C.names store.now) head.now.parts.items (at - 1) ++ Variable place ∷ [] }
-    requires read { IsRead (C.present store.now) (C.names store.now) head.now.parts.items (length values.old.items) values.old.items later.old.items (left.now.items ++ word ∷ []) at }
+    requires read { IsRead (C.present store.now) (C.names store.now) head.now.parts.items (length values.old.items) values.old.items later.old.items (left_terms (C.present store.now) left.now.items ++ meaning (C.present store.now) word ∷ []) at }
     ensures read { IfOk result (IsReadOn (C.present store.now) (C.names store.now) head.now.parts.items (length values.old.items)
-        values.old.items values.new.items later.old.items later.new.items (left.now.items ++ word ∷ []) left.now.items at) }
+        values.old.items values.new.items later.old.items later.new.items (left_terms (C.present store.now) left.now.items ++ meaning (C.present store.now) word ∷ []) (left_terms (C.present store.now) left.now.items) at) }
 {
     match values[place] {
         None => {
@@ -173,13 +190,16 @@ fn read_part<C: Cells>(
     word: C::Word,
     values: &mut Vec<Option<C::Word>>,
     later: &mut Vec<Later<C::Word>>,
-    left: &mut Vec<C::Word>,
+    left: &mut Vec<Unread<C::Word>>,
 ) -> Result<Option<usize>, NoMemory>
     requires count { (t : Tree) × IsPattern (C.names store.now) head.now.parts.items t × (arities_fit t ≡ true) × HasPlaces (length values.old.items) t }
     requires some { 0 < at }
-    requires read { IsRead (C.present store.now) (C.names store.now) head.now.parts.items (length values.old.items) values.old.items later.old.items (left.old.items ++ word ∷ []) at }
+    requires word { Holds (C.present store.now) word }
+    requires left { AreUnread (C.present store.now) left.old.items }
+    requires read { IsRead (C.present store.now) (C.names store.now) head.now.parts.items (length values.old.items) values.old.items later.old.items (left_terms (C.present store.now) left.old.items ++ meaning (C.present store.now) word ∷ []) at }
     ensures read { IfOk result (IsReadOn (C.present store.now) (C.names store.now) head.now.parts.items (length values.old.items)
-        values.old.items values.new.items later.old.items later.new.items (left.old.items ++ word ∷ []) left.new.items at) }
+        values.old.items values.new.items later.old.items later.new.items (left_terms (C.present store.now) left.old.items ++ meaning (C.present store.now) word ∷ []) (left_terms (C.present store.now) left.new.items) at) }
+    ensures left { OnOk result (AreUnread (C.present store.now) left.new.items) }
 {
     match head.parts[at - 1] {
         Part::Variable(place) => read_variable(store, head, at, place, word, values, later, left),
@@ -214,6 +234,77 @@ fn read_part<C: Cells>(
     }
 }
 
+/// Reads the parts before this place that are variables without a value, for the arguments that are left of a compound, the last one first:
+/// each is its variable's value. How many arguments and how many parts are left.
+fn read_variables<C: Cells>(
+    store: &C,
+    head: &Pattern,
+    past: usize,
+    word: C::Word,
+    many: usize,
+    values: &mut Vec<Option<C::Word>>,
+) -> (usize, usize)
+    requires unread { HasArguments (C.present store.now) word many }
+    requires count { (t : Tree) × IsPattern (C.names store.now) head.now.parts.items t × (arities_fit t ≡ true) × HasPlaces (length values.old.items) t }
+    requires read { (front : List Tree) × (later : List (waiting.Later C.Word)) × IsRead (C.present store.now) (C.names store.now) head.now.parts.items (length values.old.items) values.old.items later
+        (front ++ first_arguments (C.present store.now) word many) past }
+    ensures read { (front : List Tree) (later : List (waiting.Later C.Word)) → IsRead (C.present store.now) (C.names store.now) head.now.parts.items (length values.old.items) values.old.items later
+        (front ++ first_arguments (C.present store.now) word many) past
+        → IsReadTo (C.present store.now) (C.names store.now) head.now.parts.items (length values.old.items) values.old.items values.new.items later later
+        (front ++ first_arguments (C.present store.now) word many) (front ++ first_arguments (C.present store.now) word result.0) past result.1 }
+    ensures values { length values.new.items ≡ length values.old.items }
+    ensures fewer { result.0 ≤ many }
+    ensures parts { result.1 + many ≡ past + result.0 }
+{
+    let mut count = many;
+    let mut at = past;
+    while count > 0 {
+        let Part::Variable(place) = head.parts[at - 1] else {
+            return (count, at);
+        };
+        match values[place] {
+            None => values[place] = Some(store.arg(word, count - 1)),
+            Some(_) => return (count, at),
+        }
+        count -= 1;
+        at -= 1;
+    }
+    (count, at)
+}
+
+/// Reads the parts before this place that are variables without a value, for what is left of the goal, as far as they go: the word that another
+/// part is to be read for, and its place; nothing where no part is left.
+fn next_word<C: Cells>(
+    store: &C,
+    head: &Pattern,
+    past: usize,
+    values: &mut Vec<Option<C::Word>>,
+    left: &mut Vec<Unread<C::Word>>,
+) -> Result<Option<NextPart<C::Word>>, NoMemory>
+    requires left { AreUnread (C.present store.now) left.old.items }
+    requires count { (t : Tree) × IsPattern (C.names store.now) head.now.parts.items t × (arities_fit t ≡ true) × HasPlaces (length values.old.items) t }
+    requires read { (later : List (waiting.Later C.Word)) × IsRead (C.present store.now) (C.names store.now) head.now.parts.items (length values.old.items) values.old.items later (left_terms (C.present store.now) left.old.items) past }
+    ensures read { IfOk result (λ next. (later : List (waiting.Later C.Word))
+        → IsRead (C.present store.now) (C.names store.now) head.now.parts.items (length values.old.items) values.old.items later (left_terms (C.present store.now) left.old.items) past
+        → IsNext (C.present store.now) (C.names store.now) head.now.parts.items (length values.old.items) values.old.items values.new.items later (left_terms (C.present store.now) left.old.items) (left_terms (C.present store.now) left.new.items) past next) }
+    ensures left { OnOk result (AreUnread (C.present store.now) left.new.items) }
+    ensures values { OnOk result (length values.new.items ≡ length values.old.items) }
+{
+    let mut at = past;
+    while let Some(unread) = left.pop() {
+        let (count, rest) = read_variables(store, head, at, unread.word, unread.count, values);
+        if count > 0 {
+            leave_arguments(store, unread.word, count - 1, left)?;
+            return Ok(Some(NextPart {
+                word: store.arg(unread.word, count - 1),
+                at: rest,
+            }));
+        }
+        at = rest;
+    }
+    Ok(None)
+}
+
 /// Reads the head for the goal, from the last part on: which variables have values, and what is to be unified later. False where
 /// nothing makes them equal.
 pub(crate) fn read_head<C: Cells>(
@@ -222,7 +313,7 @@ pub(crate) fn read_head<C: Cells>(
     goal: C::Word,
     values: &mut Vec<Option<C::Word>>,
     later: &mut Vec<Later<C::Word>>,
-    left: &mut Vec<C::Word>,
+    left: &mut Vec<Unread<C::Word>>,
 ) -> Result<bool, NoMemory>
     requires goal { Holds (C.present store.now) goal }
     requires count { (t : Tree) × IsPattern (C.names store.now) head.now.parts.items t × (arities_fit t ≡ true) × HasPlaces (length values.old.items) t }
@@ -231,13 +322,16 @@ pub(crate) fn read_head<C: Cells>(
     requires left { left.old.items ≡ [] }
     ensures read { IfOk result (IsHeadRead (C.present store.now) (C.names store.now) head.now.parts.items (length values.old.items) goal values.new.items later.new.items) }
 {
-    left.push(goal)?;
+    let mut word = goal;
     let mut at = head.parts.len();
-    while let Some(word) = left.pop() {
+    loop {
         let Some(rest) = read_part(store, head, at, word, values, later, left)? else {
             return Ok(false);
         };
-        at = rest;
+        let Some(next) = next_word(store, head, rest, values, left)? else {
+            return Ok(true);
+        };
+        word = next.word;
+        at = next.at;
     }
-    Ok(true)
 }

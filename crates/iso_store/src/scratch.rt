@@ -12,7 +12,7 @@ use std::alloc::Global;
 
 /// What unifying notes of the places of a store, and makes in it.
 #[derive(Drop)]
-pub(crate) struct Scratch<W: Copy> {
+pub(crate) struct UnifyNotes<W: Copy> {
     /// The places that a search for a variable is through with.
     pub(crate) searched: Notes<()>,
     /// What is left to do of such a search.
@@ -26,8 +26,9 @@ pub(crate) struct Scratch<W: Copy> {
 /// The notes and lists, which a store keeps between calls, so that none of them begins by making as many notes as the store has
 /// places, or asks for memory for what is left to do.
 #[derive(Drop)]
-pub(crate) struct Kept<W: Copy> {
-    pub(crate) scratch: Scratch<W>,
+pub(crate) struct Scratch<W: Copy> {
+    /// What unifying notes of places.
+    pub(crate) notes: UnifyNotes<W>,
     /// What is left to do of making terms equal, or of comparing them.
     pub(crate) tasks: Vec<Task<W>>,
     /// For the place of a term that is known to a plan of a copy, its place among these.
@@ -35,11 +36,11 @@ pub(crate) struct Kept<W: Copy> {
     pub(crate) reading: Reading<W>,
 }
 
-impl<W: Copy> Kept<W> {
+impl<W: Copy> Scratch<W> {
     /// No notes, and nothing to do.
-    pub(crate) fn new(alloc: Global) -> Kept<W> {
-        Kept {
-            scratch: Scratch {
+    pub(crate) fn new(alloc: Global) -> Scratch<W> {
+        Scratch {
+            notes: UnifyNotes {
                 searched: Notes::new(alloc),
                 searches: Vec::new(alloc),
                 joined: Notes::new(alloc),
@@ -57,26 +58,26 @@ impl<W: Copy> Kept<W> {
 }
 
 /// Takes the notes and lists out of the store; new ones, where it keeps none. The error is that memory was refused for these.
-pub(crate) fn take_kept<C: Cells>(store: &mut C) -> Result<Box<Kept<C::Word>>, NoMemory>
+pub(crate) fn take_scratch<C: Cells>(store: &mut C) -> Result<Box<Scratch<C::Word>>, NoMemory>
     ensures present { C.present store.new ≡ C.present store.old }
     ensures names { C.names store.new ≡ C.names store.old }
     ensures marks { KeepsMarks (C.stands store.old) (C.stands store.new) }
 {
-    let mut kept = None;
-    store.swap_kept(&mut kept);
-    match kept {
-        Some(kept) => Ok(kept),
-        None => Ok(Box::new(store.alloc(), Kept::new(store.alloc()))?),
+    let mut scratch = None;
+    store.swap_scratch(&mut scratch);
+    match scratch {
+        Some(scratch) => Ok(scratch),
+        None => Ok(Box::new(store.alloc(), Scratch::new(store.alloc()))?),
     }
 }
 
 /// Gives the store these notes and lists to keep.
-pub(crate) fn keep<C: Cells>(store: &mut C, kept: Box<Kept<C::Word>>)
+pub(crate) fn keep<C: Cells>(store: &mut C, scratch: Box<Scratch<C::Word>>)
     ensures present { C.present store.new ≡ C.present store.old }
     ensures full { C.full store.old → C.full store.new }
     ensures names { C.names store.new ≡ C.names store.old }
     ensures marks { KeepsMarks (C.stands store.old) (C.stands store.new) }
 {
-    let mut kept = Some(kept);
-    store.swap_kept(&mut kept);
+    let mut scratch = Some(scratch);
+    store.swap_scratch(&mut scratch);
 }

@@ -17,7 +17,7 @@ use super::joins::{are_at_one_place, end_of_joins, join};
 use super::meetings::{Meeting, meet};
 use super::notes::Notes;
 use super::occurs::occurs;
-use super::scratch::{Scratch, keep, take_kept};
+use super::scratch::{UnifyNotes, keep, take_scratch};
 use iso_model::NoMemory;
 use iso_store_core::StoreFault;
 
@@ -25,7 +25,7 @@ use iso_store_core::StoreFault;
 #[derive(Clone, Copy)]
 pub(crate) enum Task<W: Copy> {
     /// The arguments of the compounds that the words stand for are to be made equal, from this place on; each has so many.
-    Unify(W, W, usize, usize),
+    Arguments(W, W, usize, usize),
     /// The words stand for one term, as all arguments are equal that are made so before this task.
     Join(W, W),
 }
@@ -37,13 +37,13 @@ fn occurs_for<C: Cells>(
     number: u64,
     variable: C::Word,
     word: C::Word,
-    scratch: &mut Scratch<C::Word>,
+    notes: &mut UnifyNotes<C::Word>,
 ) -> Result<bool, NoMemory>
     requires variable_holds { Holds (C.present store.now) variable }
     requires word_holds { Holds (C.present store.now) word }
     requires variable { meaning (C.present store.now) variable ≡ Variable number }
     ensures occurs { IfOk result (λ b. b ≡ occurs number (meaning (C.present store.now) word)) }
-    ensures joined { scratch.new.joined ≡ scratch.old.joined }
+    ensures joined { notes.new.joined ≡ notes.old.joined }
 {
     if store.is_apart(variable, word) {
         return Ok(false);
@@ -52,8 +52,8 @@ fn occurs_for<C: Cells>(
         store,
         number,
         word,
-        &mut scratch.searched,
-        &mut scratch.searches,
+        &mut notes.searched,
+        &mut notes.searches,
     )
 }
 
@@ -63,21 +63,21 @@ fn bind_checked<C: Cells>(
     number: u64,
     variable: C::Word,
     word: C::Word,
-    scratch: &mut Scratch<C::Word>,
+    notes: &mut UnifyNotes<C::Word>,
 ) -> Result<bool, StoreFault>
     requires variable_holds { Holds (C.present store.old) variable }
     requires word_holds { Holds (C.present store.old) word }
     requires variable { meaning (C.present store.old) variable ≡ Variable number }
     requires younger { IsYounger number (meaning (C.present store.old) word) }
-    requires joined { AreJoined (C.present store.old) (C.at_place store.old) scratch.old.joined }
+    requires joined { AreJoined (C.present store.old) (C.at_place store.old) notes.old.joined }
     ensures unified { IfOk result (IsUnification (C.present store.old) (C.present store.new) (meaning (C.present store.old) variable) (meaning (C.present store.old) word)) }
-    ensures joined { IfOk result (λ answer. IsTrue answer → AreJoined (C.present store.new) (C.at_place store.new) scratch.new.joined) }
+    ensures joined { IfOk result (λ answer. IsTrue answer → AreJoined (C.present store.new) (C.at_place store.new) notes.new.joined) }
     ensures cells { Grows (C.present store.old) (C.present store.new) 0 }
     ensures full { result ≡ Err StoreFault.Full → C.full store.new }
     ensures names { C.names store.new ≡ C.names store.old }
     ensures marks { KeepsMarks (C.stands store.old) (C.stands store.new) }
 {
-    if occurs_for(store, number, variable, word, scratch)? {
+    if occurs_for(store, number, variable, word, notes)? {
         return Ok(false);
     }
     store.bind(number, variable, word)?;
@@ -111,11 +111,11 @@ pub(crate) fn leave_arguments<C: Cells>(
         return Ok(());
     }
     if tasks.is_empty() {
-        tasks.push(Task::Unify(one, other, 0, count))?;
+        tasks.push(Task::Arguments(one, other, 0, count))?;
         return Ok(());
     }
     tasks.push(Task::Join(one, other))?;
-    tasks.push(Task::Unify(one, other, 0, count))?;
+    tasks.push(Task::Arguments(one, other, 0, count))?;
     Ok(())
 }
 
@@ -125,13 +125,13 @@ fn unify_next<C: Cells>(
     store: &mut C,
     one: C::Word,
     other: C::Word,
-    scratch: &mut Scratch<C::Word>,
+    notes: &mut UnifyNotes<C::Word>,
     tasks: &mut Vec<Task<C::Word>>,
 ) -> Result<bool, StoreFault>
     requires one { Holds (C.present store.old) one }
     requires other { Holds (C.present store.old) other }
-    requires stands { Stands (C.present store.old) (C.at_place store.old) scratch.old.joined (meaning (C.present store.old) one ∷ []) (meaning (C.present store.old) other ∷ []) tasks.old.items }
-    ensures stands { IfOk result (λ answer. IsTrue answer → Stands (C.present store.new) (C.at_place store.new) scratch.new.joined [] [] tasks.new.items) }
+    requires stands { Stands (C.present store.old) (C.at_place store.old) notes.old.joined (meaning (C.present store.old) one ∷ []) (meaning (C.present store.old) other ∷ []) tasks.old.items }
+    ensures stands { IfOk result (λ answer. IsTrue answer → Stands (C.present store.new) (C.at_place store.new) notes.new.joined [] [] tasks.new.items) }
     ensures steps { IfOk result (λ answer. MatchBool answer
         (Steps (C.present store.old) (C.present store.new) (meaning (C.present store.old) one ∷ []) (meaning (C.present store.old) other ∷ []) tasks.old.items tasks.new.items)
         (NeverEqual (meaning (C.present store.old) one) (meaning (C.present store.old) other))) }
@@ -143,10 +143,10 @@ fn unify_next<C: Cells>(
     match meet(store.shape(one), store.shape(other)) {
         Meeting::Same => Ok(true),
         Meeting::Clash => Ok(false),
-        Meeting::FirstVariable(number) => bind_checked(store, number, one, other, scratch),
-        Meeting::SecondVariable(number) => bind_checked(store, number, other, one, scratch),
+        Meeting::FirstVariable(number) => bind_checked(store, number, one, other, notes),
+        Meeting::SecondVariable(number) => bind_checked(store, number, other, one, notes),
         Meeting::Arguments(count) => {
-            leave_arguments(store, one, other, count, &mut scratch.joined, tasks)?;
+            leave_arguments(store, one, other, count, &mut notes.joined, tasks)?;
             Ok(true)
         }
     }
@@ -159,16 +159,16 @@ fn unify_arguments<C: Cells>(
     other: C::Word,
     index: usize,
     count: usize,
-    scratch: &mut Scratch<C::Word>,
+    notes: &mut UnifyNotes<C::Word>,
     tasks: &mut Vec<Task<C::Word>>,
 ) -> Result<bool, StoreFault>
-    requires pair { IsPair (C.present store.old) (Task.Unify one other index count) }
-    requires stands { Stands (C.present store.old) (C.at_place store.old) scratch.old.joined [] [] (tasks.old.items ++ Task.Unify one other index count ∷ []) }
-    ensures stands { IfOk result (λ answer. IsTrue answer → Stands (C.present store.new) (C.at_place store.new) scratch.new.joined [] [] tasks.new.items) }
+    requires pair { IsPair (C.present store.old) (Task.Arguments one other index count) }
+    requires stands { Stands (C.present store.old) (C.at_place store.old) notes.old.joined [] [] (tasks.old.items ++ Task.Arguments one other index count ∷ []) }
+    ensures stands { IfOk result (λ answer. IsTrue answer → Stands (C.present store.new) (C.at_place store.new) notes.new.joined [] [] tasks.new.items) }
     ensures steps { IfOk result (λ answer. MatchBool answer
-        (Steps (C.present store.old) (C.present store.new) [] [] (tasks.old.items ++ Task.Unify one other index count ∷ []) tasks.new.items)
-        (NeverEqual (row (ones (C.present store.old) [] (tasks.old.items ++ Task.Unify one other index count ∷ [])))
-        (row (others (C.present store.old) [] (tasks.old.items ++ Task.Unify one other index count ∷ []))))) }
+        (Steps (C.present store.old) (C.present store.new) [] [] (tasks.old.items ++ Task.Arguments one other index count ∷ []) tasks.new.items)
+        (NeverEqual (row (ones (C.present store.old) [] (tasks.old.items ++ Task.Arguments one other index count ∷ [])))
+        (row (others (C.present store.old) [] (tasks.old.items ++ Task.Arguments one other index count ∷ []))))) }
     ensures cells { Grows (C.present store.old) (C.present store.new) 0 }
     ensures full { result ≡ Err StoreFault.Full → C.full store.new }
     ensures names { C.names store.new ≡ C.names store.old }
@@ -177,22 +177,22 @@ fn unify_arguments<C: Cells>(
     let first = store.arg(one, index);
     let second = store.arg(other, index);
     if index + 1 == count {
-        return unify_next(store, first, second, scratch, tasks);
+        return unify_next(store, first, second, notes, tasks);
     }
-    tasks.push(Task::Unify(one, other, index + 1, count))?;
-    unify_next(store, first, second, scratch, tasks)
+    tasks.push(Task::Arguments(one, other, index + 1, count))?;
+    unify_next(store, first, second, notes, tasks)
 }
 
 /// Does what a task says. False where nothing makes its terms equal.
 fn do_task<C: Cells>(
     store: &mut C,
     task: Task<C::Word>,
-    scratch: &mut Scratch<C::Word>,
+    notes: &mut UnifyNotes<C::Word>,
     tasks: &mut Vec<Task<C::Word>>,
 ) -> Result<bool, StoreFault>
     requires pair { IsPair (C.present store.old) task }
-    requires stands { Stands (C.present store.old) (C.at_place store.old) scratch.old.joined [] [] (tasks.old.items ++ task ∷ []) }
-    ensures stands { IfOk result (λ answer. IsTrue answer → Stands (C.present store.new) (C.at_place store.new) scratch.new.joined [] [] tasks.new.items) }
+    requires stands { Stands (C.present store.old) (C.at_place store.old) notes.old.joined [] [] (tasks.old.items ++ task ∷ []) }
+    ensures stands { IfOk result (λ answer. IsTrue answer → Stands (C.present store.new) (C.at_place store.new) notes.new.joined [] [] tasks.new.items) }
     ensures steps { IfOk result (λ answer. MatchBool answer
         (Steps (C.present store.old) (C.present store.new) [] [] (tasks.old.items ++ task ∷ []) tasks.new.items)
         (NeverEqual (row (ones (C.present store.old) [] (tasks.old.items ++ task ∷ []))) (row (others (C.present store.old) [] (tasks.old.items ++ task ∷ []))))) }
@@ -202,11 +202,11 @@ fn do_task<C: Cells>(
     ensures marks { KeepsMarks (C.stands store.old) (C.stands store.new) }
 {
     match task {
-        Task::Unify(one, other, index, count) => {
-            unify_arguments(store, one, other, index, count, scratch, tasks)
+        Task::Arguments(one, other, index, count) => {
+            unify_arguments(store, one, other, index, count, notes, tasks)
         }
         Task::Join(one, other) => {
-            join(store, one, other, &mut scratch.joined)?;
+            join(store, one, other, &mut notes.joined)?;
             Ok(true)
         }
     }
@@ -218,7 +218,7 @@ pub(crate) fn unify_with<C: Cells>(
     store: &mut C,
     one: C::Word,
     other: C::Word,
-    scratch: &mut Scratch<C::Word>,
+    notes: &mut UnifyNotes<C::Word>,
     tasks: &mut Vec<Task<C::Word>>,
 ) -> Result<bool, StoreFault>
     requires one { Holds (C.present store.old) one }
@@ -229,13 +229,13 @@ pub(crate) fn unify_with<C: Cells>(
     ensures names { C.names store.new ≡ C.names store.old }
     ensures marks { KeepsMarks (C.stands store.old) (C.stands store.new) }
 {
-    scratch.joined.begin();
+    notes.joined.begin();
     tasks.clear();
-    if !unify_next(store, one, other, scratch, tasks)? {
+    if !unify_next(store, one, other, notes, tasks)? {
         return Ok(false);
     }
     while let Some(task) = tasks.pop() {
-        if !do_task(store, task, scratch, tasks)? {
+        if !do_task(store, task, notes, tasks)? {
             return Ok(false);
         }
     }
@@ -247,7 +247,7 @@ pub(crate) fn unify_made<C: Cells>(
     store: &mut C,
     one: C::Word,
     other: C::Word,
-    scratch: &mut Scratch<C::Word>,
+    notes: &mut UnifyNotes<C::Word>,
     tasks: &mut Vec<Task<C::Word>>,
 ) -> Result<bool, StoreFault>
     requires one { Holds (C.present store.old) one }
@@ -258,10 +258,10 @@ pub(crate) fn unify_made<C: Cells>(
     ensures names { C.names store.new ≡ C.names store.old }
     ensures marks { KeepsMarks (C.stands store.old) (C.stands store.new) }
 {
-    scratch.joined.begin();
+    notes.joined.begin();
     match meet(store.shape(one), store.shape(other)) {
-        Meeting::FirstVariable(number) => bind_checked(store, number, one, other, scratch),
-        _ => unify_with(store, one, other, scratch, tasks),
+        Meeting::FirstVariable(number) => bind_checked(store, number, one, other, notes),
+        _ => unify_with(store, one, other, notes, tasks),
     }
 }
 
@@ -279,9 +279,9 @@ pub(crate) fn unify<C: Cells>(
     ensures names { C.names store.new ≡ C.names store.old }
     ensures marks { KeepsMarks (C.stands store.old) (C.stands store.new) }
 {
-    let mut kept = take_kept(store)?;
-    let inside = &mut *kept;
-    let answer = unify_with(store, first, second, &mut inside.scratch, &mut inside.tasks);
-    keep(store, kept);
+    let mut scratch = take_scratch(store)?;
+    let inside = &mut *scratch;
+    let answer = unify_with(store, first, second, &mut inside.notes, &mut inside.tasks);
+    keep(store, scratch);
     answer
 }

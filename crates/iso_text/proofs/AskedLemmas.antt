@@ -7,7 +7,7 @@ use Rattle.iso_model.specs.Terms.Arguments.{argument, arity}
 use Rattle.iso_model.specs.Search.AtomParts as model
 use Rattle.iso_model.specs.Search.AtomParts.{sub_settled, with_atom, with_count, sub_key, fits, is_number, is_name, parts_offered}
 use Rattle.iso_model.specs.Search.Settlements.{Settled, Offers, Offer}
-use Rattle.iso_model.specs.declared.library.AtomPart.TheVariants.{Sub}
+use Rattle.iso_model.specs.declared.kinds.AtomPart.TheVariants.{Sub}
 use Rattle.iso_text.specs.declared.parts.Parts.{Parts}
 use Rattle.iso_text.specs.Parts.{AreOf, IsParted, part_offer, parts_in}
 use Rattle.iso_text.specs.Bounds.{count_of, name_of, asked_of, allows, allows_text, suits}

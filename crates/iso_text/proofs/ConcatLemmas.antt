@@ -8,7 +8,7 @@ use Rattle.iso_model.specs.Terms.Types.{is_atom, is_variable}
 use Rattle.iso_model.specs.Search.AtomParts.{split_at, joined, taken_apart, concat_settled, concat_key, with_atom}
 use Rattle.iso_model.specs.Search.Errors.{instantiation_error}
 use Rattle.iso_model.specs.Search.Settlements.{Settled, Refuses, Offers, Offer, constant_offer}
-use Rattle.iso_model.specs.declared.library.AtomPart.TheVariants.{Concat}
+use Rattle.iso_model.specs.declared.kinds.AtomPart.TheVariants.{Concat}
 use Rattle.iso_text.specs.declared.parts.Part.TheVariants as part
 use Rattle.iso_text.specs.declared.parts.Parts.{Parts}
 use Rattle.iso_text.specs.Parts.{AreOf, IsAtom, IsParted, part_offer, parts_in, text_of}

@@ -9,8 +9,8 @@ use Rattle.iso_model.specs.Search.Settlements.{Settled, Offers, Offer, constant_
 use Rattle.iso_lib_core.specs.declared.outcomes.Fault.{Fault}
 use Rattle.iso_lib_core.specs.declared.outcomes.Fault.TheVariants as fault
 use Rattle.iso_lib_core.specs.Checks.{IsRefused}
-use Rattle.iso_model.specs.declared.library.AtomPart.{AtomPart}
-use Rattle.iso_model.specs.declared.library.AtomPart.TheVariants.{Concat, Sub}
+use Rattle.iso_model.specs.declared.kinds.AtomPart.{AtomPart}
+use Rattle.iso_model.specs.declared.kinds.AtomPart.TheVariants.{Concat, Sub}
 use Rattle.iso_text.specs.declared.parts.Part.{Part}
 use Rattle.iso_text.specs.declared.parts.Part.TheVariants as part
 use Rattle.iso_text.specs.declared.parts.Parts.{Parts}

@@ -13,11 +13,10 @@ ghost use Rattle.iso_lib_core.specs.Checks.{GoesOn};
 ghost use Rattle.iso_lib_core.specs.Replies.{IsReply};
 ghost use Rattle.iso_text.specs.Forms.{form_of};
 
-use super::culprits::wrong_type;
 use super::reading::codes_of;
 use super::spelling::equate_spelled;
 use iso_lib_core::lists::{elements, is_partial_list, tail};
-use iso_lib_core::{Fault, Reply, errors, tested};
+use iso_lib_core::{Fault, Reply, culprits, errors, tested};
 use iso_store_core::{Shape, Store};
 use std::alloc::Global;
 
@@ -42,8 +41,7 @@ pub(crate) fn see_partial_list<S: Store>(
     if is_partial_list(store, word) {
         return Ok(());
     }
-    let ball = wrong_type(alloc, store, "list", word, by, 2)?;
-    Err(Fault::Raise(ball))
+    Err(culprits::wrong_type(alloc, store, "list", word, by, 2))
 }
 
 /// Unifies the word with the atom of this text. The errors: the store is full, or memory was refused.
@@ -133,8 +131,7 @@ pub(crate) fn atom_list<S: Store>(
             equate_spelled(alloc, store, form, list, text.as_str())
         }
         Shape::Int(_) | Shape::Compound(_, _) => {
-            let ball = wrong_type(alloc, store, "atom", atom, by, 2)?;
-            Err(Fault::Raise(ball))
+            Err(culprits::wrong_type(alloc, store, "atom", atom, by, 2))
         }
     }
 }

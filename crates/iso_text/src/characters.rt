@@ -5,7 +5,7 @@ ghost use Rattle.iso_model.specs.Terms.Arguments.{arity};
 ghost use Rattle.iso_model.specs.Terms.Trees.{Integer, Name};
 ghost use Rattle.iso_model.specs.Search.Library.{equate};
 ghost use Rattle.iso_model.specs.Search.AtomTexts.{text_answer, Codes, element_code, character_of, char_code_key};
-ghost use Rattle.iso_model.specs.declared.library.Text.TheVariants as text;
+ghost use Rattle.iso_model.specs.declared.kinds.Text.TheVariants as text;
 ghost use Rattle.iso_store_core.specs.Presents.{Holds, meaning, KeepsMarks};
 ghost use Rattle.iso_lib_core.specs.Replies.{IsReply};
 

@@ -6,9 +6,7 @@ ghost use Rattle.iso_store_core.specs.Presents.{Holds, meaning};
 ghost use Rattle.iso_lib_core.specs.Checks.{PassesTo};
 ghost use Rattle.iso_text.specs.Bounds.{count_of};
 
-use super::culprits::wrong_type;
-use iso_lib_core::{Fault, errors};
-use iso_model::Term;
+use iso_lib_core::{Fault, culprits};
 use iso_store_core::{Shape, Store};
 use std::alloc::Global;
 
@@ -27,8 +25,7 @@ pub(crate) fn see_atom<S: Store>(
     match store.shape(word) {
         Shape::Var(_) | Shape::Atom(_) => Ok(()),
         Shape::Int(_) | Shape::Compound(_, _) => {
-            let ball = wrong_type(alloc, store, "atom", word, name, arity)?;
-            Err(Fault::Raise(ball))
+            Err(culprits::wrong_type(alloc, store, "atom", word, name, arity))
         }
     }
 }
@@ -50,13 +47,10 @@ pub(crate) fn asked_count<S: Store>(
             if value >= 0 {
                 return Ok(Some(value as usize));
             }
-            let culprit = Term::Int(value);
-            let ball = errors::out_of_domain(alloc, "not_less_than_zero", culprit, "sub_atom", 5)?;
-            Err(Fault::Raise(ball))
+            Err(culprits::out_of_domain(alloc, store, "not_less_than_zero", word, "sub_atom", 5))
         }
         Shape::Atom(_) | Shape::Compound(_, _) => {
-            let ball = wrong_type(alloc, store, "integer", word, "sub_atom", 5)?;
-            Err(Fault::Raise(ball))
+            Err(culprits::wrong_type(alloc, store, "integer", word, "sub_atom", 5))
         }
     }
 }

@@ -3,7 +3,7 @@ ghost use Rattle.std.specs.Prelude.{◌≡◌, ◌&&◌, ◌||◌, [], ◌∷◌
 ghost use Rattle.iso_model.specs.Terms.Arguments.{arity, argument};
 ghost use Rattle.iso_model.specs.Terms.Types.{is_atom, is_variable};
 ghost use Rattle.iso_model.specs.Search.AtomParts.{concat_settled, joined, taken_apart};
-ghost use Rattle.iso_model.specs.declared.library.AtomPart.TheVariants.{Concat};
+ghost use Rattle.iso_model.specs.declared.kinds.AtomPart.TheVariants.{Concat};
 ghost use Rattle.iso_store_core.specs.Presents.{Holds, meaning};
 ghost use Rattle.iso_text.specs.Parts.{IsParted};
 ghost use Rattle.iso_text.specs.declared.parts.Part.TheVariants as part;

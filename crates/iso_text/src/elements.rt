@@ -8,8 +8,7 @@ ghost use Rattle.iso_store_core.specs.Presents.{Holds, meaning, KeepsMarks, Keep
 ghost use Rattle.iso_lib_core.specs.Lists.{Comes};
 ghost use Rattle.iso_text.specs.Elements.{IsCode, scalar_of};
 
-use super::culprits::wrong_type;
-use iso_lib_core::{Fault, errors};
+use iso_lib_core::{Fault, culprits, errors};
 use iso_store_core::{Shape, Store, StoreFault};
 use std::alloc::Global;
 
@@ -50,8 +49,7 @@ pub(crate) fn character<S: Store>(
         Shape::Int(_) | Shape::Compound(_, _) => None,
     };
     let Some(character) = only else {
-        let ball = wrong_type(alloc, store, "character", element, by, arity)?;
-        return Err(Fault::Raise(ball));
+        return Err(culprits::wrong_type(alloc, store, "character", element, by, arity));
     };
     Ok(character)
 }
@@ -72,8 +70,7 @@ pub(crate) fn character_of_code<S: Store>(
         Shape::Var(_) => return Err(Fault::Raise(errors::instantiation(alloc, by, arity)?)),
         Shape::Int(code) => code,
         Shape::Atom(_) | Shape::Compound(_, _) => {
-            let ball = wrong_type(alloc, store, "integer", element, by, arity)?;
-            return Err(Fault::Raise(ball));
+            return Err(culprits::wrong_type(alloc, store, "integer", element, by, arity));
         }
     };
     let Some(character) = coded_character(code) else {

@@ -5,14 +5,12 @@ ghost use Rattle.iso_model.specs.Terms.Arguments.{arity};
 ghost use Rattle.iso_model.specs.Terms.Trees.{Integer};
 ghost use Rattle.iso_model.specs.Search.Library.{equate};
 ghost use Rattle.iso_model.specs.Search.AtomTexts.{text_answer, length_by};
-ghost use Rattle.iso_model.specs.declared.library.Text.TheVariants as text;
+ghost use Rattle.iso_model.specs.declared.kinds.Text.TheVariants as text;
 ghost use Rattle.iso_store_core.specs.Presents.{Holds, meaning, KeepsMarks};
 ghost use Rattle.iso_lib_core.specs.Checks.{GoesOn};
 ghost use Rattle.iso_lib_core.specs.Replies.{IsReply};
 
-use super::culprits::wrong_type;
-use iso_lib_core::{Fault, Reply, errors, tested};
-use iso_model::Term;
+use iso_lib_core::{Fault, Reply, culprits, errors, tested};
 use iso_store_core::{Shape, Store};
 use std::alloc::Global;
 
@@ -37,19 +35,10 @@ fn see_length<S: Store>(alloc: Global, store: &S, word: S::Word) -> Result<(), F
             if value >= 0 {
                 return Ok(());
             }
-            let culprit = Term::Int(value);
-            let ball = errors::out_of_domain(
-                alloc,
-                "not_less_than_zero",
-                culprit,
-                "atom_length",
-                2,
-            )?;
-            Err(Fault::Raise(ball))
+            Err(culprits::out_of_domain(alloc, store, "not_less_than_zero", word, "atom_length", 2))
         }
         Shape::Atom(_) | Shape::Compound(_, _) => {
-            let ball = wrong_type(alloc, store, "integer", word, "atom_length", 2)?;
-            Err(Fault::Raise(ball))
+            Err(culprits::wrong_type(alloc, store, "integer", word, "atom_length", 2))
         }
     }
 }
@@ -94,8 +83,7 @@ pub(crate) fn atom_length<S: Store>(
             equate_length(alloc, store, length, count)
         }
         Shape::Int(_) | Shape::Compound(_, _) => {
-            let ball = wrong_type(alloc, store, "atom", atom, "atom_length", 2)?;
-            Err(Fault::Raise(ball))
+            Err(culprits::wrong_type(alloc, store, "atom", atom, "atom_length", 2))
         }
     }
 }

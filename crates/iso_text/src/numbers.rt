@@ -15,7 +15,7 @@ use super::integers::number_written;
 use super::reading::codes_of;
 use super::spelling::equate_spelled;
 use iso_lib_core::lists::{elements, is_nil, is_partial_list};
-use iso_lib_core::{Fault, Reply, errors, tested};
+use iso_lib_core::{Fault, Reply, culprits, errors, tested};
 use iso_store_core::{Shape, Store};
 use std::alloc::Global;
 
@@ -128,12 +128,10 @@ pub(crate) fn number_list<S: Store>(
 {
     let (number, list) = (store.arg(goal, 0), store.arg(goal, 1));
     if !matches!(store.shape(number), Shape::Var(_) | Shape::Int(_)) {
-        let culprit = store.copy_out(number)?;
-        return Err(Fault::Raise(errors::wrong_type(alloc, "number", culprit, by, 2)?));
+        return Err(culprits::wrong_type(alloc, store, "number", number, by, 2));
     }
     if !is_partial_list(store, list) {
-        let culprit = store.copy_out(list)?;
-        return Err(Fault::Raise(errors::wrong_type(alloc, "list", culprit, by, 2)?));
+        return Err(culprits::wrong_type(alloc, store, "list", list, by, 2));
     }
     let parts = elements(alloc, store, list)?;
     if is_nil(store, parts.tail) && !has_unbound(store, parts.elements.as_slice()) {

@@ -3,7 +3,7 @@ ghost use Rattle.std.specs.Prelude.{◌≡◌, ◌≢◌, ◌∷◌, [], IfOk, E
 ghost use Rattle.iso_model.specs.Terms.Arguments.{arity};
 ghost use Rattle.iso_model.specs.Syntax.Characters.{newline};
 ghost use Rattle.iso_model.specs.Search.Outputs.{output_reply, output_arity, written_text};
-ghost use Rattle.iso_model.specs.declared.library.Output.TheVariants.{PutChar};
+ghost use Rattle.iso_model.specs.declared.kinds.Output.TheVariants.{PutChar};
 ghost use Rattle.iso_store_core.specs.Presents.{Holds, meaning};
 ghost use Rattle.iso_write.specs.Styles.{style_of};
 ghost use Rattle.iso_text.specs.Written.{IsWritten};

@@ -3,17 +3,16 @@ ghost use Rattle.std.specs.Prelude.{◌≡◌, IfOk};
 ghost use Rattle.iso_model.specs.Terms.Trees.{Name};
 ghost use Rattle.iso_model.specs.Terms.Arguments.{arity, argument};
 ghost use Rattle.iso_model.specs.Search.AtomParts.{sub_settled, with_atom, with_count, sub_key};
-ghost use Rattle.iso_model.specs.declared.library.AtomPart.TheVariants.{Sub};
+ghost use Rattle.iso_model.specs.declared.kinds.AtomPart.TheVariants.{Sub};
 ghost use Rattle.iso_store_core.specs.Presents.{Holds, meaning};
 ghost use Rattle.iso_lib_core.specs.Checks.{PassesTo};
 ghost use Rattle.iso_text.specs.Parts.{IsParted};
 ghost use Rattle.iso_text.specs.Bounds.{text_of, name_of, asked_of};
 
 use super::checks::{asked_count, see_atom};
-use super::culprits::wrong_type;
 use super::parts::Parts;
 use super::sub_atoms::{Asked, counted, sub_atoms};
-use iso_lib_core::{Fault, errors};
+use iso_lib_core::{Fault, culprits, errors};
 use iso_store_core::{Shape, Store};
 use std::alloc::Global;
 
@@ -84,8 +83,7 @@ pub(crate) fn sub_parts<S: Store>(
         Shape::Var(_) => Err(Fault::Raise(errors::instantiation(alloc, "sub_atom", 5)?)),
         Shape::Atom(name) => text_parts(alloc, store, goal, store.text(name)),
         Shape::Int(_) | Shape::Compound(_, _) => {
-            let ball = wrong_type(alloc, store, "atom", atom, "sub_atom", 5)?;
-            Err(Fault::Raise(ball))
+            Err(culprits::wrong_type(alloc, store, "atom", atom, "sub_atom", 5))
         }
     }
 }

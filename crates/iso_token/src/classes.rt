@@ -4,6 +4,8 @@ ghost use Rattle.std.specs.Char as character;
 ghost use Rattle.iso_model.specs.Syntax.Characters as characters;
 ghost use Rattle.iso_token.specs.Classes as classes;
 
+use iso_model::characters::{is_alphanumeric, is_graphic};
+
 /// The bases of integers and of codes in escapes (6.4.4, 6.4.2.1).
 #[derive(Clone, Copy, Debug)]
 pub enum Base {
@@ -68,19 +70,12 @@ pub fn is_layout(b: u8) -> bool
     b == b' ' || (9 <= b && b <= 13)
 }
 
-/// Whether a byte is a graphic character or the backslash (6.5.1, 6.4.2).
-fn is_graphic(b: u8) -> bool
-    ensures { result ≡ characters.is_graphic b }
-{
-    b"#$&*+-./:<=>?@^~\\".contains(&b)
-}
-
 /// Whether a byte is of the class.
 pub fn is_in(class: Class, b: u8) -> bool
     ensures { result ≡ classes.is_of class b }
 {
     match class {
-        Class::Alphanumeric => b.is_ascii_alphanumeric() || b == b'_',
+        Class::Alphanumeric => is_alphanumeric(b),
         Class::DigitOf(base) => digit_value(b) < base.radix(),
         Class::Graphic => is_graphic(b),
         Class::InLine => b != b'\n',

@@ -7,7 +7,8 @@ use Rattle.iso_model.specs.Terms.Trees.{Tree}
 use Rattle.iso_model.specs.Terms.Trees as trees
 use Rattle.iso_model.specs.Terms.TermOf.{term_of, row_of}
 use Rattle.iso_model.specs.Syntax.Texts.{variable_text, numbered_variable}
-use Rattle.iso_model.specs.Syntax.Operators.{takes_equal, left_of, right_of}
+use Rattle.iso_model.specs.Syntax.Operators.{left_of, right_of}
+use Rattle.iso_ops.specs.Specifiers.{takes_equal}
 use Rattle.iso_model.specs.Syntax.Pieces as pieces
 use Rattle.iso_write.specs.declared.forms.Form.{Form}
 use Rattle.iso_write.specs.declared.forms.Form.TheVariants as form

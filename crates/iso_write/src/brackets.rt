@@ -35,7 +35,7 @@ pub(crate) fn has_brackets(form: Form<'_>, place: Place<'_>, style: Style, ops: 
     match place {
         Place::Whole(most) => most < priority,
         Place::Left(operator) => {
-            form.is_open() && priority == operator.priority && operator.takes_equal()
+            form.is_open() && priority == operator.priority && operator.spec.takes_equal()
                 || is_operator(form, style, ops)
                 || operator.left() < priority
         }

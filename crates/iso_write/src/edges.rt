@@ -3,7 +3,7 @@ ghost use Rattle.std.specs.Prelude.{◌≡◌, ℕ, List, ◌∷◌, ◌++◌, t
 ghost use Rattle.iso_model.specs.Syntax.Pieces as pieces;
 ghost use Rattle.iso_write.specs.Edges.{edge_behind, parts, behind, start, with_gap};
 
-use super::names::{is_alphanumeric, is_graphic};
+use iso_model::characters::{is_alphanumeric, is_graphic};
 use std::alloc::AllocError;
 
 /// What stands before the next piece.

@@ -24,40 +24,18 @@ pub(crate) struct Operator<'t> {
 }
 
 impl Operator<'_> {
-    /// Whether it takes a left operand of its own priority (6.3.4, table 4).
-    pub(crate) fn takes_equal(self) -> bool
-        ensures { result ≡ model.takes_equal (operator_of self.entry).spec }
-    {
-        matches!(self.spec, Spec::Yfx | Spec::Yf)
-    }
-
-    /// Whether it takes a right operand of its own priority.
-    pub(crate) fn is_right_open(self) -> bool
-        ensures { result ≡ model.is_right_open (operator_of self.entry).spec }
-    {
-        matches!(self.spec, Spec::Xfy | Spec::Fy)
-    }
-
     /// The greatest priority of its left operand.
     pub(crate) fn left(self) -> u16
         ensures { result ≡ model.left_of (operator_of self.entry) }
     {
-        if self.takes_equal() {
-            self.priority
-        } else {
-            self.priority.saturating_sub(1)
-        }
+        self.spec.left_priority(self.priority)
     }
 
     /// The greatest priority of its right operand.
     pub(crate) fn right(self) -> u16
         ensures { result ≡ model.right_of (operator_of self.entry) }
     {
-        if self.is_right_open() {
-            self.priority
-        } else {
-            self.priority.saturating_sub(1)
-        }
+        self.spec.right_priority(self.priority)
     }
 }
 
@@ -114,7 +92,7 @@ impl<'t> Form<'t> {
         ensures { (style : pieces.Style) (table : List ops.Operator) (seen : List ℕ) → result ≡ (form_written style table seen self.entry).is_open }
     {
         match self.operator() {
-            Some(operator) => operator.is_right_open(),
+            Some(operator) => operator.spec.is_right_open(),
             None => false,
         }
     }

@@ -22,7 +22,7 @@ use iso_model::{NoMemory, Numbering, Term};
 use iso_ops::OpTable;
 use std::alloc::Global;
 pub use style::Style;
-use written::{Setting, append_text};
+use written::{Manner, append_text};
 
 /// Appends the text of a term in a place of at most this priority (7.10.5, 8.14.2; layout and brackets are own). `seen` lists
 /// the variables named so far, which the term's join by first occurrence; the k-th is written `_k`. The error is that memory
@@ -41,7 +41,7 @@ pub fn write_to(
     ensures refused { OnErr result ((out.new.items ≡ out.old.items) × (seen.new ≡ seen.old)) }
 {
     let (length, known) = (out.len(), seen.len());
-    let written = append_line(alloc, out, term, style, priority, ops, seen);
+    let written = append_noting(alloc, out, term, style, priority, ops, seen);
     if written.is_err() {
         out.truncate(length);
         seen.truncate(known);
@@ -50,7 +50,7 @@ pub fn write_to(
 }
 
 /// Appends the text of a term, whose variables join those seen so far.
-fn append_line(
+fn append_noting(
     alloc: Global,
     out: &mut Vec<u8>,
     term: &Term,
@@ -65,11 +65,11 @@ fn append_line(
     ensures seen_kept { take (length seen.old) seen.new ≡ seen.old }
 {
     seen.note_all(alloc, term)?;
-    let setting = Setting {
+    let manner = Manner {
         alloc,
         style,
         ops,
         seen,
     };
-    append_text(setting, out, term, priority)
+    append_text(manner, out, term, priority)
 }

@@ -1,25 +1,12 @@
 //! Atoms and names of compounds as text: bare, or in quotes where they need them (ISO/IEC 13211-1:1995, 7.10.5).
-ghost use Rattle.std.specs.Prelude.{◌≡◌, ◌++◌, ◌∷◌, OnOk};
+ghost use Rattle.std.specs.Prelude.{◌≡◌, ◌++◌, OnOk};
 ghost use Rattle.std.specs.List.{list_all};
 ghost use Rattle.iso_model.specs.Syntax.Characters as characters;
 ghost use Rattle.iso_model.specs.Syntax.Pieces as pieces;
 ghost use Rattle.iso_model.specs.Syntax.Texts as texts;
 
+use iso_model::characters::{is_alphanumeric, is_graphic};
 use std::alloc::{AllocError, Global};
-
-/// Whether the byte is a letter, a digit or an underscore (6.5.2).
-pub(crate) fn is_alphanumeric(byte: u8) -> bool
-    ensures { result ≡ characters.is_alphanumeric byte }
-{
-    byte.is_ascii_alphanumeric() || byte == b'_'
-}
-
-/// Whether the byte is a graphic character or the backslash (6.5.1, 6.4.2).
-pub(crate) fn is_graphic(byte: u8) -> bool
-    ensures { result ≡ characters.is_graphic byte }
-{
-    b"#$&*+-./:<=>?@^~\\".contains(&byte)
-}
 
 /// Whether the text begins as a bracketed comment does (6.4.1).
 fn opens_comment(text: &[u8]) -> bool

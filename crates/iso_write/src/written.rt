@@ -80,7 +80,7 @@ fn append_integer(out: &mut Vec<u8>, edge: Edge, value: i64) -> Result<Edge, All
 
 /// How a line's terms are written.
 #[derive(Clone, Copy)]
-pub(crate) struct Setting<'s> {
+pub(crate) struct Manner<'s> {
     pub(crate) alloc: Global,
     pub(crate) style: Style,
     pub(crate) ops: &'s OpTable,
@@ -90,23 +90,23 @@ pub(crate) struct Setting<'s> {
 
 /// Appends a piece, or puts the parts of a task before the other tasks.
 fn take_turn<'t>(
-    setting: Setting<'_>,
+    manner: Manner<'_>,
     out: &mut Vec<u8>,
     edge: Edge,
     todo: &mut Vec<Task<'t>>,
     task: Task<'t>,
 ) -> Result<Edge, AllocError>
-    ensures text { IfOk result (λ after. out.new.items ++ behind after (pieces_of (style_of setting.entry.style) setting.entry.ops.now setting.entry.seen.now todo.new.items)
-        ≡ out.old.items ++ behind edge (with_task (style_of setting.entry.style) setting.entry.ops.now setting.entry.seen.now task.entry (pieces_of (style_of setting.entry.style) setting.entry.ops.now setting.entry.seen.now todo.old.items))) }
+    ensures text { IfOk result (λ after. out.new.items ++ behind after (pieces_of (style_of manner.entry.style) manner.entry.ops.now manner.entry.seen.now todo.new.items)
+        ≡ out.old.items ++ behind edge (with_task (style_of manner.entry.style) manner.entry.ops.now manner.entry.seen.now task.entry (pieces_of (style_of manner.entry.style) manner.entry.ops.now manner.entry.seen.now todo.old.items))) }
     ensures kept { take (length out.old.items) out.new.items ≡ out.old.items }
     ensures load { OnOk result (tasks_load todo.new.items < task_load task.entry + tasks_load todo.old.items) }
 {
-    let Setting {
+    let Manner {
         alloc,
         style,
         ops,
         seen,
-    } = setting;
+    } = manner;
     match task {
         Task::Mark(text) => append_piece(out, edge, text.as_bytes()),
         Task::Name(name) => append_name_piece(alloc, out, edge, name, style),
@@ -135,19 +135,19 @@ fn take_turn<'t>(
 
 /// Appends the text of a term in a place of at most this priority. The error is that memory was refused.
 pub(crate) fn append_text(
-    setting: Setting<'_>,
+    manner: Manner<'_>,
     out: &mut Vec<u8>,
     term: &Term,
     priority: u16,
 ) -> Result<(), AllocError>
-    ensures text { OnOk result (out.new.items ≡ out.old.items ++ pieces.text_at (style_of setting.entry.style) setting.entry.ops.now setting.entry.seen.now priority (term_of term.now)) }
+    ensures text { OnOk result (out.new.items ≡ out.old.items ++ pieces.text_at (style_of manner.entry.style) manner.entry.ops.now manner.entry.seen.now priority (term_of term.now)) }
     ensures kept { take (length out.old.items) out.new.items ≡ out.old.items }
 {
-    let mut todo = Vec::new(setting.alloc);
+    let mut todo = Vec::new(manner.alloc);
     todo.push(Task::Placed(term, Place::Whole(priority)))?;
     let mut edge = Edge::start();
     while let Some(task) = todo.pop() {
-        edge = take_turn(setting, out, edge, &mut todo, task)?;
+        edge = take_turn(manner, out, edge, &mut todo, task)?;
     }
     Ok(())
 }

@@ -9,7 +9,7 @@ use std::{env, fs, io};
 /// The status of a file or of standard input that can't be read.
 const UNREADABLE: u8 = 1;
 /// The status of a usage fault.
-const USAGE: u8 = 2;
+const MISUSE: u8 = 2;
 /// The status where memory was refused before the session began.
 const NO_MEMORY: u8 = 3;
 
@@ -38,7 +38,7 @@ fn words_of(rt: &HostRuntime) -> Result<Vec<String>, WordsFault> {
 }
 
 /// Says on standard error that memory was refused.
-fn no_memory(rt: &HostRuntime) -> u8 {
+fn refuse_memory(rt: &HostRuntime) -> u8 {
     let _ = rt.eprintln("prolog: no memory");
     NO_MEMORY
 }
@@ -52,9 +52,9 @@ fn refuse_words(rt: &HostRuntime, fault: &WordsFault) -> u8 {
         }
         WordsFault::Usage(line) => {
             let _ = eprint!(rt; "prolog: {line}\n{}", iso_session::words::USAGE);
-            USAGE
+            MISUSE
         }
-        WordsFault::NoMemory => no_memory(rt),
+        WordsFault::NoMemory => refuse_memory(rt),
     }
 }
 
@@ -65,7 +65,7 @@ fn refuse_text(rt: &HostRuntime, name: &str, fault: &TextFault) -> u8 {
             let _ = eprint!(rt; "prolog: cannot read {name}\nprolog: {obstacle}\n");
             UNREADABLE
         }
-        TextFault::NoMemory => no_memory(rt),
+        TextFault::NoMemory => refuse_memory(rt),
     }
 }
 
@@ -100,7 +100,7 @@ fn run(rt: &HostRuntime, words: &Words) -> u8 {
         text.as_str(),
         queries.as_str(),
         &words.limits,
-        words.choice,
+        words.engine,
         &mut out,
     );
     if let Err(fault) = &outcome {
@@ -118,7 +118,7 @@ fn main(rt: HostRuntime) -> ExitCode {
     let mut words: Vec<&str> = Vec::new(alloc);
     for word in &owned {
         if words.push(word.as_str()).is_err() {
-            return ExitCode::from(no_memory(&rt));
+            return ExitCode::from(refuse_memory(&rt));
         }
     }
     let status = match read_words(alloc, words.as_slice()) {

@@ -5,7 +5,7 @@ mod rows;
 mod runs;
 
 use anyhow::{Context, Result, bail};
-use rows::Table;
+use rows::{Session, Table};
 use std::{env, fs};
 
 /// The rows of the file.
@@ -15,15 +15,22 @@ fn read_table(rt: &HostRuntime, path: &str) -> Result<Table> {
     Ok(table)
 }
 
-/// Runs the sessions of the file, says how many they are, and gives how many were wrong.
+/// Runs the session, says what was wrong with it, and gives how much that was.
+fn run_session(rt: &HostRuntime, path: &str, table: &Table, session: &Session) -> Result<u64> {
+    let mut wrong: u64 = 0;
+    for fault in runs::faults(rt.alloc(), table, session)? {
+        println!(rt; "{path}: {}: {fault}", session.name)?;
+        wrong = wrong.saturating_add(1);
+    }
+    Ok(wrong)
+}
+
+/// Runs the sessions of the file, says how many they are, and gives how much was wrong.
 fn run_file(rt: &HostRuntime, path: &str) -> Result<u64> {
     let table = read_table(rt, path).context(path)?;
     let mut wrong: u64 = 0;
     for session in &table.session {
-        for fault in runs::faults(rt.alloc(), &table, session)? {
-            println!(rt; "{path}: {}: {fault}", session.name)?;
-            wrong = wrong.saturating_add(1);
-        }
+        wrong = wrong.saturating_add(run_session(rt, path, &table, session)?);
     }
     println!(rt; "{path}: {} sessions", table.session.len())?;
     Ok(wrong)

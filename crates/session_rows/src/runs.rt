@@ -2,7 +2,7 @@
 use super::rows::{Session, Table};
 use anyhow::Result;
 use iso_plain::plain::Plain;
-use iso_session::{Choice, session, session_on, status_of};
+use iso_session::{EngineName, session, session_on, status_of};
 use iso_store::Nodes;
 use std::alloc::Global;
 
@@ -22,7 +22,7 @@ fn over_cells(alloc: Global, text: &str, row: &Session) -> Written {
         text,
         queries,
         &row.limits(),
-        Choice::Plain,
+        EngineName::Plain,
         &mut bytes,
     );
     let status = status_of(&outcome);

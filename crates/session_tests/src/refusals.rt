@@ -6,7 +6,7 @@
 //! `operators_and_lists` make 975 allocations, each other test 600 at most.
 use super::rows::{Row, row_named};
 use iso_session::{
-    Choice, Obstacle, TextFault, WordsFault, read_text, read_words, session, status_of,
+    EngineName, Obstacle, TextFault, WordsFault, read_text, read_words, session, status_of,
 };
 use std::alloc::Global;
 use std::io;
@@ -64,7 +64,7 @@ fn ends_rightly(alloc: Global, name: &str) -> bool {
         row.text,
         row.queries,
         &row.limits(),
-        Choice::Plain,
+        EngineName::Plain,
         &mut slate,
     );
     let written = &slate.bytes[..slate.length.min(ROOM)];

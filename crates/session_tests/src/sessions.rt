@@ -2,7 +2,7 @@
 use super::rows::{MIXED, ROWS, Row};
 use iso_model::{Limits, NoMemory};
 use iso_plain::plain::Plain;
-use iso_session::{Choice, session, session_on, status_of};
+use iso_session::{EngineName, session, session_on, status_of};
 use iso_store::Nodes;
 use std::alloc::Global;
 use std::process::Abort;
@@ -18,7 +18,7 @@ pub struct Written {
 /// A session over cells, as the program runs it.
 pub fn written_over_cells(alloc: Global, text: &str, queries: &str, limits: &Limits) -> Written {
     let mut bytes: Vec<u8> = Vec::new(alloc);
-    let outcome = session(alloc, text, queries, limits, Choice::Plain, &mut bytes);
+    let outcome = session(alloc, text, queries, limits, EngineName::Plain, &mut bytes);
     let status = status_of(&outcome);
     Written { bytes, status }
 }

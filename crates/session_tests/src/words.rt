@@ -1,6 +1,6 @@
 //! The program's words.
 use iso_model::Limits;
-use iso_session::{Choice, Words, WordsFault, read_words};
+use iso_session::{EngineName, Words, WordsFault, read_words};
 use std::alloc::Global;
 use std::test::Fail;
 
@@ -26,7 +26,7 @@ fn limits_are_read(rt: HostRuntime) -> Result<(), Fail> {
             frames: 9
         }
     );
-    assert_eq!(rt; read.choice, Choice::Plain);
+    assert_eq!(rt; read.engine, EngineName::Plain);
     assert_eq!(rt; read.file.as_str(), "x.pl");
     Ok(())
 }

@@ -1,6 +1,6 @@
 //! Writers that fail, that take little, and that take nothing.
 use super::rows::{MIXED, Row};
-use iso_session::{Choice, Fault, session, status_of};
+use iso_session::{EngineName, Fault, session, status_of};
 use std::alloc::Global;
 use std::io;
 use std::io::ErrorKind;
@@ -47,7 +47,7 @@ fn written(alloc: Global, row: &Row, step: usize, room: usize, fails: bool) -> (
         row.text,
         row.queries,
         &row.limits(),
-        Choice::Plain,
+        EngineName::Plain,
         &mut sink,
     );
     let status = status_of(&outcome);
@@ -109,7 +109,7 @@ fn the_fault_says_so(rt: HostRuntime) -> Result<(), Fail> {
             row.text,
             row.queries,
             &row.limits(),
-            Choice::Plain,
+            EngineName::Plain,
             &mut sink,
         );
         assert!(rt; matches!(&outcome, Err(Fault::Output)));

@@ -11,7 +11,8 @@ use Rattle.iso_ops.specs.declared.specifiers.Kind.TheVariants.{Prefix, Infix, Po
 use Rattle.iso_ops.specs.Operators.{Operator, IsOpTable, HasNoBrackets, find_op}
 use Rattle.iso_ops.specs.declared.settings.Flags.{Flags}
 use Rattle.iso_ops.proofs.TableLemmas.{apart-postfix}
-use Rattle.iso_model.specs.Syntax.Operators.{prefix_named, infix_named, postfix_named, left_of, right_of, takes_equal, is_right_open}
+use Rattle.iso_model.specs.Syntax.Operators.{prefix_named, infix_named, postfix_named, left_of, right_of}
+use Rattle.iso_ops.specs.Specifiers.{takes_equal, is_right_open}
 use Rattle.iso_model.specs.Terms.Trees.{Tree, Apply, row}
 use Rattle.iso_model.specs.Syntax.Token.{Shown, content, content_of}
 use Rattle.iso_model.specs.Syntax.Texts.{name_text}

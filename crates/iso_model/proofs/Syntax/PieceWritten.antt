@@ -8,7 +8,8 @@ use Rattle.iso_ops.specs.declared.specifiers.Kind.TheVariants.{Prefix, Infix, Po
 use Rattle.iso_ops.specs.Operators.{Operator, IsOpTable, HasNoBrackets}
 use Rattle.iso_ops.specs.declared.settings.Flags.{Flags}
 use Rattle.iso_ops.proofs.TableLemmas.{find_op-parts, find_op-priority}
-use Rattle.iso_model.specs.Syntax.Operators.{prefix_named, infix_named, postfix_named, right_of, is_right_open}
+use Rattle.iso_model.specs.Syntax.Operators.{prefix_named, infix_named, postfix_named, right_of}
+use Rattle.iso_ops.specs.Specifiers.{is_right_open}
 use Rattle.iso_model.specs.Terms.Trees.{Tree, Name, Apply, row}
 use Rattle.iso_model.specs.Syntax.Lists.{nil, curly, dot}
 use Rattle.iso_model.specs.Syntax.Texts.{name_text}

@@ -6,7 +6,8 @@ use Rattle.std.specs.Str.{bytes_eq}
 use Rattle.iso_ops.specs.declared.specifiers.Kind.TheVariants as op_kind
 use Rattle.iso_ops.specs.declared.settings.Flags.{Flags}
 use Rattle.iso_ops.specs.Operators.{Operator, IsOpTable, comma}
-use Rattle.iso_model.specs.Syntax.Operators.{prefix_named, left_of, right_of, takes_equal}
+use Rattle.iso_model.specs.Syntax.Operators.{prefix_named, left_of, right_of}
+use Rattle.iso_ops.specs.Specifiers.{takes_equal}
 use Rattle.iso_model.specs.Syntax.Token.{Shown, TokenKind, NameToken, QuotedToken, DoubleToken, VariableToken, IntegerToken, PunctToken, EndToken, BadToken, magnitude, content}
 use Rattle.iso_model.specs.Terms.Trees.{Variable, Integer, Name, Apply, row}
 use Rattle.iso_model.specs.Syntax.Lists.{nil, curly, list_before, quoted_term}

@@ -5,7 +5,8 @@ use Rattle.std.specs.Str.{bytes_eq}
 use Rattle.std.proofs.lemmas.Slice.Eq.{bytes_eq-Decides}
 use Rattle.iso_ops.specs.Operators.{Operator}
 use Rattle.iso_model.specs.Syntax.Characters.{is_punctuation}
-use Rattle.iso_model.specs.Syntax.Operators.{prefix_named, infix_named, postfix_named, left_of, right_of, takes_equal}
+use Rattle.iso_model.specs.Syntax.Operators.{prefix_named, infix_named, postfix_named, left_of, right_of}
+use Rattle.iso_ops.specs.Specifiers.{takes_equal}
 use Rattle.iso_model.specs.Terms.Trees.{Tree, Variable, Integer, Name, Apply, End, More}
 use Rattle.iso_model.specs.Syntax.Texts.{name_text}
 use Rattle.iso_model.specs.Syntax.Pieces.{Piece, Written, Writeq, piece, after_space, bracketed, at_most, operand_at, left_operand, simple, made_by, is_symbolic, begins_open, begins_digit, operator_bytes, atom_written, compound_written, list_written, infix_pieces, prefix_pieces, postfix_pieces, pair_by, pair_written, single_by, single_written, variable_number, numbered_or, term_written}

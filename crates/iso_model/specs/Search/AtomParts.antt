@@ -9,8 +9,8 @@ use Rattle.iso_model.specs.Search.Keys.{Key, key}
 use Rattle.iso_model.specs.Search.Errors.{instantiation_error, type_error, domain_error}
 use Rattle.iso_model.specs.Search.Settings.{may_be_atom}
 use Rattle.iso_model.specs.Search.Settlements.{Settled, Refuses, Offers, Offer, constant_offer}
-use Rattle.iso_model.specs.declared.library.AtomPart.{AtomPart}
-use Rattle.iso_model.specs.declared.library.AtomPart.TheVariants.{Concat, Sub}
+use Rattle.iso_model.specs.declared.kinds.AtomPart.{AtomPart}
+use Rattle.iso_model.specs.declared.kinds.AtomPart.TheVariants.{Concat, Sub}
 
 -- the atom of these characters
 abbrev pub atom_of : List ℕ → Tree

@@ -15,8 +15,8 @@ use Rattle.iso_model.specs.Search.Keys.{Key, key}
 use Rattle.iso_model.specs.Search.Errors.{raised, instantiation_error, type_error, domain_error}
 use Rattle.iso_model.specs.Search.Library.{equate, equate_list}
 use Rattle.iso_model.specs.Search.Replies.{Answer, Raise}
-use Rattle.iso_model.specs.declared.library.Text.{Text}
-use Rattle.iso_model.specs.declared.library.Text.TheVariants.{AtomLength, AtomChars, AtomCodes, CharCode, NumberChars, NumberCodes}
+use Rattle.iso_model.specs.declared.kinds.Text.{Text}
+use Rattle.iso_model.specs.declared.kinds.Text.TheVariants.{AtomLength, AtomChars, AtomCodes, CharCode, NumberChars, NumberCodes}
 
 -- ---- characters and their codes (7.1.4)
 

@@ -16,14 +16,14 @@ use Rattle.iso_model.specs.Search.Keys.{Key, key}
 use Rattle.iso_model.specs.Search.Errors.{raised, instantiation_error, type_error, domain_error, max_arity_error}
 use Rattle.iso_model.specs.Search.Replies.{Answer, Fail, Succeed, Equate, EquateCopy, Raise}
 use Rattle.iso_model.specs.Search.Arithmetic.{Value, value}
-use Rattle.iso_model.specs.declared.library.Library.{Library}
-use Rattle.iso_model.specs.declared.library.Library.TheVariants.{Unify, Differ, Test, Is, Compare, Arg, CopyTerm, Functor, Univ, TermVariables, Order, CompareTerms, Sort, Keysort}
-use Rattle.iso_model.specs.declared.library.TypeTest.{TypeTest}
-use Rattle.iso_model.specs.declared.library.TypeTest.TheVariants as test
-use Rattle.iso_model.specs.declared.library.OrderTest.{OrderTest}
-use Rattle.iso_model.specs.declared.library.OrderTest.TheVariants as order
-use Rattle.iso_model.specs.declared.library.Comparison.{Comparison}
-use Rattle.iso_model.specs.declared.library.Comparison.TheVariants.{Equal, Unequal, Less, AtMost, Greater, AtLeast}
+use Rattle.iso_model.specs.declared.kinds.Library.{Library}
+use Rattle.iso_model.specs.declared.kinds.Library.TheVariants.{Unify, Differ, Test, Is, Compare, Arg, CopyTerm, Functor, Univ, TermVariables, Order, CompareTerms, Sort, Keysort}
+use Rattle.iso_model.specs.declared.kinds.TypeTest.{TypeTest}
+use Rattle.iso_model.specs.declared.kinds.TypeTest.TheVariants as test
+use Rattle.iso_model.specs.declared.kinds.OrderTest.{OrderTest}
+use Rattle.iso_model.specs.declared.kinds.OrderTest.TheVariants as order
+use Rattle.iso_model.specs.declared.kinds.Comparison.{Comparison}
+use Rattle.iso_model.specs.declared.kinds.Comparison.TheVariants.{Equal, Unequal, Less, AtMost, Greater, AtLeast}
 
 -- what a test comes to
 abbrev pub tested : Bool → Answer

@@ -10,8 +10,8 @@ use Rattle.iso_model.specs.Syntax.Pieces as style
 use Rattle.iso_model.specs.Search.Keys.{Key, key}
 use Rattle.iso_model.specs.Search.AtomTexts.{Characters, element_code}
 use Rattle.iso_model.specs.Search.Replies.{Reply, Raises, Writes}
-use Rattle.iso_model.specs.declared.library.Output.{Output}
-use Rattle.iso_model.specs.declared.library.Output.TheVariants.{PutChar, NewLine, Write, Writeq, WriteCanonical}
+use Rattle.iso_model.specs.declared.kinds.Output.{Output}
+use Rattle.iso_model.specs.declared.kinds.Output.TheVariants.{PutChar, NewLine, Write, Writeq, WriteCanonical}
 
 -- the text of a term in a place of any priority, whose variables are numbered by first occurrence
 abbrev pub written_text : Style → Tree → List Operator → List ℕ

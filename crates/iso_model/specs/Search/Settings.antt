@@ -17,8 +17,8 @@ use Rattle.iso_model.specs.Search.Keys.{Key, key}
 use Rattle.iso_model.specs.Search.Errors.{instantiation_error, type_error, domain_error, not_permitted}
 use Rattle.iso_model.specs.Search.Worlds.{World}
 pub use Rattle.iso_model.specs.Search.Settlements.{Settled, Refuses, Changes, Offers, constant_offer}
-use Rattle.iso_model.specs.declared.library.Setting.{Setting}
-use Rattle.iso_model.specs.declared.library.Setting.TheVariants.{Op, CurrentOp, SetFlag, CurrentFlag}
+use Rattle.iso_model.specs.declared.kinds.Setting.{Setting}
+use Rattle.iso_model.specs.declared.kinds.Setting.TheVariants.{Op, CurrentOp, SetFlag, CurrentFlag}
 
 -- ---- op/3 (8.14.3)
 

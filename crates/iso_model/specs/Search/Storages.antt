@@ -18,8 +18,8 @@ use Rattle.iso_model.specs.Search.Additions as additions
 use Rattle.iso_model.specs.Search.Errors.{indicator, instantiation_error, type_error, type_error_callable, domain_error, not_permitted, permission_error, max_arity_error}
 use Rattle.iso_model.specs.Search.Worlds.{World}
 pub use Rattle.iso_model.specs.Search.Settlements.{Settled, Refuses, Changes, Offers, Offer, Reference}
-use Rattle.iso_model.specs.declared.library.Storage.{Storage}
-use Rattle.iso_model.specs.declared.library.Storage.TheVariants as storage
+use Rattle.iso_model.specs.declared.kinds.Storage.{Storage}
+use Rattle.iso_model.specs.declared.kinds.Storage.TheVariants as storage
 
 -- the world with these procedures
 abbrev pub with_procedures : World → Procedures → World

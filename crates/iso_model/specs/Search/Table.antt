@@ -3,15 +3,15 @@ use Rattle.std.specs.Prelude.{List, [], ◌∷◌, Bool, true, false, ◌||◌, 
 use Rattle.iso_model.specs.Search.Keys.{Key, key, same_key}
 use Rattle.iso_model.specs.declared.built_ins.BuiltIn.{BuiltIn}
 use Rattle.iso_model.specs.declared.built_ins.BuiltIn.TheVariants.{True, Fail, Call, Once, Not, Repeat, Catch, Throw, Halt, HaltWith, Findall, Library, Setting, Storage, Text, Output, AtomPart}
-use Rattle.iso_model.specs.declared.library.Library.TheVariants as library
-use Rattle.iso_model.specs.declared.library.Setting.TheVariants as setting
-use Rattle.iso_model.specs.declared.library.Storage.TheVariants as storage
-use Rattle.iso_model.specs.declared.library.Text.TheVariants as text
-use Rattle.iso_model.specs.declared.library.Output.TheVariants as output
-use Rattle.iso_model.specs.declared.library.AtomPart.TheVariants as part
-use Rattle.iso_model.specs.declared.library.Comparison.TheVariants as comparison
-use Rattle.iso_model.specs.declared.library.OrderTest.TheVariants as order
-use Rattle.iso_model.specs.declared.library.TypeTest.TheVariants as test
+use Rattle.iso_model.specs.declared.kinds.Library.TheVariants as library
+use Rattle.iso_model.specs.declared.kinds.Setting.TheVariants as setting
+use Rattle.iso_model.specs.declared.kinds.Storage.TheVariants as storage
+use Rattle.iso_model.specs.declared.kinds.Text.TheVariants as text
+use Rattle.iso_model.specs.declared.kinds.Output.TheVariants as output
+use Rattle.iso_model.specs.declared.kinds.AtomPart.TheVariants as part
+use Rattle.iso_model.specs.declared.kinds.Comparison.TheVariants as comparison
+use Rattle.iso_model.specs.declared.kinds.OrderTest.TheVariants as order
+use Rattle.iso_model.specs.declared.kinds.TypeTest.TheVariants as test
 
 -- the built-ins by name and arity
 abbrev pub built_ins : List (Key × BuiltIn)

@@ -6,7 +6,8 @@ use Rattle.std.specs.List.{list_all}
 use Rattle.std.specs.Str.{bytes_eq}
 use Rattle.iso_ops.specs.Operators.{Operator}
 use Rattle.iso_model.specs.Syntax.Characters.{is_digit, is_alphanumeric, is_graphic, space, quote, byte_of}
-use Rattle.iso_model.specs.Syntax.Operators.{prefix_named, infix_named, postfix_named, left_of, right_of, takes_equal, is_right_open}
+use Rattle.iso_model.specs.Syntax.Operators.{prefix_named, infix_named, postfix_named, left_of, right_of}
+use Rattle.iso_ops.specs.Specifiers.{takes_equal, is_right_open}
 use Rattle.iso_model.specs.Terms.Trees.{Tree, Variable, Integer, Name, Apply, End, More}
 use Rattle.iso_model.specs.Syntax.Texts.{is_bare, name_text, variable_text, numbered_variable}
 

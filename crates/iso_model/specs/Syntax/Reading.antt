@@ -3,7 +3,8 @@
 use Rattle.std.specs.Prelude.{ℕ, zero, suc, ◌+◌, ◌-◌, max, Bool, true, false, not, ◌&&◌, ◌==◌, if◌then◌else◌, nat_le, nat_lt, List, [], ◌∷◌, length, drop, Option, Some, None, option_map, pos, neg_ℤ, codes}
 use Rattle.iso_ops.specs.Operators.{Operator}
 use Rattle.iso_ops.specs.declared.settings.Flags.{Flags}
-use Rattle.iso_model.specs.Syntax.Operators.{prefix_named, left_of, right_of, takes_equal}
+use Rattle.iso_model.specs.Syntax.Operators.{prefix_named, left_of, right_of}
+use Rattle.iso_ops.specs.Specifiers.{takes_equal}
 use Rattle.iso_model.specs.Syntax.Token.{Shown, TokenKind, NameToken, QuotedToken, DoubleToken, VariableToken, IntegerToken, PunctToken, magnitude, content}
 use Rattle.iso_model.specs.Syntax.Grammar.{Left, Node, Row, ReadTerm, number_of, with_name, closed, joined, applied, no_terms, with_first, is_mark, opens_arguments, next_is, negates, begins, max_integer, max_depth, infix_at, postfix_at, numbered, start_of}
 use Rattle.iso_model.specs.Syntax.Lists.{nil, curly, list_before, quoted_term}

@@ -3,7 +3,7 @@ use Rattle.iso_model.specs.Terms.Trees.{Name}
 use Rattle.iso_model.specs.Terms.Types.{is_variable}
 use Rattle.iso_model.specs.Terms.Arguments.{argument}
 use Rattle.iso_model.specs.Search.Settings.{named_flag_settled}
-use Rattle.iso_model.specs.declared.library.Setting.TheVariants as row
+use Rattle.iso_model.specs.declared.kinds.Setting.TheVariants as row
 use Rattle.iso_store_core.specs.Presents.{meaning}
 use Rattle.iso_store_core.proofs.AtomLemmas.{text-is}
 use Rattle.iso_lib.specs.Settlements.{IsSettled, with_settings}

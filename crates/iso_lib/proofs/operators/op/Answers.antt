@@ -5,7 +5,7 @@ use Rattle.iso_atoms.specs.declared.Atom.{Atom}
 use Rattle.iso_model.specs.Terms.Types.{is_variable}
 use Rattle.iso_model.specs.Terms.Arguments.{argument}
 use Rattle.iso_model.specs.Search.Settings.{op_settled, op_set, set_names, with_texts, has_unbound}
-use Rattle.iso_model.specs.declared.library.Setting.TheVariants.{Op}
+use Rattle.iso_model.specs.declared.kinds.Setting.TheVariants.{Op}
 use Rattle.iso_store_core.specs.Presents.{meaning}
 use Rattle.iso_lib.specs.Settlements.{IsSettled, with_settings}
 use Rattle.iso_lib_core.proofs.CheckLemmas.{handed_on}

@@ -1,6 +1,6 @@
 use Rattle.std.proofs.Common.{sym, refl}
 use Rattle.iso_store_core.specs.Presents.{meaning}
-use Rattle.iso_model.specs.declared.library.Setting.TheVariants as setting
+use Rattle.iso_model.specs.declared.kinds.Setting.TheVariants as setting
 use Rattle.iso_lib.specs.Settlements.{with_settings}
 use Rattle.iso_lib.proofs.SettlementLemmas.{settled_in, own_settings}
 use Rattle.iso_lib.proofs.settings.settle.Goals as goal

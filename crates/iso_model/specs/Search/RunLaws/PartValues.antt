@@ -13,8 +13,8 @@ use Rattle.iso_model.specs.Search.AtomParts as table
 use Rattle.iso_model.specs.Search.AtomParts.{concat_key, parts_settled}
 use Rattle.iso_model.specs.Search.RunLaws.TermValues.{IsValue, argument_value, row_value}
 use Rattle.iso_model.specs.Search.RunLaws.SettingValues.{IsOwnSettled}
-use Rattle.iso_model.specs.declared.library.AtomPart.{AtomPart}
-use Rattle.iso_model.specs.declared.library.AtomPart.TheVariants as part
+use Rattle.iso_model.specs.declared.kinds.AtomPart.{AtomPart}
+use Rattle.iso_model.specs.declared.kinds.AtomPart.TheVariants as part
 
 atom_own : (r : Subst) (t : Tree) (k : Key) (goes_on : Settled) → IsOwnSettled r goes_on → IsOwnSettled r (table.with_atom t k goes_on)
 atom_own r t k goes_on own = elim (may_be_atom t) as (λ x. IsOwnSettled r (if x then goes_on else Refuses (type_error (codes "atom") t k))) [

@@ -13,8 +13,8 @@ use Rattle.iso_model.specs.Search.Worlds.{World}
 use Rattle.iso_model.specs.Search.Settings as table
 use Rattle.iso_model.specs.Search.Settings.{Settled, Refuses, Changes, Offers, constant_offer, op_key, current_op_key, set_flag_key, current_flag_key, setting_settled}
 use Rattle.iso_model.specs.Search.RunLaws.TermValues.{IsValue, argument_value, row_value}
-use Rattle.iso_model.specs.declared.library.Setting.{Setting}
-use Rattle.iso_model.specs.declared.library.Setting.TheVariants as setting
+use Rattle.iso_model.specs.declared.kinds.Setting.{Setting}
+use Rattle.iso_model.specs.declared.kinds.Setting.TheVariants as setting
 
 -- the row that the others are unified with is a value
 abbrev pub IsOwnSettled : Subst → Settled → Type 0

@@ -15,8 +15,8 @@ use Rattle.iso_model.specs.Search.Storages as table
 use Rattle.iso_model.specs.Search.Storages.{Settled, Refuses, Changes, Offers, clause_key, retract_key, retractall_key, storage_settled}
 use Rattle.iso_model.specs.Search.RunLaws.TermValues.{IsValue, argument_value, row_value}
 use Rattle.iso_model.specs.Search.RunLaws.SettingValues.{IsOwnSettled}
-use Rattle.iso_model.specs.declared.library.Storage.{Storage}
-use Rattle.iso_model.specs.declared.library.Storage.TheVariants as storage
+use Rattle.iso_model.specs.declared.kinds.Storage.{Storage}
+use Rattle.iso_model.specs.declared.kinds.Storage.TheVariants as storage
 
 addition_own : (r : Subst) (x : Addition) (w : World) → IsOwnSettled r (table.addition_settled x w)
 addition_own r (additions.Adds db) w = tt

@@ -16,8 +16,8 @@ use Rattle.iso_model.specs.Search.AtomTexts as table
 use Rattle.iso_model.specs.Search.AtomTexts.{Form, Characters, Codes, element, text_elements, element_code, elements_codes, char_code_key, text_answer}
 use Rattle.iso_model.specs.Search.RunLaws.TermValues.{IsValue, AreValues, argument_value, list_value}
 use Rattle.iso_model.specs.Search.RunLaws.LibraryValues.{IsOwnAnswer}
-use Rattle.iso_model.specs.declared.library.Text.{Text}
-use Rattle.iso_model.specs.declared.library.Text.TheVariants as text
+use Rattle.iso_model.specs.declared.kinds.Text.{Text}
+use Rattle.iso_model.specs.declared.kinds.Text.TheVariants as text
 
 -- characters and codes are constants
 elements_values : (r : Subst) (form : Form) (cs : List ℕ) → AreValues r (map (element form) cs)

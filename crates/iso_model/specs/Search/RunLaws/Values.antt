@@ -12,8 +12,8 @@ use Rattle.iso_model.specs.Terms.Lists.{is_partial_list}
 use Rattle.iso_model.specs.Search.Library.{library_answer}
 use Rattle.iso_model.specs.Search.AtomTexts.{text_answer, Characters, element_code}
 use Rattle.iso_model.specs.Search.Outputs.{put_code, put_char_key, output_reply}
-use Rattle.iso_model.specs.declared.library.Output.{Output}
-use Rattle.iso_model.specs.declared.library.Output.TheVariants as output
+use Rattle.iso_model.specs.declared.kinds.Output.{Output}
+use Rattle.iso_model.specs.declared.kinds.Output.TheVariants as output
 use Rattle.iso_model.specs.Search.Replies.{Answer, Fail, Succeed, Equate, EquateCopy, Raise}
 use Rattle.iso_model.specs.Search.Walker.{Left, AsIs, Again, Clauses, Catching, Gathering, Offered}
 use Rattle.iso_model.specs.Search.Worlds.{World}

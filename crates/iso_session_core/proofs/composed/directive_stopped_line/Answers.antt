@@ -5,6 +5,6 @@ use Rattle.iso_session_core.proofs.composed.directive_stopped_line.Goals as goal
 
 pub returns : goal.returns
 returns c =
-    let same : c.args.term ≡ min c.args.term 18446744073709551615 = omega (arith, c.ranges.term.fits) in
+    let same : c.args.number ≡ min c.args.number 18446744073709551615 = omega (arith, c.ranges.number.fits) in
     ap (λ v. v.items) c.into_bytes.ensures.value ∙ c.in_ok-format.ensures.ok ∙ ap (λ n. codes "directive " ++ (decimal n ++ codes " stopped: budget\n")) same
-    ∙ ap (λ z. codes "directive " ++ z) (sym (append_assoc (counted c.args.term) (codes " stopped: budget") (10 ∷ [])))
+    ∙ ap (λ z. codes "directive " ++ z) (sym (append_assoc (counted c.args.number) (codes " stopped: budget") (10 ∷ [])))

@@ -11,6 +11,6 @@ returns-in-Unreadable-clause-does g c = λ s stands k counts goals are next.
     record {
       goals = goals;
       are = are;
-      does = rw c.in-Unreadable.is (unreadable _ _ _ _ _ _ c.args.count k s (next goals) c.put_line.result stands c.requires.ready counts
-          (c.put_line.ensures.puts (syntax_error_line c.args.count) c.syntax_error_line-line.ensures));
+      does = rw c.in-Unreadable.is (unreadable _ _ _ _ _ _ c.args.number k s (next goals) c.put_line.result stands c.requires.ready counts
+          (c.put_line.ensures.puts (syntax_error_line c.args.number) c.syntax_error_line-line.ensures));
     }

@@ -19,19 +19,19 @@ loop-next-init g c = record {
 
 pub returns-in_default-clause-does : goal.returns-in_default-clause-does
 returns-in_default-clause-does g c = λ s stands next.
-    text_stops _ _ _ c.args.budget _ c.loop-next.count c.loop-next.tokens _ _ _ next (c.loop-next.invariant.place s stands next) c.loop-next.invariant.ready
+    text_stops _ _ _ c.args.budget _ c.loop-next.number c.loop-next.tokens _ _ _ next (c.loop-next.invariant.place s stands next) c.loop-next.invariant.ready
 
 pub returns-in_default-next-clause-does : goal.returns-in_default-next-clause-does
 returns-in_default-next-clause-does g c = λ s stands next.
     let place = c.loop-next.invariant.place s stands next in
     let none = nothing_found _ _ c.loop-next.tokens c.take_item.new.tokens c.in-Ok.next (c.in-Ok.ensures.item place.at place.stands) c.in_default-next.not-Some in
-    text_ends _ (λ l s. Unit {0}) _ c.args.budget _ c.loop-next.count c.loop-next.tokens _ _ _ next place c.loop-next.invariant.ready none
+    text_ends _ (λ l s. Unit {0}) _ c.args.budget _ c.loop-next.number c.loop-next.tokens _ _ _ next place c.loop-next.invariant.ready none
 
 pub returns-in_err-flow-clause-does : goal.returns-in_err-flow-clause-does
 returns-in_err-flow-clause-does g c = λ s stands next.
     let place = c.loop-next.invariant.place s stands next in
-    let turn = text_found _ c.args.budget _ c.loop-next.count c.saturating_add-count.result c.loop-next.tokens c.take_item.new.tokens c.in-Ok.next c.in-Some.item _ _ _ next
-    place (c.in-Ok.ensures.item place.at place.stands) c.in-Some.is c.in-Ok.ensures.shorter c.saturating_add-count.ensures in
+    let turn = text_found _ c.args.budget _ c.loop-next.number c.saturating_add-number.result c.loop-next.tokens c.take_item.new.tokens c.in-Ok.next c.in-Some.item _ _ _ next
+    place (c.in-Ok.ensures.item place.at place.stands) c.in-Some.is c.in-Ok.ensures.shorter c.saturating_add-number.ensures in
     let behind : Behind = λ later v. text_script c.args.budget turn.turns (turn.k + 1) c.take_item.new.tokens v later next in
     text_breaks_after _ _ _ _ _ _ _ _ _ _ next c.from_residual.result turn.advances c.from_residual.ensures.0
     (c.in_err-flow.ensures.does turn.at turn.stands turn.k turn.counts turn.goals turn.are behind)
@@ -39,8 +39,8 @@ returns-in_err-flow-clause-does g c = λ s stands next.
 pub returns-in_default-2-clause-does : goal.returns-in_default-2-clause-does
 returns-in_default-2-clause-does g c = λ s stands next.
     let place = c.loop-next.invariant.place s stands next in
-    let turn = text_found _ c.args.budget _ c.loop-next.count c.saturating_add-count.result c.loop-next.tokens c.take_item.new.tokens c.in-Ok.next c.in-Some.item _ _ _ next
-    place (c.in-Ok.ensures.item place.at place.stands) c.in-Some.is c.in-Ok.ensures.shorter c.saturating_add-count.ensures in
+    let turn = text_found _ c.args.budget _ c.loop-next.number c.saturating_add-number.result c.loop-next.tokens c.take_item.new.tokens c.in-Ok.next c.in-Some.item _ _ _ next
+    place (c.in-Ok.ensures.item place.at place.stands) c.in-Some.is c.in-Ok.ensures.shorter c.saturating_add-number.ensures in
     let behind : Behind = λ later v. text_script c.args.budget turn.turns (turn.k + 1) c.take_item.new.tokens v later next in
     let does = rw c.in_ok-flow.was at (c.consult_item.ensures.does turn.at turn.stands turn.k turn.counts turn.goals turn.are behind) in
     text_stops_after _ _ _ _ _ _ _ _ _ _ behind next c.in_ok-flow.flow turn.advances c.in_default-2.not-On does
@@ -49,11 +49,11 @@ pub loop-next-preserved : goal.loop-next-preserved
 loop-next-preserved g c =
     let goes = λ (s : State) (stands : g.E.Engine.stands_for c.args.engine.now s) (next : Behind).
     let place = c.loop-next.invariant.place s stands next in
-    let turn = text_found _ c.args.budget _ c.loop-next.count c.saturating_add-count.result c.loop-next.tokens c.take_item.new.tokens c.in-Ok.next c.in-Some.item _ _ _ next
-    place (c.in-Ok.ensures.item place.at place.stands) c.in-Some.is c.in-Ok.ensures.shorter c.saturating_add-count.ensures in
+    let turn = text_found _ c.args.budget _ c.loop-next.number c.saturating_add-number.result c.loop-next.tokens c.take_item.new.tokens c.in-Ok.next c.in-Some.item _ _ _ next
+    place (c.in-Ok.ensures.item place.at place.stands) c.in-Some.is c.in-Ok.ensures.shorter c.saturating_add-number.ensures in
     let behind : Behind = λ later v. text_script c.args.budget turn.turns (turn.k + 1) c.take_item.new.tokens v later next in
     let does = rw (c.in_ok-flow.was, c.in-On.is) at (c.consult_item.ensures.does turn.at turn.stands turn.k turn.counts turn.goals turn.are behind) in
-    text_goes _ _ (λ l s. Unit {0}) _ c.args.budget _ _ c.saturating_add-count.result _ c.take_item.new.tokens _ _ _ _ next turn does in
+    text_goes _ _ (λ l s. Unit {0}) _ c.args.budget _ _ c.saturating_add-number.result _ c.take_item.new.tokens _ _ _ _ next turn does in
     let first = goes c.requires.stands.0 c.requires.stands.1 (λ goals w. Closes Done) in
     record {
       ready = first.0;

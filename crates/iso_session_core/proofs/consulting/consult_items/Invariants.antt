@@ -14,7 +14,7 @@ invariant-loop-next g l = record {
   stands : (t : State) × g.E.Engine.stands_for l.engine t;
   limits : KeepsLimits (MayMeet (g.E.Engine.heap_pieces l.fn.engine) (g.E.Engine.frames_pieces l.fn.engine)) (MayMeet (g.E.Engine.heap_pieces l.engine) (g.E.Engine.frames_pieces l.engine));
   place : (s : State) → g.E.Engine.stands_for l.fn.engine s → (next : Behind)
-      → TextPlace (g.E.Engine.stands_for l.engine) l.budget l.kept.items l.count l.tokens (place g.W.Write.contents l.fn.console) (place g.W.Write.contents l.console)
+      → TextPlace (g.E.Engine.stands_for l.engine) l.budget l.kept.items l.number l.tokens (place g.W.Write.contents l.fn.console) (place g.W.Write.contents l.console)
       (text_script l.budget (length (tokens l.text)) 1 (tokens l.text) s.world [] next) next;
   writer : l.console.out.ghost_name ≡ l.fn.console.out.ghost_name;
 }

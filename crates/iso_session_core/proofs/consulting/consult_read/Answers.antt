@@ -9,7 +9,7 @@ use Rattle.iso_session_core.proofs.consulting.consult_read.Goals as goal
 pub returns-in-Clause-clause-does : goal.returns-in-Clause-clause-does
 returns-in-Clause-clause-does g c = λ s stands k counts goals are next.
     let is = sym c.text_term.ensures.is ∙ ap text_term_of c.in-Clause.is in
-    record { goals = goals; are = are; does = rw is (c.consult_term.ensures.does s stands k counts c.args.budget (next goals)) }
+    record { goals = goals; are = are; does = rw is (c.add_clause.ensures.does s stands k counts c.args.budget (next goals)) }
 
 pub returns-in-Directive-clause-does : goal.returns-in-Directive-clause-does
 returns-in-Directive-clause-does g c = λ s stands k counts goals are next.
@@ -35,5 +35,5 @@ returns-in-PassedOver-clause-does g c = λ s stands k counts goals are next.
     record {
       goals = goals;
       are = are;
-      does = rw is (skipped _ _ _ _ _ _ c.args.count k s (next goals) c.put_line.result stands c.requires.ready counts (c.put_line.ensures.puts (skipped_line c.args.count) c.skipped_line-line.ensures));
+      does = rw is (skipped _ _ _ _ _ _ c.args.number k s (next goals) c.put_line.result stands c.requires.ready counts (c.put_line.ensures.puts (skipped_line c.args.number) c.skipped_line-line.ensures));
     }

@@ -43,5 +43,5 @@ pub returns-in_default-clause-does : goal.returns-in_default-clause-does
 returns-in_default-clause-does g c = λ goal w budget stands k counts next.
     let place = c.loop-bytes.invariant.place goal w budget stands k next in
     let pauses = c.resume.ensures.pauses place.at place.stands c.loop-bytes.invariant.awake in
-    directive_ends _ _ c.ops.result.now _ c.ops.ensures _ _ _ c.args.count k counts goal w budget place.at c.resume.result next c.end_directive.result place.gave place.advances
+    directive_ends _ _ c.ops.result.now _ c.ops.ensures _ _ _ c.args.number k counts goal w budget place.at c.resume.result next c.end_directive.result place.gave place.advances
     pauses (c.resume.ensures.limit place.at place.stands) c.end_directive.ensures.ends c.in_default.not-Output

@@ -1,4 +1,4 @@
 use Rattle.iso_store.proofs.order.compare.Goals as goal
 
 pub returns-clause-marks : goal.returns-clause-marks
-returns-clause-marks g c = λ m p h. c.keep.ensures.marks m p (c.take_kept.ensures.marks m p h)
+returns-clause-marks g c = λ m p h. c.keep.ensures.marks m p (c.take_scratch.ensures.marks m p h)

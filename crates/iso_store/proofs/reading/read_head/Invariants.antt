@@ -1,10 +1,17 @@
--- What holds of the parts and words that are left, and what solves it.
-use Rattle.std.proofs.Common.{length}
+-- What holds of the parts and terms that are left, and what solves it.
+use Rattle.std.proofs.Common.{◌++◌, ◌∷◌, [], length}
+use Rattle.iso_store_core.specs.Presents.{Holds, meaning}
+use Rattle.iso_store.specs.Reading.{AreUnread, left_terms}
 use Rattle.iso_store.proofs.ReadHeads.{IsAhead}
 use Rattle.iso_store.proofs.reading.read_head.Given as goal
 
-abbrev pub invariant-loop-word : goal.invariant-loop-word
-invariant-loop-word g l = IsAhead (g.C.Cells.present l.store) (g.C.Cells.names l.store) l.head.parts.items (length l.fn.values.items) l.fn.goal l.values.items l.later.items l.left.items l.at
+abbrev pub invariant-loop-rest : goal.invariant-loop-rest
+invariant-loop-rest g l = record {
+  ahead : IsAhead (g.C.Cells.present l.store) (g.C.Cells.names l.store) l.head.parts.items (length l.fn.values.items) l.fn.goal l.values.items l.later.items
+      (left_terms (g.C.Cells.present l.store) l.left.items ++ meaning (g.C.Cells.present l.store) l.word ∷ []) l.at;
+  unread : AreUnread (g.C.Cells.present l.store) l.left.items;
+  word : Holds (g.C.Cells.present l.store) l.word;
+}
 
-abbrev pub decreases-loop-word : goal.decreases-loop-word
-decreases-loop-word g l = l.at
+abbrev pub decreases-loop-rest : goal.decreases-loop-rest
+decreases-loop-rest g l = l.at

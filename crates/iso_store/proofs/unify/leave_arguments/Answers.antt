@@ -1,7 +1,7 @@
 use Rattle.std.proofs.Common.{◌≡◌, ◌∷◌, ◌++◌, [], sym, ap, ◌∙◌}
 use Rattle.iso_store_core.specs.Presents.{meaning}
 use Rattle.iso_store.proofs.UnifyLemmas.{opened, no_tasks, steps-alone, steps-opened, stands-alone, stands-opened, stands-same, steps-same}
-use Rattle.iso_store.specs.declared.unify.Task.TheVariants.{Unify}
+use Rattle.iso_store.specs.declared.unify.Task.TheVariants.{Arguments}
 use Rattle.iso_store.proofs.OrderLemmas.{order-same, order-alone, order-opened}
 use Rattle.iso_store.proofs.unify.leave_arguments.Goals as goal
 
@@ -53,7 +53,7 @@ returns-then-is_empty-clause-stands g c =
     let p = g.C.Cells.present c.args.store.now in
     let apart = opened c.args.count (meaning p c.args.one) (meaning p c.args.other) c.requires.meeting c.requires.one_term c.requires.other_term in
     let none = no_tasks c.args.tasks.now.items _ c.is_empty.result c.args.tasks.now.ok.0 c.is_empty.ensures c.if-is_empty.true in
-    let alone = c.in_ok-push.ensures.items ∙ ap (λ ks. ks ++ Unify c.end_of_joins-one.result c.end_of_joins-other.result 0 c.args.count ∷ []) none in
+    let alone = c.in_ok-push.ensures.items ∙ ap (λ ks. ks ++ Arguments c.end_of_joins-one.result c.end_of_joins-other.result 0 c.args.count ∷ []) none in
     (stands-alone p c.push.new.self.items c.end_of_joins-one.result c.end_of_joins-other.result c.args.count (meaning p c.args.one) (meaning p c.args.other)
     c.end_of_joins-one.ensures.value c.end_of_joins-other.ensures.value apart alone (g.C.Cells.at_place c.args.store.now) c.end_of_joins-other.new.joined
     c.end_of_joins-one.ensures.holds c.end_of_joins-other.ensures.holds c.end_of_joins-other.ensures.joined)
@@ -63,7 +63,7 @@ returns-then-is_empty-clause-steps g c =
     let p = g.C.Cells.present c.args.store.now in
     let apart = opened c.args.count (meaning p c.args.one) (meaning p c.args.other) c.requires.meeting c.requires.one_term c.requires.other_term in
     let none = no_tasks c.args.tasks.now.items _ c.is_empty.result c.args.tasks.now.ok.0 c.is_empty.ensures c.if-is_empty.true in
-    let alone = c.in_ok-push.ensures.items ∙ ap (λ ks. ks ++ Unify c.end_of_joins-one.result c.end_of_joins-other.result 0 c.args.count ∷ []) none in
+    let alone = c.in_ok-push.ensures.items ∙ ap (λ ks. ks ++ Arguments c.end_of_joins-one.result c.end_of_joins-other.result 0 c.args.count ∷ []) none in
     rw none (steps-alone p c.push.new.self.items c.end_of_joins-one.result c.end_of_joins-other.result c.args.count (meaning p c.args.one) (meaning p c.args.other)
     c.end_of_joins-one.ensures.value c.end_of_joins-other.ensures.value apart alone)
 
@@ -72,6 +72,6 @@ returns-then-is_empty-clause-order g c =
     let p = g.C.Cells.present c.args.store.now in
     let apart = opened c.args.count (meaning p c.args.one) (meaning p c.args.other) c.requires.meeting c.requires.one_term c.requires.other_term in
     let none = no_tasks c.args.tasks.now.items _ c.is_empty.result c.args.tasks.now.ok.0 c.is_empty.ensures c.if-is_empty.true in
-    let alone = c.in_ok-push.ensures.items ∙ ap (λ ks. ks ++ Unify c.end_of_joins-one.result c.end_of_joins-other.result 0 c.args.count ∷ []) none in
+    let alone = c.in_ok-push.ensures.items ∙ ap (λ ks. ks ++ Arguments c.end_of_joins-one.result c.end_of_joins-other.result 0 c.args.count ∷ []) none in
     rw none (order-alone p c.push.new.self.items c.end_of_joins-one.result c.end_of_joins-other.result c.args.count (meaning p c.args.one) (meaning p c.args.other)
     c.end_of_joins-one.ensures.value c.end_of_joins-other.ensures.value apart alone)

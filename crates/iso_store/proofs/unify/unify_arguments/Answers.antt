@@ -20,7 +20,7 @@ unify_next-requires-clause-stands g c =
     let p = g.C.Cells.present c.args.store.now in
     let pair = c.requires.pair in
     stands-last p c.args.tasks.now.items c.args.one c.args.other c.args.index c.args.count pair.2 pair.3 pair.4 (meaning p c.arg-first.result) (meaning p c.arg-second.result) c.arg-first.ensures.value
-    c.arg-second.ensures.value c.if-index-count.true (g.C.Cells.at_place c.args.store.now) c.args.scratch.now.joined c.requires.stands
+    c.arg-second.ensures.value c.if-index-count.true (g.C.Cells.at_place c.args.store.now) c.args.notes.now.joined c.requires.stands
 
 pub returns-then-index-count-clause-steps : goal.returns-then-index-count-clause-steps
 returns-then-index-count-clause-steps g c =
@@ -38,7 +38,7 @@ unify_next-requires-2-clause-stands g c =
     let pair = c.requires.pair in
     let within : c.args.index + 1 < c.args.count = omega (arith, pair.2) in
     stands-more p c.args.tasks.now.items c.args.one c.args.other c.args.index c.args.count pair.2 pair.3 pair.4 (meaning p c.arg-first.result) (meaning p c.arg-second.result) c.arg-first.ensures.value
-    c.arg-second.ensures.value c.push.new.self.items c.in_ok-push.ensures.items (g.C.Cells.at_place c.args.store.now) c.args.scratch.now.joined within c.requires.stands
+    c.arg-second.ensures.value c.push.new.self.items c.in_ok-push.ensures.items (g.C.Cells.at_place c.args.store.now) c.args.notes.now.joined within c.requires.stands
 
 pub returns-clause-steps : goal.returns-clause-steps
 returns-clause-steps g c =

@@ -13,7 +13,7 @@ invariant-loop-task g l = record {
       × LeftBy (meaning (g.C.Cells.present l.fn.store) l.fn.one ∷ []) (meaning (g.C.Cells.present l.fn.store) l.fn.other ∷ [])
       (ones (g.C.Cells.present l.store) [] l.tasks.items) (others (g.C.Cells.present l.store) [] l.tasks.items) r
       × Binds (g.C.Cells.present l.fn.store) (g.C.Cells.present l.store) r;
-  stands : Stands (g.C.Cells.present l.store) (g.C.Cells.at_place l.store) l.scratch.joined [] [] l.tasks.items;
+  stands : Stands (g.C.Cells.present l.store) (g.C.Cells.at_place l.store) l.notes.joined [] [] l.tasks.items;
   cells : Grows (g.C.Cells.present l.fn.store) (g.C.Cells.present l.store) 0;
   names : g.C.Cells.names l.store ≡ g.C.Cells.names l.fn.store;
   marks : KeepsMarks (g.C.Cells.stands l.fn.store) (g.C.Cells.stands l.store);

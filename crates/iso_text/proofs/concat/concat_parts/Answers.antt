@@ -1,6 +1,6 @@
 use Rattle.std.proofs.Common.{◌∙◌, sym, subst}
 use Rattle.iso_model.specs.Search.Settlements.{Settled}
-use Rattle.iso_model.specs.declared.library.AtomPart.TheVariants.{Concat}
+use Rattle.iso_model.specs.declared.kinds.AtomPart.TheVariants.{Concat}
 use Rattle.iso_store_core.specs.Presents.{meaning}
 use Rattle.iso_text.specs.Parts.{IsParted}
 use Rattle.iso_text.proofs.ConcatLemmas.{concat_same}

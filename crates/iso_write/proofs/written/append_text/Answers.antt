@@ -14,9 +14,9 @@ use Rattle.iso_write.proofs.written.append_text.Goals as goal
 
 pub loop-task-init : goal.loop-task-init
 loop-task-init c =
-    let style = style_of c.args.setting.style in
-    let table = c.args.setting.ops.now in
-    let seen = c.args.setting.seen.now in
+    let style = style_of c.args.manner.style in
+    let table = c.args.manner.ops.now in
+    let seen = c.args.manner.seen.now in
     let ps = at_most c.args.priority (term_written style table seen (term_of c.args.term.now)) in
     let first = ap (pieces_of style table seen) (c.in_ok-push.ensures.items ∙ ap (λ z. z ++ Placed c.args.term (Whole c.args.priority) ∷ []) c.new-todo.ensures.items) ∙ append-nil ps in
     record {
@@ -33,9 +33,9 @@ loop-task-smaller c =
 
 pub loop-task-preserved : goal.loop-task-preserved
 loop-task-preserved c =
-    let style = style_of c.args.setting.style in
-    let table = c.args.setting.ops.now in
-    let seen = c.args.setting.seen.now in
+    let style = style_of c.args.manner.style in
+    let table = c.args.manner.ops.now in
+    let seen = c.args.manner.seen.now in
     let popped = ap (pieces_of style table seen) c.in-Some.ensures.items ∙ with_tasks-append style table seen [] c.pop.new.self.items _ in
     record {
       text = c.in_ok-edge.ensures.text ∙ sym (ap (λ z. c.loop-task.out.items ++ behind c.loop-task.edge z) popped) ∙ c.loop-task.invariant.text;

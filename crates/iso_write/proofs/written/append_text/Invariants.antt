@@ -9,8 +9,8 @@ use Rattle.iso_write.proofs.written.append_text.Given as goal
 
 abbrev pub invariant-loop-task : goal.invariant-loop-task
 invariant-loop-task l = record {
-  text : l.out.items ++ behind l.edge (pieces_of (style_of l.setting.style) l.setting.ops.now l.setting.seen.now l.todo.items)
-      ≡ l.fn.out.items ++ text_at (style_of l.setting.style) l.setting.ops.now l.setting.seen.now l.priority (term_of l.term);
+  text : l.out.items ++ behind l.edge (pieces_of (style_of l.manner.style) l.manner.ops.now l.manner.seen.now l.todo.items)
+      ≡ l.fn.out.items ++ text_at (style_of l.manner.style) l.manner.ops.now l.manner.seen.now l.priority (term_of l.term);
   kept : take (length l.fn.out.items) l.out.items ≡ l.fn.out.items;
 }
 

@@ -1,6 +1,6 @@
 use Rattle.std.proofs.Common.{◌≡◌, suc, ◌+◌, ◌-◌, length, take, refl, ap, sym, ◌∙◌, subst, arith}
 use Rattle.iso_model.specs.Search.Walker.{fails, shortened}
-use Rattle.iso_plain_core.specs.Costs.{frame_costs, rest_cost, left_cost, choices_cost, choice_cost}
+use Rattle.iso_plain_core.specs.Costs.{member_costs, rest_cost, left_cost, choices_cost, choice_cost}
 use Rattle.iso_plain_core.proofs.CostLemmas.{choices_last}
 use Rattle.iso_plain.proofs.EndLemmas.{failing_engine}
 use Rattle.iso_plain.proofs.RaiseLemmas.{back_at, entry_is, caught_there, kept_ball}
@@ -68,7 +68,7 @@ returns-clause-costs g c =
     let failing = c.cut_to.ensures.failing (fails s) (failing_engine g.S.Store.names g.S.Store.present g.S.Store.stands g.S.Store.older c.args.self.now s c.requires.goes.3) refl in
     let at = back_at g.S.Store.names g.S.Store.present g.S.Store.stands g.S.Store.older c.args.self.now c.cut_to.new.self c.go_back-mark.new.self c.go_back-mark.result s c.requires.goes.1 c.requires.goes.2 c.args.height c.requires.goes.5 failing c.go_back-mark.ensures.choices c.go_back-mark.ensures.back in
     let two = c.go_back-mark.new.self in
-    let costs = frame_costs two.frames.items in
+    let costs = member_costs two.members.items in
     let many = at.many in
     let n : c.args.height ≡ length two.choices.items - 1 = omega (arith, many) in
     let are = choices_are g.S.Store.names g.S.Store.present g.S.Store.stands g.S.Store.older two at.choice s (c.requires.goes.5).alternative (c.requires.goes.5).below at.went (omega (arith, many)) in
@@ -77,8 +77,8 @@ returns-clause-costs g c =
     let here : choice_cost costs at.choice.left ≡ left_cost 1 (rest_cost costs c.in-Catching.next) = ap (choice_cost costs) (ap (λ (x : _). x.left) (sym same) ∙ c.in-Catching.is) in
     let new = ap (choices_cost costs) (c.truncate.ensures.items ∙ ap (λ (k : _). take k two.choices.items) n) in
     let cut = c.cut_to.ensures.costs in
-    let back : choices_cost costs c.cut_to.new.self.choices.items ≡ choices_cost (frame_costs c.args.self.now.frames.items) c.cut_to.new.self.choices.items =
-    rw c.cut_to.ensures.frames at c.go_back-mark.ensures.costs in
+    let back : choices_cost costs c.cut_to.new.self.choices.items ≡ choices_cost (member_costs c.args.self.now.members.items) c.cut_to.new.self.choices.items =
+    rw c.cut_to.ensures.members at c.go_back-mark.ensures.costs in
     let kept_all = ap (λ (v : _). choices_cost costs v.items) c.go_back-mark.ensures.choices in
     omega (arith, old, here, new, cut, back, kept_all)
 

@@ -29,5 +29,5 @@ returns-in_err-enter-clause-kept g c = λ s call k ks gs t.
 
 pub returns-clause-costs : goal.returns-clause-costs
 returns-clause-costs g c = λ done.
-    call_costs c.args.self.now c.push_choice.new.self c.enter.new.self c.args.attempt.rest c.in_ok-push_choice.ensures.frames_same c.in_ok-enter.ensures.frames c.in_ok-enter.ensures.choices
+    call_costs c.args.self.now c.push_choice.new.self c.enter.new.self c.args.attempt.rest c.in_ok-push_choice.ensures.members_same c.in_ok-enter.ensures.members c.in_ok-enter.ensures.choices
     c.in_ok-push_choice.ensures.costs c.in_ok-enter.ensures.cost

@@ -1,6 +1,6 @@
 use Rattle.std.proofs.Common.{ap, Ok}
 use Rattle.iso_plain_core.proofs.ResultLemmas.{behind_error}
-use Rattle.iso_plain_core.specs.Costs.{rest_cost, frame_costs, choices_cost}
+use Rattle.iso_plain_core.specs.Costs.{rest_cost, member_costs, choices_cost}
 use Rattle.iso_plain.specs.EngineStates.{cost}
 use Rattle.iso_plain.proofs.WeightLemmas.{falls_called}
 use Rattle.iso_plain.proofs.plain.Plain.call_first.Goals as goal
@@ -23,5 +23,5 @@ returns-in_err-call-clause-kept g c = λ s call k ks gs t. behind_error c.from_r
 pub returns-then-branch-clause-falls : goal.returns-then-branch-clause-falls
 returns-then-branch-clause-falls g c = λ w less.
     (let e = c.args.self.now in
-    let costs = frame_costs e.frames.items in
+    let costs = member_costs e.members.items in
     rw c.call.ensures.steps (falls_called e.steps (choices_cost costs e.choices.items) (rest_cost costs c.args.attempt.rest) w (cost c.call.new.self) less (c.in_ok-call.ensures.costs (ap Ok c.if-branch.true))))

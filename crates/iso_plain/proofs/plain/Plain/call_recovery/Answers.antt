@@ -1,5 +1,5 @@
 use Rattle.std.proofs.Common.{◌≡◌, length, arith}
-use Rattle.iso_plain_core.specs.Costs.{most, frame_costs, rest_cost}
+use Rattle.iso_plain_core.specs.Costs.{most, member_costs, rest_cost}
 use Rattle.iso_plain.proofs.AheadLemmas.{keeps_ahead}
 use Rattle.iso_plain_core.proofs.CostLemmas.{cost_higher, below_words}
 use Rattle.iso_plain_core.proofs.EnteringLemmas.{adds_none}
@@ -16,8 +16,8 @@ returns-in_err-call-clause-kept g c = λ s h.
 
 pub returns-in_err-push-clause-kept : goal.returns-in_err-push-clause-kept
 returns-in_err-push-clause-kept g c = λ s h.
-    behind_error c.from_residual-in_err-push.result (keeps_more g.S.Store.names g.S.Store.present g.S.Store.stands g.S.Store.older c.args.self.now c.call_of.new.store c.push.new.self c.args.self.now.frames s.world s.stack
-    (keeps_ahead g.S.Store.names g.S.Store.present g.S.Store.stands g.S.Store.older c.args.self.now s c.args.next h.ahead) c.call_of.ensures.marks (same_texts c.call_of.ensures.names) (rw c.in_err-push.ensures.items (adds_none c.args.self.now.nodes.items)) (adds_none c.args.self.now.frames.items))
+    behind_error c.from_residual-in_err-push.result (keeps_more g.S.Store.names g.S.Store.present g.S.Store.stands g.S.Store.older c.args.self.now c.call_of.new.store c.push.new.self c.args.self.now.members s.world s.stack
+    (keeps_ahead g.S.Store.names g.S.Store.present g.S.Store.stands g.S.Store.older c.args.self.now s c.args.next h.ahead) c.call_of.ensures.marks (same_texts c.call_of.ensures.names) (rw c.in_err-push.ensures.items (adds_none c.args.self.now.nodes.items)) (adds_none c.args.self.now.members.items))
 
 pub returns-clause-called : goal.returns-clause-called
 returns-clause-called g c = λ s h.
@@ -33,5 +33,5 @@ returns-clause-costs g c =
     let small = c.args.self.now.nodes.small in
     let len = c.len-place.ensures in
     let below = below_words c.len-place.result (omega (arith, many, within, small, len)) in
-    let less = cost_higher most c.len-place.result (rest_cost (frame_costs c.args.self.now.frames.items) c.args.next) (omega (arith, below)) in
+    let less = cost_higher most c.len-place.result (rest_cost (member_costs c.args.self.now.members.items) c.args.next) (omega (arith, below)) in
     omega (arith, less)

@@ -6,22 +6,22 @@ use Rattle.iso_plain.proofs.plain.Plain.cut.Goals as goal
 pub cut_to-requires : goal.cut_to-requires
 cut_to-requires g c =
     let r = c.requires.stands.1 in
-    let a = at g.S.Store.names g.S.Store.present g.S.Store.stands g.S.Store.older c.args.self.now c.requires.stands.0 c.args.frame c.requires.now r in
-    ((r.own).world, (r.own).stack, keeps_ahead g.S.Store.names g.S.Store.present g.S.Store.stands g.S.Store.older c.args.self.now (record r.own { list = a.behind }) c.args.frame.next a.ahead)
+    let a = at g.S.Store.names g.S.Store.present g.S.Store.stands g.S.Store.older c.args.self.now c.requires.stands.0 c.args.link c.requires.now r in
+    ((r.own).world, (r.own).stack, keeps_ahead g.S.Store.names g.S.Store.present g.S.Store.stands g.S.Store.older c.args.self.now (record r.own { list = a.behind }) c.args.link.next a.ahead)
 
 pub at-self-requires : goal.at-self-requires
 at-self-requires g c =
     let r = c.requires.stands.1 in
-    let a = at g.S.Store.names g.S.Store.present g.S.Store.stands g.S.Store.older c.args.self.now c.requires.stands.0 c.args.frame c.requires.now r in
-    rw (c.as_slice.ensures.value, c.cut_to.ensures.frames) (chain_place c.args.frame.next a.ahead.chain)
+    let a = at g.S.Store.names g.S.Store.present g.S.Store.stands g.S.Store.older c.args.self.now c.requires.stands.0 c.args.link c.requires.now r in
+    rw (c.as_slice.ensures.value, c.cut_to.ensures.members) (chain_place c.args.link.next a.ahead.chain)
 
 pub returns-clause-moves : goal.returns-clause-moves
 returns-clause-moves g c = λ s r.
-    (let a = at g.S.Store.names g.S.Store.present g.S.Store.stands g.S.Store.older c.args.self.now s c.args.frame c.requires.now r in
+    (let a = at g.S.Store.names g.S.Store.present g.S.Store.stands g.S.Store.older c.args.self.now s c.args.link c.requires.now r in
     rw (c.at-self.ensures, c.as_slice.ensures.value)
-    (cuts g.S.Store.names g.S.Store.present g.S.Store.stands g.S.Store.older c.args.self.now s c.args.frame c.requires.now r c.cut_to.new.self c.requires.cuts (c.cut_to.ensures.cut (record r.own { list = a.behind }) c.args.frame.next a.ahead)))
+    (cuts g.S.Store.names g.S.Store.present g.S.Store.stands g.S.Store.older c.args.self.now s c.args.link c.requires.now r c.cut_to.new.self c.requires.cuts (c.cut_to.ensures.cut (record r.own { list = a.behind }) c.args.link.next a.ahead)))
 
 pub returns-clause-falls : goal.returns-clause-falls
 returns-clause-falls g c =
     rw (c.at-self.ensures, c.as_slice.ensures.value)
-    (cut_falls g.S.Store.names g.S.Store.present g.S.Store.stands g.S.Store.older c.args.self.now c.requires.stands.0 c.args.frame c.requires.now c.requires.stands.1 c.cut_to.new.self c.requires.cuts c.cut_to.ensures.steps c.cut_to.ensures.frames c.cut_to.ensures.costs)
+    (cut_falls g.S.Store.names g.S.Store.present g.S.Store.stands g.S.Store.older c.args.self.now c.requires.stands.0 c.args.link c.requires.now c.requires.stands.1 c.cut_to.new.self c.requires.cuts c.cut_to.ensures.steps c.cut_to.ensures.members c.cut_to.ensures.costs)

@@ -1,6 +1,6 @@
 use Rattle.std.proofs.Common.{◌≡◌, ◌<◌, ◌≤◌, length, Some, arith}
 use Rattle.std.specs.List.{slice_get}
-use Rattle.iso_plain_core.specs.Costs.{frame_costs}
+use Rattle.iso_plain_core.specs.Costs.{member_costs}
 use Rattle.iso_plain.proofs.AheadLemmas.{ahead_cut, ahead_uncut}
 use Rattle.iso_plain.proofs.BackLemmas.{get_at}
 use Rattle.iso_plain_core.proofs.CostLemmas.{choices_fewer}
@@ -25,7 +25,7 @@ returns-then-height-len-clause-cut g c = λ s place h.
     ahead_cut g.S.Store.names g.S.Store.present g.S.Store.stands g.S.Store.older c.args.self.now s place c.args.height c.forget.new.self c.truncate.new.self c.index.result.now h there c.truncate.ensures.items c.forget.ensures.present c.forget.ensures.marks (same_texts c.forget.ensures.names))
 
 pub returns-then-height-len-clause-costs : goal.returns-then-height-len-clause-costs
-returns-then-height-len-clause-costs g c = rw c.truncate.ensures.items (choices_fewer c.args.height (frame_costs c.args.self.now.frames.items) c.args.self.now.choices.items)
+returns-then-height-len-clause-costs g c = rw c.truncate.ensures.items (choices_fewer c.args.height (member_costs c.args.self.now.members.items) c.args.self.now.choices.items)
 
 pub returns-else-height-len-clause-cut : goal.returns-else-height-len-clause-cut
 returns-else-height-len-clause-cut g c = λ s place h.

@@ -5,9 +5,9 @@ use Rattle.iso_model.specs.Terms.Lists.{list_of}
 use Rattle.iso_store_core.specs.Presents.{meaning}
 use Rattle.iso_lib_core.specs.Replies.{MeetsCopy}
 use Rattle.iso_plain_core.specs.Next.{now_behind}
-use Rattle.iso_plain_core.specs.declared.parts.Now.TheVariants as now
+use Rattle.iso_plain_core.specs.declared.members.Now.TheVariants as now
 use Rattle.iso_plain_core.specs.Solutions.{copies_of}
-use Rattle.iso_plain_core.specs.declared.parts.Left.TheVariants as left
+use Rattle.iso_plain_core.specs.declared.choices.Left.TheVariants as left
 use Rattle.iso_plain_core.proofs.ResultLemmas.{behind_error}
 use Rattle.iso_plain_core.proofs.StandingLemmas.{chain_place}
 use Rattle.iso_plain_core.proofs.CostLemmas.{behind_cost}
@@ -135,7 +135,7 @@ returns-clause-costs g c =
     let gathered : c.in-Gathering.gathered ≡ h = cc in
     let list : term_of c.in_ok-list.list ≡ list_of (copies_of h) = c.in_ok-list.ensures ∙ ap (λ (x : _). list_of (copies_of x)) (c.in-Gathering.gathered-is ∙ gathered) in
     let there = behind_cost c.args.place (gone_ahead g.S.Store.names g.S.Store.present g.S.Store.stands g.S.Store.older e ch s a below w c.args.solutions h c.args.place tries c.forget.new.self c.pop.new.self c.forget.ensures.present marks (same_texts c.forget.ensures.names) popped.1).chain in
-    rw (c.at-self.ensures, c.as_slice.ensures.value) (gone_cost g.S.Store.names g.S.Store.present g.S.Store.stands g.S.Store.older e ch s a below w c.args.solutions h c.args.place tries (now_behind e.frames.items c.args.place) c.pop.new.self c.requires.some popped.1 (omega (arith, there))))
+    rw (c.at-self.ensures, c.as_slice.ensures.value) (gone_cost g.S.Store.names g.S.Store.present g.S.Store.stands g.S.Store.older e ch s a below w c.args.solutions h c.args.place tries (now_behind e.members.items c.args.place) c.pop.new.self c.requires.some popped.1 (omega (arith, there))))
 
 pub returns-clause-awake : goal.returns-clause-awake
 returns-clause-awake g c = rw c.at-self.ensures (awake_behind _ c.args.place)

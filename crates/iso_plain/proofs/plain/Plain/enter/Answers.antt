@@ -57,12 +57,12 @@ returns-in_err-entered-clause-kept g c = λ s call k ks gs t.
     behind_error c.from_residual.result (
       world_on (same_texts c.in_err-entered.ensures.names) t.world,
       base_kept (g.S.Store.stands c.args.self.now.store) (g.S.Store.stands c.enter.new.store) c.args.self.now.base c.in_err-entered.ensures.marks t.base,
-      (variables s.query, choices_on g.S.Store.names g.S.Store.present g.S.Store.stands g.S.Store.older c.args.self.now c.enter.new.store c.enter.new.nodes c.args.self.now.frames (variables s.query) s.stack c.in_err-entered.ensures.marks (same_texts c.in_err-entered.ensures.names) c.in_err-entered.ensures.nodes (adds_none _) t.choices),
+      (variables s.query, choices_on g.S.Store.names g.S.Store.present g.S.Store.stands g.S.Store.older c.args.self.now c.enter.new.store c.enter.new.nodes c.args.self.now.members (variables s.query) s.stack c.in_err-entered.ensures.marks (same_texts c.in_err-entered.ensures.names) c.in_err-entered.ensures.nodes (adds_none _) t.choices),
     )
 
 pub returns-clause-cost : goal.returns-clause-cost
 returns-clause-cost g c =
     let e = c.args.self.now in
     rw (c.behind-self.ensures, c.as_slice.ensures.value)
-    (entered_least (g.S.Store.names e.store) (g.S.Store.present e.store) (g.S.Store.present c.enter.new.store) e.nodes.items c.enter.new.nodes ((g.S.Store.present e.store).term c.args.attempt.goal) c.clause-clause.result.now e.frames.items c.args.mark c.args.attempt.rest
+    (entered_least (g.S.Store.names e.store) (g.S.Store.present e.store) (g.S.Store.present c.enter.new.store) e.nodes.items c.enter.new.nodes ((g.S.Store.present e.store).term c.args.attempt.goal) c.clause-clause.result.now e.members.items c.args.mark c.args.attempt.rest
     (behind_cost c.args.attempt.rest c.requires.5.at.on.chain) c.in_ok-entered.entered c.in_ok-entered.ensures.enters)

@@ -1,7 +1,7 @@
 use Rattle.std.proofs.Common.{rules, ◌≡◌, ◌∙◌, length, arith, ap, sym}
 use Rattle.iso_model.specs.Search.Walker.{with_others}
 use Rattle.iso_plain.specs.EngineStates.{went_back}
-use Rattle.iso_plain_core.specs.Costs.{choices_cost, frame_costs}
+use Rattle.iso_plain_core.specs.Costs.{choices_cost, member_costs}
 use Rattle.iso_plain_core.proofs.ResultLemmas.{behind_error}
 use Rattle.iso_plain_core.proofs.StandingLemmas.{choices_length}
 use Rattle.iso_plain.proofs.WeightLemmas.{falls_less, back_cost, entered_cost, falls_again}
@@ -81,7 +81,7 @@ returns-in-Again-2-clause-falls g c =
     let back = c.go_back-mark.ensures in
     let mid = c.go_back-mark.new.self in
     let all = back_cost c.args.self.now mid back.choices back.costs in
-    falls_again c.args.self.now c.go_again.new.self (choices_cost (frame_costs mid.frames.items) mid.choices.items) (c.go_again.ensures.step ∙ back.steps) c.go_again.ensures.costs all
+    falls_again c.args.self.now c.go_again.new.self (choices_cost (member_costs mid.members.items) mid.choices.items) (c.go_again.ensures.step ∙ back.steps) c.go_again.ensures.costs all
 
 -- ---- the entry of a catch
 
@@ -166,7 +166,7 @@ returns-in_ok-enter_later-in-Clauses-clause-falls g c =
     let leave = c.leave_choice-below.ensures in
     let on = c.in_ok-enter_later-in-Clauses.ensures in
     let all = back_cost c.args.self.now mid back.choices back.costs in
-    let less = entered_cost mid c.leave_choice-below.new.self c.enter_later.new.self c.in-Clauses.attempt.rest leave.frames on.frames on.choices leave.costs on.cost in
+    let less = entered_cost mid c.leave_choice-below.new.self c.enter_later.new.self c.in-Clauses.attempt.rest leave.members on.members on.choices leave.costs on.cost in
     falls_less c.args.self.now c.enter_later.new.self (on.steps ∙ (leave.steps ∙ back.steps)) (omega (arith, all, less))
 
 -- ---- what a findall/3 has gathered

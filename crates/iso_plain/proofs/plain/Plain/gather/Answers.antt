@@ -13,7 +13,7 @@ pub index-requires : goal.index-requires
 index-requires g c =
     let s = c.requires.stands.0 in
     let r = c.requires.stands.1 in
-    let within = template_within g.S.Store.names g.S.Store.present g.S.Store.stands g.S.Store.older c.args.self.now s c.args.frame c.args.place c.requires.now c.requires.gathers r in
+    let within = template_within g.S.Store.names g.S.Store.present g.S.Store.stands g.S.Store.older c.args.self.now s c.args.link c.args.place c.requires.now c.requires.gathers r in
     let whole = c.args.self.now.nodes.ok.0 in
     omega (arith, within, whole)
 
@@ -21,14 +21,14 @@ pub unreachable-requires : goal.unreachable-requires
 unreachable-requires g c =
     let s = c.requires.stands.0 in
     let r = c.requires.stands.1 in
-    let there = template_node g.S.Store.names g.S.Store.present g.S.Store.stands g.S.Store.older c.args.self.now s c.args.frame c.args.place c.requires.now c.requires.gathers r c.index.result.now c.index.ensures in
+    let there = template_node g.S.Store.names g.S.Store.present g.S.Store.stands g.S.Store.older c.args.self.now s c.args.link c.args.place c.requires.now c.requires.gathers r c.index.result.now c.index.ensures in
     c.in_default.not-Run there.0 there.1
 
 pub copy_out-requires : goal.copy_out-requires
 copy_out-requires g c =
     let s = c.requires.stands.0 in
     let r = c.requires.stands.1 in
-    (template_word g.S.Store.names g.S.Store.present g.S.Store.stands g.S.Store.older c.args.self.now s c.args.frame c.args.place c.requires.now c.requires.gathers r c.index.result.now c.in-Run.template c.index.ensures c.in-Run.is).0
+    (template_word g.S.Store.names g.S.Store.present g.S.Store.stands g.S.Store.older c.args.self.now s c.args.link c.args.place c.requires.now c.requires.gathers r c.index.result.now c.in-Run.template c.index.ensures c.in-Run.is).0
 
 pub returns-in_err-solution-clause-stopped : goal.returns-in_err-solution-clause-stopped
 returns-in_err-solution-clause-stopped g c = λ s r.
@@ -36,19 +36,19 @@ returns-in_err-solution-clause-stopped g c = λ s r.
 
 pub returns-in_err-gather-clause-stopped : goal.returns-in_err-gather-clause-stopped
 returns-in_err-gather-clause-stopped g c = λ s r.
-    behind_error c.from_residual-in_err-gather.result (gather_stops g.S.Store.names g.S.Store.present g.S.Store.stands g.S.Store.older c.args.self.now s c.args.frame c.args.place c.requires.now c.requires.gathers r c.gather.new.choices c.in_err-gather.ensures.kept)
+    behind_error c.from_residual-in_err-gather.result (gather_stops g.S.Store.names g.S.Store.present g.S.Store.stands g.S.Store.older c.args.self.now s c.args.link c.args.place c.requires.now c.requires.gathers r c.gather.new.choices c.in_err-gather.ensures.kept)
 
 pub returns-clause-moves : goal.returns-clause-moves
 returns-clause-moves g c = λ s r.
-    (let word = template_word g.S.Store.names g.S.Store.present g.S.Store.stands g.S.Store.older c.args.self.now s c.args.frame c.args.place c.requires.now c.requires.gathers r c.index.result.now c.in-Run.template c.index.ensures c.in-Run.is in
+    (let word = template_word g.S.Store.names g.S.Store.present g.S.Store.stands g.S.Store.older c.args.self.now s c.args.link c.args.place c.requires.now c.requires.gathers r c.index.result.now c.in-Run.template c.index.ensures c.in-Run.is in
     let solution = c.in_ok-solution.ensures in
-    gathers_on g.S.Store.names g.S.Store.present g.S.Store.stands g.S.Store.older c.args.self.now s c.args.frame c.args.place c.requires.now c.requires.gathers r c.gather.new.choices (term_of c.in_ok-solution.solution) (word.1 ∙ sym solution.value) solution.well_formed c.in_ok-gather.ensures.gains)
+    gathers_on g.S.Store.names g.S.Store.present g.S.Store.stands g.S.Store.older c.args.self.now s c.args.link c.args.place c.requires.now c.requires.gathers r c.gather.new.choices (term_of c.in_ok-solution.solution) (word.1 ∙ sym solution.value) solution.well_formed c.in_ok-gather.ensures.gains)
 
 pub returns-clause-falls : goal.returns-clause-falls
 returns-clause-falls g c =
     let s = c.requires.stands.0 in
     let r = c.requires.stands.1 in
-    gather_falls g.S.Store.names g.S.Store.present g.S.Store.stands g.S.Store.older c.args.self.now s c.args.frame c.args.place c.requires.now c.requires.gathers r c.gather.new.choices (Gains (term_of c.in_ok-solution.solution)) c.in_ok-gather.ensures.gains
+    gather_falls g.S.Store.names g.S.Store.present g.S.Store.stands g.S.Store.older c.args.self.now s c.args.link c.args.place c.requires.now c.requires.gathers r c.gather.new.choices (Gains (term_of c.in_ok-solution.solution)) c.in_ok-gather.ensures.gains
 
 pub returns-in_err-gather-clause-stays : goal.returns-in_err-gather-clause-stays
 returns-in_err-gather-clause-stays g c =

@@ -1,7 +1,7 @@
 use Rattle.std.proofs.Common.{◌≡◌, ◌-◌, ◌<◌, length, arith, ap, subst, take}
 use Rattle.std.specs.Vec.{with_item}
-use Rattle.iso_plain_core.specs.declared.parts.Left.TheVariants as left
-use Rattle.iso_plain_core.specs.Costs.{frame_costs, choices_cost}
+use Rattle.iso_plain_core.specs.declared.choices.Left.TheVariants as left
+use Rattle.iso_plain_core.specs.Costs.{member_costs, choices_cost}
 use Rattle.std.specs.Option.{IfSome}
 use Rattle.iso_db.specs.Presents.{remaining}
 use Rattle.iso_plain_core.specs.Leaving.{AreLeft, NextLeft}
@@ -32,7 +32,7 @@ pub returns-in-Some-clause-costs : goal.returns-in-Some-clause-costs
 returns-in-Some-clause-costs g c =
     let back = c.requires.back in
     let choices = c.args.self.now.choices.items in
-    let costs = frame_costs c.args.self.now.frames.items in
+    let costs = member_costs c.args.self.now.members.items in
     let left = left.Clauses (next_of c.args.attempt c.in-Some.clause c.next_left.new.later) in
     let many : c.len-newest.result ≡ length choices = cc (c.len-newest.ensures, c.args.self.now.choices.ok.0) in
     let made = set_left choices c.len-newest.result back.0 c.index_mut.result.now left many c.requires.some back.6.newest c.index_mut.ensures.value in
@@ -57,7 +57,7 @@ pub returns-in_default-clause-costs : goal.returns-in_default-clause-costs
 returns-in_default-clause-costs g c =
     let back = c.requires.back in
     let choices = c.args.self.now.choices.items in
-    let costs = frame_costs c.args.self.now.frames.items in
+    let costs = member_costs c.args.self.now.members.items in
     let many : c.len-newest.result ≡ length choices = cc (c.len-newest.ensures, c.args.self.now.choices.ok.0) in
     let are = choices_are g.S.Store.names g.S.Store.present g.S.Store.stands g.S.Store.older c.args.self.now back.0 c.args.attempt back.1 back.2 back.3 back.6 back.5 c.requires.some in
     let fewer = fewer_choices costs (take (length choices - 1) choices) back.0 c.args.attempt back.5 in

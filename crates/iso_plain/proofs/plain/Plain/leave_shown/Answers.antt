@@ -2,8 +2,8 @@ use Rattle.std.proofs.Common.{◌≡◌, ◌-◌, ◌<◌, length, arith, ap, su
 use Rattle.std.specs.Vec.{with_item}
 use Rattle.std.specs.Option.{IfSome}
 use Rattle.iso_db.specs.Presents.{remaining}
-use Rattle.iso_plain_core.specs.declared.parts.Left.TheVariants as left
-use Rattle.iso_plain_core.specs.Costs.{frame_costs, choices_cost}
+use Rattle.iso_plain_core.specs.declared.choices.Left.TheVariants as left
+use Rattle.iso_plain_core.specs.Costs.{member_costs, choices_cost}
 use Rattle.iso_plain_core.specs.Leaving.{AreLeft, NextLeft}
 use Rattle.iso_plain.proofs.ChoiceLemmas.{with_left, set_left}
 use Rattle.iso_plain.proofs.ShowMoves.{has, choices_end, shown_from, next_some, next_last, fewer_shown, none_shown}
@@ -27,7 +27,7 @@ pub returns-in-Some-clause-costs : goal.returns-in-Some-clause-costs
 returns-in-Some-clause-costs g c =
     let back = c.requires.back in
     let choices = c.args.self.now.choices.items in
-    let costs = frame_costs c.args.self.now.frames.items in
+    let costs = member_costs c.args.self.now.members.items in
     let left = left.Shown (shown_from c.args.shown c.in-Some.clause c.next_left.new.later) in
     let many : c.len-newest.result ≡ length choices = cc (c.len-newest.ensures, c.args.self.now.choices.ok.0) in
     let made = set_left choices c.len-newest.result back.0 c.index_mut.result.now left many c.requires.some back.6.newest c.index_mut.ensures.value in
@@ -52,7 +52,7 @@ pub returns-in_default-clause-costs : goal.returns-in_default-clause-costs
 returns-in_default-clause-costs g c =
     let back = c.requires.back in
     let choices = c.args.self.now.choices.items in
-    let costs = frame_costs c.args.self.now.frames.items in
+    let costs = member_costs c.args.self.now.members.items in
     let many : c.len-newest.result ≡ length choices = cc (c.len-newest.ensures, c.args.self.now.choices.ok.0) in
     let are = choices_end g.S.Store.names g.S.Store.present g.S.Store.stands g.S.Store.older c.args.self.now back.0 c.args.shown back.1 back.2 back.3 back.6 back.5 c.requires.some in
     let fewer = none_shown costs (take (length choices - 1) choices) back.0 c.args.shown back.5 in

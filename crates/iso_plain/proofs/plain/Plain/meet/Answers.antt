@@ -2,10 +2,10 @@ use Rattle.std.proofs.Common.{◌≡◌, ◌+◌, ap, sym, ◌∙◌, subst, ari
 use Rattle.iso_model.specs.Terms.Variables.{variable_count}
 use Rattle.iso_model.specs.Terms.Substitutions.{compose}
 use Rattle.iso_plain.specs.EngineStates.{IsEngine}
-use Rattle.iso_plain_core.specs.Costs.{choices_cost, most, frame_costs, rest_cost}
+use Rattle.iso_plain_core.specs.Costs.{choices_cost, most, member_costs, rest_cost}
 use Rattle.iso_plain.specs.Catches.{Recovers, throwing}
 use Rattle.iso_plain.specs.declared.plain.Plain.{Plain}
-use Rattle.iso_plain_core.specs.declared.parts.Now.TheVariants as now
+use Rattle.iso_plain_core.specs.declared.members.Now.TheVariants as now
 use Rattle.iso_plain_core.proofs.CostLemmas.{cost_above}
 use Rattle.iso_plain.proofs.MeetLemmas.{same_meets, unified_recovers, recovery_moved, thrown_on, unified_same, never_same, on_ok_map}
 use Rattle.iso_plain_core.proofs.ResultLemmas.{behind_error}
@@ -88,7 +88,7 @@ returns-clause-met g c = λ s ball h.
 pub returns-clause-costs : goal.returns-clause-costs
 returns-clause-costs g c =
     let e = c.args.self.now in
-    let same : choices_cost (frame_costs c.meets.new.self.frames.items) c.meets.new.self.choices.items ≡ choices_cost (frame_costs e.frames.items) e.choices.items =
-    ap (λ (x : Plain _ _ _). choices_cost (frame_costs x.frames.items) x.choices.items) c.meets.ensures.same in
-    let above = cost_above most (rest_cost (frame_costs e.frames.items) c.args.next) in
+    let same : choices_cost (member_costs c.meets.new.self.members.items) c.meets.new.self.choices.items ≡ choices_cost (member_costs e.members.items) e.choices.items =
+    ap (λ (x : Plain _ _ _). choices_cost (member_costs x.members.items) x.choices.items) c.meets.ensures.same in
+    let above = cost_above most (rest_cost (member_costs e.members.items) c.args.next) in
     omega (arith, same, above)

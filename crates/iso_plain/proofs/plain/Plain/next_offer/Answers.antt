@@ -1,7 +1,7 @@
 use Rattle.std.proofs.Common.{◌≡◌, ◌∙◌, ◌≤◌, length, sym, subst, refl}
 use Rattle.std.proofs.lemmas.Bool.{eqb-true, eqb-false}
 use Rattle.iso_plain_core.specs.Offers.{rows_in}
-use Rattle.iso_plain_core.specs.Costs.{frame_costs}
+use Rattle.iso_plain_core.specs.Costs.{member_costs}
 use Rattle.iso_plain.proofs.ResumeLemmas.{marks_of}
 use Rattle.iso_plain.proofs.WorldLemmas.{same_texts}
 use Rattle.iso_plain.proofs.OfferMoves.{offered_there, taken, there_is, taken_gone, taken_many, next_some, next_last, some_cost, last_cost, positive}
@@ -39,7 +39,7 @@ returns-then-is_last-clause-costs g c = λ ch word place offers s a below mark t
     let t = taken g.S.Store.names g.S.Store.present g.S.Store.stands g.S.Store.older e ch s a below w word place offers tries c.len-newest.result c.take_offer.new.choices.items c.take_offer.result c.in-Some.row c.in-Some.is_last many c.requires.some
     (c.take_offer.ensures ch word place offers there tries has.some) c.in-Some.is in
     let gone = taken_gone g.S.Store.names g.S.Store.present g.S.Store.stands g.S.Store.older e ch s a below w word place offers tries c.len-newest.result c.take_offer.new.choices.items c.truncate.new.self.items _ many c.requires.some t.made c.truncate.ensures.items in
-    last_cost g.S.Store.names g.S.Store.present g.S.Store.stands g.S.Store.older e ch s a below w word place offers tries c.in-Some.row t.others t.are t.each t.of (frame_costs e.frames.items) c.truncate.new.self.items c.requires.some gone)
+    last_cost g.S.Store.names g.S.Store.present g.S.Store.stands g.S.Store.older e ch s a below w word place offers tries c.in-Some.row t.others t.are t.each t.of (member_costs e.members.items) c.truncate.new.self.items c.requires.some gone)
 
 pub returns-else-is_last-clause-meets : goal.returns-else-is_last-clause-meets
 returns-else-is_last-clause-meets g c = λ ch word place offers s a below mark tries w.
@@ -61,7 +61,7 @@ returns-else-is_last-clause-costs g c = λ ch word place offers s a below mark t
     let there = there_is g.S.Store.names g.S.Store.present g.S.Store.stands g.S.Store.older e ch s a below w word place offers tries c.len-newest.result many in
     let t = taken g.S.Store.names g.S.Store.present g.S.Store.stands g.S.Store.older e ch s a below w word place offers tries c.len-newest.result c.take_offer.new.choices.items c.take_offer.result c.in-Some.row c.in-Some.is_last many c.requires.some
     (c.take_offer.ensures ch word place offers there tries has.some) c.in-Some.is in
-    some_cost g.S.Store.names g.S.Store.present g.S.Store.stands g.S.Store.older e ch s a below w word place offers tries c.in-Some.row t.others t.are t.each t.of (frame_costs e.frames.items) c.take_offer.new.choices.items c.requires.some t.made)
+    some_cost g.S.Store.names g.S.Store.present g.S.Store.stands g.S.Store.older e ch s a below w word place offers tries c.in-Some.row t.others t.are t.each t.of (member_costs e.members.items) c.take_offer.new.choices.items c.requires.some t.made)
 
 pub returns-else-is_last-clause-stays : goal.returns-else-is_last-clause-stays
 returns-else-is_last-clause-stays g c =

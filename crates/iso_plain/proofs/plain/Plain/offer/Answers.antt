@@ -2,7 +2,7 @@ use Rattle.std.proofs.Common.{◌≡◌, ◌+◌, arith, sym, ap, subst, Ok, inr
 use Rattle.iso_model.specs.Search.Walker.{State, World, with_rights, tried_right}
 use Rattle.iso_store_core.specs.Presents.{meaning}
 use Rattle.iso_plain_core.specs.Offers.{goal_arguments, row_offer, rights_of, IsRow}
-use Rattle.iso_plain_core.specs.Costs.{rest_cost, frame_costs, choices_cost}
+use Rattle.iso_plain_core.specs.Costs.{rest_cost, member_costs, choices_cost}
 use Rattle.iso_plain_core.proofs.CostLemmas.{whole_paid}
 use Rattle.iso_plain_core.proofs.ResultLemmas.{behind_error}
 use Rattle.iso_plain.specs.EngineStates.{IsEngine, Keeps, cost}
@@ -13,7 +13,7 @@ use Rattle.iso_plain.proofs.plain.Plain.offer.Goals as goal
 pub returns-in_default-clause-falls : goal.returns-in_default-clause-falls
 returns-in_default-clause-falls g c = λ w less.
     (let e = c.args.self.now in
-    whole_paid e.steps w (choices_cost (frame_costs e.frames.items) e.choices.items + 0) (omega (arith, less)))
+    whole_paid e.steps w (choices_cost (member_costs e.members.items) e.choices.items + 0) (omega (arith, less)))
 
 pub push_offers-requires-clause-rows : goal.push_offers-requires-clause-rows
 push_offers-requires-clause-rows g c =
@@ -87,7 +87,7 @@ returns-clause-called g c = λ s made h.
 pub returns-clause-falls : goal.returns-clause-falls
 returns-clause-falls g c = λ w less.
     (let e = c.args.self.now in
-    let costs = frame_costs e.frames.items in
-    let all = call_costs e c.push_offers.new.self c.unify_row.new.self c.args.place c.in_ok-push_offers.ensures.frames c.in_ok-unify_row.ensures.frames c.in_ok-unify_row.ensures.choices
+    let costs = member_costs e.members.items in
+    let all = call_costs e c.push_offers.new.self c.unify_row.new.self c.args.place c.in_ok-push_offers.ensures.members c.in_ok-unify_row.ensures.members c.in_ok-unify_row.ensures.choices
     c.in_ok-push_offers.ensures.costs c.in_ok-unify_row.ensures.cost in
     rw (c.in_ok-unify_row.ensures.steps, c.in_ok-push_offers.ensures.steps) (falls_called e.steps (choices_cost costs e.choices.items) (rest_cost costs c.args.place) w (cost c.unify_row.new.self) less all))

@@ -4,7 +4,7 @@ use Rattle.iso_model.specs.Search.Settlements.{Settled}
 use Rattle.iso_model.specs.Search.Walker.{State, settled}
 use Rattle.iso_store_core.specs.Presents.{meaning}
 use Rattle.iso_plain_core.specs.Costs.{whole_cost}
-use Rattle.iso_plain_core.specs.declared.parts.Now.TheVariants as now
+use Rattle.iso_plain_core.specs.declared.members.Now.TheVariants as now
 use Rattle.iso_plain_core.proofs.CostLemmas.{whole_paid}
 use Rattle.iso_plain.specs.EngineStates.{IsEngine, WasCalled, cost}
 use Rattle.iso_plain.specs.Limits.{ResultFull}

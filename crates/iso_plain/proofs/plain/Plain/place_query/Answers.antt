@@ -118,4 +118,4 @@ returns-in_err-copy_parts-clause-kept g c = λ w fresh.
     let made = written names g.S.Store.present g.S.Store.stands g.S.Store.older e c.written_body.new.store w fresh c.in_ok-parts.ensures.marks c.in_ok-parts.ensures.names in
     let more = keeps_store names g.S.Store.present g.S.Store.stands g.S.Store.older mid c.new_variables.new.store w [] made c.in_ok-variables.ensures.marks (same_texts c.in_ok-variables.ensures.names) in
     behind_error c.from_residual-in_err-copy_parts.result
-    (keeps_more names g.S.Store.present g.S.Store.stands g.S.Store.older (record e { store = c.new_variables.new.store }) c.copy_parts.new.store c.copy_parts.new.nodes e.frames w [] more c.in_err-copy_parts.ensures.marks (same_texts c.in_err-copy_parts.ensures.names) c.in_err-copy_parts.ensures.nodes (adds_none e.frames.items)))
+    (keeps_more names g.S.Store.present g.S.Store.stands g.S.Store.older (record e { store = c.new_variables.new.store }) c.copy_parts.new.store c.copy_parts.new.nodes e.members w [] more c.in_err-copy_parts.ensures.marks (same_texts c.in_err-copy_parts.ensures.names) c.in_err-copy_parts.ensures.nodes (adds_none e.members.items)))

@@ -1,6 +1,6 @@
 use Rattle.std.proofs.Common.{◌≡◌, length, arith, ap}
 use Rattle.iso_model.specs.Terms.Variables.{variables}
-use Rattle.iso_plain_core.specs.Costs.{choices_cost, rest_cost, frame_costs}
+use Rattle.iso_plain_core.specs.Costs.{choices_cost, rest_cost, member_costs}
 use Rattle.iso_plain_core.proofs.ResultLemmas.{behind_error}
 use Rattle.iso_plain.proofs.StoppedLemmas.{base_kept}
 use Rattle.iso_plain.proofs.ControlCosts.{gained_cost}
@@ -13,20 +13,20 @@ pub returns-clause-calls : goal.returns-clause-calls
 returns-clause-calls g c = λ s call k ks gs next t.
     (let e = c.args.self.now in
     let nodes : c.len.result ≡ length e.nodes.items = cc (c.len.ensures, e.nodes.ok.0) in
-    let frames : c.len-2.result ≡ length e.frames.items = cc (c.len-2.ensures, e.frames.ok.0) in
-    calls_later g.S.Store.names g.S.Store.present g.S.Store.stands g.S.Store.older e c.args.attempt s call k ks gs c.keep_choice.new.store c.keep_choice.new.choices c.args.clause c.args.later t next c.in_ok-keep_choice.ensures.present c.in_ok-keep_choice.ensures.marks c.in_ok-keep_choice.ensures.names (rw (nodes, frames) at c.in_ok-keep_choice.ensures.gains))
+    let members : c.len-2.result ≡ length e.members.items = cc (c.len-2.ensures, e.members.ok.0) in
+    calls_later g.S.Store.names g.S.Store.present g.S.Store.stands g.S.Store.older e c.args.attempt s call k ks gs c.keep_choice.new.store c.keep_choice.new.choices c.args.clause c.args.later t next c.in_ok-keep_choice.ensures.present c.in_ok-keep_choice.ensures.marks c.in_ok-keep_choice.ensures.names (rw (nodes, members) at c.in_ok-keep_choice.ensures.gains))
 
 pub returns-clause-costs : goal.returns-clause-costs
 returns-clause-costs g c =
     let e = c.args.self.now in
-    let costs = frame_costs e.frames.items in
+    let costs = member_costs e.members.items in
     let gained = gained_cost costs c.in_ok-keep_choice.ensures.gains in
     let later = later_cost (remaining c.args.later) (rest_cost costs c.args.attempt.rest) c.requires.few in
     omega (arith, gained, later)
 
 pub returns-in_err-keep_choice-clause-costs : goal.returns-in_err-keep_choice-clause-costs
 returns-in_err-keep_choice-clause-costs g c =
-    let same = ap (choices_cost (frame_costs c.args.self.now.frames.items)) c.in_err-keep_choice.ensures.kept in
+    let same = ap (choices_cost (member_costs c.args.self.now.members.items)) c.in_err-keep_choice.ensures.kept in
     omega (arith, same)
 
 pub returns-in_err-keep_choice-clause-kept : goal.returns-in_err-keep_choice-clause-kept

@@ -1,6 +1,6 @@
 use Rattle.std.proofs.Common.{◌≡◌, length, arith, sym, ◌∙◌}
 use Rattle.std.proofs.lemmas.Bool.{eqb-false}
-use Rattle.iso_plain_core.specs.Costs.{most, rest_cost, frame_costs}
+use Rattle.iso_plain_core.specs.Costs.{most, rest_cost, member_costs}
 use Rattle.iso_plain_core.proofs.CostLemmas.{left_higher, below_most}
 use Rattle.iso_plain_core.proofs.ResultLemmas.{behind_error}
 use Rattle.iso_plain.proofs.AheadLemmas.{keeps_ahead}
@@ -21,15 +21,15 @@ pub returns-clause-meets : goal.returns-clause-meets
 returns-clause-meets g c = λ s made h done.
     (let e = c.args.self.now in
     let nodes : c.len-2.result ≡ length e.nodes.items = cc (c.len-2.ensures, e.nodes.ok.0) in
-    let frames : c.len-3.result ≡ length e.frames.items = cc (c.len-3.ensures, e.frames.ok.0) in
+    let members : c.len-3.result ≡ length e.members.items = cc (c.len-3.ensures, e.members.ok.0) in
     let some = positive (length (rows_in c.args.offers)) (λ none. eqb-false _ 0 (sym c.is_empty.ensures ∙ c.if-is_empty.false) none) in
     pushed_some g.S.Store.names g.S.Store.present g.S.Store.stands g.S.Store.older e c.args.goal s c.args.place h made c.args.offers c.requires.rows c.keep_choice.new.store c.keep_choice.new.choices some c.in_ok-keep_choice.ensures.present c.in_ok-keep_choice.ensures.marks
-    c.in_ok-keep_choice.ensures.names (rw (nodes, frames) at c.in_ok-keep_choice.ensures.gains))
+    c.in_ok-keep_choice.ensures.names (rw (nodes, members) at c.in_ok-keep_choice.ensures.gains))
 
 pub returns-clause-costs : goal.returns-clause-costs
 returns-clause-costs g c =
     let e = c.args.self.now in
-    let costs = frame_costs e.frames.items in
+    let costs = member_costs e.members.items in
     let gained = gained_cost costs c.in_ok-keep_choice.ensures.gains in
     let few = rows_few (meaning (g.S.Store.present e.store) c.args.goal) c.args.offers c.requires.rows (kept_few c.args.offers) in
     let later = left_higher most (length (rows_in c.args.offers)) (rest_cost costs c.args.place) (below_most (length (rows_in c.args.offers)) few) in

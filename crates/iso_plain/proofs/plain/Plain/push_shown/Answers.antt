@@ -3,7 +3,7 @@ use Rattle.iso_model.specs.Terms.Variables.{variables}
 use Rattle.iso_plain_core.specs.Leaving.{AreLeft, NextLeft}
 use Rattle.iso_plain_core.proofs.LeavingLemmas.{left_behind}
 use Rattle.iso_plain_core.proofs.ResultLemmas.{behind_error}
-use Rattle.iso_plain_core.specs.Costs.{rest_cost, frame_costs}
+use Rattle.iso_plain_core.specs.Costs.{rest_cost, member_costs}
 use Rattle.iso_db.specs.Presents.{remaining}
 use Rattle.iso_plain.proofs.CallLemmas.{later_cost}
 use Rattle.iso_plain.proofs.ControlCosts.{gained_cost}
@@ -27,15 +27,15 @@ returns-clause-shows g c = λ s k x xs t done.
     (let e = c.args.self.now in
     let next = c.next_left.ensures.left (g.S.Store.names e.store) t.clauses.behind xs t.clauses.gives (left_behind (g.S.Store.names e.store) e.db t.clauses) in
     let nodes : c.len-2.result ≡ length e.nodes.items = cc (c.len-2.ensures, e.nodes.ok.0) in
-    let frames : c.len-3.result ≡ length e.frames.items = cc (c.len-3.ensures, e.frames.ok.0) in
+    let members : c.len-3.result ≡ length e.members.items = cc (c.len-3.ensures, e.members.ok.0) in
     shows_later g.S.Store.names g.S.Store.present g.S.Store.stands g.S.Store.older e c.args.shown s k x xs t c.keep_choice.new.store c.keep_choice.new.choices c.in-Some.clause c.next_left.new.later
     (subst (λ o. NextLeft (AreLeft (g.S.Store.names e.store) e.db) o c.next_left.new.later xs) c.in-Some.is next)
-    c.in_ok-keep_choice.ensures.present c.in_ok-keep_choice.ensures.marks c.in_ok-keep_choice.ensures.names (rw (nodes, frames) at c.in_ok-keep_choice.ensures.gains))
+    c.in_ok-keep_choice.ensures.present c.in_ok-keep_choice.ensures.marks c.in_ok-keep_choice.ensures.names (rw (nodes, members) at c.in_ok-keep_choice.ensures.gains))
 
 pub returns-clause-costs : goal.returns-clause-costs
 returns-clause-costs g c =
     let e = c.args.self.now in
-    let costs = frame_costs e.frames.items in
+    let costs = member_costs e.members.items in
     let gained = gained_cost costs c.in_ok-keep_choice.ensures.gains in
     let later = later_cost (remaining c.next_left.new.later) (rest_cost costs c.args.shown.rest) c.next_left.ensures.few in
     omega (arith, gained, later)

@@ -1,11 +1,11 @@
 use Rattle.std.proofs.Common.{◌≡◌, ◌+◌, ◌≤◌, ◌∷◌, List, sym, ◌∙◌, subst, arith}
 use Rattle.iso_model.specs.Terms.Variables.{variables}
 use Rattle.iso_model.specs.Search.Walker.{Member, Raise}
-use Rattle.iso_plain_core.specs.Costs.{frame_costs, rest_cost, left_cost, body_cost, most, choices_cost}
+use Rattle.iso_plain_core.specs.Costs.{member_costs, rest_cost, left_cost, body_cost, most, choices_cost}
 use Rattle.iso_plain.specs.EngineStates.{went_back, cost, links_of}
 use Rattle.iso_plain_core.specs.Standing.{Chain}
 use Rattle.iso_plain.specs.Catches.{GoesTo}
-use Rattle.iso_plain_core.specs.declared.parts.Now.TheVariants as now
+use Rattle.iso_plain_core.specs.declared.members.Now.TheVariants as now
 use Rattle.iso_plain.proofs.CaughtMoves.{meets_on, stops_there}
 use Rattle.iso_plain_core.proofs.CostLemmas.{left_step}
 use Rattle.iso_plain.proofs.EndLemmas.{next_is}
@@ -50,9 +50,9 @@ pub returns-clause-falls : goal.returns-clause-falls
 returns-clause-falls g c =
     let e = c.args.self.now in
     let mid = c.back_to_catch-goal.new.self in
-    let back : choices_cost (frame_costs mid.frames.items) mid.choices.items + left_cost 1 (rest_cost (frame_costs mid.frames.items) c.back_to_catch-goal.result.1) ≤ choices_cost (frame_costs e.frames.items) e.choices.items =
+    let back : choices_cost (member_costs mid.members.items) mid.choices.items + left_cost 1 (rest_cost (member_costs mid.members.items) c.back_to_catch-goal.result.1) ≤ choices_cost (member_costs e.members.items) e.choices.items =
     c.back_to_catch-goal.ensures.costs in
-    let met : cost c.meet.new.self ≤ choices_cost (frame_costs mid.frames.items) mid.choices.items + body_cost most (rest_cost (frame_costs mid.frames.items) c.back_to_catch-goal.result.1) =
+    let met : cost c.meet.new.self ≤ choices_cost (member_costs mid.members.items) mid.choices.items + body_cost most (rest_cost (member_costs mid.members.items) c.back_to_catch-goal.result.1) =
     c.in_ok-meet.ensures.costs in
-    let step = left_step 0 (rest_cost (frame_costs mid.frames.items) c.back_to_catch-goal.result.1) in
+    let step = left_step 0 (rest_cost (member_costs mid.members.items) c.back_to_catch-goal.result.1) in
     falls_less e c.meet.new.self (c.in_ok-meet.ensures.steps ∙ c.back_to_catch-goal.ensures.steps) (omega (arith, back, met, step))

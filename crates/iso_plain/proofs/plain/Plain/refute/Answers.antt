@@ -1,7 +1,7 @@
 use Rattle.std.proofs.Common.{◌≡◌, ◌∙◌, ◌++◌, ◌∷◌, [], length, arith, refl, sym, append-nil, inl, inr}
 use Rattle.iso_model.specs.Search.Walker.{AsIs, pushed}
-use Rattle.iso_plain_core.specs.declared.parts.Todo.TheVariants as todo
-use Rattle.iso_plain_core.specs.declared.parts.Frame.{Frame}
+use Rattle.iso_plain_core.specs.declared.members.Todo.TheVariants as todo
+use Rattle.iso_plain_core.specs.declared.members.Link.{Link}
 use Rattle.iso_plain_core.proofs.EnteringLemmas.{adds_none}
 use Rattle.iso_plain.proofs.AheadLemmas.{keeps_ahead}
 use Rattle.iso_plain_core.proofs.ResultLemmas.{behind_error}
@@ -25,35 +25,35 @@ pub returns-in_err-fail-clause-kept : goal.returns-in_err-fail-clause-kept
 returns-in_err-fail-clause-kept g c = λ s h.
     (let e = c.args.self.now in
     let nodes : c.len.result ≡ length e.nodes.items = cc (c.len.ensures, e.nodes.ok.0) in
-    let frames : c.len-2.result ≡ length e.frames.items = cc (c.len-2.ensures, e.frames.ok.0) in
+    let members : c.len-2.result ≡ length e.members.items = cc (c.len-2.ensures, e.members.ok.0) in
     let mid = record e { store = c.keep_choice.new.store; choices = c.keep_choice.new.choices } in
-    let ahead = refute_ahead g.S.Store.names g.S.Store.present g.S.Store.stands g.S.Store.older e s c.args.next h c.keep_choice.new.store c.keep_choice.new.choices c.in_ok-keep_choice.ensures.present c.in_ok-keep_choice.ensures.marks c.in_ok-keep_choice.ensures.names (rw (nodes, frames) at c.in_ok-keep_choice.ensures.gains) in
-    let same : c.push_frame.new.frames.items ≡ e.frames.items ++ [] = c.in_err-fail.ensures.kept ∙ sym (append-nil e.frames.items) in
-    behind_error c.from_residual-in_err-fail.result (inr (keeps_more g.S.Store.names g.S.Store.present g.S.Store.stands g.S.Store.older mid mid.store mid.nodes c.push_frame.new.frames s.world (pushed s.list AsIs s).stack (keeps_ahead g.S.Store.names g.S.Store.present g.S.Store.stands g.S.Store.older mid (pushed s.list AsIs s) c.args.next ahead) (λ m p k. k) (λ place text k. k) (adds_none e.nodes.items) ([], same))))
+    let ahead = refute_ahead g.S.Store.names g.S.Store.present g.S.Store.stands g.S.Store.older e s c.args.next h c.keep_choice.new.store c.keep_choice.new.choices c.in_ok-keep_choice.ensures.present c.in_ok-keep_choice.ensures.marks c.in_ok-keep_choice.ensures.names (rw (nodes, members) at c.in_ok-keep_choice.ensures.gains) in
+    let same : c.push_link.new.members.items ≡ e.members.items ++ [] = c.in_err-fail.ensures.kept ∙ sym (append-nil e.members.items) in
+    behind_error c.from_residual-in_err-fail.result (inr (keeps_more g.S.Store.names g.S.Store.present g.S.Store.stands g.S.Store.older mid mid.store mid.nodes c.push_link.new.members s.world (pushed s.list AsIs s).stack (keeps_ahead g.S.Store.names g.S.Store.present g.S.Store.stands g.S.Store.older mid (pushed s.list AsIs s) c.args.next ahead) (λ m p k. k) (λ place text k. k) (adds_none e.nodes.items) ([], same))))
 
 pub returns-in_err-once-clause-kept : goal.returns-in_err-once-clause-kept
 returns-in_err-once-clause-kept g c = λ s h.
     (let e = c.args.self.now in
     let nodes : c.len.result ≡ length e.nodes.items = cc (c.len.ensures, e.nodes.ok.0) in
-    let frames : c.len-2.result ≡ length e.frames.items = cc (c.len-2.ensures, e.frames.ok.0) in
+    let members : c.len-2.result ≡ length e.members.items = cc (c.len-2.ensures, e.members.ok.0) in
     let mid = record e { store = c.keep_choice.new.store; choices = c.keep_choice.new.choices } in
-    let ahead = refute_ahead g.S.Store.names g.S.Store.present g.S.Store.stands g.S.Store.older e s c.args.next h c.keep_choice.new.store c.keep_choice.new.choices c.in_ok-keep_choice.ensures.present c.in_ok-keep_choice.ensures.marks c.in_ok-keep_choice.ensures.names (rw (nodes, frames) at c.in_ok-keep_choice.ensures.gains) in
-    let fail : Frame = record { todo = todo.Fail; mark = c.len-height.result; next = c.args.next } in
-    let same : c.push_frame-2.new.frames.items ≡ e.frames.items ++ fail ∷ [] = c.in_err-once.ensures.kept ∙ c.in_ok-fail.ensures.pushed in
-    behind_error c.from_residual-in_err-once.result (inr (keeps_more g.S.Store.names g.S.Store.present g.S.Store.stands g.S.Store.older mid mid.store mid.nodes c.push_frame-2.new.frames s.world (pushed s.list AsIs s).stack (keeps_ahead g.S.Store.names g.S.Store.present g.S.Store.stands g.S.Store.older mid (pushed s.list AsIs s) c.args.next ahead) (λ m p k. k) (λ place text k. k) (adds_none e.nodes.items) (fail ∷ [], same))))
+    let ahead = refute_ahead g.S.Store.names g.S.Store.present g.S.Store.stands g.S.Store.older e s c.args.next h c.keep_choice.new.store c.keep_choice.new.choices c.in_ok-keep_choice.ensures.present c.in_ok-keep_choice.ensures.marks c.in_ok-keep_choice.ensures.names (rw (nodes, members) at c.in_ok-keep_choice.ensures.gains) in
+    let fail : Link = record { todo = todo.Fail; mark = c.len-height.result; next = c.args.next } in
+    let same : c.push_link-2.new.members.items ≡ e.members.items ++ fail ∷ [] = c.in_err-once.ensures.kept ∙ c.in_ok-fail.ensures.pushed in
+    behind_error c.from_residual-in_err-once.result (inr (keeps_more g.S.Store.names g.S.Store.present g.S.Store.stands g.S.Store.older mid mid.store mid.nodes c.push_link-2.new.members s.world (pushed s.list AsIs s).stack (keeps_ahead g.S.Store.names g.S.Store.present g.S.Store.stands g.S.Store.older mid (pushed s.list AsIs s) c.args.next ahead) (λ m p k. k) (λ place text k. k) (adds_none e.nodes.items) (fail ∷ [], same))))
 
 pub returns-clause-called : goal.returns-clause-called
 returns-clause-called g c = λ s b h body.
     (let e = c.args.self.now in
     let height : c.len-height.result ≡ length e.choices.items = cc (c.len-height.ensures, e.choices.ok.0) in
     let nodes : c.len.result ≡ length e.nodes.items = cc (c.len.ensures, e.nodes.ok.0) in
-    let frames : c.len-2.result ≡ length e.frames.items = cc (c.len-2.ensures, e.frames.ok.0) in (
-      rw (height, c.in_ok-once.ensures.place) (refute_engine g.S.Store.names g.S.Store.present g.S.Store.stands g.S.Store.older e s c.args.next h c.keep_choice.new.store c.keep_choice.new.choices c.in_ok-keep_choice.ensures.present c.in_ok-keep_choice.ensures.marks c.in_ok-keep_choice.ensures.names (rw (nodes, frames) at c.in_ok-keep_choice.ensures.gains)
-          c.args.body c.len-height.result b c.push_frame.new.frames c.push_frame-2.new.frames body c.in_ok-fail.ensures.pushed (rw (height, c.in_ok-fail.ensures.place) at c.in_ok-once.ensures.pushed)),
+    let members : c.len-2.result ≡ length e.members.items = cc (c.len-2.ensures, e.members.ok.0) in (
+      rw (height, c.in_ok-once.ensures.place) (refute_engine g.S.Store.names g.S.Store.present g.S.Store.stands g.S.Store.older e s c.args.next h c.keep_choice.new.store c.keep_choice.new.choices c.in_ok-keep_choice.ensures.present c.in_ok-keep_choice.ensures.marks c.in_ok-keep_choice.ensures.names (rw (nodes, members) at c.in_ok-keep_choice.ensures.gains)
+          c.args.body c.len-height.result b c.push_link.new.members c.push_link-2.new.members body c.in_ok-fail.ensures.pushed (rw (height, c.in_ok-fail.ensures.place) at c.in_ok-once.ensures.pushed)),
       tt,
     ))
 
 pub returns-clause-falls : goal.returns-clause-falls
 returns-clause-falls g c = λ w less.
-    rw c.in_ok-once.ensures.place (refute_falls g.S.Store.names g.S.Store.present g.S.Store.stands g.S.Store.older c.args.self.now c.requires.0 c.args.next c.requires.2 c.keep_choice.new.store c.keep_choice.new.choices c.args.body c.len-height.result c.len-height.result c.requires.1 c.push_frame.new.frames c.push_frame-2.new.frames w
+    rw c.in_ok-once.ensures.place (refute_falls g.S.Store.names g.S.Store.present g.S.Store.stands g.S.Store.older c.args.self.now c.requires.0 c.args.next c.requires.2 c.keep_choice.new.store c.keep_choice.new.choices c.args.body c.len-height.result c.len-height.result c.requires.1 c.push_link.new.members c.push_link-2.new.members w
     c.requires.3 c.in_ok-keep_choice.ensures.gains c.in_ok-fail.ensures.pushed (rw c.in_ok-fail.ensures.place at c.in_ok-once.ensures.pushed) less)

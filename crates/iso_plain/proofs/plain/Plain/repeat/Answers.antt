@@ -26,8 +26,8 @@ pub returns-clause-called : goal.returns-clause-called
 returns-clause-called g c = λ s h.
     (let e = c.args.self.now in
     let nodes : c.len-2.result ≡ length e.nodes.items = cc (c.len-2.ensures, e.nodes.ok.0) in
-    let frames : c.len-3.result ≡ length e.frames.items = cc (c.len-3.ensures, e.frames.ok.0) in (
-      rw (c.at-self.ensures, c.as_slice.ensures.value) (repeat_engine g.S.Store.names g.S.Store.present g.S.Store.stands g.S.Store.older e s c.args.next h c.keep_choice.new.store c.keep_choice.new.choices c.in_ok-keep_choice.ensures.present c.in_ok-keep_choice.ensures.marks c.in_ok-keep_choice.ensures.names (rw (nodes, frames) at c.in_ok-keep_choice.ensures.gains)),
+    let members : c.len-3.result ≡ length e.members.items = cc (c.len-3.ensures, e.members.ok.0) in (
+      rw (c.at-self.ensures, c.as_slice.ensures.value) (repeat_engine g.S.Store.names g.S.Store.present g.S.Store.stands g.S.Store.older e s c.args.next h c.keep_choice.new.store c.keep_choice.new.choices c.in_ok-keep_choice.ensures.present c.in_ok-keep_choice.ensures.marks c.in_ok-keep_choice.ensures.names (rw (nodes, members) at c.in_ok-keep_choice.ensures.gains)),
       rw c.at-self.ensures (awake_behind _ c.args.next),
     ))
 

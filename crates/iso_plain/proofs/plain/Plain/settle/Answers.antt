@@ -2,8 +2,8 @@ use Rattle.std.proofs.Common.{◌≡◌, ◌∙◌, ◌*◌, ◌<◌, ◌≤◌,
 use Rattle.iso_model.specs.Search.Settings.{Settled, setting_settled, setting_arity}
 use Rattle.iso_model.specs.Search.Walker.{State, settled}
 use Rattle.iso_store_core.specs.Presents.{meaning}
-use Rattle.iso_plain_core.specs.Costs.{rest_cost, frame_costs, choices_cost, whole_cost}
-use Rattle.iso_plain_core.specs.declared.parts.Now.TheVariants as now
+use Rattle.iso_plain_core.specs.Costs.{rest_cost, member_costs, choices_cost, whole_cost}
+use Rattle.iso_plain_core.specs.declared.members.Now.TheVariants as now
 use Rattle.iso_plain_core.proofs.CostLemmas.{behind_cost, whole_paid}
 use Rattle.iso_plain.specs.EngineStates.{IsEngine, WasCalled, cost}
 use Rattle.iso_plain.specs.Limits.{ResultFull}
@@ -37,7 +37,7 @@ returns-in-Ok-Done-clause-called g c = λ s h.
 pub returns-in-Ok-Done-clause-falls : goal.returns-in-Ok-Done-clause-falls
 returns-in-Ok-Done-clause-falls g c = λ w less.
     (let e = c.args.self.now in
-    let costs = frame_costs e.frames.items in
+    let costs = member_costs e.members.items in
     let next = behind_cost c.args.place c.requires.1.meets.ahead.chain in
     let paid = rest_paid e.steps (choices_cost costs e.choices.items) (rest_cost costs c.args.place) w less in
     rw (c.at-self.ensures, c.as_slice.ensures.value) (rw next paid))

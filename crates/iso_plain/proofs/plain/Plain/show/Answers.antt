@@ -1,7 +1,7 @@
 use Rattle.std.proofs.Common.{◌≡◌, ◌∙◌, [], ap, refl, subst, Ok}
 use Rattle.iso_model.specs.Terms.Variables.{variables}
 use Rattle.iso_model.specs.Search.Walker.{State, World, with_rights}
-use Rattle.iso_plain_core.specs.Costs.{rest_cost, frame_costs, choices_cost}
+use Rattle.iso_plain_core.specs.Costs.{rest_cost, member_costs, choices_cost}
 use Rattle.iso_plain.specs.EngineStates.{StandsAs, Keeps, cost}
 use Rattle.iso_plain.specs.Shows.{shown_row, offers_of}
 use Rattle.iso_plain.proofs.LimitLemmas.{stays_on, stays_bare}
@@ -72,10 +72,10 @@ returns-clause-called g c = λ s k x xs t.
 pub returns-clause-falls : goal.returns-clause-falls
 returns-clause-falls g c = λ w less.
     (let e = c.args.self.now in
-    let costs = frame_costs e.frames.items in
+    let costs = member_costs e.members.items in
     let pushed = c.push_shown.ensures in
     let shown = c.in_default.ensures in
-    let all = call_costs e c.push_shown.new.self c.show_clause.new.self c.args.shown.rest pushed.frames shown.frames shown.choices pushed.costs shown.cost in
+    let all = call_costs e c.push_shown.new.self c.show_clause.new.self c.args.shown.rest pushed.members shown.members shown.choices pushed.costs shown.cost in
     rw (shown.steps, pushed.steps) (falls_called e.steps (choices_cost costs e.choices.items) (rest_cost costs c.args.shown.rest) w (cost c.show_clause.new.self) less all))
 
 pub returns-clause-stays : goal.returns-clause-stays

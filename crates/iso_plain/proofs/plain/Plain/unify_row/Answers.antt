@@ -1,7 +1,7 @@
 use Rattle.std.proofs.Common.{arith}
 use Rattle.iso_store_core.specs.Presents.{meaning}
 use Rattle.iso_plain_core.specs.Offers.{goal_arguments, row_tree}
-use Rattle.iso_plain_core.specs.Costs.{rest_cost, frame_costs}
+use Rattle.iso_plain_core.specs.Costs.{rest_cost, member_costs}
 use Rattle.iso_plain_core.proofs.CostLemmas.{behind_cost, cost_above}
 use Rattle.iso_plain_core.specs.Costs.{most}
 use Rattle.iso_plain_core.proofs.ResultLemmas.{behind_error}
@@ -41,7 +41,7 @@ returns-clause-tried g c = λ s made h.
 
 pub returns-clause-cost : goal.returns-clause-cost
 returns-clause-cost g c =
-    let costs = frame_costs c.args.self.now.frames.items in
+    let costs = member_costs c.args.self.now.members.items in
     let there = behind_cost c.args.place c.requires.meets.1.ahead.chain in
     let up = cost_above most (rest_cost costs c.args.place) in
     rw (c.at-self.ensures, c.as_slice.ensures.value) (omega (arith, there, up))

@@ -1,6 +1,6 @@
 use Rattle.std.proofs.Common.{◌<◌, ℕ, suc, subst, sym, arith, rules}
-use Rattle.iso_plain_core.specs.Costs.{rest_cost, frame_costs, choices_cost, whole_cost}
-use Rattle.iso_plain_core.specs.declared.parts.Now.TheVariants as now
+use Rattle.iso_plain_core.specs.Costs.{rest_cost, member_costs, choices_cost, whole_cost}
+use Rattle.iso_plain_core.specs.declared.members.Now.TheVariants as now
 use Rattle.iso_plain_core.proofs.CostLemmas.{behind_cost, whole_paid}
 use Rattle.iso_plain.specs.EngineStates.{cost}
 use Rattle.iso_plain.proofs.LocalMoves.{rest_paid}
@@ -15,7 +15,7 @@ returns-then-is_empty-clause-written g c = λ s h.
 pub returns-then-is_empty-clause-falls : goal.returns-then-is_empty-clause-falls
 returns-then-is_empty-clause-falls g c = λ w less.
     (let e = c.args.self.now in
-    let costs = frame_costs e.frames.items in
+    let costs = member_costs e.members.items in
     let next = behind_cost c.args.place c.requires.1.ahead.chain in
     let paid = rest_paid e.steps (choices_cost costs e.choices.items) (rest_cost costs c.args.place) w less in
     rw (c.at-self.ensures, c.as_slice.ensures.value) (rw next paid))
@@ -27,7 +27,7 @@ returns-else-is_empty-clause-written g c = λ s h.
 pub returns-else-is_empty-clause-falls : goal.returns-else-is_empty-clause-falls
 returns-else-is_empty-clause-falls g c = λ w less.
     (let e = c.args.self.now in
-    let costs = frame_costs e.frames.items in
+    let costs = member_costs e.members.items in
     let next = behind_cost c.args.place c.requires.1.ahead.chain in
     let paid = rest_paid e.steps (choices_cost costs e.choices.items) (rest_cost costs c.args.place) w less in
     rw (c.at-self.ensures, c.as_slice.ensures.value) (rw next paid))

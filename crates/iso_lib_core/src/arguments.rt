@@ -1,0 +1,65 @@
+//! The parts of terms (8.5).
+ghost use Rattle.std.specs.Prelude.{◌≡◌, ◌≤◌, IfOk, OnOk, Err, pos, true};
+ghost use Rattle.iso_model.specs.Terms.Arguments.{arity, argument};
+ghost use Rattle.iso_model.specs.Search.Library.{library_answer, argument_at, argument_of, arg_answer};
+ghost use Rattle.iso_model.specs.declared.kinds.Library.TheVariants as row;
+ghost use Rattle.iso_store_core.specs.Presents.{Holds, meaning, KeepsMarks};
+ghost use Rattle.iso_lib_core.specs.Replies.{IsReply};
+
+use super::outcomes::{Fault, Reply, tested};
+use super::{culprits, errors};
+use iso_model::Term;
+use iso_store_core::{Shape, Store};
+use std::alloc::Global;
+
+/// Unifies the argument at this place of the compound, which has so many, with the other word. The errors are those of `arg`.
+fn argument_at<S: Store>(
+    alloc: Global,
+    store: &mut S,
+    place: i64,
+    compound: S::Word,
+    count: usize,
+    other: S::Word,
+) -> Result<Reply, Fault>
+    requires compound { Holds (S.present store.old) compound }
+    requires count { arity (meaning (S.present store.old) compound) ≡ count }
+    requires other { Holds (S.present store.old) other }
+    ensures replies { IsReply (S.present store.old) (S.present store.new) (argument_at place (meaning (S.present store.old) compound) (meaning (S.present store.old) other)) result }
+    ensures full { result ≡ Err Fault.Full → S.full store.new }
+    ensures names { S.names store.new ≡ S.names store.old }
+    ensures marks { KeepsMarks (S.stands store.old) (S.stands store.new) }
+{
+    if place < 0 {
+        let culprit = Term::Int(place);
+        let ball = errors::out_of_domain(alloc, "not_less_than_zero", culprit, "arg", 3)?;
+        return Err(Fault::Raise(ball));
+    }
+    if place == 0 || place as usize > count {
+        return Ok(Reply::Fail);
+    }
+    let argument = store.arg(compound, place as usize - 1);
+    Ok(tested(store.unify(argument, other)?))
+}
+
+/// `arg/3` (8.5.2). The errors: one is raised, the store is full, or memory was refused.
+pub fn arg<S: Store>(alloc: Global, store: &mut S, goal: S::Word) -> Result<Reply, Fault>
+    requires goal { Holds (S.present store.old) goal }
+    requires arity { 3 ≤ arity (meaning (S.present store.old) goal) }
+    ensures replies { IsReply (S.present store.old) (S.present store.new) (library_answer row.Arg (meaning (S.present store.old) goal)) result }
+    ensures full { result ≡ Err Fault.Full → S.full store.new }
+    ensures names { S.names store.new ≡ S.names store.old }
+    ensures marks { KeepsMarks (S.stands store.old) (S.stands store.new) }
+{
+    let (place, term, other) = (store.arg(goal, 0), store.arg(goal, 1), store.arg(goal, 2));
+    let (place_shape, term_shape) = (store.shape(place), store.shape(term));
+    if matches!(place_shape, Shape::Var(_)) || matches!(term_shape, Shape::Var(_)) {
+        return Err(Fault::Raise(errors::instantiation(alloc, "arg", 3)?));
+    }
+    let Shape::Int(number) = place_shape else {
+        return Err(culprits::wrong_type(alloc, store, "integer", place, "arg", 3));
+    };
+    let Shape::Compound(_, count) = term_shape else {
+        return Err(culprits::wrong_type(alloc, store, "compound", term, "arg", 3));
+    };
+    argument_at(alloc, store, number, term, count, other)
+}

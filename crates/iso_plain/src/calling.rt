@@ -1,0 +1,156 @@
+//! The engine's moves at a goal of a procedure: its clauses are entered, and a choice keeps those behind (7.7.7, 7.7.10).
+ghost use Rattle.std.specs.Prelude.{◌≡◌, ◌<◌, ◌≤◌, ◌+◌, ◌^◌, true, false, OnOk, OnErr, Ok, List, ◌∷◌, length, Err};
+ghost use Rattle.iso_atoms.specs.Texts.{KeepsTexts};
+ghost use Rattle.iso_model.specs.Terms.Trees.{Tree};
+ghost use Rattle.iso_model.specs.Search.Databases as databases;
+ghost use Rattle.iso_db.specs.Presents.{remaining};
+ghost use Rattle.iso_plain_core.specs.declared.choices.Choice as kept;
+ghost use Rattle.iso_model.specs.Search.Walker.{State, Member, fails, tried, tried_clause, with_others};
+
+use super::plain::Plain;
+use iso_db::{ClauseId, View};
+use iso_plain_core::entries;
+use iso_plain_core::left_clauses::next_left;
+use iso_plain_core::choices::{Attempt, Left, keep_choice};
+use iso_plain_core::members::{at, behind};
+use iso_store_core::{Store, StoreFault};
+use std::alloc::AllocError;
+
+impl<S: Store + Drop> Plain<S> {
+    ghost use Rattle.iso_plain.specs.EngineStates.{StandsAs, leaves_of, Keeps, Calls, WasRefused, cost, phase_of};
+    ghost use Rattle.iso_plain_core.specs.Costs.{choices_cost, now_cost, body_cost, left_cost, most, rest_cost, member_costs};
+    ghost use Rattle.iso_plain.specs.Stays.{Stays};
+    ghost use Rattle.iso_model.specs.Search.Engines.{IsAwake};
+    ghost use Rattle.iso_plain_core.specs.declared.members.Now.TheVariants as now;
+
+    /// Enters the clause, with this cut mark; where its head doesn't unify with the goal the engine fails next (7.7.10).
+    pub(crate) fn enter(&mut self, attempt: Attempt<S::Word>, mark: usize) -> Result<(), StoreFault>
+        requires { (s : State) × (call : Tree) × (c : databases.Clause) × (cs : List databases.Clause) × (behind : List Member)
+            × Calls S.names S.present S.stands S.older self.old attempt s call c cs behind }
+        ensures tried { (s : State) (call : Tree) (c : databases.Clause) (cs : List databases.Clause) (behind : List Member)
+            → Calls S.names S.present S.stands S.older self.old attempt s call c cs behind
+            → OnOk result (StandsAs S.names S.present S.stands S.older self.new (tried_clause call c mark behind s)) }
+        ensures kept { (s : State) (call : Tree) (c : databases.Clause) (cs : List databases.Clause) (behind : List Member)
+            → Calls S.names S.present S.stands S.older self.old attempt s call c cs behind
+            → OnErr result (Keeps S.names S.present S.stands S.older self.new s.world s.stack) }
+        ensures steps { self.new.steps ≡ self.old.steps }
+        ensures awake { OnOk result (IsAwake (phase_of self.new.now)) }
+        ensures full { result ≡ Err StoreFault.Full → S.full self.new.store }
+        ensures choices { self.new.choices ≡ self.old.choices }
+        ensures members { self.new.members ≡ self.old.members }
+        ensures cost { OnOk result (now_cost (member_costs self.old.members.items) self.new.now ≤ body_cost most (rest_cost (member_costs self.old.members.items) attempt.rest)) }
+        ensures stays { Stays S.names self.old self.new }
+    {
+        let clause = self.db.clause(attempt.clause);
+        let entered = entries::enter(
+            &mut self.store,
+            &mut self.nodes,
+            &mut self.words,
+            clause,
+            attempt.goal,
+        )?;
+        self.now = behind(self.members.as_slice(), entered, mark, attempt.rest);
+        Ok(())
+    }
+
+    /// Keeps the clauses behind the attempt's, this one and those of the view, as a choice (7.7.8). The error is that memory was refused.
+    fn push_later(
+        &mut self,
+        attempt: Attempt<S::Word>,
+        clause: ClauseId,
+        later: View,
+    ) -> Result<(), AllocError>
+        requires few { remaining later < 2 ^ 64 }
+        requires calls { (s : State) × (call : Tree) × (c : databases.Clause) × (cs : List databases.Clause) × (behind : List Member)
+            × leaves_of S.names S.present S.stands S.older self.old clause later cs × Calls S.names S.present S.stands S.older self.old attempt s call c cs behind }
+        ensures calls { (s : State) (call : Tree) (c : databases.Clause) (cs : List databases.Clause) (behind : List Member)
+            → leaves_of S.names S.present S.stands S.older self.old clause later cs → Calls S.names S.present S.stands S.older self.old attempt s call c cs behind
+            → OnOk result (Calls S.names S.present S.stands S.older self.new attempt (with_others call cs behind s) call c cs behind) }
+        ensures kept { (s : State) (call : Tree) (c : databases.Clause) (cs : List databases.Clause) (behind : List Member)
+            → Calls S.names S.present S.stands S.older self.old attempt s call c cs behind
+            → OnErr result (Keeps S.names S.present S.stands S.older self.new s.world s.stack) }
+        ensures steps { self.new.steps ≡ self.old.steps }
+        ensures count { length self.new.choices.items ≤ length self.old.choices.items + 1 }
+        ensures members_same { self.new.members ≡ self.old.members }
+        ensures costs { choices_cost (member_costs self.old.members.items) self.new.choices.items
+            ≤ choices_cost (member_costs self.old.members.items) self.old.choices.items + left_cost most (rest_cost (member_costs self.old.members.items) attempt.rest) }
+        ensures limit { self.new.limit ≡ self.old.limit }
+        ensures vocabulary { self.new.vocabulary ≡ self.old.vocabulary }
+        ensures names { KeepsTexts (S.names self.old.store) (S.names self.new.store) }
+    {
+        keep_choice(
+            &mut self.store,
+            &mut self.choices,
+            Left::Clauses(Attempt {
+                clause,
+                later,
+                ..attempt
+            }),
+            self.nodes.len(),
+            self.members.len(),
+        )?;
+        Ok(())
+    }
+
+    /// Keeps the call's later clauses as a choice where there are any (7.7.8); false where no choice may be made any more.
+    /// The error is that memory was refused.
+    fn push_choice(&mut self, attempt: Attempt<S::Word>) -> Result<bool, AllocError>
+        requires { (s : State) × (call : Tree) × (c : databases.Clause) × (cs : List databases.Clause) × (behind : List Member)
+            × Calls S.names S.present S.stands S.older self.old attempt s call c cs behind }
+        ensures calls { (s : State) (call : Tree) (c : databases.Clause) (cs : List databases.Clause) (behind : List Member)
+            → Calls S.names S.present S.stands S.older self.old attempt s call c cs behind → result ≡ Ok true
+            → Calls S.names S.present S.stands S.older self.new attempt (with_others call cs behind s) call c cs behind }
+        ensures kept { (s : State) (call : Tree) (c : databases.Clause) (cs : List databases.Clause) (behind : List Member)
+            → Calls S.names S.present S.stands S.older self.old attempt s call c cs behind
+            → OnErr result (Keeps S.names S.present S.stands S.older self.new s.world s.stack) }
+        ensures refused { result ≡ Ok false → self.new ≡ self.old }
+        ensures frames { (s : State) (call : Tree) (c : databases.Clause) (cs : List databases.Clause) (behind : List Member)
+            → Calls S.names S.present S.stands S.older self.old attempt s call c cs behind → result ≡ Ok false
+            → (self.old.limit ≤ length self.old.choices.items) × (0 < length cs) }
+        ensures steps { self.new.steps ≡ self.old.steps }
+        ensures stays { Stays S.names self.old self.new }
+        ensures members_same { self.new.members ≡ self.old.members }
+        ensures costs { choices_cost (member_costs self.old.members.items) self.new.choices.items
+            ≤ choices_cost (member_costs self.old.members.items) self.old.choices.items + left_cost most (rest_cost (member_costs self.old.members.items) attempt.rest) }
+    {
+        let mut later = attempt.later;
+        let Some(clause) = next_left(&self.db, &mut later) else {
+            return Ok(true);
+        };
+        if self.choices.len() >= self.limit as usize {
+            return Ok(false);
+        }
+        self.push_later(attempt, clause, later)?;
+        Ok(true)
+    }
+
+    /// Calls a procedure: the attempt's clause is entered, those behind it are one choice (7.7.7). False
+    /// where no choice may be made any more; the engine is as it was then.
+    pub(crate) fn call(&mut self, attempt: Attempt<S::Word>) -> Result<bool, StoreFault>
+        requires { (s : State) × (call : Tree) × (c : databases.Clause) × (cs : List databases.Clause) × (behind : List Member)
+            × Calls S.names S.present S.stands S.older self.old attempt s call c cs behind }
+        ensures tried { (s : State) (call : Tree) (c : databases.Clause) (cs : List databases.Clause) (behind : List Member)
+            → Calls S.names S.present S.stands S.older self.old attempt s call c cs behind → result ≡ Ok true
+            → StandsAs S.names S.present S.stands S.older self.new (tried call (c ∷ cs) behind s) }
+        ensures kept { (s : State) (call : Tree) (c : databases.Clause) (cs : List databases.Clause) (behind : List Member)
+            → Calls S.names S.present S.stands S.older self.old attempt s call c cs behind
+            → OnErr result (WasRefused S.names S.present S.stands S.older self.new s (with_others call cs behind s)) }
+        ensures awake { result ≡ Ok true → IsAwake (phase_of self.new.now) }
+        ensures refused { result ≡ Ok false → self.new ≡ self.old }
+        ensures frames { (s : State) (call : Tree) (c : databases.Clause) (cs : List databases.Clause) (behind : List Member)
+            → Calls S.names S.present S.stands S.older self.old attempt s call c cs behind → result ≡ Ok false
+            → (self.old.limit ≤ length self.old.choices.items) × (0 < length cs) }
+        ensures full { result ≡ Err StoreFault.Full → S.full self.new.store }
+        ensures steps { self.new.steps ≡ self.old.steps }
+        ensures stays { Stays S.names self.old self.new }
+        ensures costs { result ≡ Ok true → cost self.new ≤ choices_cost (member_costs self.old.members.items) self.old.choices.items
+            + left_cost most (rest_cost (member_costs self.old.members.items) attempt.rest) + body_cost most (rest_cost (member_costs self.old.members.items) attempt.rest) }
+    {
+        let mark = self.choices.len();
+        if !self.push_choice(attempt)? {
+            return Ok(false);
+        }
+        self.enter(attempt, mark)?;
+        Ok(true)
+    }
+}

@@ -1,0 +1,231 @@
+//! The engine's moves at goals that read or change operators and flags (8.14.3, 8.14.4, 8.17.1, 8.17.2), and at rows that their arguments are unified with.
+ghost use Rattle.std.specs.Prelude.{◌≡◌, ℕ, suc, ◌+◌, ◌<◌, ◌≤◌, IfOk, OnOk, OnErr, Ok, Err, List, length, Option, true, false};
+ghost use Rattle.iso_model.specs.Terms.Trees.{Tree};
+ghost use Rattle.iso_model.specs.Search.Settings.{setting_settled};
+ghost use Rattle.iso_model.specs.Search.Settlements as settlements;
+ghost use Rattle.iso_model.specs.Search.Walker as walker;
+ghost use Rattle.iso_model.specs.Search.Walker.{State, Alternative, with_rights, tried_right, offered, settled};
+ghost use Rattle.iso_store_core.specs.Presents.{meaning};
+ghost use Rattle.iso_plain_core.specs.declared.offers.Offers as rows;
+ghost use Rattle.iso_plain_core.specs.Offers.{goal_arguments, row_offer, rows_in, rights_of, IsRow, AreRows};
+ghost use Rattle.iso_plain_core.specs.declared.choices.Choice as kept;
+
+use super::plain::{Move, Plain};
+use iso_lib::{Fault, Settled, settle};
+use iso_model::{Limit, Pause, Setting};
+use iso_plain_core::offers::{self, Offers, Row};
+use iso_plain_core::choices::{Left, keep_choice, take_offer};
+use iso_plain_core::members::{Now, at};
+use iso_store_core::{Store, StoreFault};
+use std::alloc::AllocError;
+
+impl<S: Store + Drop> Plain<S> {
+    ghost use Rattle.iso_plain.specs.Settles.{MeetsRow, MeetsNext, AsksAt, WasStopped};
+    ghost use Rattle.iso_plain.specs.EngineStates.{IsEngine, Keeps, WentBack, WasCalled, Falls, cost, weight, phase_of, went_back};
+    ghost use Rattle.iso_plain_core.specs.Costs.{choices_cost, now_cost, body_cost, left_cost, most, rest_cost, member_costs, whole_cost};
+    ghost use Rattle.iso_model.specs.Search.Engines.{IsAwake};
+    ghost use Rattle.iso_plain.specs.Stays.{Stays};
+    ghost use Rattle.iso_plain.specs.Limits.{ResultMet, ResultFull};
+    ghost use Rattle.iso_plain_core.specs.declared.choices.Left.TheVariants as left;
+
+    /// Unifies the arguments of the goal with the row, and goes on with the members from this place on; where they don't unify it fails
+    /// next. The errors: the store is full, or memory was refused.
+    fn unify_row(
+        &mut self,
+        goal: S::Word,
+        row: &Row,
+        place: Option<usize>,
+    ) -> Result<(), StoreFault>
+        requires meets { (s : State) × MeetsRow S.names S.present S.stands S.older self.old goal s place }
+        requires row { IsRow (meaning (S.present self.old.store) goal) row.now }
+        ensures tried { (s : State) (made : ℕ) → MeetsRow S.names S.present S.stands S.older self.old goal s place
+            → OnOk result (IsEngine S.names S.present S.stands S.older self.new (tried_right (goal_arguments (meaning (S.present self.old.store) goal)) (row_offer made (meaning (S.present self.old.store) goal) row.now) s.list s)) }
+        ensures kept { (s : State) → MeetsRow S.names S.present S.stands S.older self.old goal s place → OnErr result (Keeps S.names S.present S.stands S.older self.new s.world s.stack) }
+        ensures awake { OnOk result (IsAwake (phase_of self.new.now)) }
+        ensures full { result ≡ Err StoreFault.Full → S.full self.new.store }
+        ensures steps { self.new.steps ≡ self.old.steps }
+        ensures choices { self.new.choices ≡ self.old.choices }
+        ensures members { self.new.members ≡ self.old.members }
+        ensures cost { OnOk result (now_cost (member_costs self.old.members.items) self.new.now ≤ body_cost most (rest_cost (member_costs self.old.members.items) place)) }
+        ensures stays { Stays S.names self.old self.new }
+    {
+        if !offers::unify_row(self.alloc, &mut self.store, goal, row)? {
+            self.now = Now::Failing;
+            return Ok(());
+        }
+        self.now = at(self.members.as_slice(), place);
+        Ok(())
+    }
+
+    /// Keeps the rows as a choice where there are any (7.7.8); false where no choice may be made any more. The error is that memory was
+    /// refused.
+    fn push_offers(
+        &mut self,
+        goal: S::Word,
+        place: Option<usize>,
+        offers: Offers,
+    ) -> Result<bool, AllocError>
+        requires meets { (s : State) × MeetsRow S.names S.present S.stands S.older self.old goal s place }
+        requires rows { AreRows (meaning (S.present self.old.store) goal) offers }
+        ensures meets { (s : State) (made : ℕ) → MeetsRow S.names S.present S.stands S.older self.old goal s place → result ≡ Ok true
+            → MeetsRow S.names S.present S.stands S.older self.new goal (with_rights (goal_arguments (meaning (S.present self.old.store) goal)) (rights_of made (meaning (S.present self.old.store) goal) offers) s.list s) place }
+        ensures present { result ≡ Ok true → S.present self.new.store ≡ S.present self.old.store }
+        ensures kept { (s : State) → MeetsRow S.names S.present S.stands S.older self.old goal s place → OnErr result (Keeps S.names S.present S.stands S.older self.new s.world s.stack) }
+        ensures refused { result ≡ Ok false → self.new ≡ self.old }
+        ensures over { result ≡ Ok false → (self.old.limit ≤ length self.old.choices.items) × (0 < length (rows_in offers)) }
+        ensures steps { self.new.steps ≡ self.old.steps }
+        ensures members { self.new.members ≡ self.old.members }
+        ensures costs { choices_cost (member_costs self.old.members.items) self.new.choices.items
+            ≤ choices_cost (member_costs self.old.members.items) self.old.choices.items + left_cost most (rest_cost (member_costs self.old.members.items) place) }
+        ensures stays { Stays S.names self.old self.new }
+    {
+        if offers.is_empty() {
+            return Ok(true);
+        }
+        if self.choices.len() >= self.limit as usize {
+            return Ok(false);
+        }
+        keep_choice(
+            &mut self.store,
+            &mut self.choices,
+            Left::Offered(goal, place, offers),
+            self.nodes.len(),
+            self.members.len(),
+        )?;
+        Ok(true)
+    }
+
+    /// Unifies the arguments of the goal with the first of the rows; those behind it are one choice. The errors: the store is full, or
+    /// memory was refused; where no choice may be made any more the engine is spent.
+    pub(crate) fn offer(
+        &mut self,
+        goal: S::Word,
+        place: Option<usize>,
+        mut offers: Offers,
+    ) -> Result<Move, StoreFault>
+        requires meets { (s : State) × MeetsRow S.names S.present S.stands S.older self.old goal s place }
+        requires rows { AreRows (meaning (S.present self.old.store) goal) offers }
+        ensures called { (s : State) (made : ℕ) → MeetsRow S.names S.present S.stands S.older self.old goal s place
+            → IfOk result (λ m. WasCalled S.names S.present S.stands S.older m self.new s (offered (goal_arguments (meaning (S.present self.old.store) goal)) (rights_of made (meaning (S.present self.old.store) goal) offers) s.list s)) }
+        ensures kept { (s : State) (made : ℕ) → MeetsRow S.names S.present S.stands S.older self.old goal s place
+            → OnErr result (WasStopped S.names S.present S.stands S.older self.new s (offered (goal_arguments (meaning (S.present self.old.store) goal)) (rights_of made (meaning (S.present self.old.store) goal) offers) s.list s)) }
+        ensures falls { (w : ℕ) → choices_cost (member_costs self.old.members.items) self.old.choices.items
+            + rest_cost (member_costs self.old.members.items) place ≤ w → IfOk result (λ m. Falls m (whole_cost (suc self.old.steps) w) (weight self.new)) }
+        ensures frames { (s : State) (made : ℕ) → MeetsRow S.names S.present S.stands S.older self.old goal s place
+            → ResultFull ((self.old.limit ≤ length self.old.choices.items)
+            × (length (offered (goal_arguments (meaning (S.present self.old.store) goal)) (rights_of made (meaning (S.present self.old.store) goal) offers) s.list s).stack ≡ suc (length s.stack))) result }
+        ensures met { ResultMet S.full result self.new }
+        ensures stays { Stays S.names self.old self.new }
+    {
+        let Some(first) = offers.take() else {
+            self.now = Now::Failing;
+            return Ok(Move::Goes);
+        };
+        if !self.push_offers(goal, place, offers)? {
+            self.now = Now::Spent(Limit::Frames);
+            return Ok(Move::Pauses(Pause::FramesFull));
+        }
+        self.unify_row(goal, &first, place)?;
+        Ok(Move::Goes)
+    }
+
+    /// Runs the goal of this row, before the members from this place on. The errors: the store is full, or memory was refused; where no
+    /// choice may be made any more the engine is spent.
+    pub(crate) fn settle(
+        &mut self,
+        row: Setting,
+        goal: S::Word,
+        place: Option<usize>,
+    ) -> Result<Move, StoreFault>
+        requires { (s : State) × AsksAt S.names S.present S.stands S.older self.old row goal s place }
+        ensures called { (s : State) → AsksAt S.names S.present S.stands S.older self.old row goal s place
+            → IfOk result (λ m. WasCalled S.names S.present S.stands S.older m self.new s (settled (setting_settled row (meaning (S.present self.old.store) goal) s.world) s.list s)) }
+        ensures kept { (s : State) → AsksAt S.names S.present S.stands S.older self.old row goal s place
+            → OnErr result (WasStopped S.names S.present S.stands S.older self.new s (settled (setting_settled row (meaning (S.present self.old.store) goal) s.world) s.list s)) }
+        ensures falls { (w : ℕ) → choices_cost (member_costs self.old.members.items) self.old.choices.items
+            + rest_cost (member_costs self.old.members.items) place + 1 ≤ w → IfOk result (λ m. Falls m (whole_cost (suc self.old.steps) w) (weight self.new)) }
+        ensures frames { (s : State) → AsksAt S.names S.present S.stands S.older self.old row goal s place
+            → ResultFull ((self.old.limit ≤ length self.old.choices.items)
+            × (length (settled (setting_settled row (meaning (S.present self.old.store) goal) s.world) s.list s).stack ≡ suc (length s.stack))) result }
+        ensures met { ResultMet S.full result self.new }
+        ensures stays { Stays S.names self.old self.new }
+    {
+        match settle(
+            self.alloc,
+            &self.store,
+            row,
+            goal,
+            &mut self.ops,
+            &mut self.flags,
+        ) {
+            Ok(Settled::Done) => {
+                self.now = at(self.members.as_slice(), place);
+                Ok(Move::Goes)
+            }
+            Ok(Settled::Offers(mut offers)) => {
+                offers.reverse();
+                self.offer(goal, place, Offers::Constants(offers))
+            }
+            Err(Fault::Raise(ball)) => {
+                self.throw(ball, place);
+                Ok(Move::Goes)
+            }
+            Err(Fault::Full) => Err(StoreFault::Full),
+            Err(Fault::NoMemory) => Err(StoreFault::NoMemory),
+        }
+    }
+
+    /// Takes the first row from those of the newest choice, which goes with its last one.
+    fn next_offer(&mut self, mark: S::Mark) -> Row
+        requires some { 0 < length self.old.choices.items }
+        requires back { (c : kept.Choice S.Word S.Mark) × (goal : S.Word) × (place : Option ℕ) × (offers : rows.Offers) × (s : State) × (a : Alternative) × (below : List Alternative) × (c.mark ≡ mark)
+            × (c.left ≡ left.Offered goal place offers) × WentBack S.names S.present S.stands S.older self.old c s a below }
+        ensures meets { (c : kept.Choice S.Word S.Mark) (goal : S.Word) (place : Option ℕ) (offers : rows.Offers) (s : State) (a : Alternative) (below : List Alternative) → c.mark ≡ mark
+            → c.left ≡ left.Offered goal place offers → WentBack S.names S.present S.stands S.older self.old c s a below → MeetsNext S.names S.present S.stands S.older self.new goal place s a below result }
+        ensures costs { (c : kept.Choice S.Word S.Mark) (goal : S.Word) (place : Option ℕ) (offers : rows.Offers) (s : State) (a : Alternative) (below : List Alternative) → c.mark ≡ mark
+            → c.left ≡ left.Offered goal place offers → WentBack S.names S.present S.stands S.older self.old c s a below
+            → choices_cost (member_costs self.old.members.items) self.new.choices.items + (body_cost most (rest_cost (member_costs self.old.members.items) place) + 1)
+            ≤ choices_cost (member_costs self.old.members.items) self.old.choices.items }
+        ensures steps { self.new.steps ≡ self.old.steps }
+        ensures members { self.new.members ≡ self.old.members }
+        ensures stays { Stays S.names self.old self.new }
+    {
+        let newest = self.choices.len() - 1;
+        let Some((row, is_last)) = take_offer(&mut self.choices, newest) else {
+            unreachable!();
+        };
+        if is_last {
+            self.choices.truncate(newest);
+            self.store.forget(mark);
+        }
+        row
+    }
+
+    /// Unifies the arguments of this goal with the first of the rows that were left at the newest choice; then it goes on with the members
+    /// from this place on, or fails next. The errors: the store is full, or memory was refused.
+    pub(crate) fn try_next(
+        &mut self,
+        mark: S::Mark,
+        goal: S::Word,
+        place: Option<usize>,
+    ) -> Result<(), StoreFault>
+        requires some { 0 < length self.old.choices.items }
+        requires back { (c : kept.Choice S.Word S.Mark) × (offers : rows.Offers) × (s : State) × (a : Alternative) × (below : List Alternative) × (c.mark ≡ mark)
+            × (c.left ≡ left.Offered goal place offers) × WentBack S.names S.present S.stands S.older self.old c s a below }
+        ensures tried { (c : kept.Choice S.Word S.Mark) (offers : rows.Offers) (s : State) (a : Alternative) (below : List Alternative) (first : Tree) (rights : List settlements.Offer) → c.mark ≡ mark
+            → c.left ≡ left.Offered goal place offers → WentBack S.names S.present S.stands S.older self.old c s a below → a.left ≡ walker.Offered first rights
+            → OnOk result (IsEngine S.names S.present S.stands S.older self.new (offered first rights a.list (went_back a below s))) }
+        ensures kept { (c : kept.Choice S.Word S.Mark) (offers : rows.Offers) (s : State) (a : Alternative) (below : List Alternative) (first : Tree) (rights : List settlements.Offer) → c.mark ≡ mark
+            → c.left ≡ left.Offered goal place offers → WentBack S.names S.present S.stands S.older self.old c s a below → a.left ≡ walker.Offered first rights
+            → OnErr result (((offered first rights a.list (went_back a below s)).world ≡ s.world)
+            × Keeps S.names S.present S.stands S.older self.new s.world (offered first rights a.list (went_back a below s)).stack) }
+        ensures awake { OnOk result (IsAwake (phase_of self.new.now)) }
+        ensures full { result ≡ Err StoreFault.Full → S.full self.new.store }
+        ensures steps { self.new.steps ≡ self.old.steps }
+        ensures costs { OnOk result (cost self.new < choices_cost (member_costs self.old.members.items) self.old.choices.items) }
+        ensures stays { Stays S.names self.old self.new }
+    {
+        let row = self.next_offer(mark);
+        self.unify_row(goal, &row, place)
+    }
+}

@@ -1,0 +1,8 @@
+-- A step of the view.
+use Rattle.iso_plain_core.proofs.LeavingLemmas.{next_is_left}
+use Rattle.iso_plain_core.proofs.left_clauses.next_left.Goals as goal
+
+pub returns-clause-left : goal.returns-clause-left
+returns-clause-left c = λ names ks cs gives are.
+    (let next = c.next_in.ensures in
+    next_is_left names c.args.db.now c.next_in.new.view ks cs c.next_in.result are (next.stand ks gives) (next.first ks gives) (next.rest ks gives))

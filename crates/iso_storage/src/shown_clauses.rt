@@ -1,0 +1,147 @@
+//! `clause/2` and `retract/1`: the clauses of a procedure are offered, one after another (8.8.1, 8.9.3).
+ghost use Rattle.std.specs.Prelude.{◌≡◌, ◌≢◌, ℕ, List, IfOk, IfSome, OnOk, Err};
+ghost use Rattle.iso_atoms.specs.Texts.{EachOnce, KeepsTexts};
+ghost use Rattle.iso_model.specs.Terms.Arguments.{arity, argument};
+ghost use Rattle.iso_model.specs.Search.Additions.{head_of, body_of};
+ghost use Rattle.iso_model.specs.Search.Databases as databases;
+ghost use Rattle.iso_model.specs.Search.Storages.{clause_settled, retract_settled};
+ghost use Rattle.iso_model.specs.Search.Worlds.{World};
+ghost use Rattle.iso_db.specs.Databases as held;
+ghost use Rattle.iso_db.specs.Presents.{contents, Gives};
+ghost use Rattle.iso_lib_core.specs.Replies.{IsUnbound};
+ghost use Rattle.iso_store_core.specs.Presents.{Holds, meaning, KeepsMarks};
+ghost use Rattle.iso_plain_core.specs.declared.clauses.Clause as kept;
+ghost use Rattle.iso_storage.specs.Storing.{IsProgram, AreOf, IsOffered, OffersFirst, UnlessStopped};
+
+use super::heads::{clauses_of, is_fixed, procedure_of};
+use super::storages::Stored;
+use iso_db::{Db, View};
+use iso_lib::indicators::Functor;
+use iso_lib::{Fault, errors};
+use iso_model::Term;
+use iso_plain_core::callables::Callable;
+use iso_plain_core::clauses::Clause;
+use iso_plain_core::left_clauses::next_left;
+use iso_plain_core::choices::Showing;
+use iso_store_core::{Shape, Store, StoreFault};
+use std::alloc::Global;
+
+/// The first of the clauses of the view, with those behind it, is offered to be unified with this head and this body.
+fn offered<W: Copy>(
+    db: &Db<Clause>,
+    view: Option<View>,
+    head: W,
+    body: W,
+    removes: bool,
+) -> Stored<W>
+    requires { IfSome view (λ v. (ks : List (held.Clause kept.Clause)) × Gives db.now v ks) }
+    ensures { (names : List (List ℕ)) (cs : List databases.Clause) → AreOf names db.now cs view → OffersFirst names db.now head body removes cs result }
+{
+    let Some(mut later) = view else {
+        return Stored::Fails;
+    };
+    match next_left(db, &mut later) {
+        Some(clause) => Stored::Shows(Showing {
+            clause,
+            later,
+            head,
+            body,
+            removes,
+            rest: None,
+        }),
+        None => Stored::Fails,
+    }
+}
+
+/// What a goal of `clause/2` comes to. The errors: `instantiation_error` where the head is unbound, `type_error(callable, Head)` where it is
+/// a number, `type_error(callable, Body)` where the body is one, `permission_error(access, private_procedure, PI)` where the procedure
+/// is a built-in or static, in this order; or memory was refused.
+pub(crate) fn clause<S: Store>(
+    alloc: Global,
+    store: &S,
+    db: &Db<Clause>,
+    callables: &[Vec<Callable>],
+    goal: S::Word,
+) -> Result<Stored<S::Word>, Fault>
+    requires goal { Holds (S.present store.now) goal }
+    requires two { arity (meaning (S.present store.now) goal) ≡ 2 }
+    requires program { (m : databases.Database) × IsProgram (S.names store.now) (contents db.now) callables.now m }
+    ensures stored { (w : World) → IsProgram (S.names store.now) (contents db.now) callables.now w.database
+        → IsOffered (S.names store.now) (S.present store.now) db.now (clause_settled (argument 0 (meaning (S.present store.now) goal)) (argument 1 (meaning (S.present store.now) goal)) w) result }
+    ensures full { result ≢ Err Fault.Full }
+{
+    let (head, body) = (store.arg(goal, 0), store.arg(goal, 1));
+    let Functor { name, arity } = procedure_of(alloc, store, head, "clause", 2)?;
+    if let Shape::Int(number) = store.shape(body) {
+        let ball = errors::not_callable(alloc, Term::Int(number), "clause", 2)?;
+        return Err(Fault::Raise(ball));
+    }
+    let text = store.text(name);
+    if is_fixed(db, callables, Functor { name, arity }, text) {
+        let culprit = errors::indicator(alloc, text, arity)?;
+        let ball = errors::not_permitted(
+            alloc,
+            "access",
+            "private_procedure",
+            culprit,
+            "clause",
+            2,
+        )?;
+        return Err(Fault::Raise(ball));
+    }
+    let view = clauses_of(db, callables, Functor { name, arity }, text);
+    Ok(offered(db, view, head, body, false))
+}
+
+/// The head and the body of the clause that the word stands for; the body of a fact is `true`. The errors: the store is full, or memory
+/// was refused.
+fn clause_parts<S: Store>(store: &mut S, clause: S::Word) -> Result<(S::Word, S::Word), StoreFault>
+    requires clause { Holds (S.present store.old) clause }
+    ensures unbound { OnOk result (IsUnbound (S.present store.old) (S.present store.new)) }
+    ensures hold { IfOk result (λ ws. Holds (S.present store.new) ws.0 × Holds (S.present store.new) ws.1) }
+    ensures head { IfOk result (λ ws. meaning (S.present store.new) ws.0 ≡ head_of (meaning (S.present store.old) clause)) }
+    ensures body { IfOk result (λ ws. meaning (S.present store.new) ws.1 ≡ body_of (meaning (S.present store.old) clause)) }
+    ensures each_once { EachOnce (S.names store.new) }
+    ensures full { result ≡ Err StoreFault.Full → S.full store.new }
+    ensures names { KeepsTexts (S.names store.old) (S.names store.new) }
+    ensures marks { KeepsMarks (S.stands store.old) (S.stands store.new) }
+{
+    if let Shape::Compound(name, count) = store.shape(clause) {
+        if count == 2 && store.text(name) == ":-" {
+            return Ok((store.arg(clause, 0), store.arg(clause, 1)));
+        }
+    }
+    let name = store.intern("true")?;
+    Ok((clause, store.atom(name)?))
+}
+
+/// What a goal of `retract/1` comes to. The errors: `instantiation_error` where the head is unbound, `type_error(callable, Head)` where it
+/// is a number, `permission_error(modify, static_procedure, PI)` where the procedure is a built-in or static, in this order; or the
+/// store is full, or memory was refused.
+pub(crate) fn retract<S: Store>(
+    alloc: Global,
+    store: &mut S,
+    db: &Db<Clause>,
+    callables: &[Vec<Callable>],
+    clause: S::Word,
+) -> Result<Stored<S::Word>, Fault>
+    requires clause { Holds (S.present store.old) clause }
+    requires program { (m : databases.Database) × IsProgram (S.names store.old) (contents db.now) callables.now m }
+    ensures offered { (w : World) → IsProgram (S.names store.old) (contents db.now) callables.now w.database
+        → IsOffered (S.names store.new) (S.present store.new) db.now (retract_settled (meaning (S.present store.old) clause) w) result }
+    ensures kept { (m : databases.Database) → IsProgram (S.names store.old) (contents db.now) callables.now m → IsProgram (S.names store.new) (contents db.now) callables.now m }
+    ensures unbound { UnlessStopped result (IsUnbound (S.present store.old) (S.present store.new)) }
+    ensures full { result ≡ Err Fault.Full → S.full store.new }
+    ensures names { KeepsTexts (S.names store.old) (S.names store.new) }
+    ensures marks { KeepsMarks (S.stands store.old) (S.stands store.new) }
+{
+    let (head, body) = clause_parts(store, clause)?;
+    let Functor { name, arity } = procedure_of(alloc, store, head, "retract", 1)?;
+    let text = store.text(name);
+    if is_fixed(db, callables, Functor { name, arity }, text) {
+        let ball = errors::static_procedure(alloc, text, arity, "retract")?;
+        return Err(Fault::Raise(ball));
+    }
+    let view = clauses_of(db, callables, Functor { name, arity }, text);
+    Ok(offered(db, view, head, body, true))
+}
