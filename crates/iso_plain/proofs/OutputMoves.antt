@@ -50,10 +50,7 @@ raised_is PutChar t table ball h = by_code (element_code Characters (argument 0 
   by_code : (code : Result ℕ Tree) → IsWritten (put_code code) table (Err (fault.Raise ball)) → (put_code code ≡ Raises (term_of ball.term)) × (arities_fit (term_of ball.term) ≡ true)
   by_code (Ok code) i = absurd i
   by_code (Err error) i = (ap Raises (sym i.0), i.1)
-raised_is NewLine t table ball h = absurd h
-raised_is Write t table ball h = absurd h
-raised_is Writeq t table ball h = absurd h
-raised_is WriteCanonical t table ball h = absurd h
+raised_is x t table ball h = absurd h
 
 -- a step that writes, with the steps that are left
 text_steps : (text : List ℕ) (rest : List Member) (n : ℕ) (s : State) → charged n (written text rest s) ≡ written text rest (record s { list = rest; steps = n })

@@ -83,17 +83,7 @@ pub went_on : {W : Type 0} (p q : Present W) (old new : List (Node W)) (x : Repl
 went_on p q old new Succeeds h = as_before h.0
 went_on p q old new (Equates made a b) h = unified h.0.0 h.0.1 h.0.2
 went_on p q old new (EquatesCopy a b) h = unified_copy h.0
-went_on p q old new Fails h = absurd h
-went_on p q old new (Raises error) h = absurd h
-went_on p q old new (Calls b) h = absurd h
-went_on p q old new (CallsOnce b) h = absurd h
-went_on p q old new (Refutes b) h = absurd h
-went_on p q old new (Gathers template b result) h = absurd h
-went_on p q old new Repeats h = absurd h
-went_on p q old new (Catches inside catcher recovery) h = absurd h
-went_on p q old new (Halts n) h = absurd h
-went_on p q old new (AsksWorld settles) h = absurd h
-went_on p q old new (Writes bytes) h = absurd h
+went_on p q old new x h = absurd h
 
 -- The goal failed.
 pub data Failed {W : Type 0} (p : Present W) : Reply → Type 0 where
@@ -105,229 +95,63 @@ pub failed_on : {W : Type 0} (p q : Present W) (old new : List (Node W)) (x : Re
 failed_on p q old new Fails h = at_once
 failed_on p q old new (Equates made a b) h = never_equal h.0
 failed_on p q old new (EquatesCopy a b) h = never_copy h.0
-failed_on p q old new Succeeds h = absurd h
-failed_on p q old new (Raises error) h = absurd h
-failed_on p q old new (Calls b) h = absurd h
-failed_on p q old new (CallsOnce b) h = absurd h
-failed_on p q old new (Refutes b) h = absurd h
-failed_on p q old new (Gathers template b result) h = absurd h
-failed_on p q old new Repeats h = absurd h
-failed_on p q old new (Catches inside catcher recovery) h = absurd h
-failed_on p q old new (Halts n) h = absurd h
-failed_on p q old new (AsksWorld settles) h = absurd h
-failed_on p q old new (Writes bytes) h = absurd h
+failed_on p q old new x h = absurd h
 
 pub raised_by : {W : Type 0} (p q : Present W) (old new : List (Node W)) (x : Reply) (ball : Ball) → IsReply p q old new x (replied.Raises ball) → (x ≡ Raises (term_of ball.term)) × (arities_fit (term_of ball.term) ≡ true) × IsUnbound p q
 raised_by p q old new (Raises error) ball h = (ap Raises (sym h.is), h.fits, h.unbound)
-raised_by p q old new Fails ball h = absurd h
-raised_by p q old new Succeeds ball h = absurd h
-raised_by p q old new (Equates made a b) ball h = absurd h
-raised_by p q old new (EquatesCopy a b) ball h = absurd h
-raised_by p q old new (Calls b) ball h = absurd h
-raised_by p q old new (CallsOnce b) ball h = absurd h
-raised_by p q old new (Refutes b) ball h = absurd h
-raised_by p q old new (Gathers template b result) ball h = absurd h
-raised_by p q old new Repeats ball h = absurd h
-raised_by p q old new (Catches inside catcher recovery) ball h = absurd h
-raised_by p q old new (Halts n) ball h = absurd h
-raised_by p q old new (AsksWorld settles) ball h = absurd h
-raised_by p q old new (Writes bytes) ball h = absurd h
+raised_by p q old new x ball h = absurd h
 
 pub calls_by : {W : Type 0} (p q : Present W) (old new : List (Node W)) (x : Reply) (place : ℕ) → IsReply p q old new x (replied.Calls place) → (b : Body) × (x ≡ Calls b) × Places p q old new b place
 calls_by p q old new (Calls b) place h = (b, refl, h)
-calls_by p q old new Fails place h = absurd h
-calls_by p q old new Succeeds place h = absurd h
-calls_by p q old new (Equates made a b) place h = absurd h
-calls_by p q old new (EquatesCopy a b) place h = absurd h
-calls_by p q old new (Raises error) place h = absurd h
-calls_by p q old new (CallsOnce b) place h = absurd h
-calls_by p q old new (Refutes b) place h = absurd h
-calls_by p q old new (Gathers template b result) place h = absurd h
-calls_by p q old new Repeats place h = absurd h
-calls_by p q old new (Catches inside catcher recovery) place h = absurd h
-calls_by p q old new (Halts n) place h = absurd h
-calls_by p q old new (AsksWorld settles) place h = absurd h
-calls_by p q old new (Writes bytes) place h = absurd h
+calls_by p q old new x place h = absurd h
 
 pub once_by : {W : Type 0} (p q : Present W) (old new : List (Node W)) (x : Reply) (place : ℕ) → IsReply p q old new x (replied.CallsOnce place) → (b : Body) × (x ≡ CallsOnce b) × Places p q old new b place
 once_by p q old new (CallsOnce b) place h = (b, refl, h)
-once_by p q old new Fails place h = absurd h
-once_by p q old new Succeeds place h = absurd h
-once_by p q old new (Equates made a b) place h = absurd h
-once_by p q old new (EquatesCopy a b) place h = absurd h
-once_by p q old new (Raises error) place h = absurd h
-once_by p q old new (Calls b) place h = absurd h
-once_by p q old new (Refutes b) place h = absurd h
-once_by p q old new (Gathers template b result) place h = absurd h
-once_by p q old new Repeats place h = absurd h
-once_by p q old new (Catches inside catcher recovery) place h = absurd h
-once_by p q old new (Halts n) place h = absurd h
-once_by p q old new (AsksWorld settles) place h = absurd h
-once_by p q old new (Writes bytes) place h = absurd h
+once_by p q old new x place h = absurd h
 
 pub refutes_by : {W : Type 0} (p q : Present W) (old new : List (Node W)) (x : Reply) (place : ℕ) → IsReply p q old new x (replied.Refutes place) → (b : Body) × (x ≡ Refutes b) × Places p q old new b place
 refutes_by p q old new (Refutes b) place h = (b, refl, h)
-refutes_by p q old new (Gathers template b result) place h = absurd h
-refutes_by p q old new Fails place h = absurd h
-refutes_by p q old new Succeeds place h = absurd h
-refutes_by p q old new (Equates made a b) place h = absurd h
-refutes_by p q old new (EquatesCopy a b) place h = absurd h
-refutes_by p q old new (Raises error) place h = absurd h
-refutes_by p q old new (Calls b) place h = absurd h
-refutes_by p q old new (CallsOnce b) place h = absurd h
-refutes_by p q old new Repeats place h = absurd h
-refutes_by p q old new (Catches inside catcher recovery) place h = absurd h
-refutes_by p q old new (Halts n) place h = absurd h
-refutes_by p q old new (AsksWorld settles) place h = absurd h
-refutes_by p q old new (Writes bytes) place h = absurd h
+refutes_by p q old new x place h = absurd h
 
 pub repeats_by : {W : Type 0} (p q : Present W) (old new : List (Node W)) (x : Reply) → IsReply p q old new x replied.Repeats → (x ≡ Repeats) × (q ≡ p)
 repeats_by p q old new Repeats h = (refl, h.0)
-repeats_by p q old new Fails h = absurd h
-repeats_by p q old new Succeeds h = absurd h
-repeats_by p q old new (Equates made a b) h = absurd h
-repeats_by p q old new (EquatesCopy a b) h = absurd h
-repeats_by p q old new (Raises error) h = absurd h
-repeats_by p q old new (Calls b) h = absurd h
-repeats_by p q old new (CallsOnce b) h = absurd h
-repeats_by p q old new (Refutes b) h = absurd h
-repeats_by p q old new (Gathers template b result) h = absurd h
-repeats_by p q old new (Catches inside catcher recovery) h = absurd h
-repeats_by p q old new (Halts n) h = absurd h
-repeats_by p q old new (AsksWorld settles) h = absurd h
-repeats_by p q old new (Writes bytes) h = absurd h
+repeats_by p q old new x h = absurd h
 
 pub catches_by : {W : Type 0} (p q : Present W) (old new : List (Node W)) (x : Reply) (placed : Placed) → IsReply p q old new x (replied.Catches placed)
     → (inside : Reply) × (catcher : Tree) × (recovery : Tree) × (x ≡ Catches inside catcher recovery) × IsInside p q old new inside placed
 catches_by p q old new (Catches inside catcher recovery) placed h = (inside, catcher, recovery, refl, h)
-catches_by p q old new Fails placed h = absurd h
-catches_by p q old new Succeeds placed h = absurd h
-catches_by p q old new (Equates made a b) placed h = absurd h
-catches_by p q old new (EquatesCopy a b) placed h = absurd h
-catches_by p q old new (Raises error) placed h = absurd h
-catches_by p q old new (Calls b) placed h = absurd h
-catches_by p q old new (CallsOnce b) placed h = absurd h
-catches_by p q old new (Refutes b) placed h = absurd h
-catches_by p q old new (Gathers template b result) placed h = absurd h
-catches_by p q old new Repeats placed h = absurd h
-catches_by p q old new (Halts n) placed h = absurd h
-catches_by p q old new (AsksWorld settles) placed h = absurd h
-catches_by p q old new (Writes bytes) placed h = absurd h
+catches_by p q old new x placed h = absurd h
 
 pub halts_by : {W : Type 0} (p q : Present W) (old new : List (Node W)) (x : Reply) (status : ℕ) → IsReply p q old new x (replied.Halts status) → x ≡ Halts status
 halts_by p q old new (Halts n) status h = ap Halts (sym h)
-halts_by p q old new Fails status h = absurd h
-halts_by p q old new Succeeds status h = absurd h
-halts_by p q old new (Equates made a b) status h = absurd h
-halts_by p q old new (EquatesCopy a b) status h = absurd h
-halts_by p q old new (Raises error) status h = absurd h
-halts_by p q old new (Calls b) status h = absurd h
-halts_by p q old new (CallsOnce b) status h = absurd h
-halts_by p q old new (Refutes b) status h = absurd h
-halts_by p q old new (Gathers template b result) status h = absurd h
-halts_by p q old new (AsksWorld settles) status h = absurd h
-halts_by p q old new (Writes bytes) status h = absurd h
-halts_by p q old new Repeats status h = absurd h
-halts_by p q old new (Catches inside catcher recovery) status h = absurd h
+halts_by p q old new x status h = absurd h
 
 pub gathers_by : {W : Type 0} (p q : Present W) (old new : List (Node W)) (x : Reply) (place : ℕ) → IsReply p q old new x (replied.Gathers place)
     → (template : Tree) × (b : Body) × (result : Tree) × (x ≡ Gathers template b result) × Places p q old new b place
 gathers_by p q old new (Gathers template b result) place h = (template, b, result, refl, h)
-gathers_by p q old new Fails place h = absurd h
-gathers_by p q old new Succeeds place h = absurd h
-gathers_by p q old new (Equates made a b) place h = absurd h
-gathers_by p q old new (EquatesCopy a b) place h = absurd h
-gathers_by p q old new (Raises error) place h = absurd h
-gathers_by p q old new (Calls b) place h = absurd h
-gathers_by p q old new (CallsOnce b) place h = absurd h
-gathers_by p q old new (Refutes b) place h = absurd h
-gathers_by p q old new Repeats place h = absurd h
-gathers_by p q old new (Catches inside catcher recovery) place h = absurd h
-gathers_by p q old new (Halts n) place h = absurd h
-gathers_by p q old new (AsksWorld settles) place h = absurd h
-gathers_by p q old new (Writes bytes) place h = absurd h
+gathers_by p q old new x place h = absurd h
 
 pub asks_by : {W : Type 0} (p q : Present W) (old new : List (Node W)) (x : Reply) (row : Setting) → IsReply p q old new x (replied.AsksSettings row) → q ≡ p
 asks_by p q old new (AsksWorld settles) row h = h.0
-asks_by p q old new Fails row h = absurd h
-asks_by p q old new Succeeds row h = absurd h
-asks_by p q old new (Equates made a b) row h = absurd h
-asks_by p q old new (EquatesCopy a b) row h = absurd h
-asks_by p q old new (Raises error) row h = absurd h
-asks_by p q old new (Calls b) row h = absurd h
-asks_by p q old new (CallsOnce b) row h = absurd h
-asks_by p q old new (Refutes b) row h = absurd h
-asks_by p q old new (Gathers template b result) row h = absurd h
-asks_by p q old new Repeats row h = absurd h
-asks_by p q old new (Catches inside catcher recovery) row h = absurd h
-asks_by p q old new (Halts n) row h = absurd h
-asks_by p q old new (Writes bytes) row h = absurd h
+asks_by p q old new x row h = absurd h
 
 pub parts_by : {W : Type 0} (p q : Present W) (old new : List (Node W)) (x : Reply) (row : AtomPart) → IsReply p q old new x (replied.TakesApart row) → q ≡ p
 parts_by p q old new (AsksWorld settles) row h = h.0
-parts_by p q old new Fails row h = absurd h
-parts_by p q old new Succeeds row h = absurd h
-parts_by p q old new (Equates made a b) row h = absurd h
-parts_by p q old new (EquatesCopy a b) row h = absurd h
-parts_by p q old new (Raises error) row h = absurd h
-parts_by p q old new (Calls b) row h = absurd h
-parts_by p q old new (CallsOnce b) row h = absurd h
-parts_by p q old new (Refutes b) row h = absurd h
-parts_by p q old new (Gathers template b result) row h = absurd h
-parts_by p q old new Repeats row h = absurd h
-parts_by p q old new (Catches inside catcher recovery) row h = absurd h
-parts_by p q old new (Halts n) row h = absurd h
-parts_by p q old new (Writes bytes) row h = absurd h
+parts_by p q old new x row h = absurd h
 
 pub stores_by : {W : Type 0} (p q : Present W) (old new : List (Node W)) (x : Reply) (row : Storage) → IsReply p q old new x (replied.AsksDatabase row) → q ≡ p
 stores_by p q old new (AsksWorld settles) row h = h.0
-stores_by p q old new Fails row h = absurd h
-stores_by p q old new Succeeds row h = absurd h
-stores_by p q old new (Equates made a b) row h = absurd h
-stores_by p q old new (EquatesCopy a b) row h = absurd h
-stores_by p q old new (Raises error) row h = absurd h
-stores_by p q old new (Calls b) row h = absurd h
-stores_by p q old new (CallsOnce b) row h = absurd h
-stores_by p q old new (Refutes b) row h = absurd h
-stores_by p q old new (Gathers template b result) row h = absurd h
-stores_by p q old new Repeats row h = absurd h
-stores_by p q old new (Catches inside catcher recovery) row h = absurd h
-stores_by p q old new (Halts n) row h = absurd h
-stores_by p q old new (Writes bytes) row h = absurd h
+stores_by p q old new x row h = absurd h
 
 -- what is inside a catch
 pub inside_calls : {W : Type 0} (p q : Present W) (old new : List (Node W)) (x : Reply) (place : ℕ) → IsInside p q old new x (placed.Body place) → (b : Body) × (x ≡ Calls b) × Places p q old new b place
 inside_calls p q old new (Calls b) place h = (b, refl, h)
-inside_calls p q old new Fails place h = absurd h
-inside_calls p q old new Succeeds place h = absurd h
-inside_calls p q old new (Equates made a b) place h = absurd h
-inside_calls p q old new (EquatesCopy a b) place h = absurd h
-inside_calls p q old new (Raises error) place h = absurd h
-inside_calls p q old new (CallsOnce b) place h = absurd h
-inside_calls p q old new (Refutes b) place h = absurd h
-inside_calls p q old new (Gathers template b result) place h = absurd h
-inside_calls p q old new Repeats place h = absurd h
-inside_calls p q old new (Catches inside catcher recovery) place h = absurd h
-inside_calls p q old new (Halts n) place h = absurd h
-inside_calls p q old new (AsksWorld settles) place h = absurd h
-inside_calls p q old new (Writes bytes) place h = absurd h
+inside_calls p q old new x place h = absurd h
 
 pub inside_raises : {W : Type 0} (p q : Present W) (old new : List (Node W)) (x : Reply) (ball : Ball) → IsInside p q old new x (placed.Raises ball)
     → (x ≡ Raises (term_of ball.term)) × (arities_fit (term_of ball.term) ≡ true) × IsUnbound p q
 inside_raises p q old new (Raises error) ball h = (ap Raises (sym h.is), h.fits, h.unbound)
-inside_raises p q old new Fails ball h = absurd h
-inside_raises p q old new Succeeds ball h = absurd h
-inside_raises p q old new (Equates made a b) ball h = absurd h
-inside_raises p q old new (EquatesCopy a b) ball h = absurd h
-inside_raises p q old new (Calls b) ball h = absurd h
-inside_raises p q old new (CallsOnce b) ball h = absurd h
-inside_raises p q old new (Refutes b) ball h = absurd h
-inside_raises p q old new (Gathers template b result) ball h = absurd h
-inside_raises p q old new Repeats ball h = absurd h
-inside_raises p q old new (Catches inside catcher recovery) ball h = absurd h
-inside_raises p q old new (Halts n) ball h = absurd h
-inside_raises p q old new (AsksWorld settles) ball h = absurd h
-inside_raises p q old new (Writes bytes) ball h = absurd h
+inside_raises p q old new x ball h = absurd h
 
 -- a body came, and nothing was bound
 pub places_unbound : {W : Type 0} (p q : Present W) (old new : List (Node W)) (b : Body) (place : ℕ) → Places p q old new b place → IsUnbound p q

@@ -1,6 +1,6 @@
 -- Members that the newest choice kept are gone on with: the choice goes, or stays.
 use Rattle.iso_plain_core.specs.Leaving.{AreLeft}
-use Rattle.std.proofs.Common.{◌≡◌, ℕ, suc, ◌+◌, ◌-◌, ◌<◌, ◌≤◌, ◌++◌, List, [], ◌∷◌, length, take, get_or, Option, Some, refl, ap, sym, ◌∙◌, subst, arith, Vec, Global}
+use Rattle.std.proofs.Common.{◌≡◌, ℕ, suc, ◌+◌, ◌-◌, ◌<◌, ◌≤◌, ◌++◌, List, [], ◌∷◌, length, take, get_or, Option, Some, refl, ap, sym, ◌∙◌, subst, arith, Vec, Global, vec_len}
 use Rattle.std.specs.List.{slice_get}
 use Rattle.iso_atoms.specs.Texts.{KeepsTexts}
 use Rattle.iso_model.specs.Terms.Variables.{variables}
@@ -31,6 +31,10 @@ module _ {S W M : Type 0} (names : S → List (List ℕ)) (present : S → Prese
     -- it is the newest one
     pub newest_is : (n : ℕ) (x : kept.Choice W M) → n ≡ length e.choices.items → x ≡ get_or e.choices.items (n - 1) x → x ≡ c
     newest_is n x many at = item_is e.choices.items (length e.choices.items - 1) c x w.newest (at ∙ ap (λ (k : ℕ). get_or e.choices.items (k - 1) x) many)
+
+    -- what is left to be tried at it is what is left at the one that is looked at
+    pub newest_left : (n : ℕ) (x : kept.Choice W M) → n ≡ vec_len e.choices → x ≡ get_or e.choices.items (n - 1) x → (l : Left W) → x.left ≡ l → c.left ≡ l
+    newest_left n x many at l is = ap (λ (y : kept.Choice W M). y.left) (sym (newest_is n x (many ∙ e.choices.ok.0) at)) ∙ is
 
     pub newest_at : (i : ℕ) (x : kept.Choice W M) → i + 1 ≡ length e.choices.items → x ≡ get_or e.choices.items i x → x ≡ c
     newest_at i x many at =

@@ -10,6 +10,7 @@ use Rattle.iso_model.specs.Terms.Unification.{unifier_of}
 use Rattle.iso_model.specs.Terms.Variables.{variables}
 use Rattle.iso_model.specs.Search.Databases as databases
 use Rattle.iso_model.specs.Search.Databases.{Key}
+use Rattle.iso_model.specs.Search.Storages.{storage_settled}
 use Rattle.iso_model.specs.Search.Settlements.{Settled, Offer, Reference, Refuses, Changes, Offers}
 use Rattle.iso_model.specs.Search.Walker as search
 use Rattle.iso_model.specs.Search.Walker.{State, World, Member, Alternative, fails, under, met_right, is_there, tried_right, with_rights, offered, settled}
@@ -17,7 +18,7 @@ use Rattle.iso_model.specs.declared.kinds.Storage.{Storage}
 use Rattle.iso_model.specs.declared.pauses.Ball.{Ball}
 use Rattle.iso_db.specs.Presents.{contents, KeepsViews, KeepsClauses}
 use Rattle.iso_db.specs.declared.db.Db.{Db}
-use Rattle.iso_store_core.specs.Presents.{Present, KeepsMarks}
+use Rattle.iso_store_core.specs.Presents.{Present, meaning, KeepsMarks}
 use Rattle.iso_lib_core.specs.Replies.{IsUnbound}
 use Rattle.iso_lib_core.specs.declared.outcomes.Fault.{Fault}
 use Rattle.iso_lib_core.specs.declared.outcomes.Fault.TheVariants as fault
@@ -180,3 +181,39 @@ module _ {S W M : Type 0} (names : S → List (List ℕ)) (present : S → Prese
               let many = offers_many here is.key is.are.others in
               ap (λ (v : State). length v.stack) (sym shows_is)
               ∙ right_longer (shown_row (present store) here) (clause_offer here.removes is.key is.are.first) (offers_of here is.key is.are.others) s (omega (arith, some, many))
+
+    -- the goal came to clauses that are shown, by the contract of `store_goal`
+    module _ (r : Result (Stored W) Fault)
+        (told : (w : World) → IsProgram (names e.store) (contents e.db) e.callables.items w.database
+            → IsStored (names store) (present store) db callables.items w (storage_settled of (meaning (present e.store) goal) (present e.store).next w) r)
+        (kept : (m : databases.Database) → IsProgram (names e.store) (contents e.db) e.callables.items m → UnlessDone r (IsProgram (names store) (contents db) callables.items m))
+        (unbound : UnlessStopped r (IsUnbound (present e.store) (present store))) where
+      program_before : IsProgram (names e.store) (contents e.db) e.callables.items s.world.database
+      program_before = record { database = h.ahead.world.database_is; found = h.ahead.world.found }
+
+      abbrev goal_settled : Settled
+      goal_settled = storage_settled of (meaning (present e.store) goal) s.next s.world
+
+      pub record ComesToShow (shown : Showing W) : Type 0 where
+        pub key : Key
+        pub first : databases.Clause
+        pub others : List databases.Clause
+        pub shows : Shows names present stands older behind (record shown { rest = place }) s key first others
+        pub same : offered (shown_row (present store) (record shown { rest = place })) (offers_of (record shown { rest = place }) key (first ∷ others)) s.list s ≡ settled goal_settled s.list s
+        pub longer : 0 < length others → length (settled goal_settled s.list s).stack ≡ suc (length s.stack)
+
+      pub comes_to_show : (shown : Showing W) → r ≡ Ok (stored.Shows shown) → ComesToShow shown
+      comes_to_show shown came =
+          let settles = subst (λ (n : ℕ). IsStored (names store) (present store) db callables.items s.world (storage_settled of (meaning (present e.store) goal) n s.world) r) h.ahead.goes.next (told s.world program_before) in
+          let is = shows_comes (names store) (present store) db callables.items s.world goal_settled r shown settles came in
+          let same_program = unless_at (IsProgram (names store) (contents db) callables.items s.world.database) r (Ok (stored.Shows shown)) came (kept s.world.database program_before) in
+          let bound = stopped_at (IsUnbound (present e.store) (present store)) r (Ok (stored.Shows shown)) came unbound in
+          record {
+            key = is.key;
+            first = is.are.first;
+            others = is.are.others;
+            shows = shows_there same_program bound goal_settled shown is;
+            same = shows_is same_program bound goal_settled shown is;
+            longer = shows_longer same_program bound goal_settled shown is;
+          }
+

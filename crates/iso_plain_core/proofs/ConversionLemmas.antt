@@ -156,10 +156,7 @@ leaf_ends : {W : Type 0} (q : Present W) (nodes : List (Node W)) (x : Node W) (b
 leaf_ends q nodes node.Cut b h = subst (EndsWith (IsValue q) (nodes ++ node.Cut ∷ [])) (sym h) (ends_with nodes node.Cut bodies.Cut (cuts (at_last nodes node.Cut)))
 leaf_ends q nodes (node.Run w) b h =
     subst (EndsWith (IsValue q) (nodes ++ node.Run w ∷ [])) (sym h.1) (ends_with nodes (node.Run w) (Run (meaning q w)) (runs (at_last nodes (node.Run w)) (h.0, refl)))
-leaf_ends q nodes (node.And d) b h = absurd h
-leaf_ends q nodes (node.Or d) b h = absurd h
-leaf_ends q nodes (node.If d) b h = absurd h
-leaf_ends q nodes (node.Choose c d) b h = absurd h
+leaf_ends q nodes x b h = absurd h
 
 -- a part without parts was appended
 pub leaf_read : {W : Type 0} {p q : Present W} (more : Extends p q 0) (nodes new : List (Node W)) (tasks : List (Task W)) (t : Tree) (x : Node W) (b : Body) (whole : Option Body)

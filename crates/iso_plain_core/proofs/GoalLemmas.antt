@@ -126,10 +126,7 @@ module _ (t : Tree) (fits : is_term t ≡ true) (some : 0 < arity t) where
       named_with f g (Apply k ts) h some r = absurd (omega (arith, some))
       named_with f (Name a) (More u us) h some r = ap (λ x. Apply x (More u us)) (sym h)
       named_with f (Apply k ts) (More u us) h some r = ap (λ x. Apply x (joined ts (More u us))) (sym h)
-      named_with f (Variable n) (More u us) h some r = absurd h
-      named_with f (Integer z) (More u us) h some r = absurd h
-      named_with f End (More u us) h some r = absurd h
-      named_with f (More v vs) (More u us) h some r = absurd h
+      named_with f x (More u us) h some r = absurd h
 
   -- made of the values of words, its own arguments first
   pub called_row : {W : Type 0} (m : W → Tree) (f : List ℕ) (none own all : List W) (u : Tree) → HasName f u → u ≡ argument 0 t → (arity t - 1 ≡ 0 → ⊥) → none ≡ []

@@ -258,50 +258,29 @@ no_gatherer_answered (EquateCopy a b) h = h
 no_gatherer_answered (Raise error) h = h
 
 only_catch : (b : BuiltIn) (t : Tree) → IsCatches (reply b t) → b ≡ built_in.Catch
-only_catch built_in.True t h = absurd h
-only_catch built_in.Fail t h = absurd h
 only_catch built_in.Call t h = absurd (none_called IsCatches (λ e i. i) (λ n i. i) (called_of t) (key (codes "call") (arity t)) (λ b i. i) h)
 only_catch built_in.Once t h = absurd (none_goal IsCatches (λ e i. i) (λ n i. i) CallsOnce (argument 0 t) (key (codes "once") 1) (λ b i. i) h)
 only_catch built_in.Not t h = absurd (none_goal IsCatches (λ e i. i) (λ n i. i) Refutes (argument 0 t) (key (codes "\\+") 1) (λ b i. i) h)
-only_catch built_in.Repeat t h = absurd h
 only_catch built_in.Catch t h = refl
 only_catch built_in.Throw t h = absurd (none_thrown IsCatches (λ e i. i) (λ n i. i) (argument 0 t) (key (codes "throw") 1) h)
-only_catch built_in.Halt t h = absurd h
 only_catch built_in.HaltWith t h = absurd (none_ended IsCatches (λ e i. i) (λ n i. i) (argument 0 t) (key (codes "halt") 1) h)
 only_catch built_in.Findall t h = absurd (none_found IsCatches (λ e i. i) (λ n i. i) (argument 0 t) (argument 1 t) (argument 2 t) (key (codes "findall") 3) (λ b i. i) h)
 only_catch (built_in.Library row) t h = absurd (no_catch_answered (library_answer row t) h)
-only_catch (built_in.Setting row) t h = absurd h
-only_catch (built_in.Storage row) t h = absurd h
-only_catch (built_in.AtomPart row) t h = absurd h
 only_catch (built_in.Text row) t h = absurd (no_catch_answered (text_answer row t) h)
 only_catch (built_in.Output PutChar) t h = absurd (none_put IsCatches (λ e i. i) (λ n i. i) (element_code Characters (argument 0 t) put_char_key) (λ bytes i. i) h)
-only_catch (built_in.Output NewLine) t h = absurd h
-only_catch (built_in.Output Write) t h = absurd h
-only_catch (built_in.Output Writeq) t h = absurd h
-only_catch (built_in.Output WriteCanonical) t h = absurd h
+only_catch x t h = absurd h
 
 only_findall : (b : BuiltIn) (t : Tree) → IsGathers (reply b t) → b ≡ built_in.Findall
-only_findall built_in.True t h = absurd h
-only_findall built_in.Fail t h = absurd h
 only_findall built_in.Call t h = absurd (none_called IsGathers (λ e i. i) (λ n i. i) (called_of t) (key (codes "call") (arity t)) (λ b i. i) h)
 only_findall built_in.Once t h = absurd (none_goal IsGathers (λ e i. i) (λ n i. i) CallsOnce (argument 0 t) (key (codes "once") 1) (λ b i. i) h)
 only_findall built_in.Not t h = absurd (none_goal IsGathers (λ e i. i) (λ n i. i) Refutes (argument 0 t) (key (codes "\\+") 1) (λ b i. i) h)
-only_findall built_in.Repeat t h = absurd h
-only_findall built_in.Catch t h = absurd h
 only_findall built_in.Throw t h = absurd (none_thrown IsGathers (λ e i. i) (λ n i. i) (argument 0 t) (key (codes "throw") 1) h)
-only_findall built_in.Halt t h = absurd h
 only_findall built_in.HaltWith t h = absurd (none_ended IsGathers (λ e i. i) (λ n i. i) (argument 0 t) (key (codes "halt") 1) h)
 only_findall built_in.Findall t h = refl
 only_findall (built_in.Library row) t h = absurd (no_gatherer_answered (library_answer row t) h)
-only_findall (built_in.Setting row) t h = absurd h
-only_findall (built_in.Storage row) t h = absurd h
-only_findall (built_in.AtomPart row) t h = absurd h
 only_findall (built_in.Text row) t h = absurd (no_gatherer_answered (text_answer row t) h)
 only_findall (built_in.Output PutChar) t h = absurd (none_put IsGathers (λ e i. i) (λ n i. i) (element_code Characters (argument 0 t) put_char_key) (λ bytes i. i) h)
-only_findall (built_in.Output NewLine) t h = absurd h
-only_findall (built_in.Output Write) t h = absurd h
-only_findall (built_in.Output Writeq) t h = absurd h
-only_findall (built_in.Output WriteCanonical) t h = absurd h
+only_findall x t h = absurd h
 
 -- a catch's parts are the goal's arguments
 pub catch_parts : (b : BuiltIn) (t : Tree) (inside : Reply) (catcher recovery : Tree) → reply b t ≡ Catches inside catcher recovery → (b ≡ built_in.Catch) × (catcher ≡ argument 1 t) × (recovery ≡ argument 2 t)
@@ -360,18 +339,7 @@ parts_settle b t row settles own is =
 pub writes_none : {W : Type 0} (p q : Present W) (old new : List (Node W)) (x : Reply) (row : Output) → IsReply p q old new x (replied.Writes row) → (q ≡ p) × (new ≡ old)
 writes_none p q old new (Writes bytes) row h = h
 writes_none p q old new (Raises error) row h = h
-writes_none p q old new Fails row h = absurd h
-writes_none p q old new Succeeds row h = absurd h
-writes_none p q old new (Equates made a b) row h = absurd h
-writes_none p q old new (EquatesCopy a b) row h = absurd h
-writes_none p q old new (Calls b) row h = absurd h
-writes_none p q old new (CallsOnce b) row h = absurd h
-writes_none p q old new (Refutes b) row h = absurd h
-writes_none p q old new Repeats row h = absurd h
-writes_none p q old new (Catches inside catcher recovery) row h = absurd h
-writes_none p q old new (Gathers template b result) row h = absurd h
-writes_none p q old new (Halts n) row h = absurd h
-writes_none p q old new (AsksWorld settles) row h = absurd h
+writes_none p q old new x row h = absurd h
 
 -- what it says is the reply of its row
 pub output_replied : {W : Type 0} (p : Present W) (nodes : List (Node W)) (row : Output) (t : Tree) → IsReply p p nodes nodes (output_reply row t) (replied.Writes row)

@@ -201,37 +201,15 @@ fn read_part<C: Cells>(
         values.old.items values.new.items later.old.items later.new.items (left_terms (C.present store.now) left.old.items ++ meaning (C.present store.now) word ∷ []) (left_terms (C.present store.now) left.new.items) at) }
     ensures left { OnOk result (AreUnread (C.present store.now) left.new.items) }
 {
-    match head.parts[at - 1] {
-        Part::Variable(place) => read_variable(store, head, at, place, word, values, later, left),
-        Part::Integer(value) => {
-            read_shape(
-                store,
-                head,
-                at,
-                Shape::Int(value),
-                word,
-                values,
-                later,
-                left,
-            )
+    let shape = match head.parts[at - 1] {
+        Part::Variable(place) => {
+            return read_variable(store, head, at, place, word, values, later, left);
         }
-        Part::Atom(name) => {
-            read_shape(
-                store,
-                head,
-                at,
-                Shape::Atom(name),
-                word,
-                values,
-                later,
-                left,
-            )
-        }
-        Part::Compound(name, count) => {
-            let shape = Shape::Compound(name, count);
-            read_shape(store, head, at, shape, word, values, later, left)
-        }
-    }
+        Part::Integer(value) => Shape::Int(value),
+        Part::Atom(name) => Shape::Atom(name),
+        Part::Compound(name, count) => Shape::Compound(name, count),
+    };
+    read_shape(store, head, at, shape, word, values, later, left)
 }
 
 /// Reads the parts before this place that are variables without a value, for the arguments that are left of a compound, the last one first:

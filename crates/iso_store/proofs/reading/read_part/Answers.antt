@@ -3,6 +3,7 @@ use Rattle.std.proofs.lemmas.Int.{to_z-of_z}
 use mir.Val.{SFits}
 use mir.Syntax.{w64}
 use Rattle.iso_store.proofs.PartShows.{part-variable, part-integer, part-atom, part-compound}
+use Rattle.iso_store.proofs.reading.read_part.Goals.{in-Integer, in-Atom, in-Compound}
 use Rattle.iso_store.proofs.reading.read_part.Goals as goal
 
 pub read_variable-requires-clause-place : goal.read_variable-requires-clause-place
@@ -18,16 +19,13 @@ read_variable-requires-clause-variable g c =
 pub read_shape-requires-clause-shows : goal.read_shape-requires-clause-shows
 read_shape-requires-clause-shows g c =
     let t = c.requires.count in
-    let fits : SFits w64 c.in-Integer.value = search rules in
-    part-integer (g.C.Cells.names c.args.store.now) c.args.head.now.parts.items c.args.head.now.exact (length c.args.values.now.items) t.0 t.1 t.2 t.3 c.args.at c.requires.some c.requires.read.within c.index.result.now c.index.ensures c.in-Integer.value _
-    (to_z-of_z w64 c.in-Integer.value fits) c.in-Integer.is
-
-pub read_shape-requires-in-Atom-clause-shows : goal.read_shape-requires-in-Atom-clause-shows
-read_shape-requires-in-Atom-clause-shows g c =
-    let t = c.requires.count in
-    part-atom (g.C.Cells.names c.args.store.now) c.args.head.now.parts.items c.args.head.now.exact (length c.args.values.now.items) t.0 t.1 t.2 t.3 c.args.at c.requires.some c.requires.read.within c.index.result.now c.index.ensures _ c.in-Atom.is
-
-pub read_shape-requires-in-Compound-clause-shows : goal.read_shape-requires-in-Compound-clause-shows
-read_shape-requires-in-Compound-clause-shows g c =
-    let t = c.requires.count in
-    part-compound (g.C.Cells.names c.args.store.now) c.args.head.now.parts.items c.args.head.now.exact (length c.args.values.now.items) t.0 t.1 t.2 t.3 c.args.at c.requires.some c.requires.read.within c.index.result.now c.index.ensures _ _ c.in-Compound.is
+    let names = g.C.Cells.names c.args.store.now in
+    let ks = c.args.head.now.parts.items in
+    let n = length c.args.values.now.items in
+    elim c.match-index.branch [
+      | in-Integer w ↦
+          let fits : SFits w64 w.in-Integer.value = search rules in
+          rw w.shape-is (part-integer names ks c.args.head.now.exact n t.0 t.1 t.2 t.3 c.args.at c.requires.some c.requires.read.within c.index.result.now c.index.ensures w.in-Integer.value _ (to_z-of_z w64 w.in-Integer.value fits) w.in-Integer.is)
+      | in-Atom w ↦ rw w.shape-is (part-atom names ks c.args.head.now.exact n t.0 t.1 t.2 t.3 c.args.at c.requires.some c.requires.read.within c.index.result.now c.index.ensures _ w.in-Atom.is)
+      | in-Compound w ↦ rw w.shape-is (part-compound names ks c.args.head.now.exact n t.0 t.1 t.2 t.3 c.args.at c.requires.some c.requires.read.within c.index.result.now c.index.ensures _ _ w.in-Compound.is)
+    ]

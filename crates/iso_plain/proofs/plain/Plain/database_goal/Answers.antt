@@ -17,7 +17,7 @@ use Rattle.iso_plain.proofs.LimitLemmas.{result_full}
 use Rattle.iso_plain.proofs.LocalMoves.{rest_paid}
 use Rattle.iso_plain.proofs.SearchMoves.{stands_itself}
 use Rattle.iso_plain.proofs.WeightLemmas.{cost_as}
-use Rattle.iso_plain.proofs.StoreMoves.{done_comes, fails_comes, shows_comes, raise_comes, unless_at, stopped_at, done_engine, fails_engine, keeps_same, ahead_same, shows_there, shows_is, shows_longer}
+use Rattle.iso_plain.proofs.StoreMoves.{done_comes, fails_comes, raise_comes, unless_at, stopped_at, done_engine, fails_engine, keeps_same, ahead_same, comes_to_show}
 use Rattle.iso_plain.proofs.plain.Plain.database_goal.Goals as goal
 
 pub at-self-requires : goal.at-self-requires
@@ -71,62 +71,37 @@ show-requires g c =
     let s = c.requires.0 in
     let h = c.requires.1 in
     let new = c.store_goal.new in
-    let t = meaning (g.S.Store.present e.store) c.args.goal in
-    let x = storage_settled c.args.row t s.next s.world in
-    let came = c.in-Ok-Shows.is ∙ ap Ok c.in-Ok-Shows.field-0-is in
-    let program : IsProgram (g.S.Store.names e.store) (contents e.db) e.callables.items s.world.database = record { database = h.ahead.world.database_is; found = h.ahead.world.found } in
-    let settles = subst (λ (n : ℕ). IsStored (g.S.Store.names new.store) (g.S.Store.present new.store) new.db new.callables.items s.world (storage_settled c.args.row t n s.world) c.store_goal.result) h.ahead.goes.next (c.store_goal.ensures.stored s.world program) in
-    let is = shows_comes (g.S.Store.names new.store) (g.S.Store.present new.store) new.db new.callables.items s.world x c.store_goal.result c.in-Ok-Shows.shown settles came in
-    let kept = unless_at (IsProgram (g.S.Store.names new.store) (contents new.db) new.callables.items s.world.database) c.store_goal.result _ came (c.store_goal.ensures.kept s.world.database program) in
-    let unbound = stopped_at (IsUnbound (g.S.Store.present e.store) (g.S.Store.present new.store)) c.store_goal.result _ came c.store_goal.ensures.unbound in
-    (s, is.key, is.are.first, is.are.others, shows_there g.S.Store.names g.S.Store.present g.S.Store.stands g.S.Store.older e c.args.row c.args.goal s c.args.place h new.store new.db new.callables c.store_goal.ensures.marks c.store_goal.ensures.names c.store_goal.ensures.views c.store_goal.ensures.clauses kept unbound x c.in-Ok-Shows.shown is)
+    let met = c.store_goal.ensures in
+    let told = comes_to_show g.S.Store.names g.S.Store.present g.S.Store.stands g.S.Store.older e c.args.row c.args.goal s c.args.place h new.store new.db new.callables met.marks met.names met.views met.clauses c.store_goal.result met.stored met.kept met.unbound
+        c.in-Ok-Shows.shown (c.in-Ok-Shows.is ∙ ap Ok c.in-Ok-Shows.field-0-is) in
+    (s, told.key, told.first, told.others, told.shows)
 
 pub returns-in-Ok-Shows-clause-called : goal.returns-in-Ok-Shows-clause-called
 returns-in-Ok-Shows-clause-called g c = λ s h.
     (let e = c.args.self.now in
     let new = c.store_goal.new in
-    let t = meaning (g.S.Store.present e.store) c.args.goal in
-    let x = storage_settled c.args.row t s.next s.world in
-    let came = c.in-Ok-Shows.is ∙ ap Ok c.in-Ok-Shows.field-0-is in
-    let program : IsProgram (g.S.Store.names e.store) (contents e.db) e.callables.items s.world.database = record { database = h.ahead.world.database_is; found = h.ahead.world.found } in
-    let settles = subst (λ (n : ℕ). IsStored (g.S.Store.names new.store) (g.S.Store.present new.store) new.db new.callables.items s.world (storage_settled c.args.row t n s.world) c.store_goal.result) h.ahead.goes.next (c.store_goal.ensures.stored s.world program) in
-    let is = shows_comes (g.S.Store.names new.store) (g.S.Store.present new.store) new.db new.callables.items s.world x c.store_goal.result c.in-Ok-Shows.shown settles came in
-    let kept = unless_at (IsProgram (g.S.Store.names new.store) (contents new.db) new.callables.items s.world.database) c.store_goal.result _ came (c.store_goal.ensures.kept s.world.database program) in
-    let unbound = stopped_at (IsUnbound (g.S.Store.present e.store) (g.S.Store.present new.store)) c.store_goal.result _ came c.store_goal.ensures.unbound in
-    let shows = shows_there g.S.Store.names g.S.Store.present g.S.Store.stands g.S.Store.older e c.args.row c.args.goal s c.args.place h new.store new.db new.callables c.store_goal.ensures.marks c.store_goal.ensures.names c.store_goal.ensures.views c.store_goal.ensures.clauses kept unbound x c.in-Ok-Shows.shown is in
-    let same = shows_is g.S.Store.names g.S.Store.present g.S.Store.stands g.S.Store.older e c.args.row c.args.goal s c.args.place h new.store new.db new.callables c.store_goal.ensures.marks c.store_goal.ensures.names c.store_goal.ensures.views c.store_goal.ensures.clauses kept unbound x c.in-Ok-Shows.shown is in
-    subst (λ (v : State). IfOk c.show.result (λ m. WasTried g.S.Store.names g.S.Store.present g.S.Store.stands g.S.Store.older m c.show.new.self s v)) same (c.show.ensures.called s is.key is.are.first is.are.others shows))
+    let met = c.store_goal.ensures in
+    let told = comes_to_show g.S.Store.names g.S.Store.present g.S.Store.stands g.S.Store.older e c.args.row c.args.goal s c.args.place h new.store new.db new.callables met.marks met.names met.views met.clauses c.store_goal.result met.stored met.kept met.unbound
+        c.in-Ok-Shows.shown (c.in-Ok-Shows.is ∙ ap Ok c.in-Ok-Shows.field-0-is) in
+    subst (λ (v : State). IfOk c.show.result (λ m. WasTried g.S.Store.names g.S.Store.present g.S.Store.stands g.S.Store.older m c.show.new.self s v)) told.same (c.show.ensures.called s told.key told.first told.others told.shows))
 
 pub returns-in-Ok-Shows-clause-kept : goal.returns-in-Ok-Shows-clause-kept
 returns-in-Ok-Shows-clause-kept g c = λ s h.
     (let e = c.args.self.now in
     let new = c.store_goal.new in
-    let t = meaning (g.S.Store.present e.store) c.args.goal in
-    let x = storage_settled c.args.row t s.next s.world in
-    let came = c.in-Ok-Shows.is ∙ ap Ok c.in-Ok-Shows.field-0-is in
-    let program : IsProgram (g.S.Store.names e.store) (contents e.db) e.callables.items s.world.database = record { database = h.ahead.world.database_is; found = h.ahead.world.found } in
-    let settles = subst (λ (n : ℕ). IsStored (g.S.Store.names new.store) (g.S.Store.present new.store) new.db new.callables.items s.world (storage_settled c.args.row t n s.world) c.store_goal.result) h.ahead.goes.next (c.store_goal.ensures.stored s.world program) in
-    let is = shows_comes (g.S.Store.names new.store) (g.S.Store.present new.store) new.db new.callables.items s.world x c.store_goal.result c.in-Ok-Shows.shown settles came in
-    let kept = unless_at (IsProgram (g.S.Store.names new.store) (contents new.db) new.callables.items s.world.database) c.store_goal.result _ came (c.store_goal.ensures.kept s.world.database program) in
-    let unbound = stopped_at (IsUnbound (g.S.Store.present e.store) (g.S.Store.present new.store)) c.store_goal.result _ came c.store_goal.ensures.unbound in
-    let shows = shows_there g.S.Store.names g.S.Store.present g.S.Store.stands g.S.Store.older e c.args.row c.args.goal s c.args.place h new.store new.db new.callables c.store_goal.ensures.marks c.store_goal.ensures.names c.store_goal.ensures.views c.store_goal.ensures.clauses kept unbound x c.in-Ok-Shows.shown is in
-    on_err_weaker c.show.result inr (c.show.ensures.kept s is.key is.are.first is.are.others shows))
+    let met = c.store_goal.ensures in
+    let told = comes_to_show g.S.Store.names g.S.Store.present g.S.Store.stands g.S.Store.older e c.args.row c.args.goal s c.args.place h new.store new.db new.callables met.marks met.names met.views met.clauses c.store_goal.result met.stored met.kept met.unbound
+        c.in-Ok-Shows.shown (c.in-Ok-Shows.is ∙ ap Ok c.in-Ok-Shows.field-0-is) in
+    on_err_weaker c.show.result inr (c.show.ensures.kept s told.key told.first told.others told.shows))
 
 pub returns-in-Ok-Shows-clause-frames : goal.returns-in-Ok-Shows-clause-frames
 returns-in-Ok-Shows-clause-frames g c = λ s h.
     (let e = c.args.self.now in
     let new = c.store_goal.new in
-    let t = meaning (g.S.Store.present e.store) c.args.goal in
-    let x = storage_settled c.args.row t s.next s.world in
-    let came = c.in-Ok-Shows.is ∙ ap Ok c.in-Ok-Shows.field-0-is in
-    let program : IsProgram (g.S.Store.names e.store) (contents e.db) e.callables.items s.world.database = record { database = h.ahead.world.database_is; found = h.ahead.world.found } in
-    let settles = subst (λ (n : ℕ). IsStored (g.S.Store.names new.store) (g.S.Store.present new.store) new.db new.callables.items s.world (storage_settled c.args.row t n s.world) c.store_goal.result) h.ahead.goes.next (c.store_goal.ensures.stored s.world program) in
-    let is = shows_comes (g.S.Store.names new.store) (g.S.Store.present new.store) new.db new.callables.items s.world x c.store_goal.result c.in-Ok-Shows.shown settles came in
-    let kept = unless_at (IsProgram (g.S.Store.names new.store) (contents new.db) new.callables.items s.world.database) c.store_goal.result _ came (c.store_goal.ensures.kept s.world.database program) in
-    let unbound = stopped_at (IsUnbound (g.S.Store.present e.store) (g.S.Store.present new.store)) c.store_goal.result _ came c.store_goal.ensures.unbound in
-    let shows = shows_there g.S.Store.names g.S.Store.present g.S.Store.stands g.S.Store.older e c.args.row c.args.goal s c.args.place h new.store new.db new.callables c.store_goal.ensures.marks c.store_goal.ensures.names c.store_goal.ensures.views c.store_goal.ensures.clauses kept unbound x c.in-Ok-Shows.shown is in
-    let longer = shows_longer g.S.Store.names g.S.Store.present g.S.Store.stands g.S.Store.older e c.args.row c.args.goal s c.args.place h new.store new.db new.callables c.store_goal.ensures.marks c.store_goal.ensures.names c.store_goal.ensures.views c.store_goal.ensures.clauses kept unbound x c.in-Ok-Shows.shown is in
-    result_full c.show.result (λ full. (full.0, longer full.1)) (c.show.ensures.frames s is.key is.are.first is.are.others shows))
+    let met = c.store_goal.ensures in
+    let told = comes_to_show g.S.Store.names g.S.Store.present g.S.Store.stands g.S.Store.older e c.args.row c.args.goal s c.args.place h new.store new.db new.callables met.marks met.names met.views met.clauses c.store_goal.result met.stored met.kept met.unbound
+        c.in-Ok-Shows.shown (c.in-Ok-Shows.is ∙ ap Ok c.in-Ok-Shows.field-0-is) in
+    result_full c.show.result (λ full. (full.0, told.longer full.1)) (c.show.ensures.frames s told.key told.first told.others told.shows))
 
 pub returns-in-Err-Raise-clause-called : goal.returns-in-Err-Raise-clause-called
 returns-in-Err-Raise-clause-called g c = λ s h.

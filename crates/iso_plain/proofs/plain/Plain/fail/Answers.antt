@@ -6,7 +6,7 @@ use Rattle.iso_plain_core.proofs.ResultLemmas.{behind_error}
 use Rattle.iso_plain_core.proofs.StandingLemmas.{choices_length}
 use Rattle.iso_plain.proofs.WeightLemmas.{falls_less, back_cost, entered_cost, falls_again}
 use Rattle.iso_plain.proofs.FailLemmas.{ends_run, resumes_on, passes_on, repeats_on, spends_on, tries_on, stops_on}
-use Rattle.iso_plain.proofs.ResumeLemmas.{has_members, newest_is}
+use Rattle.iso_plain.proofs.ResumeLemmas.{has_members, newest_left}
 use Rattle.iso_plain.proofs.GatherMoves.{found_on, found_stops}
 use Rattle.iso_plain.proofs.OfferMoves.{offers_on, offers_stop}
 use Rattle.iso_plain.proofs.SearchMoves.{stands_itself, stops_bare}
@@ -23,9 +23,7 @@ pub returns-in-AsIs-clause-moves : goal.returns-in-AsIs-clause-moves
 returns-in-AsIs-clause-moves g c = λ s r.
     (let b = c.go_back-mark.ensures.back r.own r.engine in
     let mid = c.go_back-mark.new.self in
-    let many : c.len.result ≡ length mid.choices.items = cc (c.len.ensures, mid.choices.ok.0) in
-    let same = newest_is g.S.Store.names g.S.Store.present g.S.Store.stands g.S.Store.older mid b.0 r.own b.1 b.2 b.5 c.len.result c.index.result.now many c.index.ensures in
-    let tries = ap (λ (x : _). x.left) (sym same) ∙ c.in-AsIs.is in
+    let tries = newest_left g.S.Store.names g.S.Store.present g.S.Store.stands g.S.Store.older mid b.0 r.own b.1 b.2 b.5 c.len.result c.index.result.now c.len.ensures c.index.ensures _ c.in-AsIs.is in
     let on = c.go_on.ensures.goes b.0 r.own b.1 b.2 b.4 tries b.5 in
     resumes_on g.S.Store.names g.S.Store.present g.S.Store.stands g.S.Store.older c.args.self.now c.go_on.new.self s r b.1 b.2 c.requires.failing b.3 on.0 on.1 c.go_on.ensures.awake)
 
@@ -34,9 +32,7 @@ go_on-requires-clause-back g c =
     let r = c.requires.represents.1 in
     let b = c.go_back-mark.ensures.back r.own r.engine in
     let mid = c.go_back-mark.new.self in
-    let many : c.len.result ≡ length mid.choices.items = cc (c.len.ensures, mid.choices.ok.0) in
-    let same = newest_is g.S.Store.names g.S.Store.present g.S.Store.stands g.S.Store.older mid b.0 r.own b.1 b.2 b.5 c.len.result c.index.result.now many c.index.ensures in
-    let tries = ap (λ (x : _). x.left) (sym same) ∙ c.in-AsIs.is in
+    let tries = newest_left g.S.Store.names g.S.Store.present g.S.Store.stands g.S.Store.older mid b.0 r.own b.1 b.2 b.5 c.len.result c.index.result.now c.len.ensures c.index.ensures _ c.in-AsIs.is in
     (b.0, r.own, b.1, b.2, b.4, tries, b.5)
 
 pub returns-in-AsIs-clause-falls : goal.returns-in-AsIs-clause-falls
@@ -50,9 +46,7 @@ pub returns-in-Again-clause-moves : goal.returns-in-Again-clause-moves
 returns-in-Again-clause-moves g c = λ s r.
     (let b = c.go_back-mark.ensures.back r.own r.engine in
     let mid = c.go_back-mark.new.self in
-    let many : c.len.result ≡ length mid.choices.items = cc (c.len.ensures, mid.choices.ok.0) in
-    let same = newest_is g.S.Store.names g.S.Store.present g.S.Store.stands g.S.Store.older mid b.0 r.own b.1 b.2 b.5 c.len.result c.index.result.now many c.index.ensures in
-    let tries = ap (λ (x : _). x.left) (sym same) ∙ c.in-Again.is in
+    let tries = newest_left g.S.Store.names g.S.Store.present g.S.Store.stands g.S.Store.older mid b.0 r.own b.1 b.2 b.5 c.len.result c.index.result.now c.len.ensures c.index.ensures _ c.in-Again.is in
     let h = has_members g.S.Store.names g.S.Store.present g.S.Store.stands g.S.Store.older mid b.0 r.own b.1 b.2 b.5 _ tries in
     spends_on g.S.Store.names g.S.Store.present g.S.Store.stands g.S.Store.older c.args.self.now c.clear-in-Again.new.self s r b.1 b.2 c.requires.failing b.3 h.is (sym c.go_back-mark.ensures.steps ∙ c.if-self-eq0.true) (c.clear-in-Again.ensures.idle r.own.world b.5.world) c.clear-in-Again.ensures.now)
 
@@ -60,9 +54,7 @@ pub returns-in-Again-2-clause-moves : goal.returns-in-Again-2-clause-moves
 returns-in-Again-2-clause-moves g c = λ s r.
     (let b = c.go_back-mark.ensures.back r.own r.engine in
     let mid = c.go_back-mark.new.self in
-    let many : c.len.result ≡ length mid.choices.items = cc (c.len.ensures, mid.choices.ok.0) in
-    let same = newest_is g.S.Store.names g.S.Store.present g.S.Store.stands g.S.Store.older mid b.0 r.own b.1 b.2 b.5 c.len.result c.index.result.now many c.index.ensures in
-    let tries = ap (λ (x : _). x.left) (sym same) ∙ c.in-Again-2.is in
+    let tries = newest_left g.S.Store.names g.S.Store.present g.S.Store.stands g.S.Store.older mid b.0 r.own b.1 b.2 b.5 c.len.result c.index.result.now c.len.ensures c.index.ensures _ c.in-Again-2.is in
     let on = c.go_again.ensures.goes b.0 r.own b.1 b.2 tries b.5 in
     repeats_on g.S.Store.names g.S.Store.present g.S.Store.stands g.S.Store.older c.args.self.now c.go_again.new.self s r b.1 b.2 c.requires.failing b.3 on.0 (c.go_again.ensures.step ∙ c.go_back-mark.ensures.steps) on.1 c.go_again.ensures.awake)
 
@@ -71,9 +63,7 @@ go_again-requires-clause-back g c =
     let r = c.requires.represents.1 in
     let b = c.go_back-mark.ensures.back r.own r.engine in
     let mid = c.go_back-mark.new.self in
-    let many : c.len.result ≡ length mid.choices.items = cc (c.len.ensures, mid.choices.ok.0) in
-    let same = newest_is g.S.Store.names g.S.Store.present g.S.Store.stands g.S.Store.older mid b.0 r.own b.1 b.2 b.5 c.len.result c.index.result.now many c.index.ensures in
-    let tries = ap (λ (x : _). x.left) (sym same) ∙ c.in-Again-2.is in
+    let tries = newest_left g.S.Store.names g.S.Store.present g.S.Store.stands g.S.Store.older mid b.0 r.own b.1 b.2 b.5 c.len.result c.index.result.now c.len.ensures c.index.ensures _ c.in-Again-2.is in
     (b.0, r.own, b.1, b.2, tries, b.5)
 
 pub returns-in-Again-2-clause-falls : goal.returns-in-Again-2-clause-falls
@@ -89,9 +79,7 @@ pub returns-in-Catching-clause-moves : goal.returns-in-Catching-clause-moves
 returns-in-Catching-clause-moves g c = λ s r.
     (let b = c.go_back-mark.ensures.back r.own r.engine in
     let mid = c.go_back-mark.new.self in
-    let many : c.len.result ≡ length mid.choices.items = cc (c.len.ensures, mid.choices.ok.0) in
-    let same = newest_is g.S.Store.names g.S.Store.present g.S.Store.stands g.S.Store.older mid b.0 r.own b.1 b.2 b.5 c.len.result c.index.result.now many c.index.ensures in
-    let tries = ap (λ (x : _). x.left) (sym same) ∙ c.in-Catching.is in
+    let tries = newest_left g.S.Store.names g.S.Store.present g.S.Store.stands g.S.Store.older mid b.0 r.own b.1 b.2 b.5 c.len.result c.index.result.now c.len.ensures c.index.ensures _ c.in-Catching.is in
     let h = has_members g.S.Store.names g.S.Store.present g.S.Store.stands g.S.Store.older mid b.0 r.own b.1 b.2 b.5 _ tries in
     passes_on g.S.Store.names g.S.Store.present g.S.Store.stands g.S.Store.older c.args.self.now c.pass_catch.new.self s r b.1 b.2 c.requires.failing b.3 _ _ h.is (c.pass_catch.ensures.fails b.0 r.own b.1 b.2 b.4 b.5) c.pass_catch.ensures.awake)
 
@@ -100,9 +88,7 @@ pass_catch-requires-clause-back g c =
     let r = c.requires.represents.1 in
     let b = c.go_back-mark.ensures.back r.own r.engine in
     let mid = c.go_back-mark.new.self in
-    let many : c.len.result ≡ length mid.choices.items = cc (c.len.ensures, mid.choices.ok.0) in
-    let same = newest_is g.S.Store.names g.S.Store.present g.S.Store.stands g.S.Store.older mid b.0 r.own b.1 b.2 b.5 c.len.result c.index.result.now many c.index.ensures in
-    let tries = ap (λ (x : _). x.left) (sym same) ∙ c.in-Catching.is in
+    let tries = newest_left g.S.Store.names g.S.Store.present g.S.Store.stands g.S.Store.older mid b.0 r.own b.1 b.2 b.5 c.len.result c.index.result.now c.len.ensures c.index.ensures _ c.in-Catching.is in
     (b.0, r.own, b.1, b.2, b.4, (_, _, tries), b.5)
 
 pub returns-in-Catching-clause-falls : goal.returns-in-Catching-clause-falls
@@ -119,9 +105,7 @@ enter_later-requires g c =
     let r = c.requires.represents.1 in
     let b = c.go_back-mark.ensures.back r.own r.engine in
     let mid = c.go_back-mark.new.self in
-    let many : c.len.result ≡ length mid.choices.items = cc (c.len.ensures, mid.choices.ok.0) in
-    let same = newest_is g.S.Store.names g.S.Store.present g.S.Store.stands g.S.Store.older mid b.0 r.own b.1 b.2 b.5 c.len.result c.index.result.now many c.index.ensures in
-    let tries = ap (λ (x : _). x.left) (sym same) ∙ c.in-Clauses.is in
+    let tries = newest_left g.S.Store.names g.S.Store.present g.S.Store.stands g.S.Store.older mid b.0 r.own b.1 b.2 b.5 c.len.result c.index.result.now c.len.ensures c.index.ensures _ c.in-Clauses.is in
     let t = c.leave_choice-below.ensures.calls b.0 r.own b.1 b.2 b.4 tries b.5 in
     (with_others t.call t.others (b.1).list (went_back b.1 b.2 r.own), t.call, t.clause, t.others, (b.1).list, t.calls)
 
@@ -130,18 +114,14 @@ leave_choice-below-requires-clause-back g c =
     let r = c.requires.represents.1 in
     let b = c.go_back-mark.ensures.back r.own r.engine in
     let mid = c.go_back-mark.new.self in
-    let many : c.len.result ≡ length mid.choices.items = cc (c.len.ensures, mid.choices.ok.0) in
-    let same = newest_is g.S.Store.names g.S.Store.present g.S.Store.stands g.S.Store.older mid b.0 r.own b.1 b.2 b.5 c.len.result c.index.result.now many c.index.ensures in
-    let tries = ap (λ (x : _). x.left) (sym same) ∙ c.in-Clauses.is in
+    let tries = newest_left g.S.Store.names g.S.Store.present g.S.Store.stands g.S.Store.older mid b.0 r.own b.1 b.2 b.5 c.len.result c.index.result.now c.len.ensures c.index.ensures _ c.in-Clauses.is in
     (b.0, r.own, b.1, b.2, b.4, tries, b.5)
 
 pub returns-in_ok-enter_later-in-Clauses-clause-moves : goal.returns-in_ok-enter_later-in-Clauses-clause-moves
 returns-in_ok-enter_later-in-Clauses-clause-moves g c = λ s r.
     (let b = c.go_back-mark.ensures.back r.own r.engine in
     let mid = c.go_back-mark.new.self in
-    let many : c.len.result ≡ length mid.choices.items = cc (c.len.ensures, mid.choices.ok.0) in
-    let same = newest_is g.S.Store.names g.S.Store.present g.S.Store.stands g.S.Store.older mid b.0 r.own b.1 b.2 b.5 c.len.result c.index.result.now many c.index.ensures in
-    let tries = ap (λ (x : _). x.left) (sym same) ∙ c.in-Clauses.is in
+    let tries = newest_left g.S.Store.names g.S.Store.present g.S.Store.stands g.S.Store.older mid b.0 r.own b.1 b.2 b.5 c.len.result c.index.result.now c.len.ensures c.index.ensures _ c.in-Clauses.is in
     let t = c.leave_choice-below.ensures.calls b.0 r.own b.1 b.2 b.4 tries b.5 in
     let height : c.leave_choice-below.result ≡ length b.2 = (let n = c.leave_choice-below.ensures.below in let kept_all = ap (λ v. length v.items) c.go_back-mark.ensures.choices in let number = choices_length r.engine.choices in let all = ap length b.3 in omega (arith, n, kept_all, number, all)) in
     tries_on g.S.Store.names g.S.Store.present g.S.Store.stands g.S.Store.older c.args.self.now c.enter_later.new.self c.in-Clauses.attempt s r b.1 b.2 c.leave_choice-below.new.self c.leave_choice-below.result c.requires.failing b.3 t height
@@ -151,9 +131,7 @@ pub returns-in_err-enter_later-in-Clauses-clause-stopped : goal.returns-in_err-e
 returns-in_err-enter_later-in-Clauses-clause-stopped g c = λ s r.
     (let b = c.go_back-mark.ensures.back r.own r.engine in
     let mid = c.go_back-mark.new.self in
-    let many : c.len.result ≡ length mid.choices.items = cc (c.len.ensures, mid.choices.ok.0) in
-    let same = newest_is g.S.Store.names g.S.Store.present g.S.Store.stands g.S.Store.older mid b.0 r.own b.1 b.2 b.5 c.len.result c.index.result.now many c.index.ensures in
-    let tries = ap (λ (x : _). x.left) (sym same) ∙ c.in-Clauses.is in
+    let tries = newest_left g.S.Store.names g.S.Store.present g.S.Store.stands g.S.Store.older mid b.0 r.own b.1 b.2 b.5 c.len.result c.index.result.now c.len.ensures c.index.ensures _ c.in-Clauses.is in
     let t = c.leave_choice-below.ensures.calls b.0 r.own b.1 b.2 b.4 tries b.5 in
     let height : c.leave_choice-below.result ≡ length b.2 = (let n = c.leave_choice-below.ensures.below in let kept_all = ap (λ v. length v.items) c.go_back-mark.ensures.choices in let number = choices_length r.engine.choices in let all = ap length b.3 in omega (arith, n, kept_all, number, all)) in
     behind_error c.from_residual-in_err-enter_later-in-Clauses.result (stops_on g.S.Store.names g.S.Store.present g.S.Store.stands g.S.Store.older c.args.self.now c.enter_later.new.self c.in-Clauses.attempt s r b.1 b.2 c.leave_choice-below.new.self c.leave_choice-below.result c.requires.failing b.3 t height
@@ -176,18 +154,14 @@ end_gathering-requires-clause-back g c =
     let r = c.requires.represents.1 in
     let b = c.go_back-mark.ensures.back r.own r.engine in
     let mid = c.go_back-mark.new.self in
-    let many : c.len.result ≡ length mid.choices.items = cc (c.len.ensures, mid.choices.ok.0) in
-    let same = newest_is g.S.Store.names g.S.Store.present g.S.Store.stands g.S.Store.older mid b.0 r.own b.1 b.2 b.5 c.len.result c.index.result.now many c.index.ensures in
-    let tries = ap (λ (x : _). x.left) (sym same) ∙ c.in-Gathering.is in
+    let tries = newest_left g.S.Store.names g.S.Store.present g.S.Store.stands g.S.Store.older mid b.0 r.own b.1 b.2 b.5 c.len.result c.index.result.now c.len.ensures c.index.ensures _ c.in-Gathering.is in
     (b.0, _, r.own, b.1, b.2, b.4, tries, b.5)
 
 pub returns-in_ok-end_gathering-in-Gathering-clause-moves : goal.returns-in_ok-end_gathering-in-Gathering-clause-moves
 returns-in_ok-end_gathering-in-Gathering-clause-moves g c = λ s r.
     (let b = c.go_back-mark.ensures.back r.own r.engine in
     let mid = c.go_back-mark.new.self in
-    let many : c.len.result ≡ length mid.choices.items = cc (c.len.ensures, mid.choices.ok.0) in
-    let same = newest_is g.S.Store.names g.S.Store.present g.S.Store.stands g.S.Store.older mid b.0 r.own b.1 b.2 b.5 c.len.result c.index.result.now many c.index.ensures in
-    let tries = ap (λ (x : _). x.left) (sym same) ∙ c.in-Gathering.is in
+    let tries = newest_left g.S.Store.names g.S.Store.present g.S.Store.stands g.S.Store.older mid b.0 r.own b.1 b.2 b.5 c.len.result c.index.result.now c.len.ensures c.index.ensures _ c.in-Gathering.is in
     let e = c.in_ok-end_gathering-in-Gathering.ensures in
     found_on g.S.Store.names g.S.Store.present g.S.Store.stands g.S.Store.older c.args.self.now c.end_gathering.new.self s r b.1 b.2 c.requires.failing b.3 _ _ _ (e.left b.0 _ r.own b.1 b.2 b.4 tries b.5) (e.found b.0 _ r.own b.1 b.2 b.4 tries b.5) e.awake)
 
@@ -195,9 +169,7 @@ pub returns-in_err-end_gathering-in-Gathering-clause-stopped : goal.returns-in_e
 returns-in_err-end_gathering-in-Gathering-clause-stopped g c = λ s r.
     (let b = c.go_back-mark.ensures.back r.own r.engine in
     let mid = c.go_back-mark.new.self in
-    let many : c.len.result ≡ length mid.choices.items = cc (c.len.ensures, mid.choices.ok.0) in
-    let same = newest_is g.S.Store.names g.S.Store.present g.S.Store.stands g.S.Store.older mid b.0 r.own b.1 b.2 b.5 c.len.result c.index.result.now many c.index.ensures in
-    let tries = ap (λ (x : _). x.left) (sym same) ∙ c.in-Gathering.is in
+    let tries = newest_left g.S.Store.names g.S.Store.present g.S.Store.stands g.S.Store.older mid b.0 r.own b.1 b.2 b.5 c.len.result c.index.result.now c.len.ensures c.index.ensures _ c.in-Gathering.is in
     let e = c.in_err-end_gathering-in-Gathering.ensures in
     behind_error c.from_residual.result (found_stops g.S.Store.names g.S.Store.present g.S.Store.stands g.S.Store.older c.args.self.now c.end_gathering.new.self s r b.1 b.2 c.requires.failing b.3 _ _ _ (e.left b.0 _ r.own b.1 b.2 b.4 tries b.5) (e.kept b.0 _ r.own b.1 b.2 b.4 tries b.5)))
 
@@ -216,18 +188,14 @@ try_next-requires-clause-back g c =
     let r = c.requires.represents.1 in
     let b = c.go_back-mark.ensures.back r.own r.engine in
     let mid = c.go_back-mark.new.self in
-    let many : c.len.result ≡ length mid.choices.items = cc (c.len.ensures, mid.choices.ok.0) in
-    let same = newest_is g.S.Store.names g.S.Store.present g.S.Store.stands g.S.Store.older mid b.0 r.own b.1 b.2 b.5 c.len.result c.index.result.now many c.index.ensures in
-    let tries = ap (λ (x : _). x.left) (sym same) ∙ c.in-Offered.is in
+    let tries = newest_left g.S.Store.names g.S.Store.present g.S.Store.stands g.S.Store.older mid b.0 r.own b.1 b.2 b.5 c.len.result c.index.result.now c.len.ensures c.index.ensures _ c.in-Offered.is in
     (b.0, _, r.own, b.1, b.2, b.4, tries, b.5)
 
 pub returns-in_ok-try_next-in-Offered-clause-moves : goal.returns-in_ok-try_next-in-Offered-clause-moves
 returns-in_ok-try_next-in-Offered-clause-moves g c = λ s r.
     (let b = c.go_back-mark.ensures.back r.own r.engine in
     let mid = c.go_back-mark.new.self in
-    let many : c.len.result ≡ length mid.choices.items = cc (c.len.ensures, mid.choices.ok.0) in
-    let same = newest_is g.S.Store.names g.S.Store.present g.S.Store.stands g.S.Store.older mid b.0 r.own b.1 b.2 b.5 c.len.result c.index.result.now many c.index.ensures in
-    let tries = ap (λ (x : _). x.left) (sym same) ∙ c.in-Offered.is in
+    let tries = newest_left g.S.Store.names g.S.Store.present g.S.Store.stands g.S.Store.older mid b.0 r.own b.1 b.2 b.5 c.len.result c.index.result.now c.len.ensures c.index.ensures _ c.in-Offered.is in
     let has = has_members g.S.Store.names g.S.Store.present g.S.Store.stands g.S.Store.older mid b.0 r.own b.1 b.2 b.5 _ tries in
     let e = c.in_ok-try_next-in-Offered.ensures in
     offers_on g.S.Store.names g.S.Store.present g.S.Store.stands g.S.Store.older c.args.self.now c.try_next.new.self s r b.1 b.2 c.requires.failing b.3 _ _ has.is
@@ -237,9 +205,7 @@ pub returns-in_err-try_next-in-Offered-clause-stopped : goal.returns-in_err-try_
 returns-in_err-try_next-in-Offered-clause-stopped g c = λ s r.
     (let b = c.go_back-mark.ensures.back r.own r.engine in
     let mid = c.go_back-mark.new.self in
-    let many : c.len.result ≡ length mid.choices.items = cc (c.len.ensures, mid.choices.ok.0) in
-    let same = newest_is g.S.Store.names g.S.Store.present g.S.Store.stands g.S.Store.older mid b.0 r.own b.1 b.2 b.5 c.len.result c.index.result.now many c.index.ensures in
-    let tries = ap (λ (x : _). x.left) (sym same) ∙ c.in-Offered.is in
+    let tries = newest_left g.S.Store.names g.S.Store.present g.S.Store.stands g.S.Store.older mid b.0 r.own b.1 b.2 b.5 c.len.result c.index.result.now c.len.ensures c.index.ensures _ c.in-Offered.is in
     let has = has_members g.S.Store.names g.S.Store.present g.S.Store.stands g.S.Store.older mid b.0 r.own b.1 b.2 b.5 _ tries in
     let e = c.in_err-try_next-in-Offered.ensures in
     behind_error c.from_residual-in_err-try_next-in-Offered.result (offers_stop g.S.Store.names g.S.Store.present g.S.Store.stands g.S.Store.older c.args.self.now c.try_next.new.self s r b.1 b.2 c.requires.failing b.3 _ _ has.is (e.kept b.0 _ r.own b.1 b.2 _ _ b.4 tries b.5 has.is)))
@@ -259,18 +225,14 @@ show_next-requires-clause-back g c =
     let r = c.requires.represents.1 in
     let b = c.go_back-mark.ensures.back r.own r.engine in
     let mid = c.go_back-mark.new.self in
-    let many : c.len.result ≡ length mid.choices.items = cc (c.len.ensures, mid.choices.ok.0) in
-    let same = newest_is g.S.Store.names g.S.Store.present g.S.Store.stands g.S.Store.older mid b.0 r.own b.1 b.2 b.5 c.len.result c.index.result.now many c.index.ensures in
-    let tries = ap (λ (x : _). x.left) (sym same) ∙ c.in-Shown.is in
+    let tries = newest_left g.S.Store.names g.S.Store.present g.S.Store.stands g.S.Store.older mid b.0 r.own b.1 b.2 b.5 c.len.result c.index.result.now c.len.ensures c.index.ensures _ c.in-Shown.is in
     (b.0, r.own, b.1, b.2, b.4, tries, b.5)
 
 pub returns-in_ok-show_next-in-Shown-clause-moves : goal.returns-in_ok-show_next-in-Shown-clause-moves
 returns-in_ok-show_next-in-Shown-clause-moves g c = λ s r.
     (let b = c.go_back-mark.ensures.back r.own r.engine in
     let mid = c.go_back-mark.new.self in
-    let many : c.len.result ≡ length mid.choices.items = cc (c.len.ensures, mid.choices.ok.0) in
-    let same = newest_is g.S.Store.names g.S.Store.present g.S.Store.stands g.S.Store.older mid b.0 r.own b.1 b.2 b.5 c.len.result c.index.result.now many c.index.ensures in
-    let tries = ap (λ (x : _). x.left) (sym same) ∙ c.in-Shown.is in
+    let tries = newest_left g.S.Store.names g.S.Store.present g.S.Store.stands g.S.Store.older mid b.0 r.own b.1 b.2 b.5 c.len.result c.index.result.now c.len.ensures c.index.ensures _ c.in-Shown.is in
     let has = has_members g.S.Store.names g.S.Store.present g.S.Store.stands g.S.Store.older mid b.0 r.own b.1 b.2 b.5 _ tries in
     let e = c.in_ok-show_next-in-Shown.ensures in
     offers_on g.S.Store.names g.S.Store.present g.S.Store.stands g.S.Store.older c.args.self.now c.show_next.new.self s r b.1 b.2 c.requires.failing b.3 _ _ has.is (e.tried b.0 r.own b.1 b.2 _ _ b.4 tries b.5 has.is) e.awake)
@@ -279,9 +241,7 @@ pub returns-in_err-show_next-in-Shown-clause-stopped : goal.returns-in_err-show_
 returns-in_err-show_next-in-Shown-clause-stopped g c = λ s r.
     (let b = c.go_back-mark.ensures.back r.own r.engine in
     let mid = c.go_back-mark.new.self in
-    let many : c.len.result ≡ length mid.choices.items = cc (c.len.ensures, mid.choices.ok.0) in
-    let same = newest_is g.S.Store.names g.S.Store.present g.S.Store.stands g.S.Store.older mid b.0 r.own b.1 b.2 b.5 c.len.result c.index.result.now many c.index.ensures in
-    let tries = ap (λ (x : _). x.left) (sym same) ∙ c.in-Shown.is in
+    let tries = newest_left g.S.Store.names g.S.Store.present g.S.Store.stands g.S.Store.older mid b.0 r.own b.1 b.2 b.5 c.len.result c.index.result.now c.len.ensures c.index.ensures _ c.in-Shown.is in
     behind_error c.from_residual-in_err-show_next-in-Shown.result (stops_bare g.S.Store.names g.S.Store.present g.S.Store.stands g.S.Store.older c.show_next.new.self r.own s r.same (c.in_err-show_next-in-Shown.ensures.kept b.0 r.own b.1 b.2 b.4 tries b.5)))
 
 pub returns-in_ok-show_next-in-Shown-clause-falls : goal.returns-in_ok-show_next-in-Shown-clause-falls
