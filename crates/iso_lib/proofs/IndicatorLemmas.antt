@@ -6,7 +6,7 @@ use Rattle.iso_model.specs.Terms.Trees.{Tree, Variable, Integer, Name, Apply, En
 use Rattle.iso_model.specs.Terms.Sizes.{size}
 use Rattle.iso_model.specs.Search.Bodies.{two}
 use Rattle.iso_model.specs.Search.Storages.{declared_parts, listed_parts}
-use Rattle.iso_lib.specs.Indicators.{is_conjunction}
+use Rattle.iso_lib_core.specs.Lists.{is_pair_named}
 
 -- the parts of terms that are left, the last of them first
 abbrev pub parts_left : List Tree → List Tree
@@ -30,7 +30,7 @@ weight_last (u ∷ us) t = let others = weight_last us t in omega (arith, others
 pub conjunction_parts : (a b : Tree) → declared_parts (two (codes ",") a b) ≡ declared_parts a ++ declared_parts b
 conjunction_parts a b = refl
 
-pub single_parts : (t : Tree) → is_conjunction t ≡ false → declared_parts t ≡ listed_parts t
+pub single_parts : (t : Tree) → is_pair_named (codes ",") t ≡ false → declared_parts t ≡ listed_parts t
 single_parts (Apply f (More a (More b End))) none = ap (λ x. if x then declared_parts a ++ declared_parts b else listed_parts (Apply f (More a (More b End)))) none
 single_parts (Variable n) none = refl
 single_parts (Integer z) none = refl
@@ -66,7 +66,7 @@ module _ {W : Type 0} (m : W → Tree) where
       omega (arith, before, middle, after, large)
 
   -- any other gives its own
-  pub parts_alone : (old rest : List W) (w : W) → old ≡ rest ++ w ∷ [] → is_conjunction (m w) ≡ false → parts_left (map m old) ≡ listed_parts (m w) ++ parts_left (map m rest)
+  pub parts_alone : (old rest : List W) (w : W) → old ≡ rest ++ w ∷ [] → is_pair_named (codes ",") (m w) ≡ false → parts_left (map m old) ≡ listed_parts (m w) ++ parts_left (map m rest)
   parts_alone old rest w was none = ap (λ xs. parts_left (map m xs)) was ∙ last_parts rest w ∙ ap (λ xs. xs ++ parts_left (map m rest)) (single_parts (m w) none)
 
   pub weight_alone : (old rest : List W) (w : W) → old ≡ rest ++ w ∷ [] → weight_left (map m rest) < weight_left (map m old)

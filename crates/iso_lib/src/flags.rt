@@ -16,8 +16,7 @@ ghost use Rattle.iso_lib.specs.Settlements.{IsSettled, OnOffers, OffersEach, off
 
 use super::operators::may_be_atom;
 use super::settings::{Constant, Offer, Settled};
-use super::types::is_unbound;
-use iso_lib_core::{Fault, culprits, errors};
+use iso_lib_core::{Fault, culprits, errors, is_unbound};
 use iso_model::{Ball, NoMemory, Term};
 use iso_ops::{FlagValue, Flags};
 use iso_store_core::{Shape, Store};

@@ -5,12 +5,11 @@ ghost use Rattle.iso_atoms.specs.Texts.{text_at};
 ghost use Rattle.iso_model.specs.Search.Errors.{key};
 ghost use Rattle.iso_model.specs.Search.Storages as table;
 ghost use Rattle.iso_store_core.specs.Presents.{Holds, meaning};
-ghost use Rattle.iso_lib.specs.Indicators.{IsIndicated, AreIndicatorParts, AreConjuncts};
+ghost use Rattle.iso_lib.specs.Indicators.{IsIndicated};
 
-use super::types::is_unbound;
 use iso_atoms::Atom;
-use iso_lib_core::lists::{ListParts, elements, is_nil};
-use iso_lib_core::{Fault, culprits, errors};
+use iso_lib_core::lists::{ListParts, elements, is_nil, pair_named};
+use iso_lib_core::{Fault, culprits, errors, is_unbound};
 use iso_model::{MAX_ARITY, NoMemory};
 use iso_store_core::{Shape, Store};
 use std::alloc::Global;
@@ -70,20 +69,6 @@ fn named_by<S: Store>(
     with_arity(alloc, store, atom, arity, by)
 }
 
-/// The name and the number of arguments, where the term is such a pair.
-fn indicator_parts<S: Store>(store: &S, word: S::Word) -> Option<(S::Word, S::Word)>
-    requires word { Holds (S.present store.now) word }
-    ensures { AreIndicatorParts (S.present store.now) (meaning (S.present store.now) word) result }
-{
-    let Shape::Compound(name, count) = store.shape(word) else {
-        return None;
-    };
-    if count != 2 || store.text(name) != "/" {
-        return None;
-    }
-    Some((store.arg(word, 0), store.arg(word, 1)))
-}
-
 /// The procedure that the indicator names. The errors: `instantiation_error` where it, its name or its number of arguments is unbound,
 /// `type_error(predicate_indicator, P)` where it is no pair of these, `type_error(atom, N)`, `type_error(integer, A)`,
 /// `domain_error(not_less_than_zero, A)` and `representation_error(max_arity)` above 255, in this order, raised by this
@@ -100,7 +85,7 @@ pub fn indicated<S: Store>(
     if is_unbound(store, word) {
         return Err(Fault::Raise(errors::instantiation(alloc, by, 1)?));
     }
-    let Some((name, arity)) = indicator_parts(store, word) else {
+    let Some((name, arity)) = pair_named(store, word, "/") else {
         return Err(culprits::wrong_type(alloc, store, "predicate_indicator", word, by, 1));
     };
     named_by(alloc, store, name, arity, by)
@@ -126,20 +111,6 @@ fn listed_parts<S: Store>(alloc: Global, store: &S, word: S::Word) -> Result<Vec
     Ok(elements)
 }
 
-/// The two parts of the term, where it is a conjunction.
-fn conjunction<S: Store>(store: &S, word: S::Word) -> Option<(S::Word, S::Word)>
-    requires word { Holds (S.present store.now) word }
-    ensures { AreConjuncts (S.present store.now) (meaning (S.present store.now) word) result }
-{
-    let Shape::Compound(name, count) = store.shape(word) else {
-        return None;
-    };
-    if count != 2 || store.text(name) != "," {
-        return None;
-    }
-    Some((store.arg(word, 0), store.arg(word, 1)))
-}
-
 /// Words for the indicators that a goal names, or for what stands in their places: conjunctions are taken apart, and lists in these. The error is that
 /// memory was refused.
 pub fn declared_parts<S: Store>(
@@ -155,7 +126,7 @@ pub fn declared_parts<S: Store>(
     let mut left = Vec::with_capacity(alloc, 1)?;
     left.push(word)?;
     while let Some(next) = left.pop() {
-        if let Some(both) = conjunction(store, next) {
+        if let Some(both) = pair_named(store, next, ",") {
             left.push(both.1)?;
             left.push(both.0)?;
         } else {

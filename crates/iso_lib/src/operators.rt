@@ -16,29 +16,13 @@ ghost use Rattle.iso_store_core.specs.Presents.{Holds, meaning};
 ghost use Rattle.iso_lib.specs.Settlements.{IsSettled, OnOffers, OffersEach, PassesTo, AreSet, IsSet, offer_tree, with_settings};
 
 use super::settings::{Constant, Offer, Settled};
-use super::types::is_unbound;
 use iso_atoms::Atom;
 use iso_lib_core::lists::{ListParts, elements, is_nil};
-use iso_lib_core::{Fault, culprits, errors};
+use iso_lib_core::{Fault, culprits, errors, has_unbound, is_unbound};
 use iso_model::NoMemory;
 use iso_ops::{Entry, OpFault, OpTable, Spec};
 use iso_store_core::{Shape, Store};
 use std::alloc::Global;
-
-/// Whether one of the words stands for an unbound variable.
-fn has_unbound<S: Store>(store: &S, words: &[S::Word]) -> bool
-    requires { All (λ w. Holds (S.present store.now) w) words.now }
-    ensures { result ≡ list_any is_variable (map (meaning (S.present store.now)) words.now) }
-{
-    let mut place = 0;
-    while place < words.len() {
-        if is_unbound(store, words[place]) {
-            return true;
-        }
-        place += 1;
-    }
-    false
-}
 
 /// Whether the priority or the specifier is unbound, or one of the names, or what stands behind them.
 fn are_unbound<S: Store>(

@@ -1,7 +1,6 @@
 //! Type testing (8.3).
 ghost use Rattle.std.specs.Prelude.{◌≡◌, ◌≢◌, ◌<◌, IfOk, Err};
 ghost use Rattle.iso_model.specs.Terms.Arguments.{arity};
-ghost use Rattle.iso_model.specs.Terms.Types.{is_variable};
 ghost use Rattle.iso_model.specs.Search.Library.{library_answer, has_type};
 ghost use Rattle.iso_model.specs.declared.kinds.Library.TheVariants as row;
 ghost use Rattle.iso_store_core.specs.Presents.{Holds, meaning};
@@ -10,14 +9,6 @@ ghost use Rattle.iso_lib_core.specs.Replies.{IsReply};
 use iso_lib_core::{Fault, Reply, tested};
 use iso_model::{NoMemory, TypeTest};
 use iso_store_core::{Shape, Store};
-
-/// Whether the term that the word stands for is an unbound variable.
-pub(crate) fn is_unbound<S: Store>(store: &S, word: S::Word) -> bool
-    requires { Holds (S.present store.now) word }
-    ensures { result ≡ is_variable (meaning (S.present store.now) word) }
-{
-    matches!(store.shape(word), Shape::Var(_))
-}
 
 /// Whether the term that the word stands for has no variables. The error is that memory was refused.
 fn is_ground<S: Store>(store: &S, word: S::Word) -> Result<bool, NoMemory>

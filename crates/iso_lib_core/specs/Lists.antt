@@ -1,8 +1,19 @@
 -- Lists in a store.
-use Rattle.std.specs.Prelude.{◌≡◌, List, [], ◌∷◌, true, false, map, Option, Some, None}
-use Rattle.iso_model.specs.Terms.Trees.{Tree, Apply, row}
+use Rattle.std.specs.Prelude.{◌≡◌, ℕ, Bool, List, [], ◌∷◌, true, false, map, Option, Some, None}
+use Rattle.std.specs.Str.{bytes_eq}
+use Rattle.iso_model.specs.Terms.Trees.{Tree, Apply, End, More, row}
 use Rattle.iso_model.specs.Terms.Lists.{dot, is_pair, list_of}
 use Rattle.iso_store_core.specs.Presents.{Present, Holds, meaning, KeepsWords}
+
+-- whether the term is a compound of this name and two arguments
+abbrev pub is_pair_named : List ℕ → Tree → Bool
+is_pair_named name (Apply f (More t (More u End))) = bytes_eq f name
+is_pair_named name t = false
+
+-- The words stand for the two arguments of a compound of this name; without them the term is none.
+abbrev pub IsPairNamed : {W : Type 0} → Present W → List ℕ → Tree → Option (W × W) → Type 0
+IsPairNamed p name t (Some ws) = Holds p ws.0 × Holds p ws.1 × (t ≡ Apply name (row (meaning p ws.0 ∷ meaning p ws.1 ∷ [])))
+IsPairNamed p name t None = is_pair_named name t ≡ false
 
 -- The words stand for the element that the term begins with and for what stands behind it; without them it is no element before another term.
 abbrev pub IsPairOf : {W : Type 0} → Present W → Tree → Option (W × W) → Type 0

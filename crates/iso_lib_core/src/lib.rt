@@ -6,9 +6,10 @@
 pub mod culprits;
 pub mod errors;
 mod outcomes;
-// lists, and words in order
+// unbound variables, lists, and words in order
 pub mod lists;
 mod merging;
+mod unbound;
 // the built-ins
 pub mod arguments;
 pub mod copies;
@@ -18,3 +19,4 @@ pub mod univ;
 pub mod variables;
 
 pub use outcomes::{Fault, Reply, tested};
+pub use unbound::{has_unbound, is_unbound};

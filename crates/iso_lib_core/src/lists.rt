@@ -1,12 +1,16 @@
 //! Lists as terms (6.3.5): their elements, their ends, and lists that are made of words.
-ghost use Rattle.std.specs.Prelude.{◌≡◌, ◌∷◌, [], slice_get, IfOk, OnOk, Err, Some, map};
+ghost use Rattle.std.specs.Prelude.{◌≡◌, ◌<◌, ◌∷◌, [], slice_get, codes, true, false, IfOk, IfErr, OnOk, OnErr, Err, Some, map};
 ghost use Rattle.std.specs.List.{All};
-ghost use Rattle.iso_atoms.specs.Texts.{KeepsTexts};
+ghost use Rattle.iso_atoms.specs.Texts.{EachOnce, KeepsTexts};
 ghost use Rattle.iso_model.specs.Terms.Trees.{Name, Apply, row};
+ghost use Rattle.iso_model.specs.Search.Errors.{key, type_error};
 ghost use Rattle.iso_model.specs.Terms.Lists.{nil, dot, is_nil, elements, tail, is_partial_list};
 ghost use Rattle.iso_store_core.specs.Presents.{Holds, meaning, KeepsMarks, KeepsNumbers};
-ghost use Rattle.iso_lib_core.specs.Lists.{IsPairOf, Comes, MakesList};
+ghost use Rattle.iso_lib_core.specs.Lists.{IsPairNamed, IsPairOf, Comes, MakesList};
+ghost use Rattle.iso_lib_core.specs.Replies.{IsFault};
 
+use super::culprits;
+use super::outcomes::Fault;
 use iso_atoms::Atom;
 use iso_model::NoMemory;
 use iso_store_core::{Shape, Store, StoreFault};
@@ -19,18 +23,27 @@ pub struct ListParts<W: Copy> {
     pub tail: W,
 }
 
+/// The two arguments, where the term that the word stands for is a compound of this name and two arguments.
+pub fn pair_named<S: Store>(store: &S, word: S::Word, name: &str) -> Option<(S::Word, S::Word)>
+    requires word { Holds (S.present store.now) word }
+    ensures parts { IsPairNamed (S.present store.now) name.now (meaning (S.present store.now) word) result }
+    ensures each_once { EachOnce (S.names store.now) }
+{
+    let Shape::Compound(own_name, count) = store.shape(word) else {
+        return None;
+    };
+    if count != 2 || store.text(own_name) != name {
+        return None;
+    }
+    Some((store.arg(word, 0), store.arg(word, 1)))
+}
+
 /// The element, and what stands behind it, where the term that the word stands for is an element before another term.
 fn pair<S: Store>(store: &S, word: S::Word) -> Option<(S::Word, S::Word)>
     requires word { Holds (S.present store.now) word }
     ensures { IsPairOf (S.present store.now) (meaning (S.present store.now) word) result }
 {
-    let Shape::Compound(name, count) = store.shape(word) else {
-        return None;
-    };
-    if count != 2 || store.text(name) != "." {
-        return None;
-    }
-    Some((store.arg(word, 0), store.arg(word, 1)))
+    pair_named(store, word, ".")
 }
 
 /// What stands behind the elements that the term begins with as a list.
@@ -67,6 +80,26 @@ pub fn is_partial_list<S: Store>(store: &S, word: S::Word) -> bool
         Shape::Atom(name) => store.text(name) == "[]",
         _ => false,
     }
+}
+
+/// Sees that the word stands for a partial list. The errors: `type_error(list, T)`, raised by this procedure; or memory was refused.
+pub fn see_partial_list<S: Store>(
+    alloc: Global,
+    store: &S,
+    word: S::Word,
+    by: &str,
+    by_arity: usize,
+) -> Result<(), Fault>
+    requires word { Holds (S.present store.now) word }
+    requires by_arity { by_arity < 256 }
+    ensures partial { IfOk result (λ _. is_partial_list (meaning (S.present store.now) word) ≡ true) }
+    ensures other { OnErr result (is_partial_list (meaning (S.present store.now) word) ≡ false) }
+    ensures fault { IfErr result (IsFault (type_error (codes "list") (meaning (S.present store.now) word) (key by.now by_arity))) }
+{
+    if is_partial_list(store, word) {
+        return Ok(());
+    }
+    Err(culprits::wrong_type(alloc, store, "list", word, by, by_arity))
 }
 
 /// The elements that the term begins with as a list, and what stands behind them. The error is that memory was refused.

@@ -9,7 +9,7 @@ ghost use Rattle.iso_model.specs.declared.kinds.Library.TheVariants as library;
 ghost use Rattle.iso_store_core.specs.Presents.{Holds, meaning, KeepsMarks, KeepsNumbers, KeepsWords};
 ghost use Rattle.iso_lib_core.specs.Replies.{IsReply, IsUnbound};
 
-use super::lists::{elements, is_partial_list, make_list, tail};
+use super::lists::{elements, make_list, see_partial_list, tail};
 use super::outcomes::{Fault, Reply, tested};
 use super::{culprits, errors};
 use iso_model::{MAX_ARITY, NoMemory};
@@ -150,9 +150,7 @@ pub fn univ<S: Store>(alloc: Global, store: &mut S, goal: S::Word) -> Result<Rep
     ensures marks { KeepsMarks (S.stands store.old) (S.stands store.new) }
 {
     let (term, list) = (store.arg(goal, 0), store.arg(goal, 1));
-    if !is_partial_list(store, list) {
-        return Err(culprits::wrong_type(alloc, store, "list", list, "=..", 2));
-    }
+    see_partial_list(alloc, store, list, "=..", 2)?;
     if !matches!(store.shape(term), Shape::Var(_)) {
         let parts = parts(alloc, store, term)?;
         let made = make_list(alloc, store, parts.as_slice())?;

@@ -7,8 +7,7 @@ ghost use Rattle.iso_model.specs.declared.kinds.Library.TheVariants as library;
 ghost use Rattle.iso_store_core.specs.Presents.{Holds, meaning, KeepsMarks};
 ghost use Rattle.iso_lib_core.specs.Replies.{IsReply};
 
-use super::culprits;
-use super::lists::{is_partial_list, make_list};
+use super::lists::{make_list, see_partial_list};
 use super::outcomes::{Fault, Reply, tested};
 use iso_store_core::Store;
 use std::alloc::Global;
@@ -23,9 +22,7 @@ pub fn term_variables<S: Store>(alloc: Global, store: &mut S, goal: S::Word) -> 
     ensures marks { KeepsMarks (S.stands store.old) (S.stands store.new) }
 {
     let (term, list) = (store.arg(goal, 0), store.arg(goal, 1));
-    if !is_partial_list(store, list) {
-        return Err(culprits::wrong_type(alloc, store, "list", list, "term_variables", 2));
-    }
+    see_partial_list(alloc, store, list, "term_variables", 2)?;
     let variables = store.variables(term)?;
     let made = make_list(alloc, store, variables.as_slice())?;
     Ok(tested(store.unify(list, made)?))

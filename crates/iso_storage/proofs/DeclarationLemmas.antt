@@ -24,9 +24,7 @@ use Rattle.iso_db.specs.declared.kinds.Kind.{Kind}
 use Rattle.iso_db.specs.declared.kinds.Kind.TheVariants as kind
 use Rattle.iso_db.specs.declared.kinds.DbFault.{DbFault}
 use Rattle.iso_store_core.specs.Presents.{Present, meaning}
-use Rattle.iso_store_core.specs.Shapes.{IsShape}
-use Rattle.iso_store_core.specs.declared.shapes.Shape.{Shape}
-use Rattle.iso_store_core.specs.declared.shapes.Shape.TheVariants as shape
+use Rattle.iso_lib_core.specs.Replies.{IsFault}
 use Rattle.iso_lib_core.specs.declared.outcomes.Fault.{Fault}
 use Rattle.iso_lib_core.specs.declared.outcomes.Fault.TheVariants as fault
 use Rattle.iso_lib.specs.Indicators.{IsFunctor, IsIndicated}
@@ -40,13 +38,6 @@ use Rattle.iso_plain_core.proofs.ProgramLemmas.{place_within, same_place}
 use Rattle.iso_storage.specs.Storing.{IsProgram, IsChanged}
 use Rattle.iso_storage.specs.Declaring.{AreParts, AreFunctors, AreIndicated, AreChecked, IsOnlyChecked, IsUser, IsPlaced, ArePlaced, all_dynamic}
 use Rattle.iso_storage.proofs.HeadLemmas.{free_alone}
-
--- what is no variable
-pub not_variable : (names : List (List ℕ)) (s : Shape) (t : Tree) → IsShape names s t → ((n : _) → s ≡ shape.Var n → ⊥) → is_variable t ≡ false
-not_variable names (shape.Var n) t is other = absurd (other n refl)
-not_variable names (shape.Int z) t is other = ap is_variable is
-not_variable names (shape.Atom a) t is other = ap is_variable is.1
-not_variable names (shape.Compound f n) t is other = ap is_variable is.2
 
 -- ---- which procedures are named
 
@@ -173,19 +164,21 @@ module _ (ps : Procedures) (names : List (List ℕ)) where
   named_no_memory (Ok k) = tt
   named_no_memory (Err error) = tt
 
-  pub changeable_no_memory : (r : Result Key Tree) → IsIndicated names (changeable ps dynamic_key r) (Err fault.NoMemory)
-  changeable_no_memory r = named_no_memory (changeable ps dynamic_key r)
-
   pub changeable_refused : (r : Result Key Tree) (e : Fault) → IsIndicated names r (Err e) → IsIndicated names (changeable ps dynamic_key r) (Err e)
   changeable_refused (Ok k) (fault.Raise ball) h = absurd h
   changeable_refused (Ok k) fault.Full h = absurd h
   changeable_refused (Ok k) fault.NoMemory h = named_no_memory (free_key (is_fixed ps k) k)
   changeable_refused (Err error) e h = h
 
-  pub changeable_fixed : (r : Result Key Tree) (k j : Key) (ball : Ball) → r ≡ Ok k → is_fixed ps k ≡ true → k ≡ j → term_of ball.term ≡ permission_error j dynamic_key → IsIndicated names (changeable ps dynamic_key r) (Err (fault.Raise ball))
+  changeable_fixed : (r : Result Key Tree) (k j : Key) (ball : Ball) → r ≡ Ok k → is_fixed ps k ≡ true → k ≡ j → term_of ball.term ≡ permission_error j dynamic_key → IsIndicated names (changeable ps dynamic_key r) (Err (fault.Raise ball))
   changeable_fixed r k j ball is fixed same error =
       let refused : changeable ps dynamic_key r ≡ Err (permission_error j dynamic_key) = ap (changeable ps dynamic_key) is ∙ ap (λ b. free_key b k) fixed ∙ ap (λ (x : Key). Err (permission_error x dynamic_key)) same in
       subst (λ (x : Result Key Tree). IsIndicated names x (Err (fault.Raise ball))) (sym refused) (error, ap arities_fit error)
+
+  pub changeable_fault : (r : Result Key Tree) (k j : Key) (e : Fault) → r ≡ Ok k → is_fixed ps k ≡ true → k ≡ j → IsFault (permission_error j dynamic_key) e → IsIndicated names (changeable ps dynamic_key r) (Err e)
+  changeable_fault r k j (fault.Raise ball) is fixed same error = changeable_fixed r k j ball is fixed same error.0
+  changeable_fault r k j fault.Full is fixed same error = absurd error
+  changeable_fault r k j fault.NoMemory is fixed same error = named_no_memory (changeable ps dynamic_key r)
 
   pub changeable_free : (r : Result Key Tree) (k : Key) (f : Functor) → r ≡ Ok k → is_fixed ps k ≡ false → IsFunctor names k f → IsIndicated names (changeable ps dynamic_key r) (Ok f)
   changeable_free r k f is free named =

@@ -26,6 +26,8 @@ use Rattle.iso_model.specs.Search.Errors.{permission_error}
 use Rattle.iso_model.specs.Search.Settlements.{Settled, Refuses}
 use Rattle.iso_model.specs.declared.pauses.Ball.{Ball}
 use Rattle.iso_lib.specs.Settlements.{IsRefused}
+use Rattle.iso_lib_core.specs.Replies.{IsFault}
+use Rattle.iso_lib_core.proofs.CheckLemmas.{handed_on}
 use Rattle.iso_model.specs.Search.Worlds.{World}
 use Rattle.iso_lib_core.specs.declared.outcomes.Fault.{Fault}
 use Rattle.iso_lib_core.specs.declared.outcomes.Fault.TheVariants as fault
@@ -73,7 +75,15 @@ on_err (Err x) P h = h
 
 -- ---- the procedure is fixed
 
-pub permission_raised : (s : Settled) (k j by : Key) (ball : Ball) → s ≡ Refuses (permission_error j by) → k ≡ j → term_of ball.term ≡ permission_error k by → IsRefused s ball
+permission_raised : (s : Settled) (k j by : Key) (ball : Ball) → s ≡ Refuses (permission_error j by) → k ≡ j → term_of ball.term ≡ permission_error k by → IsRefused s ball
 permission_raised s k j by ball settled same is =
     let error : term_of ball.term ≡ permission_error j by = is ∙ ap (λ (x : Key). permission_error x by) same in
     subst (λ (x : Settled). IsRefused x ball) (sym settled) (error, ap arities_fit error)
+
+pub changed_refused : (names : List (List ℕ)) (d : Database Clause) (rows : List (Vec Callable Global)) (w : World) (s : Settled) (k j by : Key) (r : Result Unit Fault) (e : Fault) → IsErrAnd r (λ x. x ≡ e)
+    → s ≡ Refuses (permission_error j by) → k ≡ j → IsFault (permission_error k by) e → IsChanged names d rows w s r
+changed_refused names d rows w s k j by r e handed settled same raised = handed_on (IsChanged names d rows w s) r e handed (by_fault e raised) where
+  by_fault : (x : Fault) → IsFault (permission_error k by) x → IsChanged names d rows w s (Err x)
+  by_fault (fault.Raise ball) h = permission_raised s k j by ball settled same h.0
+  by_fault fault.Full h = tt
+  by_fault fault.NoMemory h = tt

@@ -1,5 +1,6 @@
 -- Goals that offer the clauses of a procedure.
-use Rattle.std.proofs.Common.{◌≡◌, ℕ, List, [], ◌∷◌, map, Bool, true, false, Some, None, Ok, refl, sym, ap, ◌∙◌, subst, codes, if◌then◌else◌}
+use Rattle.std.proofs.Common.{◌≡◌, ℕ, List, [], ◌∷◌, map, Bool, true, false, Some, None, Result, Ok, Err, refl, sym, ap, ◌∙◌, subst, codes, if◌then◌else◌}
+use Rattle.std.specs.Result.{IsErrAnd}
 use Rattle.iso_atoms.specs.Texts.{text_at}
 use Rattle.iso_model.specs.Terms.Trees.{Tree, row, arities_fit}
 use Rattle.iso_model.specs.Terms.TermOf.{term_of}
@@ -17,6 +18,10 @@ use Rattle.iso_store_core.specs.Presents.{Present, meaning}
 use Rattle.iso_store_core.specs.Shapes.{IsShape}
 use Rattle.iso_store_core.specs.declared.shapes.Shape.{Shape}
 use Rattle.iso_store_core.specs.declared.shapes.Shape.TheVariants as shape
+use Rattle.iso_lib_core.specs.Replies.{IsFault}
+use Rattle.iso_lib_core.specs.declared.outcomes.Fault.{Fault}
+use Rattle.iso_lib_core.specs.declared.outcomes.Fault.TheVariants as fault
+use Rattle.iso_lib_core.proofs.CheckLemmas.{handed_on}
 use Rattle.iso_lib.specs.Indicators.{IsFunctor}
 use Rattle.iso_lib.specs.Settlements.{IsRefused}
 use Rattle.iso_lib.specs.declared.indicators.Functor.{Functor}
@@ -66,12 +71,20 @@ retract_after : (t : Tree) (w : World) (k : Key) → ((goes_on : Key → Settled
 retract_after t w k headed =
     headed (λ k. if is_fixed w.database.procedures k then Refuses (permission_error k retract_key) else Offers (row (head_of t ∷ body_of t ∷ [])) (map (removed_clause k) (clauses_of w.database.procedures k)))
 
-pub retract_refused : (t : Tree) (w : World) (k : Key) (ball : Ball) → ((goes_on : Key → Settled) → with_head (head_of t) retract_key goes_on ≡ goes_on k) → is_fixed w.database.procedures k ≡ true
+retract_refused : (t : Tree) (w : World) (k : Key) (ball : Ball) → ((goes_on : Key → Settled) → with_head (head_of t) retract_key goes_on ≡ goes_on k) → is_fixed w.database.procedures k ≡ true
     → term_of ball.term ≡ permission_error k retract_key → IsRefused (retract_settled t w) ball
 retract_refused t w k ball headed fixed is =
     let same : retract_settled t w ≡ Refuses (permission_error k retract_key) =
     retract_after t w k headed ∙ ap (λ x. if x then Refuses (permission_error k retract_key) else Offers (row (head_of t ∷ body_of t ∷ [])) (map (removed_clause k) (clauses_of w.database.procedures k))) fixed in
     subst (λ (s : Settled). IsRefused s ball) (sym same) (is, ap arities_fit is)
+
+pub retract_fault : {W : Type 0} (names : List (List ℕ)) (q : Present W) (d : Db Clause) (t : Tree) (w : World) (k : Key) (r : Result (Stored W) Fault) (e : Fault) → IsErrAnd r (λ x. x ≡ e)
+    → ((goes_on : Key → Settled) → with_head (head_of t) retract_key goes_on ≡ goes_on k) → is_fixed w.database.procedures k ≡ true → IsFault (permission_error k retract_key) e → IsOffered names q d (retract_settled t w) r
+retract_fault names q d t w k r e handed headed fixed raised = handed_on (IsOffered names q d (retract_settled t w)) r e handed (by_fault e raised) where
+  by_fault : (x : Fault) → IsFault (permission_error k retract_key) x → IsOffered names q d (retract_settled t w) (Err x)
+  by_fault (fault.Raise ball) h = retract_refused t w k ball headed fixed h.0
+  by_fault fault.Full h = tt
+  by_fault fault.NoMemory h = tt
 
 pub retract_offers : (t : Tree) (w : World) (k : Key) → ((goes_on : Key → Settled) → with_head (head_of t) retract_key goes_on ≡ goes_on k) → is_fixed w.database.procedures k ≡ false
     → retract_settled t w ≡ Offers (row (head_of t ∷ body_of t ∷ [])) (map (clause_offer true k) (clauses_of w.database.procedures k))

@@ -14,15 +14,15 @@ ghost use Rattle.iso_plain_core.specs.Kept.{IsAddition};
 ghost use Rattle.iso_storage.specs.Adding.{IsPrepared};
 ghost use Rattle.iso_storage.specs.Storing.{IsProgram, IsChanged, place_of};
 
-use super::heads::is_fixed;
+use super::heads::see_changeable;
 use iso_db::Db;
+use iso_lib::Fault;
 use iso_lib::indicators::Functor;
-use iso_lib::{Fault, errors};
 use iso_model::AddFault;
 use iso_plain_core::callables::Callables;
 use iso_plain_core::clauses::{self, Checked, Clause};
-use iso_plain_core::procedures::{self, Way};
 use iso_plain_core::patterns;
+use iso_plain_core::procedures::{self, Way};
 use iso_store_core::Store;
 use std::alloc::Global;
 
@@ -71,10 +71,7 @@ fn add_checked<S: Store>(
     let kept = patterns::written_clause(alloc, store, checked)?;
     let name = store.intern(text)?;
     let functor = Functor { name, arity };
-    if is_fixed(db, callables.as_slice(), functor, text) {
-        let ball = errors::static_procedure(alloc, text, arity, by)?;
-        return Err(Fault::Raise(ball));
-    }
+    see_changeable(alloc, db, callables.as_slice(), functor, text, by)?;
     procedures::add(
         alloc,
         db,

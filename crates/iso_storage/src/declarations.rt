@@ -1,8 +1,7 @@
 //! `dynamic/1`, `multifile/1` and `discontiguous/1`, as goals and directives (7.4.2.1 to 7.4.2.3).
 ghost use Rattle.std.specs.Prelude.{◌≡◌, ◌≢◌, ◌<◌, length, map, IfOk, OnErr, Err};
-ghost use Rattle.std.specs.List.{All, list_any};
+ghost use Rattle.std.specs.List.{All};
 ghost use Rattle.iso_atoms.specs.Texts.{EachOnce};
-ghost use Rattle.iso_model.specs.Terms.Types.{is_variable};
 ghost use Rattle.iso_model.specs.Search.Errors.{key};
 ghost use Rattle.iso_model.specs.Search.Storages.{dynamic_settled, checked_settled, dynamic_key, changeable, indicated, all_indicated};
 ghost use Rattle.iso_model.specs.Search.Worlds.{World};
@@ -16,29 +15,16 @@ ghost use Rattle.iso_plain_core.specs.Callables.{KeepsPlaces};
 ghost use Rattle.iso_storage.specs.Storing.{IsProgram, IsChanged};
 ghost use Rattle.iso_storage.specs.Declaring.{AreParts, AreIndicated, AreChecked, IsOnlyChecked, IsUser, IsPlaced, ArePlaced, all_dynamic};
 
-use super::heads::is_fixed;
+use super::heads::see_changeable;
 use iso_db::Db;
 use iso_lib::indicators::{Functor, declared_parts, indicated};
 use iso_lib::{Fault, errors};
+use iso_lib_core::has_unbound;
 use iso_plain_core::callables::{Callable, Callables};
 use iso_plain_core::clauses::Clause;
 use iso_plain_core::procedures;
-use iso_store_core::{Shape, Store};
+use iso_store_core::Store;
 use std::alloc::{AllocError, Global};
-
-/// Whether one of the words stands for an unbound variable.
-fn has_unbound<S: Store>(store: &S, words: &[S::Word]) -> bool
-    requires { All (λ w. Holds (S.present store.now) w) words.now }
-    ensures unbound { result ≡ list_any is_variable (map (meaning (S.present store.now)) words.now) }
-    ensures each_once { 0 < length words.now → EachOnce (S.names store.now) }
-{
-    for word in words {
-        if let Shape::Var(_) = store.shape(*word) {
-            return true;
-        }
-    }
-    false
-}
 
 /// Words for the indicators that a declaration names. The errors: `instantiation_error` where one of them is unbound, raised by this
 /// procedure of one argument; or memory was refused.
@@ -109,10 +95,8 @@ fn changeable<S: Store>(
 {
     let Functor { name, arity } = indicated(alloc, store, indicator, "dynamic")?;
     let text = store.text(name);
-    if is_fixed(db, callables, Functor { name, arity }, text) {
-        let ball = errors::static_procedure(alloc, text, arity, "dynamic")?;
-        return Err(Fault::Raise(ball));
-    }
+    let functor = Functor { name, arity };
+    see_changeable(alloc, db, callables, functor, text, "dynamic")?;
     Ok(Functor { name, arity })
 }
 

@@ -1,13 +1,14 @@
 //! Procedures by the heads of their clauses, and which of them goals may neither read nor change (7.5.2, 8.8.1.3, 8.9).
-ghost use Rattle.std.specs.Prelude.{◌≡◌, ◌<◌, ℕ, List, false, not, IfSome};
+ghost use Rattle.std.specs.Prelude.{◌≡◌, ◌≢◌, ◌<◌, ℕ, List, true, false, not, IfOk, IfErr, IfSome, OnErr, Err};
 ghost use Rattle.iso_atoms.specs.Texts.{EachOnce};
 ghost use Rattle.iso_model.specs.Search.Databases as databases;
-ghost use Rattle.iso_model.specs.Search.Errors.{key};
+ghost use Rattle.iso_model.specs.Search.Errors.{key, permission_error};
 ghost use Rattle.iso_model.specs.Search.Storages as table;
 ghost use Rattle.iso_db.specs.Databases as held;
 ghost use Rattle.iso_db.specs.Databases.{is_not_static};
 ghost use Rattle.iso_db.specs.Presents.{contents, Gives};
 ghost use Rattle.iso_store_core.specs.Presents.{Holds, meaning};
+ghost use Rattle.iso_lib_core.specs.Replies.{IsFault};
 ghost use Rattle.iso_plain_core.specs.declared.clauses.Clause as kept;
 ghost use Rattle.iso_plain_core.specs.Callables.{callee_at};
 ghost use Rattle.iso_storage.specs.Storing.{IsProgram, HasHead, IsNamed, AreOf, user_place};
@@ -82,6 +83,32 @@ pub(crate) fn is_fixed(
         Some(Callee::User(place)) => is_static(db.kind(place)),
         None => false,
     }
+}
+
+/// Sees that goals may change the procedure with this name, whose text this is. The errors: `permission_error(modify, static_procedure, PI)`
+/// where it is a built-in or static, raised by this procedure of one argument; or memory was refused.
+pub(crate) fn see_changeable(
+    alloc: Global,
+    db: &Db<Clause>,
+    callables: &[Vec<Callable>],
+    functor: Functor,
+    text: &str,
+    by: &str,
+) -> Result<(), Fault>
+    requires { (names : List (List ℕ)) × (m : databases.Database) × IsProgram names (contents db.now) callables.now m × IsNamed names functor text.now }
+    ensures free { (names : List (List ℕ)) (m : databases.Database) → IsProgram names (contents db.now) callables.now m → IsNamed names functor text.now
+        → IfOk result (λ _. table.is_fixed m.procedures (key text.now functor.arity) ≡ false) }
+    ensures fixed { (names : List (List ℕ)) (m : databases.Database) → IsProgram names (contents db.now) callables.now m → IsNamed names functor text.now
+        → OnErr result (table.is_fixed m.procedures (key text.now functor.arity) ≡ true) }
+    ensures fault { IfErr result (IsFault (permission_error (key text.now functor.arity) (key by.now 1))) }
+    ensures full { result ≢ Err Fault.Full }
+{
+    let arity = functor.arity;
+    if is_fixed(db, callables, functor, text) {
+        let ball = errors::static_procedure(alloc, text, arity, by)?;
+        return Err(Fault::Raise(ball));
+    }
+    Ok(())
 }
 
 /// A view of the clauses of the procedure with this name, whose text this is; none where it is absent.

@@ -6,8 +6,8 @@ mod declarations;
 mod heads;
 mod matching;
 mod removals;
-mod shown_clauses;
 pub mod shown;
+mod shown_clauses;
 mod storages;
 
 pub use storages::{Stored, store_goal};

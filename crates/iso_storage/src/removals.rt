@@ -14,15 +14,16 @@ ghost use Rattle.iso_lib.specs.Indicators.{IsIndicated};
 ghost use Rattle.iso_storage.specs.Matching.{all_removed};
 ghost use Rattle.iso_storage.specs.Storing.{IsProgram, IsChanged, UnlessStopped};
 
-use super::heads::{is_fixed, place_of, procedure_of};
+use super::heads::{place_of, procedure_of, see_changeable};
 use super::matching::matching_at;
 use iso_db::{ClauseId, Db};
 use iso_lib::indicators::{Functor, indicated};
 use iso_lib::{Fault, errors};
+use iso_lib_core::is_unbound;
 use iso_plain_core::callables::{Callable, Callables};
 use iso_plain_core::clauses::Clause;
 use iso_plain_core::procedures;
-use iso_store_core::{Shape, Store};
+use iso_store_core::Store;
 use std::alloc::Global;
 
 /// Makes the procedure at this place, which is not static, dynamic where it is absent, and removes the clauses with these numbers from it.
@@ -65,10 +66,8 @@ pub(crate) fn retractall<S: Store>(
 {
     let Functor { name, arity } = procedure_of(alloc, store, head, "retractall", 1)?;
     let text = store.text(name);
-    if is_fixed(db, callables.as_slice(), Functor { name, arity }, text) {
-        let ball = errors::static_procedure(alloc, text, arity, "retractall")?;
-        return Err(Fault::Raise(ball));
-    }
+    let functor = Functor { name, arity };
+    see_changeable(alloc, db, callables.as_slice(), functor, text, "retractall")?;
     let place = procedures::place(alloc, db, callables, Functor { name, arity }, text)?;
     let numbers = matching_at(alloc, store, db, place, head)?;
     remove_all(db, place, numbers.as_slice());
@@ -87,7 +86,7 @@ fn procedure_named<S: Store>(
     ensures named { IsIndicated (S.names store.now) (indicated (meaning (S.present store.now) indicator) (key by.now 1)) result }
     ensures each_once { EachOnce (S.names store.now) }
 {
-    if let Shape::Var(_) = store.shape(indicator) {
+    if is_unbound(store, indicator) {
         return Err(Fault::Raise(errors::instantiation(alloc, by, 1)?));
     }
     indicated(alloc, store, indicator, by)
@@ -114,10 +113,8 @@ pub(crate) fn abolish<S: Store>(
 {
     let Functor { name, arity } = procedure_named(alloc, store, indicator, "abolish")?;
     let text = store.text(name);
-    if is_fixed(db, callables, Functor { name, arity }, text) {
-        let ball = errors::static_procedure(alloc, text, arity, "abolish")?;
-        return Err(Fault::Raise(ball));
-    }
+    let functor = Functor { name, arity };
+    see_changeable(alloc, db, callables, functor, text, "abolish")?;
     let Some(place) = place_of(callables, Functor { name, arity }) else {
         return Ok(());
     };

@@ -13,16 +13,17 @@ ghost use Rattle.iso_store_core.specs.Presents.{Holds, meaning, KeepsMarks};
 ghost use Rattle.iso_plain_core.specs.declared.clauses.Clause as kept;
 ghost use Rattle.iso_storage.specs.Storing.{IsProgram, AreOf, IsOffered, OffersFirst, UnlessStopped};
 
-use super::heads::{clauses_of, is_fixed, procedure_of};
+use super::heads::{clauses_of, is_fixed, procedure_of, see_changeable};
 use super::storages::Stored;
 use iso_db::{Db, View};
 use iso_lib::indicators::Functor;
+use iso_lib::lists::pair_named;
 use iso_lib::{Fault, errors};
 use iso_model::Term;
 use iso_plain_core::callables::Callable;
+use iso_plain_core::choices::Showing;
 use iso_plain_core::clauses::Clause;
 use iso_plain_core::left_clauses::next_left;
-use iso_plain_core::choices::Showing;
 use iso_store_core::{Shape, Store, StoreFault};
 use std::alloc::Global;
 
@@ -106,10 +107,8 @@ fn clause_parts<S: Store>(store: &mut S, clause: S::Word) -> Result<(S::Word, S:
     ensures names { KeepsTexts (S.names store.old) (S.names store.new) }
     ensures marks { KeepsMarks (S.stands store.old) (S.stands store.new) }
 {
-    if let Shape::Compound(name, count) = store.shape(clause) {
-        if count == 2 && store.text(name) == ":-" {
-            return Ok((store.arg(clause, 0), store.arg(clause, 1)));
-        }
+    if let Some(parts) = pair_named(store, clause, ":-") {
+        return Ok(parts);
     }
     let name = store.intern("true")?;
     Ok((clause, store.atom(name)?))
@@ -138,10 +137,8 @@ pub(crate) fn retract<S: Store>(
     let (head, body) = clause_parts(store, clause)?;
     let Functor { name, arity } = procedure_of(alloc, store, head, "retract", 1)?;
     let text = store.text(name);
-    if is_fixed(db, callables, Functor { name, arity }, text) {
-        let ball = errors::static_procedure(alloc, text, arity, "retract")?;
-        return Err(Fault::Raise(ball));
-    }
+    let functor = Functor { name, arity };
+    see_changeable(alloc, db, callables, functor, text, "retract")?;
     let view = clauses_of(db, callables, Functor { name, arity }, text);
     Ok(offered(db, view, head, body, true))
 }

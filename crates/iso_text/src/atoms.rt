@@ -1,21 +1,19 @@
 //! `atom_chars/2` and `atom_codes/2` (8.16.4, 8.16.5), and lists of characters or of their codes.
-ghost use Rattle.std.specs.Prelude.{◌≡◌, ◌≢◌, Err, map};
+ghost use Rattle.std.specs.Prelude.{◌≡◌, Err, map};
 ghost use Rattle.std.specs.List.{All};
 ghost use Rattle.iso_atoms.specs.Texts.{KeepsTexts};
 ghost use Rattle.iso_model.specs.Search.Errors.{key};
 ghost use Rattle.iso_model.specs.Search.Library.{equate};
-ghost use Rattle.iso_model.specs.Search.Replies.{Answer};
 ghost use Rattle.iso_model.specs.Terms.Trees.{Name};
 ghost use Rattle.iso_model.specs.Terms.Arguments.{arity, argument};
-ghost use Rattle.iso_model.specs.Search.AtomTexts.{atom_list_answer, atom_of_list, with_partial_list, equate_text, elements_codes};
+ghost use Rattle.iso_model.specs.Search.AtomTexts.{atom_list_answer, atom_of_list, equate_text, elements_codes};
 ghost use Rattle.iso_store_core.specs.Presents.{Holds, meaning, KeepsMarks};
-ghost use Rattle.iso_lib_core.specs.Checks.{GoesOn};
 ghost use Rattle.iso_lib_core.specs.Replies.{IsReply};
 ghost use Rattle.iso_text.specs.Forms.{form_of};
 
 use super::reading::codes_of;
 use super::spelling::equate_spelled;
-use iso_lib_core::lists::{elements, is_partial_list, tail};
+use iso_lib_core::lists::{elements, see_partial_list, tail};
 use iso_lib_core::{Fault, Reply, culprits, errors, tested};
 use iso_store_core::{Shape, Store};
 use std::alloc::Global;
@@ -25,23 +23,6 @@ use std::alloc::Global;
 pub(crate) enum Form {
     Characters,
     Codes,
-}
-
-/// Sees that the word stands for a partial list. The errors: this procedure raises one, or memory was refused.
-pub(crate) fn see_partial_list<S: Store>(
-    alloc: Global,
-    store: &S,
-    word: S::Word,
-    by: &str,
-) -> Result<(), Fault>
-    requires word { Holds (S.present store.now) word }
-    ensures goes_on { GoesOn (S.present store.now) (with_partial_list (meaning (S.present store.now) word) (key by.now 2)) (λ (a : Answer). a) result }
-    ensures full { result ≢ Err Fault.Full }
-{
-    if is_partial_list(store, word) {
-        return Ok(());
-    }
-    Err(culprits::wrong_type(alloc, store, "list", word, by, 2))
 }
 
 /// Unifies the word with the atom of this text. The errors: the store is full, or memory was refused.
@@ -122,11 +103,11 @@ pub(crate) fn atom_list<S: Store>(
     let (atom, list) = (store.arg(goal, 0), store.arg(goal, 1));
     match store.shape(atom) {
         Shape::Var(_) => {
-            see_partial_list(alloc, store, list, by)?;
+            see_partial_list(alloc, store, list, by, 2)?;
             atom_of_list(alloc, store, form, atom, list, by)
         }
         Shape::Atom(name) => {
-            see_partial_list(alloc, store, list, by)?;
+            see_partial_list(alloc, store, list, by, 2)?;
             let text = String::from_str(alloc, store.text(name))?;
             equate_spelled(alloc, store, form, list, text.as_str())
         }

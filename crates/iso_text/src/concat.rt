@@ -9,10 +9,9 @@ ghost use Rattle.iso_text.specs.Parts.{IsParted};
 ghost use Rattle.iso_text.specs.declared.parts.Part.TheVariants as part;
 
 use super::checks::see_atom;
-use super::numbers::is_unbound;
 use super::parts::{Part, Parts};
 use super::splits::splits;
-use iso_lib_core::{Fault, errors};
+use iso_lib_core::{Fault, errors, is_unbound};
 use iso_store_core::{Shape, Store};
 use std::alloc::{AllocError, Global};
 

@@ -1,8 +1,7 @@
 //! `number_chars/2` and `number_codes/2` (8.16.7, 8.16.8).
 ghost use Rattle.std.specs.Prelude.{◌≡◌, Err, map};
-ghost use Rattle.std.specs.List.{All, list_any};
+ghost use Rattle.std.specs.List.{All};
 ghost use Rattle.iso_atoms.specs.Texts.{KeepsTexts};
-ghost use Rattle.iso_model.specs.Terms.Types.{is_variable};
 ghost use Rattle.iso_model.specs.Search.Errors.{key};
 ghost use Rattle.iso_model.specs.Terms.Arguments.{arity, argument};
 ghost use Rattle.iso_model.specs.Search.AtomTexts.{elements_codes, equate_number, number_of_text, number_text, number_list_answer};
@@ -14,33 +13,10 @@ use super::atoms::Form;
 use super::integers::number_written;
 use super::reading::codes_of;
 use super::spelling::equate_spelled;
-use iso_lib_core::lists::{elements, is_nil, is_partial_list};
-use iso_lib_core::{Fault, Reply, culprits, errors, tested};
+use iso_lib_core::lists::{elements, is_nil, see_partial_list};
+use iso_lib_core::{Fault, Reply, culprits, errors, has_unbound, tested};
 use iso_store_core::{Shape, Store};
 use std::alloc::Global;
-
-/// Whether the term that the word stands for is an unbound variable.
-pub(crate) fn is_unbound<S: Store>(store: &S, word: S::Word) -> bool
-    requires { Holds (S.present store.now) word }
-    ensures { result ≡ is_variable (meaning (S.present store.now) word) }
-{
-    matches!(store.shape(word), Shape::Var(_))
-}
-
-/// Whether one of the words stands for an unbound variable.
-fn has_unbound<S: Store>(store: &S, words: &[S::Word]) -> bool
-    requires { All (λ w. Holds (S.present store.now) w) words.now }
-    ensures { result ≡ list_any is_variable (map (meaning (S.present store.now)) words.now) }
-{
-    let mut place = 0;
-    while place < words.len() {
-        if is_unbound(store, words[place]) {
-            return true;
-        }
-        place += 1;
-    }
-    false
-}
 
 /// Unifies the word with the number that a text writes; it is an error where it writes none. The errors are those of `number_list`.
 fn equate_number<S: Store>(
@@ -130,9 +106,7 @@ pub(crate) fn number_list<S: Store>(
     if !matches!(store.shape(number), Shape::Var(_) | Shape::Int(_)) {
         return Err(culprits::wrong_type(alloc, store, "number", number, by, 2));
     }
-    if !is_partial_list(store, list) {
-        return Err(culprits::wrong_type(alloc, store, "list", list, by, 2));
-    }
+    see_partial_list(alloc, store, list, by, 2)?;
     let parts = elements(alloc, store, list)?;
     if is_nil(store, parts.tail) && !has_unbound(store, parts.elements.as_slice()) {
         return number_of_list(alloc, store, form, number, parts.elements.as_slice(), by);

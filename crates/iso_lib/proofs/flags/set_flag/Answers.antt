@@ -17,6 +17,6 @@ returns-clause-settled g c = λ w.
     let text = c.text.result.now in
     let world = with_settings w w.operators c.args.flags.now in
     let named : argument 0 t ≡ Name text = sym c.arg-flag.ensures.value ∙ c.in-Atom.ensures.shape.1 ∙ ap Name (text-is (g.S.Store.names c.args.store.now) c.in-Atom.name text c.text.ensures) in
-    let bound : is_variable (argument 1 t) ≡ false = ap is_variable (sym c.arg-value.ensures.value) ∙ sym c.is_unbound-else-is_unbound.ensures ∙ c.if-is_unbound-2.false in
+    let bound : is_variable (argument 1 t) ≡ false = ap is_variable (sym c.arg-value.ensures.value) ∙ sym c.is_unbound-else-is_unbound.ensures.unbound ∙ c.if-is_unbound-2.false in
     let same = flag_named (argument 0 t) (argument 1 t) text world named bound ∙ ap (λ v. named_flag_settled text v world) (sym c.arg-value.ensures.value) in
     subst (λ s. IsSettled w w.operators c.set_named.new.flags row.SetFlag t s c.set_named.result) (sym same) (c.set_named.ensures.settled w)

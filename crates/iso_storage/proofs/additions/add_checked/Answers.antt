@@ -12,11 +12,11 @@ use Rattle.iso_plain_core.proofs.AddingLemmas.{user_alone}
 use Rattle.iso_plain_core.proofs.WrittenLemmas.{clause_kept}
 use Rattle.iso_storage.specs.Storing.{IsNamed, place_of}
 use Rattle.iso_storage.proofs.AdditionLemmas.{addition_refused, addition_comes, way_more, may_come, checked_key, checked_few}
-use Rattle.iso_storage.proofs.KeptPrograms.{permission_raised, program_kept, program_lent, found_in, changes_fit, no_memory, on_err}
+use Rattle.iso_storage.proofs.KeptPrograms.{changed_refused, program_kept, program_lent, found_in, changes_fit, no_memory, on_err}
 use Rattle.iso_storage.proofs.additions.add_checked.Goals as goal
 
-pub is_fixed-requires : goal.is_fixed-requires
-is_fixed-requires g c =
+pub see_changeable-requires : goal.see_changeable-requires
+see_changeable-requires g c =
     let a = c.requires.clause in
     let k = key c.in-Some.text.now c.in-Some.arity in (
       g.S.Store.names c.intern.new.self,
@@ -24,9 +24,6 @@ is_fixed-requires g c =
       program_lent c.as_slice.ensures.value c.in_ok-name.ensures.names (program_kept c.in_ok-kept.ensures.names c.requires.program.1),
       record { each_once = c.in_ok-name.ensures.each_once; atom = c.in_ok-name.ensures.place; few = checked_few a.0 c.args.checked.now a.1 k c.in-Some.ensures },
     )
-
-pub static_procedure-requires : goal.static_procedure-requires
-static_procedure-requires g c = checked_few c.requires.clause.0 c.args.checked.now c.requires.clause.1 (key c.in-Some.text.now c.in-Some.arity) c.in-Some.ensures
 
 pub returns-in_err-kept-clause-added : goal.returns-in_err-kept-clause-added
 returns-in_err-kept-clause-added g c = λ t w is h. no_memory (g.S.Store.names c.written_clause.new.store) (contents c.args.db.now) c.args.callables.now.items w _ c.from_residual.result c.from_residual.ensures.1
@@ -46,37 +43,27 @@ returns-in_err-name-clause-names g c = λ a text at. c.in_err-name.ensures.names
 pub returns-in_err-name-clause-marks : goal.returns-in_err-name-clause-marks
 returns-in_err-name-clause-marks g c = λ m p stands. c.in_err-name.ensures.marks m p (c.in_ok-kept.ensures.marks m p stands)
 
-pub returns-in_err-ball-clause-added : goal.returns-in_err-ball-clause-added
-returns-in_err-ball-clause-added g c = λ t w is h. no_memory (g.S.Store.names c.intern.new.self) (contents c.args.db.now) c.args.callables.now.items w _ c.from_residual-in_err-ball.result c.from_residual-in_err-ball.ensures.1
-
-pub returns-in_err-ball-clause-kept : goal.returns-in_err-ball-clause-kept
-returns-in_err-ball-clause-kept g c = λ m h. on_err c.from_residual-in_err-ball.result _ (program_kept c.in_ok-name.ensures.names (program_kept c.in_ok-kept.ensures.names h))
-
-pub returns-in_err-ball-clause-names : goal.returns-in_err-ball-clause-names
-returns-in_err-ball-clause-names g c = λ a text at. c.in_ok-name.ensures.names a text (c.in_ok-kept.ensures.names a text at)
-
-pub returns-in_err-ball-clause-marks : goal.returns-in_err-ball-clause-marks
-returns-in_err-ball-clause-marks g c = λ m p stands. c.in_ok-name.ensures.marks m p (c.in_ok-kept.ensures.marks m p stands)
-
-pub returns-then-is_fixed-clause-added : goal.returns-then-is_fixed-clause-added
-returns-then-is_fixed-clause-added g c = λ t w is h.
+pub returns-in_err-see_changeable-clause-added : goal.returns-in_err-see_changeable-clause-added
+returns-in_err-see_changeable-clause-added g c = λ t w is h.
     (let k = key c.in-Some.text.now c.in-Some.arity in
     let by = key c.args.by.now 1 in
+    let last = g.S.Store.names c.intern.new.self in
     let same = checked_key t c.args.checked.now is k c.in-Some.ensures in
     let named : IsNamed (g.S.Store.names c.intern.new.self) (record { name = c.in_ok-name.name; arity = c.in-Some.arity }) c.in-Some.text.now =
     record { each_once = c.in_ok-name.ensures.each_once; atom = c.in_ok-name.ensures.place; few = checked_few t c.args.checked.now is k c.in-Some.ensures } in
-    let fixed = sym (c.is_fixed.ensures (g.S.Store.names c.intern.new.self) w.database (program_lent c.as_slice.ensures.value c.in_ok-name.ensures.names (program_kept c.in_ok-kept.ensures.names h)) named) ∙ c.if-is_fixed.true in
+    let fixed = c.in_err-see_changeable.ensures.fixed (g.S.Store.names c.intern.new.self) w.database (program_lent c.as_slice.ensures.value c.in_ok-name.ensures.names (program_kept c.in_ok-kept.ensures.names h)) named in
     let settled = addition_refused t c.args.checked.now is (place_of c.args.way) by w (ap (is_fixed w.database.procedures) (sym same) ∙ fixed) in
-    permission_raised (addition_settled (asserted (place_of c.args.way) by t w.database) w) k is.key by c.in_ok-ball.ball settled same c.in_ok-ball.ensures)
+    changed_refused last (contents c.args.db.now) c.args.callables.now.items w (addition_settled (asserted (place_of c.args.way) by t w.database) w) k is.key by c.from_residual-in_err-see_changeable.result _ c.from_residual-in_err-see_changeable.ensures.1 settled same
+    c.in_err-see_changeable.ensures.fault)
 
-pub returns-then-is_fixed-clause-kept : goal.returns-then-is_fixed-clause-kept
-returns-then-is_fixed-clause-kept g c = λ m h. program_kept c.in_ok-name.ensures.names (program_kept c.in_ok-kept.ensures.names h)
+pub returns-in_err-see_changeable-clause-kept : goal.returns-in_err-see_changeable-clause-kept
+returns-in_err-see_changeable-clause-kept g c = λ m h. on_err c.from_residual-in_err-see_changeable.result _ (program_kept c.in_ok-name.ensures.names (program_kept c.in_ok-kept.ensures.names h))
 
-pub returns-then-is_fixed-clause-names : goal.returns-then-is_fixed-clause-names
-returns-then-is_fixed-clause-names g c = λ a text at. c.in_ok-name.ensures.names a text (c.in_ok-kept.ensures.names a text at)
+pub returns-in_err-see_changeable-clause-names : goal.returns-in_err-see_changeable-clause-names
+returns-in_err-see_changeable-clause-names g c = λ a text at. c.in_ok-name.ensures.names a text (c.in_ok-kept.ensures.names a text at)
 
-pub returns-then-is_fixed-clause-marks : goal.returns-then-is_fixed-clause-marks
-returns-then-is_fixed-clause-marks g c = λ m p stands. c.in_ok-name.ensures.marks m p (c.in_ok-kept.ensures.marks m p stands)
+pub returns-in_err-see_changeable-clause-marks : goal.returns-in_err-see_changeable-clause-marks
+returns-in_err-see_changeable-clause-marks g c = λ m p stands. c.in_ok-name.ensures.marks m p (c.in_ok-kept.ensures.marks m p stands)
 
 pub add-requires-clause-named : goal.add-requires-clause-named
 add-requires-clause-named g c = (
@@ -98,7 +85,7 @@ add-requires-clause-allowed g c =
     let k = key c.in-Some.text.now c.in-Some.arity in
     let named : IsNamed (g.S.Store.names c.intern.new.self) (record { name = c.in_ok-name.name; arity = c.in-Some.arity }) c.in-Some.text.now =
     record { each_once = c.in_ok-name.ensures.each_once; atom = c.in_ok-name.ensures.place; few = checked_few a.0 c.args.checked.now a.1 k c.in-Some.ensures } in
-    let free = sym (c.is_fixed.ensures (g.S.Store.names c.intern.new.self) m (program_lent c.as_slice.ensures.value c.in_ok-name.ensures.names (program_kept c.in_ok-kept.ensures.names c.requires.program.1)) named) ∙ c.if-is_fixed.false in
+    let free = c.in_ok-see_changeable.ensures.free (g.S.Store.names c.intern.new.self) m (program_lent c.as_slice.ensures.value c.in_ok-name.ensures.names (program_kept c.in_ok-kept.ensures.names c.requires.program.1)) named in
     may_come c.args.way c.requires.way _ (changes_fit k c.requires.program.1 free)
 
 pub returns-in_err-add-clause-added : goal.returns-in_err-add-clause-added
@@ -126,7 +113,7 @@ returns-clause-added g c = λ t w is h.
     let stood = program_kept c.in_ok-name.ensures.names (program_kept c.in_ok-kept.ensures.names h) in
     let named : IsNamed last (record { name = c.in_ok-name.name; arity = c.in-Some.arity }) c.in-Some.text.now =
     record { each_once = c.in_ok-name.ensures.each_once; atom = c.in_ok-name.ensures.place; few = checked_few t c.args.checked.now is k c.in-Some.ensures } in
-    let free = sym (c.is_fixed.ensures last w.database (program_lent c.as_slice.ensures.value c.in_ok-name.ensures.names (program_kept c.in_ok-kept.ensures.names h)) named) ∙ c.if-is_fixed.false in
+    let free = c.in_ok-see_changeable.ensures.free last w.database (program_lent c.as_slice.ensures.value c.in_ok-name.ensures.names (program_kept c.in_ok-kept.ensures.names h)) named in
     let settled = addition_comes t c.args.checked.now is (place_of c.args.way) by w (ap (is_fixed w.database.procedures) (sym same) ∙ free) in
     let new = clause_of t is.body w.database.added in
     let kept = clause_kept first last c.in_ok-name.ensures.names c.in_ok-kept.kept new (c.in_ok-kept.ensures.clause new (is.clause w.database.added)) in

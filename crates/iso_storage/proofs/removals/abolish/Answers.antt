@@ -10,14 +10,14 @@ use Rattle.iso_plain_core.specs.Programs.{place_at, kept_at, kind_of}
 use Rattle.iso_plain_core.proofs.ProgramLemmas.{kind_there}
 use Rattle.iso_storage.specs.Storing.{IsNamed}
 use Rattle.iso_storage.proofs.HeadLemmas.{free_alone, user_there, user_within, user_absent}
-use Rattle.iso_storage.proofs.KeptPrograms.{permission_raised, changes_fit}
+use Rattle.iso_storage.proofs.KeptPrograms.{changed_refused, changes_fit}
 use Rattle.iso_storage.proofs.RowLemmas.{key_text}
 use Rattle.iso_storage.proofs.RemovalLemmas.{was_done}
 use Rattle.iso_storage.proofs.GoneLemmas.{indicated_key, abolish_refuses, abolish_changes, program_gone, program_absent}
 use Rattle.iso_storage.proofs.removals.abolish.Goals as goal
 
-pub returns-then-is_fixed-clause-changed : goal.returns-then-is_fixed-clause-changed
-returns-then-is_fixed-clause-changed g c = λ w is.
+pub returns-in_err-see_changeable-clause-changed : goal.returns-in_err-see_changeable-clause-changed
+returns-in_err-see_changeable-clause-changed g c = λ w is.
     (let names = g.S.Store.names c.args.store.now in
     let t = meaning (g.S.Store.present c.args.store.now) c.args.indicator in
     let f = c.in_ok-name.field-0 in
@@ -25,8 +25,9 @@ returns-then-is_fixed-clause-changed g c = λ w is.
     let h = indicated_key names (indicated t abolish_key) f c.in_ok-name.ensures.named in
     let same : h.0 ≡ key text f.arity = key_text names f h.0 text h.2 (text-is names f.name text c.text-text.ensures) in
     let named : IsNamed names f text = record { each_once = c.in_ok-name.ensures.each_once; atom = c.text-text.ensures; few = h.2.few } in
-    let fixed : is_fixed w.database.procedures h.0 ≡ true = ap (is_fixed w.database.procedures) same ∙ sym (c.is_fixed.ensures names w.database is named) ∙ c.if-is_fixed.true in
-    permission_raised (abolish_settled t w) (key text f.arity) h.0 abolish_key c.in_ok-ball.ball (abolish_refuses t w h.0 h.1 fixed) (sym same) c.in_ok-ball.ensures)
+    let fixed : is_fixed w.database.procedures h.0 ≡ true = ap (is_fixed w.database.procedures) same ∙ c.in_err-see_changeable.ensures.fixed names w.database is named in
+    changed_refused names (contents c.args.db.now) c.args.callables.now w (abolish_settled t w) (key text f.arity) h.0 abolish_key c.from_residual-in_err-see_changeable.result _ c.from_residual-in_err-see_changeable.ensures.1 (abolish_refuses t w h.0 h.1 fixed) (sym same)
+    c.in_err-see_changeable.ensures.fault)
 
 pub abolish-requires : goal.abolish-requires
 abolish-requires g c =
@@ -48,7 +49,7 @@ returns-in_default-clause-changed g c = λ w is.
     let h = indicated_key names (indicated t abolish_key) f c.in_ok-name.ensures.named in
     let same : h.0 ≡ key text f.arity = key_text names f h.0 text h.2 (text-is names f.name text c.text-text.ensures) in
     let named : IsNamed names f text = record { each_once = c.in_ok-name.ensures.each_once; atom = c.text-text.ensures; few = h.2.few } in
-    let allowed : is_fixed w.database.procedures (key text f.arity) ≡ false = sym (c.is_fixed.ensures names w.database is named) ∙ c.if-is_fixed.false in
+    let allowed : is_fixed w.database.procedures (key text f.arity) ≡ false = c.in_ok-see_changeable.ensures.free names w.database is named in
     let absent : kind_of (kept_at d (key text f.arity)) ≡ None =
     user_absent names d c.args.callables.now w.database f text is named (sym c.place_of.ensures ∙ c.in_default.is) (free_alone w.database.procedures (key text f.arity) allowed) in
     let none : kind_of (kept_at d h.0) ≡ None = ap (λ (k : Key). kind_of (kept_at d k)) same ∙ absent in (
@@ -69,7 +70,7 @@ returns-clause-changed g c = λ w is.
     let h = indicated_key names (indicated t abolish_key) f c.in_ok-name.ensures.named in
     let same : h.0 ≡ key text f.arity = key_text names f h.0 text h.2 (text-is names f.name text c.text-text.ensures) in
     let named : IsNamed names f text = record { each_once = c.in_ok-name.ensures.each_once; atom = c.text-text.ensures; few = h.2.few } in
-    let allowed : is_fixed w.database.procedures (key text f.arity) ≡ false = sym (c.is_fixed.ensures names w.database is named) ∙ c.if-is_fixed.false in
+    let allowed : is_fixed w.database.procedures (key text f.arity) ≡ false = c.in_ok-see_changeable.ensures.free names w.database is named in
     let at : place_at d (key text f.arity) ≡ Some place = user_there names d c.args.callables.now w.database f text is named place (sym c.place_of.ensures ∙ c.in-Some.is) in
     let there : place_at d h.0 ≡ Some place = ap (place_at d) same ∙ at in
     let gone = was_done c.abolish.result (c.abolish.ensures.allowed ∙ ap is_not_static (kind_there d (key text f.arity) place at) ∙ changes_fit (key text f.arity) is allowed) c.abolish.ensures.contents in (

@@ -11,13 +11,13 @@ use Rattle.iso_store_core.proofs.AtomLemmas.{text-is}
 use Rattle.iso_plain_core.specs.Programs.{place_at}
 use Rattle.iso_storage.specs.Storing.{IsNamed, IsProgram}
 use Rattle.iso_storage.proofs.HeadLemmas.{free_alone}
-use Rattle.iso_storage.proofs.KeptPrograms.{permission_raised, changes_fit, program_lent, found_in, on_err}
+use Rattle.iso_storage.proofs.KeptPrograms.{changed_refused, changes_fit, program_lent, found_in, on_err}
 use Rattle.iso_storage.proofs.RowLemmas.{key_text}
 use Rattle.iso_storage.proofs.GoneLemmas.{retractall_refuses, retractall_changes, program_retracted}
 use Rattle.iso_storage.proofs.removals.retractall.Goals as goal
 
-pub returns-then-is_fixed-clause-changed : goal.returns-then-is_fixed-clause-changed
-returns-then-is_fixed-clause-changed g c = λ w is.
+pub returns-in_err-see_changeable-clause-changed : goal.returns-in_err-see_changeable-clause-changed
+returns-in_err-see_changeable-clause-changed g c = λ w is.
     (let names = g.S.Store.names c.args.store.now in
     let p = g.S.Store.present c.args.store.now in
     let t = meaning p c.args.head in
@@ -26,8 +26,9 @@ returns-then-is_fixed-clause-changed g c = λ w is.
     let h = c.in_ok-name.ensures.head in
     let same : h.0 ≡ key text f.arity = key_text names f h.0 text h.2 (text-is names f.name text c.text-text.ensures) in
     let named : IsNamed names f text = record { each_once = c.in_ok-name.ensures.each_once; atom = c.text-text.ensures; few = h.2.few } in
-    let fixed : is_fixed w.database.procedures h.0 ≡ true = ap (is_fixed w.database.procedures) same ∙ sym (c.is_fixed.ensures names w.database (program_lent c.as_slice.ensures.value (λ a x at. at) is) named) ∙ c.if-is_fixed.true in
-    permission_raised (retractall_settled t p.next w) (key text f.arity) h.0 retractall_key c.in_ok-ball.ball (retractall_refuses t p.next w h.0 h.3 fixed) (sym same) c.in_ok-ball.ensures)
+    let fixed : is_fixed w.database.procedures h.0 ≡ true = ap (is_fixed w.database.procedures) same ∙ c.in_err-see_changeable.ensures.fixed names w.database (program_lent c.as_slice.ensures.value (λ a x at. at) is) named in
+    changed_refused names (contents c.args.db.now) c.args.callables.now.items w (retractall_settled t p.next w) (key text f.arity) h.0 retractall_key c.from_residual-in_err-see_changeable.result _ c.from_residual-in_err-see_changeable.ensures.1
+    (retractall_refuses t p.next w h.0 h.3 fixed) (sym same) c.in_err-see_changeable.ensures.fault)
 
 pub place-requires-clause-user : goal.place-requires-clause-user
 place-requires-clause-user g c =
@@ -36,7 +37,7 @@ place-requires-clause-user g c =
     let text = c.text-text.result.now in
     let m = c.requires.program.0 in
     let named : IsNamed names f text = record { each_once = c.in_ok-name.ensures.each_once; atom = c.text-text.ensures; few = c.in_ok-name.ensures.head.2.few } in
-    let allowed : is_fixed m.procedures (key text f.arity) ≡ false = sym (c.is_fixed.ensures names m (program_lent c.as_slice.ensures.value (λ a x at. at) c.requires.program.1) named) ∙ c.if-is_fixed.false in
+    let allowed : is_fixed m.procedures (key text f.arity) ≡ false = c.in_ok-see_changeable.ensures.free names m (program_lent c.as_slice.ensures.value (λ a x at. at) c.requires.program.1) named in
     free_alone m.procedures (key text f.arity) allowed
 
 pub returns-in_err-place-clause-kept : goal.returns-in_err-place-clause-kept
@@ -65,7 +66,7 @@ remove_all-requires-clause-allowed g c =
     let text = c.text-text.result.now in
     let m = c.requires.program.0 in
     let named : IsNamed names f text = record { each_once = c.in_ok-name.ensures.each_once; atom = c.text-text.ensures; few = c.in_ok-name.ensures.head.2.few } in
-    let allowed : is_fixed m.procedures (key text f.arity) ≡ false = sym (c.is_fixed.ensures names m (program_lent c.as_slice.ensures.value (λ a x at. at) c.requires.program.1) named) ∙ c.if-is_fixed.false in
+    let allowed : is_fixed m.procedures (key text f.arity) ≡ false = c.in_ok-see_changeable.ensures.free names m (program_lent c.as_slice.ensures.value (λ a x at. at) c.requires.program.1) named in
     ap is_not_static c.in_ok-place.ensures.kind ∙ changes_fit (key text f.arity) c.requires.program.1 allowed
 
 pub returns-clause-changed : goal.returns-clause-changed
@@ -83,7 +84,7 @@ returns-clause-changed g c = λ w is.
     let h = c.in_ok-name.ensures.head in
     let same : h.0 ≡ key text f.arity = key_text names f h.0 text h.2 (text-is names f.name text c.text-text.ensures) in
     let named : IsNamed names f text = record { each_once = c.in_ok-name.ensures.each_once; atom = c.text-text.ensures; few = h.2.few } in
-    let allowed : is_fixed w.database.procedures (key text f.arity) ≡ false = sym (c.is_fixed.ensures names w.database (program_lent c.as_slice.ensures.value (λ a x at. at) is) named) ∙ c.if-is_fixed.false in
+    let allowed : is_fixed w.database.procedures (key text f.arity) ≡ false = c.in_ok-see_changeable.ensures.free names w.database (program_lent c.as_slice.ensures.value (λ a x at. at) is) named in
     let free : is_fixed w.database.procedures h.0 ≡ false = ap (is_fixed w.database.procedures) same ∙ allowed in
     let at : place_at d h.0 ≡ Some place = ap (place_at d) same ∙ c.in_ok-place.ensures.place in
     let found = c.in_ok-place.ensures.found names (found_in f text is c.in_ok-name.ensures.each_once c.text-text.ensures) in

@@ -1,4 +1,4 @@
-use Rattle.std.proofs.Common.{◌≡◌, [], ◌∷◌, map, false, true, sym, ap, ◌∙◌}
+use Rattle.std.proofs.Common.{◌≡◌, [], ◌∷◌, map, false, true, sym, ap, subst, ◌∙◌}
 use Rattle.iso_model.specs.Terms.Trees.{Tree, row}
 use Rattle.iso_model.specs.Search.Additions.{head_of}
 use Rattle.iso_model.specs.Search.Databases.{Key}
@@ -7,10 +7,11 @@ use Rattle.iso_model.specs.Search.Storages.{Settled, Offers, with_head, is_fixed
 use Rattle.iso_plain_core.specs.Offers.{clause_offer}
 use Rattle.iso_store_core.specs.Presents.{meaning}
 use Rattle.iso_store_core.proofs.AtomLemmas.{text-is}
+use Rattle.iso_lib_core.specs.Replies.{IsFault}
 use Rattle.iso_storage.specs.Storing.{IsNamed}
 use Rattle.iso_storage.proofs.HeadLemmas.{free_alone}
 use Rattle.iso_storage.proofs.KeptPrograms.{program_kept}
-use Rattle.iso_storage.proofs.RowLemmas.{key_text, retract_refused, retract_offers, offers_shown}
+use Rattle.iso_storage.proofs.RowLemmas.{key_text, retract_fault, retract_offers, offers_shown}
 use Rattle.iso_storage.proofs.shown_clauses.retract.Goals as goal
 
 pub returns-in_err-head-clause-kept : goal.returns-in_err-head-clause-kept
@@ -19,17 +20,14 @@ returns-in_err-head-clause-kept g c = λ m is. program_kept c.clause_parts.ensur
 pub returns-in_err-name-clause-kept : goal.returns-in_err-name-clause-kept
 returns-in_err-name-clause-kept g c = λ m is. program_kept c.clause_parts.ensures.names is
 
-pub is_fixed-requires : goal.is_fixed-requires
-is_fixed-requires g c =
+pub see_changeable-requires : goal.see_changeable-requires
+see_changeable-requires g c =
     let names = g.S.Store.names c.clause_parts.new.store in
     let k = c.requires.program in
     (names, k.0, program_kept c.clause_parts.ensures.names k.1, record { each_once = c.clause_parts.ensures.each_once; atom = c.text-text.ensures; few = c.in_ok-name.ensures.head.2.few })
 
-pub returns-in_err-ball-clause-kept : goal.returns-in_err-ball-clause-kept
-returns-in_err-ball-clause-kept g c = λ m is. program_kept c.clause_parts.ensures.names is
-
-pub returns-then-is_fixed-clause-kept : goal.returns-then-is_fixed-clause-kept
-returns-then-is_fixed-clause-kept g c = λ m is. program_kept c.clause_parts.ensures.names is
+pub returns-in_err-see_changeable-clause-kept : goal.returns-in_err-see_changeable-clause-kept
+returns-in_err-see_changeable-clause-kept g c = λ m is. program_kept c.clause_parts.ensures.names is
 
 pub returns-clause-kept : goal.returns-clause-kept
 returns-clause-kept g c = λ m is. program_kept c.clause_parts.ensures.names is
@@ -40,8 +38,8 @@ clauses_of-view-requires g c =
     let k = c.requires.program in
     (names, k.0, program_kept c.clause_parts.ensures.names k.1, record { each_once = c.clause_parts.ensures.each_once; atom = c.text-text.ensures; few = c.in_ok-name.ensures.head.2.few })
 
-pub returns-then-is_fixed-clause-offered : goal.returns-then-is_fixed-clause-offered
-returns-then-is_fixed-clause-offered g c = λ w was.
+pub returns-in_err-see_changeable-clause-offered : goal.returns-in_err-see_changeable-clause-offered
+returns-in_err-see_changeable-clause-offered g c = λ w was.
     (let names = g.S.Store.names c.clause_parts.new.store in
     let is = program_kept c.clause_parts.ensures.names was in
     let t = meaning (g.S.Store.present c.args.store.now) c.args.clause in
@@ -49,9 +47,10 @@ returns-then-is_fixed-clause-offered g c = λ w was.
     let f = c.in_ok-name.field-0 in
     let same : h.0 ≡ key c.text-text.result.now f.arity = key_text names f h.0 c.text-text.result.now h.2 (text-is names f.name c.text-text.result.now c.text-text.ensures) in
     let named : IsNamed names f c.text-text.result.now = record { each_once = c.clause_parts.ensures.each_once; atom = c.text-text.ensures; few = h.2.few } in
-    let fixed = ap (is_fixed w.database.procedures) same ∙ sym (c.is_fixed.ensures names w.database is named) ∙ c.if-is_fixed.true in
+    let fixed = ap (is_fixed w.database.procedures) same ∙ c.in_err-see_changeable.ensures.fixed names w.database is named in
     let headed : (goes_on : Key → Settled) → with_head (head_of t) retract_key goes_on ≡ goes_on h.0 = λ goes_on. ap (λ (x : Tree). with_head x retract_key goes_on) (sym c.in_ok-head.ensures.head) ∙ h.3 goes_on in
-    retract_refused t w h.0 c.in_ok-ball.ball headed fixed (c.in_ok-ball.ensures ∙ ap (λ (k : Key). permission_error k retract_key) (sym same)))
+    retract_fault names (g.S.Store.present c.clause_parts.new.store) c.args.db.now t w h.0 c.from_residual-in_err-see_changeable.result _ c.from_residual-in_err-see_changeable.ensures.1 headed fixed
+    (subst (λ (k : Key). IsFault (permission_error k retract_key) c.in_err-see_changeable.field-0.0) (sym same) c.in_err-see_changeable.ensures.fault))
 
 pub returns-clause-offered : goal.returns-clause-offered
 returns-clause-offered g c = λ w was.
@@ -64,7 +63,7 @@ returns-clause-offered g c = λ w was.
     let parts = c.in_ok-head.ensures in
     let same : h.0 ≡ key c.text-text.result.now f.arity = key_text names f h.0 c.text-text.result.now h.2 (text-is names f.name c.text-text.result.now c.text-text.ensures) in
     let named : IsNamed names f c.text-text.result.now = record { each_once = c.clause_parts.ensures.each_once; atom = c.text-text.ensures; few = h.2.few } in
-    let allowed : is_fixed w.database.procedures (key c.text-text.result.now f.arity) ≡ false = sym (c.is_fixed.ensures names w.database is named) ∙ c.if-is_fixed.false in
+    let allowed : is_fixed w.database.procedures (key c.text-text.result.now f.arity) ≡ false = c.in_ok-see_changeable.ensures.free names w.database is named in
     let free : is_fixed w.database.procedures h.0 ≡ false = ap (is_fixed w.database.procedures) same ∙ allowed in
     let headed : (goes_on : Key → Settled) → with_head (head_of t) retract_key goes_on ≡ goes_on h.0 = λ goes_on. ap (λ (x : Tree). with_head x retract_key goes_on) (sym parts.head) ∙ h.3 goes_on in
     let cs = clauses_of w.database.procedures h.0 in

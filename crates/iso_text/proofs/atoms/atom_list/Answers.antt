@@ -1,9 +1,10 @@
-use Rattle.std.proofs.Common.{◌≡◌, ap, ap₂, sym, subst, ◌∙◌, List, ℕ}
+use Rattle.std.proofs.Common.{◌≡◌, ap, ap₂, sym, subst, ◌∙◌, List, ℕ, Bool, if◌then◌else◌, codes}
+use Rattle.iso_atoms.specs.Texts.{text_at}
 use Rattle.iso_model.specs.Terms.Trees.{Tree}
 use Rattle.iso_model.specs.Terms.Arguments.{argument}
-use Rattle.iso_model.specs.Search.Errors.{key}
+use Rattle.iso_model.specs.Search.Errors.{key, type_error}
 use Rattle.iso_model.specs.Search.Library.{equate_list}
-use Rattle.iso_model.specs.Search.Replies.{Answer}
+use Rattle.iso_model.specs.Search.Replies.{Answer, Raise}
 use Rattle.iso_model.specs.Search.AtomTexts.{atom_list_answer, text_elements}
 use Rattle.iso_store_core.specs.Presents.{meaning}
 use Rattle.iso_store_core.proofs.AtomLemmas.{text-is}
@@ -23,5 +24,5 @@ returns-in_ok-text-in-Atom-clause-replies g c =
     let text = text-is names c.in-Atom.name c.text.result.now c.text.ensures ∙ sym c.in_ok-text-in-Atom.ensures.ok ∙ sym c.as_str.ensures.value in
     let same : atom_list_answer form (argument 0 t) (argument 1 t) k ≡ equate_list list (text_elements form c.as_str.result.now) =
     ap₂ (λ (a l : Tree). atom_list_answer form a l k) (sym c.arg-atom.ensures.value ∙ c.in-Atom.ensures.shape.1) (sym c.arg-list.ensures.value)
-    ∙ c.in_ok-see_partial_list-in-Atom.ensures.goes_on _ ∙ ap (λ (bytes : List ℕ). equate_list list (text_elements form bytes)) text in
+    ∙ ap (λ (b : Bool). if b then equate_list list (text_elements form (text_at names c.in-Atom.name)) else Raise (type_error (codes "list") list k)) c.in_ok-see_partial_list-in-Atom.ensures.partial ∙ ap (λ (bytes : List ℕ). equate_list list (text_elements form bytes)) text in
     subst (λ (a : Answer). IsReply p q a c.equate_spelled.result) (sym same) c.equate_spelled.ensures.replies

@@ -4,7 +4,7 @@ use Rattle.std.specs.List.{list_any}
 use Rattle.iso_atoms.specs.Texts.{EachOnce}
 use Rattle.iso_model.specs.Terms.Types.{is_variable}
 use Rattle.iso_store_core.specs.Presents.{meaning}
-use Rattle.iso_storage.proofs.declarations.has_unbound.Given as goal
+use Rattle.iso_lib_core.proofs.unbound.has_unbound.Given as goal
 
 abbrev pub invariant-loop-word : goal.invariant-loop-word
 invariant-loop-word g l = record {
