@@ -185,7 +185,7 @@ module _ {S W M : Type 0} (names : S → List (List ℕ)) (present : S → Prese
     -- the goal came to clauses that are shown, by the contract of `store_goal`
     module _ (r : Result (Stored W) Fault)
         (told : (w : World) → IsProgram (names e.store) (contents e.db) e.callables.items w.database
-            → IsStored (names store) (present store) db callables.items w (storage_settled of (meaning (present e.store) goal) (present e.store).next w) r)
+        → IsStored (names store) (present store) db callables.items w (storage_settled of (meaning (present e.store) goal) (present e.store).next w) r)
         (kept : (m : databases.Database) → IsProgram (names e.store) (contents e.db) e.callables.items m → UnlessDone r (IsProgram (names store) (contents db) callables.items m))
         (unbound : UnlessStopped r (IsUnbound (present e.store) (present store))) where
       program_before : IsProgram (names e.store) (contents e.db) e.callables.items s.world.database
@@ -216,4 +216,3 @@ module _ {S W M : Type 0} (names : S → List (List ℕ)) (present : S → Prese
             same = shows_is same_program bound goal_settled shown is;
             longer = shows_longer same_program bound goal_settled shown is;
           }
-

@@ -6,8 +6,8 @@ ghost use Rattle.iso_model.specs.Search.Walker.{State, Alternative, AsIs, Again,
 
 use super::plain::{Move, Plain};
 use iso_model::Pause;
-use iso_plain_core::left_clauses::next_left;
 use iso_plain_core::choices::{Attempt, Left};
+use iso_plain_core::left_clauses::next_left;
 use iso_plain_core::members::{Now, at};
 use iso_store_core::{Store, StoreFault};
 

@@ -9,9 +9,9 @@ ghost use Rattle.iso_model.specs.Search.Walker.{State, Member, fails, tried, tri
 
 use super::plain::Plain;
 use iso_db::{ClauseId, View};
+use iso_plain_core::choices::{Attempt, Left, keep_choice};
 use iso_plain_core::entries;
 use iso_plain_core::left_clauses::next_left;
-use iso_plain_core::choices::{Attempt, Left, keep_choice};
 use iso_plain_core::members::{at, behind};
 use iso_store_core::{Store, StoreFault};
 use std::alloc::AllocError;

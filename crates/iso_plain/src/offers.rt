@@ -13,9 +13,9 @@ ghost use Rattle.iso_plain_core.specs.declared.choices.Choice as kept;
 use super::plain::{Move, Plain};
 use iso_lib::{Fault, Settled, settle};
 use iso_model::{Limit, Pause, Setting};
-use iso_plain_core::offers::{self, Offers, Row};
 use iso_plain_core::choices::{Left, keep_choice, take_offer};
 use iso_plain_core::members::{Now, at};
+use iso_plain_core::offers::{self, Offers, Row};
 use iso_store_core::{Store, StoreFault};
 use std::alloc::AllocError;
 

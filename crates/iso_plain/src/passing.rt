@@ -8,9 +8,9 @@ ghost use Rattle.iso_model.specs.Search.Databases as databases;
 ghost use Rattle.iso_model.specs.Search.Walker.{State, Member, tried_clause};
 
 use super::plain::Plain;
+use iso_plain_core::choices::Attempt;
 use iso_plain_core::firsts::{first_shape, misses};
 use iso_plain_core::left_clauses::next_left;
-use iso_plain_core::choices::Attempt;
 use iso_plain_core::members::Now;
 use iso_store_core::{Store, StoreFault};
 

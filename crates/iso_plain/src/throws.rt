@@ -13,8 +13,8 @@ use super::plain::{Move, Plain};
 use iso_lib::unify_copy;
 use iso_model::Ball;
 use iso_plain_core::bodies::Node;
-use iso_plain_core::conversion::call_of;
 use iso_plain_core::choices::Left;
+use iso_plain_core::conversion::call_of;
 use iso_plain_core::members::{Link, Now, Todo};
 use iso_store_core::{Store, StoreFault};
 

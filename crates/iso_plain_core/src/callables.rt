@@ -104,11 +104,7 @@ fn insert_built_in<S: Store>(
 }
 
 /// What goals of these procedures of the language itself call, whose names get atoms. The error is that memory was refused.
-fn of_rows<S: Store>(
-    alloc: Global,
-    store: &mut S,
-    rows: &[Row],
-) -> Result<Callables, AllocError>
+fn of_rows<S: Store>(alloc: Global, store: &mut S, rows: &[Row]) -> Result<Callables, AllocError>
     ensures found { IfOk result (λ callables. Indexes (S.names store.new) callables.items (callee_among rows.now)) }
     ensures present { S.present store.new ≡ S.present store.old }
 {
@@ -120,10 +116,7 @@ fn of_rows<S: Store>(
 }
 
 /// What goals of the language's own procedures call. The error is that memory was refused.
-pub fn of_built_ins<S: Store>(
-    alloc: Global,
-    store: &mut S,
-) -> Result<Callables, AllocError>
+pub fn of_built_ins<S: Store>(alloc: Global, store: &mut S) -> Result<Callables, AllocError>
     ensures found { IfOk result (λ rows. Indexes (S.names store.new) rows.items (λ k. option_map Callee.BuiltIn (built_in k))) }
     ensures present { S.present store.new ≡ S.present store.old }
 {

@@ -5,8 +5,8 @@
 pub mod bodies;
 pub mod callables;
 pub mod clauses;
-pub mod procedures;
 pub mod patterns;
+pub mod procedures;
 // goals, converted and answered in the store, and the parts of the engine
 pub mod choices;
 pub mod controls;

@@ -5,7 +5,7 @@
 mod plain_sessions;
 
 pub use iso_session_core::{
-    EngineName, Ended, Fault, Obstacle, TextFault, Words, WordsFault, read_text, read_words,
+    Ended, EngineName, Fault, Obstacle, TextFault, Words, WordsFault, read_text, read_words,
     session_on, status_of, words,
 };
 pub use plain_sessions::session;

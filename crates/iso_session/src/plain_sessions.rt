@@ -9,7 +9,7 @@ ghost use Rattle.iso_session_core.specs.Progress.{outcome_of};
 
 use iso_model::{Engine, Limits, NoMemory};
 use iso_plain::plain::Plain;
-use iso_session_core::{EngineName, Ended, Fault, refused_session, session_on};
+use iso_session_core::{Ended, EngineName, Fault, refused_session, session_on};
 use iso_store::{Heap, Store};
 use std::alloc::Global;
 use std::io::Write;

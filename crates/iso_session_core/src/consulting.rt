@@ -55,7 +55,12 @@ fn add_clause<E: Engine, W: Write>(
 }
 
 /// Keeps the goal of the K-th term. The error is that memory was refused; the kept goals are as they were then.
-fn keep_goal(alloc: Global, number: u64, goal: &Term, kept: &mut Vec<Kept>) -> Result<(), AllocError>
+fn keep_goal(
+    alloc: Global,
+    number: u64,
+    goal: &Term,
+    kept: &mut Vec<Kept>,
+) -> Result<(), AllocError>
     requires fits { arities_fit (term_of goal.now) ≡ true }
     requires numbered { IsNumbered (term_of goal.now) }
     ensures ok { OnOk result ((goals : List KeptGoal) → AreKept kept.old.items goals → (k : ℕ) → IsCount number k

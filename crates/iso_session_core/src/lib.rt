@@ -18,5 +18,5 @@ pub mod words;
 
 pub use files::{Obstacle, TextFault, read_text};
 pub use sessions::{refused_session, session_on};
-pub use statuses::{EngineName, Ended, Fault, status_of};
+pub use statuses::{Ended, EngineName, Fault, status_of};
 pub use words::{Words, WordsFault, read_words};

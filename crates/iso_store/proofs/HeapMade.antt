@@ -60,11 +60,14 @@ word-along names cs ds (Int z) h = h
 word-along names cs ds (Atom a) h = h
 
 -- an argument more
+pub word-pushed : (cs now new : List Cell) (us vs : List HeapWord) (w : HeapWord) → now ≡ cs ++ map Argument us → new ≡ now ++ Argument w ∷ [] → vs ≡ us ++ w ∷ [] → new ≡ cs ++ map Argument vs
+word-pushed cs now new us vs w before more longer =
+    more ∙ ap (λ xs. xs ++ Argument w ∷ []) before ∙ append_assoc cs (map Argument us) (Argument w ∷ [])
+    ∙ ap (λ xs. cs ++ xs) (sym (map-append Argument us (w ∷ [])) ∙ ap (map Argument) (sym longer))
+
 pub argument-pushed : (cs now new : List Cell) (ws : List HeapWord) (k : ℕ) (w : HeapWord) → now ≡ cs ++ map Argument (take k ws) → new ≡ now ++ Argument w ∷ [] → k < length ws → get_or ws k w ≡ w → new ≡ cs ++ map Argument (take (k + 1) ws)
 argument-pushed cs now new ws k w before more below is =
-    let longer : take (k + 1) ws ≡ take k ws ++ w ∷ [] = take_more ws k w below ∙ ap (λ v. take k ws ++ v ∷ []) is in
-    more ∙ ap (λ xs. xs ++ Argument w ∷ []) before ∙ append_assoc cs (map Argument (take k ws)) (Argument w ∷ [])
-    ∙ ap (λ xs. cs ++ xs) (sym (map-append Argument (take k ws) (w ∷ [])) ∙ ap (map Argument) (sym longer))
+    word-pushed cs now new (take k ws) (take (k + 1) ws) w before more (take_more ws k w below ∙ ap (λ v. take k ws ++ v ∷ []) is)
 
 pub argument-holds : (names : List (List ℕ)) (cs now : List Cell) (ws : List HeapWord) (k : ℕ) (w : HeapWord) (ds : List Cell) → now ≡ cs ++ ds → All (λ v. is_word names cs v ≡ true) ws → k < length ws → get_or ws k w ≡ w → is_word names now w ≡ true
 argument-holds names cs now ws k w ds before all below is =

@@ -51,6 +51,7 @@ pub mod HeadCells
 pub mod ReadOn
 pub mod ReadShapes
 pub mod ReadUnread
+pub mod Picked
 pub mod PartShows
 pub mod ReadHeads
 pub mod WordLemmas

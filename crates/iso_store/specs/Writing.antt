@@ -1,5 +1,5 @@
 -- What is left of writing a term out part by part, and what a part needs and takes.
-use Rattle.std.specs.Prelude.{◌≡◌, ℕ, ◌<◌, ◌-◌, List, [], ◌∷◌, map}
+use Rattle.std.specs.Prelude.{◌≡◌, ℕ, ◌<◌, ◌-◌, List, [], ◌∷◌, ◌++◌, map, slice_get, Option, Some, None}
 use Rattle.std.specs.Borrow.{Bor}
 use Rattle.iso_model.specs.declared.terms.Term.{Term}
 use Rattle.iso_model.specs.Terms.Trees.{Tree, Variable}
@@ -23,6 +23,28 @@ IsReady variables count (Place k) = k < variables
 IsReady variables count (Number z) = Unit {0}
 IsReady variables count (Atom a) = Unit {0}
 IsReady variables count (Compound a n) = (0 < taken count n) × (taken count n < 256)
+
+-- the part is a variable, which has a place among so many
+abbrev pub IsPlace : ℕ → Part → Type 0
+IsPlace variables (Place k) = k < variables
+IsPlace variables _ = ⊥
+
+abbrev pub IsVariable : Part → Type 0
+IsVariable (Place k) = Unit {0}
+IsVariable _ = ⊥
+
+-- a word that is there, as a list
+abbrev pub word_there : {W : Type 0} → Option W → List W
+word_there (Some w) = w ∷ []
+word_there None = []
+
+-- the words at the places of the variables among the parts
+abbrev pub picked : {W : Type 0} → List W → List Part → List W
+picked ws [] = []
+picked ws (Place k ∷ ks) = word_there (slice_get ws k) ++ picked ws ks
+picked ws (Number z ∷ ks) = picked ws ks
+picked ws (Atom a ∷ ks) = picked ws ks
+picked ws (Compound a n ∷ ks) = picked ws ks
 
 -- the part makes this one term of the terms before it, where s gives the terms of the places
 abbrev pub MakesOne : List (List ℕ) → Subst → Part → List Tree → Tree → Type 0

@@ -10,11 +10,12 @@ ghost use Rattle.iso_store_core.specs.Presents.{Present, Holds, meaning, KeepsWo
 ghost use Rattle.iso_store_core.specs.Arguments.{arity, argument};
 ghost use Rattle.iso_store_core.specs.Shapes.{IsShape};
 ghost use Rattle.iso_store.specs.Meetings.{IsYounger};
+ghost use Rattle.iso_store.specs.Writing.{IsPlace, picked};
 
 use super::scratch::Scratch;
 use iso_atoms::Atom;
 use iso_model::NoMemory;
-use iso_store_core::{Shape, StoreFault};
+use iso_store_core::{Part, Shape, StoreFault};
 use std::alloc::Global;
 
 /// Words that stand for terms under one substitution, which grows by one binding at a time.
@@ -159,6 +160,25 @@ pub(crate) trait Cells {
         ensures made { IfOk result (λ w. Makes (present self.old) (present self.new) w (Apply (text_at (names self.old) name) (row (map (present self.old).term arguments.now)))) }
         ensures numbers { OnOk result (KeepsNumbers (present self.old) (present self.new)) }
         ensures cells { Grows (present self.old) (present self.new) (width (length arguments.now)) }
+        ensures full { result ≡ Err StoreFault.Full → full self.new }
+        ensures names { names self.new ≡ names self.old }
+        ensures marks { KeepsMarks (stands self.old) (stands self.new) };
+
+    /// A compound whose arguments are the words at the places of these 1 to 255 parts, each of which is a variable.
+    fn compound_of(
+        &mut self,
+        name: Atom,
+        places: &[Part],
+        variables: &[Self::Word],
+    ) -> Result<Self::Word, StoreFault>
+        requires name { name < length (names self.old) }
+        requires some { 0 < length places.now }
+        requires few { length places.now < 256 }
+        requires places { All (IsPlace (length variables.now)) places.now }
+        requires variables { All (λ w. Holds (present self.old) w) variables.now }
+        ensures made { IfOk result (λ w. Makes (present self.old) (present self.new) w (Apply (text_at (names self.old) name) (row (map (present self.old).term (picked variables.now places.now))))) }
+        ensures numbers { OnOk result (KeepsNumbers (present self.old) (present self.new)) }
+        ensures cells { Grows (present self.old) (present self.new) (width (length places.now)) }
         ensures full { result ≡ Err StoreFault.Full → full self.new }
         ensures names { names self.new ≡ names self.old }
         ensures marks { KeepsMarks (stands self.old) (stands self.new) };

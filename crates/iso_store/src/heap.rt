@@ -8,6 +8,7 @@ ghost use Rattle.iso_store.specs.HeapStores.{IsHeap, HeapStandsFor, HeapLeadsBac
 ghost use Rattle.iso_model.specs.Terms.Sizes.{size};
 ghost use Rattle.iso_store_core.specs.Presents.{KeepsWords, KeepsMarks};
 ghost use Rattle.iso_store.specs.HeapLemmas.{place_term};
+ghost use Rattle.iso_store.specs.Writing.{IsPlace, picked};
 ghost use Rattle.iso_store.specs.HeapUntouched.{heap-untouched};
 ghost use Rattle.iso_store.specs.HeapRoom.{full-used};
 ghost use Rattle.iso_store.specs.HeapProps.{IsBefore-prop, Settles-prop};
@@ -31,7 +32,7 @@ use super::variables::variables;
 use iso_area::Full;
 use iso_atoms::{Atom, Atoms};
 use iso_model::{NoMemory, Term};
-use iso_store_core::{Pattern, Shape, Store, StoreFault};
+use iso_store_core::{Part, Pattern, Shape, Store, StoreFault};
 use std::alloc::Global;
 use std::cmp::Ordering;
 use std::mem;
@@ -166,6 +167,37 @@ impl Heap {
         let mut done = 0;
         while done < arguments.len() {
             self.push(Cell::Argument(arguments[done]))?;
+            done += 1;
+        }
+        Ok(())
+    }
+
+    /// Pushes the words at the places of these parts, each a variable, as arguments; some of them where there is no room for all.
+    fn push_places(&mut self, places: &[Part], variables: &[HeapWord]) -> Result<(), StoreFault>
+        requires places { All (IsPlace (length variables.now)) places.now }
+        requires variables { All (λ w. is_word (take self.old.named self.old.atoms) self.old.area.low w ≡ true) variables.now }
+        ensures pushed { OnOk result (self.new.area.low ≡ self.old.area.low ++ map Cell.Argument (picked variables.now places.now)) }
+        ensures kept { take (length self.old.area.low) self.new.area.low ≡ self.old.area.low }
+        ensures more { length self.old.area.low ≤ length self.new.area.low }
+        ensures few { length self.new.area.low ≤ length self.old.area.low + length places.now }
+        ensures within { length self.old.area.low ≤ self.old.area.capacity → length self.new.area.low ≤ self.new.area.capacity }
+        ensures substitution { heap_substitution (take self.new.named self.new.atoms) self.new.area.low ≡ heap_substitution (take self.old.named self.old.atoms) self.old.area.low }
+        ensures taken { (n : ℕ) → list_any (has_cell_number n) self.new.area.low ≡ list_any (has_cell_number n) self.old.area.low }
+        ensures high { self.new.area.high ≡ self.old.area.high }
+        ensures capacity { self.new.area.capacity ≡ self.old.area.capacity }
+        ensures atoms { self.new.atoms ≡ self.old.atoms }
+        ensures named { self.new.named ≡ self.old.named }
+        ensures next { self.new.next ≡ self.old.next }
+        ensures newest { self.new.newest ≡ self.old.newest }
+        ensures full { result ≡ Err StoreFault.Full → self.new.area.capacity ≤ length self.new.area.low + length self.new.area.high }
+    {
+        let mut done = 0;
+        while done < places.len() {
+            let part = places[done];
+            let Part::Variable(place) = part else {
+                unreachable!()
+            };
+            self.push(Cell::Argument(variables[place]))?;
             done += 1;
         }
         Ok(())
@@ -332,6 +364,18 @@ impl Cells for Heap {
         self.named = self.atoms.len();
         self.push_arguments(arguments)?;
         let place = self.push(Cell::Functor(name, arguments.len()))?;
+        Ok(HeapWord::Structure(place))
+    }
+
+    fn compound_of(
+        &mut self,
+        name: Atom,
+        places: &[Part],
+        variables: &[HeapWord],
+    ) -> Result<HeapWord, StoreFault> {
+        self.named = self.atoms.len();
+        self.push_places(places, variables)?;
+        let place = self.push(Cell::Functor(name, places.len()))?;
         Ok(HeapWord::Structure(place))
     }
 

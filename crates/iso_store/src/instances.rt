@@ -8,10 +8,12 @@ ghost use Rattle.iso_model.specs.Terms.Substitutions.{apply};
 ghost use Rattle.iso_store_core.specs.Presents.{Holds, Gathers, Makes, KeepsNumbers, Grows, KeepsMarks};
 ghost use Rattle.iso_store_core.specs.Copying.{cells_of};
 ghost use Rattle.iso_store_core.specs.Patterns.{IsNamed, IsPattern, HasPlaces, part_step, at_places};
-ghost use Rattle.iso_store.specs.Writing.{IsReady, MakesOne, part_cells, taken};
+ghost use Rattle.iso_store.specs.Writing.{IsReady, IsPlace, IsVariable, MakesOne, part_cells, picked, taken};
+ghost use Rattle.iso_store_core.specs.declared.patterns.Part.TheVariants as part;
 
 use super::cells::Cells;
 use iso_atoms::Atom;
+use iso_model::NoMemory;
 use iso_store_core::{Part, Pattern, StoreFault};
 use std::alloc::Global;
 
@@ -108,6 +110,61 @@ fn make_last<C: Cells>(
     }
 }
 
+/// Whether all of the parts are variables.
+fn are_variables(parts: &[Part]) -> bool
+    ensures { result ≡ true → All IsVariable parts.now }
+{
+    for part in parts {
+        if !matches!(part, Part::Variable(_)) {
+            return false;
+        }
+    }
+    true
+}
+
+/// The words at the places of the parts, each of which is a variable. The error is that memory was refused.
+pub(crate) fn pick_words<W: Copy>(
+    alloc: Global,
+    places: &[Part],
+    variables: &[W],
+) -> Result<Vec<W>, NoMemory>
+    requires { All (IsPlace (length variables.now)) places.now }
+    ensures { IfOk result (λ words. words.items ≡ picked variables.now places.now) }
+{
+    let mut words = Vec::with_capacity(alloc, places.len())?;
+    for part in places {
+        let Part::Variable(place) = part else {
+            unreachable!()
+        };
+        words.push(variables[*place])?;
+    }
+    Ok(words)
+}
+
+/// The term of a last part, a compound of this name and so many arguments, each of which is the variable before it.
+fn make_flat<C: Cells>(
+    store: &mut C,
+    name: Atom,
+    count: usize,
+    leaves: &[Part],
+    variables: &[C::Word],
+) -> Result<C::Word, StoreFault>
+    requires named { IsNamed (C.names store.old) (part.Compound name count) }
+    requires ready { IsReady (length variables.now) (length leaves.now) (part.Compound name count) }
+    requires leaves { All (IsPlace (length variables.now)) leaves.now }
+    requires one { (t : Tree) × MakesOne (C.names store.old) (at_places (map (C.present store.old).term variables.now)) (part.Compound name count) (map (C.present store.old).term (picked variables.now leaves.now)) t }
+    requires variables { All (λ w. Holds (C.present store.old) w) variables.now }
+    ensures made { (t : Tree) → MakesOne (C.names store.old) (at_places (map (C.present store.old).term variables.now)) (part.Compound name count) (map (C.present store.old).term (picked variables.now leaves.now)) t
+        → IfOk result (λ w. Makes (C.present store.old) (C.present store.new) w t) }
+    ensures numbers { OnOk result (KeepsNumbers (C.present store.old) (C.present store.new)) }
+    ensures cells { Grows (C.present store.old) (C.present store.new) (part_cells C.atomic C.width (length leaves.now) (part.Compound name count)) }
+    ensures full { result ≡ Err StoreFault.Full → C.full store.new }
+    ensures names { C.names store.new ≡ C.names store.old }
+    ensures marks { KeepsMarks (C.stands store.old) (C.stands store.new) }
+{
+    store.compound_of(name, leaves, variables)
+}
+
 /// The term of the parts, with the word at its place for each variable, and this list for the words of its parts.
 pub(crate) fn make_parts<C: Cells>(
     store: &mut C,
@@ -125,8 +182,13 @@ pub(crate) fn make_parts<C: Cells>(
     ensures names { C.names store.new ≡ C.names store.old }
     ensures marks { KeepsMarks (C.stands store.old) (C.stands store.new) }
 {
-    words.clear();
     let last = parts.len() - 1;
+    if let Part::Compound(name, count) = parts[last] {
+        if are_variables(&parts[..last]) {
+            return make_flat(store, name, count, &parts[..last], variables);
+        }
+    }
+    words.clear();
     for part in &parts[..last] {
         // Most parts are variables, which need no more than this.
         if let Part::Variable(place) = part {

@@ -13,7 +13,7 @@ use super::cells::Cells;
 use super::copies::{build, copy_out};
 use super::duplicates::duplicate;
 use super::heads::unify_head;
-use super::instances::instantiate;
+use super::instances::{instantiate, pick_words};
 use super::node_marks::{NodesMark, unwind};
 use super::order::compare;
 use super::patterns::{Places, written};
@@ -23,7 +23,7 @@ use super::unify::unify;
 use super::variables::variables;
 use iso_atoms::{Atom, Atoms};
 use iso_model::{NoMemory, Term};
-use iso_store_core::{Pattern, Shape, Store, StoreFault};
+use iso_store_core::{Part, Pattern, Shape, Store, StoreFault};
 use std::alloc::Global;
 use std::cmp::Ordering;
 use std::mem;
@@ -229,6 +229,16 @@ impl Cells for Nodes {
             return Err(StoreFault::NoMemory);
         };
         self.push(Node::Compound(name, arguments))
+    }
+
+    fn compound_of(
+        &mut self,
+        name: Atom,
+        places: &[Part],
+        variables: &[usize],
+    ) -> Result<usize, StoreFault> {
+        let words = pick_words(self.alloc, places, variables)?;
+        Cells::compound(self, name, words.as_slice())
     }
 
     fn variable(&mut self, number: u64) -> Result<usize, StoreFault> {

@@ -73,7 +73,7 @@ show-requires g c =
     let new = c.store_goal.new in
     let met = c.store_goal.ensures in
     let told = comes_to_show g.S.Store.names g.S.Store.present g.S.Store.stands g.S.Store.older e c.args.row c.args.goal s c.args.place h new.store new.db new.callables met.marks met.names met.views met.clauses c.store_goal.result met.stored met.kept met.unbound
-        c.in-Ok-Shows.shown (c.in-Ok-Shows.is ∙ ap Ok c.in-Ok-Shows.field-0-is) in
+    c.in-Ok-Shows.shown (c.in-Ok-Shows.is ∙ ap Ok c.in-Ok-Shows.field-0-is) in
     (s, told.key, told.first, told.others, told.shows)
 
 pub returns-in-Ok-Shows-clause-called : goal.returns-in-Ok-Shows-clause-called
@@ -82,7 +82,7 @@ returns-in-Ok-Shows-clause-called g c = λ s h.
     let new = c.store_goal.new in
     let met = c.store_goal.ensures in
     let told = comes_to_show g.S.Store.names g.S.Store.present g.S.Store.stands g.S.Store.older e c.args.row c.args.goal s c.args.place h new.store new.db new.callables met.marks met.names met.views met.clauses c.store_goal.result met.stored met.kept met.unbound
-        c.in-Ok-Shows.shown (c.in-Ok-Shows.is ∙ ap Ok c.in-Ok-Shows.field-0-is) in
+    c.in-Ok-Shows.shown (c.in-Ok-Shows.is ∙ ap Ok c.in-Ok-Shows.field-0-is) in
     subst (λ (v : State). IfOk c.show.result (λ m. WasTried g.S.Store.names g.S.Store.present g.S.Store.stands g.S.Store.older m c.show.new.self s v)) told.same (c.show.ensures.called s told.key told.first told.others told.shows))
 
 pub returns-in-Ok-Shows-clause-kept : goal.returns-in-Ok-Shows-clause-kept
@@ -91,7 +91,7 @@ returns-in-Ok-Shows-clause-kept g c = λ s h.
     let new = c.store_goal.new in
     let met = c.store_goal.ensures in
     let told = comes_to_show g.S.Store.names g.S.Store.present g.S.Store.stands g.S.Store.older e c.args.row c.args.goal s c.args.place h new.store new.db new.callables met.marks met.names met.views met.clauses c.store_goal.result met.stored met.kept met.unbound
-        c.in-Ok-Shows.shown (c.in-Ok-Shows.is ∙ ap Ok c.in-Ok-Shows.field-0-is) in
+    c.in-Ok-Shows.shown (c.in-Ok-Shows.is ∙ ap Ok c.in-Ok-Shows.field-0-is) in
     on_err_weaker c.show.result inr (c.show.ensures.kept s told.key told.first told.others told.shows))
 
 pub returns-in-Ok-Shows-clause-frames : goal.returns-in-Ok-Shows-clause-frames
@@ -100,7 +100,7 @@ returns-in-Ok-Shows-clause-frames g c = λ s h.
     let new = c.store_goal.new in
     let met = c.store_goal.ensures in
     let told = comes_to_show g.S.Store.names g.S.Store.present g.S.Store.stands g.S.Store.older e c.args.row c.args.goal s c.args.place h new.store new.db new.callables met.marks met.names met.views met.clauses c.store_goal.result met.stored met.kept met.unbound
-        c.in-Ok-Shows.shown (c.in-Ok-Shows.is ∙ ap Ok c.in-Ok-Shows.field-0-is) in
+    c.in-Ok-Shows.shown (c.in-Ok-Shows.is ∙ ap Ok c.in-Ok-Shows.field-0-is) in
     result_full c.show.result (λ full. (full.0, told.longer full.1)) (c.show.ensures.frames s told.key told.first told.others told.shows))
 
 pub returns-in-Err-Raise-clause-called : goal.returns-in-Err-Raise-clause-called
