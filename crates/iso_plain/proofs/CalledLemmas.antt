@@ -1,5 +1,5 @@
 -- What a goal calls, by its name and arity.
-use Rattle.std.proofs.Common.{◌≡◌, ℕ, List, Some, None, Option, option_map, is_some, true, false, refl, ap, sym, ◌∙◌, subst, inl, inr, IfOk, Result, Ok, Err, Vec, Global}
+use Rattle.std.proofs.Common.{◌≡◌, ℕ, List, Some, None, Option, option_map, is_some, true, false, refl, ap, sym, ◌∙◌, subst, inl, inr, Vec, Global}
 use Rattle.std.specs.List.{slice_get}
 use Rattle.std.specs.Option.{option_and_then}
 use Rattle.iso_atoms.specs.Texts.{EachOnce, text_at}
@@ -55,7 +55,7 @@ pub named_begins : (leaves : Leaving) (w : World) (k : Key) (cs : List databases
 named_begins leaves w k cs (call.BuiltIn b) none found is = absurd is
 named_begins leaves w k cs (call.User clause later) none found is = (none, (cs, found, is))
 named_begins leaves w k cs call.Fails none found is = (none, inl (found ∙ ap Some is))
-named_begins leaves w k cs (call.Unknown ball) none found is = absurd is
+named_begins leaves w k cs call.Unknown none found is = absurd is
 
 pub named_calls : (names : List (List ℕ)) (d : Db Clause) (w : World) (t : Tree) (k : Key) (c : Called) → key_of t ≡ Some k → IsNamed (AreLeft names d) w k c → IsCalled (AreLeft names d) w t c
 named_calls names d w t k (call.BuiltIn b) named h = record { key = k; named = named; found = h }
@@ -70,12 +70,7 @@ named_calls names d w t k (call.User clause later) named h =
       left = subst (λ (cs : List databases.Clause). AreLeft names d clause later cs) left.is left;
     }
 named_calls names d w t k call.Fails named h = inr (k, record { named = named; none = h.0 }, h.1)
-named_calls names d w t k (call.Unknown ball) named h = (k, record { named = named; none = h.0 }, h.1.0, h.1.1, h.2)
-
--- The goal that bindings have given this name and arity calls what these call.
-pub calls_shown : {E : Type 0} (names : List (List ℕ)) (d : Db Clause) (w : World) (v : Tree) (k : Key) (r : Result Called E) → key_of v ≡ Some k → IfOk r (IsNamed (AreLeft names d) w k) → IfOk r (IsCalled (AreLeft names d) w v)
-calls_shown names d w v k (Ok c) shown named = named_calls names d w v k c shown named
-calls_shown names d w v k (Err e) shown named = tt
+named_calls names d w t k call.Unknown named h = (k, record { named = named; none = h.0 }, h.1)
 
 -- ---- what is found by an atom
 

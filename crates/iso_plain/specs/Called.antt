@@ -3,8 +3,6 @@ use Rattle.std.specs.Prelude.{◌≡◌, ℕ, List, [], ◌∷◌, Some, None, �
 use Rattle.iso_ops.specs.declared.settings.Unknown.{Unknown}
 use Rattle.iso_ops.specs.declared.settings.Unknown.TheVariants as on_unknown
 use Rattle.iso_model.specs.Terms.Trees.{Tree}
-use Rattle.iso_model.specs.Terms.TermOf.{term_of}
-use Rattle.iso_model.specs.Search.Errors.{existence_error}
 use Rattle.iso_model.specs.Search.Databases as databases
 use Rattle.iso_model.specs.Search.Databases.{Key, key_of, clauses_at}
 use Rattle.iso_model.specs.Search.BuiltIns.{built_in}
@@ -20,7 +18,7 @@ abbrev pub Begins : Leaving → List databases.Clause → Called → Type 0
 Begins leaves cs (call.BuiltIn b) = ⊥
 Begins leaves cs (call.User clause later) = leaves clause later cs
 Begins leaves cs call.Fails = cs ≡ []
-Begins leaves cs (call.Unknown ball) = ⊥
+Begins leaves cs call.Unknown = ⊥
 
 -- no procedure has this key, and the flag unknown says this
 abbrev pub IsUnknown : World → Key → Unknown → Type 0
@@ -31,7 +29,7 @@ abbrev pub IsNamed : Leaving → World → Key → Called → Type 0
 IsNamed leaves w k (call.BuiltIn b) = built_in k ≡ Some b
 IsNamed leaves w k (call.User clause later) = (built_in k ≡ None) × ((cs : List databases.Clause) × (clauses_at w.database.procedures k ≡ Some cs) × leaves clause later cs)
 IsNamed leaves w k call.Fails = (built_in k ≡ None) × ((clauses_at w.database.procedures k ≡ Some []) ⊎ IsUnknown w k on_unknown.Fail)
-IsNamed leaves w k (call.Unknown ball) = (built_in k ≡ None) × IsUnknown w k on_unknown.Error × (term_of ball.term ≡ existence_error k)
+IsNamed leaves w k call.Unknown = (built_in k ≡ None) × IsUnknown w k on_unknown.Error
 
 -- The goal calls a procedure with some clauses: the one of this number comes next, and then those that the view gives.
 pub record CallsAt (leaves : Leaving) (w : World) (t : Tree) (clause : ℕ) (later : View) : Type 0 where
@@ -51,4 +49,4 @@ abbrev pub IsCalled : Leaving → World → Tree → Called → Type 0
 IsCalled leaves w t (call.BuiltIn b) = IsBuiltIn t b
 IsCalled leaves w t (call.User clause later) = CallsAt leaves w t clause later
 IsCalled leaves w t call.Fails = FailsAt w t
-IsCalled leaves w t (call.Unknown ball) = (k : Key) × IsUser t k × (clauses_at w.database.procedures k ≡ None) × (w.flags.unknown ≡ on_unknown.Error) × (term_of ball.term ≡ existence_error k)
+IsCalled leaves w t call.Unknown = (k : Key) × IsUser t k × IsUnknown w k on_unknown.Error

@@ -1,6 +1,7 @@
 pub mod Worlds
 pub mod EngineStates
 pub mod Limits
+pub mod Nexts
 pub mod Stays
 pub mod Catches
 pub mod Gathers

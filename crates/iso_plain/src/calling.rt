@@ -4,6 +4,7 @@ ghost use Rattle.iso_atoms.specs.Texts.{KeepsTexts};
 ghost use Rattle.iso_model.specs.Terms.Trees.{Tree};
 ghost use Rattle.iso_model.specs.Search.Databases as databases;
 ghost use Rattle.iso_db.specs.Presents.{remaining};
+ghost use Rattle.iso_db.specs.declared.views.View.{View};
 ghost use Rattle.iso_plain_core.specs.declared.choices.Choice as kept;
 ghost use Rattle.iso_model.specs.Search.Walker.{State, Member, fails, tried, tried_clause, with_others};
 
@@ -23,33 +24,40 @@ impl<S: Store + Drop> Plain<S> {
     ghost use Rattle.iso_model.specs.Search.Engines.{IsAwake};
     ghost use Rattle.iso_plain_core.specs.declared.members.Now.TheVariants as now;
 
-    /// Enters the clause, with this cut mark; where its head doesn't unify with the goal the engine fails next (7.7.10).
-    pub(crate) fn enter(&mut self, attempt: Attempt<S::Word>, mark: usize) -> Result<(), StoreFault>
-        requires { (s : State) × (call : Tree) × (c : databases.Clause) × (cs : List databases.Clause) × (behind : List Member)
-            × Calls S.names S.present S.stands S.older self.old attempt s call c cs behind }
-        ensures tried { (s : State) (call : Tree) (c : databases.Clause) (cs : List databases.Clause) (behind : List Member)
-            → Calls S.names S.present S.stands S.older self.old attempt s call c cs behind
+    /// Enters the clause for the goal before the members from this place on, with this cut mark; where its head doesn't unify with the goal
+    /// the engine fails next (7.7.10).
+    pub(crate) fn enter(
+        &mut self,
+        clause: ClauseId,
+        goal: S::Word,
+        rest: Option<usize>,
+        mark: usize,
+    ) -> Result<(), StoreFault>
+        requires { (s : State) × (call : Tree) × (c : databases.Clause) × (cs : List databases.Clause) × (behind : List Member) × (later : View)
+            × Calls S.names S.present S.stands S.older self.old (record { clause = clause; later = later; goal = goal; rest = rest }) s call c cs behind }
+        ensures tried { (s : State) (call : Tree) (c : databases.Clause) (cs : List databases.Clause) (behind : List Member) (later : View)
+            → Calls S.names S.present S.stands S.older self.old (record { clause = clause; later = later; goal = goal; rest = rest }) s call c cs behind
             → OnOk result (StandsAs S.names S.present S.stands S.older self.new (tried_clause call c mark behind s)) }
-        ensures kept { (s : State) (call : Tree) (c : databases.Clause) (cs : List databases.Clause) (behind : List Member)
-            → Calls S.names S.present S.stands S.older self.old attempt s call c cs behind
+        ensures kept { (s : State) (call : Tree) (c : databases.Clause) (cs : List databases.Clause) (behind : List Member) (later : View)
+            → Calls S.names S.present S.stands S.older self.old (record { clause = clause; later = later; goal = goal; rest = rest }) s call c cs behind
             → OnErr result (Keeps S.names S.present S.stands S.older self.new s.world s.stack) }
         ensures steps { self.new.steps ≡ self.old.steps }
         ensures awake { OnOk result (IsAwake (phase_of self.new.now)) }
         ensures full { result ≡ Err StoreFault.Full → S.full self.new.store }
         ensures choices { self.new.choices ≡ self.old.choices }
         ensures members { self.new.members ≡ self.old.members }
-        ensures cost { OnOk result (now_cost (member_costs self.old.members.items) self.new.now ≤ body_cost most (rest_cost (member_costs self.old.members.items) attempt.rest)) }
+        ensures cost { OnOk result (now_cost (member_costs self.old.members.items) self.new.now ≤ body_cost most (rest_cost (member_costs self.old.members.items) rest)) }
         ensures stays { Stays S.names self.old self.new }
     {
-        let clause = self.db.clause(attempt.clause);
+        let clause = self.db.clause(clause);
         let entered = entries::enter(
             &mut self.store,
             &mut self.nodes,
             &mut self.words,
             clause,
-            attempt.goal,
+            goal,
         )?;
-        self.now = behind(self.members.as_slice(), entered, mark, attempt.rest);
+        self.now = behind(self.members.as_slice(), entered, mark, rest);
         Ok(())
     }
 
@@ -150,7 +158,7 @@ impl<S: Store + Drop> Plain<S> {
         if !self.push_choice(attempt)? {
             return Ok(false);
         }
-        self.enter(attempt, mark)?;
+        self.enter(attempt.clause, attempt.goal, attempt.rest, mark)?;
         Ok(true)
     }
 }

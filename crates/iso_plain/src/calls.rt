@@ -1,9 +1,11 @@
 //! What a goal calls (7.7.7).
-ghost use Rattle.std.specs.Prelude.{◌≡◌, ◌<◌, ℕ, List, None, IfOk, length};
+ghost use Rattle.std.specs.Prelude.{◌≡◌, ◌<◌, ℕ, List, None, Some, IfOk, length};
+ghost use Rattle.iso_model.specs.Terms.TermOf.{term_of};
 ghost use Rattle.iso_model.specs.Search.BuiltIns.{built_in};
 ghost use Rattle.iso_model.specs.Search.Databases as databases;
 ghost use Rattle.iso_model.specs.Search.Walker.{World};
-ghost use Rattle.iso_model.specs.Search.Errors.{key};
+ghost use Rattle.iso_model.specs.Search.Errors.{Key, key, existence_error};
+ghost use Rattle.iso_model.specs.Search.Databases.{key_of};
 ghost use Rattle.iso_atoms.specs.Texts.{EachOnce, text_at};
 ghost use Rattle.iso_db.specs.Databases as db;
 ghost use Rattle.iso_db.specs.Presents.{contents, Gives};
@@ -23,11 +25,12 @@ use iso_model::{Ball, BuiltIn};
 use iso_ops::Unknown;
 use iso_plain_core::callables::{self, Callee};
 use iso_plain_core::left_clauses::next_left;
+use iso_plain_core::members::Link;
 use iso_store_core::{Shape, Store};
 use std::alloc::AllocError;
 
 /// What a goal calls.
-#[derive(Drop)]
+#[derive(Clone, Copy)]
 pub enum Called {
     /// A procedure of the language itself.
     BuiltIn(BuiltIn),
@@ -35,24 +38,54 @@ pub enum Called {
     User(ClauseId, View),
     /// A procedure without clauses; or none, and the flag `unknown` says that it fails.
     Fails,
-    /// No procedure; the ball is the error.
-    Unknown(Ball),
+    /// No procedure, and the flag `unknown` says that it is an error.
+    Unknown,
+}
+
+/// A goal that is next, of the body at this place that the link asks for, and what it calls.
+#[derive(Clone, Copy)]
+pub struct NextGoal<W> {
+    pub link: Link,
+    pub place: usize,
+    pub goal: W,
+    pub called: Called,
+}
+
+/// What the member that is next came to.
+#[derive(Clone, Copy)]
+pub enum Next<W> {
+    /// It is a goal of a procedure with clauses, which was called.
+    Went,
+    /// It is one, and no choice may be made any more; the engine is spent.
+    Full,
+    /// It is left: a goal that calls something else, or for which no step is left; or no goal.
+    Other(Option<NextGoal<W>>),
 }
 
 impl<S: Store + Drop> Plain<S> {
-    /// What a call of this unknown procedure comes to, by the flag `unknown` (7.11.2.4). The error is that memory was refused.
-    fn unknown(&self, name: &str, arity: usize) -> Result<Called, AllocError>
-        requires fits { arity < 256 }
-        requires none { built_in (key name.now arity) ≡ None }
-        requires absent { kind_of (kept_at (contents self.now.db) (key name.now arity)) ≡ None }
-        ensures { (w : World) → IsWorld S.names self.entry.now w → IfOk result (IsNamed (AreLeft (S.names self.entry.now.store) self.entry.now.db) w (key name.now arity)) }
+    /// What a call of an unknown procedure comes to, by the flag `unknown` (7.11.2.4).
+    fn unknown(&self) -> Called
+        ensures { (names : List (List ℕ)) (w : World) (k : Key) → IsWorld S.names self.entry.now w → built_in k ≡ None → kind_of (kept_at (contents self.entry.now.db) k) ≡ None
+            → IsNamed (AreLeft names self.entry.now.db) w k result }
     {
         match self.flags.unknown {
-            Unknown::Error => Ok(Called::Unknown(errors::unknown_procedure(
-                self.alloc, name, arity,
-            )?)),
-            Unknown::Fail => Ok(Called::Fails),
+            Unknown::Error => Called::Unknown,
+            Unknown::Fail => Called::Fails,
         }
+    }
+
+    /// The error that the goal calls no procedure (7.7.7). The error is that memory was refused.
+    pub(crate) fn unknown_procedure(&self, goal: S::Word) -> Result<Ball, AllocError>
+        requires goal { Holds (S.present self.now.store) goal }
+        requires named { (k : Key) × (key_of (meaning (S.present self.now.store) goal) ≡ Some k) }
+        ensures { (k : Key) → key_of (meaning (S.present self.entry.now.store) goal) ≡ Some k → IfOk result (λ ball. term_of ball.term ≡ existence_error k) }
+    {
+        let (name, arity) = match self.store.shape(goal) {
+            Shape::Atom(name) => (name, 0),
+            Shape::Compound(name, arity) => (name, arity),
+            Shape::Var(_) | Shape::Int(_) => unreachable!(),
+        };
+        errors::unknown_procedure(self.alloc, self.store.text(name), arity)
     }
 
     /// What a call of a procedure comes to, of whose clauses this is a view.
@@ -68,38 +101,36 @@ impl<S: Store + Drop> Plain<S> {
         }
     }
 
-    /// What a goal of this name and arity calls. The error is that memory was refused.
-    fn named(&self, name: Atom, arity: usize) -> Result<Called, AllocError>
-        requires fits { arity < 256 }
+    /// What a goal of this name and arity calls.
+    fn named(&self, name: Atom, arity: usize) -> Called
         requires name { name < length (S.names self.now.store) }
         requires each_once { EachOnce (S.names self.now.store) }
         requires found { Finds (S.names self.now.store) self.now.callables.items (contents self.now.db) }
         ensures { (w : World) → IsWorld S.names self.entry.now w
-            → IfOk result (IsNamed (AreLeft (S.names self.entry.now.store) self.entry.now.db) w (key (text_at (S.names self.entry.now.store) name) arity)) }
+            → IsNamed (AreLeft (S.names self.entry.now.store) self.entry.now.db) w (key (text_at (S.names self.entry.now.store) name) arity) result }
     {
         match callables::find(self.callables.as_slice(), name, arity) {
-            Some(Callee::BuiltIn(built_in)) => Ok(Called::BuiltIn(built_in)),
-            Some(Callee::User(place)) => {
-                let Ok(view) = self.db.view(place) else {
-                    return self.unknown(self.store.text(name), arity);
-                };
-                Ok(self.begun(view))
-            }
-            None => self.unknown(self.store.text(name), arity),
+            Some(Callee::BuiltIn(built_in)) => Called::BuiltIn(built_in),
+            Some(Callee::User(place)) => match self.db.view(place) {
+                Ok(view) => self.begun(view),
+                Err(_) => self.unknown(),
+            },
+            None => self.unknown(),
         }
     }
 
-    /// What the goal calls; one without a name fails. The error is that memory was refused.
-    pub(crate) fn called(&self, goal: S::Word) -> Result<Called, AllocError>
+    /// What the goal calls; one without a name fails.
+    pub(crate) fn called(&self, goal: S::Word) -> Called
         requires goal { Holds (S.present self.now.store) goal }
         requires found { Finds (S.names self.now.store) self.now.callables.items (contents self.now.db) }
         ensures { (w : World) → IsWorld S.names self.entry.now w
-            → IfOk result (IsCalled (AreLeft (S.names self.entry.now.store) self.entry.now.db) w (meaning (S.present self.entry.now.store) goal)) }
+            → IsCalled (AreLeft (S.names self.entry.now.store) self.entry.now.db) w (meaning (S.present self.entry.now.store) goal) result }
     {
-        match self.store.shape(goal) {
-            Shape::Atom(name) => self.named(name, 0),
-            Shape::Compound(name, arity) => self.named(name, arity),
-            Shape::Var(_) | Shape::Int(_) => Ok(Called::Fails),
-        }
+        let (name, arity) = match self.store.shape(goal) {
+            Shape::Atom(name) => (name, 0),
+            Shape::Compound(name, arity) => (name, arity),
+            Shape::Var(_) | Shape::Int(_) => return Called::Fails,
+        };
+        self.named(name, arity)
     }
 }

@@ -8,6 +8,7 @@ ghost use Rattle.iso_model.specs.Search.Walker.{State};
 ghost use Rattle.iso_model.specs.declared.pauses.Pause.TheVariants as pause;
 ghost use Rattle.iso_plain.specs.declared.plain.Move.TheVariants as moved;
 
+use super::calls::{Next, NextGoal};
 use super::plain::{Move, Plain};
 use iso_model::{AddFault, Engine, Limit, Pause, StartFault, Term};
 use iso_ops::{Flags, OpTable};
@@ -15,6 +16,7 @@ use iso_plain_core::members::Now;
 use iso_store_core::{Store, StoreFault};
 
 impl<S: Store + Drop> Plain<S> {
+    ghost use Rattle.iso_plain.specs.Nexts.{IsNext};
     ghost use Rattle.iso_plain.specs.EngineStates.{StandsFor, Moves, Falls, Stopped, weight, phase_of};
     ghost use Rattle.iso_plain.specs.Stays.{Stays};
     ghost use Rattle.iso_model.specs.Search.Engines.{IsAwake, Pauses, FallsAtEvent};
@@ -41,9 +43,10 @@ impl<S: Store + Drop> Plain<S> {
         }
     }
 
-    /// A move of an engine that is awake. The errors: the store is full, or memory was refused.
-    fn moved(&mut self) -> Result<Move, StoreFault>
+    /// A move of an engine that is awake: this goal is next, where there is one. The errors: the store is full, or memory was refused.
+    fn moved(&mut self, goal: Option<NextGoal<S::Word>>) -> Result<Move, StoreFault>
         requires awake { IsAwake (phase_of self.old.now) }
+        requires next { IsNext S.names S.present self.old goal }
         requires stands { (s : State) × StandsFor S.names S.present S.stands S.older self.old s }
         ensures moves { (s : State) → StandsFor S.names S.present S.stands S.older self.old s
             → IfOk result (λ m. Moves S.names S.present S.stands S.older m s self.new) }
@@ -53,6 +56,9 @@ impl<S: Store + Drop> Plain<S> {
         ensures met { ResultMet S.full result self.new }
         ensures stays { Stays S.names self.old self.new }
     {
+        if let Some(next) = goal {
+            return self.run_goal(next);
+        }
         match self.now {
             Now::Idle => Ok(Move::Pauses(Pause::NoMore)),
             Now::Spent(_) => unreachable!(),
@@ -63,9 +69,10 @@ impl<S: Store + Drop> Plain<S> {
         }
     }
 
-    /// A move of an engine that is awake, which ends at a limit.
-    fn advance(&mut self) -> Move
+    /// A move of an engine that is awake, which ends at a limit: this goal is next, where there is one.
+    fn advance(&mut self, goal: Option<NextGoal<S::Word>>) -> Move
         requires awake { IsAwake (phase_of self.old.now) }
+        requires next { IsNext S.names S.present self.old goal }
         requires stands { (s : State) × StandsFor S.names S.present S.stands S.older self.old s }
         ensures moves { (s : State) → StandsFor S.names S.present S.stands S.older self.old s → Moves S.names S.present S.stands S.older result s self.new }
         ensures falls { Falls result (weight self.old) (weight self.new) }
@@ -73,7 +80,7 @@ impl<S: Store + Drop> Plain<S> {
         ensures met { MoveMet S.full result self.new }
         ensures stays { Stays S.names self.old self.new }
     {
-        match self.moved() {
+        match self.moved(goal) {
             Ok(next) => next,
             Err(fault) => Move::Pauses(self.stop(fault)),
         }
@@ -91,9 +98,14 @@ impl<S: Store + Drop> Plain<S> {
         ensures stays { Stays S.names self.old self.new }
     {
         loop {
-            match self.advance() {
-                Move::Goes => {}
-                Move::Pauses(pause) => return pause,
+            match self.call_next() {
+                Ok(Next::Went) => {}
+                Ok(Next::Full) => return Pause::FramesFull,
+                Ok(Next::Other(goal)) => match self.advance(goal) {
+                    Move::Goes => {}
+                    Move::Pauses(pause) => return pause,
+                },
+                Err(fault) => return self.stop(fault),
             }
         }
     }

@@ -95,6 +95,6 @@ impl<S: Store + Drop> Plain<S> {
             self.now = Now::Failing;
             return Ok(());
         }
-        self.enter(attempt, mark)
+        self.enter(attempt.clause, attempt.goal, attempt.rest, mark)
     }
 }

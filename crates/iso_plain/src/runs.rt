@@ -1,5 +1,5 @@
 //! The engine's move at a member of the list of goals: a goal takes a step of the budget (7.7.4 to 7.7.7), a control construct none.
-ghost use Rattle.std.specs.Prelude.{◌≡◌, ◌≢◌, ℕ, suc, ◌+◌, ◌<◌, ◌≤◌, IfOk, OnErr, List, ◌∷◌, length};
+ghost use Rattle.std.specs.Prelude.{◌≡◌, ◌≢◌, ℕ, suc, ◌+◌, ◌<◌, ◌≤◌, IfOk, OnErr, Ok, Err, List, ◌∷◌, length, true, false};
 ghost use Rattle.iso_model.specs.Terms.Trees.{Tree};
 ghost use Rattle.iso_model.specs.Search.Databases as databases;
 ghost use Rattle.iso_model.specs.Search.Walker.{State, Member, tried, with_others};
@@ -8,7 +8,7 @@ ghost use Rattle.iso_store_core.specs.Presents.{meaning};
 ghost use Rattle.iso_plain_core.specs.GoalKinds.{IsBuiltIn};
 ghost use Rattle.iso_plain_core.specs.declared.bodies.Node.TheVariants as node;
 
-use super::calls::Called;
+use super::calls::{Called, Next, NextGoal};
 use super::plain::{Move, Plain};
 use iso_model::{BuiltIn, Limit, Pause};
 use iso_plain_core::bodies::Node;
@@ -19,18 +19,22 @@ use iso_plain_core::replies::{self, Replied};
 use iso_store_core::{Store, StoreFault};
 
 impl<S: Store + Drop> Plain<S> {
-    ghost use Rattle.iso_plain.specs.EngineStates.{Represents, Stopped, WasRefused, Moves, Falls, Calls, WasTried, cost, weight};
+    ghost use Rattle.iso_plain.specs.Nexts.{IsGoalNext, NoGoalNext, ComesNext, FallsNext};
+    ghost use Rattle.iso_plain.specs.EngineStates.{Represents, StandsFor, phase_of, Stopped, WasRefused, Moves, Falls, Calls, WasTried, cost, weight};
     ghost use Rattle.iso_plain_core.specs.Costs.{choices_cost, rest_cost, member_costs, whole_cost};
     ghost use Rattle.iso_plain_core.specs.Standing.{IsAt};
     ghost use Rattle.iso_plain.specs.Stays.{Stays};
     ghost use Rattle.iso_plain.specs.Limits.{ResultMet, ResultFull};
+    ghost use Rattle.iso_model.specs.Search.Engines.{IsAwake};
     ghost use Rattle.iso_plain.specs.declared.plain.Move.TheVariants.{Goes};
+    ghost use Rattle.iso_plain.specs.declared.plain.Move.TheVariants as move;
     ghost use Rattle.iso_plain_core.specs.declared.members.Now.TheVariants as now;
     ghost use Rattle.iso_plain_core.specs.declared.members.Todo.TheVariants as todo;
 
-    /// Does what the link asks for. The errors: the store is full, or memory was refused.
+    /// Does what the link asks for, which is no goal. The errors: the store is full, or memory was refused.
     pub(crate) fn run(&mut self, link: Link) -> Result<Move, StoreFault>
         requires now { self.old.now ≡ now.Running link }
+        requires other { NoGoalNext S.names S.present self.old }
         requires stands { (s : State) × Represents S.names S.present S.stands S.older self.old s }
         ensures moves { (s : State) → Represents S.names S.present S.stands S.older self.old s
             → IfOk result (λ m. Moves S.names S.present S.stands S.older m s self.new) }
@@ -52,10 +56,11 @@ impl<S: Store + Drop> Plain<S> {
         }
     }
 
-    /// Runs the body at this place of the nodes, which the link asks for. The errors are those of `run`.
+    /// Runs the body at this place of the nodes, which the link asks for and which is no goal. The errors are those of `run`.
     fn run_body(&mut self, link: Link, place: usize) -> Result<Move, StoreFault>
         requires now { self.old.now ≡ now.Running link }
         requires body { link.todo ≡ todo.Body place }
+        requires other { NoGoalNext S.names S.present self.old }
         requires stands { (s : State) × Represents S.names S.present S.stands S.older self.old s }
         ensures moves { (s : State) → Represents S.names S.present S.stands S.older self.old s
             → IfOk result (λ m. Moves S.names S.present S.stands S.older m s self.new) }
@@ -66,7 +71,7 @@ impl<S: Store + Drop> Plain<S> {
         ensures stays { Stays S.names self.old self.new }
     {
         match self.nodes[place] {
-            Node::Run(goal) => self.run_goal(link, place, goal),
+            Node::Run(_) => unreachable!(),
             Node::Cut => Ok(self.cut(link)),
             Node::And(distance) => self.conjunction(link, place, distance),
             Node::Or(distance) => self.disjunction(link, place, distance),
@@ -75,10 +80,10 @@ impl<S: Store + Drop> Plain<S> {
         }
     }
 
-    /// Runs the goal of the link's body. The errors: the store is full, or memory was refused.
-    fn run_goal(&mut self, link: Link, place: usize, goal: S::Word) -> Result<Move, StoreFault>
-        requires now { self.old.now ≡ now.Running link }
-        requires there { IsAt self.old.nodes.items link place (node.Run goal) }
+    /// Runs the goal that is next, which is no call of a procedure with clauses, unless no step is left. The errors: the store is full, or memory
+    /// was refused.
+    pub(crate) fn run_goal(&mut self, next: NextGoal<S::Word>) -> Result<Move, StoreFault>
+        requires next { IsGoalNext S.names S.present self.old next }
         requires stands { (s : State) × Represents S.names S.present S.stands S.older self.old s }
         ensures moves { (s : State) → Represents S.names S.present S.stands S.older self.old s
             → IfOk result (λ m. Moves S.names S.present S.stands S.older m s self.new) }
@@ -88,24 +93,56 @@ impl<S: Store + Drop> Plain<S> {
         ensures met { ResultMet S.full result self.new }
         ensures stays { Stays S.names self.old self.new }
     {
+        let NextGoal {
+            link,
+            place,
+            goal,
+            ..
+        } = next;
         if self.steps == 0 {
             self.clear();
             return Ok(Move::Pauses(Pause::Budget));
         }
-        let called = self.called(goal)?;
-        match called {
+        match next.called {
             Called::BuiltIn(built_in) => self.run_built_in(link, place, built_in, goal),
+            Called::User(_, _) => unreachable!(),
             Called::Fails => {
                 self.steps -= 1;
                 self.now = Now::Failing;
                 Ok(Move::Goes)
             }
-            Called::Unknown(ball) => {
+            Called::Unknown => {
+                let ball = self.unknown_procedure(goal)?;
                 self.steps -= 1;
                 self.throw(ball, link.next);
                 Ok(Move::Goes)
             }
-            Called::User(clause, later) => {
+        }
+    }
+
+    /// Calls the procedure of the goal that is next, where it is one with clauses and a step is left, as most moves do; any other member is left
+    /// as it is. The errors: the store is full, or memory was refused.
+    pub(crate) fn call_next(&mut self) -> Result<Next<S::Word>, StoreFault>
+        requires awake { IsAwake (phase_of self.old.now) }
+        requires stands { (s : State) × StandsFor S.names S.present S.stands S.older self.old s }
+        ensures next { (s : State) → StandsFor S.names S.present S.stands S.older self.old s → IfOk result (λ n. ComesNext S.names S.present S.stands S.older n s self.new) }
+        ensures stopped { (s : State) → StandsFor S.names S.present S.stands S.older self.old s → OnErr result (Stopped S.names S.present S.stands S.older self.new s) }
+        ensures falls { IfOk result (λ n. FallsNext n (weight self.old) (weight self.new)) }
+        ensures full { result ≡ Err StoreFault.Full → S.full self.new.store }
+        ensures stays { Stays S.names self.old self.new }
+    {
+        let Now::Running(link) = self.now else {
+            return Ok(Next::Other(None));
+        };
+        let Todo::Body(place) = link.todo else {
+            return Ok(Next::Other(None));
+        };
+        let Node::Run(goal) = self.nodes[place] else {
+            return Ok(Next::Other(None));
+        };
+        let called = self.called(goal);
+        if let Called::User(clause, later) = called {
+            if self.steps > 0 {
                 self.steps -= 1;
                 let attempt = self.passed(Attempt {
                     clause,
@@ -113,9 +150,19 @@ impl<S: Store + Drop> Plain<S> {
                     goal,
                     rest: link.next,
                 });
-                self.call_first(attempt)
+                if self.call(attempt)? {
+                    return Ok(Next::Went);
+                }
+                self.now = Now::Spent(Limit::Frames);
+                return Ok(Next::Full);
             }
         }
+        Ok(Next::Other(Some(NextGoal {
+            link,
+            place,
+            goal,
+            called,
+        })))
     }
 
     /// Runs the goal of the link's body, which is one of this built-in. The errors: the store is full, or memory was refused.
@@ -190,30 +237,5 @@ impl<S: Store + Drop> Plain<S> {
             next,
         });
         Move::Goes
-    }
-
-    /// Calls a procedure with the attempt's clauses; where no choice may be made any more the engine is spent.
-    fn call_first(&mut self, attempt: Attempt<S::Word>) -> Result<Move, StoreFault>
-        requires { (s : State) × (call : Tree) × (c : databases.Clause) × (cs : List databases.Clause) × (behind : List Member)
-            × Calls S.names S.present S.stands S.older self.old attempt s call c cs behind }
-        ensures called { (s : State) (call : Tree) (c : databases.Clause) (cs : List databases.Clause) (behind : List Member)
-            → Calls S.names S.present S.stands S.older self.old attempt s call c cs behind
-            → IfOk result (λ m. WasTried S.names S.present S.stands S.older m self.new s (tried call (c ∷ cs) behind s)) }
-        ensures kept { (s : State) (call : Tree) (c : databases.Clause) (cs : List databases.Clause) (behind : List Member)
-            → Calls S.names S.present S.stands S.older self.old attempt s call c cs behind
-            → OnErr result (WasRefused S.names S.present S.stands S.older self.new s (with_others call cs behind s)) }
-        ensures falls { (w : ℕ) → choices_cost (member_costs self.old.members.items) self.old.choices.items
-            + rest_cost (member_costs self.old.members.items) attempt.rest ≤ w → IfOk result (λ m. Falls m (whole_cost (suc self.old.steps) w) (weight self.new)) }
-        ensures frames { (s : State) (call : Tree) (c : databases.Clause) (cs : List databases.Clause) (behind : List Member)
-            → Calls S.names S.present S.stands S.older self.old attempt s call c cs behind
-            → ResultFull ((self.old.limit ≤ length self.old.choices.items) × (0 < length cs)) result }
-        ensures met { ResultMet S.full result self.new }
-        ensures stays { Stays S.names self.old self.new }
-    {
-        if self.call(attempt)? {
-            return Ok(Move::Goes);
-        }
-        self.now = Now::Spent(Limit::Frames);
-        Ok(Move::Pauses(Pause::FramesFull))
     }
 }

@@ -13,7 +13,7 @@ use Rattle.iso_store_core.specs.declared.patterns.Part.TheVariants.{Variable as 
 use Rattle.iso_store_core.specs.Patterns.{at_places, IsPattern, HasPlaces}
 use Rattle.iso_store_core.specs.Copying.{cells_of}
 use Rattle.iso_store_core.specs.Presents.{Present, Holds, Gathers}
-use Rattle.iso_store.specs.Writing.{IsReady, IsPlace, IsVariable, word_there, picked, taken, MakesOne, part_cells}
+use Rattle.iso_store.specs.Writing.{IsReady, IsPlace, IsVariable, IsFlat, word_there, picked, taken, MakesOne, part_cells}
 use Rattle.iso_store.proofs.Gathering.{keeps-none}
 use Rattle.iso_store.proofs.InstanceLemmas.{so_far, next-part, gathers-place, gathers-count, part-is-ready, last-makes, last-step, cells-more}
 
@@ -99,6 +99,13 @@ whole-step names s a n before t is =
     let few = length-take-le (length before - n) before (omega arith) in
     omega (arith, long, one, few)
 
+-- and these are its arguments
+pub whole-made : (names : List (List ℕ)) (s : Subst) (a n : ℕ) (before : List Tree) (t : Tree) → MakesOne names s (Compound a n) before t → Apply (text_at names a) (row before) ≡ t
+whole-made names s a n before t is =
+    let zero : length before - n ≡ 0 = omega (arith, whole-step names s a n before t is) in
+    let both : Apply (text_at names a) (row before) ∷ [] ≡ t ∷ [] = subst (λ k. take k before ++ Apply (text_at names a) (row (drop k before)) ∷ [] ≡ t ∷ []) zero is in
+    cc
+
 -- so has one whose arguments are picked
 pub picked-whole : {W : Type 0} (names : List (List ℕ)) (s : Subst) (a n : ℕ) (term : W → Tree) (ws : List W) (ks : List Part) (t : Tree) → All (IsPlace (length ws)) ks → MakesOne names s (Compound a n) (map term (picked ws ks)) t
     → taken (length ks) n ≡ length ks
@@ -164,33 +171,50 @@ some-part names [] t whole = absurd (let long = ap length whole.term in omega ar
 some-part names (k ∷ ks) t whole = omega arith
 
 -- ---- a compound of variables alone
-module _ (names : List (List ℕ)) (ks : List Part) (t : Tree) (whole : IsPattern names ks t) (name count : ℕ) (d : Part) (is : get_or ks (length ks - 1) d ≡ Compound name count) where
+module _ (names : List (List ℕ)) (ks : List Part) (t : Tree) (whole : IsPattern names ks t) (name : ℕ) (flat : IsFlat name ks) where
+  abbrev pub leaves : List Part
+  leaves = take (length ks - 1) ks
+
   last-below : length ks - 1 < length ks
   last-below = omega (arith, some-part names ks t whole)
 
-  last-is : Compound name count ≡ get_or ks (length ks - 1) (Compound name count)
-  last-is = sym is ∙ get-any ks (length ks - 1) d (Compound name count) last-below
+  last-is : Compound name flat.0.0 ≡ get_or ks (length ks - 1) (Compound name flat.0.0)
+  last-is = sym (get-is ks (length ks - 1) (Compound name flat.0.0) flat.0.1)
 
-  pub flat-places : (n : ℕ) → arities_fit t ≡ true → HasPlaces n t → All IsVariable (take (length ks - 1) ks) → All (IsPlace n) (take (length ks - 1) ks)
-  flat-places n fits places all = are-places names ks t whole (length ks - 1) (omega arith) n fits places all
+  pub flat-places : (n : ℕ) → arities_fit t ≡ true → HasPlaces n t → All (IsPlace n) leaves
+  flat-places n fits places = are-places names ks t whole (length ks - 1) (omega arith) n fits places flat.1
 
-  module _ {W : Type 0} (p : Present W) (variables : List W) (hold : All (Holds p) variables) (places : All (IsPlace (length variables)) (take (length ks - 1) ks)) where
-    gathered : Gathers p p (picked variables (take (length ks - 1) ks)) (map (apply (at_places (map p.term variables))) (so_far names ks (length ks - 1)))
+  module _ {W : Type 0} (p : Present W) (variables : List W) (hold : All (Holds p) variables) (fits : arities_fit t ≡ true) (in-places : HasPlaces (length variables) t) where
+    places : All (IsPlace (length variables)) leaves
+    places = flat-places (length variables) fits in-places
+
+    gathered : Gathers p p (picked variables leaves) (map (apply (at_places (map p.term variables))) (so_far names ks (length ks - 1)))
     gathered = picked-gathers names ks t whole (length ks - 1) (omega arith) p variables hold places (length ks - 1) (omega arith)
 
-    flat-count : length (take (length ks - 1) ks) ≡ length (so_far names ks (length ks - 1))
-    flat-count = sym (picked-length variables (take (length ks - 1) ks) places) ∙ gathers-count (at_places (map p.term variables)) (so_far names ks (length ks - 1)) gathered
+    count-is : length leaves ≡ length (so_far names ks (length ks - 1))
+    count-is = sym (picked-length variables leaves places) ∙ gathers-count (at_places (map p.term variables)) (so_far names ks (length ks - 1)) gathered
 
-    pub flat-one : MakesOne names (at_places (map p.term variables)) (Compound name count) (map p.term (picked variables (take (length ks - 1) ks))) (apply (at_places (map p.term variables)) t)
-    flat-one =
-        last-makes names variables hold (so_far names ks (length ks - 1)) (Compound name count) t (last-step names ks t whole (length ks - 1) (Compound name count) (omega (arith, last-below)) last-is) gathered
+    one : MakesOne names (at_places (map p.term variables)) (Compound name flat.0.0) (map p.term (picked variables leaves)) (apply (at_places (map p.term variables)) t)
+    one = last-makes names variables hold (so_far names ks (length ks - 1)) (Compound name flat.0.0) t (last-step names ks t whole (length ks - 1) (Compound name flat.0.0) (omega (arith, last-below)) last-is) gathered
 
-    pub flat-ready : arities_fit t ≡ true → HasPlaces (length variables) t → IsReady (length variables) (length (take (length ks - 1) ks)) (Compound name count)
-    flat-ready fits in-places =
-        subst (λ m. IsReady (length variables) m (Compound name count)) (sym flat-count) (part-is-ready names ks t whole (length ks - 1) (Compound name count) (length variables) last-below last-is fits in-places)
+    ready : IsReady (length variables) (length leaves) (Compound name flat.0.0)
+    ready = subst (λ m. IsReady (length variables) m (Compound name flat.0.0)) (sym count-is) (part-is-ready names ks t whole (length ks - 1) (Compound name flat.0.0) (length variables) last-below last-is fits in-places)
 
-    pub flat-cells : (atomic : ℕ) (width : ℕ → ℕ) → part_cells atomic width (length (take (length ks - 1) ks)) (Compound name count) ≤ cells_of atomic width t
+    all-taken : taken (length leaves) flat.0.0 ≡ length leaves
+    all-taken = picked-whole names (at_places (map p.term variables)) name flat.0.0 p.term variables leaves (apply (at_places (map p.term variables)) t) places one
+
+    pub flat-some : 0 < length leaves
+    flat-some = omega (arith, ready.0, all-taken)
+
+    pub flat-few : length leaves < 256
+    flat-few = omega (arith, ready.1, all-taken)
+
+    pub flat-made : Apply (text_at names name) (row (map p.term (picked variables leaves))) ≡ apply (at_places (map p.term variables)) t
+    flat-made = whole-made names (at_places (map p.term variables)) name flat.0.0 (map p.term (picked variables leaves)) (apply (at_places (map p.term variables)) t) one
+
+    pub flat-cells : (atomic : ℕ) (width : ℕ → ℕ) → width (length leaves) ≤ cells_of atomic width t
     flat-cells atomic width =
-        let within = cells-more names ks t whole atomic width (length ks - 1) (Compound name count) last-below last-is in
-        let same = ap (λ m. part_cells atomic width m (Compound name count)) flat-count in
-        omega (arith, within, same)
+        let within = cells-more names ks t whole atomic width (length ks - 1) (Compound name flat.0.0) last-below last-is in
+        let same = ap (λ m. part_cells atomic width m (Compound name flat.0.0)) count-is in
+        let all = ap width all-taken in
+        omega (arith, within, same, all)

@@ -27,6 +27,10 @@ module _ {W : Type 0} (p : Present W) where
     pub some : 0 < count
     pub within : count ≤ arity
 
+  -- so does this one, unless no argument of it is left
+  abbrev pub MayHaveArguments : Unread W → Type 0
+  MayHaveArguments u = 0 < u.count → HasArguments u.word u.count
+
   abbrev pub AreUnread : List (Unread W) → Type 0
   AreUnread us = All (λ u. HasArguments u.word u.count) us
 

@@ -1,5 +1,6 @@
 -- What is left of writing a term out part by part, and what a part needs and takes.
-use Rattle.std.specs.Prelude.{◌≡◌, ℕ, ◌<◌, ◌-◌, List, [], ◌∷◌, ◌++◌, map, slice_get, Option, Some, None}
+use Rattle.std.specs.Prelude.{◌≡◌, ℕ, ◌<◌, ◌-◌, List, [], ◌∷◌, ◌++◌, map, length, take, slice_get, Option, Some, None}
+use Rattle.std.specs.List.{All}
 use Rattle.std.specs.Borrow.{Bor}
 use Rattle.iso_model.specs.declared.terms.Term.{Term}
 use Rattle.iso_model.specs.Terms.Trees.{Tree, Variable}
@@ -32,6 +33,10 @@ IsPlace variables _ = ⊥
 abbrev pub IsVariable : Part → Type 0
 IsVariable (Place k) = Unit {0}
 IsVariable _ = ⊥
+
+-- the parts write out a compound of this name whose arguments are variables alone
+abbrev pub IsFlat : ℕ → List Part → Type 0
+IsFlat name ks = ((count : ℕ) × (slice_get ks (length ks - 1) ≡ Some (Compound name count))) × All IsVariable (take (length ks - 1) ks)
 
 -- a word that is there, as a list
 abbrev pub word_there : {W : Type 0} → Option W → List W

@@ -1,5 +1,5 @@
 //! Terms made in a store of patterns, with words for the variables.
-ghost use Rattle.std.specs.Prelude.{◌≡◌, ℕ, ◌<◌, IfOk, OnOk, length, map, true};
+ghost use Rattle.std.specs.Prelude.{◌≡◌, ℕ, ◌<◌, IfOk, IfSome, OnOk, length, map, true};
 ghost use Rattle.std.specs.List.{All};
 ghost use Rattle.iso_atoms.specs.Texts.{text_at};
 ghost use Rattle.iso_model.specs.Terms.Trees.{Tree, arities_fit};
@@ -8,8 +8,7 @@ ghost use Rattle.iso_model.specs.Terms.Substitutions.{apply};
 ghost use Rattle.iso_store_core.specs.Presents.{Holds, Gathers, Makes, KeepsNumbers, Grows, KeepsMarks};
 ghost use Rattle.iso_store_core.specs.Copying.{cells_of};
 ghost use Rattle.iso_store_core.specs.Patterns.{IsNamed, IsPattern, HasPlaces, part_step, at_places};
-ghost use Rattle.iso_store.specs.Writing.{IsReady, IsPlace, IsVariable, MakesOne, part_cells, picked, taken};
-ghost use Rattle.iso_store_core.specs.declared.patterns.Part.TheVariants as part;
+ghost use Rattle.iso_store.specs.Writing.{IsReady, IsPlace, IsVariable, IsFlat, MakesOne, part_cells, picked, taken};
 
 use super::cells::Cells;
 use iso_atoms::Atom;
@@ -141,28 +140,70 @@ pub(crate) fn pick_words<W: Copy>(
     Ok(words)
 }
 
-/// The term of a last part, a compound of this name and so many arguments, each of which is the variable before it.
+/// The name of the compound that the parts write out, where its arguments are variables alone.
+fn flat_name(parts: &[Part]) -> Option<Atom>
+    requires { 0 < length parts.now }
+    ensures { IfSome result (λ name. IsFlat name parts.now) }
+{
+    let last = parts.len() - 1;
+    let Part::Compound(name, _) = parts[last] else {
+        return None;
+    };
+    if !are_variables(&parts[..last]) {
+        return None;
+    }
+    Some(name)
+}
+
+/// The term of the parts, a compound of this name whose arguments are variables alone.
 fn make_flat<C: Cells>(
     store: &mut C,
     name: Atom,
-    count: usize,
-    leaves: &[Part],
+    parts: &[Part],
     variables: &[C::Word],
 ) -> Result<C::Word, StoreFault>
-    requires named { IsNamed (C.names store.old) (part.Compound name count) }
-    requires ready { IsReady (length variables.now) (length leaves.now) (part.Compound name count) }
-    requires leaves { All (IsPlace (length variables.now)) leaves.now }
-    requires one { (t : Tree) × MakesOne (C.names store.old) (at_places (map (C.present store.old).term variables.now)) (part.Compound name count) (map (C.present store.old).term (picked variables.now leaves.now)) t }
+    requires pattern { (t : Tree) × IsPattern (C.names store.old) parts.now t × (arities_fit t ≡ true) × HasPlaces (length variables.now) t }
+    requires flat { IsFlat name parts.now }
     requires variables { All (λ w. Holds (C.present store.old) w) variables.now }
-    ensures made { (t : Tree) → MakesOne (C.names store.old) (at_places (map (C.present store.old).term variables.now)) (part.Compound name count) (map (C.present store.old).term (picked variables.now leaves.now)) t
-        → IfOk result (λ w. Makes (C.present store.old) (C.present store.new) w t) }
+    ensures made { (t : Tree) → IsPattern (C.names store.old) parts.now t
+        → IfOk result (λ w. Makes (C.present store.old) (C.present store.new) w (apply (at_places (map (C.present store.old).term variables.now)) t)) }
     ensures numbers { OnOk result (KeepsNumbers (C.present store.old) (C.present store.new)) }
-    ensures cells { Grows (C.present store.old) (C.present store.new) (part_cells C.atomic C.width (length leaves.now) (part.Compound name count)) }
+    ensures cells { (t : Tree) → IsPattern (C.names store.old) parts.now t → Grows (C.present store.old) (C.present store.new) (cells_of C.atomic C.width t) }
     ensures full { result ≡ Err StoreFault.Full → C.full store.new }
     ensures names { C.names store.new ≡ C.names store.old }
     ensures marks { KeepsMarks (C.stands store.old) (C.stands store.new) }
 {
-    store.compound_of(name, leaves, variables)
+    store.compound_of(name, &parts[..parts.len() - 1], variables)
+}
+
+/// The term of the parts, made part by part, with the word at its place for each variable, and this list for the words of its parts.
+fn make_nested<C: Cells>(
+    store: &mut C,
+    parts: &[Part],
+    variables: &[C::Word],
+    words: &mut Vec<C::Word>,
+) -> Result<C::Word, StoreFault>
+    requires pattern { (t : Tree) × IsPattern (C.names store.old) parts.now t × (arities_fit t ≡ true) × HasPlaces (length variables.now) t }
+    requires variables { All (λ w. Holds (C.present store.old) w) variables.now }
+    ensures made { (t : Tree) → IsPattern (C.names store.old) parts.now t
+        → IfOk result (λ w. Makes (C.present store.old) (C.present store.new) w (apply (at_places (map (C.present store.old).term variables.now)) t)) }
+    ensures numbers { OnOk result (KeepsNumbers (C.present store.old) (C.present store.new)) }
+    ensures cells { (t : Tree) → IsPattern (C.names store.old) parts.now t → Grows (C.present store.old) (C.present store.new) (cells_of C.atomic C.width t) }
+    ensures full { result ≡ Err StoreFault.Full → C.full store.new }
+    ensures names { C.names store.new ≡ C.names store.old }
+    ensures marks { KeepsMarks (C.stands store.old) (C.stands store.new) }
+{
+    let last = parts.len() - 1;
+    words.clear();
+    for part in &parts[..last] {
+        // Most parts are variables, which need no more than this.
+        if let Part::Variable(place) = part {
+            words.push(variables[*place])?;
+        } else {
+            make_part(store, *part, variables, words)?;
+        }
+    }
+    make_last(store, parts[last], variables, words.as_slice())
 }
 
 /// The term of the parts, with the word at its place for each variable, and this list for the words of its parts.
@@ -182,22 +223,10 @@ pub(crate) fn make_parts<C: Cells>(
     ensures names { C.names store.new ≡ C.names store.old }
     ensures marks { KeepsMarks (C.stands store.old) (C.stands store.new) }
 {
-    let last = parts.len() - 1;
-    if let Part::Compound(name, count) = parts[last] {
-        if are_variables(&parts[..last]) {
-            return make_flat(store, name, count, &parts[..last], variables);
-        }
+    match flat_name(parts) {
+        Some(name) => make_flat(store, name, parts, variables),
+        None => make_nested(store, parts, variables, words),
     }
-    words.clear();
-    for part in &parts[..last] {
-        // Most parts are variables, which need no more than this.
-        if let Part::Variable(place) = part {
-            words.push(variables[*place])?;
-        } else {
-            make_part(store, *part, variables, words)?;
-        }
-    }
-    make_last(store, parts[last], variables, words.as_slice())
 }
 
 /// The term of the pattern, with the word at its place for each variable.
@@ -217,9 +246,13 @@ pub(crate) fn instantiate<C: Cells>(
     ensures names { C.names store.new ≡ C.names store.old }
     ensures marks { KeepsMarks (C.stands store.old) (C.stands store.new) }
 {
+    let parts = pattern.parts.as_slice();
+    if let Some(name) = flat_name(parts) {
+        return make_flat(store, name, parts, variables);
+    }
     let mut words = Vec::new(alloc);
     store.swap_words(&mut words);
-    let made = make_parts(store, pattern.parts.as_slice(), variables, &mut words);
+    let made = make_nested(store, parts, variables, &mut words);
     store.swap_words(&mut words);
     made
 }

@@ -1,16 +1,18 @@
 //! Reading the head of a clause against a goal (7.7.10): which variables have a part of the goal as their value, and what is
 //! left to be unified.
-ghost use Rattle.std.specs.Prelude.{◌≡◌, ℕ, List, ◌+◌, ◌-◌, ◌<◌, ◌≤◌, ◌∷◌, [], ◌++◌, IfOk, OnOk, Some, None, length, map, true};
+ghost use Rattle.std.specs.Prelude.{◌≡◌, ◌≢◌, ℕ, List, Option, ◌+◌, ◌-◌, ◌<◌, ◌≤◌, ◌∷◌, [], ◌++◌, IfOk, IfSome, OnOk, Some, None, length, map, true};
 ghost use Rattle.std.specs.List.{All, slice_get};
 ghost use Rattle.iso_model.specs.Terms.Trees.{Tree, Variable, arities_fit};
-ghost use Rattle.iso_store_core.specs.Presents.{Holds, meaning};
+ghost use Rattle.iso_store_core.specs.Presents.{Present, Holds, meaning};
 ghost use Rattle.iso_store_core.specs.Arguments.{arguments, listed};
 ghost use Rattle.iso_store_core.specs.Patterns.{IsNamed, IsPattern, HasPlaces};
 ghost use Rattle.iso_store.specs.Unifying.{IsCompound};
-ghost use Rattle.iso_store.specs.Reading.{HasArguments, AreUnread, first_arguments, left_terms, first_terms, IsBetween, IsRead, IsReadTo, IsReadOn, IsNext, IsHeadRead, Shows};
+ghost use Rattle.iso_store.specs.Reading.{HasArguments, MayHaveArguments, AreUnread, first_arguments, left_terms, first_terms, IsBetween, IsRead, IsReadTo, IsReadOn, IsNext, IsHeadRead, Shows};
+ghost use Rattle.iso_store_core.specs.declared.shapes.Shape.TheVariants as shapes;
 ghost use Rattle.iso_store.specs.declared.reading.Later as waiting;
 
 use super::cells::Cells;
+use iso_atoms::Atom;
 use iso_model::NoMemory;
 use iso_store_core::{Part, Pattern, Shape};
 
@@ -80,68 +82,123 @@ fn start_of(head: &Pattern, past: usize) -> usize
     from
 }
 
-/// Leaves the first arguments of the compound, so many, to be read, the last of them next.
+/// Leaves what is unread of the compound to be read behind what is left.
 fn leave_arguments<C: Cells>(
     store: &C,
-    word: C::Word,
-    count: usize,
+    unread: Unread<C::Word>,
     left: &mut Vec<Unread<C::Word>>,
 ) -> Result<(), NoMemory>
-    requires word { Holds (C.present store.now) word }
-    requires compound { (n : ℕ) × IsCompound n (meaning (C.present store.now) word) × (count ≤ n) }
+    requires unread { MayHaveArguments (C.present store.now) unread }
     requires left { AreUnread (C.present store.now) left.old.items }
-    ensures terms { OnOk result (left_terms (C.present store.now) left.new.items ≡ left_terms (C.present store.now) left.old.items ++ first_arguments (C.present store.now) word count) }
+    ensures terms { OnOk result (left_terms (C.present store.now) left.new.items ≡ left_terms (C.present store.now) (left.old.items ++ unread ∷ [])) }
     ensures left { OnOk result (AreUnread (C.present store.now) left.new.items) }
 {
-    if count == 0 {
+    if unread.count == 0 {
         return Ok(());
     }
-    left.push(Unread { word, count })?;
+    left.push(unread)?;
     Ok(())
 }
 
-/// Reads the part before this place, which is no variable and shows this shape: how many parts are left, none where nothing
-/// makes it and the word equal.
-fn read_shape<C: Cells>(
+/// Leaves the part before this place to be unified with the word when all is read: how many parts are left.
+fn read_later<W: Copy>(
+    head: &Pattern,
+    at: usize,
+    word: W,
+    later: &mut Vec<Later<W>>,
+) -> Result<Option<usize>, NoMemory>
+    requires some { 0 < at }
+    requires within { at ≤ length head.now.parts.items }
+    ensures read { (p : Present W) (names : List (List ℕ)) (t : Tree) (values : List (Option W)) (left : List Tree)
+        → IsPattern names head.now.parts.items t → arities_fit t ≡ true → HasPlaces (length values) t → Holds p word
+        → IsRead p names head.now.parts.items (length values) values later.old.items (left ++ meaning p word ∷ []) at
+        → IfOk result (IsReadOn p names head.now.parts.items (length values) values values later.old.items later.new.items (left ++ meaning p word ∷ []) left at) }
+{
+    let from = start_of(head, at);
+    later.push(Later {
+        word,
+        from,
+        past: at,
+    })?;
+    Ok(Some(from))
+}
+
+/// Reads the part before this place, a compound of this name and so many arguments: how many parts are left, none where nothing makes it
+/// and the word equal.
+fn read_compound<C: Cells>(
+    store: &C,
+    head: &Pattern,
+    at: usize,
+    name: Atom,
+    count: usize,
+    word: C::Word,
+    values: &Vec<Option<C::Word>>,
+    later: &mut Vec<Later<C::Word>>,
+    left: &mut Vec<Unread<C::Word>>,
+    inner: &mut Unread<C::Word>,
+) -> Result<Option<usize>, NoMemory>
+    requires count { (t : Tree) × IsPattern (C.names store.now) head.now.parts.items t × (arities_fit t ≡ true) × HasPlaces (length values.now.items) t }
+    requires some { 0 < at }
+    requires word { Holds (C.present store.now) word }
+    requires left { AreUnread (C.present store.now) left.old.items }
+    requires inner { MayHaveArguments (C.present store.now) inner.old }
+    requires shows { (ts : List Tree) × (a : Tree) × Shows (C.names store.now) head.now.parts.items at (shapes.Compound name count) ts a }
+    requires read { IsRead (C.present store.now) (C.names store.now) head.now.parts.items (length values.now.items) values.now.items later.old.items (left_terms (C.present store.now) (left.old.items ++ inner.old ∷ []) ++ meaning (C.present store.now) word ∷ []) at }
+    ensures read { IfOk result (IsReadOn (C.present store.now) (C.names store.now) head.now.parts.items (length values.now.items)
+        values.now.items values.now.items later.old.items later.new.items (left_terms (C.present store.now) (left.old.items ++ inner.old ∷ []) ++ meaning (C.present store.now) word ∷ []) (left_terms (C.present store.now) (left.new.items ++ inner.new ∷ [])) at) }
+    ensures left { OnOk result (AreUnread (C.present store.now) left.new.items) }
+    ensures inner { OnOk result (MayHaveArguments (C.present store.now) inner.new) }
+{
+    match store.shape(word) {
+        Shape::Var(_) => {
+            let from = start_of(head, at);
+            later.push(Later {
+                word,
+                from,
+                past: at,
+            })?;
+            Ok(Some(from))
+        }
+        Shape::Compound(other, arguments) => {
+            if other != name || arguments != count {
+                return Ok(None);
+            }
+            leave_arguments(store, *inner, left)?;
+            *inner = Unread { word, count };
+            Ok(Some(at - 1))
+        }
+        Shape::Int(_) | Shape::Atom(_) => Ok(None),
+    }
+}
+
+/// Reads the part before this place, a constant that shows this shape: how many parts are left, none where nothing makes it and the word
+/// equal.
+fn read_constant<C: Cells>(
     store: &C,
     head: &Pattern,
     at: usize,
     shape: Shape,
     word: C::Word,
-    values: &mut Vec<Option<C::Word>>,
+    values: &Vec<Option<C::Word>>,
     later: &mut Vec<Later<C::Word>>,
-    left: &mut Vec<Unread<C::Word>>,
 ) -> Result<Option<usize>, NoMemory>
-    requires count { (t : Tree) × IsPattern (C.names store.now) head.now.parts.items t × (arities_fit t ≡ true) × HasPlaces (length values.old.items) t }
+    requires count { (t : Tree) × IsPattern (C.names store.now) head.now.parts.items t × (arities_fit t ≡ true) × HasPlaces (length values.now.items) t }
     requires some { 0 < at }
     requires word { Holds (C.present store.now) word }
-    requires left { AreUnread (C.present store.now) left.old.items }
+    requires constant { (name count : ℕ) → shape ≢ shapes.Compound name count }
     requires shows { (ts : List Tree) × (a : Tree) × Shows (C.names store.now) head.now.parts.items at shape ts a }
-    requires read { IsRead (C.present store.now) (C.names store.now) head.now.parts.items (length values.old.items) values.old.items later.old.items (left_terms (C.present store.now) left.old.items ++ meaning (C.present store.now) word ∷ []) at }
-    ensures read { IfOk result (IsReadOn (C.present store.now) (C.names store.now) head.now.parts.items (length values.old.items)
-        values.old.items values.new.items later.old.items later.new.items (left_terms (C.present store.now) left.old.items ++ meaning (C.present store.now) word ∷ []) (left_terms (C.present store.now) left.new.items) at) }
-    ensures left { OnOk result (AreUnread (C.present store.now) left.new.items) }
+    requires read { (ws : List Tree) × IsRead (C.present store.now) (C.names store.now) head.now.parts.items (length values.now.items) values.now.items later.old.items (ws ++ meaning (C.present store.now) word ∷ []) at }
+    ensures read { (ws : List Tree) → IsRead (C.present store.now) (C.names store.now) head.now.parts.items (length values.now.items) values.now.items later.old.items (ws ++ meaning (C.present store.now) word ∷ []) at
+        → IfOk result (IsReadOn (C.present store.now) (C.names store.now) head.now.parts.items (length values.now.items) values.now.items values.now.items later.old.items later.new.items (ws ++ meaning (C.present store.now) word ∷ []) ws at) }
 {
     let found = store.shape(word);
     if let Shape::Var(_) = found {
-        let from = start_of(head, at);
-        later.push(Later {
-            word,
-            from,
-            past: at,
-        })?;
-        return Ok(Some(from));
+        return read_later(head, at, word, later);
     }
     if found != shape {
         return Ok(None);
     }
-    match shape {
-        Shape::Compound(_, count) => {
-            leave_arguments(store, word, count, left)?;
-            Ok(Some(at - 1))
-        }
-        _ => Ok(Some(at - 1)),
-    }
+    Ok(Some(at - 1))
 }
 
 /// Reads the part before this place, which is the variable of this place: the word is its value where it has none, else they are
@@ -154,31 +211,22 @@ fn read_variable<C: Cells>(
     word: C::Word,
     values: &mut Vec<Option<C::Word>>,
     later: &mut Vec<Later<C::Word>>,
-    left: &Vec<Unread<C::Word>>,
 ) -> Result<Option<usize>, NoMemory>
     requires count { (t : Tree) × IsPattern (C.names store.now) head.now.parts.items t × (arities_fit t ≡ true) × HasPlaces (length values.old.items) t }
     requires some { 0 < at }
     requires word { Holds (C.present store.now) word }
     requires place { place < length values.old.items }
     requires variable { first_terms (C.names store.now) head.now.parts.items at ≡ first_terms (C.names store.now) head.now.parts.items (at - 1) ++ Variable place ∷ [] }
-    requires read { IsRead (C.present store.now) (C.names store.now) head.now.parts.items (length values.old.items) values.old.items later.old.items (left_terms (C.present store.now) left.now.items ++ meaning (C.present store.now) word ∷ []) at }
-    ensures read { IfOk result (IsReadOn (C.present store.now) (C.names store.now) head.now.parts.items (length values.old.items)
-        values.old.items values.new.items later.old.items later.new.items (left_terms (C.present store.now) left.now.items ++ meaning (C.present store.now) word ∷ []) (left_terms (C.present store.now) left.now.items) at) }
+    requires read { (ws : List Tree) × IsRead (C.present store.now) (C.names store.now) head.now.parts.items (length values.old.items) values.old.items later.old.items (ws ++ meaning (C.present store.now) word ∷ []) at }
+    ensures read { (ws : List Tree) → IsRead (C.present store.now) (C.names store.now) head.now.parts.items (length values.old.items) values.old.items later.old.items (ws ++ meaning (C.present store.now) word ∷ []) at
+        → IfOk result (IsReadOn (C.present store.now) (C.names store.now) head.now.parts.items (length values.old.items) values.old.items values.new.items later.old.items later.new.items (ws ++ meaning (C.present store.now) word ∷ []) ws at) }
 {
     match values[place] {
         None => {
             values[place] = Some(word);
             Ok(Some(at - 1))
         }
-        Some(_) => {
-            let from = start_of(head, at);
-            later.push(Later {
-                word,
-                from,
-                past: at,
-            })?;
-            Ok(Some(from))
-        }
+        Some(_) => read_later(head, at, word, later),
     }
 }
 
@@ -191,25 +239,32 @@ fn read_part<C: Cells>(
     values: &mut Vec<Option<C::Word>>,
     later: &mut Vec<Later<C::Word>>,
     left: &mut Vec<Unread<C::Word>>,
+    inner: &mut Unread<C::Word>,
 ) -> Result<Option<usize>, NoMemory>
     requires count { (t : Tree) × IsPattern (C.names store.now) head.now.parts.items t × (arities_fit t ≡ true) × HasPlaces (length values.old.items) t }
     requires some { 0 < at }
     requires word { Holds (C.present store.now) word }
     requires left { AreUnread (C.present store.now) left.old.items }
-    requires read { IsRead (C.present store.now) (C.names store.now) head.now.parts.items (length values.old.items) values.old.items later.old.items (left_terms (C.present store.now) left.old.items ++ meaning (C.present store.now) word ∷ []) at }
+    requires inner { MayHaveArguments (C.present store.now) inner.old }
+    requires read { IsRead (C.present store.now) (C.names store.now) head.now.parts.items (length values.old.items) values.old.items later.old.items (left_terms (C.present store.now) (left.old.items ++ inner.old ∷ []) ++ meaning (C.present store.now) word ∷ []) at }
     ensures read { IfOk result (IsReadOn (C.present store.now) (C.names store.now) head.now.parts.items (length values.old.items)
-        values.old.items values.new.items later.old.items later.new.items (left_terms (C.present store.now) left.old.items ++ meaning (C.present store.now) word ∷ []) (left_terms (C.present store.now) left.new.items) at) }
+        values.old.items values.new.items later.old.items later.new.items (left_terms (C.present store.now) (left.old.items ++ inner.old ∷ []) ++ meaning (C.present store.now) word ∷ []) (left_terms (C.present store.now) (left.new.items ++ inner.new ∷ [])) at) }
     ensures left { OnOk result (AreUnread (C.present store.now) left.new.items) }
+    ensures inner { OnOk result (MayHaveArguments (C.present store.now) inner.new) }
 {
     let shape = match head.parts[at - 1] {
         Part::Variable(place) => {
-            return read_variable(store, head, at, place, word, values, later, left);
+            return read_variable(store, head, at, place, word, values, later);
+        }
+        Part::Compound(name, count) => {
+            return read_compound(
+                store, head, at, name, count, word, values, later, left, inner,
+            );
         }
         Part::Integer(value) => Shape::Int(value),
         Part::Atom(name) => Shape::Atom(name),
-        Part::Compound(name, count) => Shape::Compound(name, count),
     };
-    read_shape(store, head, at, shape, word, values, later, left)
+    read_constant(store, head, at, shape, word, values, later)
 }
 
 /// Reads the parts before this place that are variables without a value, for the arguments that are left of a compound, the last one first:
@@ -222,7 +277,7 @@ fn read_variables<C: Cells>(
     many: usize,
     values: &mut Vec<Option<C::Word>>,
 ) -> (usize, usize)
-    requires unread { HasArguments (C.present store.now) word many }
+    requires unread { 0 < many → HasArguments (C.present store.now) word many }
     requires count { (t : Tree) × IsPattern (C.names store.now) head.now.parts.items t × (arities_fit t ≡ true) × HasPlaces (length values.old.items) t }
     requires read { (front : List Tree) × (later : List (waiting.Later C.Word)) × IsRead (C.present store.now) (C.names store.now) head.now.parts.items (length values.old.items) values.old.items later
         (front ++ first_arguments (C.present store.now) word many) past }
@@ -250,37 +305,41 @@ fn read_variables<C: Cells>(
     (count, at)
 }
 
-/// Reads the parts before this place that are variables without a value, for what is left of the goal, as far as they go: the word that another
-/// part is to be read for, and its place; nothing where no part is left.
+/// Reads the parts before this place that are variables without a value, for what is unread of the inner compound and then of those that
+/// are left, as far as they go: the word that another part is to be read for, and its place; nothing where no part is left.
 fn next_word<C: Cells>(
     store: &C,
     head: &Pattern,
     past: usize,
     values: &mut Vec<Option<C::Word>>,
     left: &mut Vec<Unread<C::Word>>,
-) -> Result<Option<NextPart<C::Word>>, NoMemory>
+    inner: &mut Unread<C::Word>,
+) -> Option<NextPart<C::Word>>
     requires left { AreUnread (C.present store.now) left.old.items }
+    requires inner { MayHaveArguments (C.present store.now) inner.old }
     requires count { (t : Tree) × IsPattern (C.names store.now) head.now.parts.items t × (arities_fit t ≡ true) × HasPlaces (length values.old.items) t }
-    requires read { (later : List (waiting.Later C.Word)) × IsRead (C.present store.now) (C.names store.now) head.now.parts.items (length values.old.items) values.old.items later (left_terms (C.present store.now) left.old.items) past }
-    ensures read { IfOk result (λ next. (later : List (waiting.Later C.Word))
-        → IsRead (C.present store.now) (C.names store.now) head.now.parts.items (length values.old.items) values.old.items later (left_terms (C.present store.now) left.old.items) past
-        → IsNext (C.present store.now) (C.names store.now) head.now.parts.items (length values.old.items) values.old.items values.new.items later (left_terms (C.present store.now) left.old.items) (left_terms (C.present store.now) left.new.items) past next) }
-    ensures left { OnOk result (AreUnread (C.present store.now) left.new.items) }
-    ensures values { OnOk result (length values.new.items ≡ length values.old.items) }
+    requires read { (later : List (waiting.Later C.Word)) × IsRead (C.present store.now) (C.names store.now) head.now.parts.items (length values.old.items) values.old.items later (left_terms (C.present store.now) (left.old.items ++ inner.old ∷ [])) past }
+    ensures read { (later : List (waiting.Later C.Word))
+        → IsRead (C.present store.now) (C.names store.now) head.now.parts.items (length values.old.items) values.old.items later (left_terms (C.present store.now) (left.old.items ++ inner.old ∷ [])) past
+        → IsNext (C.present store.now) (C.names store.now) head.now.parts.items (length values.old.items) values.old.items values.new.items later (left_terms (C.present store.now) (left.old.items ++ inner.old ∷ [])) (left_terms (C.present store.now) (left.new.items ++ inner.new ∷ [])) past result }
+    ensures left { AreUnread (C.present store.now) left.new.items }
+    ensures inner { IfSome result (λ _. MayHaveArguments (C.present store.now) inner.new) }
+    ensures values { length values.new.items ≡ length values.old.items }
 {
     let mut at = past;
-    while let Some(unread) = left.pop() {
-        let (count, rest) = read_variables(store, head, at, unread.word, unread.count, values);
-        if count > 0 {
-            leave_arguments(store, unread.word, count - 1, left)?;
-            return Ok(Some(NextPart {
-                word: store.arg(unread.word, count - 1),
-                at: rest,
-            }));
-        }
+    loop {
+        let (count, rest) = read_variables(store, head, at, inner.word, inner.count, values);
         at = rest;
+        if count > 0 {
+            inner.count = count - 1;
+            let word = store.arg(inner.word, count - 1);
+            return Some(NextPart { word, at });
+        }
+        let Some(unread) = left.pop() else {
+            return None;
+        };
+        *inner = unread;
     }
-    Ok(None)
 }
 
 /// Reads the head for the goal, from the last part on: which variables have values, and what is to be unified later. False where
@@ -300,13 +359,18 @@ pub(crate) fn read_head<C: Cells>(
     requires left { left.old.items ≡ [] }
     ensures read { IfOk result (IsHeadRead (C.present store.now) (C.names store.now) head.now.parts.items (length values.old.items) goal values.new.items later.new.items) }
 {
+    let mut inner = Unread {
+        word: goal,
+        count: 0,
+    };
     let mut word = goal;
     let mut at = head.parts.len();
     loop {
-        let Some(rest) = read_part(store, head, at, word, values, later, left)? else {
+        let met = read_part(store, head, at, word, values, later, left, &mut inner)?;
+        let Some(rest) = met else {
             return Ok(false);
         };
-        let Some(next) = next_word(store, head, rest, values, left)? else {
+        let Some(next) = next_word(store, head, rest, values, left, &mut inner) else {
             return Ok(true);
         };
         word = next.word;

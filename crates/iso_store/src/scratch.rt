@@ -57,6 +57,11 @@ impl<W: Copy> Scratch<W> {
     }
 }
 
+/// Notes and lists without anything. The error is that memory was refused.
+fn new_scratch<C: Cells>(store: &C) -> Result<Box<Scratch<C::Word>>, NoMemory> {
+    Ok(Box::new(store.alloc(), Scratch::new(store.alloc()))?)
+}
+
 /// Takes the notes and lists out of the store; new ones, where it keeps none. The error is that memory was refused for these.
 pub(crate) fn take_scratch<C: Cells>(store: &mut C) -> Result<Box<Scratch<C::Word>>, NoMemory>
     ensures present { C.present store.new ≡ C.present store.old }
@@ -67,7 +72,7 @@ pub(crate) fn take_scratch<C: Cells>(store: &mut C) -> Result<Box<Scratch<C::Wor
     store.swap_scratch(&mut scratch);
     match scratch {
         Some(scratch) => Ok(scratch),
-        None => Ok(Box::new(store.alloc(), Scratch::new(store.alloc()))?),
+        None => new_scratch(store),
     }
 }
 

@@ -1,9 +1,9 @@
-use Rattle.std.proofs.Common.{rules, length}
+use Rattle.std.proofs.Common.{rules, length, sym, ◌∙◌}
 use Rattle.std.proofs.lemmas.Int.{to_z-of_z}
 use mir.Val.{SFits}
 use mir.Syntax.{w64}
 use Rattle.iso_store.proofs.PartShows.{part-variable, part-integer, part-atom, part-compound}
-use Rattle.iso_store.proofs.reading.read_part.Goals.{in-Integer, in-Atom, in-Compound}
+use Rattle.iso_store.proofs.reading.read_part.Goals.{in-Integer, in-Atom}
 use Rattle.iso_store.proofs.reading.read_part.Goals as goal
 
 pub read_variable-requires-clause-place : goal.read_variable-requires-clause-place
@@ -16,8 +16,20 @@ read_variable-requires-clause-variable g c =
     let t = c.requires.count in
     (part-variable (g.C.Cells.names c.args.store.now) c.args.head.now.parts.items c.args.head.now.exact (length c.args.values.now.items) t.0 t.1 t.2 t.3 c.args.at c.requires.some c.requires.read.within c.index.result.now c.index.ensures _ c.in-Variable.is).1
 
-pub read_shape-requires-clause-shows : goal.read_shape-requires-clause-shows
-read_shape-requires-clause-shows g c =
+pub read_compound-requires-clause-shows : goal.read_compound-requires-clause-shows
+read_compound-requires-clause-shows g c =
+    let t = c.requires.count in
+    part-compound (g.C.Cells.names c.args.store.now) c.args.head.now.parts.items c.args.head.now.exact (length c.args.values.now.items) t.0 t.1 t.2 t.3 c.args.at c.requires.some c.requires.read.within c.index.result.now c.index.ensures _ _ c.in-Compound.is
+
+pub read_constant-requires-clause-constant : goal.read_constant-requires-clause-constant
+read_constant-requires-clause-constant g c =
+    elim c.match-index.branch [
+      | in-Integer w ↦ λ f n is. absurd (let both = sym w.shape-is ∙ is in cc)
+      | in-Atom w ↦ λ f n is. absurd (let both = sym w.shape-is ∙ is in cc)
+    ]
+
+pub read_constant-requires-clause-shows : goal.read_constant-requires-clause-shows
+read_constant-requires-clause-shows g c =
     let t = c.requires.count in
     let names = g.C.Cells.names c.args.store.now in
     let ks = c.args.head.now.parts.items in
@@ -27,5 +39,4 @@ read_shape-requires-clause-shows g c =
           let fits : SFits w64 w.in-Integer.value = search rules in
           rw w.shape-is (part-integer names ks c.args.head.now.exact n t.0 t.1 t.2 t.3 c.args.at c.requires.some c.requires.read.within c.index.result.now c.index.ensures w.in-Integer.value _ (to_z-of_z w64 w.in-Integer.value fits) w.in-Integer.is)
       | in-Atom w ↦ rw w.shape-is (part-atom names ks c.args.head.now.exact n t.0 t.1 t.2 t.3 c.args.at c.requires.some c.requires.read.within c.index.result.now c.index.ensures _ w.in-Atom.is)
-      | in-Compound w ↦ rw w.shape-is (part-compound names ks c.args.head.now.exact n t.0 t.1 t.2 t.3 c.args.at c.requires.some c.requires.read.within c.index.result.now c.index.ensures _ _ w.in-Compound.is)
     ]

@@ -14,8 +14,9 @@ overflow_sub-at g c =
     let n = length c.args.values.now.items in
     let so = c.loop-count.invariant in
     let r = c.requires.read in
+    let is = c.requires.unread (omega (arith, c.loop-count-test.true, so.within)) in
     let to = so.read r.0 r.1 r.2 in
-    let some = some-parts p c.args.word c.args.many names ks n c.args.past c.args.values.now.items c.requires.unread c.loop-count.values.items c.loop-count.count c.loop-count.at c.loop-count-test.true so.within r.0 r.1 to.read in
+    let some = some-parts p c.args.word c.args.many names ks n c.args.past c.args.values.now.items is c.loop-count.values.items c.loop-count.count c.loop-count.at c.loop-count-test.true so.within r.0 r.1 to.read in
     omega (arith, some)
 
 pub index-requires-in-loop-count : goal.index-requires-in-loop-count
@@ -26,16 +27,17 @@ index-requires-in-loop-count g c =
     let n = length c.args.values.now.items in
     let so = c.loop-count.invariant in
     let r = c.requires.read in
+    let is = c.requires.unread (omega (arith, c.loop-count-test.true, so.within)) in
     let to = so.read r.0 r.1 r.2 in
-    let some = some-parts p c.args.word c.args.many names ks n c.args.past c.args.values.now.items c.requires.unread c.loop-count.values.items c.loop-count.count c.loop-count.at c.loop-count-test.true so.within r.0 r.1 to.read in
+    let some = some-parts p c.args.word c.args.many names ks n c.args.past c.args.values.now.items is c.loop-count.values.items c.loop-count.count c.loop-count.at c.loop-count-test.true so.within r.0 r.1 to.read in
     let t = c.requires.count in
     let variable = part-variable names ks c.args.head.now.exact n t.0 t.1 t.2 t.3 c.loop-count.at some to.read.within c.index.result.now c.index.ensures _ c.in-Variable.is in
     omega (arith, variable.0, so.values, c.loop-count.values.ok.0)
 
 pub arg-requires-clause-index : goal.arg-requires-clause-index
 arg-requires-clause-index g c =
-    let is = c.requires.unread in
     let within = c.loop-count.invariant.within in
+    let is = c.requires.unread (omega (arith, c.loop-count-test.true, within)) in
     argument-index (c.loop-count.count - 1) is.arity _ is.compound (omega (arith, c.loop-count-test.true, within, is.within))
 
 pub index_mut-requires : goal.index_mut-requires
@@ -46,8 +48,9 @@ index_mut-requires g c =
     let n = length c.args.values.now.items in
     let so = c.loop-count.invariant in
     let r = c.requires.read in
+    let is = c.requires.unread (omega (arith, c.loop-count-test.true, so.within)) in
     let to = so.read r.0 r.1 r.2 in
-    let some = some-parts p c.args.word c.args.many names ks n c.args.past c.args.values.now.items c.requires.unread c.loop-count.values.items c.loop-count.count c.loop-count.at c.loop-count-test.true so.within r.0 r.1 to.read in
+    let some = some-parts p c.args.word c.args.many names ks n c.args.past c.args.values.now.items is c.loop-count.values.items c.loop-count.count c.loop-count.at c.loop-count-test.true so.within r.0 r.1 to.read in
     let t = c.requires.count in
     let variable = part-variable names ks c.args.head.now.exact n t.0 t.1 t.2 t.3 c.loop-count.at some to.read.within c.index.result.now c.index.ensures _ c.in-Variable.is in
     omega (arith, variable.0, so.values, c.loop-count.values.ok.0)
@@ -60,8 +63,9 @@ overflow_sub-at-in-loop-count g c =
     let n = length c.args.values.now.items in
     let so = c.loop-count.invariant in
     let r = c.requires.read in
+    let is = c.requires.unread (omega (arith, c.loop-count-test.true, so.within)) in
     let to = so.read r.0 r.1 r.2 in
-    let some = some-parts p c.args.word c.args.many names ks n c.args.past c.args.values.now.items c.requires.unread c.loop-count.values.items c.loop-count.count c.loop-count.at c.loop-count-test.true so.within r.0 r.1 to.read in
+    let some = some-parts p c.args.word c.args.many names ks n c.args.past c.args.values.now.items is c.loop-count.values.items c.loop-count.count c.loop-count.at c.loop-count-test.true so.within r.0 r.1 to.read in
     omega (arith, some)
 
 pub loop-count-preserved : goal.loop-count-preserved
@@ -72,8 +76,9 @@ loop-count-preserved g c =
     let n = length c.args.values.now.items in
     let so = c.loop-count.invariant in
     let r = c.requires.read in
+    let is = c.requires.unread (omega (arith, c.loop-count-test.true, so.within)) in
     let to = so.read r.0 r.1 r.2 in
-    let some = some-parts p c.args.word c.args.many names ks n c.args.past c.args.values.now.items c.requires.unread c.loop-count.values.items c.loop-count.count c.loop-count.at c.loop-count-test.true so.within r.0 r.1 to.read in
+    let some = some-parts p c.args.word c.args.many names ks n c.args.past c.args.values.now.items is c.loop-count.values.items c.loop-count.count c.loop-count.at c.loop-count-test.true so.within r.0 r.1 to.read in
     let t = c.requires.count in
     let variable = part-variable names ks c.args.head.now.exact n t.0 t.1 t.2 t.3 c.loop-count.at some to.read.within c.index.result.now c.index.ensures _ c.in-Variable.is in
     let below : c.in-Variable.place < length c.loop-count.values.items = omega (arith, variable.0, so.values) in
@@ -82,6 +87,6 @@ loop-count-preserved g c =
       within = omega (arith, so.within);
       parts = omega (arith, so.parts, some, c.loop-count-test.true);
       values = length-set-here c.loop-count.values.items c.in-Variable.place (Some c.arg.result) ∙ so.values;
-      read = read-one p c.args.word c.args.many names ks n c.args.past c.args.values.now.items c.requires.unread c.loop-count.values.items c.loop-count.count c.loop-count.at c.loop-count-test.true so.within _ c.in-Variable.place c.arg.result some
+      read = read-one p c.args.word c.args.many names ks n c.args.past c.args.values.now.items is c.loop-count.values.items c.loop-count.count c.loop-count.at c.loop-count-test.true so.within _ c.in-Variable.place c.arg.result some
           c.arg.ensures.holds c.arg.ensures.value below none refl variable.1 so.read;
     }

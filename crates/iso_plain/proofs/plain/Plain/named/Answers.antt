@@ -1,8 +1,8 @@
 -- What is called by the atom of a name is what is called by its text.
-use Rattle.std.proofs.Common.{◌≡◌, Some, None, false, true, is_some, sym, ap, ◌∙◌, subst, List}
+use Rattle.std.proofs.Common.{◌≡◌, Some, None, false, true, is_some, sym, ap, ◌∙◌, subst, List, []}
 use Rattle.iso_atoms.specs.Texts.{text_at}
 use Rattle.iso_model.specs.Search.Errors.{key}
-use Rattle.iso_store_core.proofs.AtomLemmas.{text-is}
+use Rattle.std.proofs.lemmas.Option.{slice_get-get_or}
 use Rattle.iso_db.specs.Databases.{Clause, kind_at, clauses_of}
 use Rattle.iso_db.specs.Presents.{contents, Gives}
 use Rattle.iso_plain_core.specs.declared.clauses.Clause as kept
@@ -23,40 +23,24 @@ view-requires g c =
     let user = called_user (contents e.db) (key (text_at names c.args.name) c.args.arity) c.in-Some-User.place (found_by names e.callables.items (contents e.db) c.args.name c.args.arity (callee.User c.in-Some-User.place) c.requires.found found) in
     place_within (contents e.db) (key (text_at names c.args.name) c.args.arity) c.in-Some-User.place user.1
 
-pub unknown-requires-clause-none : goal.unknown-requires-clause-none
-unknown-requires-clause-none g c =
-    let e = c.args.self.now in
-    let names = g.S.Store.names e.store in
-    let found : callee_at e.callables.items c.args.name c.args.arity ≡ Some (callee.User c.in-Some-User.place) = (rw c.as_slice.ensures.value at (sym c.find.ensures)) ∙ c.in-Some-User.is ∙ ap Some c.in-Some-User.field-0-is in
-    let user = called_user (contents e.db) (key (text_at names c.args.name) c.args.arity) c.in-Some-User.place (found_by names e.callables.items (contents e.db) c.args.name c.args.arity (callee.User c.in-Some-User.place) c.requires.found found) in
-    rw (text-is names c.args.name c.text.result.now c.text.ensures) at user.0
-
-pub unknown-requires-clause-absent : goal.unknown-requires-clause-absent
-unknown-requires-clause-absent g c =
-    let e = c.args.self.now in
+pub returns-in-Err : goal.returns-in-Err
+returns-in-Err g c = λ w is.
+    (let e = c.args.self.now in
     let names = g.S.Store.names e.store in
     let k = key (text_at names c.args.name) c.args.arity in
     let found : callee_at e.callables.items c.args.name c.args.arity ≡ Some (callee.User c.in-Some-User.place) = (rw c.as_slice.ensures.value at (sym c.find.ensures)) ∙ c.in-Some-User.is ∙ ap Some c.in-Some-User.field-0-is in
     let user = called_user (contents e.db) k c.in-Some-User.place (found_by names e.callables.items (contents e.db) c.args.name c.args.arity (callee.User c.in-Some-User.place) c.requires.found found) in
-    let no : false ≡ is_some (kind_at (contents e.db) c.in-Some-User.place) = rw c.in_default.is at c.view.ensures.there in
+    let no : false ≡ is_some (kind_at (contents e.db) c.in-Some-User.place) = rw c.in-Err.is at c.view.ensures.there in
     let absent : kind_of (kept_at (contents e.db) k) ≡ None = ap kind_of (kept_there (contents e.db) k c.in-Some-User.place user.1) ∙ none_of (kind_at (contents e.db) c.in-Some-User.place) no in
-    rw (text-is names c.args.name c.text.result.now c.text.ensures) at absent
-
-pub returns-in_default : goal.returns-in_default
-returns-in_default g c = λ w is. rw (text-is (g.S.Store.names c.args.self.now.store) c.args.name c.text.result.now c.text.ensures) (c.unknown.ensures w is)
-
-pub unknown-requires-in-None-clause-none : goal.unknown-requires-in-None-clause-none
-unknown-requires-in-None-clause-none g c =
-    let e = c.args.self.now in
-    (found_none (g.S.Store.names e.store) e.callables.items (contents e.db) c.args.name c.args.arity c.text-in-None.result.now c.requires.each_once c.text-in-None.ensures c.requires.found ((rw c.as_slice.ensures.value at (sym c.find.ensures)) ∙ c.in-None.is)).0
-
-pub unknown-requires-in-None-clause-absent : goal.unknown-requires-in-None-clause-absent
-unknown-requires-in-None-clause-absent g c =
-    let e = c.args.self.now in
-    (found_none (g.S.Store.names e.store) e.callables.items (contents e.db) c.args.name c.args.arity c.text-in-None.result.now c.requires.each_once c.text-in-None.ensures c.requires.found ((rw c.as_slice.ensures.value at (sym c.find.ensures)) ∙ c.in-None.is)).1
+    c.unknown.ensures names w k is user.0 absent)
 
 pub returns-in-None : goal.returns-in-None
-returns-in-None g c = λ w is. rw (text-is (g.S.Store.names c.args.self.now.store) c.args.name c.text-in-None.result.now c.text-in-None.ensures) (c.unknown-in-None.ensures w is)
+returns-in-None g c = λ w is.
+    (let e = c.args.self.now in
+    let names = g.S.Store.names e.store in
+    let text = text_at names c.args.name in
+    let none = found_none names e.callables.items (contents e.db) c.args.name c.args.arity text c.requires.each_once (slice_get-get_or names c.args.name [] c.requires.name) c.requires.found ((rw c.as_slice.ensures.value at (sym c.find.ensures)) ∙ c.in-None.is) in
+    c.unknown-in-None.ensures names w (key text c.args.arity) is none.0 none.1)
 
 pub returns-in-Some-BuiltIn : goal.returns-in-Some-BuiltIn
 returns-in-Some-BuiltIn g c = λ w is.

@@ -27,11 +27,11 @@ returns-in-And-clause-frames g c = λ s r. result_full c.conjunction.result (λ 
 pub returns-in-If-clause-frames : goal.returns-in-If-clause-frames
 returns-in-If-clause-frames g c = λ s r. result_full c.if_then.result (λ h. absurd h) c.if_then.ensures.frames
 
-pub run_goal-requires-clause-there : goal.run_goal-requires-clause-there
-run_goal-requires-clause-there g c =
+pub unreachable-requires : goal.unreachable-requires
+unreachable-requires g c =
     let r = c.requires.stands.1 in
     let within = body_within (g.S.Store.present c.args.self.now.store) (at_body g.S.Store.names g.S.Store.present g.S.Store.stands g.S.Store.older c.args.self.now r.own c.args.link c.args.place c.requires.now c.requires.body r.engine).stands_for in
-    record { asks = c.requires.body; there = get_at c.args.self.now.nodes.items c.args.place c.index.result.now within c.index.ensures ∙ ap Some c.in-Run.is }
+    c.requires.other c.args.link c.args.place _ c.requires.now (record { asks = c.requires.body; there = get_at c.args.self.now.nodes.items c.args.place c.index.result.now within c.index.ensures ∙ ap Some c.in-Run.is })
 
 pub conjunction-requires-clause-there : goal.conjunction-requires-clause-there
 conjunction-requires-clause-there g c =

@@ -7,8 +7,8 @@ use Rattle.iso_plain.specs.EngineStates.{StandsFor, weight, phase_of}
 use Rattle.iso_model.specs.Search.Engines.{IsAwake}
 use Rattle.iso_plain.proofs.plain.Plain.run_on.Given as goal
 
-abbrev pub invariant-loop-pause : goal.invariant-loop-pause
-invariant-loop-pause g l = record {
+abbrev pub invariant-loop-goal : goal.invariant-loop-goal
+invariant-loop-goal g l = record {
   awake : IsAwake (phase_of l.self.now);
   stands : (t : State) × StandsFor g.S.Store.names g.S.Store.present g.S.Store.stands g.S.Store.older l.self t;
   quiet : (s : State) → StandsFor g.S.Store.names g.S.Store.present g.S.Store.stands g.S.Store.older l.fn.self s
@@ -17,5 +17,5 @@ invariant-loop-pause g l = record {
   stays : Stays g.S.Store.names l.fn.self l.self;
 }
 
-abbrev pub decreases-loop-pause : goal.decreases-loop-pause
-decreases-loop-pause g l = weight l.self
+abbrev pub decreases-loop-goal : goal.decreases-loop-goal
+decreases-loop-goal g l = weight l.self

@@ -5,7 +5,7 @@ use Rattle.iso_model.specs.Terms.Substitutions.{apply}
 use Rattle.iso_store_core.specs.Presents.{Gathers, KeepsNumbers, Grows, KeepsMarks}
 use Rattle.iso_store_core.specs.Copying.{cells_of}
 use Rattle.iso_store_core.specs.Patterns.{after_parts, at_places}
-use Rattle.iso_store.proofs.instances.make_parts.Given as goal
+use Rattle.iso_store.proofs.instances.make_nested.Given as goal
 
 abbrev pub invariant-loop-part : goal.invariant-loop-part
 invariant-loop-part g l = record {

@@ -4,9 +4,8 @@ use Rattle.iso_store_core.specs.Patterns.{at_places}
 use Rattle.iso_store.specs.Writing.{IsReady, part_cells}
 use Rattle.iso_store.proofs.Gathering.{numbers-then, grows-on, grows-within}
 use Rattle.iso_store.proofs.InstanceLemmas.{so_far, next-part, part-grows, part-is-ready, cells-so-far, cells-more, before-last, at-last, last-step, gathers-part, gathers-place, gathers-count, last-makes, made-behind}
-use Rattle.iso_store.proofs.Picked.{flat-places, flat-ready, flat-one, flat-cells}
-use Rattle.iso_store.proofs.instances.make_parts.Goals as goal
-use Rattle.iso_store.proofs.instances.make_parts.Goals.{in-Variable+in_ok-push, in_default-part+in_ok-make_part}
+use Rattle.iso_store.proofs.instances.make_nested.Goals as goal
+use Rattle.iso_store.proofs.instances.make_nested.Goals.{in-Variable+in_ok-push, in_default+in_ok-make_part}
 
 pub bounds-variables-place : goal.bounds-variables-place
 bounds-variables-place g c =
@@ -84,7 +83,7 @@ loop-part-preserved g c =
             names = so.names;
             marks = so.marks;
           }
-      | in_default-part+in_ok-make_part w ↦
+      | in_default+in_ok-make_part w ↦
           let made = rw so.names at w.in_ok-make_part.ensures.gathers in
           let same = ap (λ n. part_cells g.C.Cells.atomic g.C.Cells.width n part) count in
           rw (w.store-is, w.words-is) record {
@@ -159,50 +158,3 @@ returns-clause-cells g c t pattern =
     let within = cells-more names ks t pattern g.C.Cells.atomic g.C.Cells.width i part (omega (arith, last)) is in
     let made = rw c.as_slice.ensures.value at c.make_last.ensures.cells in
     grows-on _ so.cells made (omega (arith, same, within))
-
--- ---- a compound of variables
-
-pub make_flat-requires-clause-leaves : goal.make_flat-requires-clause-leaves
-make_flat-requires-clause-leaves g c =
-    let r = c.requires.pattern in
-    flat-places (g.C.Cells.names c.args.store.now) c.args.parts.now r.0 r.1 c.in-Compound.name c.in-Compound.count _ c.in-Compound.is (length c.args.variables.now) r.2 r.3 (c.are_variables.ensures c.if-are_variables.true)
-
-pub make_flat-requires-clause-ready : goal.make_flat-requires-clause-ready
-make_flat-requires-clause-ready g c =
-    let p = g.C.Cells.present c.args.store.now in
-    let names = g.C.Cells.names c.args.store.now in
-    let ks = c.args.parts.now in
-    let variables = c.args.variables.now in
-    let r = c.requires.pattern in
-    let places = flat-places names ks r.0 r.1 c.in-Compound.name c.in-Compound.count _ c.in-Compound.is (length variables) r.2 r.3 (c.are_variables.ensures c.if-are_variables.true) in
-    flat-ready names ks r.0 r.1 c.in-Compound.name c.in-Compound.count _ c.in-Compound.is p variables c.requires.variables places r.2 r.3
-
-pub make_flat-requires-clause-one : goal.make_flat-requires-clause-one
-make_flat-requires-clause-one g c =
-    let p = g.C.Cells.present c.args.store.now in
-    let names = g.C.Cells.names c.args.store.now in
-    let ks = c.args.parts.now in
-    let variables = c.args.variables.now in
-    let r = c.requires.pattern in
-    let places = flat-places names ks r.0 r.1 c.in-Compound.name c.in-Compound.count _ c.in-Compound.is (length variables) r.2 r.3 (c.are_variables.ensures c.if-are_variables.true) in
-    (apply (at_places (map p.term variables)) r.0, flat-one names ks r.0 r.1 c.in-Compound.name c.in-Compound.count _ c.in-Compound.is p variables c.requires.variables places)
-
-pub returns-then-are_variables-clause-made : goal.returns-then-are_variables-clause-made
-returns-then-are_variables-clause-made g c = λ t pattern.
-    (let p = g.C.Cells.present c.args.store.now in
-    let names = g.C.Cells.names c.args.store.now in
-    let ks = c.args.parts.now in
-    let variables = c.args.variables.now in
-    let r = c.requires.pattern in
-    let places = flat-places names ks r.0 r.1 c.in-Compound.name c.in-Compound.count _ c.in-Compound.is (length variables) r.2 r.3 (c.are_variables.ensures c.if-are_variables.true) in
-    c.make_flat.ensures.made (apply (at_places (map p.term variables)) t) (flat-one names ks t pattern c.in-Compound.name c.in-Compound.count _ c.in-Compound.is p variables c.requires.variables places))
-
-pub returns-then-are_variables-clause-cells : goal.returns-then-are_variables-clause-cells
-returns-then-are_variables-clause-cells g c = λ t pattern.
-    (let p = g.C.Cells.present c.args.store.now in
-    let names = g.C.Cells.names c.args.store.now in
-    let ks = c.args.parts.now in
-    let variables = c.args.variables.now in
-    let r = c.requires.pattern in
-    let places = flat-places names ks r.0 r.1 c.in-Compound.name c.in-Compound.count _ c.in-Compound.is (length variables) r.2 r.3 (c.are_variables.ensures c.if-are_variables.true) in
-    grows-within _ c.make_flat.ensures.cells (flat-cells names ks t pattern c.in-Compound.name c.in-Compound.count _ c.in-Compound.is p variables c.requires.variables places g.C.Cells.atomic g.C.Cells.width))
