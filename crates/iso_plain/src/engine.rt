@@ -1,5 +1,5 @@
 //! The plain engine is an engine: a call of `resume` is moves up to an event (7.7).
-ghost use Rattle.std.specs.Prelude.{◌≡◌, ◌≢◌, ℕ, IfOk, OnErr, true, Err, ◌≤◌};
+ghost use Rattle.std.specs.Prelude.{◌≡◌, ℕ, IfOk, OnErr, true, Err};
 ghost use Rattle.iso_model.specs.Terms.Trees.{arities_fit};
 ghost use Rattle.iso_model.specs.Terms.TermOf.{term_of};
 ghost use Rattle.iso_model.specs.Terms.Copies.{IsNumbered};

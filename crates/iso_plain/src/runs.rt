@@ -1,8 +1,6 @@
 //! The engine's move at a member of the list of goals: a goal takes a step of the budget (7.7.4 to 7.7.7), a control construct none.
-ghost use Rattle.std.specs.Prelude.{◌≡◌, ◌≢◌, ℕ, suc, ◌+◌, ◌<◌, ◌≤◌, IfOk, OnErr, Ok, Err, List, ◌∷◌, length, true, false};
-ghost use Rattle.iso_model.specs.Terms.Trees.{Tree};
-ghost use Rattle.iso_model.specs.Search.Databases as databases;
-ghost use Rattle.iso_model.specs.Search.Walker.{State, Member, tried, with_others};
+ghost use Rattle.std.specs.Prelude.{◌≡◌, ◌≢◌, ◌+◌, ◌<◌, IfOk, OnErr, Err, length};
+ghost use Rattle.iso_model.specs.Search.Walker.{State};
 ghost use Rattle.iso_model.specs.Search.Runs.{ComesOver};
 ghost use Rattle.iso_store_core.specs.Presents.{meaning};
 ghost use Rattle.iso_plain_core.specs.GoalKinds.{IsBuiltIn};
@@ -20,14 +18,12 @@ use iso_store_core::{Store, StoreFault};
 
 impl<S: Store + Drop> Plain<S> {
     ghost use Rattle.iso_plain.specs.Nexts.{IsGoalNext, NoGoalNext, ComesNext, FallsNext};
-    ghost use Rattle.iso_plain.specs.EngineStates.{Represents, StandsFor, phase_of, Stopped, WasRefused, Moves, Falls, Calls, WasTried, cost, weight};
-    ghost use Rattle.iso_plain_core.specs.Costs.{choices_cost, rest_cost, member_costs, whole_cost};
+    ghost use Rattle.iso_plain.specs.EngineStates.{Represents, StandsFor, phase_of, Stopped, Moves, Falls, weight};
     ghost use Rattle.iso_plain_core.specs.Standing.{IsAt};
     ghost use Rattle.iso_plain.specs.Stays.{Stays};
     ghost use Rattle.iso_plain.specs.Limits.{ResultMet, ResultFull};
     ghost use Rattle.iso_model.specs.Search.Engines.{IsAwake};
     ghost use Rattle.iso_plain.specs.declared.plain.Move.TheVariants.{Goes};
-    ghost use Rattle.iso_plain.specs.declared.plain.Move.TheVariants as move;
     ghost use Rattle.iso_plain_core.specs.declared.members.Now.TheVariants as now;
     ghost use Rattle.iso_plain_core.specs.declared.members.Todo.TheVariants as todo;
 

@@ -1,4 +1,4 @@
-use Rattle.std.proofs.Common.{rules, ◌≡◌, ◌≢◌, ◌++◌, ◌∷◌, [], length, ap, ap₂, sym, ◌∙◌, refl, arith}
+use Rattle.std.proofs.Common.{rules, ◌≡◌, ◌≢◌, ◌++◌, ◌∷◌, [], length, ap₂, sym, ◌∙◌, refl, arith}
 use Rattle.iso_store_core.specs.declared.shapes.Shape.TheVariants.{Compound}
 use Rattle.iso_store.specs.declared.reading.Unread.{Unread}
 use Rattle.iso_store.specs.Reading.{left_terms}

@@ -1,4 +1,4 @@
-use Rattle.std.proofs.Common.{◌≡◌, ◌≢◌, ◌-◌, Some, Ok, arith, ap, sym, ◌∙◌, refl, subst}
+use Rattle.std.proofs.Common.{◌≢◌, ◌-◌, Some, Ok, arith, ap, sym, ◌∙◌, refl, subst}
 use Rattle.iso_store_core.specs.Presents.{meaning}
 use Rattle.iso_plain_core.specs.Costs.{rest_cost, member_costs, choices_cost}
 use Rattle.iso_plain_core.specs.Standing.{IsAt}

@@ -1,17 +1,14 @@
-use Rattle.std.proofs.Common.{◌-◌, ap, refl, subst, arith}
+use Rattle.std.proofs.Common.{◌-◌, ap, refl}
 use Rattle.iso_model.specs.Terms.TermOf.{term_of}
-use Rattle.std.proofs.lemmas.Result.{on_err_weaker, IfOk-weaker}
-use Rattle.iso_store_core.specs.Presents.{meaning}
-use Rattle.iso_plain.specs.EngineStates.{Falls, cost, weight, phase_of}
+use Rattle.iso_plain.specs.EngineStates.{phase_of}
 use Rattle.iso_plain_core.proofs.EnteringLemmas.{adds_none, words_same}
 use Rattle.iso_lib_core.proofs.ErrorLemmas.{existence_fits}
 use Rattle.iso_plain_core.proofs.ResultLemmas.{behind_error}
 use Rattle.iso_plain.proofs.StoppedLemmas.{keeps_all}
 use Rattle.iso_plain.proofs.SearchMoves.{stops_here}
-use Rattle.iso_plain.proofs.RunLemmas.{calls_engine, ahead_step, one_less}
-use Rattle.iso_plain.proofs.RunMoves.{at, spends, throws_unknown, fails_unknown, called_on, refused_on, over}
-use Rattle.iso_plain.proofs.RunCosts.{behind_less, step_weight, fails_falls, throws_falls}
-use Rattle.iso_plain.proofs.LimitLemmas.{result_full}
+use Rattle.iso_plain.proofs.RunLemmas.{ahead_step, one_less}
+use Rattle.iso_plain.proofs.RunMoves.{at, spends, throws_unknown, fails_unknown}
+use Rattle.iso_plain.proofs.RunCosts.{fails_falls, throws_falls}
 use Rattle.iso_plain.proofs.plain.Plain.run_goal.Goals as goal
 
 pub returns-then-self-eq0-clause-moves : goal.returns-then-self-eq0-clause-moves
