@@ -151,6 +151,7 @@ fn read_compound<C: Cells>(
 {
     match store.shape(word) {
         Shape::Var(_) => {
+            // What `read_later` does: a build takes it in here, where it is most frequent, only if it is written out.
             let from = start_of(head, at);
             later.push(Later {
                 word,
