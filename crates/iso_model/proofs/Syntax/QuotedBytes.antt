@@ -18,49 +18,11 @@ pub data Spelled (b : ℕ) (text : List ℕ) : Type 0 where
   by_escape : (behind : List ℕ) → text ≡ 92 ∷ behind → is_continuation b ≡ false
       → ((rest : List ℕ) → piece_at 39 (92 ∷ (behind ++ rest)) ≡ Stands (b ∷ []) (1 + length behind)) → Spelled b text
 
--- a sign behind a backslash
-sign_spelled : (b sign : ℕ) → is_continuation b ≡ false → ((rest : List ℕ) → piece_at 39 (92 ∷ sign ∷ rest) ≡ Stands (b ∷ []) 2) → Spelled b (texts.escaped sign)
-sign_spelled b sign first is = by_escape (sign ∷ []) refl first is
-
-letter_spelled : (b code sign : ℕ) → (b == code) ≡ true → is_continuation code ≡ false → ((rest : List ℕ) → piece_at 39 (92 ∷ sign ∷ rest) ≡ Stands (code ∷ []) 2) → Spelled b (texts.escaped sign)
-letter_spelled b code sign e first is = let same : b ≡ code = eqb-true b code e in rw same (sign_spelled code sign first is)
-
--- the signs: `\a \b \t \n \v \f \r`, the quote and the backslash
-alert : (rest : List ℕ) → piece_at 39 (92 ∷ 97 ∷ rest) ≡ Stands (7 ∷ []) 2
-unfolding piece_at
-alert rest = ap (λ x. Stands x 2) (encode_ascii 7 (omega arith))
-
-backspace : (rest : List ℕ) → piece_at 39 (92 ∷ 98 ∷ rest) ≡ Stands (8 ∷ []) 2
-unfolding piece_at
-backspace rest = ap (λ x. Stands x 2) (encode_ascii 8 (omega arith))
-
-tab : (rest : List ℕ) → piece_at 39 (92 ∷ 116 ∷ rest) ≡ Stands (9 ∷ []) 2
-unfolding piece_at
-tab rest = ap (λ x. Stands x 2) (encode_ascii 9 (omega arith))
-
-newline : (rest : List ℕ) → piece_at 39 (92 ∷ 110 ∷ rest) ≡ Stands (10 ∷ []) 2
-unfolding piece_at
-newline rest = ap (λ x. Stands x 2) (encode_ascii 10 (omega arith))
-
-vertical : (rest : List ℕ) → piece_at 39 (92 ∷ 118 ∷ rest) ≡ Stands (11 ∷ []) 2
-unfolding piece_at
-vertical rest = ap (λ x. Stands x 2) (encode_ascii 11 (omega arith))
-
-feed : (rest : List ℕ) → piece_at 39 (92 ∷ 102 ∷ rest) ≡ Stands (12 ∷ []) 2
-unfolding piece_at
-feed rest = ap (λ x. Stands x 2) (encode_ascii 12 (omega arith))
-
-carriage : (rest : List ℕ) → piece_at 39 (92 ∷ 114 ∷ rest) ≡ Stands (13 ∷ []) 2
-unfolding piece_at
-carriage rest = ap (λ x. Stands x 2) (encode_ascii 13 (omega arith))
-
-quote : (rest : List ℕ) → piece_at 39 (92 ∷ 39 ∷ rest) ≡ Stands (39 ∷ []) 2
-unfolding piece_at
-quote rest = ap (λ x. Stands x 2) (encode_ascii 39 (omega arith))
-
-backslash : (rest : List ℕ) → piece_at 39 (92 ∷ 92 ∷ rest) ≡ Stands (92 ∷ []) 2
-unfolding piece_at
-backslash rest = ap (λ x. Stands x 2) (encode_ascii 92 (omega arith))
+-- a byte of a sign: `\a \b \t \n \v \f \r`, the quote and the backslash
+sign_spelled : (b code sign : ℕ) → (b == code) ≡ true → code < 128 → is_continuation code ≡ false → ((rest : List ℕ) → piece_at 39 (92 ∷ sign ∷ rest) ≡ Stands (encode_utf8 code) 2) → Spelled b (texts.escaped sign)
+sign_spelled b code sign e small first is =
+    let same : b ≡ code = eqb-true b code e in
+    rw same (by_escape (sign ∷ []) refl first (λ rest. is rest ∙ ap (λ x. Stands x 2) (encode_ascii code small)))
 
 abbrev code_by : List ℕ → Written → Option Written
 code_by text code =
@@ -100,18 +62,24 @@ code_spelled b h =
     ap (λ x. piece_at 39 (92 ∷ 120 ∷ x)) (append_assoc ds (92 ∷ []) rest) ∙ code_read b rest small.0 ∙ ap (Stands (b ∷ [])) len)
 
 mark_spelled : (b : ℕ) → (b == 92 || b == 39) ≡ true → Spelled b (texts.escaped b)
-mark_spelled b h = ⊎_elim (λ e. let same : b ≡ 92 = eqb-true b 92 e in rw same (sign_spelled 92 92 refl backslash)) (λ e. let same : b ≡ 39 = eqb-true b 39 e in rw same (sign_spelled 39 39 refl quote)) (or_cases (b == 92) (b == 39) h)
+unfolding piece_at
+mark_spelled b h =
+    ⊎_elim
+    (λ e. let same : b ≡ 92 = eqb-true b 92 e in rw same (sign_spelled 92 92 92 refl (omega arith) refl (λ _. refl)))
+    (λ e. let same : b ≡ 39 = eqb-true b 39 e in rw same (sign_spelled 39 39 39 refl (omega arith) refl (λ _. refl)))
+    (or_cases (b == 92) (b == 39) h)
 
 -- a byte is written so that it is read as itself
 pub spelled : (b : ℕ) → Spelled b (quoted_byte b)
+unfolding piece_at
 spelled b =
     cond_both (b == 92 || b == 39) _ _ (Spelled b) (λ e. mark_spelled b e) (λ first.
-    cond_both (b == 7) _ _ (Spelled b) (λ e. letter_spelled b 7 97 e refl alert) (λ _.
-    cond_both (b == 8) _ _ (Spelled b) (λ e. letter_spelled b 8 98 e refl backspace) (λ _.
-    cond_both (b == 9) _ _ (Spelled b) (λ e. letter_spelled b 9 116 e refl tab) (λ _.
-    cond_both (b == 10) _ _ (Spelled b) (λ e. letter_spelled b 10 110 e refl newline) (λ ten.
-    cond_both (b == 11) _ _ (Spelled b) (λ e. letter_spelled b 11 118 e refl vertical) (λ _.
-    cond_both (b == 12) _ _ (Spelled b) (λ e. letter_spelled b 12 102 e refl feed) (λ _.
-    cond_both (b == 13) _ _ (Spelled b) (λ e. letter_spelled b 13 114 e refl carriage) (λ _.
+    cond_both (b == 7) _ _ (Spelled b) (λ e. sign_spelled b 7 97 e (omega arith) refl (λ _. refl)) (λ _.
+    cond_both (b == 8) _ _ (Spelled b) (λ e. sign_spelled b 8 98 e (omega arith) refl (λ _. refl)) (λ _.
+    cond_both (b == 9) _ _ (Spelled b) (λ e. sign_spelled b 9 116 e (omega arith) refl (λ _. refl)) (λ _.
+    cond_both (b == 10) _ _ (Spelled b) (λ e. sign_spelled b 10 110 e (omega arith) refl (λ _. refl)) (λ ten.
+    cond_both (b == 11) _ _ (Spelled b) (λ e. sign_spelled b 11 118 e (omega arith) refl (λ _. refl)) (λ _.
+    cond_both (b == 12) _ _ (Spelled b) (λ e. sign_spelled b 12 102 e (omega arith) refl (λ _. refl)) (λ _.
+    cond_both (b == 13) _ _ (Spelled b) (λ e. sign_spelled b 13 114 e (omega arith) refl (λ _. refl)) (λ _.
     cond_both (nat_lt b 32 || b == 127) _ _ (Spelled b) (λ e. code_spelled b e)
     (λ _. let parts = or_parts (b == 92) (b == 39) first in as_it_is refl parts.1 ten parts.0)))))))))
