@@ -7,16 +7,15 @@ use Rattle.std.proofs.lemmas.List.{take_more}
 use Rattle.std.proofs.lemmas.List.Elements.{All-push}
 use Rattle.std.proofs.lemmas.List.Folds.{list_any-append}
 use Rattle.iso_db.specs.Keys.{Key}
-use Rattle.iso_db.specs.Databases.{Clause, Procedure, at_place}
-use Rattle.iso_db.specs.Blocks.{Kept, ids, block_of}
+use Rattle.iso_db.specs.Databases.{Procedure, Database, at_place, without_procedure}
+use Rattle.iso_db.specs.Blocks.{Ids, Kept, ids, block_of}
 use Rattle.iso_db.specs.declared.slots.Slot.{Slot}
-use Rattle.iso_db.specs.declared.views.View.{View}
 use Rattle.iso_db.specs.Slots.{clause_at, procedure_at, given, IsCounted, Removes, Clears}
-use Rattle.iso_db.specs.Kept.{lists, shown_by, shown, Owns, IsKept, Giving}
+use Rattle.iso_db.specs.Kept.{lists, shown_by, shown, Owns, IsKept}
 use Rattle.iso_db.proofs.KeptLemmas.{filter_map-agree, shown-set, shown-same, Owns-more, Owns-ids, Trimmed-more}
 use Rattle.iso_db.proofs.AddLemmas.{block_of-last}
-use Rattle.iso_db.proofs.GivingLemmas.{Remembers, Giving-kept, Grown-set, Extends-kind}
-use Rattle.iso_db.proofs.PlaceLemmas.{IsKept-kind}
+use Rattle.iso_db.proofs.GivingLemmas.{Remembers, Giving-kept, Becomes, Grown-set, Extends-kind}
+use Rattle.iso_db.proofs.PlaceLemmas.{shown_within, IsKept-kind}
 
 either_false : (a b : Bool) → a || b ≡ false → (a ≡ false) × (b ≡ false)
 either_false true b h = absurd (true≢false h)
@@ -94,7 +93,7 @@ module _ {C : Type 0} where
   none-given slots r (n ∷ ns) all = ap (λ o. cons_option o (given slots r ns)) (all 0 n (omega arith)) ∙ none-given slots r ns (λ k d h. all (suc k) d (omega arith))
 
   -- what is shown once a procedure is gone
-  pub shown-abolished : (slots : List (Slot C)) (r : ℕ) (more : List (Slot C)) (q : ℕ) (keys : List Key) (entries : List Kept) (place : ℕ) (d : Kept) → IsKept slots r keys entries → place < length entries → Clears (ids (get_or entries place d).current) slots r more q
+  shown-abolished : (slots : List (Slot C)) (r : ℕ) (more : List (Slot C)) (q : ℕ) (keys : List Key) (entries : List Kept) (place : ℕ) (d : Kept) → IsKept slots r keys entries → place < length entries → Clears (ids (get_or entries place d).current) slots r more q
       → shown more q keys (set entries place (record (get_or entries place d) { kind = None })) ≡ at_place place absent (shown slots r keys entries)
   shown-abolished slots r more q keys entries place d kept within clears =
       shown-set more q keys entries place absent (record e { kind = None }) d kept.same
@@ -115,14 +114,23 @@ module _ {C : Type 0} where
       same p x at other = filter_map-agree (clause_at more q) (clause_at slots r) (ids x.current)
           (λ k y h. apart p other (get_or (ids x.current) k y) (owner p x at k y h) (list_any (λ m. m == get_or (ids x.current) k y) (ids e.current)) refl)
 
-  -- a database whose procedure is gone
-  pub IsKept-abolished : (slots : List (Slot C)) (r : ℕ) (more : List (Slot C)) (q : ℕ) (keys : List Key) (entries : List Kept) (place : ℕ) (d : Kept) → IsKept slots r keys entries → place < length entries → Clears (ids (get_or entries place d).current) slots r more q → IsCounted more q
-      → IsKept more q keys (set entries place (record (get_or entries place d) { kind = None }))
-  IsKept-abolished slots r more q keys entries place d kept within clears counted =
-      IsKept-kind more q keys entries place None d within (IsKept-cleared (ids (get_or entries place d).current) slots r more q keys entries kept clears counted)
+  -- a database whose procedure is gone: of the entry that was read, the numbers in its block are cleared and its kind is taken
+  pub Becomes-abolished : {slots more : List (Slot C)} {r q : ℕ} {keys : List Key} {entries : List Kept} {place : ℕ} {d new : Kept} {b : Ids} → IsKept slots r keys entries → place < length (shown slots r keys entries) → d ≡ get_or entries place d → b ≡ d.current
+      → Clears (ids b) slots r more q → IsCounted more q → new ≡ record d { kind = None } → Becomes slots r more q keys entries (set entries place new) (without_procedure place)
+  Becomes-abolished {slots = slots} {more = more} {r = r} {q = q} {keys = keys} {entries = entries} {place = place} {d = d} {new = new} {b = b} kept shown_in read block cleared counted is =
+      subst (λ (x : Kept). Becomes slots r more q keys entries (set entries place x) (without_procedure place)) (sym (is ∙ ap (λ (x : Kept). let y : Kept = record x { kind = None } in y) read)) record {
+        kept = IsKept-kind more q keys entries place None d within (IsKept-cleared (ids e.current) slots r more q keys entries kept clears counted);
+        shows = ap (λ (ps : List (Procedure C)). let x : Database C = record { procedures = ps; added = length more } in x) (shown-abolished slots r more q keys entries place d kept within clears)
+            ∙ ap (λ (n : ℕ). let x : Database C = record { procedures = at_place place absent (shown slots r keys entries); added = n } in x) clears.size;
+        gives = Giving-kept slots r keys entries more q (set entries place (record e { kind = None })) kept (Remembers-cleared (ids e.current) slots r more q clears)
+            (Grown-set entries place (record e { kind = None }) d within (Extends-kind None e));
+      }
+    where
+      e : Kept
+      e = get_or entries place d
 
-  pub Giving-abolished : (slots : List (Slot C)) (r : ℕ) (more : List (Slot C)) (q : ℕ) (keys : List Key) (entries : List Kept) (place : ℕ) (d : Kept) → IsKept slots r keys entries → place < length entries → Clears (ids (get_or entries place d).current) slots r more q
-      → (v : View) (cs : List (Clause C)) → Giving slots r entries v cs → Giving more q (set entries place (record (get_or entries place d) { kind = None })) v cs
-  Giving-abolished slots r more q keys entries place d kept within clears =
-      Giving-kept slots r keys entries more q (set entries place (record (get_or entries place d) { kind = None })) kept (Remembers-cleared (ids (get_or entries place d).current) slots r more q clears)
-      (Grown-set entries place (record (get_or entries place d) { kind = None }) d within (Extends-kind None (get_or entries place d)))
+      within : place < length entries
+      within = shown_within slots r keys entries place kept.same shown_in
+
+      clears : Clears (ids e.current) slots r more q
+      clears = subst (λ ns. Clears ns slots r more q) (ap ids (block ∙ ap (λ (x : Kept). x.current) read)) cleared

@@ -7,7 +7,7 @@ use Rattle.std.proofs.lemmas.Bool.Decides.{eqb_tells}
 use Rattle.std.proofs.lemmas.List.{append_assoc, append-nil, length-append, take-append-le}
 use Rattle.std.proofs.lemmas.List.Elements.{All-take, All-drop}
 use Rattle.iso_db.specs.Keys.{Key}
-use Rattle.iso_db.specs.Databases.{Clause}
+use Rattle.iso_db.specs.Databases.{Clause, Database}
 use Rattle.iso_db.specs.Blocks.{Ids, Kept, ids_from, block_of, grown, pushed, nothing_kept}
 use Rattle.iso_db.specs.declared.kinds.Kind.{Kind}
 use Rattle.iso_db.specs.declared.blocks.Side.{Side}
@@ -15,7 +15,7 @@ use Rattle.iso_db.specs.declared.blocks.Side.TheVariants.{First, Last}
 use Rattle.iso_db.specs.declared.slots.Slot.{Slot}
 use Rattle.iso_db.specs.declared.views.View.{View}
 use Rattle.iso_db.specs.Slots.{clause_at, procedure_at, given}
-use Rattle.iso_db.specs.Kept.{older_of, block_in, IsKept, Giving}
+use Rattle.iso_db.specs.Kept.{older_of, block_in, shown, IsKept, Giving, Tidies}
 use Rattle.iso_db.proofs.ListLemmas.{slice_get-push_before, slice_get-set_same, slice_get-set_other}
 use Rattle.iso_db.proofs.KeptLemmas.{procedure_there, filter_map-agree, Owns-ids_from}
 use Rattle.iso_db.proofs.ViewLemmas.{length-ids_from}
@@ -162,3 +162,27 @@ module _ {C : Type 0} where
   Giving-add slots r keys entries more others s place side n kind kept within is at =
       Giving-kept slots r keys entries more r others kept (Remembers-add slots more s r is)
       (subst (Grown entries) (sym at) (Grown-set entries place (pushed side n kind (get_or entries place nothing_kept)) nothing_kept within (Extends-pushed side n kind (get_or entries place nothing_kept))))
+
+  -- the database that is kept so
+  abbrev pub database : List (Slot C) → ℕ → List Key → List Kept → Database C
+  database slots r keys entries = record { procedures = shown slots r keys entries; added = length slots }
+
+  -- A database as it is kept has changed; views go on to give what they gave.
+  pub record Becomes (slots : List (Slot C)) (r : ℕ) (more : List (Slot C)) (q : ℕ) (keys : List Key) (entries others : List Kept) (change : Database C → Database C) : Type 0 where
+    pub kept : IsKept more q keys others
+    pub shows : database more q keys others ≡ change (database slots r keys entries)
+    pub gives : (v : View) (cs : List (Clause C)) → Giving slots r entries v cs → Giving more q others v cs
+
+  -- what tidying asks, over a slice of the slots
+  pub tidiable : {slots more slice : List (Slot C)} {r q : ℕ} {keys : List Key} {entries others : List Kept} {change : Database C → Database C} → Becomes slots r more q keys entries others change → slice ≡ more → (ks : List Key) × IsKept slice q ks others
+  tidiable {q = q} {keys = keys} {others = others} becomes is = (keys, subst (λ (ss : List (Slot C)). IsKept ss q keys others) (sym is) becomes.kept)
+
+  -- the same change once it is tidied
+  pub Becomes-tidied : {slots more slice : List (Slot C)} {r q : ℕ} {keys : List Key} {entries others tidy : List Kept} {change : Database C → Database C} → Becomes slots r more q keys entries others change → slice ≡ more → Tidies slice q others tidy → Becomes slots r more q keys entries tidy change
+  Becomes-tidied {more = more} {q = q} {keys = keys} {others = others} {tidy = tidy} becomes is over =
+      let tidies : Tidies more q others tidy = subst (λ (ss : List (Slot C)). Tidies ss q others tidy) is over in
+      record {
+        kept = tidies.kept keys becomes.kept;
+        shows = ap (λ ps. let d : Database C = record { procedures = ps; added = length more } in d) (tidies.shows keys becomes.kept) ∙ becomes.shows;
+        gives = λ v cs gives. tidies.gives keys becomes.kept v cs (becomes.gives v cs gives);
+      }

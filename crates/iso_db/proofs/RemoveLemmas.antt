@@ -4,14 +4,14 @@ use Rattle.std.specs.List.{slice_get, cons_option, list_any}
 use Rattle.std.specs.Option.{option_and_then}
 use Rattle.std.proofs.lemmas.Bool.Decides.{eqb_tells}
 use Rattle.iso_db.specs.Keys.{Key}
-use Rattle.iso_db.specs.Databases.{Clause, Procedure, one_less}
+use Rattle.iso_db.specs.Databases.{Clause, Procedure, Database, one_less, without_clause}
 use Rattle.iso_db.specs.Blocks.{Kept, ids, block_of}
 use Rattle.iso_db.specs.declared.slots.Slot.{Slot}
 use Rattle.iso_db.specs.Slots.{given_by, clause_at, procedure_at, given, IsCounted, Removes}
 use Rattle.iso_db.specs.Kept.{lists, shown, IsKept}
 use Rattle.iso_db.proofs.KeptLemmas.{Owns-more, Trimmed-more}
 use Rattle.iso_db.proofs.ViewLemmas.{clause_at-number}
-use Rattle.iso_db.proofs.GivingLemmas.{Remembers}
+use Rattle.iso_db.proofs.GivingLemmas.{Remembers, Giving-kept, Becomes, Grown-same}
 
 or_true : (t : Bool) → t || true ≡ true
 or_true true = refl
@@ -50,13 +50,13 @@ module _ {C : Type 0} where
       kept None at e = refl
       kept (Some c) at e = sym (ap (λ b. cond (not b) (c ∷ filter (other number) rest) (filter (other number) rest)) (ap (λ m. m == number) (clause_at-number slots r n c at) ∙ e))
 
-  pub shown-removed : (number : ℕ) (slots : List (Slot C)) (r : ℕ) (more : List (Slot C)) (q : ℕ) (keys : List Key) (entries : List Kept) → Removes number slots r more q → shown more q keys entries ≡ map (one_less number) (shown slots r keys entries)
+  shown-removed : (number : ℕ) (slots : List (Slot C)) (r : ℕ) (more : List (Slot C)) (q : ℕ) (keys : List Key) (entries : List Kept) → Removes number slots r more q → shown more q keys entries ≡ map (one_less number) (shown slots r keys entries)
   shown-removed number slots r more q keys entries removes = shown-map slots more r q keys entries (filter (other number)) (given-removed number slots r more q removes)
 
-  pub Remembers-removed : (number : ℕ) (slots : List (Slot C)) (r : ℕ) (more : List (Slot C)) (q : ℕ) → Removes number slots r more q → Remembers slots r more q
+  Remembers-removed : (number : ℕ) (slots : List (Slot C)) (r : ℕ) (more : List (Slot C)) (q : ℕ) → Removes number slots r more q → Remembers slots r more q
   Remembers-removed number slots r more q removes = record { later = removes.later; views = λ made n p h at. removes.views made n h }
 
-  pub IsKept-removed : (number : ℕ) (slots : List (Slot C)) (r : ℕ) (more : List (Slot C)) (q : ℕ) (keys : List Key) (entries : List Kept) → IsKept slots r keys entries → Removes number slots r more q → IsCounted more q → IsKept more q keys entries
+  IsKept-removed : (number : ℕ) (slots : List (Slot C)) (r : ℕ) (more : List (Slot C)) (q : ℕ) (keys : List Key) (entries : List Kept) → IsKept slots r keys entries → Removes number slots r more q → IsCounted more q → IsKept more q keys entries
   IsKept-removed number slots r more q keys entries kept removes counted = record {
     same = kept.same;
     counted = counted;
@@ -71,6 +71,15 @@ module _ {C : Type 0} where
     where
       stays : (n : ℕ) → is_some (clause_at slots r n) ≡ false → is_some (clause_at more q n) ≡ false
       stays n gone = ⊎_elim (λ e. ap (λ m. is_some (clause_at more q m)) e.1 ∙ ap is_some removes.gone) (λ e. ap is_some (removes.others n e.1) ∙ gone) (eqb_tells n number)
+
+  -- a database without a clause
+  pub Becomes-removed : {number : ℕ} {slots more : List (Slot C)} {r q : ℕ} {keys : List Key} {entries : List Kept} → IsKept slots r keys entries → Removes number slots r more q → IsCounted more q → Becomes slots r more q keys entries entries (without_clause number)
+  Becomes-removed {number = number} {slots = slots} {more = more} {r = r} {q = q} {keys = keys} {entries = entries} kept removes counted = record {
+    kept = IsKept-removed number slots r more q keys entries kept removes counted;
+    shows = ap (λ (ps : List (Procedure C)). let d : Database C = record { procedures = ps; added = length more } in d) (shown-removed number slots r more q keys entries removes)
+        ∙ ap (λ (n : ℕ). let d : Database C = record { procedures = map (one_less number) (shown slots r keys entries); added = n } in d) removes.size;
+    gives = Giving-kept slots r keys entries more q entries kept (Remembers-removed number slots r more q removes) (Grown-same entries);
+  }
 
   -- whether a clause of this number is among these
   abbrev pub has_number : ℕ → List (Clause C) → Bool
