@@ -7,7 +7,8 @@ use Rattle.iso_model.specs.Terms.Substitutions.{apply}
 use Rattle.iso_store.specs.declared.nodes.Node.{Node}
 use Rattle.iso_store.specs.declared.nodes.Node.TheVariants.{Var, Int, Atom, Compound}
 use Rattle.iso_store.specs.NodeTerms.{term_at, binding_of, substitution_of}
-use Rattle.iso_store.specs.NodeStores.{IsStore, LeadsBack, MayPush, unbound, unbound_at, reset, restored}
+use Rattle.iso_store.specs.NodeStores.{IsStore, LeadsBack, MayPush, unbound, taken_back, restored}
+use Rattle.iso_store.proofs.TakingBack.{changed_at-was, back-was}
 use Rattle.iso_store.specs.declared.node_marks.NodesMark.{NodesMark}
 use Rattle.iso_store.specs.NodeVariables.{inside-term, inside-meaning}
 use Rattle.iso_store.specs.VariableKinds.{Inside}
@@ -36,17 +37,6 @@ unbound-was (Var m b) n j is = cc
 unbound-was (Int z) n j is = cc
 unbound-was (Atom a) n j is = cc
 unbound-was (Compound f ws) n j is = cc
-
-unbound_at-was : (cs : List Node) (e w n j : ℕ) → slice_get (unbound_at cs e) w ≡ Some (Var n (Some j)) → slice_get cs w ≡ Some (Var n (Some j))
-unbound_at-was [] e w n j h = h
-unbound_at-was (c ∷ cs) zero zero n j h = absurd (unbound-was c n j h)
-unbound_at-was (c ∷ cs) zero (suc w) n j h = h
-unbound_at-was (c ∷ cs) (suc e) zero n j h = h
-unbound_at-was (c ∷ cs) (suc e) (suc w) n j h = unbound_at-was cs e w n j h
-
-reset-was : (es : List ℕ) (cs : List Node) (w n j : ℕ) → slice_get (reset es cs) w ≡ Some (Var n (Some j)) → slice_get cs w ≡ Some (Var n (Some j))
-reset-was [] cs w n j h = h
-reset-was (e ∷ es) cs w n j h = reset-was es cs w n j (unbound_at-was (reset es cs) e w n j h)
 
 -- where these are the names of the atoms
 module _ (names : List (List ℕ)) where
@@ -101,5 +91,5 @@ module _ (names : List (List ℕ)) where
 
   pub leads-restored : (cs : List Node) (es : List ℕ) (m : NodesMark) (top high : ℕ) → IsStore names (restored cs es m) (take m.trail es) m.next → LeadsBack cs top → ((k : ℕ) → k ≤ top → k < length (restored cs es m) → k ≤ high) → LeadsBack (restored cs es m) high
   leads-restored cs es m top high store back enough w n j there forward =
-      let was = slice_get-taken m.nodes cs w (Var n (Some j)) (reset-was (drop m.trail es) (take m.nodes cs) w n j there) in
+      let was = slice_get-taken m.nodes cs w (Var n (Some j)) (back-was taken_back w (Var n (Some j)) (λ e ds. changed_at-was unbound ds e w (Var n (Some j)) (λ x. unbound-was x n j)) (drop m.trail es) (take m.nodes cs) there) in
       enough j (back w n j was forward) (store.target w n j there)

@@ -1,5 +1,5 @@
 -- A variable behind every binding that leads to a cell behind it occurs in no term of the cells before it.
-use Rattle.std.proofs.Common.{◌≡◌, ◌≢◌, ℕ, zero, suc, ◌<◌, ◌≤◌, List, [], ◌∷◌, ◌++◌, length, drop, take, set, false, refl, ap, sym, ◌∙◌, arith, Some, inl, inr, ◌⊎◌, OnOk, OnErr, Result, Ok, Err}
+use Rattle.std.proofs.Common.{◌≡◌, ◌≢◌, ℕ, ◌<◌, ◌≤◌, List, [], ◌∷◌, ◌++◌, length, drop, take, set, false, refl, ap, sym, ◌∙◌, arith, Some, inl, inr, ◌⊎◌, OnOk, OnErr, Result, Ok, Err}
 use Rattle.std.specs.List.{slice_get}
 use Rattle.std.proofs.lemmas.Bool.{cases_eq, false_from_ne_true}
 use Rattle.iso_model.specs.Terms.Variables.{occurs}
@@ -11,7 +11,8 @@ use Rattle.iso_store.specs.declared.heap_cells.Cell.{Cell}
 use Rattle.iso_store.specs.declared.heap_cells.Cell.TheVariants.{Unbound, Bound, Argument, Functor, Entry}
 use Rattle.iso_store.specs.declared.heap_cells.HeapMark.{HeapMark}
 use Rattle.iso_store.specs.HeapTerms.{made_term, heap_substitution}
-use Rattle.iso_store.specs.HeapStores.{number_of, IsBefore, word_place, HeapLeadsBack, IsHeap, MayCome, unbound_cell, unbound_at, taken_back, reset, restored}
+use Rattle.iso_store.specs.HeapStores.{number_of, IsBefore, word_place, HeapLeadsBack, IsHeap, MayCome, unbound_cell, taken_back, restored}
+use Rattle.iso_store.proofs.TakingBack.{changed_at-was, back-was}
 use Rattle.iso_store.specs.HeapNumbers.{word_before}
 use Rattle.iso_store.specs.HeapVariables.{inside-made, inside-meaning}
 use Rattle.iso_store.specs.Slices.{slice_get-pushed, slice_get-set, slice_get-here, slice_get-taken}
@@ -59,23 +60,12 @@ unbound-was (Argument v) n w is = cc
 unbound-was (Functor f m) n w is = cc
 unbound-was (Entry p) n w is = cc
 
-unbound_at-was : (cs : List Cell) (e a n : ℕ) (w : HeapWord) → slice_get (unbound_at cs e) a ≡ Some (Bound n w) → slice_get cs a ≡ Some (Bound n w)
-unbound_at-was [] e a n w h = h
-unbound_at-was (c ∷ cs) zero zero n w h = absurd (unbound-was c n w h)
-unbound_at-was (c ∷ cs) zero (suc a) n w h = h
-unbound_at-was (c ∷ cs) (suc e) zero n w h = h
-unbound_at-was (c ∷ cs) (suc e) (suc a) n w h = unbound_at-was cs e a n w h
-
 taken_back-was : (e : Cell) (cs : List Cell) (a n : ℕ) (w : HeapWord) → slice_get (taken_back e cs) a ≡ Some (Bound n w) → slice_get cs a ≡ Some (Bound n w)
 taken_back-was (Unbound m) cs a n w h = h
 taken_back-was (Bound m v) cs a n w h = h
 taken_back-was (Argument v) cs a n w h = h
 taken_back-was (Functor f m) cs a n w h = h
-taken_back-was (Entry p) cs a n w h = unbound_at-was cs p a n w h
-
-reset-was : (es cs : List Cell) (a n : ℕ) (w : HeapWord) → slice_get (reset es cs) a ≡ Some (Bound n w) → slice_get cs a ≡ Some (Bound n w)
-reset-was [] cs a n w h = h
-reset-was (e ∷ es) cs a n w h = reset-was es cs a n w (taken_back-was e (reset es cs) a n w h)
+taken_back-was (Entry p) cs a n w h = changed_at-was unbound_cell cs p a (Bound n w) (λ c. unbound-was c n w) h
 
 -- where these are the names of the atoms
 module _ (names : List (List ℕ)) where
@@ -100,7 +90,7 @@ module _ (names : List (List ℕ)) where
 
   pub heap-leads-restored : (cs es : List Cell) (m : HeapMark) (top high : ℕ) → IsHeap names (restored cs es m) m.next → HeapLeadsBack cs top → ((k : ℕ) → k ≤ top → k < length (restored cs es m) → k ≤ high) → HeapLeadsBack (restored cs es m) high
   heap-leads-restored cs es m top high heap back enough a n w j there place forward =
-      let was = slice_get-taken m.cells cs a (Bound n w) (reset-was (drop m.trail es) (take m.cells cs) a n w there) in
+      let was = slice_get-taken m.cells cs a (Bound n w) (back-was taken_back a (Bound n w) (λ e ds. taken_back-was e ds a n w) (drop m.trail es) (take m.cells cs) there) in
       enough j (back a n w j was place forward) (place-before (length (restored cs es m)) w j (word_before names (restored cs es m) w (heap.target a n w there)) place)
 
   module _ (cs : List Cell) (next top place : ℕ) (heap : IsHeap names cs next) (back : HeapLeadsBack cs top) (behind : top < place) (within : place < length cs) where

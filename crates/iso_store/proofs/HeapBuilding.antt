@@ -13,18 +13,18 @@ use Rattle.iso_store_core.specs.declared.patterns.Part.{Part}
 use Rattle.iso_store_core.specs.Patterns.{part_step}
 use Rattle.iso_store.specs.declared.heap.Heap.{Heap}
 use Rattle.iso_store.specs.declared.heap_cells.HeapWord.{HeapWord}
-use Rattle.iso_store.specs.declared.heap_cells.HeapWord.TheVariants.{Var}
+use Rattle.iso_store.specs.declared.heap_cells.HeapWord.TheVariants.{Var, Structure}
 use Rattle.iso_store.specs.declared.heap_cells.Piece.{Piece}
 use Rattle.iso_store.specs.declared.heap_cells.Piece.TheVariants.{Word, Variable as Place}
 use Rattle.iso_store.specs.declared.heap_cells.Cell.{Cell}
 use Rattle.iso_store.specs.declared.heap_cells.Cell.TheVariants.{Unbound, Argument, Functor}
 use Rattle.iso_store.specs.HeapTerms.{made_term}
-use Rattle.iso_store.specs.HeapStores.{has_cell_number, is_argument, is_word, is_variable_cell, IsFunctor, IsHeap, MayCome}
+use Rattle.iso_store.specs.HeapStores.{has_cell_number, is_argument, is_functor, is_word, is_variable_cell, IsFunctor, IsHeap, MayCome}
 use Rattle.iso_store.specs.HeapBuilds.{ArePushed, GoesOn, HaveCells, IsPushed, built, is_piece, piece_term}
 use Rattle.iso_store.specs.HeapLemmas.{place_term, place_term-unbound, place_term-argument, place_term-more, place_term-functor, terms_before, before-length, before-at, made_term-more}
 use Rattle.iso_store.specs.HeapNumbers.{word_before}
 use Rattle.iso_store.specs.Slices.{slice_get-last, slice_get-push, slice_get-set}
-use Rattle.iso_store_core.specs.Presents.{Present, Gathers, KeepsWords}
+use Rattle.iso_store_core.specs.Presents.{Present, Gathers, KeepsWords, Makes}
 use Rattle.iso_store.proofs.Gathering.{keeps-then}
 use Rattle.iso_store.proofs.InstanceLemmas.{part-applied}
 use Rattle.iso_store.proofs.HeapCompounds.{list-ext}
@@ -210,7 +210,7 @@ module _ (names : List (List ℕ)) (first : ℕ) (cs ds : List Cell) (ps : List 
   size-before : length ds - length ps ≡ length cs
   size-before = let all = pushed.size in omega arith
 
-  pub functor-comes : f < length names → 0 < length ps → length ps < 256 → IsFunctor names ds (length ds) f (length ps)
+  functor-comes : f < length names → 0 < length ps → length ps < 256 → IsFunctor names ds (length ds) f (length ps)
   functor-comes name some few = record {
     name = name;
     some = some;
@@ -219,7 +219,7 @@ module _ (names : List (List ℕ)) (first : ℕ) (cs ds : List Cell) (ps : List 
     arguments = λ k below. ap (λ n. is_argument (slice_get ds (n + k))) size-before ∙ pushed.arguments k below;
   }
 
-  pub compound-term : place_term names (ds ++ Functor f (length ps) ∷ []) (length ds) ≡ Apply (text_at names f) (row (map (piece_term names first cs) ps))
+  compound-term : place_term names (ds ++ Functor f (length ps) ∷ []) (length ds) ≡ Apply (text_at names f) (row (map (piece_term names first cs) ps))
   compound-term =
       let c = Functor f (length ps) in
       let all = pushed.size in
@@ -236,6 +236,25 @@ module _ (names : List (List ℕ)) (first : ℕ) (cs ds : List Cell) (ps : List 
       ∙ place_term-more names ds (c ∷ []) (length cs + k) (omega arith)
       ∙ pushed.terms k (Place 0) (omega arith)
       ∙ sym (get_or-map (piece_term names first cs) ps k (Place 0) End (omega arith))))
+
+-- a compound comes with its functor
+module _ (first : ℕ) (old mid : Heap) (ps : List Piece) (f : ℕ) (pushed : ArePushed (take old.named old.atoms) first old.area.low mid.area.low ps) (goes : GoesOn first old mid) (name : f < length (take old.named old.atoms)) (some : 0 < length ps) (few : length ps < 256) where
+  pub functor-next : IsFunctor (take mid.named mid.atoms) mid.area.low (length mid.area.low) f (length ps)
+  functor-next = rw (goes.named, goes.atoms) (functor-comes (take old.named old.atoms) first old.area.low mid.area.low ps f pushed name some few)
+
+  pub compound-comes : (new : Heap) → new.area.high ≡ mid.area.high → new.area.capacity ≡ mid.area.capacity → new.atoms ≡ mid.atoms → new.named ≡ mid.named → new.next ≡ mid.next → new.newest ≡ mid.newest
+      → new.area.low ≡ mid.area.low ++ Functor f (length ps) ∷ [] → length mid.area.low < mid.area.capacity
+      → GoesOn first old new × ((count : ℕ) → Makes (built old first count) (built new first count) (Word (Structure (length mid.area.low))) (Apply (text_at (take old.named old.atoms) f) (row (map (built old first count).term ps))))
+  compound-comes new high capacity atoms named next newest low room =
+      let whole : GoesOn first old new = goes-then goes (pushed-goes first mid new (Functor f (length ps)) mid.is_heap functor-next (λ n below. refl) high capacity atoms named next newest low room) in (
+        whole,
+        λ count. record {
+          words = goes-words whole count;
+          substitution = whole.substitution;
+          holds = rw low (ap is_functor (slice_get-last mid.area.low (Functor f (length ps))));
+          term = rw (low, whole.named, whole.atoms) (compound-term (take old.named old.atoms) first old.area.low mid.area.low ps f pushed);
+        },
+      )
 
 -- one part more, where the variables have their numbers
 pub gathers-step : {W : Type 0} {p q r : Present W} {ws us : List W} (names ns : List (List ℕ)) (s : Subst) (k : Part) (ts : List Tree) → ns ≡ names → Gathers p q ws (map (apply s) ts) → Gathers q r us (with_step (part_step ns s k) (map q.term ws)) → Gathers p r us (map (apply s) (with_step (part_step names Variable k) ts))

@@ -1,27 +1,34 @@
 -- What building a term in a heap comes to.
-use Rattle.std.proofs.Common.{◌≡◌, ◌≢◌, ℕ, zero, suc, ◌+◌, ◌≤◌, ◌&&◌, nat_le, List, [], ◌∷◌, length, take, replicate, true, false, refl, ap, ap₂, sym, ◌∙◌, arith, length-append, Some, None, ◌==◌}
-use Rattle.std.specs.List.{slice_get, list_any}
+use Rattle.std.proofs.Common.{◌≡◌, ◌≢◌, ℕ, zero, suc, ◌+◌, ◌<◌, ◌≤◌, ◌&&◌, nat_le, List, [], ◌∷◌, ◌++◌, length, map, take, get_or, replicate, true, false, refl, ap, ap₂, sym, ◌∙◌, arith, length-append, Some, None, ◌==◌}
+use Rattle.std.specs.List.{slice_get, list_any, All}
 use Rattle.std.proofs.lemmas.Bool.{and_parts, eq-eqb, false≢true}
+use Rattle.std.proofs.lemmas.Simd.{map-map}
+use Rattle.std.proofs.lemmas.List.{length-map}
+use Rattle.iso_atoms.specs.Texts.{text_at}
 use Rattle.std.proofs.lemmas.List.Sums.{position_or_len_is}
-use Rattle.iso_model.specs.Terms.Trees.{Tree, Variable, Integer, Name, Apply, End, More, count}
+use Rattle.iso_model.specs.Terms.Trees.{Tree, Variable, Integer, Name, Apply, End, More, count, row}
 use Rattle.iso_model.specs.Terms.Sorts.{is_term, is_row}
 use Rattle.iso_model.specs.Terms.Sizes.{size}
 use Rattle.iso_model.specs.Terms.Variables.{is_in, distinct_from, variables, variable_count}
 use Rattle.iso_model.specs.Terms.Substitutions.{Subst, apply}
 use Rattle.iso_model.specs.Terms.Copies.{place_of, copy_from}
 use Rattle.iso_model.specs.Terms.Unification.Applied.{apply_apply}
-use Rattle.iso_store_core.specs.Presents.{Present, KeepsWords, Makes, Grows}
+use Rattle.iso_store_core.specs.Presents.{Present, Holds, KeepsWords, Makes, Grows}
 use Rattle.iso_store_core.specs.Copying.{cells_of}
 use Rattle.iso_store.specs.declared.heap.Heap.{Heap}
 use Rattle.iso_store.specs.declared.heap_cells.HeapWord.{HeapWord}
+use Rattle.iso_store.specs.declared.heap_cells.HeapWord.TheVariants.{Structure}
 use Rattle.iso_store.specs.declared.heap_cells.HeapMark.{HeapMark}
 use Rattle.iso_store.specs.declared.heap_cells.Piece.TheVariants.{Word}
 use Rattle.iso_store.specs.declared.heap_cells.Cell.{Cell}
-use Rattle.iso_store.specs.HeapStores.{has_cell_number, HeapStandsFor, present_of_heap}
-use Rattle.iso_store.specs.HeapBuilds.{GoesOn, HaveCells, built, numbered}
-use Rattle.iso_store.proofs.Gathering.{keeps-then}
+use Rattle.iso_store.specs.declared.heap_cells.Cell.TheVariants.{Argument, Functor}
+use Rattle.iso_store.specs.HeapStores.{has_cell_number, HeapStandsFor, IsFunctor, present_of_heap}
+use Rattle.iso_store.specs.HeapBuilds.{ArePushed, GoesOn, HaveCells, built, numbered}
+use Rattle.iso_store.proofs.Gathering.{keeps-then, terms-kept}
 use Rattle.iso_store.proofs.CellCounts.{added}
 use Rattle.iso_store.proofs.HeapMarked.{more-keeps}
+use Rattle.iso_store.proofs.HeapCompounds.{words-pushed}
+use Rattle.iso_store.proofs.HeapBuilding.{compound-comes, functor-next}
 
 -- ---- how many cells a term takes
 mutual
@@ -132,6 +139,31 @@ module _ {first : ℕ} {old new : Heap} (goes : GoesOn first old new) where
     holds = made.holds;
     term = made.term ∙ is;
   }
+
+-- a compound whose arguments are words comes with its functor, where all names were made known
+module _ (old known mid : Heap) (words : KeepsWords (as_present old) (as_present known)) (every : take known.named known.atoms ≡ old.atoms) (ws : List HeapWord) (holds : All (Holds (as_present old)) ws)
+    (pushed : mid.area.low ≡ known.area.low ++ map Argument ws) (goes : GoesOn 0 known mid) (f count : ℕ) (many : length ws ≡ count) (name : f < length old.atoms) (some : 0 < count) (few : count < 256) where
+  all : length (map Word ws) ≡ count
+  all = length-map ws Word ∙ many
+
+  named-here : f < length (take known.named known.atoms)
+  named-here = rw every name
+
+  arguments : ArePushed (take known.named known.atoms) 0 known.area.low mid.area.low (map Word ws)
+  arguments =
+      let heap = rw (goes.named, goes.atoms, pushed) at mid.is_heap in
+      rw pushed (words-pushed (take known.named known.atoms) 0 mid.next known.area.low ws heap (λ k d below. words.stand (get_or ws k d) (holds k d below)))
+
+  pub words-functor : IsFunctor (take mid.named mid.atoms) mid.area.low (length mid.area.low) f count
+  words-functor = rw all at (functor-next 0 known mid (map Word ws) f arguments goes named-here (rw all some) (rw all few))
+
+  pub words-made : (new : Heap) → new.area.high ≡ mid.area.high → new.area.capacity ≡ mid.area.capacity → new.atoms ≡ mid.atoms → new.named ≡ mid.named → new.next ≡ mid.next → new.newest ≡ mid.newest
+      → new.area.low ≡ mid.area.low ++ Functor f count ∷ [] → length mid.area.low < mid.area.capacity → (as_present known).substitution ≡ (as_present old).substitution
+      → Makes (as_present old) (as_present new) (Structure (length mid.area.low)) (Apply (text_at old.atoms f) (row (map (as_present old).term ws)))
+  words-made new high capacity atoms named next newest low room same =
+      let terms = ap₂ (λ xs us. Apply (text_at xs f) (row us)) every (map-map (built known 0 0).term Word ws ∙ terms-kept words ws holds) in
+      let comes = compound-comes 0 known mid (map Word ws) f arguments goes named-here (rw all some) (rw all few) new high capacity atoms named next newest (rw all low) room in
+      goes-makes comes.0 (as_present old) 0 (Structure (length mid.area.low)) (Apply (text_at (take known.named known.atoms) f) (row (map (built known 0 0).term (map Word ws)))) (Apply (text_at old.atoms f) (row (map (as_present old).term ws))) words same terms (comes.1 0)
 
 -- the copy of a variable
 pub copied-one : (n next : ℕ) → copy_from (Variable n) next ≡ Variable next

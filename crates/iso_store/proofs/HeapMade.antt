@@ -1,41 +1,29 @@
 -- A cell that comes, and a name, give a word for a term.
-use Rattle.std.proofs.Common.{◌≡◌, ℕ, ◌+◌, ◌<◌, List, [], ◌∷◌, ◌++◌, length, map, take, get_or, true, false, refl, ap, sym, ◌∙◌, subst, arith, Bool, ◌||◌}
+use Rattle.std.proofs.Common.{◌≡◌, ℕ, ◌+◌, ◌<◌, ◌≤◌, List, [], ◌∷◌, ◌++◌, length, map, take, get_or, true, false, refl, ap, sym, ◌∙◌, subst, arith, length-append, Bool, ◌||◌}
 use Rattle.std.specs.List.{list_any, All}
-use Rattle.std.proofs.lemmas.Bool.{lt-ltb}
-use Rattle.std.proofs.lemmas.List.{take_all, take_more, map-append, append_assoc}
+use Rattle.std.proofs.lemmas.List.{take_all, take_more, length-map, map-append, append_assoc}
 use Rattle.std.proofs.lemmas.List.Folds.{list_any-append}
-use Rattle.iso_atoms.specs.Texts.{KeepsTexts, text_at}
-use Rattle.iso_model.specs.Terms.Trees.{Variable, Name}
+use Rattle.iso_atoms.specs.Texts.{KeepsTexts}
+use Rattle.iso_model.specs.Terms.Trees.{Variable}
 use Rattle.iso_store.specs.declared.heap_cells.HeapWord.{HeapWord}
 use Rattle.iso_store.specs.declared.heap_cells.HeapWord.TheVariants.{Var, Structure, Int, Atom}
 use Rattle.iso_store.specs.declared.heap_cells.Cell.{Cell}
 use Rattle.iso_store.specs.declared.heap_cells.Cell.TheVariants.{Unbound, Argument}
+use Rattle.iso_store_core.specs.declared.patterns.Part.{Part}
 use Rattle.iso_store_core.specs.Presents.{Makes}
+use Rattle.iso_store.specs.Writing.{IsPlace, picked}
 use Rattle.iso_store.specs.HeapStores.{is_variable_cell, is_functor, has_cell_number, is_word, IsHeap, MayCome, present_of_heap}
 use Rattle.iso_store.specs.Slices.{slice_get-last, slice_get-append}
 use Rattle.iso_store.specs.HeapLemmas.{place_term-unbound, made_term-more}
 use Rattle.iso_store.specs.HeapNumbers.{word_before}
+use Rattle.iso_store.proofs.Picked.{picked-few}
 use Rattle.iso_store.proofs.HeapPushes.{word-more, substitution-more}
-use Rattle.iso_store.proofs.HeapNames.{first-kept, substitution-kept, words-kept}
+use Rattle.iso_store.proofs.HeapNames.{first-kept}
 
 -- all names keep those that were there
 pub all-kept : (names : List (List ℕ)) (named all : ℕ) → all ≡ length names → KeepsTexts (take named names) (take all names)
 all-kept names named all whole =
     subst (KeepsTexts (take named names)) (sym (take_all all names (omega arith))) (first-kept names named)
-
--- an atom
-pub atom-makes : (names : List (List ℕ)) (named all : ℕ) (cs : List Cell) (next limit a : ℕ) → IsHeap (take named names) cs next → all ≡ length names → a < length names
-    → Makes (present_of_heap (take named names) cs next limit) (present_of_heap (take all names) cs next limit) (Atom a) (Name (text_at names a))
-atom-makes names named all cs next limit a heap whole within =
-    let keeps = all-kept names named all whole in
-    let every : take all names ≡ names = take_all all names (omega arith) in
-    let size = ap length every in
-    record {
-      words = words-kept (take named names) (take all names) keeps cs next heap limit limit;
-      substitution = substitution-kept (take named names) (take all names) keeps cs next heap;
-      holds = lt-ltb a (length (take all names)) (omega arith);
-      term = ap (λ xs. Name (text_at xs a)) every;
-    }
 
 -- a variable
 pub variable-makes : (names : List (List ℕ)) (cs : List Cell) (next limit n : ℕ) → IsHeap names cs next → MayCome names cs next (Unbound n)
@@ -72,6 +60,12 @@ argument-pushed cs now new ws k w before more below is =
 pub argument-holds : (names : List (List ℕ)) (cs now : List Cell) (ws : List HeapWord) (k : ℕ) (w : HeapWord) (ds : List Cell) → now ≡ cs ++ ds → All (λ v. is_word names cs v ≡ true) ws → k < length ws → get_or ws k w ≡ w → is_word names now w ≡ true
 argument-holds names cs now ws k w ds before all below is =
     ap (λ xs. is_word names xs w) before ∙ word-along names cs ds w (subst (λ v. is_word names cs v ≡ true) is (all k w below))
+
+-- no more than there are places
+pub places-pushed : (ws : List HeapWord) (ks : List Part) → All (IsPlace (length ws)) ks → (cs ds : List Cell) (n : ℕ) → n ≤ length ks → ds ≡ cs ++ map Argument (picked ws (take n ks)) → length ds ≤ length cs + length ks
+places-pushed ws ks places cs ds n within pushed =
+    let long = ap length pushed ∙ length-append cs (map Argument (picked ws (take n ks))) in
+    omega (arith, picked-few ws ks n places within, length-map (picked ws (take n ks)) Argument)
 
 -- no variable comes
 pub taken-more : (cs : List Cell) (c : Cell) (n : ℕ) → has_cell_number n c ≡ false → list_any (has_cell_number n) (cs ++ c ∷ []) ≡ list_any (has_cell_number n) cs

@@ -240,11 +240,12 @@ before-last ks i k below is =
     let within : i < length ks - 1 = omega (arith, below, long) in
     (omega (arith, within), is ∙ taken-or ks (length ks - 1) i k within)
 
-pub at-last : (names : List (List ℕ)) (ks : List Part) (t : Tree) → IsPattern names ks t → (i : ℕ) → length (take (length ks - 1) ks) ≤ i → i ≤ length (take (length ks - 1) ks) → suc i ≡ length ks
-at-last names ks t whole i past within =
+pub at-last : (names : List (List ℕ)) (ks : List Part) (t : Tree) → IsPattern names ks t → (i : ℕ) (k : Part) → length (take (length ks - 1) ks) ≤ i → i ≤ length (take (length ks - 1) ks) → k ≡ get_or ks (length ks - 1) k → (suc i ≡ length ks) × (k ≡ get_or ks i k)
+at-last names ks t whole i k past within is =
     let long = length-take (length ks - 1) ks in
     let some = some-parts names ks t whole in
-    omega (arith, past, within, long, some)
+    let place : length ks - 1 ≡ i = omega (arith, past, within, long, some) in
+    (omega (arith, place, some), is ∙ ap (λ j. get_or ks j k) place)
 
 -- ---- words for the terms so far
 module _ {W : Type 0} {p q r : Present W} (names : List (List ℕ)) (variables : List W) (hold : All (λ v. Holds p v) variables) {ws us : List W} (ts : List Tree) where

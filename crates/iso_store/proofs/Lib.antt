@@ -1,6 +1,7 @@
 pub mod Clashes
 pub mod Steps
 pub mod Bound
+pub mod TakingBack
 pub mod Resets
 pub mod Marked
 pub mod Names

@@ -1,41 +1,29 @@
 -- What a mark brings back is the same after each change of the store.
-use Rattle.std.proofs.Common.{◌≡◌, ℕ, Bool, true, false, if◌then◌else◌, zero, suc, ◌≤◌, List, [], ◌∷◌, ◌++◌, length, take, drop, set, refl, ap, sym, ◌∙◌, arith, length-append, length-set, length-take, Some, None}
+use Rattle.std.proofs.Common.{◌≡◌, ℕ, Bool, true, false, if◌then◌else◌, ◌≤◌, List, [], ◌∷◌, ◌++◌, length, take, drop, set, refl, ap, arith, length-append, length-set, length-take, Some, None}
 use Rattle.std.specs.List.{slice_get}
-use Rattle.std.proofs.lemmas.List.{drop-append-le, take-append-le, take-take, take-append-drop, drop_all, take_all}
+use Rattle.std.proofs.lemmas.List.{take-append-le, take-take, take_all}
 use Rattle.iso_store.specs.declared.nodes.Node.{Node}
 use Rattle.iso_store.specs.declared.nodes.Node.TheVariants.{Var}
 use Rattle.iso_store.specs.declared.node_marks.NodesMark.{NodesMark}
 use Rattle.iso_store_core.specs.Presents.{Present}
-use Rattle.iso_store.specs.NodeStores.{unbound_at, reset, restored, IsStore, StandsFor, IsOlder, present_of, KeepsNodesMarks}
-use Rattle.iso_store.proofs.Resets.{reset-push, reset-append, take-reset, take-unbound_at, reset-length}
-
-pub unbound_at-bound : (cs : List Node) (e n : ℕ) (b : _) → slice_get cs e ≡ Some (Var n None) → unbound_at (set cs e (Var n b)) e ≡ cs
-unbound_at-bound [] e n b h = refl
-unbound_at-bound (c ∷ cs) zero n b h = cc
-unbound_at-bound (c ∷ cs) (suc e) n b h = ap (λ xs. c ∷ xs) (unbound_at-bound cs e n b h)
+use Rattle.iso_store.specs.NodeStores.{unbound, taken_back, reset, restored, IsStore, StandsFor, IsOlder, present_of, KeepsNodesMarks}
+use Rattle.iso_store.proofs.TakingBack.{changed_at-length, take-changed_at, changed-back, back-length, back-marked, back-trailed, back-undone}
 
 -- a binding that is trailed
 pub bound-restored : (cs : List Node) (es : List ℕ) (m : NodesMark) (e n : ℕ) (b : _) → slice_get cs e ≡ Some (Var n None) → m.trail ≤ length es → restored (set cs e (Var n b)) (es ++ e ∷ []) m ≡ restored cs es m
 bound-restored cs es m e n b free top =
-    rw (drop-append-le m.trail es (e ∷ []) top, reset-push (drop m.trail es) e, ← take-unbound_at m.nodes (set cs e (Var n b)) e, unbound_at-bound cs e n b free)
+    back-trailed taken_back (λ k d ds. take-changed_at unbound k ds d) cs (set cs e (Var n b)) es e m.nodes m.trail top (changed-back unbound cs e (Var n None) (Var n b) free refl)
 
 -- what the mark stands for, once it was undone, for the mark itself and each older one
 pub undone-restored : (cs : List Node) (es : List ℕ) (k m : NodesMark) → k.nodes ≤ m.nodes → k.trail ≤ m.trail → m.trail ≤ length es → restored (restored cs es m) (take m.trail es) k ≡ restored cs es k
-undone-restored cs es k m nodes trail top =
-    let inner : take k.nodes (reset (drop m.trail es) (take m.nodes cs)) ≡ reset (drop m.trail es) (take k.nodes cs) =
-    take-reset k.nodes (drop m.trail es) (take m.nodes cs) ∙ ap (reset (drop m.trail es)) (take-take k.nodes m.nodes cs nodes) in
-    let size : length (take m.trail es) ≡ m.trail = omega (arith, length-take m.trail es) in
-    let outer : drop k.trail (take m.trail es) ++ drop m.trail es ≡ drop k.trail es = sym (drop-append-le k.trail (take m.trail es) (drop m.trail es) (omega arith)) ∙ ap (drop k.trail) (take-append-drop m.trail es) in
-    ap (reset (drop k.trail (take m.trail es))) inner ∙ sym (reset-append (drop k.trail (take m.trail es)) (drop m.trail es) (take k.nodes cs)) ∙ ap (λ xs. reset xs (take k.nodes cs)) outer
+undone-restored cs es k m nodes trail top = back-undone taken_back (λ k d ds. take-changed_at unbound k ds d) cs es k.nodes k.trail m.nodes m.trail nodes trail top
 
 pub restored-length : (cs : List Node) (es : List ℕ) (m : NodesMark) → m.nodes ≤ length cs → length (restored cs es m) ≡ m.nodes
-restored-length cs es m top = reset-length (drop m.trail es) (take m.nodes cs) ∙ omega (arith, length-take m.nodes cs)
+restored-length cs es m top = back-length taken_back (λ d ds. changed_at-length unbound ds d) cs es m.nodes m.trail top
 
 -- a mark that is made stands for the store as it is
 pub marked-restored : (cs : List Node) (es : List ℕ) (m : NodesMark) → m.nodes ≡ length cs → m.trail ≡ length es → restored cs es m ≡ cs
-marked-restored cs es m nodes trail =
-    let none : drop m.trail es ≡ [] = drop_all m.trail es (omega arith) in
-    ap (λ xs. reset xs (take m.nodes cs)) none ∙ take_all m.nodes cs (omega arith)
+marked-restored cs es m nodes trail = back-marked taken_back cs es m.nodes m.trail nodes trail
 
 -- where these are the names of the atoms
 module _ (names : List (List ℕ)) where

@@ -85,20 +85,21 @@ module _ {W : Type 0} (p : Present W) (names : List (List ℕ)) (at : ℕ → Tr
       known-leaf : (planned p names with_leaf).known ≡ before.known
       known-leaf = ap (λ s. s.known) (sketch-more l.made l.known) ∙ ap (λ ts. before.known ++ ts) none ∙ append-nil before.known
 
-      pub leaf-steps : with_steps (steps_of p names l.tasks.items) (planned p names with_leaf).terms ≡ with_steps (steps_of p names l.tasks.items) (before.terms ++ t ∷ [])
-      leaf-steps = ap (with_steps (steps_of p names l.tasks.items)) terms-leaf
-
-      pub leaf-planned : IsNamed names k → IsReady (length before.known) (length before.terms) k → IsPlanning p names at place (before.terms ++ t ∷ []) l → IsPlanning p names at place (planned p names with_leaf).terms with_leaf
-      leaf-planned named ready is = record {
-        ready = rw more (ready-push names l.parts.items k (start (map (meaning p) l.variables.items)) is.ready named ready);
-        count = is.count ∙ ap length (sym known-leaf);
-        few = is.few;
-        within = let size = ap length more ∙ length-append l.parts.items (k ∷ []) in let before = is.within in omega arith;
-        sound = λ j i h. ap (λ ts. slice_get ts i) known-leaf ∙ is.sound j i h;
-        covered = is.covered;
-        there = is.there;
-        due = subst (λ ts. AreDue p names at ts l.tasks.items) (sym terms-leaf) is.due;
-      }
+      pub leaf-planned : IsNamed names k → IsReady (length before.known) (length before.terms) k → IsPlanning p names at place (before.terms ++ t ∷ []) l
+          → IsPlanning p names at place (planned p names with_leaf).terms with_leaf × (with_steps (steps_of p names l.tasks.items) (planned p names with_leaf).terms ≡ with_steps (steps_of p names l.tasks.items) (before.terms ++ t ∷ []))
+      leaf-planned named ready is = (
+        record {
+          ready = rw more (ready-push names l.parts.items k (start (map (meaning p) l.variables.items)) is.ready named ready);
+          count = is.count ∙ ap length (sym known-leaf);
+          few = is.few;
+          within = let size = ap length more ∙ length-append l.parts.items (k ∷ []) in let before = is.within in omega arith;
+          sound = λ j i h. ap (λ ts. slice_get ts i) known-leaf ∙ is.sound j i h;
+          covered = is.covered;
+          there = is.there;
+          due = subst (λ ts. AreDue p names at ts l.tasks.items) (sym terms-leaf) is.due;
+        },
+        ap (with_steps (steps_of p names l.tasks.items)) terms-leaf,
+      )
 
   -- a term that is known comes
   pub known-term : (k i : ℕ) (t : Tree) (now : List Tree) → IsPlanning p names at place now l → noted l.known k ≡ Some i → at k ≡ t → (part_step names (at_places before.known) (Place i) ≡ Give (t ∷ [])) × (i < length before.known)

@@ -1,66 +1,23 @@
 -- What is left to do of planning a copy.
-use Rattle.std.proofs.Common.{◌≡◌, ℕ, ◌+◌, ◌-◌, ◌*◌, ◌<◌, List, [], ◌∷◌, ◌++◌, length, drop, true, refl, ap, sym, ◌∙◌, subst, arith, append_assoc, length-append}
+use Rattle.std.proofs.Common.{◌≡◌, ℕ, ◌+◌, ◌-◌, ◌<◌, List, [], ◌∷◌, ◌++◌, length, drop, true, refl, ap, sym, ◌∙◌, subst, arith, append_assoc, length-append}
 use Rattle.std.proofs.Math.Seq.{drop-append_seam}
 use Rattle.iso_atoms.specs.Texts.{text_at}
 use Rattle.iso_model.specs.Terms.Trees.{Tree, Apply, row, count}
 use Rattle.iso_model.specs.Terms.Sorts.{is_term}
-use Rattle.iso_model.specs.Terms.Sizes.{size}
-use Rattle.iso_model.specs.Terms.Building.{with_step, with_steps, steps_load}
-use Rattle.iso_model.proofs.OnTerms.BuildingLemmas.{with_steps-more, steps_load-more, with_steps-opened, steps_load-opened, with_gathered}
+use Rattle.iso_model.specs.Terms.Building.{with_step, with_steps}
+use Rattle.iso_model.proofs.OnTerms.BuildingLemmas.{with_gathered}
 use Rattle.iso_store.specs.declared.plans.Task.{Task}
 use Rattle.iso_store.specs.declared.plans.Task.TheVariants.{Plan, Make}
 use Rattle.iso_store_core.specs.Presents.{Present, meaning}
 use Rattle.iso_store_core.specs.Arguments.{arity, argument, arguments_from}
 use Rattle.iso_store.specs.Planning.{IsGathered, AreDue, step_of, steps_of}
-use Rattle.iso_store.proofs.ArgumentLemmas.{arguments-more, arguments-last, arguments-whole, arguments-count}
+use Rattle.iso_store.proofs.ArgumentLemmas.{arguments-whole, arguments-count}
+use Rattle.iso_store.proofs.TaskLemmas.{arguments-on}
 
 module _ {W : Type 0} (p : Present W) (names : List (List ℕ)) where
   pub steps-append : (xs ys : List (Task W)) (now : List Tree) → with_steps (steps_of p names (xs ++ ys)) now ≡ with_steps (steps_of p names xs) (with_steps (steps_of p names ys) now)
   steps-append [] ys now = refl
   steps-append (x ∷ xs) ys now = ap (with_step (step_of p names x)) (steps-append xs ys now)
-
-  -- a compound is left to be planned by its arguments
-  module _ (xs ys zs : List (Task W)) (word : W) (name n k : ℕ) (ts : Tree) (is : meaning p word ≡ Apply (text_at names name) ts) (many : count ts ≡ n) (sort : is_term (meaning p word) ≡ true)
-      (first : ys ≡ xs ++ Make name n k ∷ []) (second : zs ≡ ys ++ Plan word 0 n ∷ []) where
-    whole : Apply (text_at names name) (row (arguments_from 0 (meaning p word))) ≡ meaning p word
-    whole = arguments-whole (text_at names name) n (meaning p word) ts is many sort
-
-    size-same : n ≡ length (arguments_from 0 (meaning p word))
-    size-same = arguments-count (text_at names name) n (meaning p word) ts is many
-
-    pub steps-compound : (us : List Tree) → with_steps (steps_of p names zs) us ≡ with_steps (steps_of p names xs) (us ++ meaning p word ∷ [])
-    steps-compound us =
-        with_steps-opened (step_of p names) xs ys zs (Make name n k) (Plan word 0 n) (text_at names name) n (arguments_from 0 (meaning p word)) refl refl size-same first second us
-        ∙ ap (λ t. with_steps (steps_of p names xs) (us ++ t ∷ [])) whole
-
-    pub load-compound : steps_load (steps_of p names zs) < 2 * size (meaning p word) + steps_load (steps_of p names xs)
-    load-compound =
-        let less = steps_load-opened (step_of p names) xs ys zs (Make name n k) (Plan word 0 n) (text_at names name) n (arguments_from 0 (meaning p word)) refl refl size-same first second in
-        let same = ap size whole in
-        omega arith
-
-  -- an argument comes, and the others behind it are left to be planned
-  module _ (xs : List (Task W)) (word : W) (i n : ℕ) (below : i < n) (many : arity (meaning p word) ≡ n) (t : Tree) (is : t ≡ argument i (meaning p word)) where
-    pub steps-last : (ts us : List Tree) → i + 1 ≡ n → us ≡ with_steps (steps_of p names xs) (ts ++ t ∷ []) → us ≡ with_steps (steps_of p names xs) (ts ++ arguments_from i (meaning p word))
-    steps-last ts us last done = done ∙ ap (λ vs. with_steps (steps_of p names xs) (ts ++ vs)) (sym (arguments-last i n (meaning p word) t below many is last))
-
-    rest : (ts : List Tree) → (ts ++ t ∷ []) ++ arguments_from (i + 1) (meaning p word) ≡ ts ++ arguments_from i (meaning p word)
-    rest ts = append_assoc ts (t ∷ []) (arguments_from (i + 1) (meaning p word)) ∙ ap (λ vs. ts ++ vs) (sym (arguments-more i n (meaning p word) t below many is))
-
-    pub steps-argument : (ts us : List Tree) (ys : List (Task W)) → ys ≡ xs ++ Plan word (i + 1) n ∷ [] → us ≡ with_steps (steps_of p names ys) (ts ++ t ∷ []) → us ≡ with_steps (steps_of p names xs) (ts ++ arguments_from i (meaning p word))
-    steps-argument ts us ys more done = done ∙ with_steps-more (step_of p names) xs ys (Plan word (i + 1) n) more (ts ++ t ∷ []) ∙ ap (with_steps (steps_of p names xs)) (rest ts)
-
-    pub load-last : (k : ℕ) → k < 2 * size t + steps_load (steps_of p names xs) → k < 1 + 2 * size (row (arguments_from i (meaning p word))) + steps_load (steps_of p names xs)
-    load-last k less =
-        let whole = ap (λ us. size (row us)) (arguments-more i n (meaning p word) t below many is) in
-        omega arith
-
-    pub load-argument : (k : ℕ) (ys : List (Task W)) → ys ≡ xs ++ Plan word (i + 1) n ∷ [] → k < 2 * size t + steps_load (steps_of p names ys)
-        → k < 1 + 2 * size (row (arguments_from i (meaning p word))) + steps_load (steps_of p names xs)
-    load-argument k ys more less =
-        let whole = ap (λ us. size (row us)) (arguments-more i n (meaning p word) t below many is) in
-        let all = steps_load-more (step_of p names) xs ys (Plan word (i + 1) n) more in
-        omega arith
 
   -- ---- the compounds that are due
   module _ (at : ℕ → Tree) where
@@ -91,8 +48,5 @@ module _ {W : Type 0} (p : Present W) (names : List (List ℕ)) where
           rw both (due-append now xs (Make name n k ∷ Plan word 0 n ∷ []) (subst (λ s. AreDue p names at s xs) after due) ((term, ap is_term here ∙ sort), tt))
 
     module _ (xs : List (Task W)) (word : W) (i n : ℕ) (below : i < n) (many : arity (meaning p word) ≡ n) (t : Tree) (is : t ≡ argument i (meaning p word)) where
-      pub due-last : (ts : List Tree) → i + 1 ≡ n → AreDue p names at (ts ++ arguments_from i (meaning p word)) xs → AreDue p names at (ts ++ t ∷ []) xs
-      due-last ts last due = subst (λ us. AreDue p names at (ts ++ us) xs) (arguments-last i n (meaning p word) t below many is last) due
-
       pub due-argument : (ts : List Tree) (ys : List (Task W)) → ys ≡ xs ++ Plan word (i + 1) n ∷ [] → AreDue p names at (ts ++ arguments_from i (meaning p word)) xs → AreDue p names at (ts ++ t ∷ []) ys
-      due-argument ts ys more due = rw more (due-append (ts ++ t ∷ []) xs (Plan word (i + 1) n ∷ []) (subst (λ s. AreDue p names at s xs) (sym (rest xs word i n below many t is ts)) due) tt)
+      due-argument ts ys more due = rw more (due-append (ts ++ t ∷ []) xs (Plan word (i + 1) n ∷ []) (subst (λ s. AreDue p names at s xs) (sym (arguments-on i n (meaning p word) t below many is ts)) due) tt)

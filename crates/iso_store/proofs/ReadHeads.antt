@@ -73,13 +73,10 @@ module _ {W : Type 0} (p : Present W) (names : List (List ℕ)) (ks : List Part)
           both (w ∷ ws) ts e h = absurd (let long = ap length e in omega arith)
 
   module _ (values news : List (Option W)) (later laters : List (Later W)) (left lefts : List Tree) (at m : ℕ) (same : m ≡ n) (r : Option ℕ) (so : IsAhead values later left at) (on : IsReadOn p names ks m values news later laters left lefts at r) where
-    pub read-next : (rest : ℕ) → r ≡ Some rest → IsAhead news laters lefts rest
+    pub read-next : (rest : ℕ) → r ≡ Some rest → (rest < at) × IsAhead news laters lefts rest
     read-next rest is =
         let here = subst (λ k. IsReadOn p names ks k values news later laters left lefts at (Some rest)) same (subst (IsReadOn p names ks m values news later laters left lefts at) is on) in
-        read-goes-on values news later laters left lefts at rest so here.1
-
-    pub read-fewer : (rest : ℕ) → r ≡ Some rest → rest < at
-    read-fewer rest is = (subst (IsReadOn p names ks m values news later laters left lefts at) is on).0
+        (here.0, read-goes-on values news later laters left lefts at rest so here.1)
 
     pub read-fails : r ≡ None → (next : ℕ) (s : Subst) → MakesLeft p names ks next s (meaning p goal ∷ []) (first_terms names ks (length ks)) → ⊥
     read-fails is next s made =

@@ -84,6 +84,17 @@ module _ {W : Type 0} (p : Present W) (names : List (List ℕ)) (ks : List Part)
       let other = ap length shows.whole ∙ length-append us (a ∷ []) in
       omega (arith, so.many)
 
+  -- one part less is left
+  read-less : (lefts : List Tree) → length lefts ≡ length (first_terms names ks (at - 1)) → IsRead p names ks n values later lefts (at - 1)
+  read-less lefts same = record {
+    within = omega (arith, so.within);
+    many_values = so.many_values;
+    held = so.held;
+    waiting = so.waiting;
+    cells = later-shape names ks later at shape us a shows so.cells;
+    many = same;
+  }
+
   split-here : (next : ℕ) (s : Subst) → MakesLeft p names ks next s (ws ++ meaning p w ∷ []) (first_terms names ks at) → MakesLeft p names ks next s ws us × (apply s (meaning p w) ≡ apply s (renamed next a))
   split-here next s made = left-split p names ks next s ws (meaning p w) us a (made ∙ ap (λ ts. map (apply s) (map (renamed next) ts)) shows.whole)
 
@@ -107,14 +118,7 @@ module _ {W : Type 0} (p : Present W) (names : List (List ℕ)) (ks : List Part)
       let fewer : at - 1 < at = omega arith in (
         fewer,
         record {
-          read = record {
-            within = omega (arith, so.within);
-            many_values = so.many_values;
-            held = so.held;
-            waiting = so.waiting;
-            cells = later-shape names ks later at shape us a shows so.cells;
-            many = many-before ∙ sym (ap length rest);
-          };
+          read = read-less ws (many-before ∙ sym (ap length rest));
           ahead = λ next s solved. (solved.0, solved.1, rw rest (split-here next s solved.2).0);
           back = λ next s solved. (solved.0, solved.1, joined-here next s (rw rest at solved.2) (constant.same (λ x. Variable (next + x)) s));
         },
@@ -146,14 +150,7 @@ module _ {W : Type 0} (p : Present W) (names : List (List ℕ)) (ks : List Part)
         let fewer : at - 1 < at = omega arith in (
           fewer,
           record {
-            read = record {
-              within = omega (arith, so.within);
-              many_values = so.many_values;
-              held = so.held;
-              waiting = so.waiting;
-              cells = later-shape names ks later at shape us a shows so.cells;
-              many = omega (arith, many-before, one.3, other.3);
-            };
+            read = read-less lefts (omega (arith, many-before, one.3, other.3));
             ahead = λ next s solved.
                 let parts = split-here next s solved.2 in
                 let both : Apply other.0 (row (map (apply s) B)) ≡ Apply one.0 (row (map (apply s) (map (renamed next) A))) =

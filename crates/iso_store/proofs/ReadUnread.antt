@@ -102,8 +102,8 @@ module _ {W : Type 0} (p : Present W) (names : List (List ℕ)) (ks : List Part)
             back = λ next s h. to.back next s (subst (λ ts. Solves p names ks next s mid later ts at) (sym push) (on.back next s h));
           }
 
-      -- no argument of it is left
-      pub over-compound : k ≡ 0 → ReadOver news (left_terms p us) rest
-      over-compound none =
-          let all : left_terms p us ++ first_arguments p word k ≡ left_terms p us = ap (λ i. left_terms p us ++ first_arguments p word i) none ∙ append-nil (left_terms p us) in
-          subst (λ ts. ReadOver news ts rest) all over-variables
+  -- no argument of it is left
+  pub over-compound : (news : List (Option W)) (us : List (Unread W)) (word : W) (rest k : ℕ) → k ≡ 0 → ReadOver news (left_terms p us ++ first_arguments p word k) rest → ReadOver news (left_terms p us) rest
+  over-compound news us word rest k none =
+      let all : left_terms p us ++ first_arguments p word k ≡ left_terms p us = ap (λ i. left_terms p us ++ first_arguments p word i) none ∙ append-nil (left_terms p us) in
+      subst (λ ts. ReadOver news ts rest) all

@@ -93,17 +93,6 @@ module _ {W : Type 0} (p : Present W) where
           rw more
           (sound-append (occurs x t) xs (Search word (i + 1) n ∷ []) (subst (λ us. AreSound p at x (occurs x (row us)) xs) (arguments-more i n (meaning p word) t below many is) sound) tt)
 
-      pub load-last : (k : ℕ) → k < 2 * size t + sum_by (load p) xs → k < load p (Search word i n) + sum_by (load p) xs
-      load-last k less =
-          let whole = ap (λ us. size (row us)) (arguments-more i n (meaning p word) t below many is) in
-          omega arith
-
-      pub load-argument : (k : ℕ) (ys : List (Task W)) → ys ≡ xs ++ Search word (i + 1) n ∷ [] → k < 2 * size t + sum_by (load p) ys → k < load p (Search word i n) + sum_by (load p) xs
-      load-argument k ys more less =
-          let whole = ap (λ us. size (row us)) (arguments-more i n (meaning p word) t below many is) in
-          let all = load-push xs ys (Search word (i + 1) n) more in
-          omega arith
-
     -- a place is left: x is in no term there either
     pub clear-more : (old new : Notes Unit) (k : ℕ) → IsClear at x old → occurs x (at k) ≡ false → ((j : ℕ) → noted new j ≡ (if j == k then Some tt else noted old j)) → IsClear at x new
     clear-more old new k clear here more j some =

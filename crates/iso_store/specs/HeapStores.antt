@@ -1,7 +1,8 @@
 -- When a list of cells and a next number are a heap, and what marks stand for.
-use Rattle.std.specs.Prelude.{◌≡◌, ◌≢◌, ℕ, zero, suc, ◌+◌, ◌-◌, ◌<◌, ◌≤◌, ◌==◌, List, [], ◌∷◌, ◌++◌, length, take, drop, if◌then◌else◌, Option, Some, None, Bool, true, false, nat_lt}
+use Rattle.std.specs.Prelude.{◌≡◌, ◌≢◌, ℕ, suc, ◌+◌, ◌-◌, ◌<◌, ◌≤◌, ◌==◌, List, [], ◌∷◌, ◌++◌, length, take, drop, if◌then◌else◌, Option, Some, None, Bool, true, false, nat_lt}
 use Rattle.std.specs.List.{slice_get, list_any}
 use Rattle.iso_model.specs.Terms.Trees.{Variable}
+use Rattle.iso_store.specs.TakenBack.{changed_at, back}
 use Rattle.iso_store.specs.declared.heap_cells.HeapWord.{HeapWord}
 use Rattle.iso_store.specs.declared.heap_cells.HeapWord.TheVariants.{Var, Structure, Int, Atom}
 use Rattle.iso_store.specs.declared.heap_cells.Cell.{Cell}
@@ -136,9 +137,7 @@ unbound_cell (Entry p) = Entry p
 
 -- the cells, with no binding at this place
 abbrev pub unbound_at : List Cell → ℕ → List Cell
-unbound_at [] e = []
-unbound_at (c ∷ cs) zero = unbound_cell c ∷ cs
-unbound_at (c ∷ cs) (suc e) = c ∷ unbound_at cs e
+unbound_at cs e = changed_at unbound_cell cs e
 
 -- the cells, with the binding of this entry of the trail taken back
 abbrev pub taken_back : Cell → List Cell → List Cell
@@ -150,8 +149,7 @@ taken_back (Entry p) cs = unbound_at cs p
 
 -- the cells, with the bindings of these entries taken back, the newest (last) first
 abbrev pub reset : List Cell → List Cell → List Cell
-reset [] cs = cs
-reset (e ∷ es) cs = taken_back e (reset es cs)
+reset es cs = back taken_back es cs
 
 -- the cells that the mark brings back
 abbrev pub restored : List Cell → List Cell → HeapMark → List Cell

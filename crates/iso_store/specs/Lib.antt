@@ -10,6 +10,7 @@ pub mod Planning
 pub mod Unifying
 pub mod Comparing
 pub mod NodeTerms
+pub mod TakenBack
 pub mod NodeStores
 pub mod NodeLemmas
 pub mod VariableKinds

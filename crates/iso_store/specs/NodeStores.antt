@@ -1,8 +1,9 @@
 -- When a list of nodes, a trail and a next number are a store, and what marks stand for.
-use Rattle.std.specs.Prelude.{◌≡◌, ℕ, zero, suc, ◌<◌, ◌≤◌, ◌==◌, List, [], ◌∷◌, length, take, drop, Option, Some, None, Bool, true, false, nat_lt}
+use Rattle.std.specs.Prelude.{◌≡◌, ℕ, ◌<◌, ◌≤◌, ◌==◌, List, length, take, drop, Option, Some, None, Bool, true, false, nat_lt}
 use Rattle.std.specs.List.{slice_get, slice_index_or, list_any}
 use Rattle.iso_model.specs.Terms.Trees.{Variable, End}
 use Rattle.iso_model.specs.Terms.Variables.{is_in}
+use Rattle.iso_store.specs.TakenBack.{changed_at, back}
 use Rattle.iso_store.specs.declared.nodes.Node.{Node}
 use Rattle.iso_store.specs.declared.nodes.Node.TheVariants.{Var, Int, Atom, Compound}
 use Rattle.iso_store.specs.declared.node_marks.NodesMark.{NodesMark}
@@ -84,14 +85,15 @@ unbound (Compound f ws) = Compound f ws
 
 -- the nodes, with no binding at this place
 abbrev pub unbound_at : List Node → ℕ → List Node
-unbound_at [] e = []
-unbound_at (c ∷ cs) zero = unbound c ∷ cs
-unbound_at (c ∷ cs) (suc e) = c ∷ unbound_at cs e
+unbound_at cs e = changed_at unbound cs e
+
+-- the nodes, with the binding of this entry of the trail taken back
+abbrev pub taken_back : ℕ → List Node → List Node
+taken_back e cs = unbound_at cs e
 
 -- the nodes, with the bindings of these places taken back, the newest (last) first
 abbrev pub reset : List ℕ → List Node → List Node
-reset [] cs = cs
-reset (e ∷ es) cs = unbound_at (reset es cs) e
+reset es cs = back taken_back es cs
 
 -- the nodes that the mark brings back
 abbrev pub restored : List Node → List ℕ → NodesMark → List Node

@@ -1,18 +1,22 @@
 -- What is left of writing a term out part by part, and what a part needs and takes.
-use Rattle.std.specs.Prelude.{◌≡◌, ℕ, ◌<◌, ◌-◌, List, [], ◌∷◌, ◌++◌, map, length, take, slice_get, Option, Some, None}
+use Rattle.std.specs.Prelude.{◌≡◌, ℕ, ◌<◌, ◌-◌, List, [], ◌∷◌, ◌++◌, map, length, take, slice_get, Option, Some, None, true}
 use Rattle.std.specs.List.{All}
 use Rattle.std.specs.Borrow.{Bor}
 use Rattle.iso_model.specs.declared.terms.Term.{Term}
-use Rattle.iso_model.specs.Terms.Trees.{Tree, Variable}
+use Rattle.iso_model.specs.Terms.Trees.{Tree, Variable, arities_fit}
 use Rattle.iso_model.specs.Terms.TermOf.{term_of}
 use Rattle.iso_model.specs.Terms.Substitutions.{Subst}
 use Rattle.iso_model.specs.Terms.Building.{with_step}
 use Rattle.iso_model.specs.Terms.Copies.{place_of}
-use Rattle.iso_store_core.specs.Patterns.{part_step}
+use Rattle.iso_store_core.specs.Patterns.{IsPattern, HasPlaces, part_step}
 use Rattle.iso_store_core.specs.declared.patterns.Part.{Part}
 use Rattle.iso_store_core.specs.declared.patterns.Part.TheVariants.{Variable as Place, Integer as Number, Atom, Compound}
 use Rattle.iso_store.specs.declared.patterns.Places.{Places}
 use Rattle.iso_store.specs.declared.patterns.Places.TheVariants.{Numbers, Among}
+
+-- The parts write out a term that is well formed, whose variables have places among so many.
+abbrev pub IsFitPattern : List (List ℕ) → List Part → ℕ → Type 0
+IsFitPattern names ks count = (t : Tree) × IsPattern names ks t × (arities_fit t ≡ true) × HasPlaces count t
 
 -- how many of so many terms a compound of n arguments takes
 abbrev pub taken : ℕ → ℕ → ℕ

@@ -1,12 +1,13 @@
 //! The head of a clause unified with a goal as it is read (7.7.10): what stands for a part of the goal is not made.
 ghost use Rattle.std.specs.Prelude.{◌≡◌, ℕ, ◌+◌, ◌<◌, ◌≤◌, ◌^◌, IfOk, OnOk, MatchBool, Some, length, map, true, false};
 ghost use Rattle.std.specs.List.{All, slice_get};
-ghost use Rattle.iso_model.specs.Terms.Trees.{Tree, arities_fit};
+ghost use Rattle.iso_model.specs.Terms.Trees.{Tree};
 ghost use Rattle.iso_model.specs.Terms.Substitutions.{Subst, apply};
 ghost use Rattle.iso_store_core.specs.Copying.{cells_of};
 ghost use Rattle.iso_store_core.specs.Presents.{Holds, meaning, IsUnification, Grows, KeepsMarks};
-ghost use Rattle.iso_store_core.specs.Patterns.{IsPattern, HasPlaces, at_places};
+ghost use Rattle.iso_store_core.specs.Patterns.{IsPattern, at_places};
 ghost use Rattle.iso_store_core.specs.Heads.{IsHeadMet};
+ghost use Rattle.iso_store.specs.Writing.{IsFitPattern};
 ghost use Rattle.iso_store.specs.Reading.{term_between, later_cells, IsLater, GetsWord, HasWords, MakesThese, UnifiesThese};
 
 use super::cells::Cells;
@@ -125,7 +126,7 @@ fn unify_head_with<C: Cells>(
     scratch: &mut Scratch<C::Word>,
 ) -> Result<bool, StoreFault>
     requires goal { Holds (C.present store.old) goal }
-    requires head { (t : Tree) × IsPattern (C.names store.old) head.now.parts.items t × (arities_fit t ≡ true) × HasPlaces count t }
+    requires head { IsFitPattern (C.names store.old) head.now.parts.items count }
     requires next { (C.present store.old).next + count < 2 ^ 63 }
     ensures met { (t : Tree) → IsPattern (C.names store.old) head.now.parts.items t
         → IfOk result (λ answer. IsHeadMet (C.present store.old) (C.present store.new) goal t count words.new.items answer) }
@@ -168,7 +169,7 @@ pub(crate) fn unify_head<C: Cells>(
     words: &mut Vec<C::Word>,
 ) -> Result<bool, StoreFault>
     requires goal { Holds (C.present store.old) goal }
-    requires head { (t : Tree) × IsPattern (C.names store.old) head.now.parts.items t × (arities_fit t ≡ true) × HasPlaces count t }
+    requires head { IsFitPattern (C.names store.old) head.now.parts.items count }
     requires next { (C.present store.old).next + count < 2 ^ 63 }
     ensures met { (t : Tree) → IsPattern (C.names store.old) head.now.parts.items t
         → IfOk result (λ answer. IsHeadMet (C.present store.old) (C.present store.new) goal t count words.new.items answer) }

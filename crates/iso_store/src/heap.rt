@@ -19,6 +19,7 @@ use super::copies::copy_out;
 use super::duplicates::duplicate;
 use super::flat_cells::CellArea;
 use super::heads::unify_head;
+use super::heap_arguments::{push_arguments, push_places};
 use super::heap_builds::build_in_place;
 use super::heap_cells::{Cell, HeapMark, HeapWord};
 use super::heap_marks::unwind;
@@ -133,10 +134,12 @@ impl Heap {
     }
 
     /// From now on words and cells may have each atom.
+    #[inline(always)]
     pub(crate) fn know_names(&mut self)
         ensures words { KeepsWords (⟦<Heap as Cells>⟧.present self.old) (⟦<Heap as Cells>⟧.present self.new) }
         ensures substitution { (⟦<Heap as Cells>⟧.present self.new).substitution ≡ (⟦<Heap as Cells>⟧.present self.old).substitution }
         ensures named { self.new.named ≡ length self.old.atoms }
+        ensures every { take self.new.named self.new.atoms ≡ self.old.atoms }
         ensures atoms { self.new.atoms ≡ self.old.atoms }
         ensures area { self.new.area ≡ self.old.area }
         ensures next { self.new.next ≡ self.old.next }
@@ -144,63 +147,6 @@ impl Heap {
         ensures marks { KeepsMarks (⟦<Heap as Cells>⟧.stands self.old) (⟦<Heap as Cells>⟧.stands self.new) }
     {
         self.named = self.atoms.len();
-    }
-
-    /// Pushes the arguments of a compound; some of them where there is no room for all.
-    fn push_arguments(&mut self, arguments: &[HeapWord]) -> Result<(), StoreFault>
-        requires { All (λ w. is_word (take self.old.named self.old.atoms) self.old.area.low w ≡ true) arguments.now }
-        ensures pushed { OnOk result (self.new.area.low ≡ self.old.area.low ++ map Cell.Argument arguments.now) }
-        ensures kept { take (length self.old.area.low) self.new.area.low ≡ self.old.area.low }
-        ensures more { length self.old.area.low ≤ length self.new.area.low }
-        ensures few { length self.new.area.low ≤ length self.old.area.low + length arguments.now }
-        ensures within { length self.old.area.low ≤ self.old.area.capacity → length self.new.area.low ≤ self.new.area.capacity }
-        ensures substitution { heap_substitution (take self.new.named self.new.atoms) self.new.area.low ≡ heap_substitution (take self.old.named self.old.atoms) self.old.area.low }
-        ensures taken { (n : ℕ) → list_any (has_cell_number n) self.new.area.low ≡ list_any (has_cell_number n) self.old.area.low }
-        ensures high { self.new.area.high ≡ self.old.area.high }
-        ensures capacity { self.new.area.capacity ≡ self.old.area.capacity }
-        ensures atoms { self.new.atoms ≡ self.old.atoms }
-        ensures named { self.new.named ≡ self.old.named }
-        ensures next { self.new.next ≡ self.old.next }
-        ensures newest { self.new.newest ≡ self.old.newest }
-        ensures full { result ≡ Err StoreFault.Full → self.new.area.capacity ≤ length self.new.area.low + length self.new.area.high }
-    {
-        let mut done = 0;
-        while done < arguments.len() {
-            self.push(Cell::Argument(arguments[done]))?;
-            done += 1;
-        }
-        Ok(())
-    }
-
-    /// Pushes the words at the places of these parts, each a variable, as arguments; some of them where there is no room for all.
-    fn push_places(&mut self, places: &[Part], variables: &[HeapWord]) -> Result<(), StoreFault>
-        requires places { All (IsPlace (length variables.now)) places.now }
-        requires variables { All (λ w. is_word (take self.old.named self.old.atoms) self.old.area.low w ≡ true) variables.now }
-        ensures pushed { OnOk result (self.new.area.low ≡ self.old.area.low ++ map Cell.Argument (picked variables.now places.now)) }
-        ensures kept { take (length self.old.area.low) self.new.area.low ≡ self.old.area.low }
-        ensures more { length self.old.area.low ≤ length self.new.area.low }
-        ensures few { length self.new.area.low ≤ length self.old.area.low + length places.now }
-        ensures within { length self.old.area.low ≤ self.old.area.capacity → length self.new.area.low ≤ self.new.area.capacity }
-        ensures substitution { heap_substitution (take self.new.named self.new.atoms) self.new.area.low ≡ heap_substitution (take self.old.named self.old.atoms) self.old.area.low }
-        ensures taken { (n : ℕ) → list_any (has_cell_number n) self.new.area.low ≡ list_any (has_cell_number n) self.old.area.low }
-        ensures high { self.new.area.high ≡ self.old.area.high }
-        ensures capacity { self.new.area.capacity ≡ self.old.area.capacity }
-        ensures atoms { self.new.atoms ≡ self.old.atoms }
-        ensures named { self.new.named ≡ self.old.named }
-        ensures next { self.new.next ≡ self.old.next }
-        ensures newest { self.new.newest ≡ self.old.newest }
-        ensures full { result ≡ Err StoreFault.Full → self.new.area.capacity ≤ length self.new.area.low + length self.new.area.high }
-    {
-        let mut done = 0;
-        while done < places.len() {
-            let part = places[done];
-            let Part::Variable(place) = part else {
-                unreachable!()
-            };
-            self.push(Cell::Argument(variables[place]))?;
-            done += 1;
-        }
-        Ok(())
     }
 
     /// What the variable of this cell is bound to.
@@ -356,13 +302,13 @@ impl Cells for Heap {
     }
 
     fn atom(&mut self, name: Atom) -> Result<HeapWord, StoreFault> {
-        self.named = self.atoms.len();
+        self.know_names();
         Ok(HeapWord::Atom(name))
     }
 
     fn compound(&mut self, name: Atom, arguments: &[HeapWord]) -> Result<HeapWord, StoreFault> {
-        self.named = self.atoms.len();
-        self.push_arguments(arguments)?;
+        self.know_names();
+        push_arguments(self, arguments)?;
         let place = self.push(Cell::Functor(name, arguments.len()))?;
         Ok(HeapWord::Structure(place))
     }
@@ -373,8 +319,8 @@ impl Cells for Heap {
         places: &[Part],
         variables: &[HeapWord],
     ) -> Result<HeapWord, StoreFault> {
-        self.named = self.atoms.len();
-        self.push_places(places, variables)?;
+        self.know_names();
+        push_places(self, places, variables)?;
         let place = self.push(Cell::Functor(name, places.len()))?;
         Ok(HeapWord::Structure(place))
     }

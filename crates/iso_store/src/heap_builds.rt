@@ -11,8 +11,8 @@ ghost use Rattle.iso_model.specs.Terms.Copies.{copy_from};
 ghost use Rattle.iso_model.specs.Terms.Substitutions.{apply};
 ghost use Rattle.iso_store_core.specs.Presents.{Gathers, Makes, MovesOn, Grows, NumbersHaveCells, KeepsMarks};
 ghost use Rattle.iso_store_core.specs.Copying.{cells_of};
-ghost use Rattle.iso_store_core.specs.Patterns.{HasPlaces, IsNamed, IsPattern, part_step};
-ghost use Rattle.iso_store.specs.Writing.{IsReady, part_cells, taken};
+ghost use Rattle.iso_store_core.specs.Patterns.{IsNamed, IsPattern, part_step};
+ghost use Rattle.iso_store.specs.Writing.{IsFitPattern, IsReady, part_cells, taken};
 ghost use Rattle.iso_store.specs.HeapBuilds.{ArePushed, GoesOn, HaveCells, IsPushed, built, is_piece, numbered};
 
 use super::cells::Cells;
@@ -187,7 +187,7 @@ fn make_parts(
     pattern: &Pattern,
     places: &mut Vec<Option<usize>>,
 ) -> Result<Piece, StoreFault>
-    requires pattern { (t : Tree) × IsPattern (take heap.old.named heap.old.atoms) pattern.now.parts.items t × (arities_fit t ≡ true) × HasPlaces (length places.old.items) t }
+    requires pattern { IsFitPattern (take heap.old.named heap.old.atoms) pattern.now.parts.items (length places.old.items) }
     requires cells { HaveCells heap.old.area.low first places.old.items }
     requires numbers { first + length places.old.items ≤ heap.old.next }
     ensures made { (t : Tree) → IsPattern (take heap.old.named heap.old.atoms) pattern.now.parts.items t

@@ -2,13 +2,13 @@
 ghost use Rattle.std.specs.Prelude.{◌≡◌, ℕ, ◌<◌, IfOk, IfSome, OnOk, length, map, true};
 ghost use Rattle.std.specs.List.{All};
 ghost use Rattle.iso_atoms.specs.Texts.{text_at};
-ghost use Rattle.iso_model.specs.Terms.Trees.{Tree, arities_fit};
+ghost use Rattle.iso_model.specs.Terms.Trees.{Tree};
 ghost use Rattle.iso_model.specs.Terms.Building.{Gather, with_step};
 ghost use Rattle.iso_model.specs.Terms.Substitutions.{apply};
 ghost use Rattle.iso_store_core.specs.Presents.{Holds, Gathers, Makes, KeepsNumbers, Grows, KeepsMarks};
 ghost use Rattle.iso_store_core.specs.Copying.{cells_of};
-ghost use Rattle.iso_store_core.specs.Patterns.{IsNamed, IsPattern, HasPlaces, part_step, at_places};
-ghost use Rattle.iso_store.specs.Writing.{IsReady, IsPlace, IsVariable, IsFlat, MakesOne, part_cells, picked, taken};
+ghost use Rattle.iso_store_core.specs.Patterns.{IsNamed, IsPattern, part_step, at_places};
+ghost use Rattle.iso_store.specs.Writing.{IsFitPattern, IsReady, IsPlace, IsVariable, IsFlat, MakesOne, part_cells, picked, taken};
 
 use super::cells::Cells;
 use iso_atoms::Atom;
@@ -162,7 +162,7 @@ fn make_flat<C: Cells>(
     parts: &[Part],
     variables: &[C::Word],
 ) -> Result<C::Word, StoreFault>
-    requires pattern { (t : Tree) × IsPattern (C.names store.old) parts.now t × (arities_fit t ≡ true) × HasPlaces (length variables.now) t }
+    requires pattern { IsFitPattern (C.names store.old) parts.now (length variables.now) }
     requires flat { IsFlat name parts.now }
     requires variables { All (λ w. Holds (C.present store.old) w) variables.now }
     ensures made { (t : Tree) → IsPattern (C.names store.old) parts.now t
@@ -183,7 +183,7 @@ fn make_nested<C: Cells>(
     variables: &[C::Word],
     words: &mut Vec<C::Word>,
 ) -> Result<C::Word, StoreFault>
-    requires pattern { (t : Tree) × IsPattern (C.names store.old) parts.now t × (arities_fit t ≡ true) × HasPlaces (length variables.now) t }
+    requires pattern { IsFitPattern (C.names store.old) parts.now (length variables.now) }
     requires variables { All (λ w. Holds (C.present store.old) w) variables.now }
     ensures made { (t : Tree) → IsPattern (C.names store.old) parts.now t
         → IfOk result (λ w. Makes (C.present store.old) (C.present store.new) w (apply (at_places (map (C.present store.old).term variables.now)) t)) }
@@ -213,7 +213,7 @@ pub(crate) fn make_parts<C: Cells>(
     variables: &[C::Word],
     words: &mut Vec<C::Word>,
 ) -> Result<C::Word, StoreFault>
-    requires pattern { (t : Tree) × IsPattern (C.names store.old) parts.now t × (arities_fit t ≡ true) × HasPlaces (length variables.now) t }
+    requires pattern { IsFitPattern (C.names store.old) parts.now (length variables.now) }
     requires variables { All (λ w. Holds (C.present store.old) w) variables.now }
     ensures made { (t : Tree) → IsPattern (C.names store.old) parts.now t
         → IfOk result (λ w. Makes (C.present store.old) (C.present store.new) w (apply (at_places (map (C.present store.old).term variables.now)) t)) }
@@ -236,7 +236,7 @@ pub(crate) fn instantiate<C: Cells>(
     pattern: &Pattern,
     variables: &[C::Word],
 ) -> Result<C::Word, StoreFault>
-    requires pattern { (t : Tree) × IsPattern (C.names store.old) pattern.now.parts.items t × (arities_fit t ≡ true) × HasPlaces (length variables.now) t }
+    requires pattern { IsFitPattern (C.names store.old) pattern.now.parts.items (length variables.now) }
     requires variables { All (λ w. Holds (C.present store.old) w) variables.now }
     ensures made { (t : Tree) → IsPattern (C.names store.old) pattern.now.parts.items t
         → IfOk result (λ w. Makes (C.present store.old) (C.present store.new) w (apply (at_places (map (C.present store.old).term variables.now)) t)) }

@@ -8,6 +8,7 @@ mod duplicates;
 mod flat_cells;
 mod heads;
 mod heap;
+mod heap_arguments;
 mod heap_builds;
 mod heap_cells;
 mod heap_marks;

@@ -6,6 +6,7 @@ ghost use Rattle.iso_model.specs.Terms.Trees.{Tree, Variable, arities_fit};
 ghost use Rattle.iso_store_core.specs.Presents.{Present, Holds, meaning};
 ghost use Rattle.iso_store_core.specs.Arguments.{arguments, listed};
 ghost use Rattle.iso_store_core.specs.Patterns.{IsNamed, IsPattern, HasPlaces};
+ghost use Rattle.iso_store.specs.Writing.{IsFitPattern};
 ghost use Rattle.iso_store.specs.Unifying.{IsCompound};
 ghost use Rattle.iso_store.specs.Reading.{HasArguments, MayHaveArguments, AreUnread, first_arguments, left_terms, first_terms, IsBetween, IsRead, IsReadTo, IsReadOn, IsNext, IsHeadRead, Shows};
 ghost use Rattle.iso_store_core.specs.declared.shapes.Shape.TheVariants as shapes;
@@ -137,7 +138,7 @@ fn read_compound<C: Cells>(
     left: &mut Vec<Unread<C::Word>>,
     inner: &mut Unread<C::Word>,
 ) -> Result<Option<usize>, NoMemory>
-    requires count { (t : Tree) × IsPattern (C.names store.now) head.now.parts.items t × (arities_fit t ≡ true) × HasPlaces (length values.now.items) t }
+    requires count { IsFitPattern (C.names store.now) head.now.parts.items (length values.now.items) }
     requires some { 0 < at }
     requires word { Holds (C.present store.now) word }
     requires left { AreUnread (C.present store.now) left.old.items }
@@ -183,7 +184,7 @@ fn read_constant<C: Cells>(
     values: &Vec<Option<C::Word>>,
     later: &mut Vec<Later<C::Word>>,
 ) -> Result<Option<usize>, NoMemory>
-    requires count { (t : Tree) × IsPattern (C.names store.now) head.now.parts.items t × (arities_fit t ≡ true) × HasPlaces (length values.now.items) t }
+    requires count { IsFitPattern (C.names store.now) head.now.parts.items (length values.now.items) }
     requires some { 0 < at }
     requires word { Holds (C.present store.now) word }
     requires constant { (name count : ℕ) → shape ≢ shapes.Compound name count }
@@ -213,7 +214,7 @@ fn read_variable<C: Cells>(
     values: &mut Vec<Option<C::Word>>,
     later: &mut Vec<Later<C::Word>>,
 ) -> Result<Option<usize>, NoMemory>
-    requires count { (t : Tree) × IsPattern (C.names store.now) head.now.parts.items t × (arities_fit t ≡ true) × HasPlaces (length values.old.items) t }
+    requires count { IsFitPattern (C.names store.now) head.now.parts.items (length values.old.items) }
     requires some { 0 < at }
     requires word { Holds (C.present store.now) word }
     requires place { place < length values.old.items }
@@ -242,7 +243,7 @@ fn read_part<C: Cells>(
     left: &mut Vec<Unread<C::Word>>,
     inner: &mut Unread<C::Word>,
 ) -> Result<Option<usize>, NoMemory>
-    requires count { (t : Tree) × IsPattern (C.names store.now) head.now.parts.items t × (arities_fit t ≡ true) × HasPlaces (length values.old.items) t }
+    requires count { IsFitPattern (C.names store.now) head.now.parts.items (length values.old.items) }
     requires some { 0 < at }
     requires word { Holds (C.present store.now) word }
     requires left { AreUnread (C.present store.now) left.old.items }
@@ -279,7 +280,7 @@ fn read_variables<C: Cells>(
     values: &mut Vec<Option<C::Word>>,
 ) -> (usize, usize)
     requires unread { 0 < many → HasArguments (C.present store.now) word many }
-    requires count { (t : Tree) × IsPattern (C.names store.now) head.now.parts.items t × (arities_fit t ≡ true) × HasPlaces (length values.old.items) t }
+    requires count { IsFitPattern (C.names store.now) head.now.parts.items (length values.old.items) }
     requires read { (front : List Tree) × (later : List (waiting.Later C.Word)) × IsRead (C.present store.now) (C.names store.now) head.now.parts.items (length values.old.items) values.old.items later
         (front ++ first_arguments (C.present store.now) word many) past }
     ensures read { (front : List Tree) (later : List (waiting.Later C.Word)) → IsRead (C.present store.now) (C.names store.now) head.now.parts.items (length values.old.items) values.old.items later
@@ -318,7 +319,7 @@ fn next_word<C: Cells>(
 ) -> Option<NextPart<C::Word>>
     requires left { AreUnread (C.present store.now) left.old.items }
     requires inner { MayHaveArguments (C.present store.now) inner.old }
-    requires count { (t : Tree) × IsPattern (C.names store.now) head.now.parts.items t × (arities_fit t ≡ true) × HasPlaces (length values.old.items) t }
+    requires count { IsFitPattern (C.names store.now) head.now.parts.items (length values.old.items) }
     requires read { (later : List (waiting.Later C.Word)) × IsRead (C.present store.now) (C.names store.now) head.now.parts.items (length values.old.items) values.old.items later (left_terms (C.present store.now) (left.old.items ++ inner.old ∷ [])) past }
     ensures read { (later : List (waiting.Later C.Word))
         → IsRead (C.present store.now) (C.names store.now) head.now.parts.items (length values.old.items) values.old.items later (left_terms (C.present store.now) (left.old.items ++ inner.old ∷ [])) past
@@ -354,7 +355,7 @@ pub(crate) fn read_head<C: Cells>(
     left: &mut Vec<Unread<C::Word>>,
 ) -> Result<bool, NoMemory>
     requires goal { Holds (C.present store.now) goal }
-    requires count { (t : Tree) × IsPattern (C.names store.now) head.now.parts.items t × (arities_fit t ≡ true) × HasPlaces (length values.old.items) t }
+    requires count { IsFitPattern (C.names store.now) head.now.parts.items (length values.old.items) }
     requires values { (x : ℕ) → x < length values.old.items → slice_get values.old.items x ≡ Some None }
     requires later { later.old.items ≡ [] }
     requires left { left.old.items ≡ [] }

@@ -1,12 +1,14 @@
-use Rattle.std.proofs.Common.{◌++◌, ◌∷◌, [], map, ap, sym, ◌∙◌}
+use Rattle.std.proofs.Common.{◌++◌, ◌∷◌, [], map, refl, ap, sym, ◌∙◌}
 use Rattle.std.proofs.lemmas.List.{map-append}
 use Rattle.iso_model.specs.Terms.Trees.{Name}
 use Rattle.iso_model.specs.Terms.TermOf.{term_of}
 use Rattle.iso_model.specs.Terms.Building.{with_steps}
-use Rattle.iso_store.specs.Tasks.{steps_of}
+use Rattle.iso_atoms.specs.Texts.{text_at}
+use Rattle.iso_store_core.specs.Presents.{meaning}
+use Rattle.iso_store.specs.Tasks.{step_of, steps_of}
 use Rattle.iso_store_core.proofs.AtomLemmas.{text-is}
 use Rattle.iso_model.proofs.OnTerms.LeafLemmas.{term_of_atom}
-use Rattle.iso_store.proofs.TaskLemmas.{with_steps-compound, steps_load-compound}
+use Rattle.iso_store.proofs.TaskLemmas.{steps-compound, load-compound}
 use Rattle.iso_store.proofs.copies.copy_next.Goals as goal
 
 pub returns-in_ok-push-in-Atom-clause-steps : goal.returns-in_ok-push-in-Atom-clause-steps
@@ -25,8 +27,8 @@ returns-in_ok-push-in-Compound-2-clause-steps g c =
     let p = g.C.Cells.present c.args.store.now in
     let names = g.C.Cells.names c.args.store.now in
     let here = c.in-Compound.ensures.shape in
-    with_steps-compound p names c.args.tasks.now.items c.push-in-Compound.new.self.items c.push-in-Compound-2.new.self.items c.args.word c.in-Compound.name c.in-Compound.count here.1 here.2 here.3
-    c.in-Compound.ensures.term c.in_ok-push-in-Compound.ensures.items c.in_ok-push-in-Compound-2.ensures.items (map term_of c.args.copies.now.items)
+    steps-compound (step_of p names) c.args.tasks.now.items _ _ _ _ (meaning p c.args.word) (text_at names c.in-Compound.name) c.in-Compound.count here.1 here.2 here.3 c.in-Compound.ensures.term refl refl c.in_ok-push-in-Compound.ensures.items c.in_ok-push-in-Compound-2.ensures.items
+    (map term_of c.args.copies.now.items)
 
 pub returns-in_ok-push-in-Compound-2-clause-load :
     goal.returns-in_ok-push-in-Compound-2-clause-load
@@ -34,5 +36,4 @@ returns-in_ok-push-in-Compound-2-clause-load g c =
     let p = g.C.Cells.present c.args.store.now in
     let names = g.C.Cells.names c.args.store.now in
     let here = c.in-Compound.ensures.shape in
-    steps_load-compound p names c.args.tasks.now.items c.push-in-Compound.new.self.items c.push-in-Compound-2.new.self.items c.args.word c.in-Compound.name c.in-Compound.count here.1 here.2 here.3
-    c.in-Compound.ensures.term c.in_ok-push-in-Compound.ensures.items c.in_ok-push-in-Compound-2.ensures.items
+    load-compound (step_of p names) c.args.tasks.now.items _ _ _ _ (meaning p c.args.word) (text_at names c.in-Compound.name) c.in-Compound.count here.1 here.2 here.3 c.in-Compound.ensures.term refl refl c.in_ok-push-in-Compound.ensures.items c.in_ok-push-in-Compound-2.ensures.items

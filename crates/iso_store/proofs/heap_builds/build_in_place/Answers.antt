@@ -1,6 +1,6 @@
 use Rattle.std.proofs.Common.{◌≡◌, ℕ, ◌+◌, ◌≤◌, [], None, length, take, false, ap, sym, ◌∙◌, subst, arith, true}
 use Rattle.std.specs.List.{list_any}
-use Rattle.std.proofs.lemmas.List.{take_all, length-replicate}
+use Rattle.std.proofs.lemmas.List.{length-replicate}
 use Rattle.iso_model.specs.Terms.Trees.{Tree, Variable}
 use Rattle.iso_model.specs.Terms.TermOf.{term_of}
 use Rattle.iso_model.specs.Terms.Sorts.{is_term}
@@ -10,7 +10,7 @@ use Rattle.iso_model.specs.Terms.Substitutions.{apply}
 use Rattle.iso_model.specs.Terms.Copies.{place_of, copy_from}
 use Rattle.iso_model.specs.Terms.Unification.Listed.{Covers, distinct_covers}
 use Rattle.iso_model.proofs.OnTerms.MeaningLemmas.{meaning_is_term}
-use Rattle.iso_store_core.specs.Presents.{KeepsWords}
+use Rattle.iso_store_core.specs.Presents.{KeepsWords, Grows}
 use Rattle.iso_store_core.specs.Copying.{cells_of}
 use Rattle.iso_store_core.specs.Patterns.{HasPlaces, IsPattern}
 use Rattle.iso_store.specs.HeapStores.{has_cell_number}
@@ -18,6 +18,7 @@ use Rattle.iso_store.specs.HeapBuilds.{numbered}
 use Rattle.iso_store.proofs.Gathering.{keeps-then}
 use Rattle.iso_store.proofs.Renaming.{arities-renamed, cells-renamed, places-covered}
 use Rattle.iso_store.proofs.HeapBuilt.{as_present, cells-within, copied-numbers, each-counted, goes-grows, goes-makes, goes-marks, have-none, no-variable}
+use Rattle.iso_store.proofs.heap_builds.build_in_place.Goals.{After-know_names, After-make_parts}
 use Rattle.iso_store.proofs.heap_builds.build_in_place.Goals as goal
 
 pub returns-in_err-pattern-clause-marks : goal.returns-in_err-pattern-clause-marks
@@ -32,6 +33,10 @@ returns-in_err-word-clause-marks c m p h = goes-marks c.make_parts.ensures.goes_
 pub returns-clause-marks : goal.returns-clause-marks
 returns-clause-marks c m p h = goes-marks c.make_parts.ensures.goes_on m p (c.know_names.ensures.marks m p (c.written.ensures.marks m p (c.reserve-first.ensures.marks m p h)))
 
+-- the pattern of the term, among all names
+whole : (c : After-know_names) → IsPattern (take c.know_names.new.self.named c.know_names.new.self.atoms) c.in_ok-pattern.pattern.parts.items (apply (λ x. Variable (place_of x c.note_all.new.self)) (term_of c.args.term.now))
+whole c = rw c.know_names.ensures.every c.in_ok-pattern.ensures.pattern
+
 pub make_parts-requires-clause-pattern : goal.make_parts-requires-clause-pattern
 make_parts-requires-clause-pattern c =
     let t = term_of c.args.term.now in
@@ -40,9 +45,7 @@ make_parts-requires-clause-pattern c =
     let u : Tree = apply (λ x. Variable (place_of x vs)) t in
     let covered : Covers vs t = rw list (distinct_covers [] t) in
     let size = ap length c.in_ok-places.ensures ∙ length-replicate c.len-2.result None ∙ c.len-2.ensures.len in
-    let known = c.know_names.new.self in
-    let every : take known.named known.atoms ≡ c.written.new.store.atoms = rw (c.know_names.ensures.named, c.know_names.ensures.atoms) (take_all (length c.written.new.store.atoms) c.written.new.store.atoms (omega arith)) in
-    (u, subst (λ ns. IsPattern ns c.in_ok-pattern.pattern.parts.items u) (sym every) c.in_ok-pattern.ensures.pattern, arities-renamed (λ x. place_of x vs) t ∙ c.requires.fits, subst (λ n. HasPlaces n u) (sym size) (places-covered vs t covered))
+    (u, whole (goal.at.make_parts-requires-clause-pattern c).After-know_names, arities-renamed (λ x. place_of x vs) t ∙ c.requires.fits, subst (λ n. HasPlaces n u) (sym size) (places-covered vs t covered))
 
 pub make_parts-requires-clause-cells : goal.make_parts-requires-clause-cells
 make_parts-requires-clause-cells c =
@@ -51,47 +54,30 @@ make_parts-requires-clause-cells c =
     ap (λ a. list_any (has_cell_number m) a.low) c.know_names.ensures.area ∙ ap (λ p. p.taken m) c.written.ensures.present ∙ c.reserve-first.ensures.free m above in
     rw c.in_ok-places.ensures (have-none known.area.low c.reserve-first.result c.len-2.result free)
 
-pub returns-in_err-word-clause-cells : goal.returns-in_err-word-clause-cells
-returns-in_err-word-clause-cells c =
+cells : (c : After-make_parts) → Grows (as_present c.args.heap.now) (as_present c.make_parts.new.heap) (size (term_of c.args.term.now))
+cells c =
     let t = term_of c.args.term.now in
     let vs = c.note_all.new.self in
-    let is : is_term t ≡ true = meaning_is_term c.args.term.now ∙ c.requires.fits in
     let u : Tree = apply (λ x. Variable (place_of x vs)) t in
-    let known = c.know_names.new.self in
-    let every : take known.named known.atoms ≡ c.written.new.store.atoms = rw (c.know_names.ensures.named, c.know_names.ensures.atoms) (take_all (length c.written.new.store.atoms) c.written.new.store.atoms (omega arith)) in
-    let whole = subst (λ ns. IsPattern ns c.in_ok-pattern.pattern.parts.items u) (sym every) c.in_ok-pattern.ensures.pattern in
     let same = cells-renamed (λ x. place_of x vs) 0 (λ n. n + 1) t in
-    let less = cells-within t is in
+    let less = cells-within t (meaning_is_term c.args.term.now ∙ c.requires.fits) in
     let within : cells_of 0 (λ n. n + 1) u ≤ size t = omega arith in
     let cells = sym (ap (λ a. length a.low) c.know_names.ensures.area ∙ ap (λ p. p.cells) c.written.ensures.present) in
     let room = sym (ap (λ a. a.capacity) c.know_names.ensures.area ∙ ap (λ p. p.limit) c.written.ensures.present) in
-    goes-grows c.make_parts.ensures.goes_on (as_present c.args.heap.now) (as_present c.reserve-first.new.self) (cells_of 0 (λ n. n + 1) u) (size t) c.reserve-first.ensures.cells cells room (c.make_parts.ensures.few u whole) within
+    goes-grows c.make_parts.ensures.goes_on (as_present c.args.heap.now) (as_present c.reserve-first.new.self) (cells_of 0 (λ n. n + 1) u) (size t) c.reserve-first.ensures.cells cells room (c.make_parts.ensures.few u (rw c.know_names.ensures.every c.in_ok-pattern.ensures.pattern)) within
+
+pub returns-in_err-word-clause-cells : goal.returns-in_err-word-clause-cells
+returns-in_err-word-clause-cells c = cells (goal.at.returns-in_err-word-clause-cells c).After-make_parts
 
 pub returns-clause-cells : goal.returns-clause-cells
-returns-clause-cells c =
-    let t = term_of c.args.term.now in
-    let vs = c.note_all.new.self in
-    let is : is_term t ≡ true = meaning_is_term c.args.term.now ∙ c.requires.fits in
-    let u : Tree = apply (λ x. Variable (place_of x vs)) t in
-    let known = c.know_names.new.self in
-    let every : take known.named known.atoms ≡ c.written.new.store.atoms = rw (c.know_names.ensures.named, c.know_names.ensures.atoms) (take_all (length c.written.new.store.atoms) c.written.new.store.atoms (omega arith)) in
-    let whole = subst (λ ns. IsPattern ns c.in_ok-pattern.pattern.parts.items u) (sym every) c.in_ok-pattern.ensures.pattern in
-    let same = cells-renamed (λ x. place_of x vs) 0 (λ n. n + 1) t in
-    let less = cells-within t is in
-    let within : cells_of 0 (λ n. n + 1) u ≤ size t = omega arith in
-    let cells = sym (ap (λ a. length a.low) c.know_names.ensures.area ∙ ap (λ p. p.cells) c.written.ensures.present) in
-    let room = sym (ap (λ a. a.capacity) c.know_names.ensures.area ∙ ap (λ p. p.limit) c.written.ensures.present) in
-    goes-grows c.make_parts.ensures.goes_on (as_present c.args.heap.now) (as_present c.reserve-first.new.self) (cells_of 0 (λ n. n + 1) u) (size t) c.reserve-first.ensures.cells cells room (c.make_parts.ensures.few u whole) within
+returns-clause-cells c = cells (goal.at.returns-clause-cells c).After-make_parts
 
 pub unreachable-requires : goal.unreachable-requires
 unreachable-requires c =
     let t = term_of c.args.term.now in
     let vs = c.note_all.new.self in
     let u : Tree = apply (λ x. Variable (place_of x vs)) t in
-    let known = c.know_names.new.self in
-    let every : take known.named known.atoms ≡ c.written.new.store.atoms = rw (c.know_names.ensures.named, c.know_names.ensures.atoms) (take_all (length c.written.new.store.atoms) c.written.new.store.atoms (omega arith)) in
-    let whole = subst (λ ns. IsPattern ns c.in_ok-pattern.pattern.parts.items u) (sym every) c.in_ok-pattern.ensures.pattern in
-    let made = rw c.in-Variable.is at (c.in_ok-word.ensures.made u whole) in
+    let made = rw c.in-Variable.is at (c.in_ok-word.ensures.made u (whole (goal.at.unreachable-requires c).After-know_names)) in
     no-variable (numbered c.reserve-first.result) u (c.reserve-first.result + c.in-Variable.field-0) (λ m. no-variable (λ x. Variable (place_of x vs)) t m c.requires.other) (sym made.term)
 
 pub returns-clause-made : goal.returns-clause-made
@@ -102,12 +88,10 @@ returns-clause-made c =
     let u : Tree = apply (λ x. Variable (place_of x vs)) t in
     let old = c.args.heap.now in
     let known = c.know_names.new.self in
-    let every : take known.named known.atoms ≡ c.written.new.store.atoms = rw (c.know_names.ensures.named, c.know_names.ensures.atoms) (take_all (length c.written.new.store.atoms) c.written.new.store.atoms (omega arith)) in
-    let whole = subst (λ ns. IsPattern ns c.in_ok-pattern.pattern.parts.items u) (sym every) c.in_ok-pattern.ensures.pattern in
     let words : KeepsWords (as_present old) (as_present known) = keeps-then c.reserve-first.ensures.words (subst (λ p. KeepsWords p (as_present known)) c.written.ensures.present c.know_names.ensures.words) in
     let same = c.know_names.ensures.substitution ∙ ap (λ p. p.substitution) c.written.ensures.present ∙ c.reserve-first.ensures.substitution in
     let is = copied-numbers t c.reserve-first.result old.next vs c.reserve-first.ensures.number list in
-    let made = rw c.in-Word.is at (c.in_ok-word.ensures.made u whole) in
+    let made = rw c.in-Word.is at (c.in_ok-word.ensures.made u (whole (goal.at.returns-clause-made c).After-know_names)) in
     goes-makes c.make_parts.ensures.goes_on (as_present old) (length c.in_ok-places.places.items) c.in-Word.word (apply (numbered c.reserve-first.result) u) (copy_from t old.next) words same is made
 
 pub returns-clause-numbers : goal.returns-clause-numbers
@@ -133,13 +117,10 @@ returns-clause-counted c =
     let count = c.len.ensures.len ∙ ap length list in
     let is : is_term t ≡ true = meaning_is_term c.args.term.now ∙ c.requires.fits in
     let u : Tree = apply (λ x. Variable (place_of x vs)) t in
-    let known = c.know_names.new.self in
-    let every : take known.named known.atoms ≡ c.written.new.store.atoms = rw (c.know_names.ensures.named, c.know_names.ensures.atoms) (take_all (length c.written.new.store.atoms) c.written.new.store.atoms (omega arith)) in
-    let whole = subst (λ ns. IsPattern ns c.in_ok-pattern.pattern.parts.items u) (sym every) c.in_ok-pattern.ensures.pattern in
     let next = c.make_parts.ensures.goes_on.next ∙ c.know_names.ensures.next ∙ ap (λ p. p.next) c.written.ensures.present ∙ c.reserve-first.ensures.numbers.next in
     let cells = ap (λ a. length a.low) c.know_names.ensures.area ∙ ap (λ p. p.cells) c.written.ensures.present in
     let kept = c.reserve-first.ensures.cells.keeps in
     let same = cells-renamed (λ x. place_of x vs) 0 (λ n. n + 1) t in
     let each = each-counted t is c.requires.other in
-    let all = c.in_ok-word.ensures.size u whole in
+    let all = c.in_ok-word.ensures.size u (whole (goal.at.returns-clause-counted c).After-know_names) in
     omega arith

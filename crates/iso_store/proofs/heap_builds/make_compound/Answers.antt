@@ -1,9 +1,6 @@
-use Rattle.std.proofs.Common.{length, take, refl, ap}
+use Rattle.std.proofs.Common.{length, refl}
 use Rattle.iso_store.specs.declared.heap_cells.Cell.TheVariants.{Functor}
-use Rattle.iso_store.specs.HeapBuilds.{GoesOn}
-use Rattle.iso_store.specs.HeapStores.{is_functor}
-use Rattle.iso_store.specs.Slices.{slice_get-last}
-use Rattle.iso_store.proofs.HeapBuilding.{cells-other, compound-term, functor-comes, goes-same, goes-then, goes-words, pushed-goes}
+use Rattle.iso_store.proofs.HeapBuilding.{cells-other, compound-comes, goes-same, goes-then}
 use Rattle.iso_store.proofs.heap_builds.make_compound.Goals as goal
 
 pub returns-in_err-place-clause-goes_on : goal.returns-in_err-place-clause-goes_on
@@ -17,25 +14,12 @@ returns-clause-cells c =
 
 pub returns-clause-goes_on : goal.returns-clause-goes_on
 returns-clause-goes_on c =
-    let old = c.args.heap.now in
-    let so = c.push_pieces.ensures.goes_on in
     let last = c.in_ok-place.ensures in
-    let may = functor-comes (take old.named old.atoms) c.args.first old.area.low c.push_pieces.new.heap.area.low c.args.pieces.now c.args.name c.in_ok-push_pieces.ensures.pushed c.requires.name c.requires.some c.requires.few in
-    goes-then so (pushed-goes c.args.first c.push_pieces.new.heap c.push.new.self (Functor c.args.name (length c.args.pieces.now)) c.push_pieces.new.heap.is_heap (rw (so.named, so.atoms) may) (λ n below. refl) last.high last.capacity last.atoms last.named last.next last.newest last.low last.room)
+    (compound-comes c.args.first c.args.heap.now c.push_pieces.new.heap c.args.pieces.now c.args.name c.in_ok-push_pieces.ensures.pushed c.push_pieces.ensures.goes_on c.requires.name c.requires.some c.requires.few
+    c.push.new.self last.high last.capacity last.atoms last.named last.next last.newest last.low last.room).0
 
 pub returns-clause-made : goal.returns-clause-made
 returns-clause-made c =
-    let old = c.args.heap.now in
-    let so = c.push_pieces.ensures.goes_on in
     let last = c.in_ok-place.ensures in
-    let pushed = c.in_ok-push_pieces.ensures.pushed in
-    let may = functor-comes (take old.named old.atoms) c.args.first old.area.low c.push_pieces.new.heap.area.low c.args.pieces.now c.args.name pushed c.requires.name c.requires.some c.requires.few in
-    let whole : GoesOn c.args.first old c.push.new.self =
-    goes-then so (pushed-goes c.args.first c.push_pieces.new.heap c.push.new.self (Functor c.args.name (length c.args.pieces.now)) c.push_pieces.new.heap.is_heap (rw (so.named, so.atoms) may) (λ n below. refl) last.high last.capacity last.atoms last.named last.next last.newest last.low last.room) in
-    let term = compound-term (take old.named old.atoms) c.args.first old.area.low c.push_pieces.new.heap.area.low c.args.pieces.now c.args.name pushed in
-    record {
-      words = goes-words whole (length c.args.places.now.items);
-      substitution = whole.substitution;
-      holds = rw (last.place, last.low) (ap is_functor (slice_get-last c.push_pieces.new.heap.area.low (Functor c.args.name (length c.args.pieces.now))));
-      term = rw (last.place, last.low, whole.named, whole.atoms) term;
-    }
+    rw last.place ((compound-comes c.args.first c.args.heap.now c.push_pieces.new.heap c.args.pieces.now c.args.name c.in_ok-push_pieces.ensures.pushed c.push_pieces.ensures.goes_on c.requires.name c.requires.some c.requires.few
+    c.push.new.self last.high last.capacity last.atoms last.named last.next last.newest last.low last.room).1 (length c.args.places.now.items))

@@ -8,15 +8,13 @@ use Rattle.iso_store.proofs.heap_builds.push_piece.Goals as goal
 
 pub returns-in_ok-push-in-Word-clause-pushed : goal.returns-in_ok-push-in-Word-clause-pushed
 returns-in_ok-push-in-Word-clause-pushed c =
-    let now = c.args.heap.now in
     let after = c.in_ok-push-in-Word.ensures in
     let heap = rw (after.named, after.atoms) at c.push.new.self.is_heap in
-    let holds = rw c.in-Word.is at c.requires.piece in
-    rw c.in-Word.is (word-pushed (take now.named now.atoms) c.args.first c.push.new.self.next now.area.low c.push.new.self.area.low c.in-Word.word heap holds after.low)
+    rw c.in-Word.is (word-pushed _ c.args.first _ _ _ c.in-Word.word heap (rw c.in-Word.is at c.requires.piece) after.low)
 
 pub returns-in_ok-push-in-Word-clause-cells : goal.returns-in_ok-push-in-Word-clause-cells
 returns-in_ok-push-in-Word-clause-cells c =
-    cells-other c.args.heap.now.area.low c.args.first c.args.places.now.items c.requires.cells c.push.new.self.area.low (Argument c.in-Word.word) (λ n. refl) c.in_ok-push-in-Word.ensures.low
+    cells-other _ _ _ c.requires.cells _ (Argument c.in-Word.word) (λ n. refl) c.in_ok-push-in-Word.ensures.low
 
 pub returns-in_ok-push-in-Word-clause-goes_on : goal.returns-in_ok-push-in-Word-clause-goes_on
 returns-in_ok-push-in-Word-clause-goes_on c =
@@ -35,7 +33,7 @@ returns-in_ok-push-in-Some-clause-pushed c =
 
 pub returns-in_ok-push-in-Some-clause-cells : goal.returns-in_ok-push-in-Some-clause-cells
 returns-in_ok-push-in-Some-clause-cells c =
-    cells-other c.args.heap.now.area.low c.args.first c.args.places.now.items c.requires.cells c.push-in-Some.new.self.area.low (Argument (Var c.in-Some.place)) (λ n. refl) c.in_ok-push-in-Some.ensures.low
+    cells-other _ _ _ c.requires.cells _ (Argument (Var c.in-Some.place)) (λ n. refl) c.in_ok-push-in-Some.ensures.low
 
 pub returns-in_ok-push-in-Some-clause-goes_on : goal.returns-in_ok-push-in-Some-clause-goes_on
 returns-in_ok-push-in-Some-clause-goes_on c =

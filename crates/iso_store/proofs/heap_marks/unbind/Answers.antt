@@ -1,6 +1,7 @@
 use Rattle.std.proofs.Common.{sym, ap, ◌∙◌, Some, arith}
 use Rattle.iso_area.specs.Stacks.{stacks}
-use Rattle.iso_store.proofs.HeapResets.{unbind-bound, unbind-other, unbound_at-beyond}
+use Rattle.iso_store.proofs.HeapResets.{unbind-bound, unbind-other}
+use Rattle.iso_store.proofs.TakingBack.{changed_at-beyond}
 use Rattle.iso_store.proofs.heap_marks.unbind.Goals as goal
 
 pub returns-in-Bound : goal.returns-in-Bound
@@ -18,4 +19,4 @@ returns-else-place-low_len c =
     let now = c.args.area.now in
     let past = c.if-place-low_len.false in
     let size = c.low_len.ensures in
-    ap (λ xs. stacks xs now.high now.capacity) (sym (unbound_at-beyond now.low c.args.place (omega arith)))
+    ap (λ xs. stacks xs now.high now.capacity) (sym (changed_at-beyond _ now.low c.args.place (omega arith)))

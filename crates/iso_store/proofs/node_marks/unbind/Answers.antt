@@ -1,5 +1,6 @@
 use Rattle.std.proofs.Common.{sym, arith}
-use Rattle.iso_store.proofs.Resets.{unbind-variable, unbind-other, unbound_at-beyond}
+use Rattle.iso_store.proofs.Resets.{unbind-variable, unbind-other}
+use Rattle.iso_store.proofs.TakingBack.{changed_at-beyond}
 use Rattle.iso_store.proofs.node_marks.unbind.Goals as goal
 
 pub returns-in-Var : goal.returns-in-Var
@@ -11,4 +12,4 @@ returns-in_default c =
     unbind-other _ _ _ (omega arith) c.index_mut.ensures.value c.in_default.not-Var
 
 pub returns-else-place-len : goal.returns-else-place-len
-returns-else-place-len c = sym (unbound_at-beyond _ _ (omega arith))
+returns-else-place-len c = sym (changed_at-beyond _ _ _ (omega arith))

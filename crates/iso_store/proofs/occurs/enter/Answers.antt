@@ -4,23 +4,17 @@ use Rattle.iso_store.proofs.occurs.enter.Goals as goal
 pub returns-in_ok-push-in-Compound-2-clause-sound :
     goal.returns-in_ok-push-in-Compound-2-clause-sound
 returns-in_ok-push-in-Compound-2-clause-sound g c =
-    let p = g.C.Cells.present c.args.store.now in
     let here = c.in-Compound.ensures.shape in
-    sound-compound p (g.C.Cells.at_place c.args.store.now) c.args.number c.args.tasks.now.items c.push.new.self.items c.push-in-Compound.new.self.items c.args.word c.in-Some.place c.in-Compound.count _ here.1 here.2 here.3
-    c.in-Compound.ensures.term c.in-Some.ensures.value c.in_ok-push-in-Compound.ensures.items c.in_ok-push-in-Compound-2.ensures.items c.requires.sound
+    sound-compound (g.C.Cells.present c.args.store.now) (g.C.Cells.at_place c.args.store.now) c.args.number _ _ _ c.args.word _ _ _ here.1 here.2 here.3 c.in-Compound.ensures.term c.in-Some.ensures.value c.in_ok-push-in-Compound.ensures.items c.in_ok-push-in-Compound-2.ensures.items c.requires.sound
 
 pub returns-in_ok-push-in-Compound-2-clause-found :
     goal.returns-in_ok-push-in-Compound-2-clause-found
 returns-in_ok-push-in-Compound-2-clause-found g c =
-    let p = g.C.Cells.present c.args.store.now in
     let here = c.in-Compound.ensures.shape in
-    found-compound p (g.C.Cells.at_place c.args.store.now) c.args.number c.args.tasks.now.items c.push.new.self.items c.push-in-Compound.new.self.items c.args.word c.in-Some.place c.in-Compound.count _ here.1 here.2 here.3
-    c.in-Compound.ensures.term c.in-Some.ensures.value c.in_ok-push-in-Compound.ensures.items c.in_ok-push-in-Compound-2.ensures.items
+    found-compound (g.C.Cells.present c.args.store.now) (g.C.Cells.at_place c.args.store.now) c.args.number _ _ _ c.args.word _ _ _ here.1 here.2 here.3 c.in-Compound.ensures.term c.in-Some.ensures.value c.in_ok-push-in-Compound.ensures.items c.in_ok-push-in-Compound-2.ensures.items
 
 pub returns-in_ok-push-in-Compound-2-clause-load :
     goal.returns-in_ok-push-in-Compound-2-clause-load
 returns-in_ok-push-in-Compound-2-clause-load g c =
-    let p = g.C.Cells.present c.args.store.now in
     let here = c.in-Compound.ensures.shape in
-    load-compound p (g.C.Cells.at_place c.args.store.now) c.args.number c.args.tasks.now.items c.push.new.self.items c.push-in-Compound.new.self.items c.args.word c.in-Some.place c.in-Compound.count _ here.1 here.2 here.3
-    c.in-Compound.ensures.term c.in-Some.ensures.value c.in_ok-push-in-Compound.ensures.items c.in_ok-push-in-Compound-2.ensures.items
+    load-compound (g.C.Cells.present c.args.store.now) (g.C.Cells.at_place c.args.store.now) c.args.number _ _ _ c.args.word _ _ _ here.1 here.2 here.3 c.in-Compound.ensures.term c.in-Some.ensures.value c.in_ok-push-in-Compound.ensures.items c.in_ok-push-in-Compound-2.ensures.items

@@ -1,6 +1,8 @@
 use Rattle.std.proofs.Common.{sym}
+use Rattle.iso_store_core.specs.Presents.{meaning}
 use Rattle.iso_model.proofs.OnTerms.CopyingLemmas.{on_ok_by}
-use Rattle.iso_store.proofs.SearchLemmas.{occurs-last, found-argument, sound-argument, load-last, load-argument}
+use Rattle.iso_store.proofs.SearchLemmas.{occurs-last, found-argument, sound-argument, load-push}
+use Rattle.iso_store.proofs.TaskLemmas.{load-last, load-more}
 use Rattle.iso_store.proofs.occurs.search_argument.Goals as goal
 
 pub enter-requires-clause-sound : goal.enter-requires-clause-sound
@@ -22,9 +24,8 @@ returns-then-index-count-clause-found g c =
 pub returns-then-index-count-clause-load : goal.returns-then-index-count-clause-load
 returns-then-index-count-clause-load g c =
     let p = g.C.Cells.present c.args.store.now in
-    let at = g.C.Cells.at_place c.args.store.now in
     let task = c.requires.task in
-    on_ok_by c.enter.result c.enter.ensures.load (load-last p at c.args.number c.args.tasks.now.items c.args.word c.args.index c.args.count task.1 task.2 _ c.arg-argument.ensures.value _)
+    on_ok_by c.enter.result c.enter.ensures.load (load-last c.args.index c.args.count (meaning p c.args.word) (meaning p c.arg-argument.result) task.1 task.2 c.arg-argument.ensures.value _ _)
 
 pub enter-requires-2-clause-sound : goal.enter-requires-2-clause-sound
 enter-requires-2-clause-sound g c =
@@ -44,7 +45,5 @@ returns-clause-found g c =
 pub returns-clause-load : goal.returns-clause-load
 returns-clause-load g c =
     let p = g.C.Cells.present c.args.store.now in
-    let at = g.C.Cells.at_place c.args.store.now in
     let task = c.requires.task in
-    on_ok_by c.enter-2.result c.enter-2.ensures.load
-    (load-argument p at c.args.number c.args.tasks.now.items c.args.word c.args.index c.args.count task.1 task.2 _ c.arg-argument.ensures.value _ c.push.new.self.items c.in_ok-push.ensures.items)
+    on_ok_by c.enter-2.result c.enter-2.ensures.load (load-more c.args.index c.args.count (meaning p c.args.word) (meaning p c.arg-argument.result) task.1 task.2 c.arg-argument.ensures.value _ _ _ (load-push p _ _ _ c.in_ok-push.ensures.items))

@@ -1,35 +1,26 @@
 use Rattle.std.proofs.Common.{◌<◌, ◌+◌, ◌∙◌, arith}
 use Rattle.iso_store_core.specs.Presents.{meaning}
-use Rattle.iso_store.proofs.UnifyLemmas.{compound-arity, stands-last, steps-last, stands-more, steps-more}
+use Rattle.iso_store.proofs.ReadingLemmas.{argument-index}
+use Rattle.iso_store.proofs.UnifyLemmas.{stands-last, steps-last, stands-more, steps-more}
 use Rattle.iso_store.proofs.OrderLemmas.{ok_by, order-last, order-more}
 use Rattle.iso_store.proofs.order.compare_arguments.Goals as goal
 
 pub arg-first-requires-clause-index : goal.arg-first-requires-clause-index
-arg-first-requires-clause-index g c =
-    let pair = c.requires.pair in
-    let many = compound-arity c.args.count (meaning (g.C.Cells.present c.args.store.now) c.args.one) pair.3 in
-    omega (arith, pair.2)
+arg-first-requires-clause-index g c = argument-index c.args.index c.args.count _ c.requires.pair.3 c.requires.pair.2
 
 pub arg-second-requires-clause-index : goal.arg-second-requires-clause-index
-arg-second-requires-clause-index g c =
-    let pair = c.requires.pair in
-    let many = compound-arity c.args.count (meaning (g.C.Cells.present c.args.store.now) c.args.other) pair.4 in
-    omega (arith, pair.2)
+arg-second-requires-clause-index g c = argument-index c.args.index c.args.count _ c.requires.pair.4 c.requires.pair.2
 
 pub compare_next-requires-clause-stands : goal.compare_next-requires-clause-stands
 compare_next-requires-clause-stands g c =
-    let p = g.C.Cells.present c.args.store.now in
     let pair = c.requires.pair in
-    stands-last p c.args.tasks.now.items c.args.one c.args.other c.args.index c.args.count pair.2 pair.3 pair.4 (meaning p c.arg-first.result) (meaning p c.arg-second.result) c.arg-first.ensures.value
-    c.arg-second.ensures.value c.if-index-count.true (g.C.Cells.at_place c.args.store.now) c.args.joined.now c.requires.stands
+    stands-last _ _ _ _ _ _ pair.2 pair.3 pair.4 _ _ c.arg-first.ensures.value c.arg-second.ensures.value c.if-index-count.true _ _ c.requires.stands
 
 pub returns-then-index-count-clause-steps : goal.returns-then-index-count-clause-steps
 returns-then-index-count-clause-steps g c =
-    let p = g.C.Cells.present c.args.store.now in
     let pair = c.requires.pair in
     ok_by c.compare_next.result c.compare_next.ensures.steps
-    (λ o steps equal. steps-last p c.args.tasks.now.items c.args.one c.args.other c.args.index c.args.count pair.2 pair.3 pair.4 (meaning p c.arg-first.result) (meaning p c.arg-second.result) c.arg-first.ensures.value
-    c.arg-second.ensures.value c.if-index-count.true _ _ (steps equal))
+    (λ o steps equal. steps-last _ _ _ _ _ _ pair.2 pair.3 pair.4 _ _ c.arg-first.ensures.value c.arg-second.ensures.value c.if-index-count.true _ _ (steps equal))
 
 pub returns-then-index-count-clause-order : goal.returns-then-index-count-clause-order
 returns-then-index-count-clause-order g c =
@@ -41,19 +32,15 @@ returns-then-index-count-clause-order g c =
 
 pub compare_next-requires-2-clause-stands : goal.compare_next-requires-2-clause-stands
 compare_next-requires-2-clause-stands g c =
-    let p = g.C.Cells.present c.args.store.now in
     let pair = c.requires.pair in
     let within : c.args.index + 1 < c.args.count = omega (arith, pair.2) in
-    stands-more p c.args.tasks.now.items c.args.one c.args.other c.args.index c.args.count pair.2 pair.3 pair.4 (meaning p c.arg-first.result) (meaning p c.arg-second.result) c.arg-first.ensures.value
-    c.arg-second.ensures.value c.push.new.self.items c.in_ok-push.ensures.items (g.C.Cells.at_place c.args.store.now) c.args.joined.now within c.requires.stands
+    stands-more _ _ _ _ _ _ pair.2 pair.3 pair.4 _ _ c.arg-first.ensures.value c.arg-second.ensures.value c.push.new.self.items c.in_ok-push.ensures.items _ _ within c.requires.stands
 
 pub returns-clause-steps : goal.returns-clause-steps
 returns-clause-steps g c =
-    let p = g.C.Cells.present c.args.store.now in
     let pair = c.requires.pair in
     ok_by c.compare_next-2.result c.compare_next-2.ensures.steps
-    (λ o steps equal. steps-more p c.args.tasks.now.items c.args.one c.args.other c.args.index c.args.count pair.2 pair.3 pair.4 (meaning p c.arg-first.result) (meaning p c.arg-second.result) c.arg-first.ensures.value
-    c.arg-second.ensures.value c.push.new.self.items c.in_ok-push.ensures.items _ _ (steps equal))
+    (λ o steps equal. steps-more _ _ _ _ _ _ pair.2 pair.3 pair.4 _ _ c.arg-first.ensures.value c.arg-second.ensures.value c.push.new.self.items c.in_ok-push.ensures.items _ _ (steps equal))
 
 pub returns-clause-order : goal.returns-clause-order
 returns-clause-order g c =

@@ -8,22 +8,12 @@ use Rattle.iso_store.specs.Comparing.{order_left}
 use Rattle.iso_store.proofs.order.compare_next.Goals as goal
 
 pub returns-in-Decided-clause-stands : goal.returns-in-Decided-clause-stands
-returns-in-Decided-clause-stands g c =
-    let p = g.C.Cells.present c.args.store.now in
-    let at = g.C.Cells.at_place c.args.store.now in
-    let joined = c.args.joined.now in
-    λ equal.
-    let same = identical (meaning p c.args.one) (meaning p c.args.other) (sym c.in-Decided.ensures.comparison ∙ equal) in
-    stands-same p at joined joined (meaning p c.args.one) (meaning p c.args.other) c.args.tasks.now.items same c.requires.stands c.requires.stands.joins
+returns-in-Decided-clause-stands g c = λ equal.
+    stands-same _ _ _ _ _ _ _ (identical _ _ (sym c.in-Decided.ensures.comparison ∙ equal)) c.requires.stands c.requires.stands.joins
 
 pub returns-in-Decided-clause-steps : goal.returns-in-Decided-clause-steps
-returns-in-Decided-clause-steps g c =
-    let p = g.C.Cells.present c.args.store.now in
-    let at = g.C.Cells.at_place c.args.store.now in
-    let joined = c.args.joined.now in
-    λ equal.
-    let same = identical (meaning p c.args.one) (meaning p c.args.other) (sym c.in-Decided.ensures.comparison ∙ equal) in
-    steps-same p at joined joined (meaning p c.args.one) (meaning p c.args.other) c.args.tasks.now.items same c.requires.stands
+returns-in-Decided-clause-steps g c = λ equal.
+    steps-same _ _ c.args.joined.now c.args.joined.now _ _ _ (identical _ _ (sym c.in-Decided.ensures.comparison ∙ equal)) c.requires.stands
 
 pub returns-in-Decided-clause-order : goal.returns-in-Decided-clause-order
 returns-in-Decided-clause-order g c =

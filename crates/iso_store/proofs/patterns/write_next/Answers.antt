@@ -18,71 +18,59 @@ use Rattle.iso_store.proofs.patterns.write_next.Goals as goal
 
 pub returns-in_ok-push-in-Var-clause-written : goal.returns-in_ok-push-in-Var-clause-written
 returns-in_ok-push-in-Var-clause-written g c =
-    let names = g.C.Cells.names c.args.store.now in
     let s = placed_by c.args.places in
     let whole = ap term_of c.in-Var.is ∙ term_of_variable c.in-Var.number in
     let step = ap (λ t. Give (t ∷ [])) (sym c.place_of.ensures ∙ ap (apply s) (sym whole)) in
-    written-leaf names names (λ a text h. h) c.args.parts.now.items _ _ c.requires.named c.in_ok-push-in-Var.ensures.items s (terms_left c.args.left.now.items) (term_of c.args.term.now) step
+    written-leaf _ _ (λ a text h. h) c.args.parts.now.items _ _ c.requires.named c.in_ok-push-in-Var.ensures.items s (terms_left c.args.left.now.items) (term_of c.args.term.now) step
 
 pub returns-in_ok-push-in-Int-clause-written : goal.returns-in_ok-push-in-Int-clause-written
 returns-in_ok-push-in-Int-clause-written g c =
-    let names = g.C.Cells.names c.args.store.now in
     let s = placed_by c.args.places in
     let whole = ap term_of c.in-Int.is ∙ term_of_integer c.in-Int.value in
     let fits : SFits w64 c.in-Int.value = search rules in
     let step = ap (λ t. Give (t ∷ [])) (ap Integer (to_z-of_z w64 c.in-Int.value fits) ∙ ap (apply s) (sym whole)) in
-    written-leaf names names (λ a text h. h) c.args.parts.now.items _ _ c.requires.named c.in_ok-push-in-Int.ensures.items s (terms_left c.args.left.now.items) (term_of c.args.term.now) step
+    written-leaf _ _ (λ a text h. h) c.args.parts.now.items _ _ c.requires.named c.in_ok-push-in-Int.ensures.items s (terms_left c.args.left.now.items) (term_of c.args.term.now) step
 
 pub returns-in_ok-push-in-Atom-clause-named : goal.returns-in_ok-push-in-Atom-clause-named
 returns-in_ok-push-in-Atom-clause-named g c =
-    let old = g.C.Cells.names c.args.store.now in
-    let new = g.C.Cells.names c.intern.new.self in
-    let within = slice_get_within new c.in_ok-atom-in-Atom.atom _ c.in_ok-atom-in-Atom.ensures.place in
-    named-more old new c.in_ok-atom-in-Atom.ensures.names c.args.parts.now.items _ _ c.requires.named c.in_ok-push-in-Atom.ensures.items within
+    let within = slice_get_within _ c.in_ok-atom-in-Atom.atom _ c.in_ok-atom-in-Atom.ensures.place in
+    named-more _ _ c.in_ok-atom-in-Atom.ensures.names c.args.parts.now.items _ _ c.requires.named c.in_ok-push-in-Atom.ensures.items within
 
 pub returns-in_ok-push-in-Atom-clause-written : goal.returns-in_ok-push-in-Atom-clause-written
 returns-in_ok-push-in-Atom-clause-written g c =
-    let old = g.C.Cells.names c.args.store.now in
-    let new = g.C.Cells.names c.intern.new.self in
     let s = placed_by c.args.places in
-    let text = text-is new c.in_ok-atom-in-Atom.atom _ c.in_ok-atom-in-Atom.ensures.place ∙ c.as_str.ensures.value in
+    let text = text-is _ c.in_ok-atom-in-Atom.atom _ c.in_ok-atom-in-Atom.ensures.place ∙ c.as_str.ensures.value in
     let whole = ap term_of c.in-Atom.is ∙ term_of_atom c.in-Atom.name in
     let step = ap (λ t. Give (t ∷ [])) (ap Name text ∙ ap (apply s) (sym whole)) in
-    written-leaf old new c.in_ok-atom-in-Atom.ensures.names c.args.parts.now.items _ _ c.requires.named c.in_ok-push-in-Atom.ensures.items s (terms_left c.args.left.now.items) (term_of c.args.term.now) step
+    written-leaf _ _ c.in_ok-atom-in-Atom.ensures.names c.args.parts.now.items _ _ c.requires.named c.in_ok-push-in-Atom.ensures.items s (terms_left c.args.left.now.items) (term_of c.args.term.now) step
 
 pub returns-in_ok-push-in-Compound-clause-named : goal.returns-in_ok-push-in-Compound-clause-named
 returns-in_ok-push-in-Compound-clause-named g c =
-    let old = g.C.Cells.names c.args.store.now in
-    let new = g.C.Cells.names c.intern-in-Compound.new.self in
-    let within = slice_get_within new c.in_ok-atom-in-Compound.atom _ c.in_ok-atom-in-Compound.ensures.place in
+    let within = slice_get_within _ c.in_ok-atom-in-Compound.atom _ c.in_ok-atom-in-Compound.ensures.place in
     on_ok_by c.leave.result c.leave.ensures
-    (λ _. named-more old new c.in_ok-atom-in-Compound.ensures.names c.args.parts.now.items _ _ c.requires.named c.in_ok-push-in-Compound.ensures.items within)
+    (λ _. named-more _ _ c.in_ok-atom-in-Compound.ensures.names c.args.parts.now.items _ _ c.requires.named c.in_ok-push-in-Compound.ensures.items within)
 
 pub returns-in_ok-push-in-Compound-clause-written :
     goal.returns-in_ok-push-in-Compound-clause-written
 returns-in_ok-push-in-Compound-clause-written g c =
-    let old = g.C.Cells.names c.args.store.now in
-    let new = g.C.Cells.names c.intern-in-Compound.new.self in
     let us = map term_of c.in-Compound.arguments.items in
     let left = terms_left c.args.left.now.items in
     let whole = ap term_of c.in-Compound.is ∙ term_of_compound c.in-Compound.name c.in-Compound.arguments in
-    let text = text-is new c.in_ok-atom-in-Compound.atom _ c.in_ok-atom-in-Compound.ensures.place ∙ c.as_str-in-Compound.ensures.value in
+    let text = text-is _ c.in_ok-atom-in-Compound.atom _ c.in_ok-atom-in-Compound.ensures.place ∙ c.as_str-in-Compound.ensures.value in
     let step = ap (λ a. Gather a c.len.result) text in
     let many = c.len.ensures ∙ c.in-Compound.arguments.ok.0 ∙ sym (length-map c.in-Compound.arguments.items term_of) in
     on_ok_by c.leave.result c.leave.ensures
-    (λ more. written-compound old new c.in_ok-atom-in-Compound.ensures.names c.args.parts.now.items _ _ c.requires.named c.in_ok-push-in-Compound.ensures.items (term_of c.args.term.now) _ c.len.result us whole step many
+    (λ more. written-compound _ _ c.in_ok-atom-in-Compound.ensures.names c.args.parts.now.items _ _ c.requires.named c.in_ok-push-in-Compound.ensures.items (term_of c.args.term.now) _ c.len.result us whole step many
     (placed_by c.args.places) left _ (left-more c.args.left.now.items c.leave.new.left.items _ more ∙ ap (λ ts. left ++ map term_of ts) c.as_slice.ensures.value))
 
 pub returns-in_ok-push-in-Compound-clause-load : goal.returns-in_ok-push-in-Compound-clause-load
 returns-in_ok-push-in-Compound-clause-load g c =
-    let old = g.C.Cells.names c.args.store.now in
-    let new = g.C.Cells.names c.intern-in-Compound.new.self in
     let us = map term_of c.in-Compound.arguments.items in
     let left = terms_left c.args.left.now.items in
     let whole = ap term_of c.in-Compound.is ∙ term_of_compound c.in-Compound.name c.in-Compound.arguments in
-    let text = text-is new c.in_ok-atom-in-Compound.atom _ c.in_ok-atom-in-Compound.ensures.place ∙ c.as_str-in-Compound.ensures.value in
+    let text = text-is _ c.in_ok-atom-in-Compound.atom _ c.in_ok-atom-in-Compound.ensures.place ∙ c.as_str-in-Compound.ensures.value in
     let step = ap (λ a. Gather a c.len.result) text in
     let many = c.len.ensures ∙ c.in-Compound.arguments.ok.0 ∙ sym (length-map c.in-Compound.arguments.items term_of) in
     on_ok_by c.leave.result c.leave.ensures
-    (λ more. size-compound old new c.in_ok-atom-in-Compound.ensures.names c.args.parts.now.items _ _ c.requires.named c.in_ok-push-in-Compound.ensures.items (term_of c.args.term.now) _ c.len.result us whole step many left _
+    (λ more. size-compound _ _ c.in_ok-atom-in-Compound.ensures.names c.args.parts.now.items _ _ c.requires.named c.in_ok-push-in-Compound.ensures.items (term_of c.args.term.now) _ c.len.result us whole step many left _
     (left-more c.args.left.now.items c.leave.new.left.items _ more ∙ ap (λ ts. left ++ map term_of ts) c.as_slice.ensures.value))

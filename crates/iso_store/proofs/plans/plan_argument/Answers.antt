@@ -1,12 +1,13 @@
-use Rattle.std.proofs.Common.{◌<◌, ◌+◌, ◌++◌, subst, arith}
+use Rattle.std.proofs.Common.{◌<◌, ◌+◌, ◌++◌, refl, subst, arith}
 use Rattle.std.specs.List.{All}
 use Rattle.std.proofs.lemmas.List.Elements.{All-push}
 use Rattle.iso_model.proofs.OnTerms.CopyingLemmas.{on_ok_by}
 use Rattle.iso_store_core.specs.Presents.{meaning}
 use Rattle.iso_store.specs.declared.plans.Task.TheVariants.{Plan}
-use Rattle.iso_store.specs.Planning.{IsPlanning, IsTask, numbers, planned}
+use Rattle.iso_store.specs.Planning.{IsPlanning, IsTask, numbers, planned, step_of}
 use Rattle.iso_store.proofs.ArgumentLemmas.{arguments-last}
-use Rattle.iso_store.proofs.PlanningTasks.{steps-last, steps-argument, load-last, load-argument, due-argument}
+use Rattle.iso_store.proofs.TaskLemmas.{steps-last, steps-argument, load-last, load-argument}
+use Rattle.iso_store.proofs.PlanningTasks.{due-argument}
 use Rattle.iso_store.proofs.PlanningLemmas.{covers-argument, other-tasks}
 use Rattle.iso_store.proofs.plans.plan_argument.Goals as goal
 
@@ -32,15 +33,14 @@ returns-then-index-count-clause-steps g c =
     let l = c.args.planning.now in
     let task = c.requires.task in
     on_ok_by c.plan_next.result c.plan_next.ensures.steps
-    (steps-last p names l.tasks.items c.args.word c.args.index c.args.count task.1 task.2 (meaning p c.arg-argument.result) c.arg-argument.ensures.value (planned p names l).terms _ c.if-index-count.true)
+    (steps-last c.args.index c.args.count (meaning p c.args.word) (meaning p c.arg-argument.result) task.1 task.2 c.arg-argument.ensures.value (step_of p names) l.tasks.items (planned p names l).terms _ c.if-index-count.true)
 
 pub returns-then-index-count-clause-load : goal.returns-then-index-count-clause-load
 returns-then-index-count-clause-load g c =
     let p = g.C.Cells.present c.args.store.now in
-    let names = g.C.Cells.names c.args.store.now in
     let task = c.requires.task in
     on_ok_by c.plan_next.result c.plan_next.ensures.load
-    (load-last p names c.args.planning.now.tasks.items c.args.word c.args.index c.args.count task.1 task.2 (meaning p c.arg-argument.result) c.arg-argument.ensures.value _)
+    (load-last c.args.index c.args.count (meaning p c.args.word) (meaning p c.arg-argument.result) task.1 task.2 c.arg-argument.ensures.value _ _)
 
 pub plan_next-requires-2-clause-covered : goal.plan_next-requires-2-clause-covered
 plan_next-requires-2-clause-covered g c =
@@ -68,7 +68,7 @@ returns-clause-steps g c =
     let l = c.args.planning.now in
     let task = c.requires.task in
     on_ok_by c.plan_next-2.result c.plan_next-2.ensures.steps
-    (steps-argument p names l.tasks.items c.args.word c.args.index c.args.count task.1 task.2 (meaning p c.arg-argument.result) c.arg-argument.ensures.value (planned p names l).terms _ _ c.in_ok-push.ensures.items)
+    (steps-argument c.args.index c.args.count (meaning p c.args.word) (meaning p c.arg-argument.result) task.1 task.2 c.arg-argument.ensures.value (step_of p names) l.tasks.items _ _ c.in_ok-push.ensures.items refl (planned p names l).terms _)
 
 pub returns-clause-load : goal.returns-clause-load
 returns-clause-load g c =
@@ -76,4 +76,4 @@ returns-clause-load g c =
     let names = g.C.Cells.names c.args.store.now in
     let task = c.requires.task in
     on_ok_by c.plan_next-2.result c.plan_next-2.ensures.load
-    (load-argument p names c.args.planning.now.tasks.items c.args.word c.args.index c.args.count task.1 task.2 (meaning p c.arg-argument.result) c.arg-argument.ensures.value _ _ c.in_ok-push.ensures.items)
+    (load-argument c.args.index c.args.count (meaning p c.args.word) (meaning p c.arg-argument.result) task.1 task.2 c.arg-argument.ensures.value (step_of p names) c.args.planning.now.tasks.items _ _ c.in_ok-push.ensures.items refl _)

@@ -9,7 +9,7 @@ join-requires-clause-equal g c =
 pub returns-in_ok-join-in-Join-clause-stands : goal.returns-in_ok-join-in-Join-clause-stands
 returns-in_ok-join-in-Join-clause-stands g c =
     let stands = rw c.in-Join.is at c.requires.stands in
-    λ t. stands-joined (g.C.Cells.present c.args.store.now) c.args.tasks.now.items c.in-Join.one c.in-Join.other (g.C.Cells.at_place c.args.store.now) c.args.notes.now.joined _ stands c.in_ok-join-in-Join.ensures
+    λ t. stands-joined _ _ _ _ _ _ _ stands c.in_ok-join-in-Join.ensures
 
 pub returns-in_ok-join-in-Join-clause-steps : goal.returns-in_ok-join-in-Join-clause-steps
 returns-in_ok-join-in-Join-clause-steps g c = rw c.in-Join.is (steps-joined (g.C.Cells.present c.args.store.now) c.args.tasks.now.items c.in-Join.one c.in-Join.other)

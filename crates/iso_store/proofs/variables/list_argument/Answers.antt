@@ -7,7 +7,8 @@ use Rattle.iso_model.specs.Terms.Variables.{distinct_from}
 use Rattle.iso_store_core.specs.Presents.{meaning}
 use Rattle.iso_store.specs.Searching.{IsThere}
 use Rattle.iso_store.specs.Listing.{IsListing, seen, seen_after}
-use Rattle.iso_store.proofs.SearchLemmas.{load-last, load-argument}
+use Rattle.iso_store.proofs.SearchLemmas.{load-push}
+use Rattle.iso_store.proofs.TaskLemmas.{load-last, load-more}
 use Rattle.iso_store.proofs.ListingLemmas.{distinct-last, after-argument, are-argument, listed-tasks}
 use Rattle.iso_store.proofs.variables.list_argument.Goals as goal
 
@@ -32,9 +33,8 @@ returns-then-index-count-clause-seen g c =
 pub returns-then-index-count-clause-load : goal.returns-then-index-count-clause-load
 returns-then-index-count-clause-load g c =
     let p = g.C.Cells.present c.args.store.now in
-    let at = g.C.Cells.at_place c.args.store.now in
     let task = c.requires.task in
-    on_ok_by c.list_next.result c.list_next.ensures.load (load-last p at 0 c.args.listing.now.tasks.items c.args.word c.args.index c.args.count task.1 task.2 _ c.arg-argument.ensures.value _)
+    on_ok_by c.list_next.result c.list_next.ensures.load (load-last c.args.index c.args.count (meaning p c.args.word) (meaning p c.arg-argument.result) task.1 task.2 c.arg-argument.ensures.value _ _)
 
 pub list_next-requires-2-clause-listing : goal.list_next-requires-2-clause-listing
 list_next-requires-2-clause-listing g c =
@@ -59,7 +59,5 @@ returns-clause-seen g c =
 pub returns-clause-load : goal.returns-clause-load
 returns-clause-load g c =
     let p = g.C.Cells.present c.args.store.now in
-    let at = g.C.Cells.at_place c.args.store.now in
     let task = c.requires.task in
-    on_ok_by c.list_next-2.result c.list_next-2.ensures.load
-    (load-argument p at 0 c.args.listing.now.tasks.items c.args.word c.args.index c.args.count task.1 task.2 _ c.arg-argument.ensures.value _ c.push.new.self.items c.in_ok-push.ensures.items)
+    on_ok_by c.list_next-2.result c.list_next-2.ensures.load (load-more c.args.index c.args.count (meaning p c.args.word) (meaning p c.arg-argument.result) task.1 task.2 c.arg-argument.ensures.value _ _ _ (load-push p _ _ _ c.in_ok-push.ensures.items))

@@ -51,16 +51,13 @@ returns-in_ok-push-in-Compound-2-clause-listing g c =
 pub returns-in_ok-push-in-Compound-2-clause-seen :
     goal.returns-in_ok-push-in-Compound-2-clause-seen
 returns-in_ok-push-in-Compound-2-clause-seen g c =
-    let p = g.C.Cells.present c.args.store.now in
-    let l = c.args.listing.now in
     let here = c.in-Compound.ensures.shape in
-    after-compound p (g.C.Cells.at_place c.args.store.now) l.tasks.items _ c.push-in-Compound-2.new.self.items c.args.word c.in-Some.place c.in-Compound.count _ here.1 here.2 here.3
-    c.in-Compound.ensures.term c.in-Some.ensures.value c.in_ok-push-in-Compound.ensures.items c.in_ok-push-in-Compound-2.ensures.items (seen p l)
+    after-compound (g.C.Cells.present c.args.store.now) (g.C.Cells.at_place c.args.store.now) _ _ _ c.args.word _ _ _ here.1 here.2 here.3
+    c.in-Compound.ensures.term c.in-Some.ensures.value c.in_ok-push-in-Compound.ensures.items c.in_ok-push-in-Compound-2.ensures.items _
 
 pub returns-in_ok-push-in-Compound-2-clause-load :
     goal.returns-in_ok-push-in-Compound-2-clause-load
 returns-in_ok-push-in-Compound-2-clause-load g c =
-    let p = g.C.Cells.present c.args.store.now in
     let here = c.in-Compound.ensures.shape in
-    load-compound p (g.C.Cells.at_place c.args.store.now) 0 c.args.listing.now.tasks.items _ c.push-in-Compound-2.new.self.items c.args.word c.in-Some.place c.in-Compound.count _ here.1 here.2 here.3
+    load-compound (g.C.Cells.present c.args.store.now) (g.C.Cells.at_place c.args.store.now) 0 _ _ _ c.args.word _ _ _ here.1 here.2 here.3
     c.in-Compound.ensures.term c.in-Some.ensures.value c.in_ok-push-in-Compound.ensures.items c.in_ok-push-in-Compound-2.ensures.items

@@ -1,4 +1,5 @@
 use Rattle.std.proofs.Common.{take, arith}
+use Rattle.std.proofs.lemmas.List.{take_all}
 use Rattle.iso_store.proofs.HeapNames.{heap-kept, substitution-kept, words-kept}
 use Rattle.iso_store.proofs.HeapMade.{all-kept}
 use Rattle.iso_store.proofs.heap.Heap.know_names.Goals as goal
@@ -18,3 +19,8 @@ pub returns-clause-substitution : goal.returns-clause-substitution
 returns-clause-substitution c =
     let now = c.args.self.now in
     substitution-kept (take now.named now.atoms) (take c.len-self.result now.atoms) (all-kept now.atoms now.named c.len-self.result c.len-self.ensures) now.area.low now.next now.is_heap
+
+pub returns-clause-every : goal.returns-clause-every
+returns-clause-every c =
+    let whole = c.len-self.ensures in
+    take_all c.len-self.result c.args.self.now.atoms (omega arith)

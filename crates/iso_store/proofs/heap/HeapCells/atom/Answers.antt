@@ -1,15 +1,15 @@
-use Rattle.std.proofs.Common.{take, arith}
-use Rattle.iso_store.proofs.HeapNames.{heap-kept}
-use Rattle.iso_store.proofs.HeapMade.{all-kept, atom-makes}
+use Rattle.std.proofs.Common.{length, ap}
+use Rattle.std.proofs.lemmas.Bool.{lt-ltb}
+use Rattle.iso_atoms.specs.Texts.{text_at}
+use Rattle.iso_model.specs.Terms.Trees.{Name}
 use Rattle.iso_store.proofs.heap.HeapCells.atom.Goals as goal
-
-pub invariant_of-self : goal.invariant_of-self
-invariant_of-self c =
-    let now = c.args.self.now in
-    let whole = c.len-self.ensures in
-    record { is_heap = heap-kept (take now.named now.atoms) (take c.len-self.result now.atoms) (all-kept now.atoms now.named c.len-self.result whole) now.area.low now.next now.is_heap; named_within = omega arith; newest_within = now.newest_within; trail_within = now.trail_within; leads_back = now.leads_back; each_once = now.each_once }
 
 pub returns-clause-made : goal.returns-clause-made
 returns-clause-made c =
-    let now = c.args.self.now in
-    atom-makes now.atoms now.named c.len-self.result now.area.low now.next now.area.capacity c.args.name now.is_heap c.len-self.ensures c.requires.name
+    let known = c.know_names.ensures in
+    record {
+      words = known.words;
+      substitution = known.substitution;
+      holds = rw known.every (lt-ltb c.args.name (length c.args.self.now.atoms) c.requires.name);
+      term = ap (λ xs. Name (text_at xs c.args.name)) known.every;
+    }

@@ -1,22 +1,18 @@
-use Rattle.std.proofs.Common.{length, ap, ◌∙◌, arith}
+use Rattle.std.proofs.Common.{◌≡◌, length, ap, ◌∙◌, arith}
 use Rattle.iso_store_core.specs.Presents.{Holds}
 use Rattle.iso_store.specs.NodeStores.{present_of}
 use Rattle.iso_store.proofs.Picked.{picked-length, picked-all}
+use Rattle.iso_store.proofs.nodes.NodesCells.compound_of.Goals.{After-as_slice}
 use Rattle.iso_store.proofs.nodes.NodesCells.compound_of.Goals as goal
 
+many : (c : After-as_slice) → length c.as_slice.result.now ≡ length c.args.places.now
+many c = ap length (c.as_slice.ensures.value ∙ c.in_ok-words.ensures) ∙ picked-length c.args.variables.now c.args.places.now c.requires.places
+
 pub compound-requires-clause-some : goal.compound-requires-clause-some
-compound-requires-clause-some c =
-    let is = c.as_slice.ensures.value ∙ c.in_ok-words.ensures in
-    let many = picked-length c.args.variables.now c.args.places.now c.requires.places in
-    let long = ap length is in
-    omega (arith, many, long, c.requires.some)
+compound-requires-clause-some c = omega (arith, many (goal.at.compound-requires-clause-some c).After-as_slice, c.requires.some)
 
 pub compound-requires-clause-few : goal.compound-requires-clause-few
-compound-requires-clause-few c =
-    let is = c.as_slice.ensures.value ∙ c.in_ok-words.ensures in
-    let many = picked-length c.args.variables.now c.args.places.now c.requires.places in
-    let long = ap length is in
-    omega (arith, many, long, c.requires.few)
+compound-requires-clause-few c = omega (arith, many (goal.at.compound-requires-clause-few c).After-as_slice, c.requires.few)
 
 pub compound-requires-clause-arguments : goal.compound-requires-clause-arguments
 compound-requires-clause-arguments c =

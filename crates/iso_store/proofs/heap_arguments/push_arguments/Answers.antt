@@ -1,0 +1,42 @@
+use Rattle.std.proofs.Common.{◌≡◌, map, take, true, refl, ap, sym, ◌∙◌, append-nil, arith}
+use Rattle.std.specs.List.{list_any}
+use Rattle.iso_store.specs.declared.heap_cells.Cell.TheVariants.{Argument}
+use Rattle.iso_store.specs.HeapStores.{has_cell_number, is_word}
+use Rattle.iso_store.proofs.HeapMade.{argument-pushed, argument-holds, taken-more}
+use Rattle.iso_store.proofs.HeapBuilding.{goes-then, goes-same, goes-none, pushed-goes}
+use Rattle.iso_store.proofs.heap_arguments.push_arguments.Goals.{After-index-arguments-done}
+use Rattle.iso_store.proofs.heap_arguments.push_arguments.Goals as goal
+
+pub loop-done-init : goal.loop-done-init
+loop-done-init c = record { done_within = omega arith; low = sym (append-nil c.args.heap.now.area.low); goes_on = goes-none 0 c.args.heap.now; taken = λ n. refl }
+
+holds : (c : After-index-arguments-done) → is_word (take c.loop-done.heap.named c.loop-done.heap.atoms) c.loop-done.heap.area.low c.index-arguments-done.result ≡ true
+holds c =
+    let was = c.loop-done.invariant in
+    let old = c.args.heap.now in
+    rw (was.goes_on.named, was.goes_on.atoms)
+    (argument-holds (take old.named old.atoms) old.area.low c.loop-done.heap.area.low c.args.arguments.now c.loop-done.done c.index-arguments-done.result (map Argument (take c.loop-done.done c.args.arguments.now)) was.low c.requires c.loop-done-test.true (sym c.index-arguments-done.is))
+
+pub push-requires : goal.push-requires
+push-requires c = holds c
+
+pub returns-in_err-push-clause-goes_on : goal.returns-in_err-push-clause-goes_on
+returns-in_err-push-clause-goes_on c =
+    let last = c.in_err-push.ensures in
+    goes-then c.loop-done.invariant.goes_on (goes-same 0 c.loop-done.heap c.push.new.self last.low last.high last.capacity last.atoms last.named last.next last.newest)
+
+pub returns-in_err-push-clause-taken : goal.returns-in_err-push-clause-taken
+returns-in_err-push-clause-taken c n = ap (list_any (has_cell_number n)) c.in_err-push.ensures.low ∙ c.loop-done.invariant.taken n
+
+pub loop-done-preserved : goal.loop-done-preserved
+loop-done-preserved c =
+    let was = c.loop-done.invariant in
+    let heap = c.loop-done.heap in
+    let w = c.index-arguments-done.result in
+    let more = c.in_ok-push.ensures in
+    record {
+      done_within = omega arith;
+      low = argument-pushed c.args.heap.now.area.low heap.area.low c.push.new.self.area.low c.args.arguments.now c.loop-done.done w was.low more.low c.loop-done-test.true (sym c.index-arguments-done.is);
+      goes_on = goes-then was.goes_on (pushed-goes 0 heap c.push.new.self (Argument w) heap.is_heap (holds (goal.at.loop-done-preserved c).After-index-arguments-done) (λ n less. refl) more.high more.capacity more.atoms more.named more.next more.newest more.low more.room);
+      taken = λ n. ap (list_any (has_cell_number n)) more.low ∙ taken-more heap.area.low (Argument w) n refl ∙ was.taken n;
+    }
