@@ -1,10 +1,11 @@
 -- What is left to do of a copy, as steps.
-use Rattle.std.proofs.Common.{◌≡◌, ℕ, ◌+◌, ◌*◌, ◌<◌, List, [], ◌∷◌, ◌++◌, map, refl, ap, ap₂, sym, ◌∙◌, arith, append_assoc, zero-add, codes}
+use Rattle.std.proofs.Common.{◌≡◌, ℕ, ◌+◌, ◌*◌, ◌<◌, List, [], ◌∷◌, ◌++◌, map, refl, ap, ap₂, sym, ◌∙◌, arith, append_assoc, zero-add, codes, None, String, Vec, Global}
 use Rattle.std.specs.Borrow.{Bor}
-use Rattle.std.proofs.lemmas.List.{map-append}
 use Rattle.iso_model.specs.declared.terms.Term.{Term}
-use Rattle.iso_model.specs.declared.terms.Term.TheVariants.{Var}
-use Rattle.iso_model.specs.Terms.Trees.{Tree, Variable, Integer, Name, Apply, End, More}
+use Rattle.iso_model.specs.declared.terms.Term.TheVariants.{Var, Compound}
+use Rattle.iso_model.specs.Terms.Trees.{Tree, Variable, Integer, Name, Apply, End, More, row}
+use Rattle.std.specs.String.{string_bytes}
+use Rattle.iso_model.proofs.OnTerms.RowLemmas.{term_of_compound}
 use Rattle.iso_model.specs.Terms.TermOf.{term_of}
 use Rattle.iso_model.specs.Terms.Sizes.{size}
 use Rattle.iso_model.specs.Terms.Substitutions.{Subst, apply}
@@ -14,8 +15,8 @@ use Rattle.iso_model.specs.Terms.Copies.{place_of}
 use Rattle.iso_model.specs.Search.Bodies.{one, two}
 use Rattle.iso_prep.proofs.TermLemmas.{term_of_variable}
 use Rattle.iso_prep.specs.declared.connectives.Connective.{Connective}
-use Rattle.iso_prep.specs.Connectives.{text_of}
-use Rattle.iso_prep.proofs.ConversionLemmas.{calls_of_control}
+use Rattle.iso_prep.specs.Connectives.{text_of, control_of}
+use Rattle.iso_prep.proofs.ConversionLemmas.{calls_of_control, calls_kept}
 use Rattle.iso_prep.specs.declared.copies.Task.{Task}
 use Rattle.iso_prep.specs.declared.copies.Task.TheVariants.{Body, Build}
 use Rattle.iso_prep.specs.Conversions.{numbers, with_calls, step_of}
@@ -61,14 +62,17 @@ module _ (vs : List ℕ) (k : Connective) (xs ys zs ws : List Task) (name : Bor 
       omega arith
 
 -- a variable that is a goal is called
-pub call_copied : (vs : List ℕ) (xs ys : List Term) (t u : Term) (n p : ℕ) → t ≡ Var n → p ≡ place_of n vs → term_of u ≡ one (codes "call") (term_of (Var p)) → ys ≡ xs ++ u ∷ []
-    → map term_of ys ≡ map term_of xs ++ with_calls (apply (numbers vs) (term_of t)) ∷ []
-call_copied vs xs ys t u n p is place call more =
+pub call_copied : (vs : List ℕ) (t u : Term) (n p : ℕ) → t ≡ Var n → p ≡ place_of n vs → term_of u ≡ one (codes "call") (term_of (Var p)) → term_of u ≡ with_calls (apply (numbers vs) (term_of t))
+call_copied vs t u n p is place call =
     let variable : term_of (Var p) ≡ numbers vs n = term_of_variable p ∙ ap Variable (place ∙ sym (zero-add (place_of n vs))) in
     let whole : with_calls (apply (numbers vs) (term_of t)) ≡ one (codes "call") (numbers vs n) = ap (λ w. with_calls (apply (numbers vs) w)) (ap term_of is ∙ term_of_variable n) in
-    ap (map term_of) more ∙ map-append term_of xs (u ∷ []) ∙ ap (λ w. map term_of xs ++ w ∷ []) (call ∙ ap (one (codes "call")) variable ∙ sym whole)
+    call ∙ ap (one (codes "call")) variable ∙ sym whole
 
--- a goal that is neither a control construct nor a variable is copied as it is
-pub goal_copied : (vs : List ℕ) (xs ys : List Term) (t u : Term) → term_of u ≡ apply (λ x. Variable (place_of x vs)) (term_of t) → ys ≡ xs ++ u ∷ [] → with_calls (apply (numbers vs) (term_of t)) ≡ apply (numbers vs) (term_of t)
-    → map term_of ys ≡ map term_of xs ++ with_calls (apply (numbers vs) (term_of t)) ∷ []
-goal_copied vs xs ys t u copy more kept = ap (map term_of) more ∙ map-append term_of xs (u ∷ []) ∙ ap (λ w. map term_of xs ++ w ∷ []) (copy ∙ apply-places vs (term_of t) ∙ sym kept)
+-- a compound that is no control construct is copied as it is
+pub goal_copied : (vs : List ℕ) (t u : Term) (f : String Global) (v : Vec Term Global) → t ≡ Compound f v → control_of (term_of t) ≡ None → term_of u ≡ apply (λ x. Variable (place_of x vs)) (term_of t)
+    → term_of u ≡ with_calls (apply (numbers vs) (term_of t))
+goal_copied vs t u f v compound none copy =
+    let ts = row (map term_of v.items) in
+    let is : term_of t ≡ Apply (string_bytes f) ts = ap term_of compound ∙ term_of_compound f v in
+    let kept = ap (λ t. with_calls (apply (numbers vs) t)) is ∙ calls_kept vs (string_bytes f) ts (ap control_of (sym is) ∙ none) ∙ ap (apply (numbers vs)) (sym is) in
+    copy ∙ apply-places vs (term_of t) ∙ sym kept

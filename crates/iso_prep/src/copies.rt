@@ -1,5 +1,6 @@
 //! Copies of bodies with their variables numbered, and with `call(X)` for a variable `X` that is a goal (7.6.2).
-ghost use Rattle.std.specs.Prelude.{◌≡◌, ◌+◌, ◌*◌, ◌<◌, ◌∷◌, [], ◌++◌, codes, map, IfOk, OnOk};
+ghost use Rattle.std.specs.Prelude.{◌≡◌, ◌+◌, ◌*◌, ◌<◌, ◌∷◌, [], ◌++◌, codes, map, IfOk, OnOk, None};
+ghost use Rattle.iso_prep.specs.Connectives.{control_of};
 ghost use Rattle.iso_model.specs.Terms.TermOf.{term_of};
 ghost use Rattle.iso_model.specs.Terms.Sizes.{size};
 ghost use Rattle.iso_model.specs.Terms.Substitutions.{apply};
@@ -30,6 +31,19 @@ fn call_of(alloc: Global, variable: Term) -> Result<Term, AllocError>
     Ok(Term::Compound(String::from_str(alloc, "call")?, arguments))
 }
 
+/// A copy of a goal, which is no control construct.
+fn copy_goal(alloc: Global, variables: &Numbering, goal: &Term) -> Result<Term, AllocError>
+    requires { control_of (term_of goal.now) ≡ None }
+    ensures { IfOk result (λ copy. term_of copy ≡ with_calls (apply (numbers variables.now) (term_of goal.now))) }
+{
+    match goal {
+        Term::Var(number) => call_of(alloc, Term::Var(variables.place_or_len(*number) as u64)),
+        Term::Int(value) => Ok(Term::Int(*value)),
+        Term::Atom(name) => Ok(Term::Atom(name.clone()?)),
+        Term::Compound(_, _) => renumbered(alloc, goal, variables),
+    }
+}
+
 /// Copies a goal, and leaves a control construct to be copied by its parts.
 fn copy_body<'t>(
     alloc: Global,
@@ -43,20 +57,13 @@ fn copy_body<'t>(
     ensures load { OnOk result (steps_load (map (step_of variables.now) tasks.new.items)
         < 2 * size (with_calls (apply (numbers variables.now) (term_of body.now))) + steps_load (map (step_of variables.now) tasks.old.items)) }
 {
-    if let Some((connective, first, second)) = control(body) {
-        tasks.push(Task::Build(connective.text(), 2))?;
-        tasks.push(Task::Body(second))?;
-        tasks.push(Task::Body(first))?;
-        return Ok(());
-    }
-    match body {
-        Term::Var(number) => {
-            let variable = Term::Var(variables.place_or_len(*number) as u64);
-            copies.push(call_of(alloc, variable)?)?;
+    match control(body) {
+        Some((connective, first, second)) => {
+            tasks.push(Task::Build(connective.text(), 2))?;
+            tasks.push(Task::Body(second))?;
+            tasks.push(Task::Body(first))?;
         }
-        Term::Int(value) => copies.push(Term::Int(*value))?,
-        Term::Atom(name) => copies.push(Term::Atom(name.clone()?))?,
-        Term::Compound(_, _) => copies.push(renumbered(alloc, body, variables)?)?,
+        None => copies.push(copy_goal(alloc, variables, body)?)?,
     }
     Ok(())
 }

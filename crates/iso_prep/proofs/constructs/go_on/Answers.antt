@@ -1,4 +1,4 @@
-use Rattle.std.proofs.Common.{◌≡◌, ◌-◌, ap, arith, length}
+use Rattle.std.proofs.Common.{ap, arith}
 use Rattle.std.proofs.Common.{sym, ◌∙◌, append-nil, refl}
 use Rattle.iso_model.specs.Terms.TermOf.{term_of}
 use Rattle.iso_prep.specs.declared.constructs.Task.TheVariants.{Join, Other, Choose}
@@ -11,53 +11,33 @@ use Rattle.iso_prep.proofs.constructs.go_on.Goals as goal
 
 pub returns-in_ok-push-in-Second-clause-works : goal.returns-in_ok-push-in-Second-clause-works
 returns-in_ok-push-in-Second-clause-works c = λ b m whole ends does leads.
-    let whole_length = c.args.parts.now.ok.0 in
-    let place : c.saturating_sub-last.result ≡ length c.args.parts.now.items - 1 = omega arith in
-    after_first c.args.parts.now.items c.args.tasks.now.items c.push.new.self.items c.args.task b m whole ends does leads c.in-Second.connective c.in-Second.second c.saturating_sub-last.result c.in-Second.is place c.in_ok-push-in-Second.ensures.items
+    after_first c.args.parts.now.items c.args.tasks.now.items c.push.new.self.items c.args.task b m whole ends does leads c.in-Second.connective c.in-Second.second c.saturating_sub-last.result c.in-Second.is (omega (arith, c.args.parts.now.ok.0)) c.in_ok-push-in-Second.ensures.items
 
 pub returns-in_ok-push-in-Second-clause-load : goal.returns-in_ok-push-in-Second-clause-load
-returns-in_ok-push-in-Second-clause-load c =
-    let all = tasks_load-more c.args.tasks.now.items _ _ c.in_ok-push-in-Second.ensures.items in
-    let own = ap task_load c.in-Second.is in
-    omega arith
+returns-in_ok-push-in-Second-clause-load c = omega (arith, tasks_load-more c.args.tasks.now.items _ _ c.in_ok-push-in-Second.ensures.items, ap task_load c.in-Second.is)
 
 pub returns-in_ok-push-in-Next-clause-works : goal.returns-in_ok-push-in-Next-clause-works
 returns-in_ok-push-in-Next-clause-works c = λ b m whole ends does leads.
-    let whole_length = c.args.parts.now.ok.0 in
-    let place : c.saturating_sub-last.result ≡ length c.args.parts.now.items - 1 = omega arith in
-    after_condition c.args.parts.now.items c.args.tasks.now.items c.push-in-Next.new.self.items c.args.task b m whole ends does leads c.in-Next.next c.in-Next.other c.saturating_sub-last.result c.in-Next.is place c.in_ok-push-in-Next.ensures.items
+    after_condition c.args.parts.now.items c.args.tasks.now.items c.push-in-Next.new.self.items c.args.task b m whole ends does leads c.in-Next.next c.in-Next.other c.saturating_sub-last.result c.in-Next.is (omega (arith, c.args.parts.now.ok.0)) c.in_ok-push-in-Next.ensures.items
 
 pub returns-in_ok-push-in-Next-clause-load : goal.returns-in_ok-push-in-Next-clause-load
-returns-in_ok-push-in-Next-clause-load c =
-    let all = tasks_load-more c.args.tasks.now.items _ _ c.in_ok-push-in-Next.ensures.items in
-    let own = ap task_load c.in-Next.is in
-    omega arith
+returns-in_ok-push-in-Next-clause-load c = omega (arith, tasks_load-more c.args.tasks.now.items _ _ c.in_ok-push-in-Next.ensures.items, ap task_load c.in-Next.is)
 
 pub returns-in_ok-push-in-Other-clause-works : goal.returns-in_ok-push-in-Other-clause-works
 returns-in_ok-push-in-Other-clause-works c = λ b m whole ends does leads.
-    let whole_length = c.args.parts.now.ok.0 in
-    let place : c.saturating_sub-last.result ≡ length c.args.parts.now.items - 1 = omega arith in
-    after_next c.args.parts.now.items c.args.tasks.now.items c.push-in-Other.new.self.items c.args.task b m whole ends does leads c.in-Other.other c.in-Other.condition c.saturating_sub-last.result c.in-Other.is place c.in_ok-push-in-Other.ensures.items
+    after_next c.args.parts.now.items c.args.tasks.now.items c.push-in-Other.new.self.items c.args.task b m whole ends does leads c.in-Other.other c.in-Other.condition c.saturating_sub-last.result c.in-Other.is (omega (arith, c.args.parts.now.ok.0)) c.in_ok-push-in-Other.ensures.items
 
 pub returns-in_ok-push-in-Other-clause-load : goal.returns-in_ok-push-in-Other-clause-load
-returns-in_ok-push-in-Other-clause-load c =
-    let all = tasks_load-more c.args.tasks.now.items _ _ c.in_ok-push-in-Other.ensures.items in
-    let own = ap task_load c.in-Other.is in
-    omega arith
+returns-in_ok-push-in-Other-clause-load c = omega (arith, tasks_load-more c.args.tasks.now.items _ _ c.in_ok-push-in-Other.ensures.items, ap task_load c.in-Other.is)
 
 pub returns-in_ok-push-in-Join-clause-works : goal.returns-in_ok-push-in-Join-clause-works
 returns-in_ok-push-in-Join-clause-works c = λ b m whole ends does leads.
-    let whole_length = c.args.parts.now.ok.0 in
-    let back : c.saturating_sub.result ≡ length c.args.parts.now.items - c.in-Join.first = omega arith in
-    after_second c.args.parts.now.items c.args.tasks.now.items c.args.tasks.now.items c.args.task b m whole ends does leads c.in-Join.connective c.in-Join.first c.saturating_sub.result _ c.in-Join.is back
+    after_second c.args.parts.now.items c.args.tasks.now.items c.args.tasks.now.items c.args.task b m whole ends does leads c.in-Join.connective c.in-Join.first c.saturating_sub.result _ c.in-Join.is (omega (arith, c.args.parts.now.ok.0))
     (rw c.joined.ensures at c.in_ok-push-in-Join.ensures.items)
 
 pub returns-in_ok-push-in-Choose-clause-works : goal.returns-in_ok-push-in-Choose-clause-works
 returns-in_ok-push-in-Choose-clause-works c = λ b m whole ends does leads.
-    let whole_length = c.args.parts.now.ok.0 in
-    let back : c.saturating_sub-condition.result ≡ length c.args.parts.now.items - c.in-Choose.condition = omega arith in
-    let behind : c.saturating_sub-next.result ≡ length c.args.parts.now.items - c.in-Choose.next = omega arith in
-    after_other c.args.parts.now.items c.args.tasks.now.items c.args.tasks.now.items c.args.task b m whole ends does leads c.in-Choose.condition c.in-Choose.next c.saturating_sub-condition.result c.saturating_sub-next.result _ c.in-Choose.is back behind c.in_ok-push-in-Choose.ensures.items
+    after_other c.args.parts.now.items c.args.tasks.now.items c.args.tasks.now.items c.args.task b m whole ends does leads c.in-Choose.condition c.in-Choose.next c.saturating_sub-condition.result c.saturating_sub-next.result _ c.in-Choose.is (omega (arith, c.args.parts.now.ok.0)) (omega (arith, c.args.parts.now.ok.0)) c.in_ok-push-in-Choose.ensures.items
 
 pub returns-in_ok-push-in-Second-clause-goals : goal.returns-in_ok-push-in-Second-clause-goals
 returns-in_ok-push-in-Second-clause-goals c =
